@@ -1,0 +1,573 @@
+-- Runs of small bodies, and a body that gets stuck: the definitions of the machine tried.
+use Rattle.std.proofs.Common.{◌≡◌, ℕ, zero, suc, pos, Bool, true, false, List, [], ◌∷◌, length, map, take, drop, Some, None, refl, sym, ap, ◌∙◌, subst, slice_get}
+use Rattle.validate_resources.specs.Lists.{context_of, same_number}
+use Rattle.validate_resources.specs.Lawful.{lawful_lists}
+use Rattle.validate_types.specs.declared.types.CompositeInnerType.TheVariants.{Func}
+use Rattle.validate_visit.specs.declared.op.Op.TheVariants.{Control, Numeric}
+use Rattle.validate_visit.specs.declared.op.ControlOp.TheVariants.{Nop, End, Drop, LocalGet, LocalSet}
+use Rattle.validate_visit.specs.declared.op.NumericOp.TheVariants.{I32Const, I64Const, I32Eqz, I32Add, I64Add}
+use Rattle.validation_rules.specs.Context.{SubType, WasmFeatures, ValType, I32, I64, BlockType, Empty, Val, FuncType, Context, AllBelow}
+use Rattle.validation_rules.specs.Fits.{MaybeType, Known}
+use Rattle.validation_rules.specs.Static.{Frame}
+use Rattle.validation_rules.specs.Rows.{FrameKind, Block, If, Else, Loop, TryTable, LegacyTry, LegacyCatch, Head, params, results, is_if, Flat, Opens, BeginsElse, BeginsCatch, Ends, Delegates, Clause, Target, Operator}
+use Rattle.validation_rules.specs.Table.{plain, body, operator}
+use Rattle.validation_rules.proofs.Handmade.{target, a_block, a_loop, an_if, an_else, an_end, br, a_return, a_try_table, throw, a_try, a_catch, delegate}
+use Rattle.validation_rules.proofs.Steps.{some_injective}
+use Rattle.type_safety.specs.Machine.{Label, label_heads, Machine, At, Returned, Trapped, LeftByException, LeftBySuspension, mark, marks, Reaches, Demand, Demands, Step, Run, first}
+use Rattle.type_safety.specs.Machine.Outcome.{GoesOn, Enters, EntersElse, SkipsIf, Jumps, Closes, Passes, Catches, CatchesLegacy, Traps, Raises, Suspends}
+use Rattle.type_safety.specs.Theorem.{LabelsBelow, IsSafe, IsTypeSafe, IsLawfulOperator}
+use Rattle.type_safety.proofs.Bodies.{body_safety}
+use Rattle.type_safety.proofs.Handmade.{block_lawful, loop_lawful, if_lawful, else_lawful, end_lawful, branch_lawful, try_table_lawful, throw_lawful, try_lawful, catch_lawful}
+use Rattle.type_safety.proofs.Safety.{type_safety}
+use Rattle.type_safety.proofs.Table.{operator_lawful}
+
+abbrev a_type : List ValType → List ValType → SubType
+a_type params results =
+    record { is_final = true; composite_type = record { inner = Func (record { params = params; results = results }); shared = false } }
+
+abbrev types : List SubType
+types = a_type [] [] ∷ a_type (I32 ∷ []) [] ∷ a_type (I32 ∷ []) (I32 ∷ []) ∷ []
+
+abbrev to_nothing : BlockType
+to_nothing = FuncType 0
+
+abbrev takes_one : BlockType
+takes_one = FuncType 1
+
+abbrev one_to_one : BlockType
+one_to_one = FuncType 2
+
+-- an opener of another kind isn't an `if`
+opens_no_if : (k h : Head) → Opens k ≡ Opens h → is_if k.kind ≡ false → is_if h.kind ≡ true → ⊥
+opens_no_if k h e n i =
+    let d : k ≡ h = cc in
+    let f : is_if k.kind ≡ is_if h.kind = ap (λ (x : Head). is_if x.kind) d in
+    let g : false ≡ true = sym n ∙ f ∙ i in
+    absurd cc
+
+-- what holds of the only one of a list
+only : {A : Type 0} (P : A → Type 0) (x : A) → P x → (j : ℕ) (y : A) → slice_get (x ∷ []) j ≡ Some y → P y
+only P x p zero y e = subst P (some_injective x y e) p
+only P x p (suc j) y e = absurd cc
+
+abbrev label : ℕ → FrameKind → BlockType → List ValType → Label
+label began kind ty own = record { began = began; head = record { kind = kind; block_type = ty }; own = own }
+
+module _ (features : WasmFeatures) where
+  abbrev cx : Context
+  cx = record { of_module = context_of types; features = features; shared = false; locals = I32 ∷ I64 ∷ []; entry = true ∷ false ∷ [] }
+
+  abbrev i32_const : Operator
+  i32_const = operator cx (Numeric (I32Const (pos 0)))
+
+  abbrev drops : Operator
+  drops = operator cx (Control Drop)
+
+  abbrev i64_const : Operator
+  i64_const = operator cx (Numeric (I64Const (pos 0)))
+
+  abbrev gets_local : Operator
+  gets_local = operator cx (Control (LocalGet 1))
+
+  abbrev sets_local : Operator
+  sets_local = operator cx (Control (LocalSet 1))
+
+  -- the outermost label
+  abbrev outermost : BlockType → List ValType → Label
+  outermost ty own = label 0 Block ty own
+
+  -- ---- a run of a body of the table, to its return
+  abbrev adding : List Operator
+  adding = body cx (Control (LocalGet 0) ∷ Numeric (I32Const (pos 1)) ∷ Numeric I32Add ∷ Control End ∷ [])
+
+  abbrev adding_at : ℕ → List ValType → Machine
+  adding_at k own = At k (outermost one_to_one own ∷ []) []
+
+  adding_1 : Step cx adding (first one_to_one) (adding_at 1 (I32 ∷ []))
+  adding_1 = (
+    operator cx (Control (LocalGet 0)),
+    refl,
+    record { row = (_, refl); targets = λ j t e. absurd cc; clauses = λ j c e. absurd cc; no_else = λ h e. absurd cc },
+    GoesOn (I32 ∷ []) (I32 ∷ []) refl refl refl (refl, tt) refl,
+  )
+
+  adding_2 : Step cx adding (adding_at 1 (I32 ∷ [])) (adding_at 2 (I32 ∷ I32 ∷ []))
+  adding_2 = (
+    operator cx (Numeric (I32Const (pos 1))),
+    refl,
+    record { row = (_, refl); targets = λ j t e. absurd cc; clauses = λ j c e. absurd cc; no_else = λ h e. absurd cc },
+    GoesOn (I32 ∷ []) (I32 ∷ []) refl refl refl (refl, tt) refl,
+  )
+
+  adding_3 : Step cx adding (adding_at 2 (I32 ∷ I32 ∷ [])) (adding_at 3 (I32 ∷ []))
+  adding_3 = (
+    operator cx (Numeric I32Add),
+    refl,
+    record { row = (_, refl); targets = λ j t e. absurd cc; clauses = λ j c e. absurd cc; no_else = λ h e. absurd cc },
+    GoesOn (I32 ∷ []) (I32 ∷ []) refl refl refl (refl, tt) refl,
+  )
+
+  adding_4 : Step cx adding (adding_at 3 (I32 ∷ [])) (Returned (I32 ∷ []))
+  adding_4 = (
+    operator cx (Control End),
+    refl,
+    record { row = (_, refl); targets = λ j t e. absurd cc; clauses = λ j c e. absurd cc; no_else = λ h e. absurd cc },
+    Closes (I32 ∷ []) refl (refl, tt) refl,
+  )
+
+  adding_returns : Run cx adding 4 (first one_to_one) (Returned (I32 ∷ []))
+  adding_returns = (adding_at 3 (I32 ∷ []), (adding_at 2 (I32 ∷ I32 ∷ []), (adding_at 1 (I32 ∷ []), (first one_to_one, refl, adding_1), adding_2), adding_3), adding_4)
+
+  -- any operator may trap
+  adding_traps : Step cx adding (first one_to_one) Trapped
+  adding_traps = (operator cx (Control (LocalGet 0)), refl, record { row = (_, refl); targets = λ j t e. absurd cc; clauses = λ j c e. absurd cc; no_else = λ h e. absurd cc }, Traps refl)
+
+  -- or leave, by an exception that nothing catches, or by a suspension
+  adding_raises : Step cx adding (first one_to_one) LeftByException
+  adding_raises = (operator cx (Control (LocalGet 0)), refl, record { row = (_, refl); targets = λ j t e. absurd cc; clauses = λ j c e. absurd cc; no_else = λ h e. absurd cc }, Raises refl)
+
+  adding_suspends : Step cx adding (first one_to_one) LeftBySuspension
+  adding_suspends = (operator cx (Control (LocalGet 0)), refl, record { row = (_, refl); targets = λ j t e. absurd cc; clauses = λ j c e. absurd cc; no_else = λ h e. absurd cc }, Suspends refl)
+
+  -- no run of it is stuck, however long
+  adding_safe : IsTypeSafe cx adding one_to_one
+  adding_safe = body_safety (context_of types) (lawful_lists types) cx (Control (LocalGet 0) ∷ Numeric (I32Const (pos 1)) ∷ Numeric I32Add ∷ Control End ∷ []) one_to_one refl (Known I32 ∷ [], refl)
+
+  -- ---- bodies that aren't accepted get stuck
+
+  -- an operand is missing
+  stuck_at_once : Demands cx (body cx (Numeric I32Add ∷ [])) (first to_nothing) → ⊥
+  stuck_at_once d =
+      let e : operator cx (Numeric I32Add) ≡ d.0 = some_injective _ _ d.1 in
+      let d' = subst (λ op. Demand cx (body cx (Numeric I32Add ∷ [])) 0 (outermost to_nothing []) [] [] op) (sym e) d.2 in
+      let r = d'.row.1 in
+      absurd cc
+
+  -- an operand has another type
+  stuck_on_type : Demands cx (body cx (Numeric I32Eqz ∷ [])) (At 0 (outermost to_nothing (I64 ∷ []) ∷ []) []) → ⊥
+  stuck_on_type d =
+      let e : operator cx (Numeric I32Eqz) ≡ d.0 = some_injective _ _ d.1 in
+      let d' = subst (λ op. Demand cx (body cx (Numeric I32Eqz ∷ [])) 0 (outermost to_nothing (I64 ∷ [])) [] [] op) (sym e) d.2 in
+      let r = d'.row.1 in
+      absurd cc
+
+  -- a local isn't set
+  stuck_on_local : Demands cx (body cx (Control (LocalGet 1) ∷ [])) (first to_nothing) → ⊥
+  stuck_on_local d =
+      let e : operator cx (Control (LocalGet 1)) ≡ d.0 = some_injective _ _ d.1 in
+      let d' = subst (λ op. Demand cx (body cx (Control (LocalGet 1) ∷ [])) 0 (outermost to_nothing []) [] [] op) (sym e) d.2 in
+      let r = d'.row.1 in
+      absurd cc
+
+  -- once the machine has set it, it is set
+  reads_local : Demands cx (body cx (Control (LocalGet 1) ∷ [])) (At 0 (outermost to_nothing [] ∷ []) (1 ∷ []))
+  reads_local = (
+    operator cx (Control (LocalGet 1)),
+    refl,
+    record { row = (_, refl); targets = λ j t e. absurd cc; clauses = λ j c e. absurd cc; no_else = λ h e. absurd cc },
+  )
+
+  -- the list has ended, and a label is open
+  stuck_behind : Demands cx (body cx (Control Nop ∷ [])) (At 1 (outermost to_nothing [] ∷ []) []) → ⊥
+  stuck_behind d = let e = d.1 in absurd cc
+
+  -- a label is missing
+  stuck_on_label : Demands cx (br cx 3 ∷ []) (first to_nothing) → ⊥
+  stuck_on_label d =
+      let e : br cx 3 ≡ d.0 = some_injective _ _ d.1 in
+      let d' = subst (λ op. Demand cx (br cx 3 ∷ []) 0 (outermost to_nothing []) [] [] op) (sym e) d.2 in
+      let r = d'.row.1 in
+      absurd cc
+
+  -- ---- a run that loops
+
+  abbrev looping : List Operator
+  looping = i32_const ∷ a_loop cx takes_one ∷ br cx 0 ∷ an_end ∷ an_end ∷ []
+
+  -- in the loop, with its parameter
+  abbrev in_loop : Machine
+  in_loop = At 2 (label 1 Loop takes_one (I32 ∷ []) ∷ outermost to_nothing [] ∷ []) []
+
+  abbrev before_loop : Machine
+  before_loop = At 1 (outermost to_nothing (I32 ∷ []) ∷ []) []
+
+  to_loop : Step cx looping (first to_nothing) before_loop
+  to_loop = (
+    i32_const,
+    refl,
+    record { row = (_, refl); targets = λ j t e. absurd cc; clauses = λ j c e. absurd cc; no_else = λ h e. absurd cc },
+    GoesOn (I32 ∷ []) (I32 ∷ []) refl refl refl (refl, tt) refl,
+  )
+
+  into_loop : Step cx looping before_loop in_loop
+  into_loop = (
+    a_loop cx takes_one,
+    refl,
+    record { row = (_, refl); targets = λ j t e. absurd cc; clauses = λ j c e. absurd cc; no_else = λ h e i. absurd (opens_no_if _ h e refl i) },
+    Enters (record { kind = Loop; block_type = takes_one }) (I32 ∷ []) refl (refl, tt) refl,
+  )
+
+  -- back to where it was
+  around : Step cx looping in_loop in_loop
+  around = (
+    br cx 0,
+    refl,
+    record {
+      row = (_, refl);
+      targets = only (λ (t : Target). Reaches cx (drop t.depth (label 1 Loop takes_one (I32 ∷ []) ∷ outermost to_nothing [] ∷ [])) (t.carried (I32 ∷ []))) (target cx (label_heads (label 1 Loop takes_one (I32 ∷ []) ∷ outermost to_nothing [] ∷ [])) 0) (refl, tt);
+      clauses = λ j c e. absurd cc;
+      no_else = λ h e. absurd cc;
+    },
+    Jumps 0 _ refl refl (record { label = label 1 Loop takes_one (I32 ∷ []); outer = outermost to_nothing [] ∷ []; is = refl; types = I32 ∷ []; below = (refl, tt); arrives = refl }),
+  )
+
+  -- as often as one likes
+  loops_for_long : (n : ℕ) → Run cx looping (suc (suc n)) (first to_nothing) in_loop
+  loops_for_long zero = (before_loop, (first to_nothing, refl, to_loop), into_loop)
+  loops_for_long (suc n) = (in_loop, loops_for_long n, around)
+
+  -- each operator of a list is lawful
+  abbrev AllLawful : List Operator → Type 0
+  AllLawful [] = Unit {0}
+  AllLawful (op ∷ code) = IsLawfulOperator cx op × AllLawful code
+
+  each_lawful : (code : List Operator) → AllLawful code → (j : ℕ) (op : Operator) → slice_get code j ≡ Some op → IsLawfulOperator cx op
+  each_lawful [] h j op e = absurd cc
+  each_lawful (x ∷ code) h zero op e = subst (IsLawfulOperator cx) (some_injective x op e) h.0
+  each_lawful (x ∷ code) h (suc j) op e = each_lawful code h.1 j op e
+
+  looping_lawful : AllLawful looping
+  looping_lawful =
+      let laws = lawful_lists types in
+      (operator_lawful cx laws (Numeric (I32Const (pos 0))), (loop_lawful cx laws takes_one, (branch_lawful cx laws 0, (end_lawful cx laws, (end_lawful cx laws, tt)))))
+
+  -- and no run of it is stuck
+  looping_safe : IsTypeSafe cx looping to_nothing
+  looping_safe = type_safety cx looping to_nothing (lawful_lists types) (each_lawful looping looping_lawful) ([], refl)
+
+  -- ---- a run that returns from inside
+
+  abbrev returning : List Operator
+  returning = a_block cx Empty ∷ i32_const ∷ a_return cx ∷ an_end ∷ i32_const ∷ an_end ∷ []
+
+  abbrev inside : List ValType → List Label
+  inside own = label 0 Block Empty own ∷ outermost (Val I32) [] ∷ []
+
+  returns_from_inside : Step cx returning (At 2 (inside (I32 ∷ [])) []) (Returned (I32 ∷ []))
+  returns_from_inside = (
+    a_return cx,
+    refl,
+    record {
+      row = (_, refl);
+      targets = only (λ (t : Target). Reaches cx (drop t.depth (inside (I32 ∷ []))) (t.carried (I32 ∷ []))) (target cx (label_heads (inside [])) 1) (refl, tt);
+      clauses = λ j c e. absurd cc;
+      no_else = λ h e. absurd cc;
+    },
+    Jumps 0 _ refl refl (record { label = outermost (Val I32) []; outer = []; is = refl; types = I32 ∷ []; below = (refl, tt); arrives = refl }),
+  )
+
+  -- ---- a run that throws into a handler
+
+  abbrev a_clause : Clause
+  a_clause = record { depth = 0; types = I32 ∷ [] }
+
+  abbrev throwing : List Operator
+  throwing =
+      a_block cx (Val I32) ∷ a_try_table cx Empty (a_clause ∷ []) ∷ i32_const ∷ throw (I32 ∷ []) ∷ an_end ∷ i32_const ∷ an_end ∷ drops ∷ an_end ∷ []
+
+  abbrev in_block : List Label
+  in_block = label 0 Block (Val I32) [] ∷ outermost to_nothing [] ∷ []
+
+  abbrev in_try : List ValType → Machine
+  in_try own = At 3 (label 1 TryTable Empty own ∷ in_block) []
+
+  into_try : Step cx throwing (At 1 in_block []) (At 2 (label 1 TryTable Empty [] ∷ in_block) [])
+  into_try = (
+    a_try_table cx Empty (a_clause ∷ []),
+    refl,
+    record {
+      row = (_, refl);
+      targets = λ j t e. absurd cc;
+      clauses = only (λ (c : Clause). Reaches cx (drop c.depth in_block) c.types) a_clause (refl, tt);
+      no_else = λ h e i. absurd (opens_no_if _ h e refl i);
+    },
+    Enters (record { kind = TryTable; block_type = Empty }) [] refl tt refl,
+  )
+
+  -- the clause's label is the block outside the `try_table`, and the place is behind its `end`
+  caught : Step cx throwing (in_try (I32 ∷ [])) (At 7 (outermost to_nothing (I32 ∷ []) ∷ []) [])
+  caught = (
+    throw (I32 ∷ []),
+    refl,
+    record { row = (_, refl); targets = λ j t e. absurd cc; clauses = λ j c e. absurd cc; no_else = λ h e. absurd cc },
+    Catches 0 (label 1 TryTable Empty (I32 ∷ [])) in_block (a_try_table cx Empty (a_clause ∷ [])) 0 a_clause refl refl refl refl
+        (record {
+          label = label 0 Block (Val I32) [];
+          outer = outermost to_nothing [] ∷ [];
+          is = refl;
+          types = I32 ∷ [];
+          below = (refl, tt);
+          arrives = (6, (Ends, (0, refl), refl), refl);
+        }),
+  )
+
+  -- an exception may be raised at any operator, as by a callee
+  caught_early : Step cx throwing (At 2 (label 1 TryTable Empty [] ∷ in_block) []) (At 7 (outermost to_nothing (I32 ∷ []) ∷ []) [])
+  caught_early = (
+    i32_const,
+    refl,
+    record { row = (_, refl); targets = λ j t e. absurd cc; clauses = λ j c e. absurd cc; no_else = λ h e. absurd cc },
+    Catches 0 (label 1 TryTable Empty []) in_block (a_try_table cx Empty (a_clause ∷ [])) 0 a_clause refl refl refl refl
+        (record {
+          label = label 0 Block (Val I32) [];
+          outer = outermost to_nothing [] ∷ [];
+          is = refl;
+          types = I32 ∷ [];
+          below = (refl, tt);
+          arrives = (6, (Ends, (0, refl), refl), refl);
+        }),
+  )
+
+  abbrev legacy : List Operator
+  legacy = a_try cx Empty ∷ i32_const ∷ throw (I32 ∷ []) ∷ a_catch (I32 ∷ []) ∷ drops ∷ an_end ∷ an_end ∷ []
+
+  -- into the part that `catch` begins, with the tag's parameters
+  caught_legacy : Step cx legacy (At 2 (label 0 LegacyTry Empty (I32 ∷ []) ∷ outermost to_nothing [] ∷ []) []) (At 4 (label 3 LegacyCatch Empty (I32 ∷ []) ∷ outermost to_nothing [] ∷ []) [])
+  caught_legacy = (
+    throw (I32 ∷ []),
+    refl,
+    record { row = (_, refl); targets = λ j t e. absurd cc; clauses = λ j c e. absurd cc; no_else = λ h e. absurd cc },
+    CatchesLegacy 0 (label 0 LegacyTry Empty (I32 ∷ [])) (outermost to_nothing [] ∷ []) 3 false (I32 ∷ []) (I32 ∷ []) refl refl (0, refl) (refl, tt) refl,
+  )
+
+  throwing_safe : IsTypeSafe cx throwing to_nothing
+  throwing_safe =
+      let laws = lawful_lists types in
+      type_safety cx throwing to_nothing laws
+      (each_lawful throwing (block_lawful cx laws (Val I32), (try_table_lawful cx laws Empty (a_clause ∷ []), (operator_lawful cx laws (Numeric (I32Const (pos 0))), (throw_lawful cx laws (I32 ∷ []), (end_lawful cx laws, (operator_lawful cx laws (Numeric (I32Const (pos 0))), (end_lawful cx laws, (operator_lawful cx laws (Control Drop), (end_lawful cx laws, tt))))))))))
+      ([], refl)
+
+  legacy_safe : IsTypeSafe cx legacy to_nothing
+  legacy_safe =
+      let laws = lawful_lists types in
+      type_safety cx legacy to_nothing laws
+      (each_lawful legacy (try_lawful cx laws Empty, (operator_lawful cx laws (Numeric (I32Const (pos 0))), (throw_lawful cx laws (I32 ∷ []), (catch_lawful cx laws (I32 ∷ []), (operator_lawful cx laws (Control Drop), (end_lawful cx laws, (end_lawful cx laws, tt))))))))
+      ([], refl)
+
+  -- ---- a run through each part of an `if`
+
+  abbrev choosing : List Operator
+  choosing = i32_const ∷ an_if cx (Val I32) ∷ i32_const ∷ an_else ∷ i32_const ∷ an_end ∷ an_end ∷ []
+
+  abbrev at_if : Machine
+  at_if = At 1 (outermost (Val I32) (I32 ∷ []) ∷ []) []
+
+  abbrev in_part : ℕ → ℕ → FrameKind → List ValType → Machine
+  in_part k began kind own = At k (label began kind (Val I32) own ∷ outermost (Val I32) [] ∷ []) []
+
+  demand_if : Demand cx choosing 1 (outermost (Val I32) (I32 ∷ [])) [] [] (an_if cx (Val I32))
+  demand_if = record { row = (_, refl); targets = λ j t e. absurd cc; clauses = λ j c e. absurd cc; no_else = λ h e i w. absurd cc }
+
+  first_part : Step cx choosing at_if (in_part 2 1 If [])
+  first_part = (an_if cx (Val I32), refl, demand_if, Enters (record { kind = If; block_type = Val I32 }) [] refl tt refl)
+
+  second_part : Step cx choosing at_if (in_part 4 3 Else [])
+  second_part =
+      (an_if cx (Val I32), refl, demand_if, EntersElse (record { kind = If; block_type = Val I32 }) 3 [] refl refl (0, refl) tt refl)
+
+  -- `else` is the end of the first part: on behind the closer, with the results
+  passes_else : Step cx choosing (in_part 3 1 If (I32 ∷ [])) (At 6 (outermost (Val I32) (I32 ∷ []) ∷ []) [])
+  passes_else = (
+    an_else,
+    refl,
+    record { row = (_, refl); targets = λ j t e. absurd cc; clauses = λ j c e. absurd cc; no_else = λ h e. absurd cc },
+    Passes 5 (I32 ∷ []) refl (Ends, (1, refl), refl) (refl, tt) refl,
+  )
+
+  choosing_safe : IsTypeSafe cx choosing (Val I32)
+  choosing_safe =
+      let laws = lawful_lists types in
+      type_safety cx choosing (Val I32) laws
+      (each_lawful choosing (operator_lawful cx laws (Numeric (I32Const (pos 0))), (if_lawful cx laws (Val I32), (operator_lawful cx laws (Numeric (I32Const (pos 0))), (else_lawful cx laws, (operator_lawful cx laws (Numeric (I32Const (pos 0))), (end_lawful cx laws, (end_lawful cx laws, tt))))))))
+      (Known I32 ∷ [], refl)
+
+  -- without `else`: behind the closer
+  abbrev skipping : List Operator
+  skipping = i32_const ∷ an_if cx Empty ∷ an_end ∷ an_end ∷ []
+
+  skips : Step cx skipping (At 1 (outermost to_nothing (I32 ∷ []) ∷ []) []) (At 3 (outermost to_nothing [] ∷ []) [])
+  skips = (
+    an_if cx Empty,
+    refl,
+    record { row = (_, refl); targets = λ j t e. absurd cc; clauses = λ j c e. absurd cc; no_else = λ h e i w. nothing_given h e },
+    SkipsIf (record { kind = If; block_type = Empty }) 2 [] refl refl refl (Ends, (0, refl), refl) tt refl,
+  )
+    where
+      nothing_given : (h : Head) → Opens (record { kind = If; block_type = Empty }) ≡ Opens h → AllBelow cx (take (length (params cx h)) (I32 ∷ [])) (results cx h)
+      nothing_given h e =
+          let d : record { kind = If; block_type = Empty } ≡ h = cc in
+          subst (λ (k : Head). AllBelow cx (take (length (params cx k)) (I32 ∷ [])) (results cx k)) d tt
+
+  -- the parts and the closer of an `if`, past an inner block
+  marks_of_if : marks (i32_const ∷ an_if cx Empty ∷ a_block cx Empty ∷ an_end ∷ an_else ∷ i32_const ∷ an_end ∷ an_end ∷ []) 1 ≡ mark 4 BeginsElse ∷ mark 6 Ends ∷ []
+  marks_of_if = refl
+
+  -- those of a `try`, and of one that `delegate` closes
+  marks_of_try : marks (a_try cx Empty ∷ a_try cx Empty ∷ a_catch [] ∷ an_end ∷ a_catch (I32 ∷ []) ∷ an_end ∷ an_end ∷ []) 0 ≡ mark 4 (BeginsCatch false (I32 ∷ [])) ∷ mark 5 Ends ∷ []
+  marks_of_try = refl
+
+  marks_of_delegated : marks (a_try cx Empty ∷ i32_const ∷ delegate 0 ∷ an_end ∷ []) 0 ≡ mark 2 Delegates ∷ []
+  marks_of_delegated = refl
+
+  -- ---- what a wrong validator would let through gets stuck
+
+  the_demand : (code : List Operator) (k : ℕ) (l : Label) (ls : List Label) (set : List ℕ) (op : Operator) → slice_get code k ≡ Some op → Demands cx code (At k (l ∷ ls) set) → Demand cx code k l ls set op
+  the_demand code k l ls set op is d =
+      subst (λ o. Demand cx code k l ls set o) (some_injective d.0 op (sym d.1 ∙ is)) d.2
+
+  -- a branch to a loop that wants the loop's results, not its parameters
+  abbrev br_by_results : Operator
+  br_by_results = record { form = Flat; row = λ hs. record (plain true [] []) { dead = true; targets = record { depth = 0; carried = λ ys. ys } ∷ [] } }
+
+  stuck_at_loop : Demands cx (i32_const ∷ a_loop cx takes_one ∷ br_by_results ∷ an_end ∷ an_end ∷ []) (At 2 (label 1 Loop takes_one [] ∷ outermost to_nothing [] ∷ []) []) → ⊥
+  stuck_at_loop d = (the_demand _ 2 (label 1 Loop takes_one []) (outermost to_nothing [] ∷ []) [] br_by_results refl d).targets 0 _ refl
+
+  -- a table of branches that looks at its default alone
+  abbrev table_by_default : Operator
+  table_by_default =
+      record { form = Flat; row = λ hs. record (plain true (I32 ∷ []) []) { dead = true; targets = target cx hs 0 ∷ target cx hs 1 ∷ [] } }
+
+  stuck_at_table : Demands cx (table_by_default ∷ []) (At 0 (label 0 Block (Val I64) (I32 ∷ []) ∷ outermost to_nothing [] ∷ []) []) → ⊥
+  stuck_at_table d =
+      let e = ((the_demand _ 0 (label 0 Block (Val I64) (I32 ∷ [])) (outermost to_nothing [] ∷ []) [] table_by_default refl d).targets 0 _ refl).0 in
+      absurd cc
+
+  -- an `if` without `else` that has results and no parameters
+  stuck_at_if : Demands cx (an_if cx (Val I32) ∷ i32_const ∷ an_end ∷ an_end ∷ []) (At 0 (outermost to_nothing (I32 ∷ []) ∷ []) []) → ⊥
+  stuck_at_if d = (the_demand _ 0 (outermost to_nothing (I32 ∷ [])) [] [] (an_if cx (Val I32)) refl d).no_else _ refl refl refl
+
+  -- a clause that names a label inside its own frame
+  stuck_at_clause : Demands cx (a_try_table cx (Val I32) (a_clause ∷ []) ∷ []) (first to_nothing) → ⊥
+  stuck_at_clause d = (the_demand _ 0 (outermost to_nothing []) [] [] (a_try_table cx (Val I32) (a_clause ∷ [])) refl d).clauses 0 _ refl
+
+  -- a run that leaves a block before it has set a local, and reads the local behind the block
+  abbrev leaving : List Operator
+  leaving = a_block cx Empty ∷ br cx 0 ∷ i64_const ∷ sets_local ∷ an_end ∷ gets_local ∷ drops ∷ an_end ∷ []
+
+  leaves : Step cx leaving (At 1 (label 0 Block Empty [] ∷ outermost to_nothing [] ∷ []) []) (At 5 (outermost to_nothing [] ∷ []) [])
+  leaves = (
+    br cx 0,
+    refl,
+    record {
+      row = (_, refl);
+      targets = only (λ (t : Target). Reaches cx (drop t.depth (label 0 Block Empty [] ∷ outermost to_nothing [] ∷ [])) (t.carried [])) (target cx (label_heads (label 0 Block Empty [] ∷ outermost to_nothing [] ∷ [])) 0) tt;
+      clauses = λ j c e. absurd cc;
+      no_else = λ h e. absurd cc;
+    },
+    Jumps 0 _ refl refl (record { label = label 0 Block Empty []; outer = outermost to_nothing [] ∷ []; is = refl; types = []; below = tt; arrives = (4, (Ends, (0, refl), refl), refl) }),
+  )
+
+  stuck_behind_block : Demands cx leaving (At 5 (outermost to_nothing [] ∷ []) []) → ⊥
+  stuck_behind_block d =
+      let r = (the_demand leaving 5 (outermost to_nothing []) [] [] gets_local refl d).row.1 in
+      absurd cc
+
+  -- ---- what isn't type safe
+
+  not_safe : IsTypeSafe cx (body cx (Numeric I32Add ∷ [])) to_nothing → ⊥
+  not_safe safe = stuck_at_once (safe 0 (first to_nothing) refl).0
+
+  -- a return without the result, or with another type
+  returns_nothing : IsSafe cx adding one_to_one (Returned []) → ⊥
+  returns_nothing s = s
+
+  returns_other : IsSafe cx adding one_to_one (Returned (I64 ∷ [])) → ⊥
+  returns_other s = let e = s.0 in absurd cc
+
+  abbrev a_frame : List MaybeType → Bool → Frame
+  a_frame own dead = record { head = record { kind = Block; block_type = to_nothing }; own = own; dead = dead; first_set = [] }
+
+  -- one label for one frame, one operand for one operand, of a type below, and no dead frame
+  labels_agree : LabelsBelow cx (outermost to_nothing (I32 ∷ []) ∷ []) (a_frame (Known I32 ∷ []) false ∷ [])
+  labels_agree = (refl, refl, (I32 ∷ [], refl, (refl, tt)), tt)
+
+  label_missing : LabelsBelow cx [] (a_frame [] false ∷ []) → ⊥
+  label_missing h = h
+
+  frame_is_dead : LabelsBelow cx (outermost to_nothing [] ∷ []) (a_frame [] true ∷ []) → ⊥
+  frame_is_dead h = let e = h.1 in absurd cc
+
+  operand_missing : LabelsBelow cx (outermost to_nothing [] ∷ []) (a_frame (Known I32 ∷ []) false ∷ []) → ⊥
+  operand_missing h = no_operand h.2.0 h.2.1 h.2.2
+    where
+      no_operand : (us : List ValType) → Known I32 ∷ [] ≡ map Known us → AllBelow cx [] us → ⊥
+      no_operand [] e b = absurd cc
+      no_operand (u ∷ us) e b = b
+
+-- ---- the machine's choices: any type below a stated one
+
+-- an order in which i32 lies below i64
+abbrev tilted : ValType → ValType → Bool
+tilted I32 I64 = true
+tilted t u = same_number t u
+
+module _ (features : WasmFeatures) where
+  abbrev tilted_context : Context
+  tilted_context = record {
+    of_module = record { type_at = λ i. None; valid = λ t. true; below = tilted; canonical = λ f t. None };
+    features = features;
+    shared = false;
+    locals = [];
+    entry = [];
+  }
+
+  abbrev giving_i64 : List ValType → Label
+  giving_i64 own = label 0 Block (Val I64) own
+
+  -- what is pushed
+  pushes_below : Step tilted_context (operator tilted_context (Numeric (I64Const (pos 0))) ∷ []) (At 0 (giving_i64 [] ∷ []) []) (At 1 (giving_i64 (I32 ∷ []) ∷ []) [])
+  pushes_below = (
+    operator tilted_context (Numeric (I64Const (pos 0))),
+    refl,
+    record { row = (_, refl); targets = λ j t e. absurd cc; clauses = λ j c e. absurd cc; no_else = λ h e. absurd cc },
+    GoesOn (I64 ∷ []) (I32 ∷ []) refl refl refl (refl, tt) refl,
+  )
+
+  -- what is wanted
+  takes_below : Demands tilted_context (operator tilted_context (Numeric I64Add) ∷ []) (At 0 (giving_i64 (I32 ∷ I64 ∷ []) ∷ []) [])
+  takes_below = (
+    operator tilted_context (Numeric I64Add),
+    refl,
+    record { row = (_, refl); targets = λ j t e. absurd cc; clauses = λ j c e. absurd cc; no_else = λ h e. absurd cc },
+  )
+
+  -- and not what lies above
+  takes_above : Demands tilted_context (operator tilted_context (Numeric I32Eqz) ∷ []) (At 0 (giving_i64 (I64 ∷ []) ∷ []) []) → ⊥
+  takes_above d =
+      let e : operator tilted_context (Numeric I32Eqz) ≡ d.0 = some_injective _ _ d.1 in
+      let d' = subst (λ op. Demand tilted_context (operator tilted_context (Numeric I32Eqz) ∷ []) 0 (giving_i64 (I64 ∷ [])) [] [] op) (sym e) d.2 in
+      let r = d'.row.1 in
+      absurd cc
+
+  -- the results of a frame
+  gives_below : Step tilted_context (an_end ∷ []) (At 0 (giving_i64 (I64 ∷ []) ∷ []) []) (Returned (I32 ∷ []))
+  gives_below = (
+    an_end,
+    refl,
+    record { row = (_, refl); targets = λ j t e. absurd cc; clauses = λ j c e. absurd cc; no_else = λ h e. absurd cc },
+    Closes (I32 ∷ []) refl (refl, tt) refl,
+  )
+
+  -- what a branch carries
+  carries_below : Step tilted_context (br tilted_context 0 ∷ []) (At 0 (giving_i64 (I64 ∷ []) ∷ []) []) (Returned (I32 ∷ []))
+  carries_below = (
+    br tilted_context 0,
+    refl,
+    record {
+      row = (_, refl);
+      targets = only (λ (t : Target). Reaches tilted_context (drop t.depth (giving_i64 (I64 ∷ []) ∷ [])) (t.carried (I64 ∷ []))) (target tilted_context (label_heads (giving_i64 (I64 ∷ []) ∷ [])) 0) (refl, tt);
+      clauses = λ j c e. absurd cc;
+      no_else = λ h e. absurd cc;
+    },
+    Jumps 0 _ refl refl (record { label = giving_i64 (I64 ∷ []); outer = []; is = refl; types = I32 ∷ []; below = (refl, tt); arrives = refl }),
+  )

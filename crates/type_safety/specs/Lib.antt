@@ -1,0 +1,4 @@
+pub mod Machine
+pub mod Theorem
+pub mod Bodies
+pub mod Blocks

@@ -1,0 +1,48 @@
+//! What a module declares: the lookup that a validator is handed, its meaning and its laws, and a
+//! lookup over lists.
+#![tactic(auto)]
+
+pub mod lists;
+pub mod uses;
+
+ghost use Rattle.std.specs.Prelude.{◌≡◌, true, false, None, Some, OnOk, IfErr};
+ghost use Rattle.std.specs.Option.{option_copied};
+ghost use Rattle.validate_resources.specs.Context.{ModuleContext, IsLawful, Valid};
+
+pub use crate::lists::ModuleLists;
+use validate_types::{Error, SubType, ValType, WasmFeatures};
+
+/// What a module declares (wasmparser's `WasmModuleResources`).
+///
+/// Its meaning is one ghost member, the module context, in whose words the clauses are, and each
+/// implementation proves the laws of that context. Layers above know no more of a lookup than the
+/// context and the laws.
+pub trait WasmModuleResources {
+    /// What the look-ups answer, the types that are valid and canonical, and the order on them.
+    ghost context: { Self → ModuleContext };
+
+    /// The type declared at this index, or None past the end.
+    fn sub_type_at(&self, type_index: u32) -> Option<&SubType>
+        ensures { option_copied result ≡ (context self.now).type_at type_index };
+
+    /// Whether `a` is below `b` in the order of types. Nothing is said of types that aren't valid
+    /// and canonical.
+    fn is_subtype(&self, a: ValType, b: ValType) -> bool
+        ensures { Valid (context self.now) a → Valid (context self.now) b → result ≡ (context self.now).below a b };
+
+    /// Checks a value type of a module and writes its canonical form. It refuses, at the offset
+    /// handed in, where the gate of the type is closed or an index in it is unknown, or for want of
+    /// memory.
+    fn check_value_type(
+        &self,
+        ty: &mut ValType,
+        features: &WasmFeatures,
+        offset: u64,
+    ) -> Result<(), Error>
+        ensures canonical { OnOk result ((context self.now).canonical features.now ty.old ≡ Some ty.new) }
+        ensures refused { IfErr result (λ e. e.memory ≡ false → (context self.now).canonical features.now ty.old ≡ None) }
+        ensures offset { IfErr result (λ e. e.offset ≡ offset) };
+
+    /// The laws of a lookup.
+    ghost lawful: { (x : Self) → IsLawful (context x) };
+}

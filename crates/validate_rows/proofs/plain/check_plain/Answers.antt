@@ -1,0 +1,24 @@
+use Rattle.std.proofs.Common.{rules, ◌≡◌, reverse, Some, None}
+use Rattle.validation_rules.specs.Table.{plain, alike}
+use Rattle.validate_stacks.specs.Pops.{popped_each, pushed_each}
+use Rattle.validate_stacks.specs.Visits.{step_body}
+use Rattle.validate_stacks.proofs.Validity.{kept_on}
+use Rattle.validate_rows.proofs.Rows.{plain_passes, plain_refused}
+use Rattle.validate_rows.proofs.Meeting.{meets_last, meets_refused}
+use Rattle.validate_rows.proofs.plain.check_plain.Goals as goal
+
+pub returns-in_err-pop_types : goal.returns-in_err-pop_types
+returns-in_err-pop_types g c =
+    let md = g.R.WasmModuleResources.context c.args.resources.now in
+    let v = c.args.stacks.now in
+    let none = plain_refused md v c.args.wanted.now c.args.pushed.now c.requires.visit.open_frame in
+    meets_refused md _ c.args.offset v c.pop_types.new.self _ (search rules) (search (rules, none)) (search rules) c.pop_types.ensures.valid c.pop_types.ensures.kept
+
+pub returns : goal.returns
+returns g c =
+    let md = g.R.WasmModuleResources.context c.args.resources.now in
+    let v = c.args.stacks.now in
+    let u = c.pop_types.new.self in
+    meets_last md _ c.args.offset v c.push_types.new.self (pushed_each c.args.pushed.now u) c.push_types.result
+    (plain_passes md v u c.push_types.new.self c.args.wanted.now c.args.pushed.now c.requires.visit.open_frame c.in_ok-pop_types.ensures.passed) c.push_types.ensures.pushed c.push_types.ensures.memory c.push_types.ensures.offset
+    (c.push_types.ensures.valid md c.requires.pushed c.pop_types.ensures.valid) (kept_on v u c.push_types.new.self c.pop_types.ensures.kept c.push_types.ensures.kept)

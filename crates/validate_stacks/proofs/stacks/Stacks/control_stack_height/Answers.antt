@@ -1,0 +1,10 @@
+use Rattle.std.proofs.Common.{sym, ◌∙◌, ap}
+use Rattle.validation_rules.specs.Static.{frame_count}
+use Rattle.validate_stacks.specs.State.{BodyState}
+use Rattle.validate_stacks.proofs.Cuts.{frames-cut}
+use Rattle.validate_stacks.proofs.stacks.Stacks.control_stack_height.Goals as goal
+
+pub returns : goal.returns
+returns c =
+    let s = c.self.inside in
+    c.len.ensures.value ∙ (sym (frames-cut s.control.items s.operands.items) ∙ ap (λ (v : BodyState). frame_count v.present) c.self.view_is)

@@ -1,0 +1,14 @@
+-- What is left to push comes, on the present state, to what all pushes come to on the first one.
+use Rattle.std.proofs.Common.{◌≡◌, drop}
+use Rattle.std.specs.List.{AllByRecursion}
+use Rattle.validate_resources.specs.Context.{ModuleContext, Valid}
+use Rattle.validate_stacks.specs.State.{IsValid}
+use Rattle.validate_stacks.specs.Pops.{pushed_each, IsKept}
+use Rattle.validate_stacks.proofs.stacks.Stacks.push_types.Given as goal
+
+abbrev pub invariant-loop-ty : goal.invariant-loop-ty
+invariant-loop-ty l = record {
+  rest : pushed_each (drop l.ty-index l.types) l.self ≡ pushed_each l.types l.fn.self;
+  valid : (md : ModuleContext) → AllByRecursion (Valid md) l.types → IsValid md l.fn.self → IsValid md l.self;
+  kept : IsKept l.fn.self l.self;
+}

@@ -1,0 +1,7 @@
+pub mod Piled
+pub mod State
+pub mod Flat
+pub mod Steps
+pub mod Pops
+pub mod Blocks
+pub mod Visits

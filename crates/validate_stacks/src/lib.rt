@@ -1,0 +1,15 @@
+//! The stacks of a body that is being validated: its operands, its open frames and its locals, seen
+//! by contracts as the static state of the rules of validation.
+#![tactic(auto)]
+
+pub mod allocations;
+pub mod blocks;
+pub mod lists;
+pub mod pile;
+pub mod pops;
+pub mod stacks;
+
+pub use crate::allocations::OperatorValidatorAllocations;
+pub use crate::pile::Pile;
+pub use crate::pops::ty_to_str;
+pub use crate::stacks::Stacks;

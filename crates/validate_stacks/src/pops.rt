@@ -1,0 +1,95 @@
+//! Pops of operands against what is wanted.
+
+ghost use Rattle.std.specs.Prelude.{◌≡◌, ◌⊎◌, true, false, None, Some, OnOk, OnErr, IfOk, IfErr};
+ghost use Rattle.std.specs.Option.{ForSome};
+ghost use Rattle.validate_resources.specs.Context.{Valid};
+ghost use Rattle.validation_rules.specs.Fits.{fits};
+ghost use Rattle.validation_rules.specs.Valid.{OperandIsValid};
+ghost use Rattle.validate_stacks.specs.State.{IsValid, context};
+ghost use Rattle.validate_stacks.specs.Pops.{passes};
+ghost use Rattle.validate_stacks.specs.Steps.{found, popped};
+
+use crate::stacks::Stacks;
+use std::alloc::Global;
+use validate_resources::WasmModuleResources;
+use validate_types::{Error, MaybeType, ValType};
+
+/// The name of a type in a refusal (wasmparser's `ty_to_str`).
+pub fn ty_to_str(ty: ValType) -> &'static str {
+    match ty {
+        ValType::I32 => "i32",
+        ValType::I64 => "i64",
+        ValType::F32 => "f32",
+        ValType::F64 => "f64",
+        ValType::V128 => "v128",
+    }
+}
+
+/// The refusal of an operand that isn't there. Where no type is wanted it takes no memory.
+fn nothing_there(alloc: Global, expected: Option<ValType>, offset: u64) -> Error
+    ensures offset { result.offset ≡ offset }
+    ensures memory { expected ≡ None → result.memory ≡ false }
+{
+    let Some(wanted) = expected else {
+        return Error::new(
+            "type mismatch: expected a type but nothing on stack",
+            offset,
+        );
+    };
+    let wanted = ty_to_str(wanted);
+    match format!(in alloc; "type mismatch: expected {wanted} but nothing on stack") {
+        Ok(text) => Error::with_text(text, offset),
+        Err(_) => Error::out_of_memory(offset),
+    }
+}
+
+/// The refusal of an operand of another type.
+fn mismatch(alloc: Global, expected: ValType, found: ValType, offset: u64) -> Error
+    ensures { result.offset ≡ offset }
+{
+    let expected = ty_to_str(expected);
+    let found = ty_to_str(found);
+    match format!(in alloc; "type mismatch: expected {expected}, found {found}") {
+        Ok(text) => Error::with_text(text, offset),
+        Err(_) => Error::out_of_memory(offset),
+    }
+}
+
+impl Stacks {
+    /// Pops an operand that fits what is wanted, if anything is. It refuses, at the offset handed in,
+    /// where nothing is found or where what is found doesn't fit (and is popped), or for want of
+    /// memory for the text.
+    pub fn pop_operand<R: WasmModuleResources>(
+        &mut self,
+        resources: &R,
+        offset: u64,
+        expected: Option<ValType>,
+    ) -> Result<MaybeType, Error>
+        requires wanted { ForSome expected (Valid (R.context resources.now)) }
+        requires state { IsValid (R.context resources.now) self.old }
+        ensures value { IfOk result (λ t. found self.old ≡ Some t) }
+        ensures passed { OnOk result (passes (context (R.context resources.now) self.old) (found self.old) expected ≡ true) }
+        ensures popped { OnOk result (self.new ≡ popped self.old) }
+        ensures refused { IfErr result (λ e. e.memory ≡ false → passes (context (R.context resources.now) self.old) (found self.old) expected ≡ false) }
+        ensures left { OnErr result ((self.new ≡ self.old) ⊎ (self.new ≡ popped self.old)) }
+        ensures offset { IfErr result (λ e. e.offset ≡ offset) }
+
+        // A pop of any type takes no memory.
+        ensures memory { expected ≡ None → IfErr result (λ e. e.memory ≡ false) }
+    {
+        let alloc = self.allocator();
+        let Some(actual) = self.pop_any() else {
+            return Err(nothing_there(alloc, expected, offset));
+        };
+        match (actual, expected) {
+            (MaybeType::Known(found), Some(wanted)) => {
+                if resources.is_subtype(found, wanted) {
+                    Ok(actual)
+                } else {
+                    Err(mismatch(alloc, wanted, found, offset))
+                }
+            }
+            _ => Ok(actual),
+        }
+    }
+}

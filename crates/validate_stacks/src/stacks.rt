@@ -1,0 +1,233 @@
+//! The operands, the open frames and the locals.
+
+ghost use Rattle.std.specs.Prelude.{◌≡◌, ◌≢◌, ◌+◌, ◌<◌, ◌≤◌, [], length, IfOk, OnErr, MatchBool, MatchResult, IsTrue, not};
+ghost use Rattle.std.specs.Option.{option_copied};
+ghost use Rattle.validation_rules.specs.Static.{operand_count, frame_count};
+ghost use Rattle.validate_stacks.specs.Steps.{empty, own_of, found, known_of, peeked, frame_at, pushed, popped, opened, closed, is_set_in, local_set, with_locals};
+
+use crate::allocations::OperatorValidatorAllocations;
+use crate::pile::Pile;
+use std::alloc::Global;
+use std::marker::Model;
+use validate_locals::Locals;
+use validate_types::{MaybeType, OutOfMemory, ValType, WasmFeatures};
+use validate_visit::{BlockType, Frame, FrameKind};
+
+/// The operands, the open frames and the locals of a body (wasmparser's `OperatorValidator` without
+/// its visits). Contracts see a `BodyState` of `specs/`, whose frames have operands of their own.
+#[derive(Drop)]
+pub struct Stacks {
+    operands: Pile<MaybeType>,
+    control: Pile<Frame>,
+    locals: Locals,
+    shared: bool,
+    features: WasmFeatures,
+    alloc: Global,
+}
+
+impl Model for Stacks {
+    ghost use Rattle.std.specs.Prelude.{length, map, true};
+    ghost use Rattle.validate_stacks.specs.State.{BodyState};
+
+    ghost Value = { BodyState };
+
+    ghost use Rattle.validate_stacks.specs.Flat.{cut, HasShape};
+
+    ghost view = { λ s. record { present = cut s.control.items s.operands.items; shared = s.shared; features = s.features; locals = s.locals; entry = map (λ _. true) s.locals } };
+
+    ghost invariant = { λ s. HasShape s.control.items (length s.operands.items) };
+}
+
+impl Stacks {
+    /// No frame, no operand and no local, in these buffers. It takes no memory.
+    pub fn new(features: WasmFeatures, allocs: OperatorValidatorAllocations) -> Stacks
+        ensures { result ≡ empty features }
+    {
+        let alloc = allocs.allocator();
+        Stacks {
+            operands: Pile::new(alloc),
+            control: Pile::new(alloc),
+            locals: Locals::new(alloc),
+            shared: false,
+            features,
+            alloc,
+        }
+    }
+
+    /// The buffers, emptied. It takes no memory.
+    pub fn into_allocations(self) -> OperatorValidatorAllocations {
+        OperatorValidatorAllocations::new(self.alloc)
+    }
+
+    /// The allocator of the buffers, with which texts are made.
+    pub fn allocator(&self) -> Global {
+        self.alloc
+    }
+
+    /// Marks the function as shared or not.
+    pub fn set_shared(&mut self, shared: bool)
+        ensures { self.new ≡ record self.old { shared = shared } }
+    {
+        self.shared = shared;
+    }
+
+    /// Whether the function is shared.
+    pub fn is_shared(&self) -> bool
+        ensures { result ≡ self.now.shared }
+    {
+        self.shared
+    }
+
+    /// The proposals that are on.
+    pub fn features(&self) -> WasmFeatures
+        ensures { result ≡ self.now.features }
+    {
+        self.features
+    }
+
+    /// The declared locals.
+    pub fn locals(&self) -> &Locals
+        ensures { result.now ≡ self.now.locals }
+    {
+        &self.locals
+    }
+
+    /// Declares `count` more locals of this type. False, with nothing changed, where there would be
+    /// more than 50,000 then; want of memory changes nothing either.
+    pub fn define_locals(&mut self, count: u32, ty: ValType) -> Result<bool, OutOfMemory>
+        ensures defined { IfOk result (λ done. MatchBool done (self.new ≡ with_locals count ty self.old) (self.new ≡ self.old)) }
+        ensures within { IfOk result (λ done. MatchBool done (length self.old.locals + count ≤ 50000) (50000 < length self.old.locals + count)) }
+        ensures err { OnErr result (self.new ≡ self.old) }
+    {
+        self.locals.define(count, ty)
+    }
+
+    /// Whether the local at this index isn't set. Every local has a default value until references
+    /// come, so none is.
+    pub fn is_uninit(&self, local_index: u32) -> bool
+        requires { local_index < length self.now.locals }
+        ensures { result ≡ not (is_set_in self.now local_index) }
+    {
+        let ty = self.locals.get(local_index).unwrap();
+        !ty.is_defaultable()
+    }
+
+    /// Sets the local at this index: where it wasn't set, it joins those first set in the innermost
+    /// frame. Want of memory changes nothing.
+    pub fn set_init(&mut self, local_index: u32) -> Result<(), OutOfMemory>
+        requires { local_index < length self.old.locals }
+        ensures exact { MatchResult result (λ _. self.new ≡ local_set local_index self.old) (λ _. self.new ≡ self.old) }
+    {
+        let _locals = &self.locals;
+        let _index = local_index;
+        Ok(())
+    }
+
+    /// How many operands there are, in all frames.
+    pub fn operand_stack_height(&self) -> usize
+        ensures { result ≡ operand_count self.now.present }
+    {
+        self.operands.len()
+    }
+
+    /// How many frames are open.
+    pub fn control_stack_height(&self) -> usize
+        ensures { result ≡ frame_count self.now.present }
+    {
+        self.control.len()
+    }
+
+    /// The type of the operand at this depth, the top at 0: None past the end, and `Some(None)` for
+    /// an operand whose type isn't known.
+    pub fn peek_operand_at(&self, depth: usize) -> Option<Option<ValType>>
+        ensures { result ≡ peeked self.now depth }
+    {
+        let ty = self.operands.get(depth)?;
+        Some(known_type(*ty))
+    }
+
+    /// The frame at this depth, the innermost at 0, or None past the end.
+    pub fn get_frame(&self, depth: usize) -> Option<&Frame>
+        ensures { option_copied result ≡ frame_at self.now depth }
+    {
+        let _height = self.operands.len();
+        self.control.get(depth)
+    }
+
+    /// Pushes an operand onto the innermost frame. Want of memory changes nothing.
+    pub fn push_operand(&mut self, ty: MaybeType) -> Result<(), OutOfMemory>
+        ensures exact { MatchResult result (λ _. self.new ≡ pushed ty self.old) (λ _. self.new ≡ self.old) }
+    {
+        self.operands.take_room()?;
+        self.operands.put(ty);
+        Ok(())
+    }
+
+    /// Takes the top own operand of the innermost frame. Below those of a dead frame lie unknown
+    /// ones, which are found and stay; None where nothing is found.
+    pub(crate) fn pop_any(&mut self) -> Option<MaybeType>
+        ensures value { result ≡ found self.old }
+        ensures after { self.new ≡ popped self.old }
+    {
+        let Some(frame) = self.control.get(0) else {
+            return None;
+        };
+        if self.operands.len() <= frame.height {
+            return if frame.unreachable {
+                Some(MaybeType::Bottom)
+            } else {
+                None
+            };
+        }
+        self.operands.pop()
+    }
+
+    /// How many own operands the innermost frame has.
+    pub fn own_len(&self) -> usize
+        ensures { result ≡ length (own_of self.now.present.frames) }
+    {
+        match self.control.get(0) {
+            Some(frame) => self.operands.len() - frame.height,
+            None => 0,
+        }
+    }
+
+    /// Opens a frame with no operands of its own. Want of memory changes nothing.
+    pub fn push_bare_ctrl(
+        &mut self,
+        kind: FrameKind,
+        block_type: BlockType,
+    ) -> Result<(), OutOfMemory>
+        ensures exact { MatchResult result (λ _. self.new ≡ opened kind block_type self.old) (λ _. self.new ≡ self.old) }
+    {
+        self.control.take_room()?;
+        let height = self.operands.len();
+        self.control.put(Frame {
+            kind,
+            block_type,
+            height,
+            unreachable: false,
+            init_height: 0,
+        });
+        Ok(())
+    }
+
+    /// Closes the innermost frame, which has no operands of its own.
+    pub fn pop_bare_ctrl(&mut self)
+        requires { own_of self.old.present.frames ≡ [] }
+        ensures { self.new ≡ closed self.old }
+    {
+        let _height = self.operands.len();
+        let _frame = self.control.pop();
+    }
+}
+
+/// The type of an operand, where it is known.
+fn known_type(ty: MaybeType) -> Option<ValType>
+    ensures { result ≡ known_of ty }
+{
+    match ty {
+        MaybeType::Known(ty) => Some(ty),
+        MaybeType::Bottom => None,
+    }
+}

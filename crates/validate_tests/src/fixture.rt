@@ -1,0 +1,53 @@
+//! A module of function types, and validators of bodies in it.
+
+ghost use Rattle.std.specs.Prelude.{IfOk};
+ghost use Rattle.wasmparser_validate.specs.Start.{state};
+ghost use Rattle.wasmparser_validate.specs.State.{IsStarting};
+
+use bitflags::Flags;
+use std::test::Fail;
+use wasmparser_validate::operators::{OperatorValidator, OperatorValidatorAllocations};
+use wasmparser_validate::resources::{ModuleLists, WasmModuleResources};
+use wasmparser_validate::types::{
+    CompositeInnerType, CompositeType, Error, FuncType, SubType, ValType, WasmFeatures,
+};
+
+/// A function type of these lists.
+pub fn func_type(
+    rt: &impl AllocGlobal,
+    params: &[ValType],
+    results: &[ValType],
+) -> Result<SubType, Fail> {
+    let func_type = FuncType::new(params.to_vec(rt.alloc())?, results.to_vec(rt.alloc())?);
+    Ok(SubType {
+        is_final: true,
+        composite_type: CompositeType {
+            inner: CompositeInnerType::Func(func_type),
+            shared: false,
+        },
+    })
+}
+
+/// A module with the one type `[params] -> [results]`, at index 0.
+pub fn module(
+    rt: &impl AllocGlobal,
+    params: &[ValType],
+    results: &[ValType],
+) -> Result<ModuleLists, Fail> {
+    let mut types = Vec::new(rt.alloc());
+    types.push(func_type(rt, params, results)?)?;
+    Ok(ModuleLists::new(rt.alloc(), types)?)
+}
+
+/// A validator of a body of type 0, with every proposal on.
+pub fn validator(rt: &impl AllocGlobal, lists: &ModuleLists) -> Result<OperatorValidator, Error>
+    ensures { IfOk result (λ v. IsStarting (⟦<ModuleLists as WasmModuleResources>⟧.context lists.now) (state v)) }
+{
+    OperatorValidator::new_func(
+        0,
+        0,
+        &WasmFeatures::all(),
+        lists,
+        OperatorValidatorAllocations::new(rt.alloc()),
+    )
+}

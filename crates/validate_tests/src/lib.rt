@@ -1,0 +1,13 @@
+//! Tests of the public calls of `wasmparser_validate`: what no contract says, as the texts of
+//! refusals, and that each call succeeds where memory is ample. Expected values come from the
+//! standard and from upstream's texts.
+#![tactic(auto)]
+
+#[cfg(test)]
+mod bodies;
+#[cfg(test)]
+mod declared;
+#[cfg(test)]
+mod fixture;
+#[cfg(test)]
+mod lists;

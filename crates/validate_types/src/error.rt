@@ -1,0 +1,107 @@
+//! Why something was refused, and where.
+
+ghost use Rattle.std.specs.Prelude.{◌≡◌, true, false, codes};
+ghost use Rattle.std.specs.String.{string_bytes};
+
+use std::alloc::{AllocError, AllocFailed};
+use std::marker::Model;
+
+/// A growth was refused: there was no memory for it.
+#[derive(Clone, Copy, Debug, PartialEq, Eq)]
+pub struct OutOfMemory;
+
+impl From<AllocError> for OutOfMemory {
+    fn from(_e: AllocError) -> OutOfMemory {
+        OutOfMemory
+    }
+}
+
+impl<T: Drop> From<AllocFailed<T>> for OutOfMemory {
+    fn from(_e: AllocFailed<T>) -> OutOfMemory {
+        OutOfMemory
+    }
+}
+
+#[derive(Debug, Drop)]
+enum Message {
+    Fixed(&'static str),
+    Owned(String),
+    OutOfMemory,
+}
+
+/// A refusal: its text, and the offset that was handed in to the call that refused. Want of memory
+/// is a refusal of its own kind. Contracts see a [`Refusal`] of `specs/`. No call takes memory.
+///
+/// wasmparser's `BinaryReaderError`, there named `Error` inside the validator.
+#[derive(Debug, Drop)]
+pub struct Error {
+    offset: u64,
+    message: Message,
+}
+
+impl Model for Error {
+    ghost use Rattle.validate_types.specs.Refusal.{Refusal};
+
+    ghost Value = { Refusal };
+
+    ghost use Rattle.validate_types.specs.Messages.{text_of, is_memory};
+
+    ghost view = { λ e. record { offset = e.offset; text = text_of e.message; memory = is_memory e.message } };
+}
+
+impl Error {
+    /// A refusal with this text, at this offset.
+    pub fn new(message: &'static str, offset: u64) -> Error
+        ensures { result ≡ record { offset = offset; text = message.now; memory = false } }
+    {
+        Error {
+            offset,
+            message: Message::Fixed(message),
+        }
+    }
+
+    /// A refusal with a text that was made for it, at this offset.
+    pub fn with_text(text: String, offset: u64) -> Error
+        ensures { result ≡ record { offset = offset; text = string_bytes text; memory = false } }
+    {
+        Error {
+            offset,
+            message: Message::Owned(text),
+        }
+    }
+
+    /// Want of memory, at this offset. Its text is `out of memory`.
+    pub fn out_of_memory(offset: u64) -> Error
+        ensures { result ≡ record { offset = offset; text = codes "out of memory"; memory = true } }
+    {
+        Error {
+            offset,
+            message: Message::OutOfMemory,
+        }
+    }
+
+    /// The offset that was handed in to the call that refused.
+    pub fn offset(&self) -> u64
+        ensures { result ≡ self.now.offset }
+    {
+        self.offset
+    }
+
+    /// Whether it was made for want of memory, as by [`Error::out_of_memory`].
+    pub fn is_out_of_memory(&self) -> bool
+        ensures { result ≡ self.now.memory }
+    {
+        matches!(&self.message, Message::OutOfMemory)
+    }
+
+    /// The text of the refusal.
+    pub fn message(&self) -> &str
+        ensures { result.now ≡ self.now.text }
+    {
+        match &self.message {
+            Message::Fixed(text) => text,
+            Message::Owned(text) => text.as_str(),
+            Message::OutOfMemory => "out of memory",
+        }
+    }
+}

@@ -1,0 +1,11 @@
+//! Value types, the types that a module declares, the proposals that are on, and the error of a
+//! refusal: what wasmparser's validator takes from the layers below it.
+#![tactic(auto)]
+
+pub mod error;
+pub mod features;
+pub mod types;
+
+pub use crate::error::{Error, OutOfMemory};
+pub use crate::features::WasmFeatures;
+pub use crate::types::{CompositeInnerType, CompositeType, FuncType, MaybeType, SubType, ValType};

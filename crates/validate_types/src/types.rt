@@ -1,0 +1,117 @@
+//! Value types, and the types that a module declares (WebAssembly core specification, "Types").
+
+ghost use Rattle.std.specs.Prelude.{◌≡◌, true};
+
+use std::marker::Model;
+
+/// The type of a value (wasmparser's `ValType`): a number type or the vector type. References are
+/// not there yet.
+#[derive(Clone, Copy, Debug, PartialEq, Eq)]
+pub enum ValType {
+    /// `i32`
+    I32,
+    /// `i64`
+    I64,
+    /// `f32`
+    F32,
+    /// `f64`
+    F64,
+    /// `v128`
+    V128,
+}
+
+impl ValType {
+    /// Whether the type has a default value: true of every number type and of the vector type.
+    pub fn is_defaultable(self) -> bool
+        ensures { result ≡ true }
+    {
+        match self {
+            ValType::I32 | ValType::I64 | ValType::F32 | ValType::F64 | ValType::V128 => true,
+        }
+    }
+}
+
+/// An operand's type as the validator knows it: in dead code an operand may be anything at all
+/// (wasmparser's `MaybeType`; the unknown type of the appendix "Validation Algorithm").
+#[derive(Clone, Copy, Debug, PartialEq, Eq)]
+pub enum MaybeType<T = ValType> {
+    /// Nothing is known: what dead code finds below its operands.
+    Bottom,
+    /// The type is known.
+    Known(T),
+}
+
+impl From<ValType> for MaybeType {
+    ghost use Rattle.std.specs.Prelude.{◌≡◌};
+    ghost use Rattle.validate_types.specs.declared.types.MaybeType.TheVariants.{Known};
+
+    ghost from_gives = { λ t m. m ≡ Known t };
+
+    fn from(ty: ValType) -> MaybeType {
+        MaybeType::Known(ty)
+    }
+}
+
+/// The type of a function: what it takes and what it gives. Contracts see a [`Signature`] of
+/// `specs/`.
+#[derive(Debug, Drop)]
+pub struct FuncType {
+    params: Vec<ValType>,
+    results: Vec<ValType>,
+}
+
+impl Model for FuncType {
+    ghost use Rattle.validate_types.specs.Types.{Signature};
+
+    ghost Value = { Signature };
+
+    ghost view = { λ f. record { params = f.params.items; results = f.results.items } };
+}
+
+impl FuncType {
+    /// A function type of these lists. It takes no memory.
+    pub fn new(params: Vec<ValType>, results: Vec<ValType>) -> FuncType
+        ensures { result ≡ record { params = params.items; results = results.items } }
+    {
+        FuncType { params, results }
+    }
+
+    /// What the function takes, the last on top.
+    pub fn params(&self) -> &[ValType]
+        ensures { result.now ≡ self.now.params }
+    {
+        self.params.as_slice()
+    }
+
+    /// What the function gives, the last on top.
+    pub fn results(&self) -> &[ValType]
+        ensures { result.now ≡ self.now.results }
+    {
+        self.results.as_slice()
+    }
+}
+
+/// What a type is made of. Structs, arrays and continuations are not there yet.
+#[derive(Debug, Drop)]
+pub enum CompositeInnerType {
+    /// A function type.
+    Func(FuncType),
+}
+
+/// What a type is made of, and its mark as shared.
+#[derive(Debug, Drop)]
+pub struct CompositeType {
+    /// What it is made of.
+    pub inner: CompositeInnerType,
+    /// Whether it is shared.
+    pub shared: bool,
+}
+
+/// A type as a module declares it (wasmparser's `SubType`).
+#[derive(Debug, Drop)]
+pub struct SubType {
+    /// Whether no type may be declared below it.
+    pub is_final: bool,
+    /// What it is made of.
+    pub composite_type: CompositeType,
+}

@@ -1,0 +1,33 @@
+-- Which immediates a module can have: no type holds an id, and each number lies in the range of its
+-- type (WebAssembly core specification, "Instructions").
+use Rattle.std.specs.Prelude.{ℕ, ℤ, pos, negsuc, Bool, true, ◌^◌, nat_lt}
+use Rattle.validate_visit.specs.declared.op.Op.{Op}
+use Rattle.validate_visit.specs.declared.op.Op.TheVariants.{Control, Numeric}
+use Rattle.validate_visit.specs.declared.op.ControlOp.{ControlOp}
+use Rattle.validate_visit.specs.declared.op.ControlOp.TheVariants.{LocalGet, LocalSet, LocalTee}
+use Rattle.validate_visit.specs.declared.op.NumericOp.{NumericOp}
+use Rattle.validate_visit.specs.declared.op.NumericOp.TheVariants.{I32Const, I64Const}
+
+-- an index
+abbrev pub is_index : ℕ → Bool
+is_index i = nat_lt i (2 ^ 32)
+
+-- a signed number from - 2 ^ bits to 2 ^ bits - 1
+abbrev pub is_signed : ℕ → ℤ → Bool
+is_signed bits (pos n) = nat_lt n (2 ^ bits)
+is_signed bits (negsuc n) = nat_lt n (2 ^ bits)
+
+abbrev pub control_immediates : ControlOp → Bool
+control_immediates (LocalGet i) = is_index i
+control_immediates (LocalSet i) = is_index i
+control_immediates (LocalTee i) = is_index i
+control_immediates _ = true
+
+abbrev pub numeric_immediates : NumericOp → Bool
+numeric_immediates (I32Const n) = is_signed 31 n
+numeric_immediates (I64Const n) = is_signed 63 n
+numeric_immediates _ = true
+
+abbrev pub module_immediates : Op → Bool
+module_immediates (Control op) = control_immediates op
+module_immediates (Numeric op) = numeric_immediates op

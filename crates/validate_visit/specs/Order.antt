@@ -1,0 +1,77 @@
+-- Which lists of operators are well ordered (WebAssembly core specification, "Structured control
+-- instructions"; the parts of a legacy `try` are those of the legacy exceptions). This is a property of
+-- what each operator does to the open parts.
+use Rattle.std.specs.Prelude.{Bool, true, false, ◌&&◌, List, [], ◌∷◌, map}
+use Rattle.validate_visit.specs.declared.frame.FrameKind.{FrameKind}
+use Rattle.validate_visit.specs.declared.frame.FrameKind.TheVariants.{Block, If, Else, LegacyTry, LegacyCatch, LegacyCatchAll}
+use Rattle.validate_visit.specs.declared.op.Op.{Op}
+use Rattle.validate_visit.specs.declared.op.Op.TheVariants.{Control, Numeric}
+use Rattle.validate_visit.specs.declared.op.ControlOp.{ControlOp}
+use Rattle.validate_visit.specs.declared.op.ControlOp.TheVariants.{End}
+
+-- What an operator does to the open parts. A `catch` begins another part, a `catch_all` too (`all`).
+pub data Nesting : Type 0 where
+  Flat : Nesting
+  Opens : (kind : FrameKind) → Nesting
+  BeginsElse : Nesting
+  BeginsCatch : (all : Bool) → Nesting
+  Ends : Nesting
+  Delegates : Nesting
+
+-- an operator that closes the innermost part
+abbrev pub is_closing : Nesting → Bool
+is_closing Ends = true
+is_closing Delegates = true
+is_closing _ = false
+
+-- the first part of an `if`
+abbrev pub is_if : FrameKind → Bool
+is_if If = true
+is_if _ = false
+
+-- the body of a legacy `try`
+abbrev pub is_try : FrameKind → Bool
+is_try LegacyTry = true
+is_try _ = false
+
+-- a part after which a `catch` or `catch_all` may stand
+abbrev pub may_catch : FrameKind → Bool
+may_catch LegacyTry = true
+may_catch LegacyCatch = true
+may_catch _ = false
+
+-- the kind of the part that a `catch` begins, or a `catch_all`
+abbrev pub catch_kind : Bool → FrameKind
+catch_kind true = LegacyCatchAll
+catch_kind false = LegacyCatch
+
+-- Reading one operator in the innermost part k, with these parts outside it: whether it may stand
+-- there, and the open parts after it.
+abbrev pub reads_on : FrameKind → List FrameKind → Nesting → (List FrameKind → Bool) → Bool
+reads_on k ks Flat next = next (k ∷ ks)
+reads_on k ks (Opens kind) next = next (kind ∷ (k ∷ ks))
+reads_on k ks BeginsElse next = is_if k && next (Else ∷ ks)
+reads_on k ks (BeginsCatch all) next = may_catch k && next (catch_kind all ∷ ks)
+reads_on k ks Ends next = next ks
+reads_on k ks Delegates next = is_try k && next ks
+
+-- reading on from these open parts, the innermost first
+abbrev pub is_ordered_from : List FrameKind → List Nesting → Bool
+is_ordered_from ks [] = true
+is_ordered_from [] (n ∷ ns) = false
+is_ordered_from (k ∷ ks) (n ∷ ns) = reads_on k ks n (λ js. is_ordered_from js ns)
+
+abbrev pub control_nesting : ControlOp → Nesting
+control_nesting End = Ends
+control_nesting _ = Flat
+
+-- what each operator does to the open parts
+abbrev pub nesting : Op → Nesting
+nesting (Control op) = control_nesting op
+nesting (Numeric op) = Flat
+
+-- Reading from an open outermost frame: openers nest, `else` stands in an `if` part, `catch` and
+-- `catch_all` in a `try` or `catch` part, `delegate` closes a `try` part, `end` closes any, and nothing
+-- follows the outermost `end`. The list may stop early.
+abbrev pub is_well_ordered_list : List Op → Bool
+is_well_ordered_list ops = is_ordered_from (Block ∷ []) (map nesting ops)

@@ -1,0 +1,93 @@
+//! Operators as data, grouped.
+
+ghost use Rattle.std.specs.Prelude.{◌≡◌};
+ghost use Rattle.validate_visit.specs.Immediates.{module_immediates, control_immediates, numeric_immediates, is_index};
+
+/// Operators on control and variables, and on operands of any type.
+#[derive(Clone, Copy, Debug, PartialEq, Eq)]
+pub enum ControlOp {
+    /// `nop`
+    Nop,
+    /// `end`
+    End,
+    /// `drop`
+    Drop,
+    /// `local.get` of the local at this index.
+    LocalGet(u32),
+    /// `local.set` of the local at this index.
+    LocalSet(u32),
+    /// `local.tee` of the local at this index.
+    LocalTee(u32),
+}
+
+/// Operators on numbers.
+#[derive(Clone, Copy, Debug, PartialEq, Eq)]
+pub enum NumericOp {
+    /// `i32.const`
+    I32Const(i32),
+    /// `i64.const`
+    I64Const(i64),
+    /// `i32.eqz`
+    I32Eqz,
+    /// `i32.add`
+    I32Add,
+    /// `i32.sub`
+    I32Sub,
+    /// `i32.mul`
+    I32Mul,
+    /// `i64.add`
+    I64Add,
+    /// `i64.sub`
+    I64Sub,
+    /// `i64.mul`
+    I64Mul,
+}
+
+/// An operator with its immediates (in place of wasmparser's `Operator`, which has no groups).
+#[derive(Clone, Copy, Debug, PartialEq, Eq)]
+pub enum Op {
+    /// An operator on control and variables.
+    Control(ControlOp),
+    /// An operator on numbers.
+    Numeric(NumericOp),
+}
+
+/// Whether the immediates are those of a module: no type among them holds an id, and each number lies
+/// in the range of its type. Of an operator in hand the second half always holds; a law over all
+/// lists needs the words.
+pub fn has_module_immediates(op: &Op) -> bool
+    ensures { result ≡ module_immediates op.now }
+{
+    match op {
+        Op::Control(op) => has_control_immediates(*op),
+        Op::Numeric(op) => has_numeric_immediates(*op),
+    }
+}
+
+fn has_control_immediates(op: ControlOp) -> bool
+    ensures { result ≡ control_immediates op }
+{
+    match op {
+        ControlOp::LocalGet(index) | ControlOp::LocalSet(index) | ControlOp::LocalTee(index) => {
+            is_in_range(index)
+        }
+        _ => true,
+    }
+}
+
+/// Whether an index lies in the range of its type, as each one in hand does.
+fn is_in_range(index: u32) -> bool
+    ensures { result ≡ is_index index }
+{
+    index <= u32::MAX
+}
+
+fn has_numeric_immediates(op: NumericOp) -> bool
+    ensures { result ≡ numeric_immediates op }
+{
+    match op {
+        NumericOp::I32Const(value) => i32::MIN <= value && value <= i32::MAX,
+        NumericOp::I64Const(value) => i64::MIN <= value && value <= i64::MAX,
+        _ => true,
+    }
+}

@@ -1,0 +1,617 @@
+-- Small bodies, computed: good ones are accepted and bad ones refused. What is expected is what the
+-- standard's rules say of them.
+use Rattle.std.proofs.Common.{◌≡◌, ℕ, pos, Bool, true, false, List, [], ◌∷◌, ◌++◌, length, Option, Some, None, refl, slice_get}
+use Rattle.validate_resources.specs.Lists.{context_of, same_number}
+use Rattle.validate_types.specs.declared.types.CompositeInnerType.TheVariants.{Func}
+use Rattle.validate_visit.specs.declared.op.Op.{Op}
+use Rattle.validate_visit.specs.declared.op.Op.TheVariants.{Control, Numeric}
+use Rattle.validate_visit.specs.declared.op.ControlOp.TheVariants.{Nop, End, Drop, LocalGet, LocalSet, LocalTee}
+use Rattle.validate_visit.specs.declared.op.NumericOp.TheVariants.{I32Const, I64Const, I32Eqz, I32Add, I64Add}
+use Rattle.validation_rules.specs.Context.{SubType, WasmFeatures, ValType, I32, I64, BlockType, Empty, Val, FuncType, Context}
+use Rattle.validation_rules.specs.Fits.{MaybeType, Bottom, Known}
+use Rattle.validation_rules.specs.Rows.{FrameKind, Block, Else, Loop, TryTable, LegacyCatch, LegacyCatchAll, Operator}
+use Rattle.validation_rules.specs.Static.{Frame, State, before, start, frame_count, operand_count, found}
+use Rattle.validation_rules.specs.Pops.{pops}
+use Rattle.validation_rules.specs.Table.{body}
+use Rattle.validation_rules.proofs.Handmade.{unreachable, a_block, a_loop, an_if, an_else, br, br_if, br_table, a_return, a_try_table, throw, a_try, a_catch, a_catch_all, delegate, rethrow}
+
+-- ---- a module of four types, and a function with two locals of which the first is set at entry
+
+abbrev a_type : List ValType → List ValType → SubType
+a_type params results =
+    record { is_final = true; composite_type = record { inner = Func (record { params = params; results = results }); shared = false } }
+
+abbrev types : List SubType
+types = a_type [] [] ∷ a_type (I32 ∷ []) [] ∷ a_type (I32 ∷ []) (I32 ∷ []) ∷ a_type (I32 ∷ I64 ∷ []) (I64 ∷ I32 ∷ []) ∷ []
+
+-- from nothing to nothing, from i32 to nothing, from i32 to i32, and two in and out
+abbrev to_nothing : BlockType
+to_nothing = FuncType 0
+
+abbrev takes_one : BlockType
+takes_one = FuncType 1
+
+abbrev one_to_one : BlockType
+one_to_one = FuncType 2
+
+abbrev two_to_two : BlockType
+two_to_two = FuncType 3
+
+module _ (features : WasmFeatures) where
+  abbrev cx : Context
+  cx = record { of_module = context_of types; features = features; shared = false; locals = I32 ∷ I64 ∷ []; entry = true ∷ false ∷ [] }
+
+  -- ---- operators, as the rules see them
+
+  abbrev table_op : Op → List Operator
+  table_op op = body cx (op ∷ [])
+
+  abbrev i32_const : List Operator
+  i32_const = table_op (Numeric (I32Const (pos 0)))
+
+  abbrev i64_const : List Operator
+  i64_const = table_op (Numeric (I64Const (pos 0)))
+
+  abbrev i32_eqz : List Operator
+  i32_eqz = table_op (Numeric I32Eqz)
+
+  abbrev i32_add : List Operator
+  i32_add = table_op (Numeric I32Add)
+
+  abbrev i64_add : List Operator
+  i64_add = table_op (Numeric I64Add)
+
+  abbrev local_get : ℕ → List Operator
+  local_get i = table_op (Control (LocalGet i))
+
+  abbrev local_set : ℕ → List Operator
+  local_set i = table_op (Control (LocalSet i))
+
+  abbrev local_tee : ℕ → List Operator
+  local_tee i = table_op (Control (LocalTee i))
+
+  abbrev nop : List Operator
+  nop = table_op (Control Nop)
+
+  abbrev end : List Operator
+  end = table_op (Control End)
+
+  abbrev drops : List Operator
+  drops = table_op (Control Drop)
+
+  abbrev hand : Operator → List Operator
+  hand op = op ∷ []
+
+  -- ---- outcomes
+
+  -- the state after the whole list
+  abbrev after_all : BlockType → List Operator → Option State
+  after_all ty code = before cx code (start ty) (length code)
+
+  abbrev Refused : BlockType → List Operator → Type 0
+  Refused ty code = after_all ty code ≡ None
+
+  -- accepted up to the outermost `end`, with these types left, the top first
+  abbrev Done : BlockType → List Operator → List MaybeType → Type 0
+  Done ty code left = after_all ty code ≡ Some (record { frames = []; left = left })
+
+  abbrev frame : FrameKind → BlockType → List MaybeType → Bool → Frame
+  frame kind ty own dead = record { head = record { kind = kind; block_type = ty }; own = own; dead = dead; first_set = [] }
+
+  -- accepted so far, with these frames open
+  abbrev Open : BlockType → List Operator → List Frame → Type 0
+  Open ty code frames = after_all ty code ≡ Some (record { frames = frames; left = [] })
+
+  -- ---- operators of the table
+
+  -- the body of a function from i32 to i32 that adds, place by place
+  abbrev adding : List Operator
+  adding = body cx (Control (LocalGet 0) ∷ Numeric (I32Const (pos 1)) ∷ Numeric I32Add ∷ Control End ∷ [])
+
+  abbrev body_frame : List MaybeType → Frame
+  body_frame own = frame Block one_to_one own false
+
+  abbrev standing : List MaybeType → Option State
+  standing own = Some (record { frames = body_frame own ∷ []; left = [] })
+
+  adding_0 : before cx adding (start one_to_one) 0 ≡ standing []
+  adding_0 = refl
+
+  adding_1 : before cx adding (start one_to_one) 1 ≡ standing (Known I32 ∷ [])
+  adding_1 = refl
+
+  adding_2 : before cx adding (start one_to_one) 2 ≡ standing (Known I32 ∷ Known I32 ∷ [])
+  adding_2 = refl
+
+  adding_3 : before cx adding (start one_to_one) 3 ≡ standing (Known I32 ∷ [])
+  adding_3 = refl
+
+  adding_4 : before cx adding (start one_to_one) 4 ≡ Some (record { frames = []; left = Known I32 ∷ [] })
+  adding_4 = refl
+
+  -- there is no place behind the last
+  adding_5 : before cx adding (start one_to_one) 5 ≡ None
+  adding_5 = refl
+
+  -- operands and frames, counted
+  abbrev heights_of : Option State → Option (ℕ × ℕ)
+  heights_of None = None
+  heights_of (Some s) = Some (operand_count s, frame_count s)
+
+  heights_0 : heights_of (before cx adding (start one_to_one) 0) ≡ Some (0, 1)
+  heights_0 = refl
+
+  heights_1 : heights_of (before cx adding (start one_to_one) 1) ≡ Some (1, 1)
+  heights_1 = refl
+
+  heights_2 : heights_of (before cx adding (start one_to_one) 2) ≡ Some (2, 1)
+  heights_2 = refl
+
+  heights_3 : heights_of (before cx adding (start one_to_one) 3) ≡ Some (1, 1)
+  heights_3 = refl
+
+  heights_4 : heights_of (before cx adding (start one_to_one) 4) ≡ Some (1, 0)
+  heights_4 = refl
+
+  -- nothing to add
+  add_at_once : Refused to_nothing i32_add
+  add_at_once = refl
+
+  -- one operand short
+  add_one : Refused to_nothing (i32_const ++ i32_add)
+  add_one = refl
+
+  -- one operand of another type, on top and below it
+  add_wrong_top : Refused to_nothing (i32_const ++ i64_const ++ i32_add)
+  add_wrong_top = refl
+
+  add_wrong_below : Refused to_nothing (i64_const ++ i32_const ++ i32_add)
+  add_wrong_below = refl
+
+  -- the rows of the two operators before it hold
+  add_wrong_before : Open to_nothing (i32_const ++ i64_const) (frame Block to_nothing (Known I64 ∷ Known I32 ∷ []) false ∷ [])
+  add_wrong_before = refl
+
+  -- operands below those that are wanted stay
+  add_above : Open to_nothing (i64_const ++ i32_const ++ i32_const ++ i32_add) (frame Block to_nothing (Known I32 ∷ Known I64 ∷ []) false ∷ [])
+  add_above = refl
+
+  test_gives_i32 : Open to_nothing (i32_const ++ i32_eqz) (frame Block to_nothing (Known I32 ∷ []) false ∷ [])
+  test_gives_i32 = refl
+
+  drop_at_once : Refused to_nothing drops
+  drop_at_once = refl
+
+  drop_any : Open to_nothing (i64_const ++ i32_const ++ drops) (frame Block to_nothing (Known I64 ∷ []) false ∷ [])
+  drop_any = refl
+
+  nop_leaves : Open to_nothing (i32_const ++ nop) (frame Block to_nothing (Known I32 ∷ []) false ∷ [])
+  nop_leaves = refl
+
+  -- `end` asks for the results and for nothing else
+  end_of_nothing : Done to_nothing end []
+  end_of_nothing = refl
+
+  end_with_more : Refused to_nothing (i32_const ++ end)
+  end_with_more = refl
+
+  end_without : Refused one_to_one end
+  end_without = refl
+
+  end_with_two : Refused one_to_one (i32_const ++ i32_const ++ end)
+  end_with_two = refl
+
+  end_of_other : Refused one_to_one (i64_const ++ end)
+  end_of_other = refl
+
+  end_of_one : Done (Val I64) (i64_const ++ end) (Known I64 ∷ [])
+  end_of_one = refl
+
+  -- two results, the last on top
+  end_of_two : Done two_to_two (i64_const ++ i32_const ++ end) (Known I32 ∷ Known I64 ∷ [])
+  end_of_two = refl
+
+  end_of_two_turned : Refused two_to_two (i32_const ++ i64_const ++ end)
+  end_of_two_turned = refl
+
+  -- nothing follows the outermost `end`
+  after_end : Refused to_nothing (end ++ nop)
+  after_end = refl
+
+  end_twice : Refused to_nothing (end ++ end)
+  end_twice = refl
+
+  -- ---- locals
+
+  get_missing : Refused to_nothing (local_get 2)
+  get_missing = refl
+
+  set_missing : Refused to_nothing (i32_const ++ local_set 2)
+  set_missing = refl
+
+  tee_missing : Refused to_nothing (i32_const ++ local_tee 2)
+  tee_missing = refl
+
+  get_set_at_entry : Open to_nothing (local_get 0) (frame Block to_nothing (Known I32 ∷ []) false ∷ [])
+  get_set_at_entry = refl
+
+  get_unset : Refused to_nothing (local_get 1)
+  get_unset = refl
+
+  -- it is set where `local.set` or `local.tee` has set it, and joins the frame's list once
+  set_then_get : after_all to_nothing (i64_const ++ local_set 1 ++ local_get 1) ≡ Some (record { frames = record (frame Block to_nothing (Known I64 ∷ []) false) { first_set = 1 ∷ [] } ∷ []; left = [] })
+  set_then_get = refl
+
+  tee_then_get : after_all to_nothing (i64_const ++ local_tee 1 ++ local_get 1) ≡ Some (record { frames = record (frame Block to_nothing (Known I64 ∷ Known I64 ∷ []) false) { first_set = 1 ∷ [] } ∷ []; left = [] })
+  tee_then_get = refl
+
+  set_twice : after_all to_nothing (i64_const ++ local_tee 1 ++ local_set 1) ≡ Some (record { frames = record (frame Block to_nothing [] false) { first_set = 1 ∷ [] } ∷ []; left = [] })
+  set_twice = refl
+
+  -- one that was set at entry joins no list
+  set_again : Open to_nothing (i32_const ++ local_set 0) (frame Block to_nothing [] false ∷ [])
+  set_again = refl
+
+  set_wrong : Refused to_nothing (i32_const ++ local_set 1)
+  set_wrong = refl
+
+  set_nothing : Refused to_nothing (local_set 0)
+  set_nothing = refl
+
+  -- ---- blocks
+
+  block_gives : Done (Val I32) (hand (a_block cx (Val I32)) ++ i32_const ++ end ++ end) (Known I32 ∷ [])
+  block_gives = refl
+
+  values_remain : Refused to_nothing (hand (a_block cx Empty) ++ i32_const ++ end)
+  values_remain = refl
+
+  -- operands below a block aren't its own
+  below_block : Refused to_nothing (i32_const ++ hand (a_block cx Empty) ++ i32_eqz)
+  below_block = refl
+
+  drop_below_block : Refused to_nothing (i32_const ++ hand (a_block cx Empty) ++ drops)
+  drop_below_block = refl
+
+  -- but its parameters are, and they leave the frame outside it
+  block_takes : Open to_nothing (i32_const ++ hand (a_block cx takes_one)) (frame Block takes_one (Known I32 ∷ []) false ∷ frame Block to_nothing [] false ∷ [])
+  block_takes = refl
+
+  block_takes_two : Open to_nothing (i32_const ++ i64_const ++ hand (a_block cx two_to_two)) (frame Block two_to_two (Known I64 ∷ Known I32 ∷ []) false ∷ frame Block to_nothing [] false ∷ [])
+  block_takes_two = refl
+
+  block_wants : Refused to_nothing (hand (a_block cx takes_one))
+  block_wants = refl
+
+  -- a local that a block has set is unset where the block ends, and still set in a block inside
+  set_in_block : Refused to_nothing (hand (a_block cx Empty) ++ i64_const ++ local_set 1 ++ end ++ local_get 1)
+  set_in_block = refl
+
+  set_inside_block : Open to_nothing (hand (a_block cx Empty) ++ i64_const ++ local_set 1 ++ local_get 1 ++ drops ++ end) (frame Block to_nothing [] false ∷ [])
+  set_inside_block = refl
+
+  set_outside_block : after_all to_nothing (i64_const ++ local_set 1 ++ hand (a_block cx Empty) ++ local_get 1) ≡ Some (record { frames = frame Block Empty (Known I64 ∷ []) false ∷ record (frame Block to_nothing [] false) { first_set = 1 ∷ [] } ∷ []; left = [] })
+  set_outside_block = refl
+
+  -- ---- dead code
+
+  -- the frame's operands go, and anything is found below those that come
+  dead_add : Open to_nothing (hand unreachable ++ i32_add) (frame Block to_nothing (Known I32 ∷ []) true ∷ [])
+  dead_add = refl
+
+  operands_go : Open to_nothing (i64_const ++ hand unreachable) (frame Block to_nothing [] true ∷ [])
+  operands_go = refl
+
+  operands_gone : Open to_nothing (i64_const ++ hand unreachable ++ i32_add) (frame Block to_nothing (Known I32 ∷ []) true ∷ [])
+  operands_gone = refl
+
+  -- own operands are found first, and they count
+  dead_one_own : Open to_nothing (hand unreachable ++ i32_const ++ i32_add) (frame Block to_nothing (Known I32 ∷ []) true ∷ [])
+  dead_one_own = refl
+
+  dead_wrong_own : Refused to_nothing (hand unreachable ++ i64_const ++ i32_add)
+  dead_wrong_own = refl
+
+  dead_drop : Open to_nothing (hand unreachable ++ drops ++ drops) (frame Block to_nothing [] true ∷ [])
+  dead_drop = refl
+
+  dead_end : Done one_to_one (hand unreachable ++ end) (Known I32 ∷ [])
+  dead_end = refl
+
+  dead_end_of_two : Done two_to_two (hand unreachable ++ i32_const ++ end) (Known I32 ∷ Known I64 ∷ [])
+  dead_end_of_two = refl
+
+  dead_end_of_other : Refused one_to_one (hand unreachable ++ i64_const ++ end)
+  dead_end_of_other = refl
+
+  dead_end_with_more : Refused one_to_one (hand unreachable ++ i32_const ++ i32_const ++ end)
+  dead_end_with_more = refl
+
+  -- what lies below the frame is never found, and stays
+  dead_below : Open to_nothing (i32_const ++ hand (a_block cx (Val I64)) ++ hand unreachable ++ i64_add) (frame Block (Val I64) (Known I64 ∷ []) true ∷ frame Block to_nothing (Known I32 ∷ []) false ∷ [])
+  dead_below = refl
+
+  -- after the block the code is live again
+  live_again : Refused to_nothing (hand (a_block cx Empty) ++ hand unreachable ++ end ++ i32_eqz)
+  live_again = refl
+
+  -- a block opened in dead code is live
+  live_block : Refused to_nothing (hand unreachable ++ hand (a_block cx Empty) ++ i32_eqz)
+  live_block = refl
+
+  live_block_takes : Open to_nothing (hand unreachable ++ hand (a_block cx takes_one)) (frame Block takes_one (Known I32 ∷ []) false ∷ frame Block to_nothing [] true ∷ [])
+  live_block_takes = refl
+
+  -- `local.get` asks that the local is set, also in dead code
+  dead_get_unset : Refused to_nothing (hand unreachable ++ local_get 1)
+  dead_get_unset = refl
+
+  dead_set_in_block : Refused to_nothing (hand (a_block cx Empty) ++ hand unreachable ++ local_set 1 ++ local_get 1 ++ drops ++ end ++ local_get 1)
+  dead_set_in_block = refl
+
+  dead_set_inside : Open to_nothing (hand (a_block cx Empty) ++ hand unreachable ++ local_set 1 ++ local_get 1 ++ drops ++ end) (frame Block to_nothing [] false ∷ [])
+  dead_set_inside = refl
+
+  -- what pops find, one by one: own operands, then anything in a dead frame, nothing in a live one
+  abbrev dead_frame : Frame
+  dead_frame = frame Block Empty (Known I32 ∷ []) true
+
+  pops_in_dead : pops cx (I32 ∷ I64 ∷ I64 ∷ []) dead_frame ≡ Some (frame Block Empty [] true)
+  pops_in_dead = refl
+
+  pops_in_live : pops cx (I32 ∷ I64 ∷ []) (frame Block Empty (Known I32 ∷ []) false) ≡ None
+  pops_in_live = refl
+
+  pops_none : pops cx [] dead_frame ≡ Some dead_frame
+  pops_none = refl
+
+  found_in_dead : found 3 dead_frame ≡ Bottom ∷ Bottom ∷ Known I32 ∷ []
+  found_in_dead = refl
+
+  found_in_live : found 3 (frame Block Empty (Known I32 ∷ []) false) ≡ Known I32 ∷ []
+  found_in_live = refl
+
+  -- ---- branches
+
+  branch_out : Done (Val I32) (i32_const ++ hand (br cx 0) ++ end) (Known I32 ∷ [])
+  branch_out = refl
+
+  branch_without : Refused (Val I32) (hand (br cx 0))
+  branch_without = refl
+
+  -- a branch takes no more than the label's types, and the rest goes
+  branch_above : Done (Val I32) (i64_const ++ i32_const ++ hand (br cx 0) ++ end) (Known I32 ∷ [])
+  branch_above = refl
+
+  branch_at_once : Open to_nothing (hand (br cx 0)) (frame Block to_nothing [] true ∷ [])
+  branch_at_once = refl
+
+  no_label : Refused to_nothing (hand (br cx 1))
+  no_label = refl
+
+  no_label_in_dead : Refused to_nothing (hand unreachable ++ hand (br cx 1))
+  no_label_in_dead = refl
+
+  -- back to a loop with its parameters, not with its results
+  loops : Done to_nothing (i32_const ++ hand (a_loop cx takes_one) ++ hand (br cx 0) ++ end ++ end) []
+  loops = refl
+
+  loops_without : Refused to_nothing (i32_const ++ hand (a_loop cx takes_one) ++ drops ++ hand (br cx 0))
+  loops_without = refl
+
+  loops_without_results : Open to_nothing (hand (a_loop cx (Val I32)) ++ hand (br cx 0)) (frame Loop (Val I32) [] true ∷ frame Block to_nothing [] false ∷ [])
+  loops_without_results = refl
+
+  loop_gives : Done (Val I32) (hand (a_loop cx (Val I32)) ++ i32_const ++ end ++ end) (Known I32 ∷ [])
+  loop_gives = refl
+
+  -- over a frame, out of it
+  branch_over : Done (Val I32) (hand (a_block cx Empty) ++ i32_const ++ hand (br cx 1) ++ end ++ i32_const ++ end) (Known I32 ∷ [])
+  branch_over = refl
+
+  branch_if : Open (Val I32) (i32_const ++ i32_const ++ hand (br_if cx 0)) (frame Block (Val I32) (Known I32 ∷ []) false ∷ [])
+  branch_if = refl
+
+  branch_if_without_test : Refused (Val I32) (i32_const ++ hand (br_if cx 0))
+  branch_if_without_test = refl
+
+  returns_from_inside : Done (Val I32) (hand (a_block cx Empty) ++ hand (a_loop cx Empty) ++ i32_const ++ hand (a_return cx) ++ end ++ end ++ i32_const ++ end) (Known I32 ∷ [])
+  returns_from_inside = refl
+
+  returns_other : Refused (Val I32) (hand (a_block cx Empty) ++ i64_const ++ hand (a_return cx))
+  returns_other = refl
+
+  -- every label of a table wants what the default wants
+  table_counts : Refused to_nothing (hand (a_block cx (Val I32)) ++ hand (a_block cx Empty) ++ i32_const ++ i32_const ++ hand (br_table cx (0 ∷ []) 1))
+  table_counts = refl
+
+  table_types : Refused to_nothing (hand (a_block cx (Val I64)) ++ hand (a_block cx (Val I32)) ++ i32_const ++ i32_const ++ hand (br_table cx (1 ∷ []) 0))
+  table_types = refl
+
+  table_alike : Open to_nothing (hand (a_block cx (Val I32)) ++ hand (a_block cx (Val I32)) ++ i32_const ++ i32_const ++ hand (br_table cx (1 ∷ 0 ∷ []) 0)) (frame Block (Val I32) [] true ∷ frame Block (Val I32) [] false ∷ frame Block to_nothing [] false ∷ [])
+  table_alike = refl
+
+  table_no_label : Refused to_nothing (i32_const ++ hand (br_table cx (7 ∷ []) 0))
+  table_no_label = refl
+
+  -- in dead code labels of different types pass, where what is found is unknown
+  table_dead : Open to_nothing (hand (a_block cx (Val I64)) ++ hand (a_block cx (Val I32)) ++ hand unreachable ++ hand (br_table cx (1 ∷ []) 0)) (frame Block (Val I32) [] true ∷ frame Block (Val I64) [] false ∷ frame Block to_nothing [] false ∷ [])
+  table_dead = refl
+
+  -- ---- `if`
+
+  if_with_else : Done (Val I32) (i32_const ++ hand (an_if cx (Val I32)) ++ i32_const ++ hand an_else ++ i32_const ++ i32_eqz ++ end ++ end) (Known I32 ∷ [])
+  if_with_else = refl
+
+  if_without_else : Refused to_nothing (i32_const ++ hand (an_if cx (Val I32)) ++ i32_const ++ end)
+  if_without_else = refl
+
+  -- also where the part is dead
+  if_without_else_dead : Refused to_nothing (i32_const ++ hand (an_if cx (Val I32)) ++ hand unreachable ++ end)
+  if_without_else_dead = refl
+
+  -- its parameters are its results
+  if_balanced : Done (Val I32) (i32_const ++ i32_const ++ hand (an_if cx one_to_one) ++ i32_eqz ++ end ++ end) (Known I32 ∷ [])
+  if_balanced = refl
+
+  if_without_test : Refused to_nothing (hand (an_if cx Empty))
+  if_without_test = refl
+
+  -- the second part has the parameters again
+  else_has_params : Open to_nothing (i32_const ++ i32_const ++ hand (an_if cx one_to_one) ++ hand an_else) (frame Else one_to_one (Known I32 ∷ []) false ∷ frame Block to_nothing [] false ∷ [])
+  else_has_params = refl
+
+  -- and is live
+  else_is_live : Open to_nothing (i32_const ++ hand (an_if cx (Val I32)) ++ hand unreachable ++ hand an_else) (frame Else (Val I32) [] false ∷ frame Block to_nothing [] false ∷ [])
+  else_is_live = refl
+
+  -- the first part has to give the results
+  else_without : Refused to_nothing (i32_const ++ hand (an_if cx (Val I32)) ++ hand an_else)
+  else_without = refl
+
+  else_alone : Refused to_nothing (hand (a_block cx Empty) ++ hand an_else)
+  else_alone = refl
+
+  else_twice : Refused to_nothing (i32_const ++ hand (an_if cx Empty) ++ hand an_else ++ hand an_else)
+  else_twice = refl
+
+  -- a local that the first part has set isn't set in the second
+  set_in_part : Refused to_nothing (i32_const ++ hand (an_if cx Empty) ++ i64_const ++ local_set 1 ++ hand an_else ++ local_get 1)
+  set_in_part = refl
+
+  if_ends : Open to_nothing (i32_const ++ hand (an_if cx Empty) ++ end) (frame Block to_nothing [] false ∷ [])
+  if_ends = refl
+
+  -- ---- exceptions
+
+  -- a clause's label is counted outside its own frame
+  clause_outside : Done to_nothing (hand (a_block cx (Val I32)) ++ hand (a_try_table cx Empty (record { depth = 0; types = I32 ∷ [] } ∷ [])) ++ end ++ i32_const ++ end ++ drops ++ end) []
+  clause_outside = refl
+
+  clause_too_far : Refused to_nothing (hand (a_block cx (Val I32)) ++ hand (a_try_table cx Empty (record { depth = 1; types = I32 ∷ [] } ∷ [])))
+  clause_too_far = refl
+
+  clause_no_label : Refused to_nothing (hand (a_try_table cx Empty (record { depth = 1; types = [] } ∷ [])))
+  clause_no_label = refl
+
+  -- each clause counts
+  second_clause : Refused to_nothing (hand (a_block cx (Val I32)) ++ hand (a_try_table cx Empty (record { depth = 0; types = I32 ∷ [] } ∷ record { depth = 1; types = I32 ∷ [] } ∷ [])))
+  second_clause = refl
+
+  -- to a loop it carries the parameters
+  clause_to_loop : Open to_nothing (i32_const ++ hand (a_loop cx takes_one) ++ hand (a_try_table cx Empty (record { depth = 0; types = I32 ∷ [] } ∷ []))) (frame TryTable Empty [] false ∷ frame Loop takes_one (Known I32 ∷ []) false ∷ frame Block to_nothing [] false ∷ [])
+  clause_to_loop = refl
+
+  throw_wants : Refused to_nothing (hand (throw (I32 ∷ [])))
+  throw_wants = refl
+
+  throw_ends : Open to_nothing (i32_const ++ hand (throw (I32 ∷ []))) (frame Block to_nothing [] true ∷ [])
+  throw_ends = refl
+
+  -- a part starts with the tag's parameters
+  legacy : Done (Val I32) (hand (a_try cx (Val I32)) ++ i32_const ++ hand (a_catch (I32 ∷ [])) ++ end ++ end) (Known I32 ∷ [])
+  legacy = refl
+
+  catch_begins : Open to_nothing (hand (a_try cx Empty) ++ hand (a_catch (I32 ∷ I64 ∷ []))) (frame LegacyCatch Empty (Known I64 ∷ Known I32 ∷ []) false ∷ frame Block to_nothing [] false ∷ [])
+  catch_begins = refl
+
+  catch_all_begins : Open to_nothing (hand (a_try cx Empty) ++ hand (a_catch []) ++ hand a_catch_all) (frame LegacyCatchAll Empty [] false ∷ frame Block to_nothing [] false ∷ [])
+  catch_all_begins = refl
+
+  -- each part has to give the results
+  catch_without : Refused to_nothing (hand (a_try cx (Val I32)) ++ hand (a_catch []))
+  catch_without = refl
+
+  catch_with_more : Refused to_nothing (hand (a_try cx Empty) ++ i32_const ++ hand (a_catch []))
+  catch_with_more = refl
+
+  catch_alone : Refused to_nothing (hand (a_block cx Empty) ++ hand (a_catch []))
+  catch_alone = refl
+
+  catch_after_all : Refused to_nothing (hand (a_try cx Empty) ++ hand a_catch_all ++ hand (a_catch []))
+  catch_after_all = refl
+
+  catch_all_twice : Refused to_nothing (hand (a_try cx Empty) ++ hand a_catch_all ++ hand a_catch_all)
+  catch_all_twice = refl
+
+  set_in_try : Refused to_nothing (hand (a_try cx Empty) ++ i64_const ++ local_set 1 ++ hand (a_catch []) ++ local_get 1)
+  set_in_try = refl
+
+  -- `delegate` closes the body of a `try`, and gives the results
+  delegates : Done (Val I32) (hand (a_try cx (Val I32)) ++ i32_const ++ hand (delegate 0) ++ end) (Known I32 ∷ [])
+  delegates = refl
+
+  delegate_without : Refused to_nothing (hand (a_try cx (Val I32)) ++ hand (delegate 0))
+  delegate_without = refl
+
+  delegate_alone : Refused to_nothing (hand (a_block cx Empty) ++ hand (delegate 0))
+  delegate_alone = refl
+
+  delegate_after_catch : Refused to_nothing (hand (a_try cx Empty) ++ hand (a_catch []) ++ hand (delegate 0))
+  delegate_after_catch = refl
+
+  delegate_no_label : Refused to_nothing (hand (a_try cx Empty) ++ hand (delegate 1))
+  delegate_no_label = refl
+
+  set_in_delegated : Refused to_nothing (hand (a_try cx Empty) ++ i64_const ++ local_set 1 ++ hand (delegate 0) ++ local_get 1)
+  set_in_delegated = refl
+
+  -- `rethrow` names a part that caught
+  rethrows : Open to_nothing (hand (a_try cx Empty) ++ hand (a_catch []) ++ hand (rethrow 0)) (frame LegacyCatch Empty [] true ∷ frame Block to_nothing [] false ∷ [])
+  rethrows = refl
+
+  rethrow_outside : Refused to_nothing (hand (a_try cx Empty) ++ hand (rethrow 0))
+  rethrow_outside = refl
+
+-- ---- an order in which i32 lies below i64: which way each rule asks it
+
+abbrev tilted : ValType → ValType → Bool
+tilted I32 I64 = true
+tilted t u = same_number t u
+
+module _ (features : WasmFeatures) where
+  abbrev tilted_context : Context
+  tilted_context = record {
+    of_module = record { type_at = slice_get (a_type (I32 ∷ []) (I64 ∷ []) ∷ a_type (I64 ∷ []) (I32 ∷ []) ∷ []); valid = λ t. true; below = tilted; canonical = λ f t. None };
+    features = features;
+    shared = false;
+    locals = [];
+    entry = [];
+  }
+
+  abbrev TiltedDone : BlockType → List Operator → List MaybeType → Type 0
+  TiltedDone ty code left = before tilted_context code (start ty) (length code) ≡ Some (record { frames = []; left = left })
+
+  abbrev TiltedRefused : BlockType → List Operator → Type 0
+  TiltedRefused ty code = before tilted_context code (start ty) (length code) ≡ None
+
+  abbrev tilted_ops : List Op → List Operator
+  tilted_ops ops = body tilted_context ops
+
+  -- what is found lies below what is wanted, and what is pushed is the row's type
+  found_below : TiltedDone (Val I64) (tilted_ops (Numeric (I32Const (pos 0)) ∷ Numeric (I64Const (pos 0)) ∷ Numeric I64Add ∷ Control End ∷ [])) (Known I64 ∷ [])
+  found_below = refl
+
+  found_above : TiltedRefused (Val I32) (tilted_ops (Numeric (I64Const (pos 0)) ∷ Numeric I32Eqz ∷ []))
+  found_above = refl
+
+  -- results lie below those of the frame, which gives its own
+  result_below : TiltedDone (Val I64) (tilted_ops (Numeric (I32Const (pos 0)) ∷ Control End ∷ [])) (Known I64 ∷ [])
+  result_below = refl
+
+  result_above : TiltedRefused (Val I32) (tilted_ops (Numeric (I64Const (pos 0)) ∷ Control End ∷ []))
+  result_above = refl
+
+  -- the parameters of an `if` without `else` lie below its results
+  if_below : TiltedDone (Val I64) (tilted_ops (Numeric (I32Const (pos 0)) ∷ Numeric (I32Const (pos 0)) ∷ []) ++ an_if tilted_context (FuncType 0) ∷ tilted_ops (Control End ∷ Control End ∷ [])) (Known I64 ∷ [])
+  if_below = refl
+
+  if_above : TiltedRefused (Val I32) (tilted_ops (Numeric (I64Const (pos 0)) ∷ Numeric (I32Const (pos 0)) ∷ []) ++ an_if tilted_context (FuncType 1) ∷ tilted_ops (Control Drop ∷ Numeric (I32Const (pos 0)) ∷ Control End ∷ []))
+  if_above = refl
+
+  -- what a clause carries lies below the types of its label
+  clause_below : before tilted_context (a_try_table tilted_context Empty (record { depth = 0; types = I32 ∷ [] } ∷ []) ∷ []) (start (Val I64)) 1 ≡ Some (record { frames = record { head = record { kind = TryTable; block_type = Empty }; own = []; dead = false; first_set = [] } ∷ record { head = record { kind = Block; block_type = Val I64 }; own = []; dead = false; first_set = [] } ∷ []; left = [] })
+  clause_below = refl
+
+  clause_above : TiltedRefused (Val I32) (a_try_table tilted_context Empty (record { depth = 0; types = I64 ∷ [] } ∷ []) ∷ [])
+  clause_above = refl

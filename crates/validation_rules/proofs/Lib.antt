@@ -1,0 +1,8 @@
+pub mod Below
+pub mod Steps
+pub mod Pops
+pub mod Rows
+pub mod Order
+pub mod Valid
+pub mod Handmade
+mod Examples

@@ -1,0 +1,70 @@
+-- A list whose rows all hold is well ordered: the rows of `else`, `catch`, `catch_all` and `delegate`
+-- ask for the kind of the innermost frame, so type safety needs no premise on the order.
+use Rattle.std.proofs.Common.{◌≡◌, ℕ, Bool, true, List, [], ◌∷◌, length, map, Some, refl, sym, ap, ◌∙◌, subst}
+use Rattle.validate_visit.specs.Order.{Nesting, is_ordered_from, nesting, reads_on, control_nesting}
+use Rattle.validate_visit.specs.declared.op.Op.{Op}
+use Rattle.validate_visit.specs.declared.op.Op.TheVariants.{Control, Numeric}
+use Rattle.validate_visit.specs.declared.op.ControlOp.{ControlOp}
+use Rattle.validate_visit.specs.declared.op.ControlOp.TheVariants.{End}
+use Rattle.validation_rules.specs.Context.{ValType, Context}
+use Rattle.validation_rules.specs.Fits.{MaybeType}
+use Rattle.validation_rules.specs.Rows.{FrameKind, Block, Head, results, is_if, is_try, may_catch, Form, Flat, Opens, BeginsElse, BeginsCatch, Ends, Delegates, Row, Operator}
+use Rattle.validation_rules.specs.Static.{Frame, State, heads, set_in, pushes_at, given_over, after_over, step_in, before, start}
+use Rattle.validation_rules.specs.Order.{nesting_of, RowsHold, RowsAreOrdered, BodiesAreOrdered}
+use Rattle.validation_rules.specs.Table.{operator, control_operator, body}
+use Rattle.validation_rules.proofs.Below.{and_true, true_and}
+use Rattle.validation_rules.proofs.Steps.{guard_some, bind_some, stepped}
+
+abbrev kinds : List Frame → List FrameKind
+kinds fs = map (λ (f : Frame). f.head.kind) fs
+
+given_kinds : (left : List MaybeType) (types : List ValType) (fs : List Frame) → kinds (given_over left types fs).frames ≡ kinds fs
+given_kinds left types [] = refl
+given_kinds left types (f ∷ fs) = refl
+
+order_by : (left : List MaybeType) (cx : Context) (row : Row) (hs : List Head) (set : List ℕ) (f : Frame) (fs : List Frame) (form : Form) (pushed : List MaybeType) (next : List FrameKind → Bool) → pushes_at cx row hs set f form ≡ Some pushed → next (kinds (after_over left cx row set f fs form pushed).frames) ≡ true → reads_on f.head.kind (kinds fs) (nesting_of form) next ≡ true
+order_by left cx row hs set f fs Flat pushed next p h = h
+order_by left cx row hs set f fs (Opens o) pushed next p h = h
+order_by left cx row hs set f fs BeginsElse pushed next p h =
+    true_and _ _ (and_true (is_if f.head.kind) _ (and_true row.premise _ (guard_some _ _ _ p).0).1).0 h
+order_by left cx row hs set f fs (BeginsCatch all types) pushed next p h =
+    true_and _ _ (and_true (may_catch f.head.kind) _ (and_true row.premise _ (guard_some _ _ _ p).0).1).0 h
+order_by left cx row hs set f fs Ends pushed next p h = subst (λ ks. next ks ≡ true) (given_kinds left (results cx f.head) fs) h
+order_by left cx row hs set f fs Delegates pushed next p h =
+    true_and _ _ (and_true (is_try f.head.kind) _ (and_true row.premise _ (guard_some _ _ _ p).0).1).0 (subst (λ ks. next ks ≡ true) (given_kinds left (results cx f.head) fs) h)
+
+-- the list, as the reader of its order sees it
+abbrev nestings : List Operator → List Nesting
+nestings code = map (λ (op : Operator). nesting_of op.form) code
+
+ordered : (cx : Context) (code : List Operator) (fs : List Frame) (left : List MaybeType) → RowsHold cx code (record { frames = fs; left = left }) → is_ordered_from (kinds fs) (nestings code) ≡ true
+ordered cx [] fs left h = refl
+ordered cx (op ∷ code) [] left h = absurd cc
+ordered cx (op ∷ code) (f ∷ fs) left h =
+    let m = bind_some (step_in cx op (f ∷ fs) left) (λ v. before cx code v (length code)) _ h.1 in
+    let st = stepped cx op f fs left m.0 m.1 in
+    order_by left cx (op.row (heads (f ∷ fs))) (heads (f ∷ fs)) (set_in (f ∷ fs)) f fs op.form st.pushed (λ js. is_ordered_from js (nestings code)) st.holds
+    (subst (λ (v : State). is_ordered_from (kinds v.frames) (nestings code) ≡ true) st.leaves (ordered cx code m.0.frames m.0.left (h.0, m.2)))
+
+pub rows_are_ordered : (cx : Context) → RowsAreOrdered cx
+rows_are_ordered cx code ty h = ordered cx code (start ty).frames [] h
+
+-- ---- the operators of the table
+
+control_nests : (cx : Context) (op : ControlOp) → nesting_of (control_operator cx op).form ≡ control_nesting op
+control_nests cx End = refl
+control_nests cx _ = refl
+
+-- an operator's form says of the open parts what the operator does to them
+pub operator_nests : (cx : Context) (op : Op) → nesting_of (operator cx op).form ≡ nesting op
+operator_nests cx (Control op) = control_nests cx op
+operator_nests cx (Numeric op) = refl
+
+body_nests : (cx : Context) (ops : List Op) → nestings (body cx ops) ≡ map nesting ops
+body_nests cx [] = refl
+body_nests cx (op ∷ ops) =
+    ap (λ n. n ∷ nestings (body cx ops)) (operator_nests cx op) ∙ ap (λ ns. nesting op ∷ ns) (body_nests cx ops)
+
+pub bodies_are_ordered : (cx : Context) → BodiesAreOrdered cx
+bodies_are_ordered cx ops ty h =
+    sym (ap (λ ns. is_ordered_from (Block ∷ []) ns) (body_nests cx ops)) ∙ rows_are_ordered cx (body cx ops) ty h

@@ -1,0 +1,94 @@
+-- What a step that is taken pushed and left, and the state before a place that follows another.
+use Rattle.std.proofs.Common.{◌≡◌, ◌≤◌, ℕ, zero, suc, Bool, true, false, List, [], ◌∷◌, ◌++◌, length, drop, Option, Some, None, refl, sym, ap, arith, ◌∙◌, slice_get}
+use Rattle.validation_rules.specs.Context.{Context}
+use Rattle.validation_rules.specs.Fits.{MaybeType}
+use Rattle.validation_rules.specs.Rows.{Form, Row, Operator, guard}
+use Rattle.validation_rules.specs.Static.{Frame, State, heads, set_in, pushes, after_over, then_after, bind, step, step_in, before}
+
+pub some_injective : {A : Type 0} → (x y : A) → Some x ≡ Some y → x ≡ y
+some_injective x y h = cc
+
+pub guard_some : {A : Type 0} → (b : Bool) (o : Option A) (x : A) → guard b o ≡ Some x → (b ≡ true) × (o ≡ Some x)
+guard_some true o x h = (refl, h)
+guard_some false o x h = cc
+
+pub bind_some : {A B : Type 0} → (o : Option A) (f : A → Option B) (y : B) → bind o f ≡ Some y → (x : A) × (o ≡ Some x) × (f x ≡ Some y)
+bind_some None f y h = absurd cc
+bind_some (Some x) f y h = (x, refl, h)
+
+pub get_of_drop : (code : List Operator) (k : ℕ) (op : Operator) (ops : List Operator) → drop k code ≡ op ∷ ops → slice_get code k ≡ Some op
+get_of_drop [] zero op ops h = cc
+get_of_drop [] (suc k) op ops h = cc
+get_of_drop (x ∷ code) zero op ops h = cc
+get_of_drop (x ∷ code) (suc k) op ops h = get_of_drop code k op ops h
+
+pub drop_next : (code : List Operator) (k : ℕ) (op : Operator) (ops : List Operator) → drop k code ≡ op ∷ ops → drop (suc k) code ≡ ops
+drop_next [] zero op ops h = cc
+drop_next [] (suc k) op ops h = cc
+drop_next (x ∷ code) zero op ops h = cc
+drop_next (x ∷ code) (suc k) op ops h = drop_next code k op ops h
+
+-- what a step that is taken pushed, and what it left
+pub record Stepped (cx : Context) (op : Operator) (f : Frame) (fs : List Frame) (left : List MaybeType) (u : State) : Type 0 where
+  pub pushed : List MaybeType
+  pub holds : pushes cx op (heads (f ∷ fs)) (set_in (f ∷ fs)) f ≡ Some pushed
+  pub leaves : u ≡ after_over left cx (op.row (heads (f ∷ fs))) (set_in (f ∷ fs)) f fs op.form pushed
+
+then_after_some : (left : List MaybeType) (cx : Context) (r : Row) (set : List ℕ) (f : Frame) (fs : List Frame) (form : Form) (o : Option (List MaybeType)) (u : State) → then_after left cx r set f fs form o ≡ Some u → (pushed : List MaybeType) × (o ≡ Some pushed) × (u ≡ after_over left cx r set f fs form pushed)
+then_after_some left cx r set f fs form None u h = absurd cc
+then_after_some left cx r set f fs form (Some pushed) u h = (pushed, refl, cc)
+
+pub stepped : (cx : Context) (op : Operator) (f : Frame) (fs : List Frame) (left : List MaybeType) (u : State) → step_in cx op (f ∷ fs) left ≡ Some u → Stepped cx op f fs left u
+stepped cx op f fs left u h =
+    let e = then_after_some left cx (op.row (heads (f ∷ fs))) (set_in (f ∷ fs)) f fs op.form (pushes cx op (heads (f ∷ fs)) (set_in (f ∷ fs)) f) u h in
+    record { pushed = e.0; holds = e.1; leaves = e.2 }
+
+pub before_next : (cx : Context) (code : List Operator) (s : State) (k : ℕ) (op : Operator) (t u : State) → before cx code s k ≡ Some t → slice_get code k ≡ Some op → step cx op t ≡ Some u → before cx code s (suc k) ≡ Some u
+before_next cx [] s k op t u b g h = absurd cc
+before_next cx (x ∷ code) s zero op t u b g h =
+    let e : s ≡ t = cc in
+    let d : x ≡ op = cc in
+    let same : step cx x s ≡ step cx op t = ap (λ o. step cx o s) d ∙ ap (λ (v : State). step cx op v) e in
+    ap (λ o. bind o (λ v. before cx code v zero)) (same ∙ h)
+before_next cx (x ∷ code) s (suc k) op t u b g h =
+    let m = bind_some (step cx x s) (λ v. before cx code v k) t b in
+    ap (λ o. bind o (λ v. before cx code v (suc k))) m.1 ∙ before_next cx code m.0 k op t u m.2 g h
+
+-- ---- lists by their ends
+
+pub bind_each : {A B : Type 0} (o : Option A) (f g : A → Option B) → ((x : A) → f x ≡ g x) → bind o f ≡ bind o g
+bind_each None f g h = refl
+bind_each (Some x) f g h = h x
+
+pub bind_some_all : {A : Type 0} (o : Option A) → bind o (λ x. Some x) ≡ o
+bind_some_all None = refl
+bind_some_all (Some x) = refl
+
+pub bind_twice : {A B C : Type 0} (o : Option A) (f : A → Option B) (g : B → Option C) → bind (bind o f) g ≡ bind o (λ x. bind (f x) g)
+bind_twice None f g = refl
+bind_twice (Some x) f g = refl
+
+-- one place further, whether or not the row there holds
+pub before_then : (cx : Context) (code : List Operator) (s : State) (k : ℕ) (op : Operator) (t : State) → before cx code s k ≡ Some t → slice_get code k ≡ Some op → before cx code s (suc k) ≡ step cx op t
+before_then cx [] s k op t b g = absurd cc
+before_then cx (x ∷ code) s zero op t b g =
+    let e : s ≡ t = cc in
+    let d : x ≡ op = cc in
+    bind_some_all (step cx x s) ∙ ap (λ o. step cx o s) d ∙ ap (λ (v : State). step cx op v) e
+before_then cx (x ∷ code) s (suc k) op t b g =
+    let m = bind_some (step cx x s) (λ v. before cx code v k) t b in
+    ap (λ o. bind o (λ v. before cx code v (suc k))) m.1 ∙ before_then cx code m.0 k op t m.2 g
+
+-- what follows doesn't change the state before a place
+pub before_append : (cx : Context) (code more : List Operator) (s : State) (k : ℕ) → k ≤ length code → before cx (code ++ more) s k ≡ before cx code s k
+before_append cx code more s zero h = refl
+before_append cx [] more s (suc k) h = absurd (omega (arith, h))
+before_append cx (x ∷ code) more s (suc k) h =
+    bind_each (step cx x s) (λ v. before cx (code ++ more) v k) (λ v. before cx code v k) (λ v. before_append cx code more v k (omega (arith, h)))
+
+-- a list with one more operator at its end
+pub before_last : (cx : Context) (code : List Operator) (op : Operator) (s : State) → before cx (code ++ op ∷ []) s (suc (length code)) ≡ bind (before cx code s (length code)) (step cx op)
+before_last cx [] op s = bind_some_all (step cx op s)
+before_last cx (x ∷ code) op s =
+    bind_each (step cx x s) (λ v. before cx (code ++ op ∷ []) v (suc (length code))) (λ v. bind (before cx code v (length code)) (step cx op)) (λ v. before_last cx code op v)
+    ∙ sym (bind_twice (step cx x s) (λ v. before cx code v (length code)) (step cx op))

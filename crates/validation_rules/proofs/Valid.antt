@@ -1,0 +1,220 @@
+-- Every step keeps the state valid.
+use Rattle.std.proofs.Common.{◌≡◌, ℕ, zero, suc, Bool, true, false, ◌&&◌, List, [], ◌∷◌, map, drop, Option, Some, None, refl, sym, subst, slice_get}
+use Rattle.std.specs.List.{AllByRecursion}
+use Rattle.validate_resources.specs.Context.{IsLawful, Valid}
+use Rattle.validate_visit.specs.declared.op.Op.{Op}
+use Rattle.validate_visit.specs.declared.op.Op.TheVariants.{Control, Numeric}
+use Rattle.validate_visit.specs.declared.op.ControlOp.{ControlOp}
+use Rattle.validate_visit.specs.declared.op.ControlOp.TheVariants.{Nop, End, Drop, LocalGet, LocalSet, LocalTee}
+use Rattle.validate_visit.specs.declared.op.NumericOp.{NumericOp}
+use Rattle.validate_visit.specs.declared.op.NumericOp.TheVariants.{I32Const}
+use Rattle.validation_rules.specs.Context.{ModuleContext, SubType, ValType, BlockType, Empty, Val, FuncType, Context, block_signature, declared_signature}
+use Rattle.validation_rules.specs.Fits.{MaybeType, Known}
+use Rattle.validation_rules.specs.Rows.{Head, params, results, Form, Flat, Opens, BeginsElse, BeginsCatch, Ends, Delegates, Plain, Row, Operator, gives, takes, guard}
+use Rattle.validation_rules.specs.Static.{Frame, State, heads, set_in, onto, on_top, found, below_top, pushes_at, pushes_by, own_after, given_over, after_over, step, step_in, before, start}
+use Rattle.validation_rules.specs.Table.{alike, closing, looking, drops, local_or, control_operator, numeric_row, operator, body}
+use Rattle.validation_rules.specs.Valid.{OperandIsValid, BlockIsValid, FrameIsValid, HeadIsValid, PushesValid, StateIsValid, StepsKeepValid, TableKeepsValid}
+use Rattle.validation_rules.proofs.Below.{and_true}
+use Rattle.validation_rules.proofs.Steps.{some_injective, guard_some, bind_some, stepped}
+
+-- ---- lists
+
+pub all_onto : {A : Type 0} (P : A → Type 0) (xs ys : List A) → AllByRecursion P xs → AllByRecursion P ys → AllByRecursion P (onto xs ys)
+all_onto P [] ys h k = k
+all_onto P (x ∷ xs) ys h k = all_onto P xs (x ∷ ys) h.1 (h.0, k)
+
+pub all_drop : {A : Type 0} (P : A → Type 0) (n : ℕ) (xs : List A) → AllByRecursion P xs → AllByRecursion P (drop n xs)
+all_drop P zero xs h = h
+all_drop P (suc n) [] h = tt
+all_drop P (suc n) (x ∷ xs) h = all_drop P n xs h.1
+
+module _ (md : ModuleContext) where
+  pub all_known : (ts : List ValType) → AllByRecursion (Valid md) ts → AllByRecursion (OperandIsValid md) (map Known ts)
+  all_known [] h = tt
+  all_known (t ∷ ts) h = (h.0, all_known ts h.1)
+
+  on_top_valid : (n : ℕ) (dead : Bool) (own : List MaybeType) → AllByRecursion (OperandIsValid md) own → AllByRecursion (OperandIsValid md) (on_top n dead own)
+  on_top_valid zero dead own h = tt
+  on_top_valid (suc n) dead (x ∷ own) h = (h.0, on_top_valid n dead own h.1)
+  on_top_valid (suc n) true [] h = (tt, on_top_valid n true [] tt)
+  on_top_valid (suc n) false [] h = tt
+
+  -- what is found in a frame of valid operands is valid
+  pub found_valid : (n : ℕ) (f : Frame) → AllByRecursion (OperandIsValid md) f.own → AllByRecursion (OperandIsValid md) (found n f)
+  found_valid n f h = all_onto (OperandIsValid md) (on_top n f.dead f.own) [] (on_top_valid n f.dead f.own h) tt
+
+  declared_params : IsLawful md → (i : ℕ) (o : Option SubType) → md.type_at i ≡ o → AllByRecursion (Valid md) (declared_signature o).params
+  declared_params laws i None e = tt
+  declared_params laws i (Some s) e = laws.params i s e
+
+  declared_results : IsLawful md → (i : ℕ) (o : Option SubType) → md.type_at i ≡ o → AllByRecursion (Valid md) (declared_signature o).results
+  declared_results laws i None e = tt
+  declared_results laws i (Some s) e = laws.results i s e
+
+  -- what a block type stands for is valid
+  pub params_valid : IsLawful md → (shared : Bool) (bt : BlockType) → BlockIsValid md shared bt → AllByRecursion (Valid md) (block_signature md bt).params
+  params_valid laws shared Empty b = tt
+  params_valid laws shared (Val t) b = tt
+  params_valid laws shared (FuncType i) b = declared_params laws i (md.type_at i) refl
+
+  pub results_valid : IsLawful md → (shared : Bool) (bt : BlockType) → BlockIsValid md shared bt → AllByRecursion (Valid md) (block_signature md bt).results
+  results_valid laws shared Empty b = tt
+  results_valid laws shared (Val t) b = (b, tt)
+  results_valid laws shared (FuncType i) b = declared_results laws i (md.type_at i) refl
+
+module _ (cx : Context) (laws : IsLawful cx.of_module) where
+  abbrev Operands : List MaybeType → Type 0
+  Operands xs = AllByRecursion (OperandIsValid cx.of_module) xs
+
+  abbrev Frames : List Frame → Type 0
+  Frames fs = AllByRecursion (FrameIsValid cx.of_module cx.shared) fs
+
+  pub heads_valid : (fs : List Frame) → Frames fs → AllByRecursion (HeadIsValid cx) (heads fs)
+  heads_valid [] h = tt
+  heads_valid (f ∷ fs) h = (h.0.block, heads_valid fs h.1)
+
+  -- the frames and what is left, of a state
+  abbrev Both : State → Type 0
+  Both s = Frames s.frames × Operands s.left
+
+  given_valid : (left : List MaybeType) (types : List ValType) (fs : List Frame) → AllByRecursion (Valid cx.of_module) types → Frames fs → Operands left → Both (given_over left types fs)
+  given_valid left types [] t h k = (tt, all_onto (OperandIsValid cx.of_module) (map Known types) left (all_known cx.of_module types t) k)
+  given_valid left types (f ∷ fs) t h k =
+      ((record { block = h.0.block; own = all_onto (OperandIsValid cx.of_module) (map Known types) f.own (all_known cx.of_module types t) h.0.own }, h.1), k)
+
+  own_valid : (dead : Bool) (below pushed : List MaybeType) → Operands below → Operands pushed → Operands (own_after dead below pushed)
+  own_valid true below pushed b p = tt
+  own_valid false below pushed b p = all_onto (OperandIsValid cx.of_module) pushed below p b
+
+  opened_valid : (types : List ValType) → AllByRecursion (Valid cx.of_module) types → Operands (onto (map Known types) [])
+  opened_valid types t = all_onto (OperandIsValid cx.of_module) (map Known types) [] (all_known cx.of_module types t) tt
+
+  -- what a row that holds gave: its premise, and its operands
+  by_premise : (r : Row) (hs : List Head) (set : List ℕ) (f : Frame) (pushed : List MaybeType) → pushes_by cx r hs set f ≡ Some pushed → (r.premise ≡ true) × (gives cx r.operands (found (takes r.operands) f) ≡ Some pushed)
+  by_premise r hs set f pushed p = let g = guard_some _ _ _ p in ((and_true r.premise _ g.0).0, g.1)
+
+  closing_premise : (premise rest : Bool) (pushed : List MaybeType) → guard (premise && rest) (Some []) ≡ Some pushed → premise ≡ true
+  closing_premise premise rest pushed p = (and_true premise rest (guard_some _ _ _ p).0).0
+
+  after_valid : (op : Operator) → PushesValid cx op → (left : List MaybeType) (f : Frame) (fs : List Frame) (form : Form) → op.form ≡ form → (pushed : List MaybeType) → Frames (f ∷ fs) → Operands left → pushes_at cx (op.row (heads (f ∷ fs))) (heads (f ∷ fs)) (set_in (f ∷ fs)) f form ≡ Some pushed → Both (after_over left cx (op.row (heads (f ∷ fs))) (set_in (f ∷ fs)) f fs form pushed)
+  after_valid op v left f fs Flat e pushed h k p =
+      let r = op.row (heads (f ∷ fs)) in
+      let g = by_premise r (heads (f ∷ fs)) (set_in (f ∷ fs)) f pushed p in
+      let n = takes r.operands in
+      let q = v.pushed (heads (f ∷ fs)) (found n f) pushed g.0 (heads_valid (f ∷ fs) h) (found_valid cx.of_module n f h.0.own) g.1 in
+      ((record { block = h.0.block; own = own_valid r.dead (below_top n f) pushed (all_drop (OperandIsValid cx.of_module) n f.own h.0.own) q }, h.1), k)
+  after_valid op v left f fs (Opens o) e pushed h k p =
+      let r = op.row (heads (f ∷ fs)) in
+      let g = by_premise r (heads (f ∷ fs)) (set_in (f ∷ fs)) f pushed p in
+      let n = takes r.operands in
+      let b = v.opened (heads (f ∷ fs)) o g.0 e in
+      ((record { block = b; own = opened_valid (params cx o) (params_valid cx.of_module laws cx.shared o.block_type b) }, (record { block = h.0.block; own = all_drop (OperandIsValid cx.of_module) n f.own h.0.own }, h.1)), k)
+  after_valid op v left f fs BeginsElse e pushed h k p =
+      ((record { block = h.0.block; own = opened_valid (params cx f.head) (params_valid cx.of_module laws cx.shared f.head.block_type h.0.block) }, h.1), k)
+  after_valid op v left f fs (BeginsCatch all types) e pushed h k p =
+      let t = v.begun (heads (f ∷ fs)) all types (closing_premise (op.row (heads (f ∷ fs))).premise _ pushed p) e in
+      ((record { block = h.0.block; own = opened_valid types t }, h.1), k)
+  after_valid op v left f fs Ends e pushed h k p =
+      given_valid left (results cx f.head) fs (results_valid cx.of_module laws cx.shared f.head.block_type h.0.block) h.1 k
+  after_valid op v left f fs Delegates e pushed h k p =
+      given_valid left (results cx f.head) fs (results_valid cx.of_module laws cx.shared f.head.block_type h.0.block) h.1 k
+
+  step_valid : (op : Operator) → PushesValid cx op → (fs : List Frame) (left : List MaybeType) (u : State) → Frames fs → Operands left → step_in cx op fs left ≡ Some u → Both u
+  step_valid op v [] left u h k e = absurd cc
+  step_valid op v (f ∷ fs) left u h k e =
+      let st = stepped cx op f fs left u e in
+      subst (λ (w : State). Both w) (sym st.leaves) (after_valid op v left f fs op.form refl st.pushed h k st.holds)
+
+  pub steps_keep_valid : StepsKeepValid cx
+  steps_keep_valid op s u v h e =
+      let b = step_valid op v s.frames s.left u h.frames h.left e in
+      record { locals_valid = h.locals_valid; frames = b.0; left = b.1 }
+
+  -- ---- the operators of the table
+
+  -- an operator with a plain row whose pushed types are valid where its premise holds
+  pub plain_valid : (premise : Bool) (reads sets : Option ℕ) (wanted push : List ValType) (dead : Bool) → (premise ≡ true → AllByRecursion (Valid cx.of_module) push) → PushesValid cx (alike (record { premise = premise; reads = reads; operands = Plain wanted [] push; sets = sets; targets = []; clauses = []; dead = dead }))
+  plain_valid premise reads sets wanted push dead h =
+      record {
+        pushed = λ hs xs pushed p v f g.
+            subst (λ ys. AllByRecursion (OperandIsValid cx.of_module) ys) (some_injective _ _ (guard_some _ _ _ g).1) (all_known cx.of_module push (h p));
+        opened = λ hs k p e. absurd cc;
+        begun = λ hs all types p e. absurd cc;
+      }
+
+  drops_valid : (xs pushed : List MaybeType) → drops xs ≡ Some pushed → Operands pushed
+  drops_valid (x ∷ []) pushed e = subst (λ ys. AllByRecursion (OperandIsValid cx.of_module) ys) (some_injective _ _ e) tt
+  drops_valid [] pushed e = absurd cc
+  drops_valid (x ∷ y ∷ xs) pushed e = absurd cc
+
+  end_valid : PushesValid cx (closing Ends true)
+  end_valid =
+      record {
+        pushed = λ hs xs pushed p v f g. subst (λ ys. AllByRecursion (OperandIsValid cx.of_module) ys) (some_injective _ _ (guard_some _ _ _ g).1) tt;
+        opened = λ hs k p e. absurd cc;
+        begun = λ hs all types p e. absurd cc;
+      }
+
+  drop_valid : PushesValid cx (alike (looking true 1 drops))
+  drop_valid =
+      record {
+        pushed = λ hs xs pushed p v f g. drops_valid xs pushed g;
+        opened = λ hs k p e. absurd cc;
+        begun = λ hs all types p e. absurd cc;
+      }
+
+  get_valid : (locals : List ValType) (i : ℕ) (t : ValType) → AllByRecursion (Valid cx.of_module) locals → slice_get locals i ≡ Some t → Valid cx.of_module t
+  get_valid [] zero t h e = absurd cc
+  get_valid [] (suc i) t h e = absurd cc
+  get_valid (u ∷ locals) zero t h e = subst (Valid cx.of_module) (some_injective u t e) h.0
+  get_valid (u ∷ locals) (suc i) t h e = get_valid locals i t h.1 e
+
+  local_valid : (o : Option ValType) (reads sets : Option ℕ) (wanted push : ValType → List ValType) → ((t : ValType) → o ≡ Some t → AllByRecursion (Valid cx.of_module) (push t)) → PushesValid cx (alike (local_or o (λ t. record { premise = true; reads = reads; operands = Plain (wanted t) [] (push t); sets = sets; targets = []; clauses = []; dead = false })))
+  local_valid None reads sets wanted push h = plain_valid false None None [] [] false (λ p. tt)
+  local_valid (Some t) reads sets wanted push h = plain_valid true reads sets (wanted t) (push t) false (λ p. h t refl)
+
+  control_valid : (op : ControlOp) → AllByRecursion (Valid cx.of_module) cx.locals → PushesValid cx (control_operator cx op)
+  control_valid Nop l = plain_valid _ _ _ _ [] _ (λ p. tt)
+  control_valid End l = end_valid
+  control_valid Drop l = drop_valid
+  control_valid (LocalGet i) l = local_valid (slice_get cx.locals i) (Some i) None (λ t. []) (λ t. t ∷ []) (λ t e. (get_valid cx.locals i t l e, tt))
+  control_valid (LocalSet i) l = local_valid (slice_get cx.locals i) None (Some i) (λ t. t ∷ []) (λ t. []) (λ t e. tt)
+  control_valid (LocalTee i) l = local_valid (slice_get cx.locals i) None (Some i) (λ t. t ∷ []) (λ t. t ∷ []) (λ t e. (get_valid cx.locals i t l e, tt))
+
+  -- every row of the group pushes one number
+  numeric_valid : (op : NumericOp) → PushesValid cx (alike (numeric_row op))
+  numeric_valid (I32Const n) = plain_valid _ _ _ _ _ _ (λ p. (laws.number_valid _ refl, tt))
+  numeric_valid _ = plain_valid _ _ _ _ _ _ (λ p. (laws.number_valid _ refl, tt))
+
+  pub operator_valid : (op : Op) → AllByRecursion (Valid cx.of_module) cx.locals → PushesValid cx (operator cx op)
+  operator_valid (Control op) l = control_valid op l
+  operator_valid (Numeric op) l = numeric_valid op
+
+pub table_keeps_valid : (md : ModuleContext) → IsLawful md → TableKeepsValid md
+table_keeps_valid md laws cx op s u same h e =
+    let l = subst IsLawful (sym same) laws in
+    steps_keep_valid cx l (operator cx op) s u (operator_valid cx l op h.locals_valid) h e
+
+-- ---- whole lists
+
+module _ (cx : Context) (laws : IsLawful cx.of_module) where
+  -- the state that a body starts in
+  pub start_valid : (ty : BlockType) → BlockIsValid cx.of_module cx.shared ty → AllByRecursion (Valid cx.of_module) cx.locals → StateIsValid cx (start ty)
+  start_valid ty b l = record { locals_valid = l; frames = (record { block = b; own = tt }, tt); left = tt }
+
+  -- the state before each place of a list
+  pub before_valid : (code : List Operator) (s : State) (k : ℕ) (t : State) → ((j : ℕ) (op : Operator) → slice_get code j ≡ Some op → PushesValid cx op) → StateIsValid cx s → before cx code s k ≡ Some t → StateIsValid cx t
+  before_valid code s zero t each h e = subst (λ (v : State). StateIsValid cx v) (some_injective s t e) h
+  before_valid [] s (suc k) t each h e = absurd cc
+  before_valid (op ∷ code) s (suc k) t each h e =
+      let m = bind_some (step cx op s) (λ v. before cx code v k) t e in
+      before_valid code m.0 k t (λ j o g. each (suc j) o g) (steps_keep_valid cx laws op s m.0 (each 0 op refl) h m.1) m.2
+
+  body_each : (ops : List Op) → AllByRecursion (Valid cx.of_module) cx.locals → (j : ℕ) (op : Operator) → slice_get (body cx ops) j ≡ Some op → PushesValid cx op
+  body_each [] l j op e = absurd cc
+  body_each (x ∷ ops) l zero op e = subst (PushesValid cx) (some_injective _ _ e) (operator_valid cx laws x l)
+  body_each (x ∷ ops) l (suc j) op e = body_each ops l j op e
+
+  -- of a body of the table
+  pub body_before_valid : (ops : List Op) (s : State) (k : ℕ) (t : State) → StateIsValid cx s → before cx (body cx ops) s k ≡ Some t → StateIsValid cx t
+  body_before_valid ops s k t h e = before_valid (body cx ops) s k t (body_each ops h.locals_valid) h e

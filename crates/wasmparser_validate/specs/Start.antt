@@ -1,0 +1,52 @@
+-- The states that a validator is made in.
+use Rattle.std.specs.Prelude.{◌≡◌, ◌⊎◌, ℕ, ◌+◌, ◌<◌, ◌++◌, true, List, Option, Some, None, length, map}
+use Rattle.validate_resources.specs.Context.{ModuleContext, signature_of}
+use Rattle.validate_types.specs.declared.features.WasmFeatures.{WasmFeatures}
+use Rattle.validate_types.specs.declared.types.SubType.{SubType}
+use Rattle.validate_types.specs.declared.types.ValType.{ValType}
+use Rattle.validate_visit.specs.declared.frame.BlockType.TheVariants.{FuncType}
+use Rattle.validation_rules.specs.Static.{start}
+use Rattle.validate_stacks.specs.State.{BodyState}
+use Rattle.validate_stacks.specs.Steps.{with_locals}
+use Rattle.wasmparser_validate.specs.declared.operators.validator.OperatorValidator.{OperatorValidator}
+
+-- what a validator stands for
+abbrev pub state : OperatorValidator → BodyState
+state v = v.stacks
+
+-- with these parameters as locals, all of them set
+abbrev pub with_params : List ValType → BodyState → BodyState
+with_params params v = record v { locals = v.locals ++ params; entry = v.entry ++ map (λ _. true) params }
+
+-- the start of a function's body: one frame of the function's type, its parameters the locals
+abbrev pub func_start : WasmFeatures → ℕ → SubType → BodyState
+func_start features index type = record {
+  present = start (FuncType index);
+  shared = type.composite_type.shared;
+  features = features;
+  locals = (signature_of type).params;
+  entry = map (λ _. true) (signature_of type).params;
+}
+
+-- the type at this index, and the state in which a function of it starts
+pub record IsFuncStart (md : ModuleContext) (features : WasmFeatures) (index : ℕ) (v : BodyState) : Type 0 where
+  pub type : SubType
+  pub is_there : md.type_at index ≡ Some type
+  pub starts : v ≡ func_start features index type
+
+-- the type at this index has too many parameters
+pub record HasTooManyParams (md : ModuleContext) (index : ℕ) : Type 0 where
+  pub type : SubType
+  pub is_there : md.type_at index ≡ Some type
+  pub too_many : 50000 < length (signature_of type).params
+
+-- so many more locals of the canonical type
+pub record DefinesLocals (md : ModuleContext) (count : ℕ) (ty : ValType) (v w : BodyState) : Type 0 where
+  pub type : ValType
+  pub is_canonical : md.canonical v.features ty ≡ Some type
+  pub defines : w ≡ with_locals count type v
+  pub few : length v.locals + count < 50001
+
+-- the type is refused, or there would be too many locals
+abbrev pub CannotDefine : ModuleContext → ℕ → ValType → BodyState → Type 0
+CannotDefine md count ty v = (md.canonical v.features ty ≡ None) ⊎ (50000 < length v.locals + count)

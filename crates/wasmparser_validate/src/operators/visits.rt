@@ -1,0 +1,220 @@
+//! The visits of operators.
+
+ghost use Rattle.std.specs.Prelude.{◌≡◌};
+ghost use Rattle.validate_visit.specs.declared.op.Op.{Op};
+ghost use Rattle.validation_rules.specs.Table.{operator};
+ghost use Rattle.validate_stacks.specs.Visits.{MayVisit, Meets};
+ghost use Rattle.wasmparser_validate.specs.Start.{state};
+
+use crate::operators::validator::OperatorValidator;
+use validate_resources::WasmModuleResources;
+use validate_rows::control::{check_drop, check_end, check_nop};
+use validate_rows::numeric::{check_binary_op, check_const, check_test_op};
+use validate_rows::variables::{check_local_get, check_local_set, check_local_tee};
+use validate_types::{Error, ValType};
+use validate_visit::{ControlOp, NumericOp, Op, VisitOperator};
+
+/// A validator that is about to visit an operator, with the lookup and the operator's offset
+/// (wasmparser's `WasmProposalValidator`).
+#[derive(Drop)]
+pub struct WasmProposalValidator<'validator, 'resources, R> {
+    /// The operator's offset, which a refusal carries.
+    pub offset: u64,
+    /// The validator.
+    pub inner: &'validator mut OperatorValidator,
+    /// The lookup.
+    pub resources: &'resources R,
+}
+
+impl OperatorValidator {
+    /// The validator, ready to visit the operator at this offset. It takes no memory.
+    pub fn with_resources<'validator, 'resources, R: WasmModuleResources>(
+        &'validator mut self,
+        resources: &'resources R,
+        offset: u64,
+    ) -> WasmProposalValidator<'validator, 'resources, R>
+        ensures same_reference { result.inner.ghost_name ≡ self.entry.ghost_name }
+        ensures same_value { result.inner.now ≡ self.old }
+        ensures offset { result.offset ≡ offset }
+        ensures resources { result.resources.now ≡ resources.now }
+    {
+        WasmProposalValidator {
+            offset,
+            inner: self,
+            resources,
+        }
+    }
+}
+
+impl<'validator, 'resources, R: WasmModuleResources> VisitOperator
+    for WasmProposalValidator<'validator, 'resources, R> {
+    type Output = Result<(), Error>;
+
+    ghost can_visit = { λ v op. MayVisit (R.context v.resources.now) (state v.inner.now) };
+
+    ghost visits = { λ v op answer w. (w.inner.ghost_name ≡ v.inner.ghost_name) × (w.offset ≡ v.offset) × (w.resources ≡ v.resources) × Meets (R.context v.resources.now) (λ cx. operator cx op) v.offset (state v.inner.now) answer (state w.inner.now) };
+
+    fn visit_nop(&mut self) -> Result<(), Error> {
+        check_nop(&mut self.inner.stacks, self.resources, self.offset)
+    }
+
+    fn visit_end(&mut self) -> Result<(), Error> {
+        check_end(&mut self.inner.stacks, self.resources, self.offset)
+    }
+
+    fn visit_drop(&mut self) -> Result<(), Error> {
+        check_drop(&mut self.inner.stacks, self.resources, self.offset)
+    }
+
+    fn visit_local_get(&mut self, local_index: u32) -> Result<(), Error> {
+        check_local_get(
+            &mut self.inner.stacks,
+            self.resources,
+            self.offset,
+            local_index,
+        )
+    }
+
+    fn visit_local_set(&mut self, local_index: u32) -> Result<(), Error> {
+        check_local_set(
+            &mut self.inner.stacks,
+            self.resources,
+            self.offset,
+            local_index,
+        )
+    }
+
+    fn visit_local_tee(&mut self, local_index: u32) -> Result<(), Error> {
+        check_local_tee(
+            &mut self.inner.stacks,
+            self.resources,
+            self.offset,
+            local_index,
+        )
+    }
+
+    fn visit_i32_const(&mut self, _value: i32) -> Result<(), Error> {
+        check_const(
+            &mut self.inner.stacks,
+            self.resources,
+            self.offset,
+            ValType::I32,
+        )
+    }
+
+    fn visit_i64_const(&mut self, _value: i64) -> Result<(), Error> {
+        check_const(
+            &mut self.inner.stacks,
+            self.resources,
+            self.offset,
+            ValType::I64,
+        )
+    }
+
+    fn visit_i32_eqz(&mut self) -> Result<(), Error> {
+        check_test_op(
+            &mut self.inner.stacks,
+            self.resources,
+            self.offset,
+            ValType::I32,
+        )
+    }
+
+    fn visit_i32_add(&mut self) -> Result<(), Error> {
+        check_binary_op(
+            &mut self.inner.stacks,
+            self.resources,
+            self.offset,
+            ValType::I32,
+        )
+    }
+
+    fn visit_i32_sub(&mut self) -> Result<(), Error> {
+        check_binary_op(
+            &mut self.inner.stacks,
+            self.resources,
+            self.offset,
+            ValType::I32,
+        )
+    }
+
+    fn visit_i32_mul(&mut self) -> Result<(), Error> {
+        check_binary_op(
+            &mut self.inner.stacks,
+            self.resources,
+            self.offset,
+            ValType::I32,
+        )
+    }
+
+    fn visit_i64_add(&mut self) -> Result<(), Error> {
+        check_binary_op(
+            &mut self.inner.stacks,
+            self.resources,
+            self.offset,
+            ValType::I64,
+        )
+    }
+
+    fn visit_i64_sub(&mut self) -> Result<(), Error> {
+        check_binary_op(
+            &mut self.inner.stacks,
+            self.resources,
+            self.offset,
+            ValType::I64,
+        )
+    }
+
+    fn visit_i64_mul(&mut self) -> Result<(), Error> {
+        check_binary_op(
+            &mut self.inner.stacks,
+            self.resources,
+            self.offset,
+            ValType::I64,
+        )
+    }
+
+    fn visit_operator(&mut self, op: Op) -> Result<(), Error> {
+        match op {
+            Op::Control(op) => self.control_operator(op),
+            Op::Numeric(op) => self.numeric_operator(op),
+        }
+    }
+}
+
+impl<'validator, 'resources, R: WasmModuleResources> WasmProposalValidator<
+    'validator,
+    'resources,
+    R,
+> {
+    fn control_operator(&mut self, op: ControlOp) -> Result<(), Error>
+        requires { ⟦<WasmProposalValidator<'validator, 'resources, R> as VisitOperator>⟧.can_visit self.old (Op.Control op) }
+        ensures { ⟦<WasmProposalValidator<'validator, 'resources, R> as VisitOperator>⟧.visits self.old (Op.Control op) result self.new }
+    {
+        match op {
+            ControlOp::Nop => self.visit_nop(),
+            ControlOp::End => self.visit_end(),
+            ControlOp::Drop => self.visit_drop(),
+            ControlOp::LocalGet(local_index) => self.visit_local_get(local_index),
+            ControlOp::LocalSet(local_index) => self.visit_local_set(local_index),
+            ControlOp::LocalTee(local_index) => self.visit_local_tee(local_index),
+        }
+    }
+
+    fn numeric_operator(&mut self, op: NumericOp) -> Result<(), Error>
+        requires { ⟦<WasmProposalValidator<'validator, 'resources, R> as VisitOperator>⟧.can_visit self.old (Op.Numeric op) }
+        ensures { ⟦<WasmProposalValidator<'validator, 'resources, R> as VisitOperator>⟧.visits self.old (Op.Numeric op) result self.new }
+    {
+        match op {
+            NumericOp::I32Const(value) => self.visit_i32_const(value),
+            NumericOp::I64Const(value) => self.visit_i64_const(value),
+            NumericOp::I32Eqz => self.visit_i32_eqz(),
+            NumericOp::I32Add => self.visit_i32_add(),
+            NumericOp::I32Sub => self.visit_i32_sub(),
+            NumericOp::I32Mul => self.visit_i32_mul(),
+            NumericOp::I64Add => self.visit_i64_add(),
+            NumericOp::I64Sub => self.visit_i64_sub(),
+            NumericOp::I64Mul => self.visit_i64_mul(),
+        }
+    }
+}

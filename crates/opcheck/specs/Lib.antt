@@ -1,0 +1,4 @@
+pub mod Numbers
+pub mod Status
+pub mod Lines
+pub mod Texts

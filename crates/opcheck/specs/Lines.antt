@@ -1,0 +1,55 @@
+-- The words of lines, and the order of lines.
+use Rattle.std.specs.Prelude.{◌≡◌, ◌==◌, ◌++◌, ℕ, List, [], ◌∷◌, Bool, true, false, not, Option, Some, length, is_some, if◌then◌else◌, vec_len}
+use Rattle.std.specs.List.{filter, slice_split}
+use Rattle.validate_types.specs.declared.types.SubType.{SubType}
+use Rattle.validate_visit.specs.declared.op.Op.{Op}
+use Rattle.opcheck.specs.declared.script.FunctionLine.{FunctionLine}
+use Rattle.opcheck.specs.declared.script.LocalLine.{LocalLine}
+use Rattle.opcheck.specs.declared.script.Draft.{Draft}
+use Rattle.opcheck.specs.declared.script.Part.{Part}
+use Rattle.opcheck.specs.declared.script.Part.TheVariants.{Module, Locals, Operators}
+use Rattle.opcheck.specs.declared.script.lines.Line.{Line}
+use Rattle.opcheck.specs.declared.script.lines.Line.TheVariants.{SubType as OnType, Function as OnFunction, Locals as OnLocals, Operator as OnOperator}
+
+-- the words of a line: what lies between spaces (32) and isn't empty
+abbrev pub words_in : List ℕ → List (List ℕ)
+words_in line = filter (λ word. not (length word == 0)) (slice_split (λ b. b == 32) line)
+
+-- the part of a script that the lines so far have come to
+abbrev pub part_of : Draft → Part
+part_of d = if is_some d.function then (if vec_len d.operators == 0 then Locals else Operators) else Module
+
+-- Whether a line may stand after lines that have come to this part: types before the function, locals
+-- after it, and operators last.
+abbrev pub may_stand : Line → Part → Bool
+may_stand (OnType ty) Module = true
+may_stand (OnFunction n) Module = true
+may_stand (OnLocals n ty) Locals = true
+may_stand (OnOperator op) Locals = true
+may_stand (OnOperator op) Operators = true
+may_stand _ _ = false
+
+-- what a line, the one of this number, adds to each list
+abbrev pub types_of : Line → List SubType
+types_of (OnType ty) = ty ∷ []
+types_of _ = []
+
+abbrev pub locals_of : Line → ℕ → List LocalLine
+locals_of (OnLocals n t) number = record { count = n; ty = t; offset = number } ∷ []
+locals_of _ number = []
+
+abbrev pub operators_of : Line → ℕ → List (Op × ℕ)
+operators_of (OnOperator op) number = (op, number) ∷ []
+operators_of _ number = []
+
+-- the `func` line after a line
+abbrev pub function_after : Line → ℕ → Option FunctionLine → Option FunctionLine
+function_after (OnFunction n) number before = Some (record { type_index = n; offset = number })
+function_after _ number before = before
+
+-- the draft with a line, the one of this number, added to it
+pub record AddsLine (old new : Draft) (line : Line) (number : ℕ) : Type 0 where
+  pub types : new.types.items ≡ old.types.items ++ types_of line
+  pub function : new.function ≡ function_after line number old.function
+  pub locals : new.locals.items ≡ old.locals.items ++ locals_of line number
+  pub operators : new.operators.items ≡ old.operators.items ++ operators_of line number

@@ -1,0 +1,17 @@
+-- Numbers as a script writes them.
+use Rattle.std.specs.Prelude.{ℕ, ℤ, pos, neg_ℤ, List, drop, if◌then◌else◌}
+use Rattle.std.specs.Str.Parse.{IsNumeral, digits_value, starts_with_minus}
+use Rattle.std.specs.Int.RustNames.{FitsSigned}
+use mir.Syntax.{Width}
+
+-- the digits of a constant: all that follows its minus
+abbrev pub constant_digits : List ℕ → List ℕ
+constant_digits bs = if starts_with_minus bs then drop 1 bs else bs
+
+-- the number that a constant writes
+abbrev pub constant_value : List ℕ → ℤ
+constant_value bs = if starts_with_minus bs then neg_ℤ (pos (digits_value 10 (constant_digits bs))) else pos (digits_value 10 (constant_digits bs))
+
+-- digits, perhaps after a minus, that write a number in the signed range of this width
+abbrev pub IsConstant : Width → List ℕ → Type 0
+IsConstant w bs = IsNumeral 10 (constant_digits bs) × FitsSigned w (constant_value bs)

@@ -1,0 +1,91 @@
+//! Checking a script that was read.
+
+ghost use Rattle.std.specs.Prelude.{◌≡◌, ◌⊎◌, ◌<◌, length, IfOk, IfErr};
+ghost use Rattle.std.specs.List.{list_all};
+ghost use Rattle.validate_visit.specs.Immediates.{module_immediates};
+ghost use Rattle.validate_stacks.specs.State.{IsStarting};
+ghost use Rattle.wasmparser_validate.specs.Start.{state};
+ghost use Rattle.opcheck.specs.declared.failure.BadScript.{BadScript};
+ghost use Rattle.opcheck.specs.declared.failure.Failure.{Failure};
+
+use crate::failure::{BadScript, Failure};
+use crate::script::{FunctionLine, LocalLine, Script};
+use bitflags::Flags;
+use std::alloc::Global;
+use wasmparser_validate::operators::{OperatorValidator, OperatorValidatorAllocations, check_ops};
+use wasmparser_validate::resources::{ModuleLists, WasmModuleResources};
+use wasmparser_validate::types::{Error, SubType, WasmFeatures};
+use wasmparser_validate::visit::{Op, has_module_immediates, is_well_ordered};
+
+/// What the validator says of a body.
+#[derive(Drop)]
+pub struct Report {
+    /// How many operands and frames there are after each accepted operator.
+    pub heights: Vec<(usize, usize)>,
+    /// Whether the outermost frame is closed; or the refusal that ended the run.
+    pub outcome: Result<bool, Error>,
+}
+
+/// Checks a script: first its order, then its module, then its body.
+pub fn check_script(alloc: Global, script: Script) -> Result<Report, Failure> {
+    let Script {
+        types,
+        function,
+        locals,
+        operators,
+    } = script;
+    if !is_well_ordered(&operators) || !have_module_immediates(&operators) {
+        return Err(Failure::BadScript(BadScript::Order));
+    }
+    let module = module_of(alloc, types)?;
+    let mut heights = Vec::new(alloc);
+    let outcome = match begin_body(alloc, &module, function, &locals) {
+        Ok(mut validator) => check_ops(&mut validator, &operators, &module, &mut heights).map_err(
+            |refused| refused.1,
+        ),
+        Err(refusal) => Err(refusal),
+    };
+    Ok(Report { heights, outcome })
+}
+
+/// Whether the immediates are those of a module, as they are of all operators that a script can write.
+fn have_module_immediates(operators: &[(Op, u64)]) -> bool
+    ensures { result ≡ list_all (λ (pair : _). module_immediates pair.0) operators.now }
+{
+    operators.iter().all(|pair| has_module_immediates(&pair.0))
+}
+
+/// The module that declares these types.
+fn module_of(alloc: Global, types: Vec<SubType>) -> Result<ModuleLists, Failure>
+    ensures cause { IfErr result (λ failure. (failure ≡ Failure.OutOfMemory) ⊎ ((failure ≡ Failure.BadScript BadScript.Module) × (1000000 < length types.items))) }
+{
+    ModuleLists::new(alloc, types).map_err(|error| {
+        if error.is_out_of_memory() {
+            Failure::OutOfMemory
+        } else {
+            Failure::BadScript(BadScript::Module)
+        }
+    })
+}
+
+/// A validator of the body of this function, with all its locals.
+fn begin_body<R: WasmModuleResources>(
+    alloc: Global,
+    resources: &R,
+    function: FunctionLine,
+    locals: &[LocalLine],
+) -> Result<OperatorValidator, Error>
+    ensures { IfOk result (λ validator. IsStarting (R.context resources.now) (state validator)) }
+{
+    let mut validator = OperatorValidator::new_func(
+        function.type_index,
+        function.offset,
+        &WasmFeatures::all(),
+        resources,
+        OperatorValidatorAllocations::new(alloc),
+    )?;
+    for line in locals {
+        validator.define_locals(line.offset, line.count, line.ty, resources)?;
+    }
+    Ok(validator)
+}

@@ -1,0 +1,20 @@
+//! Reads a script from standard input, which declares a module and the body of a function, and
+//! prints the validator's verdict on each operator and on the whole.
+#![tactic(auto)]
+
+mod check;
+mod failure;
+mod input;
+mod print;
+mod run;
+mod script;
+#[cfg(test)]
+mod tests;
+mod verdict;
+
+use std::process::ExitCode;
+
+fn main(rt: HostRuntime) -> ExitCode {
+    let status = run::run(rt.alloc(), rt.reader(), rt.stdout(), rt.stderr());
+    ExitCode::from(status)
+}

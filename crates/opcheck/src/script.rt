@@ -1,0 +1,162 @@
+//! A script, as it was read.
+
+pub mod lines;
+pub mod numbers;
+pub mod operators;
+pub mod types;
+pub mod words;
+
+ghost use Rattle.std.specs.Prelude.{◌≡◌, ◌↔◌, false, Some, IsSome, IfSome, IsErrOf, OnOk};
+
+use crate::failure::{BadScript, Failure, LineError};
+use crate::script::lines::{Line, read_line};
+use crate::script::words::words_of;
+use std::alloc::Global;
+use wasmparser_validate::types::{SubType, ValType};
+use wasmparser_validate::visit::Op;
+
+/// The `func` line: its type's index, and its line number.
+#[derive(Clone, Copy, Debug, PartialEq, Eq)]
+pub struct FunctionLine {
+    /// The index of the function's type.
+    pub type_index: u32,
+    /// The number of the line.
+    pub offset: u64,
+}
+
+/// A `local` line.
+#[derive(Clone, Copy, Debug, PartialEq, Eq)]
+pub struct LocalLine {
+    /// How many locals it declares.
+    pub count: u32,
+    /// Their type.
+    pub ty: ValType,
+    /// The number of the line.
+    pub offset: u64,
+}
+
+/// A script whose lines are all of the grammar, and in their places.
+#[derive(Drop)]
+pub struct Script {
+    /// The types that the module declares.
+    pub types: Vec<SubType>,
+    /// The `func` line.
+    pub function: FunctionLine,
+    /// The `local` lines.
+    pub locals: Vec<LocalLine>,
+    /// The operators, each with the number of its line.
+    pub operators: Vec<(Op, u64)>,
+}
+
+/// What a script's first lines say.
+#[derive(Drop)]
+struct Draft {
+    types: Vec<SubType>,
+    function: Option<FunctionLine>,
+    locals: Vec<LocalLine>,
+    operators: Vec<(Op, u64)>,
+}
+
+/// The parts of a script, in their order.
+#[derive(Clone, Copy, Debug, PartialEq, Eq)]
+enum Part {
+    Module,
+    Locals,
+    Operators,
+}
+
+/// Reads a script.
+pub fn read_script(alloc: Global, text: &str) -> Result<Script, Failure> {
+    let mut draft = Draft::new(alloc);
+    let mut number: u64 = 1;
+    for line in text.lines() {
+        draft
+            .read_line(alloc, number, line)
+            .map_err(|error| error.at(number))?;
+        number = number.saturating_add(1);
+    }
+    let script = draft.finish().ok_or(BadScript::Line(number))?;
+    Ok(script)
+}
+
+impl Draft {
+    ghost use Rattle.opcheck.specs.declared.failure.LineError.{LineError};
+    ghost use Rattle.opcheck.specs.Lines.{part_of, may_stand, AddsLine};
+
+    fn new(alloc: Global) -> Draft {
+        Draft {
+            types: Vec::new(alloc),
+            function: None,
+            locals: Vec::new(alloc),
+            operators: Vec::new(alloc),
+        }
+    }
+
+    /// The part that the last line stood in.
+    fn part(&self) -> Part
+        ensures { result ≡ part_of self.now }
+    {
+        if self.function.is_none() {
+            Part::Module
+        } else if self.operators.is_empty() {
+            Part::Locals
+        } else {
+            Part::Operators
+        }
+    }
+
+    /// Reads the next line.
+    fn read_line(&mut self, alloc: Global, number: u64, line: &str) -> Result<(), LineError> {
+        if line.starts_with('#') {
+            return Ok(());
+        }
+        let words = words_of(alloc, line)?;
+        if words.is_empty() {
+            return Ok(());
+        }
+        self.add(read_line(alloc, &words)?, number)
+    }
+
+    /// Adds a line, if this is its place.
+    fn add(&mut self, line: Line, offset: u64) -> Result<(), LineError>
+        ensures added { OnOk result (AddsLine self.old self.new line offset) }
+        ensures bad { IsErrOf result LineError.Bad ↔ (may_stand line (part_of self.old) ≡ false) }
+    {
+        match (line, self.part()) {
+            (Line::SubType(ty), Part::Module) => self.types.push(ty)?,
+            (Line::Function(type_index), Part::Module) => {
+                self.function = Some(FunctionLine { type_index, offset });
+            }
+            (Line::Locals(count, ty), Part::Locals) => {
+                self.locals.push(LocalLine { count, ty, offset })?;
+            }
+            (Line::Operator(op), Part::Locals | Part::Operators) => {
+                self.operators.push((op, offset))?;
+            }
+            _ => return Err(LineError::Bad),
+        }
+        Ok(())
+    }
+
+    /// The whole script, if it has its `func` line.
+    fn finish(self) -> Option<Script>
+        ensures whole { IsSome result ↔ IsSome self.function }
+        ensures types { IfSome result (λ script. script.types ≡ self.types) }
+        ensures function { IfSome result (λ script. self.function ≡ Some script.function) }
+        ensures locals { IfSome result (λ script. script.locals ≡ self.locals) }
+        ensures operators { IfSome result (λ script. script.operators ≡ self.operators) }
+    {
+        let Draft {
+            types,
+            function,
+            locals,
+            operators,
+        } = self;
+        Some(Script {
+            types,
+            function: function?,
+            locals,
+            operators,
+        })
+    }
+}

@@ -1,0 +1,39 @@
+//! The lines of a script, each for itself.
+
+use crate::failure::LineError;
+use crate::script::numbers::read_index;
+use crate::script::operators::read_operator;
+use crate::script::types::{read_type, read_value_type};
+use std::alloc::Global;
+use wasmparser_validate::types::{SubType, ValType};
+use wasmparser_validate::visit::Op;
+
+/// What a line says that is neither blank nor a comment.
+#[derive(Drop)]
+pub enum Line {
+    /// `type ..`: the module declares this type.
+    SubType(SubType),
+    /// `func N`: the body is that of a function of the type at this index.
+    Function(u32),
+    /// `local N T`: the body has this many more locals of this type.
+    Locals(u32, ValType),
+    /// An operator of the body.
+    Operator(Op),
+}
+
+/// Reads the words of a line, of which there is one at least.
+pub fn read_line(alloc: Global, words: &[&str]) -> Result<Line, LineError> {
+    if let Some((&"type", rest)) = words.split_first() {
+        return Ok(Line::SubType(read_type(alloc, rest)?));
+    }
+    read_flat_line(words).ok_or(LineError::Bad)
+}
+
+/// Reads the words of a line that takes no memory.
+fn read_flat_line(words: &[&str]) -> Option<Line> {
+    match *words {
+        ["func", type_index] => Some(Line::Function(read_index(type_index)?)),
+        ["local", count, ty] => Some(Line::Locals(read_index(count)?, read_value_type(ty)?)),
+        _ => read_operator(words).map(Line::Operator),
+    }
+}

@@ -1,0 +1,48 @@
+//! Scripts, run over memory.
+
+mod fakes;
+mod lines;
+mod operators;
+mod verdicts;
+
+use crate::run::run;
+use std::process::Abort;
+use std::test::Fail;
+
+/// The first two lines of a script whose body takes nothing and gives nothing.
+const HEAD: &str = "type func ->\nfunc 0\n";
+
+/// Runs a script, and compares both outputs and the status.
+fn expect_run(
+    rt: &(impl Abort + AllocGlobal),
+    script: &[u8],
+    out: &str,
+    err: &str,
+    status: u8,
+) -> Result<(), Fail> {
+    let mut printed = Vec::new(rt.alloc());
+    let mut said = Vec::new(rt.alloc());
+    let answer = run(rt.alloc(), script, &mut printed, &mut said);
+    let text = std::str::from_utf8(script).unwrap_or("bytes that are no text");
+    assert_eq!(rt; printed.as_slice(), out.as_bytes(), "what {text:?} prints");
+    assert_eq!(rt; said.as_slice(), err.as_bytes(), "what {text:?} says");
+    assert_eq!(rt; answer, status, "the status of {text:?}");
+    Ok(())
+}
+
+/// Runs the script of `HEAD` and these further lines, and compares what it prints and the status.
+fn expect_body(
+    rt: &(impl Abort + AllocGlobal),
+    lines: &str,
+    out: &str,
+    status: u8,
+) -> Result<(), Fail> {
+    let script = format!(in rt.alloc(); "{HEAD}{lines}")?;
+    expect_run(rt, script.as_bytes(), out, "", status)
+}
+
+/// Runs a bad script, and compares the cause.
+fn expect_bad(rt: &(impl Abort + AllocGlobal), script: &[u8], cause: &str) -> Result<(), Fail> {
+    let said = format!(in rt.alloc(); "bad script: {cause}\n")?;
+    expect_run(rt, script, "", said.as_str(), 2)
+}

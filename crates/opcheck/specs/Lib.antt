@@ -1,4 +1,5 @@
 pub mod Numbers
 pub mod Status
 pub mod Lines
+pub mod Begin
 pub mod Texts

@@ -3,13 +3,13 @@ use Rattle.std.specs.Prelude.{◌≡◌, ◌==◌, ◌++◌, ℕ, List, [], ◌�
 use Rattle.std.specs.List.{filter, slice_split}
 use Rattle.validate_types.specs.declared.types.SubType.{SubType}
 use Rattle.validate_visit.specs.declared.op.Op.{Op}
-use Rattle.opcheck.specs.declared.script.FunctionLine.{FunctionLine}
+use Rattle.opcheck.specs.declared.script.BodyLine.{BodyLine}
 use Rattle.opcheck.specs.declared.script.LocalLine.{LocalLine}
 use Rattle.opcheck.specs.declared.script.Draft.{Draft}
 use Rattle.opcheck.specs.declared.script.Part.{Part}
 use Rattle.opcheck.specs.declared.script.Part.TheVariants.{Module, Locals, Operators}
 use Rattle.opcheck.specs.declared.script.lines.Line.{Line}
-use Rattle.opcheck.specs.declared.script.lines.Line.TheVariants.{SubType as OnType, Function as OnFunction, Locals as OnLocals, Operator as OnOperator}
+use Rattle.opcheck.specs.declared.script.lines.Line.TheVariants.{SubType as OnType, Body as OnBody, Locals as OnLocals, Operator as OnOperator}
 
 -- the words of a line: what lies between spaces (32) and isn't empty
 abbrev pub words_in : List ℕ → List (List ℕ)
@@ -17,13 +17,13 @@ words_in line = filter (λ word. not (length word == 0)) (slice_split (λ b. b =
 
 -- the part of a script that the lines so far have come to
 abbrev pub part_of : Draft → Part
-part_of d = if is_some d.function then (if vec_len d.operators == 0 then Locals else Operators) else Module
+part_of d = if is_some d.body then (if vec_len d.operators == 0 then Locals else Operators) else Module
 
--- Whether a line may stand after lines that have come to this part: types before the function, locals
--- after it, and operators last.
+-- Whether a line may stand after lines that have come to this part: types before the `func` or `expr`
+-- line, locals after it, and operators last.
 abbrev pub may_stand : Line → Part → Bool
 may_stand (OnType ty) Module = true
-may_stand (OnFunction n) Module = true
+may_stand (OnBody body) Module = true
 may_stand (OnLocals n ty) Locals = true
 may_stand (OnOperator op) Locals = true
 may_stand (OnOperator op) Operators = true
@@ -42,14 +42,14 @@ abbrev pub operators_of : Line → ℕ → List (Op × ℕ)
 operators_of (OnOperator op) number = (op, number) ∷ []
 operators_of _ number = []
 
--- the `func` line after a line
-abbrev pub function_after : Line → ℕ → Option FunctionLine → Option FunctionLine
-function_after (OnFunction n) number before = Some (record { type_index = n; offset = number })
-function_after _ number before = before
+-- the `func` or `expr` line after a line
+abbrev pub body_after : Line → ℕ → Option BodyLine → Option BodyLine
+body_after (OnBody body) number before = Some (record { body = body; offset = number })
+body_after _ number before = before
 
 -- the draft with a line, the one of this number, added to it
 pub record AddsLine (old new : Draft) (line : Line) (number : ℕ) : Type 0 where
   pub types : new.types.items ≡ old.types.items ++ types_of line
-  pub function : new.function ≡ function_after line number old.function
+  pub body : new.body ≡ body_after line number old.body
   pub locals : new.locals.items ≡ old.locals.items ++ locals_of line number
   pub operators : new.operators.items ≡ old.operators.items ++ operators_of line number

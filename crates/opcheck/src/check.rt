@@ -1,20 +1,22 @@
 //! Checking a script that was read.
 
-ghost use Rattle.std.specs.Prelude.{◌≡◌, ◌⊎◌, ◌<◌, length, IfOk, IfErr};
+ghost use Rattle.std.specs.Prelude.{◌≡◌, ◌⊎◌, false, None, ◌<◌, length, IfOk, IfErr};
 ghost use Rattle.std.specs.List.{list_all};
 ghost use Rattle.validate_visit.specs.Immediates.{module_immediates};
 ghost use Rattle.validate_stacks.specs.State.{IsStarting};
 ghost use Rattle.wasmparser_validate.specs.Start.{state};
+ghost use Rattle.opcheck.specs.Begin.{IsExpressionStart, IsBodyStart, CannotStart};
 ghost use Rattle.opcheck.specs.declared.failure.BadScript.{BadScript};
 ghost use Rattle.opcheck.specs.declared.failure.Failure.{Failure};
 
 use crate::failure::{BadScript, Failure};
-use crate::script::{FunctionLine, LocalLine, Script};
+use crate::script::{Body, BodyLine, LocalLine, Script};
 use bitflags::Flags;
 use std::alloc::Global;
 use wasmparser_validate::operators::{OperatorValidator, OperatorValidatorAllocations, check_ops};
+use wasmparser_validate::resources::uses::laws;
 use wasmparser_validate::resources::{ModuleLists, WasmModuleResources};
-use wasmparser_validate::types::{Error, SubType, WasmFeatures};
+use wasmparser_validate::types::{Error, SubType, ValType, WasmFeatures};
 use wasmparser_validate::visit::{Op, has_module_immediates, is_well_ordered};
 
 /// What the validator says of a body.
@@ -30,7 +32,7 @@ pub struct Report {
 pub fn check_script(alloc: Global, script: Script) -> Result<Report, Failure> {
     let Script {
         types,
-        function,
+        body,
         locals,
         operators,
     } = script;
@@ -39,7 +41,7 @@ pub fn check_script(alloc: Global, script: Script) -> Result<Report, Failure> {
     }
     let module = module_of(alloc, types)?;
     let mut heights = Vec::new(alloc);
-    let outcome = match begin_body(alloc, &module, function, &locals) {
+    let outcome = match begin_body(alloc, &module, &WasmFeatures::all(), body, &locals) {
         Ok(mut validator) => check_ops(&mut validator, &operators, &module, &mut heights).map_err(
             |refused| refused.1,
         ),
@@ -68,24 +70,59 @@ fn module_of(alloc: Global, types: Vec<SubType>) -> Result<ModuleLists, Failure>
     })
 }
 
-/// A validator of the body of this function, with all its locals.
-fn begin_body<R: WasmModuleResources>(
+/// A validator of this body, with all its locals.
+pub fn begin_body<R: WasmModuleResources>(
     alloc: Global,
     resources: &R,
-    function: FunctionLine,
+    features: &WasmFeatures,
+    line: BodyLine,
     locals: &[LocalLine],
 ) -> Result<OperatorValidator, Error>
     ensures { IfOk result (λ validator. IsStarting (R.context resources.now) (state validator)) }
 {
-    let mut validator = OperatorValidator::new_func(
-        function.type_index,
-        function.offset,
-        &WasmFeatures::all(),
-        resources,
-        OperatorValidatorAllocations::new(alloc),
-    )?;
+    let mut validator = start_body(alloc, resources, features, line)?;
     for line in locals {
         validator.define_locals(line.offset, line.count, line.ty, resources)?;
     }
     Ok(validator)
+}
+
+/// A validator of the body that the `func` or `expr` line begins.
+fn start_body<R: WasmModuleResources>(
+    alloc: Global,
+    resources: &R,
+    features: &WasmFeatures,
+    line: BodyLine,
+) -> Result<OperatorValidator, Error>
+    ensures starting { IfOk result (λ validator. IsStarting (R.context resources.now) (state validator)) }
+    ensures made { IfOk result (λ validator. IsBodyStart (R.context resources.now) features.now line.body (state validator)) }
+    ensures refused { IfErr result (λ e. e.memory ≡ false → CannotStart (R.context resources.now) features.now line.body) }
+    ensures offset { IfErr result (λ e. e.memory ≡ false → e.offset ≡ line.offset) }
+{
+    let allocs = OperatorValidatorAllocations::new(alloc);
+    match line.body {
+        Body::Function(type_index) => {
+            OperatorValidator::new_func(type_index, line.offset, features, resources, allocs)
+        }
+        Body::Expression(ty) => start_expression(resources, features, ty, line.offset, allocs),
+    }
+}
+
+/// A validator of a constant expression of this type, which is checked first.
+fn start_expression<R: WasmModuleResources>(
+    resources: &R,
+    features: &WasmFeatures,
+    ty: ValType,
+    offset: u64,
+    allocs: OperatorValidatorAllocations,
+) -> Result<OperatorValidator, Error>
+    ensures starting { IfOk result (λ validator. IsStarting (R.context resources.now) (state validator)) }
+    ensures made { IfOk result (λ validator. IsExpressionStart (R.context resources.now) features.now ty (state validator)) }
+    ensures refused { IfErr result (λ e. e.memory ≡ false → (R.context resources.now).canonical features.now ty ≡ None) }
+    ensures offset { IfErr result (λ e. e.memory ≡ false → e.offset ≡ offset) }
+{
+    laws(resources);
+    let mut canonical = ty;
+    resources.check_value_type(&mut canonical, features, offset)?;
+    OperatorValidator::new_const_expr(features, canonical, allocs)
 }

@@ -1,4 +1,4 @@
-//! Reads a script from standard input, which declares a module and the body of a function, and
+//! Reads a script from standard input, which declares a module and a body, and
 //! prints the validator's verdict on each operator and on the whole.
 #![tactic(auto)]
 

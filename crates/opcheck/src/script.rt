@@ -15,11 +15,20 @@ use std::alloc::Global;
 use wasmparser_validate::types::{SubType, ValType};
 use wasmparser_validate::visit::Op;
 
-/// The `func` line: its type's index, and its line number.
+/// What the operators of a script are the body of.
 #[derive(Clone, Copy, Debug, PartialEq, Eq)]
-pub struct FunctionLine {
-    /// The index of the function's type.
-    pub type_index: u32,
+pub enum Body {
+    /// A function of the type at this index.
+    Function(u32),
+    /// A constant expression that gives a value of this type.
+    Expression(ValType),
+}
+
+/// The `func` or `expr` line.
+#[derive(Clone, Copy, Debug, PartialEq, Eq)]
+pub struct BodyLine {
+    /// What it begins.
+    pub body: Body,
     /// The number of the line.
     pub offset: u64,
 }
@@ -40,8 +49,8 @@ pub struct LocalLine {
 pub struct Script {
     /// The types that the module declares.
     pub types: Vec<SubType>,
-    /// The `func` line.
-    pub function: FunctionLine,
+    /// The `func` or `expr` line.
+    pub body: BodyLine,
     /// The `local` lines.
     pub locals: Vec<LocalLine>,
     /// The operators, each with the number of its line.
@@ -52,7 +61,7 @@ pub struct Script {
 #[derive(Drop)]
 struct Draft {
     types: Vec<SubType>,
-    function: Option<FunctionLine>,
+    body: Option<BodyLine>,
     locals: Vec<LocalLine>,
     operators: Vec<(Op, u64)>,
 }
@@ -86,7 +95,7 @@ impl Draft {
     fn new(alloc: Global) -> Draft {
         Draft {
             types: Vec::new(alloc),
-            function: None,
+            body: None,
             locals: Vec::new(alloc),
             operators: Vec::new(alloc),
         }
@@ -96,7 +105,7 @@ impl Draft {
     fn part(&self) -> Part
         ensures { result ≡ part_of self.now }
     {
-        if self.function.is_none() {
+        if self.body.is_none() {
             Part::Module
         } else if self.operators.is_empty() {
             Part::Locals
@@ -124,8 +133,8 @@ impl Draft {
     {
         match (line, self.part()) {
             (Line::SubType(ty), Part::Module) => self.types.push(ty)?,
-            (Line::Function(type_index), Part::Module) => {
-                self.function = Some(FunctionLine { type_index, offset });
+            (Line::Body(body), Part::Module) => {
+                self.body = Some(BodyLine { body, offset });
             }
             (Line::Locals(count, ty), Part::Locals) => {
                 self.locals.push(LocalLine { count, ty, offset })?;
@@ -138,23 +147,23 @@ impl Draft {
         Ok(())
     }
 
-    /// The whole script, if it has its `func` line.
+    /// The whole script, if it has its `func` or `expr` line.
     fn finish(self) -> Option<Script>
-        ensures whole { IsSome result ↔ IsSome self.function }
+        ensures whole { IsSome result ↔ IsSome self.body }
         ensures types { IfSome result (λ script. script.types ≡ self.types) }
-        ensures function { IfSome result (λ script. self.function ≡ Some script.function) }
+        ensures body { IfSome result (λ script. self.body ≡ Some script.body) }
         ensures locals { IfSome result (λ script. script.locals ≡ self.locals) }
         ensures operators { IfSome result (λ script. script.operators ≡ self.operators) }
     {
         let Draft {
             types,
-            function,
+            body,
             locals,
             operators,
         } = self;
         Some(Script {
             types,
-            function: function?,
+            body: body?,
             locals,
             operators,
         })

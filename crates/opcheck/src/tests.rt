@@ -1,5 +1,7 @@
 //! Scripts, run over memory.
 
+mod blocks;
+mod expressions;
 mod fakes;
 mod lines;
 mod operators;

@@ -11,7 +11,7 @@ use std::fmt;
 pub enum Verdict {
     /// Each operator is accepted, and the outermost frame is closed.
     Accepted,
-    /// The function, a line of locals or an operator is refused.
+    /// The function, the type of the expression, a line of locals or an operator is refused.
     Refused,
     /// Each operator is accepted, and the outermost frame is open.
     Open,

@@ -4,13 +4,13 @@ use Rattle.validate_resources.specs.Context.{IsLawful}
 use Rattle.validate_visit.specs.declared.op.Op.{Op}
 use Rattle.validate_visit.specs.declared.op.Op.TheVariants.{Control, Numeric}
 use Rattle.validate_visit.specs.declared.op.ControlOp.{ControlOp}
-use Rattle.validate_visit.specs.declared.op.ControlOp.TheVariants.{Nop, End, Drop, LocalGet, LocalSet, LocalTee}
+use Rattle.validate_visit.specs.declared.op.ControlOp.TheVariants.{Nop, Block as BlockOp, End, Drop, LocalGet, LocalSet, LocalTee}
 use Rattle.validate_visit.specs.declared.op.NumericOp.{NumericOp}
 use Rattle.validate_visit.specs.declared.op.NumericOp.TheVariants.{I32Const}
-use Rattle.validation_rules.specs.Context.{ValType, Context, AllBelow}
+use Rattle.validation_rules.specs.Context.{ValType, BlockType, Context, AllBelow, block_signature}
 use Rattle.validation_rules.specs.Fits.{MaybeType, Known, all_fit}
-use Rattle.validation_rules.specs.Rows.{Head, Form, Flat, Ends, Plain, Looks, Target, Row, Operator, guard, all_fit_each, gives, is_row}
-use Rattle.validation_rules.specs.Table.{looking, alike, closing, local_or, drops, control_operator, numeric_row, operator, body}
+use Rattle.validation_rules.specs.Rows.{FrameKind, Block, is_if, Head, Form, Flat, Ends, Plain, Looks, Target, Row, Operator, guard, all_fit_each, gives, is_row}
+use Rattle.validation_rules.specs.Table.{checked_block, opens, opener, looking, alike, closing, local_or, drops, control_operator, numeric_row, operator, body}
 use Rattle.validation_rules.proofs.Below.{and_true, true_and, below-trans, below_of_fit, fit_of_below}
 use Rattle.validation_rules.proofs.Steps.{some_injective, guard_some}
 use Rattle.type_safety.specs.Theorem.{Falls, IsLawfulRow, IsLawfulOperator}
@@ -92,8 +92,25 @@ module _ (cx : Context) (laws : IsLawful cx.of_module) where
   local_lawful None reads sets wanted push = plain_lawful false None None [] [] false
   local_lawful (Some t) reads sets wanted push = plain_lawful true reads sets (wanted t) (push t) false
 
+  opens_lawful : (kind : FrameKind) (premise : Bool) (bt : BlockType) → is_if kind ≡ false → IsLawfulOperator cx (opens cx kind premise bt)
+  opens_lawful kind premise bt other =
+      record {
+        row = λ hs. no_target hs _ refl (plain_falls (block_signature cx.of_module bt).params [] []);
+        closing = λ hs i. absurd cc;
+        takes_params = λ hs h ys pushed e i g.
+            let d : record { kind = kind; block_type = bt } ≡ h = cc in
+            let same : kind ≡ h.kind = ap (λ (k : Head). k.kind) d in
+            let clash : true ≡ false = sym i ∙ (ap is_if (sym same) ∙ other) in
+            absurd cc;
+      }
+
+  opener_lawful : (kind : FrameKind) (declared : BlockType) (o : Option BlockType) → is_if kind ≡ false → IsLawfulOperator cx (opener cx kind declared o)
+  opener_lawful kind declared (Some bt) other = opens_lawful kind true bt other
+  opener_lawful kind declared None other = opens_lawful kind false declared other
+
   control_lawful : (op : ControlOp) → IsLawfulOperator cx (control_operator cx op)
   control_lawful Nop = plain_lawful _ _ _ _ _ _
+  control_lawful (BlockOp bt) = opener_lawful Block bt (checked_block cx bt) refl
   control_lawful End = closing_lawful Ends true refl
   control_lawful Drop = looking_lawful true 1 drops drop_falls
   control_lawful (LocalGet i) = local_lawful (slice_get cx.locals i) (Some i) None (λ t. []) (λ t. t ∷ [])

@@ -1,4 +1,4 @@
--- The law of type safety over all runs (the crate's own; the standard's is its appendix "Soundness").
+-- The law of type safety over all runs (the crate's own; the standard's is its appendix "Type Soundness").
 use Rattle.std.specs.Prelude.{◌≡◌, ℕ, true, false, List, [], ◌∷◌, Some, length, map, take, drop, slice_get}
 use Rattle.validate_resources.specs.Context.{IsLawful}
 use Rattle.validation_rules.specs.Context.{ValType, BlockType, Context, AllBelow}

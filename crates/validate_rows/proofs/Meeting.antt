@@ -1,9 +1,8 @@
 -- From what the last step of a check promises to the answer of the visit.
-use Rattle.std.proofs.Common.{◌≡◌, ℕ, zero, suc, Bool, true, false, not, List, [], ◌∷◌, slice_get, Option, Some, None, Result, Ok, Err, OnOk, IfErr, refl, sym, ◌∙◌, subst}
+use Rattle.std.proofs.Common.{◌≡◌, ℕ, zero, suc, Bool, true, false, not, List, [], ◌∷◌, slice_get, Some, None, Result, Ok, Err, OnOk, IfErr, refl, sym, ◌∙◌, subst}
 use Rattle.std.specs.List.{AllByRecursion}
 use Rattle.validate_resources.specs.Context.{ModuleContext}
 use Rattle.validate_types.specs.Refusal.{Refusal}
-use Rattle.validate_types.specs.declared.types.ValType.{ValType}
 use Rattle.validation_rules.specs.Context.{Context}
 use Rattle.validation_rules.specs.Rows.{Operator}
 use Rattle.validate_stacks.specs.Pops.{IsKept}
@@ -48,3 +47,9 @@ set_valid_in md b i (f ∷ fs) v e h =
 
 pub set_valid : (md : ModuleContext) (i : ℕ) (v : BodyState) → IsValid md v → IsValid md (local_set i v)
 set_valid md i v h = set_valid_in md (is_set_in v i) i v.present.frames v refl h
+
+-- another row with the same step
+pub meets_as : (md : ModuleContext) (op op' : Context → Operator) (offset : ℕ) (v w : BodyState) (r : Result (Unit {0}) Refusal) → step_body md op v ≡ step_body md op' v → Meets md op offset v r w → Meets md op' offset v r w
+unfolding Meets
+meets_as md op op' offset v w (Ok u) same m = record { accepted = sym same ∙ m.accepted; refused = tt; at_offset = tt; valid = m.valid; kept = m.kept }
+meets_as md op op' offset v w (Err e) same m = record { accepted = tt; refused = λ f. sym same ∙ m.refused f; at_offset = m.at_offset; valid = m.valid; kept = m.kept }

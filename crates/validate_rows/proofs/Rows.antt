@@ -1,5 +1,5 @@
 -- The steps that checks make come to the static step of a row.
-use Rattle.std.proofs.Common.{◌≡◌, ◌≢◌, ℕ, zero, suc, Bool, true, false, ◌&&◌, ◌||◌, nat_le, List, [], ◌∷◌, map, reverse, length, drop, slice_get, Option, Some, None, refl, sym, ap, ap₂, ◌∙◌, subst}
+use Rattle.std.proofs.Common.{◌≡◌, ◌≢◌, ℕ, suc, Bool, true, false, ◌&&◌, ◌||◌, nat_le, List, [], ◌∷◌, map, reverse, length, slice_get, Option, Some, None, refl, sym, ap, ap₂, ◌∙◌}
 use Rattle.std.specs.Option.{option_map}
 use Rattle.std.proofs.Math.Dec.{leb-suc-suc, leb-suc-zero, leb-zero}
 use Rattle.std.proofs.lemmas.List.{length-reverse}
@@ -9,11 +9,11 @@ use Rattle.validate_types.specs.declared.types.ValType.{ValType}
 use Rattle.validate_visit.specs.declared.frame.BlockType.{BlockType}
 use Rattle.validate_visit.specs.declared.frame.Frame.{Frame as FlatFrame}
 use Rattle.validation_rules.specs.Context.{Context, block_signature, is_set_at_entry}
-use Rattle.validation_rules.specs.Fits.{MaybeType, Bottom, Known, fits, all_fit}
-use Rattle.validation_rules.specs.Rows.{FrameKind, Else, is_if, Head, params, results, Flat, Ends, Plain, Row, Operator, guard}
-use Rattle.validation_rules.specs.Static.{Frame, State, onto, on_top, found, below_top, closes, opened, given_over, if_fits, pushes_at, then_after, step, step_in, heads, set_in, has, is_set, reads_set, joined, first_set_after}
+use Rattle.validation_rules.specs.Fits.{MaybeType, Known, fits, all_fit}
+use Rattle.validation_rules.specs.Rows.{FrameKind, Else, is_if, Head, params, results, Flat, Ends, Row, Operator, guard}
+use Rattle.validation_rules.specs.Static.{Frame, State, onto, on_top, found, below_top, closes, opened, given_over, if_fits, then_after, step, step_in, set_in, has, is_set, reads_set, joined, first_set_after}
 use Rattle.validation_rules.specs.Table.{plain, looking, drops, alike, closing, local_or, local_get, local_set, local_tee}
-use Rattle.validation_rules.proofs.Pops.{and_false, and_true_right, onto-turned, length-onto, fit_turned, on_top_nothing}
+use Rattle.validation_rules.proofs.Pops.{and_false, fit_turned}
 use Rattle.validate_stacks.specs.Blocks.{close_frame, close_in, entered, head_of, closes_as_if}
 use Rattle.validate_stacks.specs.Pops.{popped_each, pushed_each, IsKept}
 use Rattle.validate_stacks.specs.State.{BodyState, context}

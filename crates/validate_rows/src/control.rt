@@ -1,5 +1,5 @@
-//! Operators on control and on any operand (WebAssembly core specification, "Control instructions",
-//! "Parametric instructions").
+//! Operators on control and on any operand (WebAssembly core specification, "Control Instructions",
+//! "Parametric Instructions").
 
 ghost use Rattle.std.specs.Prelude.{◌≡◌, true, false, [], OnOk, IfErr};
 ghost use Rattle.validation_rules.specs.Rows.{Ends, is_if};

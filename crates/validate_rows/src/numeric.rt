@@ -1,4 +1,4 @@
-//! Numeric operators, by shape (WebAssembly core specification, "Numeric instructions").
+//! Numeric operators, by shape (WebAssembly core specification, "Numeric Instructions").
 
 ghost use Rattle.std.specs.Prelude.{◌≡◌, true};
 ghost use Rattle.validate_resources.specs.Context.{is_number};

@@ -1,4 +1,4 @@
-//! Operators on locals (WebAssembly core specification, "Variable instructions").
+//! Operators on locals (WebAssembly core specification, "Variable Instructions").
 
 ghost use Rattle.std.specs.Prelude.{◌≡◌, ◌<◌, true, false, None, Some, IfOk, OnOk, IfErr, length, slice_get};
 ghost use Rattle.validate_resources.specs.Context.{ModuleContext};

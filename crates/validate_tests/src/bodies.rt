@@ -1,37 +1,15 @@
 //! Bodies, checked by `check_ops`: what is accepted, what is refused and in which words, and the
 //! heights between operators.
 
-ghost use Rattle.std.specs.Prelude.{◌≡◌};
-ghost use Rattle.std.specs.List.{list_all};
-ghost use Rattle.wasmparser_validate.specs.Immediates.{module_immediates};
-
+use crate::expect::{Wanted, expect_answer};
 use crate::fixture::{module, validator};
 use std::process::Abort;
 use std::test::Fail;
-use wasmparser_validate::operators::check_ops;
 use wasmparser_validate::types::ValType;
-use wasmparser_validate::visit::{
-    ControlOp, NumericOp, Op, has_module_immediates, is_well_ordered,
-};
+use wasmparser_validate::visit::{ControlOp, NumericOp, Op};
 
-/// What a check of a list is to answer.
-#[derive(Clone, Copy)]
-enum Wanted<'a> {
-    /// `Ok` of whether the outermost frame is closed.
-    Answer(bool),
-    /// The refusal of this operator, in these words.
-    Refusal(usize, &'a str),
-}
-
-fn all_have_module_immediates(ops: &[(Op, u64)]) -> bool
-    ensures { result ≡ list_all (λ (p : _). module_immediates p.0) ops.now }
-{
-    ops.iter().all(|pair| has_module_immediates(&pair.0))
-}
-
-/// Checks a body of type `[params] -> [results]` with a local of type i64 behind its parameters, each
-/// operator's offset being its place and 100, and compares the answer, the heights and the types of
-/// the operands that it leaves, the top first.
+/// What a check answers of a body of type `[params] -> [results]` with a local of type i64 behind its
+/// parameters.
 fn expect_check(
     rt: &(impl Abort + AllocGlobal),
     params: &[ValType],
@@ -44,35 +22,7 @@ fn expect_check(
     let lists = module(rt, params, results)?;
     let mut v = validator(rt, &lists)?;
     v.define_locals(0, 1, ValType::I64, &lists)?;
-    let mut list = Vec::new(rt.alloc());
-    let mut offset: u64 = 100;
-    for op in ops {
-        list.push((*op, offset))?;
-        offset = offset.saturating_add(1);
-    }
-    let list = list.as_slice();
-    if !is_well_ordered(list) || !all_have_module_immediates(list) {
-        assert!(rt; false, "a list that is out of order");
-        return Ok(());
-    }
-    let mut noted = Vec::new(rt.alloc());
-    match (check_ops(&mut v, list, &lists, &mut noted), wanted) {
-        (Ok(closed), Wanted::Answer(wanted)) => assert_eq!(rt; closed, wanted),
-        (Err((place, refusal)), Wanted::Refusal(wanted, text)) => {
-            assert_eq!(rt; place, wanted);
-            assert_eq!(rt; refusal.message(), text);
-            assert_eq!(rt; refusal.offset(), 100 + wanted as u64);
-            assert!(rt; !refusal.is_out_of_memory());
-        }
-        (Ok(_), Wanted::Refusal(..)) => assert!(rt; false, "accepted"),
-        (Err(_), Wanted::Answer(_)) => assert!(rt; false, "refused"),
-    }
-    assert_eq!(rt; noted.as_slice(), heights);
-    assert_eq!(rt; v.operand_stack_height(), left.len());
-    for (depth, ty) in left.iter().enumerate() {
-        assert_eq!(rt; v.peek_operand_at(depth), Some(Some(*ty)));
-    }
-    Ok(())
+    expect_answer(rt, &mut v, &lists, ops, wanted, heights, left)
 }
 
 const I32_CONST: Op = Op::Numeric(NumericOp::I32Const(7));

@@ -4,9 +4,13 @@
 #![tactic(auto)]
 
 #[cfg(test)]
+mod blocks;
+#[cfg(test)]
 mod bodies;
 #[cfg(test)]
 mod declared;
+#[cfg(test)]
+mod expect;
 #[cfg(test)]
 mod fixture;
 #[cfg(test)]

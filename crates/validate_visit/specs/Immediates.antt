@@ -1,10 +1,12 @@
 -- Which immediates a module can have: no type holds an id, and each number lies in the range of its
 -- type (WebAssembly core specification, "Instructions").
 use Rattle.std.specs.Prelude.{ℕ, ℤ, pos, negsuc, Bool, true, ◌^◌, nat_lt}
+use Rattle.validate_visit.specs.declared.frame.BlockType.{BlockType}
+use Rattle.validate_visit.specs.declared.frame.BlockType.TheVariants.{Empty, Val, FuncType}
 use Rattle.validate_visit.specs.declared.op.Op.{Op}
 use Rattle.validate_visit.specs.declared.op.Op.TheVariants.{Control, Numeric}
 use Rattle.validate_visit.specs.declared.op.ControlOp.{ControlOp}
-use Rattle.validate_visit.specs.declared.op.ControlOp.TheVariants.{LocalGet, LocalSet, LocalTee}
+use Rattle.validate_visit.specs.declared.op.ControlOp.TheVariants.{Nop, Block, End, Drop, LocalGet, LocalSet, LocalTee}
 use Rattle.validate_visit.specs.declared.op.NumericOp.{NumericOp}
 use Rattle.validate_visit.specs.declared.op.NumericOp.TheVariants.{I32Const, I64Const}
 
@@ -17,11 +19,20 @@ abbrev pub is_signed : ℕ → ℤ → Bool
 is_signed bits (pos n) = nat_lt n (2 ^ bits)
 is_signed bits (negsuc n) = nat_lt n (2 ^ bits)
 
+-- a block type is nothing, a type without an index, or the index of a function type
+abbrev pub block_immediates : BlockType → Bool
+block_immediates Empty = true
+block_immediates (Val t) = true
+block_immediates (FuncType i) = is_index i
+
 abbrev pub control_immediates : ControlOp → Bool
+control_immediates Nop = true
+control_immediates (Block bt) = block_immediates bt
+control_immediates End = true
+control_immediates Drop = true
 control_immediates (LocalGet i) = is_index i
 control_immediates (LocalSet i) = is_index i
 control_immediates (LocalTee i) = is_index i
-control_immediates _ = true
 
 abbrev pub numeric_immediates : NumericOp → Bool
 numeric_immediates (I32Const n) = is_signed 31 n

@@ -1,5 +1,5 @@
--- Which lists of operators are well ordered (WebAssembly core specification, "Structured control
--- instructions"; the parts of a legacy `try` are those of the legacy exceptions). This is a property of
+-- Which lists of operators are well ordered (WebAssembly core specification, "Control
+-- Instructions"; the parts of a legacy `try` are those of the legacy exceptions). This is a property of
 -- what each operator does to the open parts.
 use Rattle.std.specs.Prelude.{Bool, true, false, ◌&&◌, List, [], ◌∷◌, map}
 use Rattle.validate_visit.specs.declared.frame.FrameKind.{FrameKind}
@@ -7,7 +7,7 @@ use Rattle.validate_visit.specs.declared.frame.FrameKind.TheVariants.{Block, If,
 use Rattle.validate_visit.specs.declared.op.Op.{Op}
 use Rattle.validate_visit.specs.declared.op.Op.TheVariants.{Control, Numeric}
 use Rattle.validate_visit.specs.declared.op.ControlOp.{ControlOp}
-use Rattle.validate_visit.specs.declared.op.ControlOp.TheVariants.{End}
+use Rattle.validate_visit.specs.declared.op.ControlOp.TheVariants.{Block as BlockOp, End}
 
 -- What an operator does to the open parts. A `catch` begins another part, a `catch_all` too (`all`).
 pub data Nesting : Type 0 where
@@ -17,6 +17,11 @@ pub data Nesting : Type 0 where
   BeginsCatch : (all : Bool) → Nesting
   Ends : Nesting
   Delegates : Nesting
+
+-- an operator that opens a part
+abbrev pub is_opening : Nesting → Bool
+is_opening (Opens kind) = true
+is_opening _ = false
 
 -- an operator that closes the innermost part
 abbrev pub is_closing : Nesting → Bool
@@ -62,6 +67,7 @@ is_ordered_from [] (n ∷ ns) = false
 is_ordered_from (k ∷ ks) (n ∷ ns) = reads_on k ks n (λ js. is_ordered_from js ns)
 
 abbrev pub control_nesting : ControlOp → Nesting
+control_nesting (BlockOp bt) = Opens Block
 control_nesting End = Ends
 control_nesting _ = Flat
 

@@ -1,13 +1,17 @@
 //! Operators as data, grouped.
 
 ghost use Rattle.std.specs.Prelude.{◌≡◌};
-ghost use Rattle.validate_visit.specs.Immediates.{module_immediates, control_immediates, numeric_immediates, is_index};
+ghost use Rattle.validate_visit.specs.Immediates.{module_immediates, control_immediates, block_immediates, numeric_immediates, is_index};
+
+use crate::frame::BlockType;
 
 /// Operators on control and variables, and on operands of any type.
 #[derive(Clone, Copy, Debug, PartialEq, Eq)]
 pub enum ControlOp {
     /// `nop`
     Nop,
+    /// `block` of this type.
+    Block(BlockType),
     /// `end`
     End,
     /// `drop`
@@ -71,7 +75,17 @@ fn has_control_immediates(op: ControlOp) -> bool
         ControlOp::LocalGet(index) | ControlOp::LocalSet(index) | ControlOp::LocalTee(index) => {
             is_in_range(index)
         }
+        ControlOp::Block(block_type) => has_block_immediates(block_type),
         _ => true,
+    }
+}
+
+fn has_block_immediates(block_type: BlockType) -> bool
+    ensures { result ≡ block_immediates block_type }
+{
+    match block_type {
+        BlockType::FuncType(index) => is_in_range(index),
+        BlockType::Empty | BlockType::Val(_) => true,
     }
 }
 

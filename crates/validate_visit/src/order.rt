@@ -1,7 +1,7 @@
 //! Which lists of operators are well ordered.
 
-ghost use Rattle.std.specs.Prelude.{◌≡◌, map};
-ghost use Rattle.validate_visit.specs.Order.{is_well_ordered_list, is_closing, nesting};
+ghost use Rattle.std.specs.Prelude.{◌≡◌, ◌+◌, ◌<◌, ◌≤◌, ◌^◌, true, false, map};
+ghost use Rattle.validate_visit.specs.Order.{is_well_ordered_list, is_opening, is_closing, nesting};
 
 use crate::op::{ControlOp, Op};
 
@@ -19,16 +19,23 @@ pub fn is_well_ordered(ops: &[(Op, u64)]) -> bool
         if open == 0 {
             return false;
         }
-        if closes(op) {
-            open -= 1;
-        }
+        open = open_after(op, open);
     }
     true
 }
 
-/// Whether the operator closes the innermost part.
-fn closes(op: Op) -> bool
-    ensures { result ≡ is_closing (nesting op) }
+/// How many parts are open after the operator, of so many before it.
+fn open_after(op: Op, parts: usize) -> usize
+    requires some { 0 < parts }
+    requires few { parts < 2 ^ 63 }
+    ensures opened { is_opening (nesting op) ≡ true → result ≡ parts + 1 }
+    ensures closed { is_closing (nesting op) ≡ true → result + 1 ≡ parts }
+    ensures at_most { result ≤ parts + 1 }
+    ensures same { is_opening (nesting op) ≡ false → is_closing (nesting op) ≡ false → result ≡ parts }
 {
-    matches!(op, Op::Control(ControlOp::End))
+    match op {
+        Op::Control(ControlOp::Block(_)) => parts + 1,
+        Op::Control(ControlOp::End) => parts - 1,
+        _ => parts,
+    }
 }

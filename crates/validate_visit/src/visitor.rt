@@ -2,6 +2,7 @@
 
 ghost use Rattle.validate_visit.specs.declared.op.Op.{Op};
 
+use crate::frame::BlockType;
 use crate::op::{ControlOp, NumericOp, Op};
 
 /// Visits operators (wasmparser's `VisitOperator`): one call for each operator, with its immediates.
@@ -22,6 +23,11 @@ pub trait VisitOperator {
     fn visit_nop(&mut self) -> Self::Output
         requires { can_visit self.old (Op.Control ControlOp.Nop) }
         ensures { visits self.old (Op.Control ControlOp.Nop) result self.new };
+
+    /// `block`
+    fn visit_block(&mut self, ty: BlockType) -> Self::Output
+        requires { can_visit self.old (Op.Control (ControlOp.Block ty)) }
+        ensures { visits self.old (Op.Control (ControlOp.Block ty)) result self.new };
 
     /// `end`
     fn visit_end(&mut self) -> Self::Output

@@ -1,17 +1,17 @@
 -- A list whose rows all hold is well ordered: the rows of `else`, `catch`, `catch_all` and `delegate`
 -- ask for the kind of the innermost frame, so type safety needs no premise on the order.
-use Rattle.std.proofs.Common.{◌≡◌, ℕ, Bool, true, List, [], ◌∷◌, length, map, Some, refl, sym, ap, ◌∙◌, subst}
+use Rattle.std.proofs.Common.{◌≡◌, ℕ, Bool, true, List, [], ◌∷◌, length, map, Option, Some, None, refl, sym, ap, ◌∙◌, subst}
 use Rattle.validate_visit.specs.Order.{Nesting, is_ordered_from, nesting, reads_on, control_nesting}
 use Rattle.validate_visit.specs.declared.op.Op.{Op}
 use Rattle.validate_visit.specs.declared.op.Op.TheVariants.{Control, Numeric}
 use Rattle.validate_visit.specs.declared.op.ControlOp.{ControlOp}
-use Rattle.validate_visit.specs.declared.op.ControlOp.TheVariants.{End}
-use Rattle.validation_rules.specs.Context.{ValType, Context}
+use Rattle.validate_visit.specs.declared.op.ControlOp.TheVariants.{Block as BlockOp, End}
+use Rattle.validation_rules.specs.Context.{ValType, BlockType, Context}
 use Rattle.validation_rules.specs.Fits.{MaybeType}
 use Rattle.validation_rules.specs.Rows.{FrameKind, Block, Head, results, is_if, is_try, may_catch, Form, Flat, Opens, BeginsElse, BeginsCatch, Ends, Delegates, Row, Operator}
 use Rattle.validation_rules.specs.Static.{Frame, State, heads, set_in, pushes_at, given_over, after_over, step_in, before, start}
 use Rattle.validation_rules.specs.Order.{nesting_of, RowsHold, RowsAreOrdered, BodiesAreOrdered}
-use Rattle.validation_rules.specs.Table.{operator, control_operator, body}
+use Rattle.validation_rules.specs.Table.{checked_block, opener, operator, control_operator, body}
 use Rattle.validation_rules.proofs.Below.{and_true, true_and}
 use Rattle.validation_rules.proofs.Steps.{guard_some, bind_some, stepped}
 
@@ -51,7 +51,12 @@ rows_are_ordered cx code ty h = ordered cx code (start ty).frames [] h
 
 -- ---- the operators of the table
 
+opener_nests : (cx : Context) (kind : FrameKind) (declared : BlockType) (o : Option BlockType) → nesting_of (opener cx kind declared o).form ≡ Nesting.Opens kind
+opener_nests cx kind declared (Some bt) = refl
+opener_nests cx kind declared None = refl
+
 control_nests : (cx : Context) (op : ControlOp) → nesting_of (control_operator cx op).form ≡ control_nesting op
+control_nests cx (BlockOp bt) = opener_nests cx Block bt (checked_block cx bt)
 control_nests cx End = refl
 control_nests cx _ = refl
 

@@ -1,19 +1,21 @@
 -- Every step keeps the state valid.
-use Rattle.std.proofs.Common.{◌≡◌, ℕ, zero, suc, Bool, true, false, ◌&&◌, List, [], ◌∷◌, map, drop, Option, Some, None, refl, sym, subst, slice_get}
+use Rattle.std.proofs.Common.{◌≡◌, ℕ, zero, suc, Bool, true, false, not, ◌&&◌, ◌||◌, List, [], ◌∷◌, map, drop, Option, Some, None, refl, sym, subst, slice_get}
 use Rattle.std.specs.List.{AllByRecursion}
+use Rattle.std.specs.Option.{option_map}
+use Rattle.validate_types.specs.Features.{has, multi_value}
 use Rattle.validate_resources.specs.Context.{IsLawful, Valid}
 use Rattle.validate_visit.specs.declared.op.Op.{Op}
 use Rattle.validate_visit.specs.declared.op.Op.TheVariants.{Control, Numeric}
 use Rattle.validate_visit.specs.declared.op.ControlOp.{ControlOp}
-use Rattle.validate_visit.specs.declared.op.ControlOp.TheVariants.{Nop, End, Drop, LocalGet, LocalSet, LocalTee}
+use Rattle.validate_visit.specs.declared.op.ControlOp.TheVariants.{Nop, Block as BlockOp, End, Drop, LocalGet, LocalSet, LocalTee}
 use Rattle.validate_visit.specs.declared.op.NumericOp.{NumericOp}
 use Rattle.validate_visit.specs.declared.op.NumericOp.TheVariants.{I32Const}
 use Rattle.validation_rules.specs.Context.{ModuleContext, SubType, ValType, BlockType, Empty, Val, FuncType, Context, block_signature, declared_signature}
 use Rattle.validation_rules.specs.Fits.{MaybeType, Known}
-use Rattle.validation_rules.specs.Rows.{Head, params, results, Form, Flat, Opens, BeginsElse, BeginsCatch, Ends, Delegates, Plain, Row, Operator, gives, takes, guard}
+use Rattle.validation_rules.specs.Rows.{FrameKind, Block, Head, params, results, Form, Flat, Opens, BeginsElse, BeginsCatch, Ends, Delegates, Plain, Row, Operator, gives, takes, guard}
 use Rattle.validation_rules.specs.Static.{Frame, State, heads, set_in, onto, on_top, found, below_top, pushes_at, pushes_by, own_after, given_over, after_over, step, step_in, before, start}
-use Rattle.validation_rules.specs.Table.{alike, closing, looking, drops, local_or, control_operator, numeric_row, operator, body}
-use Rattle.validation_rules.specs.Valid.{OperandIsValid, BlockIsValid, FrameIsValid, HeadIsValid, PushesValid, StateIsValid, StepsKeepValid, TableKeepsValid}
+use Rattle.validation_rules.specs.Table.{may_name, checked_block, opener, alike, closing, looking, drops, local_or, control_operator, numeric_row, operator, body}
+use Rattle.validation_rules.specs.Valid.{OperandIsValid, Resolves, BlockIsValid, FrameIsValid, HeadIsValid, PushesValid, StateIsValid, StepsKeepValid, TableKeepsValid}
 use Rattle.validation_rules.proofs.Below.{and_true}
 use Rattle.validation_rules.proofs.Steps.{some_injective, guard_some, bind_some, stepped}
 
@@ -173,8 +175,48 @@ module _ (cx : Context) (laws : IsLawful cx.of_module) where
   local_valid None reads sets wanted push h = plain_valid false None None [] [] false (λ p. tt)
   local_valid (Some t) reads sets wanted push h = plain_valid true reads sets (wanted t) (push t) false (λ p. h t refl)
 
+  shared_by : (a b : Bool) → (not a || b) ≡ true → a ≡ true → b ≡ true
+  shared_by true b h e = h
+  shared_by false b h e = absurd cc
+
+  named_resolves : (i : ℕ) (o : Option SubType) → cx.of_module.type_at i ≡ o → may_name cx o ≡ true → Resolves cx.of_module cx.shared i
+  named_resolves i (Some s) e h = record { type = s; is_there = e; is_shared = shared_by cx.shared s.composite_type.shared h }
+  named_resolves i None e h = absurd cc
+
+  value_valid : (t : ValType) (o : Option ValType) → cx.of_module.canonical cx.features t ≡ o → (bt : BlockType) → option_map (λ u. Val u) o ≡ Some bt → BlockIsValid cx.of_module cx.shared bt
+  value_valid t (Some u) e bt h = subst (λ b. BlockIsValid cx.of_module cx.shared b) (some_injective _ _ h) (laws.checked cx.features t u e)
+  value_valid t None e bt h = absurd cc
+
+  -- a block type that passed its check
+  pub checked_valid : (declared bt : BlockType) → checked_block cx declared ≡ Some bt → BlockIsValid cx.of_module cx.shared bt
+  checked_valid Empty bt h = subst (λ b. BlockIsValid cx.of_module cx.shared b) (some_injective _ _ h) tt
+  checked_valid (Val t) bt h = value_valid t (cx.of_module.canonical cx.features t) refl bt h
+  checked_valid (FuncType i) bt h =
+      let g = guard_some _ _ _ h in
+      subst (λ b. BlockIsValid cx.of_module cx.shared b) (some_injective _ _ g.1) (named_resolves i (cx.of_module.type_at i) refl (and_true (has cx.features multi_value) _ g.0).1)
+
+  nothing_pushed : (pushed : List MaybeType) (b : Bool) → guard b (Some []) ≡ Some pushed → Operands pushed
+  nothing_pushed pushed b g = subst (λ ys. AllByRecursion (OperandIsValid cx.of_module) ys) (some_injective _ _ (guard_some _ _ _ g).1) tt
+
+  opener_valid : (kind : FrameKind) (declared : BlockType) (o : Option BlockType) → checked_block cx declared ≡ o → PushesValid cx (opener cx kind declared o)
+  opener_valid kind declared (Some bt) e =
+      record {
+        pushed = λ hs xs pushed p v f g. nothing_pushed pushed _ g;
+        opened = λ hs k p i.
+            let d : record { kind = kind; block_type = bt } ≡ k = cc in
+            subst (λ (h : Head). BlockIsValid cx.of_module cx.shared h.block_type) d (checked_valid declared bt e);
+        begun = λ hs all types p i. absurd cc;
+      }
+  opener_valid kind declared None e =
+      record {
+        pushed = λ hs xs pushed p v f g. absurd cc;
+        opened = λ hs k p i. absurd cc;
+        begun = λ hs all types p i. absurd cc;
+      }
+
   control_valid : (op : ControlOp) → AllByRecursion (Valid cx.of_module) cx.locals → PushesValid cx (control_operator cx op)
   control_valid Nop l = plain_valid _ _ _ _ [] _ (λ p. tt)
+  control_valid (BlockOp bt) l = opener_valid Block bt (checked_block cx bt) refl
   control_valid End l = end_valid
   control_valid Drop l = drop_valid
   control_valid (LocalGet i) l = local_valid (slice_get cx.locals i) (Some i) None (λ t. []) (λ t. t ∷ []) (λ t e. (get_valid cx.locals i t l e, tt))

@@ -41,7 +41,7 @@ abbrev pub declared_signature : Option SubType → Signature
 declared_signature (Some s) = signature_of s
 declared_signature None = empty_signature
 
--- what a block type stands for (Specification, "Validation: Block types"); nothing, where it names no type
+-- what a block type stands for (Specification, "Validation: Block Types"); nothing, where it names no type
 abbrev pub block_signature : ModuleContext → BlockType → Signature
 block_signature md Empty = empty_signature
 block_signature md (Val t) = record { params = []; results = t ∷ [] }

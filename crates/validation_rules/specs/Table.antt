@@ -1,15 +1,17 @@
 -- The table of operators: the row of each, in the context of a body (WebAssembly core specification,
 -- "Validation: Instructions").
-use Rattle.std.specs.Prelude.{ℕ, Bool, true, false, List, [], ◌∷◌, Option, Some, None, map, slice_get}
+use Rattle.std.specs.Prelude.{ℕ, Bool, true, false, not, ◌&&◌, ◌||◌, List, [], ◌∷◌, Option, Some, None, map, slice_get}
+use Rattle.std.specs.Option.{option_map}
+use Rattle.validate_types.specs.Features.{has, multi_value}
 use Rattle.validate_visit.specs.declared.op.Op.{Op}
 use Rattle.validate_visit.specs.declared.op.Op.TheVariants.{Control, Numeric}
 use Rattle.validate_visit.specs.declared.op.ControlOp.{ControlOp}
-use Rattle.validate_visit.specs.declared.op.ControlOp.TheVariants.{Nop, End, Drop, LocalGet, LocalSet, LocalTee}
+use Rattle.validate_visit.specs.declared.op.ControlOp.TheVariants.{Nop, Block as BlockOp, End, Drop, LocalGet, LocalSet, LocalTee}
 use Rattle.validate_visit.specs.declared.op.NumericOp.{NumericOp}
 use Rattle.validate_visit.specs.declared.op.NumericOp.TheVariants.{I32Const, I64Const, I32Eqz, I32Add, I32Sub, I32Mul, I64Add, I64Sub, I64Mul}
-use Rattle.validation_rules.specs.Context.{ValType, I32, I64, Context}
+use Rattle.validation_rules.specs.Context.{SubType, ValType, I32, I64, BlockType, Empty, Val, FuncType, Context, block_signature}
 use Rattle.validation_rules.specs.Fits.{MaybeType}
-use Rattle.validation_rules.specs.Rows.{Form, Flat, Ends, Plain, Looks, Row, Operator}
+use Rattle.validation_rules.specs.Rows.{FrameKind, Block, Form, Flat, Opens, Ends, guard, Plain, Looks, Row, Operator}
 
 -- ---- rows of one shape
 
@@ -61,10 +63,35 @@ abbrev pub drops : List MaybeType → Option (List MaybeType)
 drops (x ∷ []) = Some []
 drops _ = None
 
+-- ---- blocks
+
+-- the type is declared, and shared in a shared function
+abbrev pub may_name : Context → Option SubType → Bool
+may_name cx (Some s) = not cx.shared || s.composite_type.shared
+may_name cx None = false
+
+-- A block type as a frame keeps it, if it passes: a value type in its canonical form, a function type
+-- where `multi_value` is on.
+abbrev pub checked_block : Context → BlockType → Option BlockType
+checked_block cx Empty = Some Empty
+checked_block cx (Val t) = option_map (λ u. Val u) (cx.of_module.canonical cx.features t)
+checked_block cx (FuncType i) = guard (has cx.features multi_value && may_name cx (cx.of_module.type_at i)) (Some (FuncType i))
+
+-- an operator that takes the parameters and opens a frame over them
+abbrev pub opens : Context → FrameKind → Bool → BlockType → Operator
+opens cx kind premise bt =
+    record { form = Opens (record { kind = kind; block_type = bt }); row = λ hs. plain premise (block_signature cx.of_module bt).params [] }
+
+-- with the block type that its check answered
+abbrev pub opener : Context → FrameKind → BlockType → Option BlockType → Operator
+opener cx kind declared (Some bt) = opens cx kind true bt
+opener cx kind declared None = opens cx kind false declared
+
 -- ---- the groups
 
 abbrev pub control_operator : Context → ControlOp → Operator
 control_operator cx Nop = alike (plain true [] [])
+control_operator cx (BlockOp bt) = opener cx Block bt (checked_block cx bt)
 control_operator cx End = closing Ends true
 control_operator cx Drop = alike (looking true 1 drops)
 control_operator cx (LocalGet i) = alike (local_get cx i)

@@ -1,15 +1,15 @@
 -- Parameters are declared one by one.
-use Rattle.std.proofs.Common.{◌≡◌, ℕ, suc, ◌+◌, ◌<◌, ◌≤◌, Bool, true, List, [], ◌∷◌, ◌++◌, map, length, take, get_or, refl, sym, ap, ap₂, ◌∙◌, append_assoc, append-nil, length-append, arith, subst, Some, Result, Ok, Err, IfOk}
+use Rattle.std.proofs.Common.{◌≡◌, ℕ, ◌+◌, ◌<◌, Bool, true, List, [], ◌∷◌, ◌++◌, map, length, take, get_or, refl, sym, ap, ap₂, ◌∙◌, append_assoc, append-nil, length-append, arith, subst, Some, Result, Ok, Err, IfOk}
 use Rattle.std.proofs.lemmas.List.{take_more, length-take-le, map-append}
-use Rattle.validate_resources.specs.Context.{ModuleContext, IsLawful}
+use Rattle.validate_resources.specs.Context.{ModuleContext, IsLawful, Valid}
 use Rattle.validate_types.specs.Refusal.{Refusal}
 use Rattle.validate_types.specs.declared.features.WasmFeatures.{WasmFeatures}
 use Rattle.validate_types.specs.declared.types.SubType.{SubType}
 use Rattle.validate_types.specs.declared.types.ValType.{ValType}
-use Rattle.validate_visit.specs.declared.frame.BlockType.TheVariants.{FuncType}
+use Rattle.validate_visit.specs.declared.frame.BlockType.TheVariants.{Val, FuncType}
 use Rattle.validate_stacks.specs.State.{BodyState, IsStarting}
 use Rattle.validate_stacks.specs.Steps.{with_locals}
-use Rattle.wasmparser_validate.specs.Start.{state, with_params, func_start}
+use Rattle.wasmparser_validate.specs.Start.{state, with_params, func_start, const_start}
 use Rattle.wasmparser_validate.specs.declared.operators.validator.OperatorValidator.{OperatorValidator}
 
 abbrev all_set : List ValType → List Bool
@@ -48,3 +48,13 @@ func_starts md features i s laws h =
 pub starting_func : (md : ModuleContext) (features : WasmFeatures) (i : ℕ) (s : SubType) (r : Result OperatorValidator Refusal) → IsLawful md → md.type_at i ≡ Some s → IfOk r (λ v. state v ≡ func_start features i s) → IfOk r (λ v. IsStarting md (state v))
 starting_func md features i s (Err e) laws h k = tt
 starting_func md features i s (Ok v) laws h k = subst (IsStarting md) (sym k) (func_starts md features i s laws h)
+
+-- so is the state that a constant expression starts in
+pub const_starts : (md : ModuleContext) (features : WasmFeatures) (ty : ValType) (w : BodyState) → w ≡ const_start features ty → Valid md ty → IsStarting md w
+const_starts md features ty w e h =
+    subst (IsStarting md) (sym e)
+    (record {
+      block_type = Val ty;
+      one_frame = refl;
+      is_valid = record { locals_valid = tt; frames = (record { block = h; own = tt }, tt); left = tt };
+    })

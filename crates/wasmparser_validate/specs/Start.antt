@@ -1,10 +1,10 @@
 -- The states that a validator is made in.
-use Rattle.std.specs.Prelude.{◌≡◌, ◌⊎◌, ℕ, ◌+◌, ◌<◌, ◌++◌, true, List, Option, Some, None, length, map}
+use Rattle.std.specs.Prelude.{◌≡◌, ◌⊎◌, ℕ, ◌+◌, ◌<◌, ◌++◌, true, false, List, [], Some, None, length, map}
 use Rattle.validate_resources.specs.Context.{ModuleContext, signature_of}
 use Rattle.validate_types.specs.declared.features.WasmFeatures.{WasmFeatures}
 use Rattle.validate_types.specs.declared.types.SubType.{SubType}
 use Rattle.validate_types.specs.declared.types.ValType.{ValType}
-use Rattle.validate_visit.specs.declared.frame.BlockType.TheVariants.{FuncType}
+use Rattle.validate_visit.specs.declared.frame.BlockType.TheVariants.{Val, FuncType}
 use Rattle.validation_rules.specs.Static.{start}
 use Rattle.validate_stacks.specs.State.{BodyState}
 use Rattle.validate_stacks.specs.Steps.{with_locals}
@@ -27,6 +27,10 @@ func_start features index type = record {
   locals = (signature_of type).params;
   entry = map (λ _. true) (signature_of type).params;
 }
+
+-- the start of a constant expression: one frame that gives this type, and no locals
+abbrev pub const_start : WasmFeatures → ValType → BodyState
+const_start features ty = record { present = start (Val ty); shared = false; features = features; locals = []; entry = [] }
 
 -- the type at this index, and the state in which a function of it starts
 pub record IsFuncStart (md : ModuleContext) (features : WasmFeatures) (index : ℕ) (v : BodyState) : Type 0 where

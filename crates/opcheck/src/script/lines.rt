@@ -1,6 +1,7 @@
 //! The lines of a script, each for itself.
 
 use crate::failure::LineError;
+use crate::script::Body;
 use crate::script::numbers::read_index;
 use crate::script::operators::read_operator;
 use crate::script::types::{read_type, read_value_type};
@@ -13,8 +14,8 @@ use wasmparser_validate::visit::Op;
 pub enum Line {
     /// `type ..`: the module declares this type.
     SubType(SubType),
-    /// `func N`: the body is that of a function of the type at this index.
-    Function(u32),
+    /// `func N` or `expr T`: what the operators are the body of.
+    Body(Body),
     /// `local N T`: the body has this many more locals of this type.
     Locals(u32, ValType),
     /// An operator of the body.
@@ -32,7 +33,8 @@ pub fn read_line(alloc: Global, words: &[&str]) -> Result<Line, LineError> {
 /// Reads the words of a line that takes no memory.
 fn read_flat_line(words: &[&str]) -> Option<Line> {
     match *words {
-        ["func", type_index] => Some(Line::Function(read_index(type_index)?)),
+        ["func", type_index] => Some(Line::Body(Body::Function(read_index(type_index)?))),
+        ["expr", ty] => Some(Line::Body(Body::Expression(read_value_type(ty)?))),
         ["local", count, ty] => Some(Line::Locals(read_index(count)?, read_value_type(ty)?)),
         _ => read_operator(words).map(Line::Operator),
     }

@@ -1,11 +1,13 @@
 //! Operators by their names.
 
 use crate::script::numbers::{read_i32, read_i64, read_index};
-use wasmparser_validate::visit::{ControlOp, NumericOp, Op};
+use crate::script::types::read_value_type;
+use wasmparser_validate::visit::{BlockType, ControlOp, NumericOp, Op};
 
 /// The operators without immediates, by their names.
 const PLAIN: &[(&str, Op)] = &[
     ("nop", Op::Control(ControlOp::Nop)),
+    ("block", Op::Control(ControlOp::Block(BlockType::Empty))),
     ("end", Op::Control(ControlOp::End)),
     ("drop", Op::Control(ControlOp::Drop)),
     ("i32.eqz", Op::Numeric(NumericOp::I32Eqz)),
@@ -22,7 +24,9 @@ pub fn read_operator(words: &[&str]) -> Option<Op> {
     match *words {
         [name] => plain_operator(name).or_else(|| constant_operator(name, "0")),
         [name, immediate] => {
-            constant_operator(name, immediate).or_else(|| local_operator(name, immediate))
+            constant_operator(name, immediate)
+                .or_else(|| block_operator(name, immediate))
+                .or_else(|| local_operator(name, immediate))
         }
         _ => None,
     }
@@ -42,6 +46,22 @@ fn constant_operator(name: &str, value: &str) -> Option<Op> {
         "i32.const" => Some(Op::Numeric(NumericOp::I32Const(read_i32(value)?))),
         "i64.const" => Some(Op::Numeric(NumericOp::I64Const(read_i64(value)?))),
         _ => None,
+    }
+}
+
+/// The opener of this name, of a block of this type.
+fn block_operator(name: &str, block_type: &str) -> Option<Op> {
+    match name {
+        "block" => Some(Op::Control(ControlOp::Block(read_block_type(block_type)?))),
+        _ => None,
+    }
+}
+
+/// The block type that a word names: a value type, or the index of a function type.
+fn read_block_type(word: &str) -> Option<BlockType> {
+    match read_value_type(word) {
+        Some(ty) => Some(BlockType::Val(ty)),
+        None => read_index(word).map(BlockType::FuncType),
     }
 }
 

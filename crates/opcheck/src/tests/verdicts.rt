@@ -3,7 +3,7 @@
 use super::{expect_bad, expect_body, expect_run};
 use crate::check::check_script;
 use crate::failure::{BadScript, Failure};
-use crate::script::{FunctionLine, Script};
+use crate::script::{Body, BodyLine, Script};
 use std::alloc::{AllocError, Global};
 use std::test::Fail;
 use wasmparser_validate::types::{CompositeInnerType, CompositeType, FuncType, SubType};
@@ -68,8 +68,8 @@ fn names_the_first_cause(rt: HostRuntime) -> Result<(), Fail> {
 fn script_of(alloc: Global, types: usize, operators: &[(Op, u64)]) -> Result<Script, AllocError> {
     let mut script = Script {
         types: Vec::with_capacity(alloc, types)?,
-        function: FunctionLine {
-            type_index: 0,
+        body: BodyLine {
+            body: Body::Function(0),
             offset: 1,
         },
         locals: Vec::new(alloc),

@@ -4,9 +4,9 @@ ghost use Rattle.std.specs.Prelude.{◌≡◌, ◌⊎◌, ◌+◌, ◌<◌, true
 ghost use Rattle.std.specs.Option.{option_copied};
 ghost use Rattle.validation_rules.specs.Static.{operand_count, frame_count};
 ghost use Rattle.validate_stacks.specs.State.{IsStarting};
-ghost use Rattle.validate_resources.specs.Context.{signature_of};
+ghost use Rattle.validate_resources.specs.Context.{ModuleContext, Valid, signature_of};
 ghost use Rattle.validate_stacks.specs.Steps.{peeked, frame_at};
-ghost use Rattle.wasmparser_validate.specs.Start.{state, func_start, with_params, IsFuncStart, HasTooManyParams, DefinesLocals, CannotDefine};
+ghost use Rattle.wasmparser_validate.specs.Start.{state, func_start, const_start, with_params, IsFuncStart, HasTooManyParams, DefinesLocals, CannotDefine};
 
 use validate_locals::Locals;
 use validate_resources::WasmModuleResources;
@@ -53,6 +53,26 @@ impl OperatorValidator {
         match resources.sub_type_at(ty) {
             Some(sub_type) => start_func(ty, sub_type, offset, *features, allocs),
             None => Err(Error::new("unknown type: type index out of bounds", offset)),
+        }
+    }
+
+    /// A validator of a constant expression: one frame that gives a value of this type is open, and
+    /// there are no locals. The type has to be valid and canonical in the lookup of the later visits.
+    /// It refuses for want of memory alone, at offset 0, and gives up the buffers then.
+    pub fn new_const_expr(
+        features: &WasmFeatures,
+        ty: ValType,
+        allocs: OperatorValidatorAllocations,
+    ) -> Result<OperatorValidator, Error>
+        ensures made { IfOk result (λ v. state v ≡ const_start features.now ty) }
+        ensures starting { IfOk result (λ v. (md : ModuleContext) → Valid md ty → IsStarting md (state v)) }
+        ensures memory { IfErr result (λ e. e.memory ≡ true) }
+        ensures offset { IfErr result (λ e. e.offset ≡ 0) }
+    {
+        let mut stacks = Stacks::new(*features, allocs);
+        match stacks.push_bare_ctrl(FrameKind::Block, BlockType::Val(ty)) {
+            Ok(()) => Ok(OperatorValidator { stacks }),
+            Err(_) => Err(Error::out_of_memory(0)),
         }
     }
 

@@ -4,15 +4,17 @@ ghost use Rattle.std.specs.Prelude.{◌≡◌};
 ghost use Rattle.validate_visit.specs.declared.op.Op.{Op};
 ghost use Rattle.validation_rules.specs.Table.{operator};
 ghost use Rattle.validate_stacks.specs.Visits.{MayVisit, Meets};
+ghost use Rattle.wasmparser_validate.specs.Memory.{AnswersNoMemory};
 ghost use Rattle.wasmparser_validate.specs.Start.{state};
 
 use crate::operators::validator::OperatorValidator;
 use validate_resources::WasmModuleResources;
+use validate_rows::blocks::check_block;
 use validate_rows::control::{check_drop, check_end, check_nop};
 use validate_rows::numeric::{check_binary_op, check_const, check_test_op};
 use validate_rows::variables::{check_local_get, check_local_set, check_local_tee};
 use validate_types::{Error, ValType};
-use validate_visit::{ControlOp, NumericOp, Op, VisitOperator};
+use validate_visit::{BlockType, ControlOp, NumericOp, Op, VisitOperator};
 
 /// A validator that is about to visit an operator, with the lookup and the operator's offset
 /// (wasmparser's `WasmProposalValidator`).
@@ -52,10 +54,14 @@ impl<'validator, 'resources, R: WasmModuleResources> VisitOperator
 
     ghost can_visit = { λ v op. MayVisit (R.context v.resources.now) (state v.inner.now) };
 
-    ghost visits = { λ v op answer w. (w.inner.ghost_name ≡ v.inner.ghost_name) × (w.offset ≡ v.offset) × (w.resources ≡ v.resources) × Meets (R.context v.resources.now) (λ cx. operator cx op) v.offset (state v.inner.now) answer (state w.inner.now) };
+    ghost visits = { λ v op answer w. (w.inner.ghost_name ≡ v.inner.ghost_name) × (w.offset ≡ v.offset) × (w.resources ≡ v.resources) × Meets (R.context v.resources.now) (λ cx. operator cx op) v.offset (state v.inner.now) answer (state w.inner.now) × AnswersNoMemory op answer };
 
     fn visit_nop(&mut self) -> Result<(), Error> {
         check_nop(&mut self.inner.stacks, self.resources, self.offset)
+    }
+
+    fn visit_block(&mut self, ty: BlockType) -> Result<(), Error> {
+        check_block(&mut self.inner.stacks, self.resources, self.offset, ty)
     }
 
     fn visit_end(&mut self) -> Result<(), Error> {
@@ -193,6 +199,7 @@ impl<'validator, 'resources, R: WasmModuleResources> WasmProposalValidator<
     {
         match op {
             ControlOp::Nop => self.visit_nop(),
+            ControlOp::Block(ty) => self.visit_block(ty),
             ControlOp::End => self.visit_end(),
             ControlOp::Drop => self.visit_drop(),
             ControlOp::LocalGet(local_index) => self.visit_local_get(local_index),

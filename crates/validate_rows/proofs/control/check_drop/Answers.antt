@@ -1,9 +1,9 @@
-use Rattle.std.proofs.Common.{◌≡◌, ◌⊎◌, inl, inr, Option, None, Some, false, true, refl, sym, ap, ◌∙◌, subst}
+use Rattle.std.proofs.Common.{◌≡◌, inl, inr, Option, None, Some, false, refl, sym, ap, ◌∙◌, subst}
 use Rattle.std.specs.Option.{option_map}
 use Rattle.validation_rules.specs.Context.{Context}
 use Rattle.validation_rules.specs.Fits.{MaybeType}
 use Rattle.validate_stacks.specs.Pops.{passes, IsKept}
-use Rattle.validate_stacks.specs.State.{BodyState, IsValid, context}
+use Rattle.validate_stacks.specs.State.{IsValid, context}
 use Rattle.validate_stacks.specs.Steps.{found, popped}
 use Rattle.validate_stacks.specs.Visits.{Meets}
 use Rattle.validate_stacks.proofs.Validity.{popped_valid, popped_kept}

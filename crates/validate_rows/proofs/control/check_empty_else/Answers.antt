@@ -1,8 +1,8 @@
-use Rattle.std.proofs.Common.{rules, ◌≡◌, None, Some, true, false, sym, ap, ◌∙◌}
+use Rattle.std.proofs.Common.{rules, ◌≡◌, None, true, false, sym, ap, ◌∙◌}
 use Rattle.validation_rules.specs.Rows.{is_if}
 use Rattle.validate_stacks.specs.Blocks.{close_frame, closes_as_if}
 use Rattle.validate_stacks.proofs.Closing.{guarded_some, guarded_none}
-use Rattle.validate_rows.proofs.Rows.{else_is, no_if}
+use Rattle.validate_rows.proofs.Rows.{else_is}
 use Rattle.validate_rows.proofs.control.check_empty_else.Goals as goal
 
 pub returns-in_err-pop_ctrl-clause-refused : goal.returns-in_err-pop_ctrl-clause-refused

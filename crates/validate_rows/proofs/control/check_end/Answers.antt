@@ -1,14 +1,11 @@
-use Rattle.std.proofs.Common.{rules, ◌≡◌, List, [], ◌∷◌, Some, None, true, false, refl, sym, ap, ◌∙◌, subst}
-use Rattle.std.specs.List.{AllByRecursion}
-use Rattle.validate_resources.specs.Context.{Valid}
+use Rattle.std.proofs.Common.{rules, ◌≡◌, None, true, false, sym, ap, ◌∙◌}
 use Rattle.validation_rules.specs.Rows.{Ends}
 use Rattle.validation_rules.specs.Table.{closing}
-use Rattle.validation_rules.specs.Valid.{BlockIsValid}
-use Rattle.validate_stacks.specs.Blocks.{close_frame, closes_as_if}
+use Rattle.validate_stacks.specs.Blocks.{closes_as_if}
 use Rattle.validate_stacks.specs.Pops.{pushed_each}
 use Rattle.validate_stacks.specs.State.{BodyState}
 use Rattle.validate_stacks.specs.Visits.{step_body}
-use Rattle.validate_stacks.proofs.Closing.{block_valid, wants_valid}
+use Rattle.validate_stacks.proofs.Closing.{wants_valid}
 use Rattle.validate_stacks.proofs.Validity.{kept_on}
 use Rattle.validate_rows.proofs.Rows.{end_none, end_refused_if, end_passes, if_by, same_context}
 use Rattle.validate_rows.proofs.Meeting.{meets_last, meets_refused}

@@ -1,4 +1,4 @@
-use Rattle.std.proofs.Common.{◌≡◌, [], refl}
+use Rattle.std.proofs.Common.{[], refl}
 use Rattle.validate_stacks.specs.Visits.{Meets}
 use Rattle.validate_rows.proofs.Rows.{plain_passes}
 use Rattle.validate_rows.proofs.control.check_nop.Goals as goal

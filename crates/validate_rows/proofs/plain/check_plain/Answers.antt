@@ -1,7 +1,5 @@
-use Rattle.std.proofs.Common.{rules, ◌≡◌, reverse, Some, None}
-use Rattle.validation_rules.specs.Table.{plain, alike}
-use Rattle.validate_stacks.specs.Pops.{popped_each, pushed_each}
-use Rattle.validate_stacks.specs.Visits.{step_body}
+use Rattle.std.proofs.Common.{rules}
+use Rattle.validate_stacks.specs.Pops.{pushed_each}
 use Rattle.validate_stacks.proofs.Validity.{kept_on}
 use Rattle.validate_rows.proofs.Rows.{plain_passes, plain_refused}
 use Rattle.validate_rows.proofs.Meeting.{meets_last, meets_refused}

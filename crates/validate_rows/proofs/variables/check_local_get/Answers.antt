@@ -1,13 +1,7 @@
-use Rattle.std.proofs.Common.{rules, ◌≡◌, List, [], ◌∷◌, reverse, Some, None, true, false, refl, sym, ap, ◌∙◌}
-use Rattle.std.specs.Option.{option_map}
+use Rattle.std.proofs.Common.{rules, [], ◌∷◌, Some, refl, sym, ap, ◌∙◌}
 use Rattle.validate_resources.specs.Context.{Valid}
 use Rattle.validation_rules.specs.Rows.{guard}
-use Rattle.validation_rules.specs.Table.{alike, local_get}
-use Rattle.validate_stacks.specs.Pops.{popped_each, pushed_each}
-use Rattle.validate_stacks.specs.State.{BodyState}
-use Rattle.validate_stacks.specs.Steps.{is_set_in, local_set as with_local_set}
-use Rattle.validate_stacks.specs.Visits.{step_body}
-use Rattle.validate_stacks.proofs.Validity.{kept_on}
+use Rattle.validate_stacks.specs.Pops.{pushed_each}
 use Rattle.validate_rows.proofs.Rows.{no_local_get, local_get_is}
 use Rattle.validate_rows.proofs.Meeting.{meets_last, meets_refused, all_get, not_true, not_false}
 use Rattle.validate_rows.proofs.variables.check_local_get.Goals as goal

@@ -1,5 +1,4 @@
-use Rattle.std.proofs.Common.{◌≡◌, refl, sym, subst}
-use Rattle.validate_stacks.specs.Pops.{IsKept}
+use Rattle.std.proofs.Common.{sym, subst}
 use Rattle.validate_stacks.specs.State.{IsValid}
 use Rattle.validate_rows.proofs.Meeting.{set_valid}
 use Rattle.validate_rows.proofs.variables.set_init.Goals as goal

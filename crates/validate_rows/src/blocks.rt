@@ -1,0 +1,98 @@
+//! Operators that open a frame (WebAssembly core specification, "Control Instructions").
+
+ghost use Rattle.std.specs.Prelude.{◌≡◌, true, false, None, Some, ◌&&◌, IfOk, OnOk, IfErr};
+ghost use Rattle.validate_types.specs.Features.{has, multi_value};
+ghost use Rattle.validation_rules.specs.Table.{opener, opens, checked_block, may_name};
+ghost use Rattle.validation_rules.specs.Valid.{BlockIsValid};
+ghost use Rattle.validate_stacks.specs.State.{context};
+ghost use Rattle.validate_stacks.specs.Visits.{MayVisit, Meets};
+
+use validate_resources::WasmModuleResources;
+use validate_stacks::Stacks;
+use validate_stacks::blocks::params;
+use validate_types::Error;
+use validate_visit::{BlockType, FrameKind};
+
+const NEEDS_MULTI_VALUE: &str =
+    "blocks, loops, and ifs may only produce a resulttype when multi-value is not enabled";
+
+/// A function type that a block names: it needs `multi_value`, has to be declared, and in a shared
+/// function has to be shared.
+fn check_function_type<R: WasmModuleResources>(
+    stacks: &Stacks,
+    resources: &R,
+    offset: u64,
+    type_index: u32,
+) -> Result<(), Error>
+    ensures accepted { OnOk result ((has stacks.now.features multi_value && may_name (context (R.context resources.now) stacks.now) ((R.context resources.now).type_at type_index)) ≡ true) }
+    ensures refused { IfErr result (λ e. e.memory ≡ false → (has stacks.now.features multi_value && may_name (context (R.context resources.now) stacks.now) ((R.context resources.now).type_at type_index)) ≡ false) }
+    ensures offset { IfErr result (λ e. e.offset ≡ offset) }
+{
+    if !stacks.features().multi_value() {
+        return Err(Error::new(NEEDS_MULTI_VALUE, offset));
+    }
+    let Some(sub_type) = resources.sub_type_at(type_index) else {
+        return Err(Error::new("unknown type: type index out of bounds", offset));
+    };
+    if stacks.is_shared() && !sub_type.composite_type.shared {
+        return Err(Error::new("shared functions cannot access unshared functions", offset));
+    }
+    Ok(())
+}
+
+/// The block type as a frame keeps it (wasmparser's `check_block_type`): a value type in its
+/// canonical form. It refuses a value type as the lookup does, and a function type where
+/// `multi_value` is off, where no type has its index, and an unshared one in a shared function.
+fn check_block_type<R: WasmModuleResources>(
+    stacks: &Stacks,
+    resources: &R,
+    offset: u64,
+    block_type: BlockType,
+) -> Result<BlockType, Error>
+    ensures checked { IfOk result (λ bt. checked_block (context (R.context resources.now) stacks.now) block_type ≡ Some bt) }
+    ensures refused { IfErr result (λ e. e.memory ≡ false → checked_block (context (R.context resources.now) stacks.now) block_type ≡ None) }
+    ensures offset { IfErr result (λ e. e.offset ≡ offset) }
+{
+    match block_type {
+        BlockType::Empty => Ok(BlockType::Empty),
+        BlockType::Val(ty) => {
+            let mut checked = ty;
+            resources.check_value_type(&mut checked, &stacks.features(), offset)?;
+            Ok(BlockType::Val(checked))
+        }
+        BlockType::FuncType(index) => {
+            check_function_type(stacks, resources, offset, index)?;
+            Ok(BlockType::FuncType(index))
+        }
+    }
+}
+
+/// Takes the parameters of a checked block type and opens a frame over them.
+fn open_frame<R: WasmModuleResources>(
+    stacks: &mut Stacks,
+    resources: &R,
+    offset: u64,
+    kind: FrameKind,
+    block_type: BlockType,
+) -> Result<(), Error>
+    requires visit { MayVisit (R.context resources.now) stacks.old }
+    requires block { BlockIsValid (R.context resources.now) stacks.old.shared block_type }
+    ensures { Meets (R.context resources.now) (λ cx. opens cx kind true block_type) offset stacks.old result stacks.new }
+{
+    stacks.pop_types(resources, offset, params(resources, &block_type))?;
+    stacks.push_ctrl(resources, offset, kind, block_type)
+}
+
+/// `block`: `[params] -> [results]` of its block type, over a frame with the parameters.
+pub fn check_block<R: WasmModuleResources>(
+    stacks: &mut Stacks,
+    resources: &R,
+    offset: u64,
+    block_type: BlockType,
+) -> Result<(), Error>
+    requires { MayVisit (R.context resources.now) stacks.old }
+    ensures { Meets (R.context resources.now) (λ cx. opener cx FrameKind.Block block_type (checked_block cx block_type)) offset stacks.old result stacks.new }
+{
+    let checked = check_block_type(stacks, resources, offset, block_type)?;
+    open_frame(stacks, resources, offset, FrameKind::Block, checked)
+}

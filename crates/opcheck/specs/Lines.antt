@@ -2,12 +2,12 @@
 use Rattle.std.specs.Prelude.{◌≡◌, ◌==◌, ◌++◌, ℕ, List, [], ◌∷◌, Bool, true, false, not, Option, Some, length, is_some, if◌then◌else◌, vec_len}
 use Rattle.std.specs.List.{filter, slice_split}
 use Rattle.validate_types.specs.declared.types.SubType.{SubType}
-use Rattle.validate_visit.specs.declared.op.Op.{Op}
 use Rattle.opcheck.specs.declared.script.BodyLine.{BodyLine}
 use Rattle.opcheck.specs.declared.script.LocalLine.{LocalLine}
 use Rattle.opcheck.specs.declared.script.Draft.{Draft}
 use Rattle.opcheck.specs.declared.script.Part.{Part}
 use Rattle.opcheck.specs.declared.script.Part.TheVariants.{Module, Locals, Operators}
+use Rattle.opcheck.specs.declared.script.owned.OwnedOp.{OwnedOp}
 use Rattle.opcheck.specs.declared.script.lines.Line.{Line}
 use Rattle.opcheck.specs.declared.script.lines.Line.TheVariants.{SubType as OnType, Body as OnBody, Locals as OnLocals, Operator as OnOperator}
 
@@ -38,7 +38,7 @@ abbrev pub locals_of : Line → ℕ → List LocalLine
 locals_of (OnLocals n t) number = record { count = n; ty = t; offset = number } ∷ []
 locals_of _ number = []
 
-abbrev pub operators_of : Line → ℕ → List (Op × ℕ)
+abbrev pub operators_of : Line → ℕ → List (OwnedOp × ℕ)
 operators_of (OnOperator op) number = (op, number) ∷ []
 operators_of _ number = []
 

@@ -1,8 +1,12 @@
 -- Numbers as a script writes them.
-use Rattle.std.specs.Prelude.{ℕ, ℤ, pos, neg_ℤ, List, drop, if◌then◌else◌}
+use Rattle.std.specs.Prelude.{ℕ, ◌<◌, ◌^◌, ℤ, pos, neg_ℤ, List, drop, if◌then◌else◌}
 use Rattle.std.specs.Str.Parse.{IsNumeral, digits_value, starts_with_minus}
 use Rattle.std.specs.Int.RustNames.{FitsSigned}
 use mir.Syntax.{Width}
+
+-- digits that write a number in the range of an index
+abbrev pub IsIndex : List ℕ → Type 0
+IsIndex bs = IsNumeral 10 bs × (digits_value 10 bs < 2 ^ 32)
 
 -- the digits of a constant: all that follows its minus
 abbrev pub constant_digits : List ℕ → List ℕ

@@ -1,15 +1,19 @@
 //! Checking a script that was read.
 
-ghost use Rattle.std.specs.Prelude.{◌≡◌, ◌⊎◌, false, None, ◌<◌, length, IfOk, IfErr};
+ghost use Rattle.std.specs.Prelude.{◌≡◌, ◌⊎◌, true, false, None, ◌<◌, length, IfOk, OnOk, IfErr};
 ghost use Rattle.std.specs.List.{list_all};
 ghost use Rattle.validate_visit.specs.Immediates.{module_immediates};
+ghost use Rattle.validate_resources.specs.Lists.{context_of, declared_types};
 ghost use Rattle.validate_stacks.specs.State.{IsStarting};
 ghost use Rattle.wasmparser_validate.specs.Start.{state};
-ghost use Rattle.opcheck.specs.Begin.{IsExpressionStart, IsBodyStart, CannotStart};
+ghost use Rattle.opcheck.specs.Begin.{IsExpressionStart, IsBodyStart, CannotStart, HasLocals, CannotBegin};
+ghost use Rattle.opcheck.specs.Owned.{op_values, owned_values};
+ghost use Rattle.opcheck.specs.Reports.{IsReport, all_features, may_be_body};
 ghost use Rattle.opcheck.specs.declared.failure.BadScript.{BadScript};
 ghost use Rattle.opcheck.specs.declared.failure.Failure.{Failure};
 
 use crate::failure::{BadScript, Failure};
+use crate::script::owned::borrowed_ops;
 use crate::script::{Body, BodyLine, LocalLine, Script};
 use bitflags::Flags;
 use std::alloc::Global;
@@ -28,30 +32,65 @@ pub struct Report {
     pub outcome: Result<bool, Error>,
 }
 
-/// Checks a script: first its order, then its module, then its body.
-pub fn check_script(alloc: Global, script: Script) -> Result<Report, Failure> {
+/// Checks a script: first its order, then its module, then its body. The operators that are checked
+/// are those of the script, with the same lists.
+pub fn check_script(alloc: Global, script: Script) -> Result<Report, Failure>
+    ensures report { IfOk result (λ report. (ops : _) × (op_values ops ≡ owned_values script.operators.items) × (may_be_body ops ≡ true) × IsReport (context_of script.types.items) all_features script.body script.locals.items ops report.heights.items report.outcome) }
+    ensures cause { IfErr result (λ failure. (failure ≡ Failure.OutOfMemory) ⊎ ((failure ≡ Failure.BadScript BadScript.Order) × ((ops : _) × (op_values ops ≡ owned_values script.operators.items) × (may_be_body ops ≡ false))) ⊎ ((failure ≡ Failure.BadScript BadScript.Module) × (1000000 < length script.types.items))) }
+{
     let Script {
         types,
         body,
         locals,
         operators,
     } = script;
-    if !is_well_ordered(&operators) || !have_module_immediates(&operators) {
+    let Ok(ops) = borrowed_ops(alloc, &operators) else {
+        return Err(Failure::OutOfMemory);
+    };
+    check_operators(alloc, types, body, &locals, &ops)
+}
+
+/// Checks the operators of a body, in a module of these types.
+fn check_operators(
+    alloc: Global,
+    types: Vec<SubType>,
+    line: BodyLine,
+    locals: &[LocalLine],
+    ops: &[(Op<'_>, u64)],
+) -> Result<Report, Failure>
+    ensures ordered { OnOk result (may_be_body ops.now ≡ true) }
+    ensures report { IfOk result (λ report. IsReport (context_of types.items) all_features line locals.now ops.now report.heights.items report.outcome) }
+    ensures cause { IfErr result (λ failure. ((failure ≡ Failure.BadScript BadScript.Order) × (may_be_body ops.now ≡ false)) ⊎ ((failure ≡ Failure.BadScript BadScript.Module) × (1000000 < length types.items))) }
+{
+    if !is_well_ordered(ops) || !have_module_immediates(ops) {
         return Err(Failure::BadScript(BadScript::Order));
     }
     let module = module_of(alloc, types)?;
+    let features = every_proposal();
     let mut heights = Vec::new(alloc);
-    let outcome = match begin_body(alloc, &module, &WasmFeatures::all(), body, &locals) {
-        Ok(mut validator) => check_ops(&mut validator, &operators, &module, &mut heights).map_err(
-            |refused| refused.1,
-        ),
-        Err(refusal) => Err(refusal),
+    let mut validator = match begin_body(alloc, &module, &features, line, locals) {
+        Ok(validator) => validator,
+        Err(refusal) => {
+            let outcome = Err(refusal);
+            return Ok(Report { heights, outcome });
+        }
+    };
+    let outcome = match check_ops(&mut validator, ops, &module, &mut heights) {
+        Ok(closed) => Ok(closed),
+        Err((_, refusal)) => Err(refusal),
     };
     Ok(Report { heights, outcome })
 }
 
+/// The proposals under which scripts are checked: all.
+fn every_proposal() -> WasmFeatures
+    ensures { result ≡ all_features }
+{
+    WasmFeatures::all()
+}
+
 /// Whether the immediates are those of a module, as they are of all operators that a script can write.
-fn have_module_immediates(operators: &[(Op, u64)]) -> bool
+fn have_module_immediates(operators: &[(Op<'_>, u64)]) -> bool
     ensures { result ≡ list_all (λ (pair : _). module_immediates pair.0) operators.now }
 {
     operators.iter().all(|pair| has_module_immediates(&pair.0))
@@ -59,7 +98,8 @@ fn have_module_immediates(operators: &[(Op, u64)]) -> bool
 
 /// The module that declares these types.
 fn module_of(alloc: Global, types: Vec<SubType>) -> Result<ModuleLists, Failure>
-    ensures cause { IfErr result (λ failure. (failure ≡ Failure.OutOfMemory) ⊎ ((failure ≡ Failure.BadScript BadScript.Module) × (1000000 < length types.items))) }
+    ensures kept { IfOk result (λ lists. declared_types lists ≡ types.items) }
+    ensures cause { IfErr result (λ failure. (failure ≡ Failure.BadScript BadScript.Module) × (1000000 < length types.items)) }
 {
     ModuleLists::new(alloc, types).map_err(|error| {
         if error.is_out_of_memory() {
@@ -70,7 +110,8 @@ fn module_of(alloc: Global, types: Vec<SubType>) -> Result<ModuleLists, Failure>
     })
 }
 
-/// A validator of this body, with all its locals.
+/// A validator of this body, with all its locals. A refusal carries the number of the line that it
+/// refuses, want of memory aside.
 pub fn begin_body<R: WasmModuleResources>(
     alloc: Global,
     resources: &R,
@@ -78,11 +119,13 @@ pub fn begin_body<R: WasmModuleResources>(
     line: BodyLine,
     locals: &[LocalLine],
 ) -> Result<OperatorValidator, Error>
-    ensures { IfOk result (λ validator. IsStarting (R.context resources.now) (state validator)) }
+    ensures starting { IfOk result (λ validator. IsStarting (R.context resources.now) (state validator)) }
+    ensures locals { IfOk result (λ validator. HasLocals (R.context resources.now) features.now line.body locals.now (state validator)) }
+    ensures refused { IfErr result (λ e. e.memory ≡ false → CannotBegin (R.context resources.now) features.now line locals.now e.offset) }
 {
     let mut validator = start_body(alloc, resources, features, line)?;
-    for line in locals {
-        validator.define_locals(line.offset, line.count, line.ty, resources)?;
+    for local in locals {
+        validator.define_locals(local.offset, local.count, local.ty, resources)?;
     }
     Ok(validator)
 }

@@ -3,6 +3,7 @@
 pub mod lines;
 pub mod numbers;
 pub mod operators;
+pub mod owned;
 pub mod types;
 pub mod words;
 
@@ -10,10 +11,10 @@ ghost use Rattle.std.specs.Prelude.{◌≡◌, ◌↔◌, false, Some, IsSome, I
 
 use crate::failure::{BadScript, Failure, LineError};
 use crate::script::lines::{Line, read_line};
+use crate::script::owned::OwnedOp;
 use crate::script::words::words_of;
 use std::alloc::Global;
 use wasmparser_validate::types::{SubType, ValType};
-use wasmparser_validate::visit::Op;
 
 /// What the operators of a script are the body of.
 #[derive(Clone, Copy, Debug, PartialEq, Eq)]
@@ -54,7 +55,7 @@ pub struct Script {
     /// The `local` lines.
     pub locals: Vec<LocalLine>,
     /// The operators, each with the number of its line.
-    pub operators: Vec<(Op, u64)>,
+    pub operators: Vec<(OwnedOp, u64)>,
 }
 
 /// What a script's first lines say.
@@ -63,7 +64,7 @@ struct Draft {
     types: Vec<SubType>,
     body: Option<BodyLine>,
     locals: Vec<LocalLine>,
-    operators: Vec<(Op, u64)>,
+    operators: Vec<(OwnedOp, u64)>,
 }
 
 /// The parts of a script, in their order.

@@ -1,10 +1,13 @@
 //! Scripts, run over memory.
 
 mod blocks;
+mod branches;
 mod expressions;
 mod fakes;
 mod lines;
 mod operators;
+mod parts;
+mod selects;
 mod verdicts;
 
 use crate::run::run;
@@ -43,8 +46,29 @@ fn expect_body(
     expect_run(rt, script.as_bytes(), out, "", status)
 }
 
+/// Runs the script of `HEAD` and these further lines, and compares what it prints before the refusal,
+/// and the refusal.
+fn expect_refused(
+    rt: &(impl Abort + AllocGlobal),
+    lines: &str,
+    before: &str,
+    refusal: &str,
+) -> Result<(), Fail> {
+    let out = format!(in rt.alloc(); "{before}refused {refusal}\nrefused\n")?;
+    expect_body(rt, lines, out.as_str(), 1)
+}
+
 /// Runs a bad script, and compares the cause.
 fn expect_bad(rt: &(impl Abort + AllocGlobal), script: &[u8], cause: &str) -> Result<(), Fail> {
     let said = format!(in rt.alloc(); "bad script: {cause}\n")?;
     expect_run(rt, script, "", said.as_str(), 2)
+}
+
+/// Runs scripts whose third line, behind `HEAD`, is bad, and which go on.
+fn expect_bad_lines(rt: &(impl Abort + AllocGlobal), lines: &[&str]) -> Result<(), Fail> {
+    for line in lines {
+        let script = format!(in rt.alloc(); "{HEAD}{line}\nend\n")?;
+        expect_bad(rt, script.as_bytes(), "line 3")?;
+    }
+    Ok(())
 }

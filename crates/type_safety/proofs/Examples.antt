@@ -1,6 +1,7 @@
 -- Runs of small bodies, and a body that gets stuck: the definitions of the machine tried.
 use Rattle.std.proofs.Common.{◌≡◌, ℕ, zero, suc, pos, Bool, true, false, List, [], ◌∷◌, length, map, take, drop, Some, None, refl, sym, ap, ◌∙◌, subst, slice_get}
-use Rattle.validate_resources.specs.Lists.{context_of, same_number}
+use Rattle.validate_resources.specs.Context.{same_number}
+use Rattle.validate_resources.specs.Lists.{context_of}
 use Rattle.validate_resources.specs.Lawful.{lawful_lists}
 use Rattle.validate_types.specs.declared.types.CompositeInnerType.TheVariants.{Func}
 use Rattle.validate_visit.specs.declared.op.Op.TheVariants.{Control, Numeric}
@@ -11,7 +12,8 @@ use Rattle.validation_rules.specs.Fits.{MaybeType, Known}
 use Rattle.validation_rules.specs.Static.{Frame}
 use Rattle.validation_rules.specs.Rows.{FrameKind, Block, If, Else, Loop, TryTable, LegacyTry, LegacyCatch, Head, params, results, is_if, Flat, Opens, BeginsElse, BeginsCatch, Ends, Delegates, Clause, Target, Operator}
 use Rattle.validation_rules.specs.Table.{plain, body, operator}
-use Rattle.validation_rules.proofs.Handmade.{target, a_block, a_loop, an_if, an_else, an_end, br, a_return, a_try_table, throw, a_try, a_catch, delegate}
+use Rattle.validation_rules.specs.Branches.{target}
+use Rattle.validation_rules.proofs.Handmade.{a_block, a_loop, an_if, an_else, an_end, br, a_return, a_try_table, throw, a_try, a_catch, delegate}
 use Rattle.validation_rules.proofs.Steps.{some_injective}
 use Rattle.type_safety.specs.Machine.{Label, label_heads, Machine, At, Returned, Trapped, LeftByException, LeftBySuspension, mark, marks, Reaches, Demand, Demands, Step, Run, first}
 use Rattle.type_safety.specs.Machine.Outcome.{GoesOn, Enters, EntersElse, SkipsIf, Jumps, Closes, Passes, Catches, CatchesLegacy, Traps, Raises, Suspends}

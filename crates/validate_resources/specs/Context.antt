@@ -1,6 +1,6 @@
 -- What a validator knows of a module: its meaning, and the laws of the order on types
 -- (WebAssembly core specification, "Types" and "Validation: Matching").
-use Rattle.std.specs.Prelude.{◌≡◌, ℕ, Bool, true, Option, Some}
+use Rattle.std.specs.Prelude.{◌≡◌, ℕ, Bool, true, false, Option, Some}
 use Rattle.std.specs.List.{AllByRecursion}
 use Rattle.validate_types.specs.Types.{Signature}
 use Rattle.validate_types.specs.declared.features.WasmFeatures.{WasmFeatures}
@@ -8,6 +8,7 @@ use Rattle.validate_types.specs.declared.types.CompositeInnerType.{CompositeInne
 use Rattle.validate_types.specs.declared.types.CompositeInnerType.TheVariants.{Func}
 use Rattle.validate_types.specs.declared.types.SubType.{SubType}
 use Rattle.validate_types.specs.declared.types.ValType.{ValType}
+use Rattle.validate_types.specs.declared.types.ValType.TheVariants.{I32, I64, F32, F64, V128}
 
 -- The look-ups by index, the types that are valid and canonical (each index in them is an id that the
 -- lookup knows), the order on those types, and the canonical form of a type of the module under some
@@ -28,6 +29,15 @@ IsBelow cx t u = cx.below t u ≡ true
 -- a number or vector type
 abbrev pub is_number : ValType → Bool
 is_number t = true
+
+-- twice the same number or vector type
+abbrev pub same_number : ValType → ValType → Bool
+same_number I32 I32 = true
+same_number I64 I64 = true
+same_number F32 F32 = true
+same_number F64 F64 = true
+same_number V128 V128 = true
+same_number _ _ = false
 
 abbrev pub inner_signature : CompositeInnerType → Signature
 inner_signature (Func f) = f

@@ -4,17 +4,17 @@ use Rattle.std.specs.List.{AllByRecursion}
 use Rattle.validate_types.specs.declared.types.SubType.{SubType}
 use Rattle.validate_types.specs.declared.types.ValType.{ValType}
 use Rattle.validate_types.specs.declared.types.ValType.TheVariants.{I32, I64, F32, F64, V128}
-use Rattle.validate_resources.specs.Context.{IsLawful, Valid, signature_of}
-use Rattle.validate_resources.specs.Lists.{same_number, context_of}
+use Rattle.validate_resources.specs.Context.{IsLawful, Valid, same_number, signature_of}
+use Rattle.validate_resources.specs.Lists.{context_of}
 
-same-reflexive : (t : ValType) → same_number t t ≡ true
+pub same-reflexive : (t : ValType) → same_number t t ≡ true
 same-reflexive I32 = refl
 same-reflexive I64 = refl
 same-reflexive F32 = refl
 same-reflexive F64 = refl
 same-reflexive V128 = refl
 
-same-equal : (t u : ValType) → same_number t u ≡ true → t ≡ u
+pub same-equal : (t u : ValType) → same_number t u ≡ true → t ≡ u
 same-equal I32 I32 h = refl
 same-equal I64 I64 h = refl
 same-equal F32 F32 h = refl

@@ -18,12 +18,13 @@ pub struct ModuleLists {
 impl ModuleLists {
     ghost use Rattle.validate_resources.specs.Lists.{declared_types};
 
-    /// Keeps the lists. It refuses at offset 0: `too many types` for more than 1,000,000, or want of
+    /// Keeps the lists. It refuses at offset 0: `too many types` for more than 1,000,000. It takes no
     /// memory.
     pub fn new(alloc: Global, types: Vec<SubType>) -> Result<ModuleLists, Error>
         ensures kept { IfOk result (λ m. declared_types m ≡ types.items) }
         ensures few { OnOk result (length types.items ≤ 1000000) }
         ensures many { IfErr result (λ e. e.memory ≡ false → 1000000 < length types.items) }
+        ensures memory { IfErr result (λ e. e.memory ≡ false) }
         ensures offset { IfErr result (λ e. e.offset ≡ 0) }
     {
         let _alloc = alloc;

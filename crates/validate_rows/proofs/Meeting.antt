@@ -1,5 +1,5 @@
 -- From what the last step of a check promises to the answer of the visit.
-use Rattle.std.proofs.Common.{◌≡◌, ℕ, zero, suc, Bool, true, false, not, List, [], ◌∷◌, slice_get, Some, None, Result, Ok, Err, OnOk, IfErr, refl, sym, ◌∙◌, subst}
+use Rattle.std.proofs.Common.{◌≡◌, ℕ, zero, suc, Bool, true, false, not, List, [], ◌∷◌, slice_get, Some, None, Result, Ok, Err, OnOk, OnErr, IfErr, refl, sym, ◌∙◌, subst}
 use Rattle.std.specs.List.{AllByRecursion}
 use Rattle.validate_resources.specs.Context.{ModuleContext}
 use Rattle.validate_types.specs.Refusal.{Refusal}
@@ -53,3 +53,14 @@ pub meets_as : (md : ModuleContext) (op op' : Context → Operator) (offset : �
 unfolding Meets
 meets_as md op op' offset v w (Ok u) same m = record { accepted = sym same ∙ m.accepted; refused = tt; at_offset = tt; valid = m.valid; kept = m.kept }
 meets_as md op op' offset v w (Err e) same m = record { accepted = tt; refused = λ f. sym same ∙ m.refused f; at_offset = m.at_offset; valid = m.valid; kept = m.kept }
+
+-- a step was refused, which happens only where the row doesn't hold
+pub meets_none : (md : ModuleContext) (op : Context → Operator) (offset : ℕ) (v w : BodyState) (r : Result (Unit {0}) Refusal) → OnOk r ⊥ → OnErr r (step_body md op v ≡ None) → IfErr r (λ e. e.offset ≡ offset) → IsValid md w → IsKept v w → Meets md op offset v r w
+unfolding Meets
+meets_none md op offset v w (Ok u) b n o x y = absurd b
+meets_none md op offset v w (Err e) b n o x y = record { accepted = tt; refused = λ _. n; at_offset = o; valid = x; kept = y }
+
+-- the last step can't fail
+pub meets_done : (md : ModuleContext) (op : Context → Operator) (offset : ℕ) (v w : BodyState) → step_body md op v ≡ Some w → IsValid md w → IsKept v w → Meets md op offset v (Ok tt) w
+unfolding Meets
+meets_done md op offset v w e x y = record { accepted = e; refused = tt; at_offset = tt; valid = x; kept = y }

@@ -4,6 +4,8 @@ use Rattle.std.specs.Option.{option_map}
 use Rattle.std.proofs.Math.Dec.{leb-suc-suc, leb-suc-zero, leb-zero}
 use Rattle.std.proofs.lemmas.List.{length-reverse}
 use Rattle.validate_resources.specs.Context.{ModuleContext}
+use Rattle.validate_types.specs.Gates.{is_open}
+use Rattle.validate_types.specs.declared.gate.Gate.{Gate}
 use Rattle.validate_types.specs.declared.features.WasmFeatures.{WasmFeatures}
 use Rattle.validate_types.specs.declared.types.ValType.{ValType}
 use Rattle.validate_visit.specs.declared.frame.BlockType.{BlockType}
@@ -12,7 +14,7 @@ use Rattle.validation_rules.specs.Context.{Context, block_signature, is_set_at_e
 use Rattle.validation_rules.specs.Fits.{MaybeType, Known, fits, all_fit}
 use Rattle.validation_rules.specs.Rows.{FrameKind, Else, is_if, Head, params, results, Flat, Ends, Row, Operator, guard}
 use Rattle.validation_rules.specs.Static.{Frame, State, onto, on_top, found, below_top, closes, opened, given_over, if_fits, then_after, step, step_in, set_in, has, is_set, reads_set, joined, first_set_after}
-use Rattle.validation_rules.specs.Table.{plain, looking, drops, alike, closing, local_or, local_get, local_set, local_tee}
+use Rattle.validation_rules.specs.Table.{plain, looking, drops, gated, alike, closing, by_type, local_get, local_set, local_tee}
 use Rattle.validation_rules.proofs.Pops.{and_false, fit_turned}
 use Rattle.validate_stacks.specs.Blocks.{close_frame, close_in, entered, head_of, closes_as_if}
 use Rattle.validate_stacks.specs.Pops.{popped_each, pushed_each, IsKept}
@@ -107,55 +109,67 @@ plain_passes md v u w wanted ps o p q = row_then md v None None wanted ps o ∙ 
 pub plain_refused : (md : ModuleContext) (v : BodyState) (wanted ps : List ValType) → v.present.frames ≢ [] → popped_each md (reverse wanted) v ≡ None → step_body md (λ c. alike (plain true wanted ps)) v ≡ None
 plain_refused md v wanted ps o p = row_then md v None None wanted ps o ∙ ap (option_map (λ u. pushed_each ps u)) p
 
--- ---- locals
-
-same_row : (md : ModuleContext) (v : BodyState) (op : Context → Operator) (r : Operator) → op (context md v) ≡ r → step_body md op v ≡ step_body md (λ c. r) v
-same_row md v op r h = ap (λ (q : Operator). option_map (λ (s : State). record v { present = s }) (step (context md v) q v.present)) h
-
-no_row : (md : ModuleContext) (v : BodyState) → step_body md (λ c. alike (plain false [] [])) v ≡ None
-no_row md v = by v.present.frames
+pub not_plain : (md : ModuleContext) (v : BodyState) (wanted ps : List ValType) → step_body md (λ c. alike (plain false wanted ps)) v ≡ None
+not_plain md v wanted ps = by v.present.frames
   where
-    by : (fs : List Frame) → option_map (λ (s : State). record v { present = s }) (step_in (context md v) (alike (plain false [] [])) fs v.present.left) ≡ None
+    by : (fs : List Frame) → option_map (λ (s : State). record v { present = s }) (step_in (context md v) (alike (plain false wanted ps)) fs v.present.left) ≡ None
     by [] = refl
     by (f ∷ fs) = refl
 
+pub same_row : (md : ModuleContext) (v : BodyState) (op : Context → Operator) (r : Operator) → op (context md v) ≡ r → step_body md op v ≡ step_body md (λ c. r) v
+same_row md v op r h = ap (λ (q : Operator). option_map (λ (s : State). record v { present = s }) (step (context md v) q v.present)) h
+
+-- ---- gates
+
+module _ (md : ModuleContext) (v : BodyState) (gate : Gate) (wanted ps : List ValType) where
+  by_gate : (b : Bool) → is_open v.features gate ≡ b → step_body md (λ c. alike (gated c gate (plain true wanted ps))) v ≡ step_body md (λ c. alike (record (plain true wanted ps) { premise = b && true })) v
+  by_gate b h = same_row md v (λ c. alike (gated c gate (plain true wanted ps))) (alike (record (plain true wanted ps) { premise = b && true })) (ap (λ b. alike (record (plain true wanted ps) { premise = b && true })) h)
+
+  pub gate_open : is_open v.features gate ≡ true → step_body md (λ c. alike (gated c gate (plain true wanted ps))) v ≡ step_body md (λ c. alike (plain true wanted ps)) v
+  gate_open h = by_gate true h
+
+  pub gate_closed : is_open v.features gate ≡ false → step_body md (λ c. alike (gated c gate (plain true wanted ps))) v ≡ None
+  gate_closed h = by_gate false h ∙ not_plain md v wanted ps
+
+-- ---- locals
+
 module _ (md : ModuleContext) (v : BodyState) (i : ℕ) where
   pub no_local_get : slice_get v.locals i ≡ None → step_body md (λ c. alike (local_get c i)) v ≡ None
-  no_local_get h = same_row md v (λ c. alike (local_get c i)) (alike (plain false [] [])) (ap (λ o. alike (local_or o (λ t. local_row (Some i) None [] (t ∷ [])))) h) ∙ no_row md v
+  no_local_get h = same_row md v (λ c. alike (local_get c i)) (alike (plain false [] [])) (ap (λ o. alike (by_type o (λ t. local_row (Some i) None [] (t ∷ [])))) h) ∙ not_plain md v [] []
 
   pub no_local_set : slice_get v.locals i ≡ None → step_body md (λ c. alike (local_set c i)) v ≡ None
-  no_local_set h = same_row md v (λ c. alike (local_set c i)) (alike (plain false [] [])) (ap (λ o. alike (local_or o (λ t. local_row None (Some i) (t ∷ []) []))) h) ∙ no_row md v
+  no_local_set h = same_row md v (λ c. alike (local_set c i)) (alike (plain false [] [])) (ap (λ o. alike (by_type o (λ t. local_row None (Some i) (t ∷ []) []))) h) ∙ not_plain md v [] []
 
   pub no_local_tee : slice_get v.locals i ≡ None → step_body md (λ c. alike (local_tee c i)) v ≡ None
-  no_local_tee h = same_row md v (λ c. alike (local_tee c i)) (alike (plain false [] [])) (ap (λ o. alike (local_or o (λ t. local_row None (Some i) (t ∷ []) (t ∷ [])))) h) ∙ no_row md v
+  no_local_tee h = same_row md v (λ c. alike (local_tee c i)) (alike (plain false [] [])) (ap (λ o. alike (by_type o (λ t. local_row None (Some i) (t ∷ []) (t ∷ [])))) h) ∙ not_plain md v [] []
 
   pub local_get_is : (t : ValType) → slice_get v.locals i ≡ Some t → v.present.frames ≢ [] → step_body md (λ c. alike (local_get c i)) v ≡ guard (is_set_in v i) (Some (pushed_each (t ∷ []) v))
   local_get_is t h o =
-      same_row md v (λ c. alike (local_get c i)) (alike (local_row (Some i) None [] (t ∷ []))) (ap (λ o. alike (local_or o (λ t. local_row (Some i) None [] (t ∷ [])))) h)
+      same_row md v (λ c. alike (local_get c i)) (alike (local_row (Some i) None [] (t ∷ []))) (ap (λ o. alike (by_type o (λ t. local_row (Some i) None [] (t ∷ [])))) h)
       ∙ row_then md v (Some i) None [] (t ∷ []) o
 
   pub local_set_is : (t : ValType) → slice_get v.locals i ≡ Some t → v.present.frames ≢ [] → step_body md (λ c. alike (local_set c i)) v ≡ option_map (λ u. with_local_set i u) (popped_each md (t ∷ []) v)
   local_set_is t h o =
-      same_row md v (λ c. alike (local_set c i)) (alike (local_row None (Some i) (t ∷ []) [])) (ap (λ o. alike (local_or o (λ t. local_row None (Some i) (t ∷ []) []))) h)
+      same_row md v (λ c. alike (local_set c i)) (alike (local_row None (Some i) (t ∷ []) [])) (ap (λ o. alike (by_type o (λ t. local_row None (Some i) (t ∷ []) []))) h)
       ∙ row_then md v None (Some i) (t ∷ []) [] o
 
   pub local_tee_is : (t : ValType) → slice_get v.locals i ≡ Some t → v.present.frames ≢ [] → step_body md (λ c. alike (local_tee c i)) v ≡ option_map (λ u. pushed_each (t ∷ []) (with_local_set i u)) (popped_each md (t ∷ []) v)
   local_tee_is t h o =
-      same_row md v (λ c. alike (local_tee c i)) (alike (local_row None (Some i) (t ∷ []) (t ∷ []))) (ap (λ o. alike (local_or o (λ t. local_row None (Some i) (t ∷ []) (t ∷ [])))) h)
+      same_row md v (λ c. alike (local_tee c i)) (alike (local_row None (Some i) (t ∷ []) (t ∷ []))) (ap (λ o. alike (by_type o (λ t. local_row None (Some i) (t ∷ []) (t ∷ [])))) h)
       ∙ row_then md v None (Some i) (t ∷ []) (t ∷ []) o
 
 -- ---- `drop`
 
 module _ (md : ModuleContext) where
-  abbrev at : Head → List MaybeType → Bool → List ℕ → List Frame → List MaybeType → Bool → WasmFeatures → List ValType → List Bool → BodyState
-  at h own dead set fs left s n ls en =
-      record { present = record { frames = record { head = h; own = own; dead = dead; first_set = set } ∷ fs; left = left }; shared = s; features = n; locals = ls; entry = en }
+  abbrev at : Head → List MaybeType → Bool → List ℕ → List Frame → List MaybeType → Bool → WasmFeatures → List ValType → List Bool → Option State → BodyState
+  at h own dead set fs left s n ls en un =
+      record { present = record { frames = record { head = h; own = own; dead = dead; first_set = set } ∷ fs; left = left }; shared = s; features = n; locals = ls; entry = en; undone = un }
 
-  drop_in : (h : Head) (own : List MaybeType) (dead : Bool) (set : List ℕ) (fs : List Frame) (left : List MaybeType) (s : Bool) (n : WasmFeatures) (ls : List ValType) (en : List Bool) → step_body md (λ c. alike (looking true 1 drops)) (at h own dead set fs left s n ls en) ≡ option_map (λ _. popped (at h own dead set fs left s n ls en)) (found_in (record { head = h; own = own; dead = dead; first_set = set } ∷ fs))
-  drop_in h (x ∷ own) true set fs left s n ls en = refl
-  drop_in h (x ∷ own) false set fs left s n ls en = refl
-  drop_in h [] true set fs left s n ls en = refl
-  drop_in h [] false set fs left s n ls en = refl
+  drop_in : (h : Head) (own : List MaybeType) (dead : Bool) (set : List ℕ) (fs : List Frame) (left : List MaybeType) (s : Bool) (n : WasmFeatures) (ls : List ValType) (en : List Bool) (un : Option State) → step_body md (λ c. alike (looking true 1 drops)) (at h own dead set fs left s n ls en un) ≡ option_map (λ _. popped (at h own dead set fs left s n ls en un)) (found_in (record { head = h; own = own; dead = dead; first_set = set } ∷ fs))
+  drop_in h (x ∷ own) true set fs left s n ls en un = refl
+  drop_in h (x ∷ own) false set fs left s n ls en un = refl
+  drop_in h [] true set fs left s n ls en un = refl
+  drop_in h [] false set fs left s n ls en un = refl
 
   pub drop_is : (v : BodyState) → step_body md (λ c. alike (looking true 1 drops)) v ≡ option_map (λ _. popped v) (steps.found v)
   drop_is v = by v.present.frames refl
@@ -164,7 +178,7 @@ module _ (md : ModuleContext) where
       by [] e = ap (λ gs. option_map (λ (s : State). record v { present = s }) (step_in (context md v) (alike (looking true 1 drops)) gs v.present.left)) e ∙ sym (ap (λ gs. option_map (λ _. popped v) (found_in gs)) e)
       by (f ∷ fs) e =
           ap (λ gs. step_body md (λ c. alike (looking true 1 drops)) (record v { present = record { frames = gs; left = v.present.left } })) e
-          ∙ drop_in f.head f.own f.dead f.first_set fs v.present.left v.shared v.features v.locals v.entry
+          ∙ drop_in f.head f.own f.dead f.first_set fs v.present.left v.shared v.features v.locals v.entry v.undone
           ∙ ap (λ gs. option_map (λ _. popped (record v { present = record { frames = gs; left = v.present.left } })) (found_in gs)) (sym e)
 
 -- ---- `end`

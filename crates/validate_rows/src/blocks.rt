@@ -1,6 +1,8 @@
 //! Operators that open a frame (WebAssembly core specification, "Control Instructions").
 
 ghost use Rattle.std.specs.Prelude.{◌≡◌, true, false, None, Some, ◌&&◌, IfOk, OnOk, IfErr};
+ghost use Rattle.std.specs.List.{AllByRecursion};
+ghost use Rattle.validate_resources.specs.Context.{Valid};
 ghost use Rattle.validate_types.specs.Features.{has, multi_value};
 ghost use Rattle.validation_rules.specs.Table.{opener, opens, checked_block, may_name};
 ghost use Rattle.validation_rules.specs.Valid.{BlockIsValid};
@@ -10,7 +12,7 @@ ghost use Rattle.validate_stacks.specs.Visits.{MayVisit, Meets};
 use validate_resources::WasmModuleResources;
 use validate_stacks::Stacks;
 use validate_stacks::blocks::params;
-use validate_types::Error;
+use validate_types::{Error, ValType};
 use validate_visit::{BlockType, FrameKind};
 
 const NEEDS_MULTI_VALUE: &str =
@@ -67,32 +69,40 @@ fn check_block_type<R: WasmModuleResources>(
     }
 }
 
-/// Takes the parameters of a checked block type and opens a frame over them.
+/// Takes the operands above, and then the parameters of a checked block type, and opens a frame over
+/// the parameters.
 fn open_frame<R: WasmModuleResources>(
     stacks: &mut Stacks,
     resources: &R,
     offset: u64,
     kind: FrameKind,
+    above: &[ValType],
     block_type: BlockType,
 ) -> Result<(), Error>
     requires visit { MayVisit (R.context resources.now) stacks.old }
+    requires above { AllByRecursion (Valid (R.context resources.now)) above.now }
     requires block { BlockIsValid (R.context resources.now) stacks.old.shared block_type }
-    ensures { Meets (R.context resources.now) (λ cx. opens cx kind true block_type) offset stacks.old result stacks.new }
+    ensures { Meets (R.context resources.now) (λ cx. opens cx kind above.now true block_type) offset stacks.old result stacks.new }
 {
+    stacks.pop_types(resources, offset, above)?;
     stacks.pop_types(resources, offset, params(resources, &block_type))?;
     stacks.push_ctrl(resources, offset, kind, block_type)
 }
 
-/// `block`: `[params] -> [results]` of its block type, over a frame with the parameters.
-pub fn check_block<R: WasmModuleResources>(
+/// An opener: `[params above] -> [results]` of its block type, over a frame of this kind with the
+/// parameters. `above` is empty for `block` and `loop`, and the test for `if`.
+pub fn check_opener<R: WasmModuleResources>(
     stacks: &mut Stacks,
     resources: &R,
     offset: u64,
+    kind: FrameKind,
+    above: &[ValType],
     block_type: BlockType,
 ) -> Result<(), Error>
-    requires { MayVisit (R.context resources.now) stacks.old }
-    ensures { Meets (R.context resources.now) (λ cx. opener cx FrameKind.Block block_type (checked_block cx block_type)) offset stacks.old result stacks.new }
+    requires visit { MayVisit (R.context resources.now) stacks.old }
+    requires above { AllByRecursion (Valid (R.context resources.now)) above.now }
+    ensures { Meets (R.context resources.now) (λ cx. opener cx kind above.now block_type (checked_block cx block_type)) offset stacks.old result stacks.new }
 {
     let checked = check_block_type(stacks, resources, offset, block_type)?;
-    open_frame(stacks, resources, offset, FrameKind::Block, checked)
+    open_frame(stacks, resources, offset, kind, above, checked)
 }

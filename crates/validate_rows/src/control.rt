@@ -1,9 +1,8 @@
-//! Operators on control and on any operand (WebAssembly core specification, "Control Instructions",
-//! "Parametric Instructions").
+//! Operators that begin and end parts (WebAssembly core specification, "Control Instructions").
 
-ghost use Rattle.std.specs.Prelude.{◌≡◌, true, false, [], OnOk, IfErr};
-ghost use Rattle.validation_rules.specs.Rows.{Ends, is_if};
-ghost use Rattle.validation_rules.specs.Table.{plain, looking, drops, alike, closing};
+ghost use Rattle.std.specs.Prelude.{◌≡◌, true, false, [], IsOk, OnOk, OnErr, IfErr};
+ghost use Rattle.validation_rules.specs.Rows.{BeginsElse, Ends, is_if};
+ghost use Rattle.validation_rules.specs.Table.{plain, ends_live, alike, closing};
 ghost use Rattle.validation_rules.specs.Valid.{BlockIsValid};
 ghost use Rattle.validate_stacks.specs.Pops.{IsKept};
 ghost use Rattle.validate_stacks.specs.State.{IsValid};
@@ -16,7 +15,7 @@ use validate_stacks::blocks::results;
 use validate_types::Error;
 use validate_visit::{Frame, FrameKind};
 
-/// `nop`: nothing. It is never refused.
+/// `nop`: nothing. It is never refused, and takes no memory.
 pub fn check_nop<R: WasmModuleResources>(
     stacks: &mut Stacks,
     resources: &R,
@@ -24,7 +23,7 @@ pub fn check_nop<R: WasmModuleResources>(
 ) -> Result<(), Error>
     requires { MayVisit (R.context resources.now) stacks.old }
     ensures visit { Meets (R.context resources.now) (λ cx. alike (plain true [] [])) offset stacks.old result stacks.new }
-    ensures memory { IfErr result (λ e. e.memory ≡ false) }
+    ensures memory { IsOk result }
 {
     let _resources = resources;
     let _stacks = stacks;
@@ -32,20 +31,37 @@ pub fn check_nop<R: WasmModuleResources>(
     Ok(())
 }
 
-/// `drop`: any one operand. It takes no memory.
-pub fn check_drop<R: WasmModuleResources>(
+/// `unreachable`: the live part of the frame ends here. It is never refused, and takes no memory.
+pub fn check_unreachable<R: WasmModuleResources>(
     stacks: &mut Stacks,
     resources: &R,
     offset: u64,
 ) -> Result<(), Error>
     requires { MayVisit (R.context resources.now) stacks.old }
-    ensures visit { Meets (R.context resources.now) (λ cx. alike (looking true 1 drops)) offset stacks.old result stacks.new }
-    ensures memory { IfErr result (λ e. e.memory ≡ false) }
+    ensures visit { Meets (R.context resources.now) (λ cx. alike (ends_live true [])) offset stacks.old result stacks.new }
+    ensures memory { IsOk result }
 {
-    match stacks.pop_operand(resources, offset, None) {
-        Ok(_) => Ok(()),
-        Err(refusal) => Err(refusal),
+    let _resources = resources;
+    let _offset = offset;
+    stacks.unreachable();
+    Ok(())
+}
+
+/// `else`: closes the first part of an `if`, which has to have exactly its results, and begins the
+/// second with the parameters. It refuses after a frame of another kind.
+pub fn check_else<R: WasmModuleResources>(
+    stacks: &mut Stacks,
+    resources: &R,
+    offset: u64,
+) -> Result<(), Error>
+    requires { MayVisit (R.context resources.now) stacks.old }
+    ensures { Meets (R.context resources.now) (λ cx. closing BeginsElse true) offset stacks.old result stacks.new }
+{
+    let frame = stacks.pop_ctrl(resources, offset)?;
+    if !is_if_part(frame.kind) {
+        return Err(Error::new("else found outside of an `if` block", offset));
     }
+    stacks.push_ctrl(resources, offset, FrameKind::Else, frame.block_type)
 }
 
 /// `end`: closes the innermost frame, which has to have exactly its results, and gives them to the

@@ -2,7 +2,9 @@
 #![tactic(auto)]
 
 pub mod blocks;
+pub mod branches;
 pub mod control;
 pub mod numeric;
+pub mod parametric;
 pub mod plain;
 pub mod variables;

@@ -8,14 +8,14 @@ use Rattle.validate_visit.specs.declared.frame.BlockType.{BlockType}
 use Rattle.validate_visit.specs.declared.frame.Frame.{Frame as FlatFrame}
 use Rattle.validate_visit.specs.declared.frame.FrameKind.{FrameKind}
 use Rattle.validation_rules.specs.Fits.{MaybeType, Bottom}
-use Rattle.validation_rules.specs.Static.{Frame, operands_in, set_in, has}
+use Rattle.validation_rules.specs.Static.{Frame, State, operands_in, set_in, has}
 use Rattle.validate_stacks.specs.Flat.{enclosed, cut, HasShape, with_heights}
 use Rattle.validate_stacks.specs.State.{BodyState}
 use Rattle.validate_stacks.specs.Steps.{own_of, top_of, found, popped, put_on, all_in, new_frame, closed, is_set_in, with_set, local_set, with_locals}
 
 -- what flat lists stand for
-abbrev pub state_of : List FlatFrame → List MaybeType → Bool → WasmFeatures → List ValType → List Bool → BodyState
-state_of fs ops shared features locals entry = record { present = cut fs ops; shared = shared; features = features; locals = locals; entry = entry }
+abbrev pub state_of : List FlatFrame → List MaybeType → Bool → WasmFeatures → List ValType → List Bool → Option State → BodyState
+state_of fs ops shared features locals entry undone = record { present = cut fs ops; shared = shared; features = features; locals = locals; entry = entry; undone = undone }
 
 -- ---- counts
 
@@ -81,26 +81,26 @@ cut-push (f ∷ fs) x ops h =
 
 -- ---- a pop
 
-pub no_frame : (fs : List FlatFrame) (ops : List MaybeType) (s : Bool) (n : WasmFeatures) (ls : List ValType) (en : List Bool) → slice_get fs 0 ≡ None → (None ≡ found (state_of fs ops s n ls en)) × (state_of fs ops s n ls en ≡ popped (state_of fs ops s n ls en))
-no_frame [] ops s n ls en h = (refl, refl)
-no_frame (f ∷ fs) ops s n ls en h = cc
+pub no_frame : (fs : List FlatFrame) (ops : List MaybeType) (s : Bool) (n : WasmFeatures) (ls : List ValType) (en : List Bool) (un : Option State) → slice_get fs 0 ≡ None → (None ≡ found (state_of fs ops s n ls en un)) × (state_of fs ops s n ls en un ≡ popped (state_of fs ops s n ls en un))
+no_frame [] ops s n ls en un h = (refl, refl)
+no_frame (f ∷ fs) ops s n ls en un h = cc
 
 top_unknown : (dead : Bool) → top_of [] dead ≡ cond dead (Some Bottom) None
 top_unknown true = refl
 top_unknown false = refl
 
 -- at the height of the innermost frame
-pub at_height : (fs : List FlatFrame) (f : FlatFrame) (ops : List MaybeType) (s : Bool) (n : WasmFeatures) (ls : List ValType) (en : List Bool) → slice_get fs 0 ≡ Some f → length ops ≤ f.height → (cond f.unreachable (Some Bottom) None ≡ found (state_of fs ops s n ls en)) × (state_of fs ops s n ls en ≡ popped (state_of fs ops s n ls en))
-at_height [] f ops s n ls en h k = cc
-at_height (g ∷ gs) f ops s n ls en h k =
+pub at_height : (fs : List FlatFrame) (f : FlatFrame) (ops : List MaybeType) (s : Bool) (n : WasmFeatures) (ls : List ValType) (en : List Bool) (un : Option State) → slice_get fs 0 ≡ Some f → length ops ≤ f.height → (cond f.unreachable (Some Bottom) None ≡ found (state_of fs ops s n ls en un)) × (state_of fs ops s n ls en un ≡ popped (state_of fs ops s n ls en un))
+at_height [] f ops s n ls en un h k = cc
+at_height (g ∷ gs) f ops s n ls en un h k =
     let same : g ≡ f = cc in
     let e : length ops - g.height ≡ 0 = rw same (omega arith) in
     rw e (sym (top_unknown g.unreachable ∙ ap (λ (q : FlatFrame). cond q.unreachable (Some Bottom) None) same), refl)
 
 -- above the height of the innermost frame
-pub above_height : (fs : List FlatFrame) (f : FlatFrame) (x : MaybeType) (ops : List MaybeType) (s : Bool) (n : WasmFeatures) (ls : List ValType) (en : List Bool) → slice_get fs 0 ≡ Some f → f.height ≤ length ops → (Some x ≡ found (state_of fs (x ∷ ops) s n ls en)) × (state_of fs ops s n ls en ≡ popped (state_of fs (x ∷ ops) s n ls en))
-above_height [] f x ops s n ls en h k = cc
-above_height (g ∷ gs) f x ops s n ls en h k =
+pub above_height : (fs : List FlatFrame) (f : FlatFrame) (x : MaybeType) (ops : List MaybeType) (s : Bool) (n : WasmFeatures) (ls : List ValType) (en : List Bool) (un : Option State) → slice_get fs 0 ≡ Some f → f.height ≤ length ops → (Some x ≡ found (state_of fs (x ∷ ops) s n ls en un)) × (state_of fs ops s n ls en un ≡ popped (state_of fs (x ∷ ops) s n ls en un))
+above_height [] f x ops s n ls en un h k = cc
+above_height (g ∷ gs) f x ops s n ls en un h k =
     let same : g ≡ f = cc in
     let e : suc (length ops) - g.height ≡ suc (length ops - g.height) = rw same (omega arith) in
     rw e (refl, refl)
@@ -126,9 +126,9 @@ own_height f ops h k =
     let e = sym (length-take-le (length ops - f.height) ops (omega arith)) ∙ ap length k in
     omega arith
 
-pub state_close : (old new : List FlatFrame) (r : Option FlatFrame) (ops : List MaybeType) (s : Bool) (n : WasmFeatures) (ls : List ValType) (en : List Bool) → own_of (cut old ops).frames ≡ [] → HasShape old (length ops) → MatchOption r ((old ≡ []) × (new ≡ [])) (λ x. old ≡ x ∷ new) → HasShape new (length ops) × (state_of new ops s n ls en ≡ closed (state_of old ops s n ls en))
-state_close old new None ops s n ls en own w k = rw (k.0, k.1) (tt, refl)
-state_close old new (Some f) ops s n ls en own w k =
+pub state_close : (old new : List FlatFrame) (r : Option FlatFrame) (ops : List MaybeType) (s : Bool) (n : WasmFeatures) (ls : List ValType) (en : List Bool) (un : Option State) → own_of (cut old ops).frames ≡ [] → HasShape old (length ops) → MatchOption r ((old ≡ []) × (new ≡ [])) (λ x. old ≡ x ∷ new) → HasShape new (length ops) × (state_of new ops s n ls en un ≡ closed (state_of old ops s n ls en un))
+state_close old new None ops s n ls en un own w k = rw (k.0, k.1) (tt, refl)
+state_close old new (Some f) ops s n ls en un own w k =
     let own' : take (length ops - f.height) ops ≡ [] = subst (λ fs. own_of (cut fs ops).frames ≡ []) k own in
     let w' : HasShape (f ∷ new) (length ops) = subst (λ fs. HasShape fs (length ops)) k w in
     let all = own_height f ops w'.0 own' in
@@ -143,11 +143,11 @@ all_set [] (suc n) t = ap (λ r. true ∷ r) (all_set [] n t)
 all_set (u ∷ ts) n t = ap (λ r. true ∷ r) (all_set ts n t)
 
 -- what is defined of the locals is defined of the state
-pub defined_state : (r : Result Bool OutOfMemory) (fs : List FlatFrame) (ops : List MaybeType) (s : Bool) (n : WasmFeatures) (old new : List ValType) (count : ℕ) (ty : ValType) (v : BodyState) → state_of fs ops s n old (map (λ (_ : ValType). true) old) ≡ v → IfOk r (λ done. MatchBool done (new ≡ old ++ replicate count ty) (new ≡ old)) → IfOk r (λ done. MatchBool done (state_of fs ops s n new (map (λ (_ : ValType). true) new) ≡ with_locals count ty v) (state_of fs ops s n new (map (λ (_ : ValType). true) new) ≡ v))
+pub defined_state : (r : Result Bool OutOfMemory) (fs : List FlatFrame) (ops : List MaybeType) (s : Bool) (n : WasmFeatures) (old new : List ValType) (count : ℕ) (ty : ValType) (v : BodyState) → state_of fs ops s n old (map (λ (_ : ValType). true) old) None ≡ v → IfOk r (λ done. MatchBool done (new ≡ old ++ replicate count ty) (new ≡ old)) → IfOk r (λ done. MatchBool done (state_of fs ops s n new (map (λ (_ : ValType). true) new) None ≡ with_locals count ty v) (state_of fs ops s n new (map (λ (_ : ValType). true) new) None ≡ v))
 defined_state (Err e) fs ops s n old new count ty v is h = tt
 defined_state (Ok false) fs ops s n old new count ty v is h = rw h is
 defined_state (Ok true) fs ops s n old new count ty v is h =
-    rw h (ap (λ (en : List Bool). state_of fs ops s n (old ++ replicate count ty) en) (all_set old count ty)) ∙ ap (with_locals count ty) is
+    rw h (ap (λ (en : List Bool). state_of fs ops s n (old ++ replicate count ty) en None) (all_set old count ty)) ∙ ap (with_locals count ty) is
 
 all_entry : (ls : List ValType) (i : ℕ) → i < length ls → slice_index_or (map (λ (_ : ValType). true) ls) i false ≡ true
 all_entry [] i h = absurd (omega (arith, h))
@@ -159,7 +159,7 @@ or_true true = refl
 or_true false = refl
 
 -- every local is set when the body begins
-pub set_at_entry : (fs : List FlatFrame) (ops : List MaybeType) (s : Bool) (n : WasmFeatures) (ls : List ValType) (v : BodyState) (i : ℕ) → state_of fs ops s n ls (map (λ (_ : ValType). true) ls) ≡ v → i < length v.locals → is_set_in v i ≡ true
+pub set_at_entry : (fs : List FlatFrame) (ops : List MaybeType) (s : Bool) (n : WasmFeatures) (ls : List ValType) (v : BodyState) (i : ℕ) → state_of fs ops s n ls (map (λ (_ : ValType). true) ls) None ≡ v → i < length v.locals → is_set_in v i ≡ true
 set_at_entry fs ops s n ls v i e h =
     let within : i < length ls = subst (λ (w : BodyState). i < length w.locals) (sym e) h in
     ap (λ (w : BodyState). has (set_in v.present.frames) i || slice_index_or w.entry i false) (sym e)

@@ -3,5 +3,6 @@ pub mod State
 pub mod Flat
 pub mod Steps
 pub mod Pops
+pub mod Names
 pub mod Blocks
 pub mod Visits

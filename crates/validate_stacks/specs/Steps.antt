@@ -1,5 +1,5 @@
 -- The steps of the stacks on what they stand for.
-use Rattle.std.specs.Prelude.{ℕ, List, [], ◌∷◌, ◌++◌, Bool, true, false, Option, Some, None, length, slice_get, slice_index_or, replicate, ◌||◌}
+use Rattle.std.specs.Prelude.{ℕ, List, [], ◌∷◌, ◌++◌, Bool, true, false, Option, Some, None, length, drop, slice_get, slice_index_or, replicate, ◌||◌}
 use Rattle.std.specs.Option.{option_map}
 use Rattle.validate_types.specs.declared.features.WasmFeatures.{WasmFeatures}
 use Rattle.validate_types.specs.declared.types.ValType.{ValType}
@@ -7,7 +7,8 @@ use Rattle.validate_visit.specs.declared.frame.BlockType.{BlockType}
 use Rattle.validate_visit.specs.declared.frame.Frame.{Frame as FlatFrame}
 use Rattle.validate_visit.specs.declared.frame.FrameKind.{FrameKind}
 use Rattle.validation_rules.specs.Fits.{MaybeType, Bottom, Known}
-use Rattle.validation_rules.specs.Static.{Frame, State, has, set_in, joined}
+use Rattle.validation_rules.specs.Rows.{Head}
+use Rattle.validation_rules.specs.Static.{Frame, State, heads, has, set_in, joined}
 use Rattle.validate_stacks.specs.Flat.{with_heights}
 use Rattle.validate_stacks.specs.State.{BodyState}
 
@@ -15,7 +16,7 @@ use Rattle.validate_stacks.specs.State.{BodyState}
 
 -- no frame, no operand and no local
 abbrev pub empty : WasmFeatures → BodyState
-empty features = record { present = record { frames = []; left = [] }; shared = false; features = features; locals = []; entry = [] }
+empty features = record { present = record { frames = []; left = [] }; shared = false; features = features; locals = []; entry = []; undone = None }
 
 -- the own operands of the innermost frame, the top first
 abbrev pub own_of : List Frame → List MaybeType
@@ -53,6 +54,22 @@ peeked v depth = option_map known_of (slice_get (all_in v.present.frames v.prese
 abbrev pub frame_at : BodyState → ℕ → Option FlatFrame
 frame_at v depth = slice_get (with_heights v.present.frames (length v.present.left)) depth
 
+-- the block type and the kind of a frame
+abbrev pub label_by : Head → BlockType × FrameKind
+label_by h = (h.block_type, h.kind)
+
+-- those of the frame at this depth
+abbrev pub label_of : BodyState → ℕ → Option (BlockType × FrameKind)
+label_of v depth = option_map label_by (slice_get (heads v.present.frames) depth)
+
+-- what a pop finds in the innermost frame, after so many others
+abbrev pub found_below_in : ℕ → List Frame → Option MaybeType
+found_below_in n [] = None
+found_below_in n (f ∷ fs) = top_of (drop n f.own) f.dead
+
+abbrev pub found_below : ℕ → BodyState → Option MaybeType
+found_below n v = found_below_in n v.present.frames
+
 -- ---- operands
 
 abbrev pub put_on : MaybeType → List Frame → List MaybeType → State
@@ -83,6 +100,14 @@ new_frame kind block_type = record { head = record { kind = kind; block_type = b
 -- with one more frame, live and without operands
 abbrev pub opened : FrameKind → BlockType → BodyState → BodyState
 opened kind block_type v = record v { present = record { frames = new_frame kind block_type ∷ v.present.frames; left = v.present.left } }
+
+abbrev pub ended_in : List Frame → List Frame
+ended_in [] = []
+ended_in (f ∷ fs) = record f { own = []; dead = true } ∷ fs
+
+-- with the innermost frame dead, and without operands of its own
+abbrev pub ended : BodyState → BodyState
+ended v = record v { present = record { frames = ended_in v.present.frames; left = v.present.left } }
 
 abbrev pub outer_of : List Frame → List Frame
 outer_of [] = []

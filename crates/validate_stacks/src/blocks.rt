@@ -1,13 +1,14 @@
 //! The types of a block, and the opening and closing of its frame.
 
-ghost use Rattle.std.specs.Prelude.{◌≡◌, true, false, None, Some, OnOk, IfOk, IfErr};
+ghost use Rattle.std.specs.Prelude.{◌≡◌, true, false, None, Some, OnOk, OnErr, IfOk, IfErr};
 ghost use Rattle.validate_resources.specs.Context.{Valid};
-ghost use Rattle.validation_rules.specs.Context.{block_signature};
+ghost use Rattle.validation_rules.specs.Context.{Context, block_signature};
+ghost use Rattle.validation_rules.specs.Rows.{label_types};
 ghost use Rattle.validation_rules.specs.Valid.{BlockIsValid};
 ghost use Rattle.validate_stacks.specs.State.{IsValid};
 ghost use Rattle.validate_stacks.specs.Steps.{frame_at};
 ghost use Rattle.validate_stacks.specs.Pops.{IsKept};
-ghost use Rattle.validate_stacks.specs.Blocks.{close_frame, entered};
+ghost use Rattle.validate_stacks.specs.Blocks.{close_frame, entered, head_of};
 ghost use Rattle.validate_stacks.specs.Visits.{MayVisit};
 
 use crate::stacks::Stacks;
@@ -53,6 +54,20 @@ pub fn results<'a, R: WasmModuleResources>(
     }
 }
 
+/// The types that a branch to a label carries: the parameters for a loop, the results for every other.
+pub fn label_types<'a, R: WasmModuleResources>(
+    resources: &'a R,
+    block_type: &'a BlockType,
+    kind: FrameKind,
+) -> &'a [ValType]
+    ensures { (cx : Context) → cx.of_module ≡ R.context resources.now → result.now ≡ label_types cx (head_of kind block_type.now) }
+{
+    match kind {
+        FrameKind::Loop => params(resources, block_type),
+        _ => results(resources, block_type),
+    }
+}
+
 impl Stacks {
     /// Opens a frame of this kind over the parameters of its block type (wasmparser's `push_ctrl`).
     /// It refuses for want of memory alone.
@@ -78,8 +93,8 @@ impl Stacks {
     }
 
     /// Closes the innermost frame, which has to have exactly its results (wasmparser's `pop_ctrl`).
-    /// It gives back the frame, or refuses where an operand is missing or of another type, where one
-    /// is left over, or for want of memory for the text.
+    /// It gives back the frame, or refuses where an operand is missing or of another type, or where one
+    /// is left over. Memory is wanted for the text of a refusal alone.
     pub fn pop_ctrl<R: WasmModuleResources>(
         &mut self,
         resources: &R,
@@ -88,7 +103,7 @@ impl Stacks {
         requires { MayVisit (R.context resources.now) self.old }
         ensures closed { OnOk result (close_frame (R.context resources.now) self.old ≡ Some self.new) }
         ensures frame { IfOk result (λ f. frame_at self.old 0 ≡ Some f) }
-        ensures refused { IfErr result (λ e. e.memory ≡ false → close_frame (R.context resources.now) self.old ≡ None) }
+        ensures refused { OnErr result (close_frame (R.context resources.now) self.old ≡ None) }
         ensures offset { IfErr result (λ e. e.offset ≡ offset) }
         ensures valid { IsValid (R.context resources.now) self.new }
         ensures kept { IsKept self.old self.new }

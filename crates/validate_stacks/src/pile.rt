@@ -83,6 +83,16 @@ impl<T> Pile<T> {
         self.vec.pop()
     }
 
+    /// Takes the newest items, down to so many, and keeps the room.
+    pub fn truncate(&mut self, len: usize)
+    where
+        T: Drop,
+        ensures items { self.new.items ≡ drop (length self.old.items - len) self.old.items }
+        ensures room { self.new.room ≡ self.old.room }
+    {
+        self.vec.truncate(len);
+    }
+
     /// Takes all items, and keeps the room.
     pub fn clear(&mut self)
     where

@@ -6,6 +6,7 @@ ghost use Rattle.validate_resources.specs.Context.{Valid};
 ghost use Rattle.validation_rules.specs.Fits.{fits};
 ghost use Rattle.validation_rules.specs.Valid.{OperandIsValid};
 ghost use Rattle.validate_stacks.specs.State.{IsValid, context};
+ghost use Rattle.validate_stacks.specs.Names.{type_name};
 ghost use Rattle.validate_stacks.specs.Pops.{passes};
 ghost use Rattle.validate_stacks.specs.Steps.{found, popped};
 
@@ -15,7 +16,9 @@ use validate_resources::WasmModuleResources;
 use validate_types::{Error, MaybeType, ValType};
 
 /// The name of a type in a refusal (wasmparser's `ty_to_str`).
-pub fn ty_to_str(ty: ValType) -> &'static str {
+pub fn ty_to_str(ty: ValType) -> &'static str
+    ensures { result.now ≡ type_name ty }
+{
     match ty {
         ValType::I32 => "i32",
         ValType::I64 => "i64",
@@ -57,8 +60,8 @@ fn mismatch(alloc: Global, expected: ValType, found: ValType, offset: u64) -> Er
 
 impl Stacks {
     /// Pops an operand that fits what is wanted, if anything is. It refuses, at the offset handed in,
-    /// where nothing is found or where what is found doesn't fit (and is popped), or for want of
-    /// memory for the text.
+    /// where nothing is found or where what is found doesn't fit (and is popped). Memory is wanted for
+    /// the text of a refusal alone.
     pub fn pop_operand<R: WasmModuleResources>(
         &mut self,
         resources: &R,
@@ -70,23 +73,40 @@ impl Stacks {
         ensures value { IfOk result (λ t. found self.old ≡ Some t) }
         ensures passed { OnOk result (passes (context (R.context resources.now) self.old) (found self.old) expected ≡ true) }
         ensures popped { OnOk result (self.new ≡ popped self.old) }
-        ensures refused { IfErr result (λ e. e.memory ≡ false → passes (context (R.context resources.now) self.old) (found self.old) expected ≡ false) }
+        ensures refused { OnErr result (passes (context (R.context resources.now) self.old) (found self.old) expected ≡ false) }
         ensures left { OnErr result ((self.new ≡ self.old) ⊎ (self.new ≡ popped self.old)) }
         ensures offset { IfErr result (λ e. e.offset ≡ offset) }
 
         // A pop of any type takes no memory.
         ensures memory { expected ≡ None → IfErr result (λ e. e.memory ≡ false) }
     {
-        let alloc = self.allocator();
-        let Some(actual) = self.pop_any() else {
-            return Err(nothing_there(alloc, expected, offset));
+        let found = self.pop_any();
+        self.check_found(resources, offset, found, expected)
+    }
+
+    /// The operand that was found, where it fits what is wanted, if anything is.
+    pub(crate) fn check_found<R: WasmModuleResources>(
+        &self,
+        resources: &R,
+        offset: u64,
+        found: Option<MaybeType>,
+        expected: Option<ValType>,
+    ) -> Result<MaybeType, Error>
+        ensures value { IfOk result (λ t. found ≡ Some t) }
+        ensures passed { OnOk result (passes (context (R.context resources.now) self.now) found expected ≡ true) }
+        ensures refused { OnErr result (passes (context (R.context resources.now) self.now) found expected ≡ false) }
+        ensures offset { IfErr result (λ e. e.offset ≡ offset) }
+        ensures memory { expected ≡ None → IfErr result (λ e. e.memory ≡ false) }
+    {
+        let Some(actual) = found else {
+            return Err(nothing_there(self.allocator(), expected, offset));
         };
         match (actual, expected) {
             (MaybeType::Known(found), Some(wanted)) => {
                 if resources.is_subtype(found, wanted) {
                     Ok(actual)
                 } else {
-                    Err(mismatch(alloc, wanted, found, offset))
+                    Err(mismatch(self.allocator(), wanted, found, offset))
                 }
             }
             _ => Ok(actual),

@@ -3,7 +3,7 @@
 ghost use Rattle.std.specs.Prelude.{◌≡◌, ◌≢◌, ◌+◌, ◌<◌, ◌≤◌, [], length, IfOk, OnErr, MatchBool, MatchResult, IsTrue, not};
 ghost use Rattle.std.specs.Option.{option_copied};
 ghost use Rattle.validation_rules.specs.Static.{operand_count, frame_count};
-ghost use Rattle.validate_stacks.specs.Steps.{empty, own_of, found, known_of, peeked, frame_at, pushed, popped, opened, closed, is_set_in, local_set, with_locals};
+ghost use Rattle.validate_stacks.specs.Steps.{empty, own_of, found, known_of, peeked, frame_at, label_of, found_below, ended, pushed, popped, opened, closed, is_set_in, local_set, with_locals};
 
 use crate::allocations::OperatorValidatorAllocations;
 use crate::pile::Pile;
@@ -26,14 +26,14 @@ pub struct Stacks {
 }
 
 impl Model for Stacks {
-    ghost use Rattle.std.specs.Prelude.{length, map, true};
+    ghost use Rattle.std.specs.Prelude.{length, map, true, None};
     ghost use Rattle.validate_stacks.specs.State.{BodyState};
 
     ghost Value = { BodyState };
 
     ghost use Rattle.validate_stacks.specs.Flat.{cut, HasShape};
 
-    ghost view = { λ s. record { present = cut s.control.items s.operands.items; shared = s.shared; features = s.features; locals = s.locals; entry = map (λ _. true) s.locals } };
+    ghost view = { λ s. record { present = cut s.control.items s.operands.items; shared = s.shared; features = s.features; locals = s.locals; entry = map (λ _. true) s.locals; undone = None } };
 
     ghost invariant = { λ s. HasShape s.control.items (length s.operands.items) };
 }
@@ -154,6 +154,14 @@ impl Stacks {
         self.control.get(depth)
     }
 
+    /// The block type and the kind of the frame at this depth, the innermost at 0, or None past the end.
+    pub fn jump(&self, depth: u32) -> Option<(BlockType, FrameKind)>
+        ensures { result ≡ label_of self.now depth }
+    {
+        let frame = self.get_frame(depth as usize)?;
+        Some((frame.block_type, frame.kind))
+    }
+
     /// Pushes an operand onto the innermost frame. Want of memory changes nothing.
     pub fn push_operand(&mut self, ty: MaybeType) -> Result<(), OutOfMemory>
         ensures exact { MatchResult result (λ _. self.new ≡ pushed ty self.old) (λ _. self.new ≡ self.old) }
@@ -180,6 +188,35 @@ impl Stacks {
             };
         }
         self.operands.pop()
+    }
+
+    /// What a pop would find below so many others, in the innermost frame.
+    pub(crate) fn found_at(&self, depth: usize) -> Option<MaybeType>
+        ensures { result ≡ found_below depth self.now }
+    {
+        let frame = self.control.get(0)?;
+        if depth < self.operands.len() - frame.height {
+            return self.operands.get(depth).copied();
+        }
+        if frame.unreachable {
+            Some(MaybeType::Bottom)
+        } else {
+            None
+        }
+    }
+
+    /// Ends the live part of the innermost frame (wasmparser's `unreachable`): it is dead from here on,
+    /// and its own operands go, in place. It takes no memory.
+    pub fn unreachable(&mut self)
+        ensures { self.new ≡ ended self.old }
+    {
+        let Some(innermost) = self.control.get(0) else {
+            return;
+        };
+        let mut frame = *innermost;
+        frame.unreachable = true;
+        self.operands.truncate(frame.height);
+        self.control.replace_top(frame);
     }
 
     /// How many own operands the innermost frame has.

@@ -10,49 +10,34 @@ ghost use Rattle.wasmparser_validate.specs.State.{BodyState, IsStarting};
 ghost use Rattle.wasmparser_validate.specs.Static.{start};
 
 use crate::expect::{Wanted, expect_answer};
-use crate::fixture::{func_type, validator};
+use crate::fixture::{func_type, module_of, validator, validator_under};
+use crate::ops::{
+    DROP, EMPTY_BLOCK, END, I32_CONST, I32_EQZ, I64_CONST, block_of, if_of, local_get, loop_of,
+    typed_block, typed_if, typed_loop,
+};
 use bitflags::Flags;
 use std::process::Abort;
 use std::test::Fail;
 use wasmparser_validate::operators::{OperatorValidator, OperatorValidatorAllocations, safety_law};
 use wasmparser_validate::resources::{ModuleLists, WasmModuleResources};
 use wasmparser_validate::types::{Error, ValType, WasmFeatures};
-use wasmparser_validate::visit::{BlockType, ControlOp, FrameKind, NumericOp, Op};
-
-const I32_CONST: Op = Op::Numeric(NumericOp::I32Const(7));
-
-const I64_CONST: Op = Op::Numeric(NumericOp::I64Const(-7));
-
-const I32_EQZ: Op = Op::Numeric(NumericOp::I32Eqz);
-
-const DROP: Op = Op::Control(ControlOp::Drop);
-
-const END: Op = Op::Control(ControlOp::End);
-
-const EMPTY_BLOCK: Op = Op::Control(ControlOp::Block(BlockType::Empty));
+use wasmparser_validate::visit::{BlockType, ControlOp, FrameKind, Op};
 
 /// A block of type 1.
-const TYPED_BLOCK: Op = Op::Control(ControlOp::Block(BlockType::FuncType(1)));
-
-fn block_of(ty: ValType) -> Op {
-    Op::Control(ControlOp::Block(BlockType::Val(ty)))
-}
+const TYPED_BLOCK: Op<'static> = Op::Control(ControlOp::Block(BlockType::FuncType(1)));
 
 /// Type 0 is `[] -> []`, and type 1 is `[i32] -> [i64]`.
 fn two_types(rt: &impl AllocGlobal) -> Result<ModuleLists, Fail> {
-    let mut types = Vec::new(rt.alloc());
-    types.push(func_type(rt, &[], &[])?)?;
-    types.push(func_type(rt, &[ValType::I32], &[ValType::I64])?)?;
-    Ok(ModuleLists::new(rt.alloc(), types)?)
+    module_of(rt, &[(&[], &[]), (&[ValType::I32], &[ValType::I64])])
 }
 
 /// What a check answers of a body of type 0.
 fn expect_body(
     rt: &(impl Abort + AllocGlobal),
-    ops: &[Op],
+    ops: &[Op<'_>],
     wanted: Wanted<'_>,
     heights: &[(usize, usize)],
-    left: &[ValType],
+    left: &[Option<ValType>],
 ) -> Result<(), Fail> {
     let lists = two_types(rt)?;
     let mut v = validator(rt, &lists)?;
@@ -63,12 +48,11 @@ fn expect_body(
 fn expect_block_refused(
     rt: &(impl Abort + AllocGlobal),
     features: WasmFeatures,
-    op: Op,
+    op: Op<'_>,
     text: &str,
 ) -> Result<(), Fail> {
     let lists = two_types(rt)?;
-    let allocs = OperatorValidatorAllocations::new(rt.alloc());
-    let mut v = OperatorValidator::new_func(0, 0, &features, &lists, allocs)?;
+    let mut v = validator_under(rt, &lists, features)?;
     expect_answer(
         rt,
         &mut v,
@@ -89,7 +73,7 @@ fn a_block_with_too_much(rt: HostRuntime) -> Result<(), Fail> {
         &[EMPTY_BLOCK, I32_CONST, END],
         Wanted::Refusal(2, text),
         &heights,
-        &[ValType::I32],
+        &[Some(ValType::I32)],
     )
 }
 
@@ -103,7 +87,7 @@ fn a_block_with_too_little(rt: HostRuntime) -> Result<(), Fail> {
         &[I32_CONST, EMPTY_BLOCK, I32_EQZ],
         Wanted::Refusal(2, text),
         &heights,
-        &[ValType::I32],
+        &[Some(ValType::I32)],
     )
 }
 
@@ -141,7 +125,7 @@ fn a_block_of_a_value_type(rt: HostRuntime) -> Result<(), Fail> {
         &[I32_CONST, block_of(ValType::I32), END],
         Wanted::Refusal(2, text),
         &[(1, 1), (1, 2)],
-        &[ValType::I32],
+        &[Some(ValType::I32)],
     )
 }
 
@@ -156,7 +140,7 @@ fn the_frame_of_a_block(rt: HostRuntime) -> Result<(), Fail> {
     let mut v = validator(&rt, &lists)?;
     let ops = [I64_CONST, I32_CONST, TYPED_BLOCK];
     let heights = [(1, 1), (2, 1), (2, 2)];
-    let left = [ValType::I32, ValType::I64];
+    let left = [Some(ValType::I32), Some(ValType::I64)];
     expect_answer(
         &rt,
         &mut v,
@@ -178,17 +162,28 @@ fn the_frame_of_a_block(rt: HostRuntime) -> Result<(), Fail> {
     Ok(())
 }
 
+/// Of every opener, and before any operand is looked at.
 #[test]
 fn block_types_are_checked(rt: HostRuntime) -> Result<(), Fail> {
     let none = WasmFeatures::empty();
     let text =
         "blocks, loops, and ifs may only produce a resulttype when multi-value is not enabled";
-    expect_block_refused(&rt, none, TYPED_BLOCK, text)?;
+    for op in [TYPED_BLOCK, typed_loop(1), typed_if(1)] {
+        expect_block_refused(&rt, none, op, text)?;
+    }
     let text = "floating-point support is disabled";
-    expect_block_refused(&rt, none, block_of(ValType::F64), text)?;
-    let unknown = Op::Control(ControlOp::Block(BlockType::FuncType(2)));
+    for op in [
+        block_of(ValType::F64),
+        loop_of(ValType::F64),
+        if_of(ValType::F64),
+    ] {
+        expect_block_refused(&rt, none, op, text)?;
+    }
     let text = "unknown type: type index out of bounds";
-    expect_block_refused(&rt, WasmFeatures::MULTI_VALUE, unknown, text)
+    for op in [typed_block(2), typed_loop(2), typed_if(2)] {
+        expect_block_refused(&rt, WasmFeatures::MULTI_VALUE, op, text)?;
+    }
+    Ok(())
 }
 
 #[test]
@@ -200,7 +195,7 @@ fn a_shared_function_names_shared_types(rt: HostRuntime) -> Result<(), Fail> {
     types.push(func_type(&rt, &[], &[])?)?;
     let lists = ModuleLists::new(rt.alloc(), types)?;
     let mut v = validator(&rt, &lists)?;
-    let own = Op::Control(ControlOp::Block(BlockType::FuncType(0)));
+    let own = typed_block(0);
     let text = "shared functions cannot access unshared functions";
     let ops = [own, TYPED_BLOCK];
     expect_answer(
@@ -245,7 +240,7 @@ fn the_law_holds_of_lists(rt: HostRuntime) -> Result<(), Fail> {
 fn a_constant_expression(rt: HostRuntime) -> Result<(), Fail> {
     let lists = two_types(&rt)?;
     let mut v = constant(&rt, &lists)?;
-    let left = [ValType::I32];
+    let left = [Some(ValType::I32)];
     let heights = [(1, 1), (1, 0)];
     expect_answer(
         &rt,
@@ -268,13 +263,12 @@ fn a_constant_expression(rt: HostRuntime) -> Result<(), Fail> {
         &[],
     )?;
     let mut v = constant(&rt, &lists)?;
-    let get = Op::Control(ControlOp::LocalGet(0));
     let text = "unknown local 0: local index out of bounds";
     expect_answer(
         &rt,
         &mut v,
         &lists,
-        &[get],
+        &[local_get(0)],
         Wanted::Refusal(0, text),
         &[],
         &[],

@@ -3,10 +3,13 @@
 
 use crate::expect::{Wanted, expect_answer};
 use crate::fixture::{module, validator};
+use crate::ops::{
+    DROP, END, I32_ADD, I32_CONST, I32_EQZ, I64_CONST, NOP, local_get, local_set, local_tee,
+};
 use std::process::Abort;
 use std::test::Fail;
 use wasmparser_validate::types::ValType;
-use wasmparser_validate::visit::{ControlOp, NumericOp, Op};
+use wasmparser_validate::visit::{NumericOp, Op};
 
 /// What a check answers of a body of type `[params] -> [results]` with a local of type i64 behind its
 /// parameters.
@@ -14,26 +17,16 @@ fn expect_check(
     rt: &(impl Abort + AllocGlobal),
     params: &[ValType],
     results: &[ValType],
-    ops: &[Op],
+    ops: &[Op<'_>],
     wanted: Wanted<'_>,
     heights: &[(usize, usize)],
-    left: &[ValType],
+    left: &[Option<ValType>],
 ) -> Result<(), Fail> {
     let lists = module(rt, params, results)?;
     let mut v = validator(rt, &lists)?;
     v.define_locals(0, 1, ValType::I64, &lists)?;
     expect_answer(rt, &mut v, &lists, ops, wanted, heights, left)
 }
-
-const I32_CONST: Op = Op::Numeric(NumericOp::I32Const(7));
-
-const I64_CONST: Op = Op::Numeric(NumericOp::I64Const(-7));
-
-const I32_ADD: Op = Op::Numeric(NumericOp::I32Add);
-
-const DROP: Op = Op::Control(ControlOp::Drop);
-
-const END: Op = Op::Control(ControlOp::End);
 
 #[test]
 fn an_operand_is_missing(rt: HostRuntime) -> Result<(), Fail> {
@@ -53,7 +46,7 @@ fn an_operand_is_missing(rt: HostRuntime) -> Result<(), Fail> {
 fn a_mismatched_operand_is_popped(rt: HostRuntime) -> Result<(), Fail> {
     let ops = [I32_CONST, I64_CONST, I32_ADD];
     let text = "type mismatch: expected i32, found i64";
-    let left = [ValType::I32];
+    let left = [Some(ValType::I32)];
     expect_check(
         &rt,
         &[],
@@ -67,17 +60,18 @@ fn a_mismatched_operand_is_popped(rt: HostRuntime) -> Result<(), Fail> {
 
 #[test]
 fn an_addition_is_accepted(rt: HostRuntime) -> Result<(), Fail> {
-    let ops = [Op::Control(ControlOp::LocalGet(0)), I32_CONST, I32_ADD, END];
+    let ops = [local_get(0), I32_CONST, I32_ADD, END];
     let heights = [(1, 1), (2, 1), (1, 1), (1, 0)];
     let i32 = [ValType::I32];
-    expect_check(&rt, &i32, &i32, &ops, Wanted::Answer(true), &heights, &i32)
+    let left = [Some(ValType::I32)];
+    expect_check(&rt, &i32, &i32, &ops, Wanted::Answer(true), &heights, &left)
 }
 
 #[test]
 fn a_body_may_stop_early(rt: HostRuntime) -> Result<(), Fail> {
     expect_check(&rt, &[], &[], &[], Wanted::Answer(false), &[], &[])?;
     let ops = [I32_CONST, I64_CONST];
-    let left = [ValType::I64, ValType::I32];
+    let left = [Some(ValType::I64), Some(ValType::I32)];
     expect_check(
         &rt,
         &[],
@@ -100,7 +94,7 @@ fn the_end_asks_for_exactly_the_results(rt: HostRuntime) -> Result<(), Fail> {
         &[I32_CONST, END],
         Wanted::Refusal(1, more),
         &[(1, 1)],
-        &i32,
+        &[Some(ValType::I32)],
     )?;
     let less = "type mismatch: expected i32 but nothing on stack";
     expect_check(&rt, &[], &i32, &[END], Wanted::Refusal(0, less), &[], &[])?;
@@ -121,7 +115,7 @@ fn results_lie_in_order(rt: HostRuntime) -> Result<(), Fail> {
     let results = [ValType::I32, ValType::I64];
     let ops = [I32_CONST, I64_CONST, END];
     let heights = [(1, 1), (2, 1), (2, 0)];
-    let left = [ValType::I64, ValType::I32];
+    let left = [Some(ValType::I64), Some(ValType::I32)];
     expect_check(
         &rt,
         &[],
@@ -151,14 +145,15 @@ fn numeric_operators(rt: HostRuntime) -> Result<(), Fail> {
 /// A binary operator, on two operands of its type, on one, and on none.
 fn expect_numeric(
     rt: &(impl Abort + AllocGlobal),
-    operands: &[Op; 2],
+    operands: &[Op<'static>; 2],
     op: NumericOp,
     ty: ValType,
 ) -> Result<(), Fail> {
     let op = Op::Numeric(op);
     let ops = [operands[0], operands[1], op];
     let heights = [(1, 1), (2, 1), (1, 1)];
-    expect_check(rt, &[], &[], &ops, Wanted::Answer(false), &heights, &[ty])?;
+    let left = [Some(ty)];
+    expect_check(rt, &[], &[], &ops, Wanted::Answer(false), &heights, &left)?;
     let text = match ty {
         ValType::I64 => "type mismatch: expected i64 but nothing on stack",
         _ => "type mismatch: expected i32 but nothing on stack",
@@ -169,24 +164,23 @@ fn expect_numeric(
 }
 
 fn expect_test(rt: &(impl Abort + AllocGlobal)) -> Result<(), Fail> {
-    let op = Op::Numeric(NumericOp::I32Eqz);
     let heights = [(1, 1), (1, 1)];
-    let i32 = [ValType::I32];
+    let left = [Some(ValType::I32)];
     expect_check(
         rt,
         &[],
         &[],
-        &[I32_CONST, op],
+        &[I32_CONST, I32_EQZ],
         Wanted::Answer(false),
         &heights,
-        &i32,
+        &left,
     )?;
     let text = "type mismatch: expected i32, found i64";
     expect_check(
         rt,
         &[],
         &[],
-        &[I64_CONST, op],
+        &[I64_CONST, I32_EQZ],
         Wanted::Refusal(1, text),
         &[(1, 1)],
         &[],
@@ -196,12 +190,11 @@ fn expect_test(rt: &(impl Abort + AllocGlobal)) -> Result<(), Fail> {
 /// `nop` and constants are never refused; `drop` takes any operand.
 #[test]
 fn nop_and_drop(rt: HostRuntime) -> Result<(), Fail> {
-    let nop = Op::Control(ControlOp::Nop);
     expect_check(
         &rt,
         &[],
         &[],
-        &[nop, END],
+        &[NOP, END],
         Wanted::Answer(true),
         &[(0, 1), (0, 0)],
         &[],
@@ -217,10 +210,10 @@ fn nop_and_drop(rt: HostRuntime) -> Result<(), Fail> {
 #[test]
 fn locals_are_read_and_written(rt: HostRuntime) -> Result<(), Fail> {
     let params = [ValType::I32];
-    let get = Op::Control(ControlOp::LocalGet(1));
-    let set = Op::Control(ControlOp::LocalSet(1));
-    let tee = Op::Control(ControlOp::LocalTee(1));
-    let left = [ValType::I64];
+    let get = local_get(1);
+    let set = local_set(1);
+    let tee = local_tee(1);
+    let left = [Some(ValType::I64)];
     expect_check(
         &rt,
         &params,
@@ -266,7 +259,7 @@ fn locals_are_read_and_written(rt: HostRuntime) -> Result<(), Fail> {
 fn an_unknown_local_is_refused(rt: HostRuntime) -> Result<(), Fail> {
     let params = [ValType::I32];
     let text = "unknown local 4294967295: local index out of bounds";
-    let get = Op::Control(ControlOp::LocalGet(u32::MAX));
+    let get = local_get(u32::MAX);
     expect_check(
         &rt,
         &params,
@@ -276,7 +269,7 @@ fn an_unknown_local_is_refused(rt: HostRuntime) -> Result<(), Fail> {
         &[],
         &[],
     )?;
-    let set = Op::Control(ControlOp::LocalSet(2));
+    let set = local_set(2);
     let text = "unknown local 2: local index out of bounds";
     expect_check(
         &rt,
@@ -287,7 +280,7 @@ fn an_unknown_local_is_refused(rt: HostRuntime) -> Result<(), Fail> {
         &[],
         &[],
     )?;
-    let tee = Op::Control(ControlOp::LocalTee(2));
+    let tee = local_tee(2);
     expect_check(
         &rt,
         &params,

@@ -8,6 +8,7 @@ ghost use Rattle.wasmparser_validate.specs.Runs.{operators};
 ghost use Rattle.wasmparser_validate.specs.Start.{state};
 ghost use Rattle.wasmparser_validate.specs.State.{IsStarting};
 
+use crate::fixture::{four_types, validator};
 use std::process::Abort;
 use std::test::Fail;
 use wasmparser_validate::operators::{OperatorValidator, check_ops};
@@ -24,7 +25,7 @@ pub enum Wanted<'a> {
     Refusal(usize, &'a str),
 }
 
-fn all_have_module_immediates(ops: &[(Op, u64)]) -> bool
+fn all_have_module_immediates(ops: &[(Op<'_>, u64)]) -> bool
     ensures { result ≡ list_all (λ (p : _). module_immediates p.0) ops.now }
 {
     ops.iter().all(|pair| has_module_immediates(&pair.0))
@@ -33,7 +34,7 @@ fn all_have_module_immediates(ops: &[(Op, u64)]) -> bool
 /// The check, at any lookup.
 fn check_any<R: WasmModuleResources>(
     v: &mut OperatorValidator,
-    ops: &[(Op, u64)],
+    ops: &[(Op<'_>, u64)],
     resources: &R,
     heights: &mut Vec<(usize, usize)>,
 ) -> Result<bool, (usize, Error)>
@@ -47,15 +48,15 @@ fn check_any<R: WasmModuleResources>(
 
 /// Checks the list with a validator in a starting state, each operator's offset being its place and
 /// 100, and compares the answer, the heights and the types of the operands that it leaves, the top
-/// first.
+/// first, each with its type where it is known.
 pub fn expect_answer(
     rt: &(impl Abort + AllocGlobal),
     v: &mut OperatorValidator,
     lists: &ModuleLists,
-    ops: &[Op],
+    ops: &[Op<'_>],
     wanted: Wanted<'_>,
     heights: &[(usize, usize)],
-    left: &[ValType],
+    left: &[Option<ValType>],
 ) -> Result<(), Fail>
     requires { IsStarting (⟦<ModuleLists as WasmModuleResources>⟧.context lists.now) (state v.old) }
 {
@@ -85,7 +86,43 @@ pub fn expect_answer(
     assert_eq!(rt; noted.as_slice(), heights);
     assert_eq!(rt; v.operand_stack_height(), left.len());
     for (depth, ty) in left.iter().enumerate() {
-        assert_eq!(rt; v.peek_operand_at(depth), Some(Some(*ty)));
+        assert_eq!(rt; v.peek_operand_at(depth), Some(*ty));
     }
     Ok(())
+}
+
+/// Checks the list in a body of type 0 among `four_types`: each operator is accepted.
+pub fn expect_accepted(
+    rt: &(impl Abort + AllocGlobal),
+    ops: &[Op<'_>],
+    heights: &[(usize, usize)],
+    left: &[Option<ValType>],
+) -> Result<(), Fail> {
+    let lists = four_types(rt)?;
+    let mut v = validator(rt, &lists)?;
+    let closed = heights.last().is_some_and(|(_, frames)| *frames == 0);
+    expect_answer(
+        rt,
+        &mut v,
+        &lists,
+        ops,
+        Wanted::Answer(closed),
+        heights,
+        left,
+    )
+}
+
+/// Checks the list in a body of type 0 among `four_types`: the operator after those whose heights are
+/// given is refused, in these words.
+pub fn expect_refused(
+    rt: &(impl Abort + AllocGlobal),
+    ops: &[Op<'_>],
+    text: &str,
+    heights: &[(usize, usize)],
+    left: &[Option<ValType>],
+) -> Result<(), Fail> {
+    let lists = four_types(rt)?;
+    let mut v = validator(rt, &lists)?;
+    let wanted = Wanted::Refusal(heights.len(), text);
+    expect_answer(rt, &mut v, &lists, ops, wanted, heights, left)
 }

@@ -28,26 +28,56 @@ pub fn func_type(
     })
 }
 
+/// A module with these types, each with its parameters and its results, from index 0 on.
+pub fn module_of(
+    rt: &impl AllocGlobal,
+    signatures: &[(&[ValType], &[ValType])],
+) -> Result<ModuleLists, Fail> {
+    let mut types = Vec::new(rt.alloc());
+    for (params, results) in signatures {
+        types.push(func_type(rt, params, results)?)?;
+    }
+    Ok(ModuleLists::new(rt.alloc(), types)?)
+}
+
 /// A module with the one type `[params] -> [results]`, at index 0.
 pub fn module(
     rt: &impl AllocGlobal,
     params: &[ValType],
     results: &[ValType],
 ) -> Result<ModuleLists, Fail> {
-    let mut types = Vec::new(rt.alloc());
-    types.push(func_type(rt, params, results)?)?;
-    Ok(ModuleLists::new(rt.alloc(), types)?)
+    module_of(rt, &[(params, results)])
+}
+
+/// A module whose type 0 is `[] -> []`, type 1 `[i32] -> []`, type 2 `[i32] -> [i32]`, and type 3
+/// `[] -> [i32 i64]`.
+pub fn four_types(rt: &impl AllocGlobal) -> Result<ModuleLists, Fail> {
+    module_of(
+        rt,
+        &[
+            (&[], &[]),
+            (&[ValType::I32], &[]),
+            (&[ValType::I32], &[ValType::I32]),
+            (&[], &[ValType::I32, ValType::I64]),
+        ],
+    )
 }
 
 /// A validator of a body of type 0, with every proposal on.
 pub fn validator(rt: &impl AllocGlobal, lists: &ModuleLists) -> Result<OperatorValidator, Error>
     ensures { IfOk result (λ v. IsStarting (⟦<ModuleLists as WasmModuleResources>⟧.context lists.now) (state v)) }
 {
-    OperatorValidator::new_func(
-        0,
-        0,
-        &WasmFeatures::all(),
-        lists,
-        OperatorValidatorAllocations::new(rt.alloc()),
-    )
+    validator_under(rt, lists, WasmFeatures::all())
+}
+
+/// A validator of a body of type 0, under these proposals.
+pub fn validator_under(
+    rt: &impl AllocGlobal,
+    lists: &ModuleLists,
+    features: WasmFeatures,
+) -> Result<OperatorValidator, Error>
+    ensures { IfOk result (λ v. IsStarting (⟦<ModuleLists as WasmModuleResources>⟧.context lists.now) (state v)) }
+{
+    let allocs = OperatorValidatorAllocations::new(rt.alloc());
+    OperatorValidator::new_func(0, 0, &features, lists, allocs)
 }

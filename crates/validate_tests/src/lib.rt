@@ -8,6 +8,8 @@ mod blocks;
 #[cfg(test)]
 mod bodies;
 #[cfg(test)]
+mod branches;
+#[cfg(test)]
 mod declared;
 #[cfg(test)]
 mod expect;
@@ -15,3 +17,11 @@ mod expect;
 mod fixture;
 #[cfg(test)]
 mod lists;
+#[cfg(test)]
+mod ops;
+#[cfg(test)]
+mod parts;
+#[cfg(test)]
+mod queries;
+#[cfg(test)]
+mod selects;

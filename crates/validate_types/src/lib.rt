@@ -4,8 +4,10 @@
 
 pub mod error;
 pub mod features;
+pub mod gate;
 pub mod types;
 
 pub use crate::error::{Error, OutOfMemory};
 pub use crate::features::WasmFeatures;
+pub use crate::gate::Gate;
 pub use crate::types::{CompositeInnerType, CompositeType, FuncType, MaybeType, SubType, ValType};

@@ -1,65 +1,185 @@
--- Reading a list on from so many open parts.
-use Rattle.std.proofs.Common.{◌≡◌, ◌≢◌, ℕ, zero, suc, ◌+◌, ◌-◌, ◌<◌, List, [], ◌∷◌, Bool, true, false, map, length, drop, get_or, replicate, refl, ap, ◌∙◌, arith}
-use Rattle.std.proofs.lemmas.List.{drop_more}
-use Rattle.validate_visit.specs.declared.frame.FrameKind.TheVariants.{Block}
+-- Reading a list, by the parts that are open after each operator, the innermost first.
+use Rattle.std.proofs.Common.{◌≡◌, ◌≢◌, ℕ, suc, ◌+◌, ◌<◌, Bool, true, false, ◌&&◌, List, [], ◌∷◌, ◌++◌, map, length, take, drop, get_or, refl, ap, sym, ◌∙◌, arith}
+use Rattle.std.proofs.lemmas.List.{take_more, map-append}
+use Rattle.std.proofs.Math.Bool.{and_assoc, and-true}
+use Rattle.std.proofs.Math.Seq.{split_at}
+use Rattle.validate_visit.specs.declared.frame.FrameKind.{FrameKind}
+use Rattle.validate_visit.specs.declared.frame.FrameKind.TheVariants.{Block, Else}
 use Rattle.validate_visit.specs.declared.op.Op.{Op}
 use Rattle.validate_visit.specs.declared.op.Op.TheVariants.{Control, Numeric}
-use Rattle.validate_visit.specs.declared.op.ControlOp.TheVariants.{Block as BlockOp, End}
-use Rattle.validate_visit.specs.Order.{nesting, is_opening, is_closing, is_ordered_from}
+use Rattle.validate_visit.specs.declared.op.ControlOp.TheVariants.{Nop, Block as BlockOp, Loop as LoopOp, If as IfOp, Else as ElseOp}
+use Rattle.validate_visit.specs.Order.{Nesting, Flat, Opens, BeginsElse, BeginsCatch, Ends, Delegates, nesting, is_opening, is_closing, begins_else, is_if, is_try, may_catch, catch_kind, is_ordered_from, is_well_ordered_list}
 
--- the operators of a list with offsets
+-- the operators of a list with offsets, and what they do to the open parts
 abbrev pub operators : List (Op × ℕ) → List Op
 operators ps = map (λ (p : Op × ℕ). p.0) ps
 
--- whether these are in order below n open blocks
-abbrev pub is_ordered_below : ℕ → List (Op × ℕ) → Bool
-is_ordered_below n ps = is_ordered_from (replicate n Block) (map nesting (operators ps))
+abbrev pub nestings : List (Op × ℕ) → List Nesting
+nestings ps = map nesting (operators ps)
 
-closes-step : (n : ℕ) (op : Op) (k : ℕ) (ps : List (Op × ℕ)) → is_closing (nesting op) ≡ true → is_ordered_below (suc n) ((op, k) ∷ ps) ≡ is_ordered_below n ps
-closes-step n (Control End) k ps h = refl
-closes-step n (Control (BlockOp bt)) k ps h = absurd cc
-closes-step n (Control _) k ps h = absurd cc
-closes-step n (Numeric op) k ps h = absurd cc
+abbrev pub outermost : List FrameKind
+outermost = Block ∷ []
 
-opens-step : (n : ℕ) (op : Op) (k : ℕ) (ps : List (Op × ℕ)) → is_opening (nesting op) ≡ true → is_ordered_below (suc n) ((op, k) ∷ ps) ≡ is_ordered_below (suc (suc n)) ps
-opens-step n (Control (BlockOp bt)) k ps h = refl
-opens-step n (Control End) k ps h = absurd cc
-opens-step n (Control _) k ps h = absurd cc
-opens-step n (Numeric op) k ps h = absurd cc
+-- ---- one operator
 
-stays-step : (n : ℕ) (op : Op) (k : ℕ) (ps : List (Op × ℕ)) → is_opening (nesting op) ≡ false → is_closing (nesting op) ≡ false → is_ordered_below (suc n) ((op, k) ∷ ps) ≡ is_ordered_below (suc n) ps
-stays-step n (Control End) k ps g h = absurd cc
-stays-step n (Control (BlockOp bt)) k ps g h = absurd cc
-stays-step n (Control _) k ps g h = refl
-stays-step n (Numeric op) k ps g h = refl
+abbrev pub tail : List FrameKind → List FrameKind
+tail [] = []
+tail (k ∷ ks) = ks
 
--- nothing may follow where no part is open
-none_below : (ps : List (Op × ℕ)) (i : ℕ) → i < length ps → is_ordered_below 0 (drop i ps) ≡ false
-none_below [] i h = absurd (omega (arith, h))
-none_below (p ∷ ps) zero h = refl
-none_below (p ∷ ps) (suc i) h = none_below ps i (omega (arith, h))
+abbrev pub turned : FrameKind → List FrameKind → List FrameKind
+turned j [] = []
+turned j (k ∷ ks) = j ∷ ks
 
-pub none_open : (ps : List (Op × ℕ)) (i n : ℕ) → i < length ps → n ≡ 0 → is_ordered_below n (drop i ps) ≡ false
-none_open ps i n h e = rw e (none_below ps i h)
+-- the open parts after it, wherever it stands
+abbrev pub after : List FrameKind → Nesting → List FrameKind
+after ks Flat = ks
+after ks (Opens kind) = kind ∷ ks
+after ks BeginsElse = turned Else ks
+after ks (BeginsCatch all) = turned (catch_kind all) ks
+after ks Ends = tail ks
+after ks Delegates = tail ks
 
--- one operator further: m parts are open after it
-module _ (ps : List (Op × ℕ)) (i n m : ℕ) (d : Op × ℕ) (h : i < length ps) (some : n ≢ 0) where
-  one_less : n ≡ suc (n - 1)
-  one_less = omega arith
+-- whether it may stand there
+abbrev pub stands : List FrameKind → Nesting → Bool
+stands [] n = false
+stands (k ∷ ks) BeginsElse = is_if k
+stands (k ∷ ks) (BeginsCatch all) = may_catch k
+stands (k ∷ ks) Delegates = is_try k
+stands (k ∷ ks) _ = true
 
-  pub one_further : (is_opening (nesting (get_or ps i d).0) ≡ true → m ≡ n + 1) → (is_closing (nesting (get_or ps i d).0) ≡ true → m + 1 ≡ n) → (is_opening (nesting (get_or ps i d).0) ≡ false → is_closing (nesting (get_or ps i d).0) ≡ false → m ≡ n) → is_ordered_below n (drop i ps) ≡ is_ordered_below m (drop (i + 1) ps)
-  one_further opens closes stays = by (is_opening (nesting (get_or ps i d).0)) (is_closing (nesting (get_or ps i d).0)) refl refl
+reads_one : (ks : List FrameKind) (n : Nesting) (ns : List Nesting) → is_ordered_from ks (n ∷ ns) ≡ stands ks n && is_ordered_from (after ks n) ns
+reads_one [] n ns = refl
+reads_one (k ∷ ks) Flat ns = refl
+reads_one (k ∷ ks) (Opens kind) ns = refl
+reads_one (k ∷ ks) BeginsElse ns = refl
+reads_one (k ∷ ks) (BeginsCatch all) ns = refl
+reads_one (k ∷ ks) Ends ns = refl
+reads_one (k ∷ ks) Delegates ns = refl
+
+-- an operator other than `else` stands wherever `nop` does
+as_nop : (ks : List FrameKind) (op : Op) → begins_else (nesting op) ≡ false → stands ks (nesting op) ≡ stands ks Flat
+as_nop [] op h = refl
+as_nop (k ∷ ks) (Control (BlockOp bt)) h = refl
+as_nop (k ∷ ks) (Control (LoopOp bt)) h = refl
+as_nop (k ∷ ks) (Control (IfOp bt)) h = refl
+as_nop (k ∷ ks) (Control ElseOp) h = absurd cc
+as_nop (k ∷ ks) (Control _) h = refl
+as_nop (k ∷ ks) (Numeric op) h = refl
+
+nop_stands : (ks : List FrameKind) (n : ℕ) → n ≡ length ks → n ≢ 0 → stands ks Flat ≡ true
+nop_stands [] n e some = absurd (some e)
+nop_stands (k ∷ ks) n e some = refl
+
+none_stands : (ks : List FrameKind) (n : Nesting) → 0 ≡ length ks → stands ks n ≡ false
+none_stands [] n e = refl
+none_stands (k ∷ ks) n e = absurd (omega (arith, e))
+
+length-turned : (j : FrameKind) (ks : List FrameKind) → length ks ≡ length (turned j ks)
+length-turned j [] = refl
+length-turned j (k ∷ ks) = refl
+
+-- so many parts are open after it
+counted : (ks : List FrameKind) (n : Nesting) (c m : ℕ) → c ≡ length ks → (is_opening n ≡ true → m ≡ c + 1) → (is_closing n ≡ true → m + 1 ≡ c) → (is_opening n ≡ false → is_closing n ≡ false → m ≡ c) → m ≡ length (after ks n)
+counted ks Flat c m e opens closes stays = stays refl refl ∙ e
+counted ks (Opens kind) c m e opens closes stays = let h = opens refl in omega (arith, e, h)
+counted ks BeginsElse c m e opens closes stays = stays refl refl ∙ e ∙ length-turned Else ks
+counted ks (BeginsCatch all) c m e opens closes stays = stays refl refl ∙ e ∙ length-turned (catch_kind all) ks
+counted [] Ends c m e opens closes stays = let h = closes refl in absurd (omega (arith, e, h))
+counted (k ∷ ks) Ends c m e opens closes stays = let h = closes refl in omega (arith, e, h)
+counted [] Delegates c m e opens closes stays = let h = closes refl in absurd (omega (arith, e, h))
+counted (k ∷ ks) Delegates c m e opens closes stays = let h = closes refl in omega (arith, e, h)
+
+-- ---- a list
+
+-- the open parts after it
+abbrev pub parts : List FrameKind → List Nesting → List FrameKind
+parts ks [] = ks
+parts ks (n ∷ ns) = parts (after ks n) ns
+
+parts-push : (ks : List FrameKind) (ns : List Nesting) (n : Nesting) → parts ks (ns ++ n ∷ []) ≡ after (parts ks ns) n
+parts-push ks [] n = refl
+parts-push ks (m ∷ ns) n = parts-push (after ks m) ns n
+
+reads-append : (ks : List FrameKind) (ns ms : List Nesting) → is_ordered_from ks (ns ++ ms) ≡ is_ordered_from ks ns && is_ordered_from (parts ks ns) ms
+reads-append ks [] ms = refl
+reads-append ks (n ∷ ns) ms =
+    reads_one ks n (ns ++ ms) ∙ ap (λ b. stands ks n && b) (reads-append (after ks n) ns ms)
+    ∙ sym (and_assoc (stands ks n) (is_ordered_from (after ks n) ns) (is_ordered_from (parts (after ks n) ns) ms))
+    ∙ ap (λ b. b && is_ordered_from (parts (after ks n) ns) ms) (sym (reads_one ks n ns))
+
+-- after a list that is in order
+module _ (ks : List FrameKind) (ns : List Nesting) (ordered : is_ordered_from ks ns ≡ true) where
+  reads-on : (n : Nesting) (ms : List Nesting) → is_ordered_from ks (ns ++ n ∷ ms) ≡ stands (parts ks ns) n && is_ordered_from (after (parts ks ns) n) ms
+  reads-on n ms =
+      reads-append ks ns (n ∷ ms) ∙ ap (λ b. b && is_ordered_from (parts ks ns) (n ∷ ms)) ordered ∙ reads_one (parts ks ns) n ms
+
+  pub reads-push : (n : Nesting) → is_ordered_from ks (ns ++ n ∷ []) ≡ stands (parts ks ns) n
+  reads-push n = reads-on n [] ∙ and-true (stands (parts ks ns) n)
+
+-- ---- the operators up to an index
+
+nestings-append : (ps qs : List (Op × ℕ)) → nestings (ps ++ qs) ≡ nestings ps ++ nestings qs
+nestings-append ps qs = ap (map nesting) (map-append (λ (p : Op × ℕ). p.0) ps qs) ∙ map-append nesting (operators ps) (operators qs)
+
+module _ (ps : List (Op × ℕ)) (i : ℕ) (d : Op × ℕ) (h : i < length ps) where
+  nestings-more : nestings (take (i + 1) ps) ≡ nestings (take i ps) ++ nesting (get_or ps i d).0 ∷ []
+  nestings-more = ap nestings (take_more ps i d h) ∙ nestings-append (take i ps) (get_or ps i d ∷ [])
+
+  pub parts-more : parts outermost (nestings (take (i + 1) ps)) ≡ after (parts outermost (nestings (take i ps))) (nesting (get_or ps i d).0)
+  parts-more = ap (parts outermost) nestings-more ∙ parts-push outermost (nestings (take i ps)) (nesting (get_or ps i d).0)
+
+-- ---- one operator after a list that is in order
+
+pub follows : (ps : List (Op × ℕ)) (op : Op) → is_ordered_from outermost (nestings ps) ≡ true → is_well_ordered_list (operators ps ++ op ∷ []) ≡ stands (parts outermost (nestings ps)) (nesting op)
+follows ps op h = ap (is_ordered_from outermost) (map-append nesting (operators ps) (op ∷ [])) ∙ reads-push outermost (nestings ps) h (nesting op)
+
+left_of_and : (a b : Bool) → a && b ≡ true → a ≡ true
+left_of_and true b h = refl
+left_of_and false b h = absurd cc
+
+pub ordered-front : (ps : List (Op × ℕ)) (op : Op) → is_well_ordered_list (operators ps ++ op ∷ []) ≡ true → is_well_ordered_list (operators ps) ≡ true
+ordered-front ps op h =
+    let e = ap (is_ordered_from outermost) (map-append nesting (operators ps) (op ∷ [])) ∙ reads-append outermost (nestings ps) (nesting op ∷ []) in
+    left_of_and (is_ordered_from outermost (nestings ps)) (is_ordered_from (parts outermost (nestings ps)) (nesting op ∷ [])) (sym e ∙ h)
+
+pub follows-as_nop : (ps : List (Op × ℕ)) (op : Op) → is_well_ordered_list (operators ps ++ Control Nop ∷ []) ≡ true → begins_else (nesting op) ≡ false → is_well_ordered_list (operators ps ++ op ∷ []) ≡ true
+follows-as_nop ps op nop h =
+    let front = ordered-front ps (Control Nop) nop in
+    follows ps op front ∙ as_nop (parts outermost (nestings ps)) op h ∙ sym (follows ps (Control Nop) front) ∙ nop
+
+-- ---- reading on at an index, where so many parts are open
+
+pub nop_follows : (ps : List (Op × ℕ)) (open_parts : ℕ) → is_well_ordered_list (operators ps) ≡ true → open_parts ≡ length (parts outermost (nestings ps)) → open_parts ≢ 0 → is_well_ordered_list (operators ps ++ Control Nop ∷ []) ≡ true
+nop_follows ps n h e some = follows ps (Control Nop) h ∙ nop_stands (parts outermost (nestings ps)) n e some
+
+module _ (ps : List (Op × ℕ)) (i : ℕ) (d : Op × ℕ) (h : i < length ps) (ordered : is_well_ordered_list (operators (take i ps)) ≡ true) where
+  abbrev now : List FrameKind
+  now = parts outermost (nestings (take i ps))
+
+  abbrev next : Op
+  next = (get_or ps i d).0
+
+  stops : stands now (nesting next) ≡ false → is_well_ordered_list (operators ps) ≡ false
+  stops wrong =
+      ap (λ qs. is_ordered_from outermost (nestings qs)) (split_at ps i d h)
+      ∙ ap (is_ordered_from outermost) (nestings-append (take i ps) (get_or ps i d ∷ drop (suc i) ps))
+      ∙ reads-on outermost (nestings (take i ps)) ordered (nesting next) (nestings (drop (suc i) ps))
+      ∙ ap (λ b. b && is_ordered_from (after now (nesting next)) (nestings (drop (suc i) ps))) wrong
+
+  pub stops-no_follower : is_well_ordered_list (operators (take i ps) ++ next ∷ []) ≡ false → is_well_ordered_list (operators ps) ≡ false
+  stops-no_follower wrong = stops (sym (follows (take i ps) next ordered) ∙ wrong)
+
+  pub one_further : is_well_ordered_list (operators (take i ps) ++ next ∷ []) ≡ true → is_well_ordered_list (operators (take (i + 1) ps)) ≡ true
+  one_further may = ap (is_ordered_from outermost) nestings-further ∙ may
     where
-      there : is_ordered_below n (drop i ps) ≡ is_ordered_below (suc (n - 1)) (get_or ps i d ∷ drop (i + 1) ps)
-      there = ap (λ k. is_ordered_below k (drop i ps)) one_less ∙ ap (λ l. is_ordered_below (suc (n - 1)) l) (drop_more ps i d h)
+      nestings-further : nestings (take (i + 1) ps) ≡ map nesting (operators (take i ps) ++ next ∷ [])
+      nestings-further = nestings-more ps i d h ∙ sym (map-append nesting (operators (take i ps)) (next ∷ []))
 
-      by : (o c : Bool) → is_opening (nesting (get_or ps i d).0) ≡ o → is_closing (nesting (get_or ps i d).0) ≡ c → is_ordered_below n (drop i ps) ≡ is_ordered_below m (drop (i + 1) ps)
-      by true c e k =
-          let eq : suc (suc (n - 1)) ≡ m = omega (arith, opens e) in
-          there ∙ opens-step (n - 1) (get_or ps i d).0 (get_or ps i d).1 (drop (i + 1) ps) e ∙ ap (λ j. is_ordered_below j (drop (i + 1) ps)) eq
-      by false true e k =
-          let eq : n - 1 ≡ m = omega (arith, closes k) in
-          there ∙ closes-step (n - 1) (get_or ps i d).0 (get_or ps i d).1 (drop (i + 1) ps) k ∙ ap (λ j. is_ordered_below j (drop (i + 1) ps)) eq
-      by false false e k =
-          let eq : suc (n - 1) ≡ m = omega (arith, stays e k) in
-          there ∙ stays-step (n - 1) (get_or ps i d).0 (get_or ps i d).1 (drop (i + 1) ps) e k ∙ ap (λ j. is_ordered_below j (drop (i + 1) ps)) eq
+  pub parts-further : (open_parts m : ℕ) → open_parts ≡ length now → (is_opening (nesting next) ≡ true → m ≡ open_parts + 1) → (is_closing (nesting next) ≡ true → m + 1 ≡ open_parts) → (is_opening (nesting next) ≡ false → is_closing (nesting next) ≡ false → m ≡ open_parts) → m ≡ length (parts outermost (nestings (take (i + 1) ps)))
+  parts-further n m e opens closes stays =
+      counted now (nesting next) n m e opens closes stays ∙ ap length (sym (parts-more ps i d h))
+
+pub stops-none_open : (ps : List (Op × ℕ)) (i : ℕ) → i < length ps → is_well_ordered_list (operators (take i ps)) ≡ true → 0 ≡ length (parts outermost (nestings (take i ps))) → is_well_ordered_list (operators ps) ≡ false
+stops-none_open ps i h ordered e =
+    let d : Op × ℕ = (Control Nop, 0) in
+    stops ps i d h ordered (none_stands (parts outermost (nestings (take i ps))) (nesting (get_or ps i d).0) e)

@@ -1,2 +1,3 @@
 pub mod Order
 pub mod Immediates
+pub mod Branches

@@ -1,13 +1,13 @@
 -- Which lists of operators are well ordered (WebAssembly core specification, "Control
 -- Instructions"; the parts of a legacy `try` are those of the legacy exceptions). This is a property of
 -- what each operator does to the open parts.
-use Rattle.std.specs.Prelude.{Bool, true, false, ◌&&◌, List, [], ◌∷◌, map}
+use Rattle.std.specs.Prelude.{Bool, true, false, ◌&&◌, Option, Some, None, List, [], ◌∷◌, map}
 use Rattle.validate_visit.specs.declared.frame.FrameKind.{FrameKind}
-use Rattle.validate_visit.specs.declared.frame.FrameKind.TheVariants.{Block, If, Else, LegacyTry, LegacyCatch, LegacyCatchAll}
+use Rattle.validate_visit.specs.declared.frame.FrameKind.TheVariants.{Block, Loop, If, Else, LegacyTry, LegacyCatch, LegacyCatchAll}
 use Rattle.validate_visit.specs.declared.op.Op.{Op}
 use Rattle.validate_visit.specs.declared.op.Op.TheVariants.{Control, Numeric}
 use Rattle.validate_visit.specs.declared.op.ControlOp.{ControlOp}
-use Rattle.validate_visit.specs.declared.op.ControlOp.TheVariants.{Block as BlockOp, End}
+use Rattle.validate_visit.specs.declared.op.ControlOp.TheVariants.{Block as BlockOp, Loop as LoopOp, If as IfOp, Else as ElseOp, End}
 
 -- What an operator does to the open parts. A `catch` begins another part, a `catch_all` too (`all`).
 pub data Nesting : Type 0 where
@@ -28,6 +28,11 @@ abbrev pub is_closing : Nesting → Bool
 is_closing Ends = true
 is_closing Delegates = true
 is_closing _ = false
+
+-- an operator that begins an `else` part
+abbrev pub begins_else : Nesting → Bool
+begins_else BeginsElse = true
+begins_else _ = false
 
 -- the first part of an `if`
 abbrev pub is_if : FrameKind → Bool
@@ -50,6 +55,13 @@ abbrev pub catch_kind : Bool → FrameKind
 catch_kind true = LegacyCatchAll
 catch_kind false = LegacyCatch
 
+-- the kind of the part that an operator begins, if it begins one
+abbrev pub part_begun : Nesting → Option FrameKind
+part_begun (Opens kind) = Some kind
+part_begun BeginsElse = Some Else
+part_begun (BeginsCatch all) = Some (catch_kind all)
+part_begun _ = None
+
 -- Reading one operator in the innermost part k, with these parts outside it: whether it may stand
 -- there, and the open parts after it.
 abbrev pub reads_on : FrameKind → List FrameKind → Nesting → (List FrameKind → Bool) → Bool
@@ -68,6 +80,9 @@ is_ordered_from (k ∷ ks) (n ∷ ns) = reads_on k ks n (λ js. is_ordered_from 
 
 abbrev pub control_nesting : ControlOp → Nesting
 control_nesting (BlockOp bt) = Opens Block
+control_nesting (LoopOp bt) = Opens Loop
+control_nesting (IfOp bt) = Opens If
+control_nesting ElseOp = BeginsElse
 control_nesting End = Ends
 control_nesting _ = Flat
 

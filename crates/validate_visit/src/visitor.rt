@@ -2,14 +2,16 @@
 
 ghost use Rattle.validate_visit.specs.declared.op.Op.{Op};
 
+use crate::br_table::BrTable;
 use crate::frame::BlockType;
 use crate::op::{ControlOp, NumericOp, Op};
+use validate_types::ValType;
 
 /// Visits operators (wasmparser's `VisitOperator`): one call for each operator, with its immediates.
 ///
 /// Its meaning is two relations that the implementation gives: `can_visit` says at which visitors an
 /// operator may be visited, and `visits` what the visit answers and leaves.
-pub trait VisitOperator {
+pub trait VisitOperator<'a> {
     /// What a visit answers.
     type Output;
 
@@ -18,6 +20,11 @@ pub trait VisitOperator {
 
     /// What a visit answers, and the visitor that it leaves.
     ghost visits: { Self → Op → Self.Output → Self → Type 0 };
+
+    /// `unreachable`
+    fn visit_unreachable(&mut self) -> Self::Output
+        requires { can_visit self.old (Op.Control ControlOp.Unreachable) }
+        ensures { visits self.old (Op.Control ControlOp.Unreachable) result self.new };
 
     /// `nop`
     fn visit_nop(&mut self) -> Self::Output
@@ -29,15 +36,65 @@ pub trait VisitOperator {
         requires { can_visit self.old (Op.Control (ControlOp.Block ty)) }
         ensures { visits self.old (Op.Control (ControlOp.Block ty)) result self.new };
 
+    /// `loop`
+    fn visit_loop(&mut self, ty: BlockType) -> Self::Output
+        requires { can_visit self.old (Op.Control (ControlOp.Loop ty)) }
+        ensures { visits self.old (Op.Control (ControlOp.Loop ty)) result self.new };
+
+    /// `if`
+    fn visit_if(&mut self, ty: BlockType) -> Self::Output
+        requires { can_visit self.old (Op.Control (ControlOp.If ty)) }
+        ensures { visits self.old (Op.Control (ControlOp.If ty)) result self.new };
+
+    /// `else`
+    fn visit_else(&mut self) -> Self::Output
+        requires { can_visit self.old (Op.Control ControlOp.Else) }
+        ensures { visits self.old (Op.Control ControlOp.Else) result self.new };
+
     /// `end`
     fn visit_end(&mut self) -> Self::Output
         requires { can_visit self.old (Op.Control ControlOp.End) }
         ensures { visits self.old (Op.Control ControlOp.End) result self.new };
 
+    /// `br`
+    fn visit_br(&mut self, relative_depth: u32) -> Self::Output
+        requires { can_visit self.old (Op.Control (ControlOp.Br relative_depth)) }
+        ensures { visits self.old (Op.Control (ControlOp.Br relative_depth)) result self.new };
+
+    /// `br_if`
+    fn visit_br_if(&mut self, relative_depth: u32) -> Self::Output
+        requires { can_visit self.old (Op.Control (ControlOp.BrIf relative_depth)) }
+        ensures { visits self.old (Op.Control (ControlOp.BrIf relative_depth)) result self.new };
+
+    /// `br_table`
+    fn visit_br_table(&mut self, targets: BrTable<'a>) -> Self::Output
+        requires { can_visit self.old (Op.Control (ControlOp.BrTable targets)) }
+        ensures { visits self.old (Op.Control (ControlOp.BrTable targets.entry)) result self.new };
+
+    /// `return`
+    fn visit_return(&mut self) -> Self::Output
+        requires { can_visit self.old (Op.Control ControlOp.Return) }
+        ensures { visits self.old (Op.Control ControlOp.Return) result self.new };
+
     /// `drop`
     fn visit_drop(&mut self) -> Self::Output
         requires { can_visit self.old (Op.Control ControlOp.Drop) }
         ensures { visits self.old (Op.Control ControlOp.Drop) result self.new };
+
+    /// `select` without a type.
+    fn visit_select(&mut self) -> Self::Output
+        requires { can_visit self.old (Op.Control ControlOp.Select) }
+        ensures { visits self.old (Op.Control ControlOp.Select) result self.new };
+
+    /// `select` of values of this type.
+    fn visit_typed_select(&mut self, ty: ValType) -> Self::Output
+        requires { can_visit self.old (Op.Control (ControlOp.TypedSelect ty)) }
+        ensures { visits self.old (Op.Control (ControlOp.TypedSelect ty)) result self.new };
+
+    /// `select` of several values, of these types.
+    fn visit_typed_select_multi(&mut self, tys: &'a [ValType]) -> Self::Output
+        requires { can_visit self.old (Op.Control (ControlOp.TypedSelectMulti tys)) }
+        ensures { visits self.old (Op.Control (ControlOp.TypedSelectMulti tys.entry)) result self.new };
 
     /// `local.get`
     fn visit_local_get(&mut self, local_index: u32) -> Self::Output
@@ -100,7 +157,7 @@ pub trait VisitOperator {
         ensures { visits self.old (Op.Numeric NumericOp.I64Mul) result self.new };
 
     /// The visit that `op` names.
-    fn visit_operator(&mut self, op: Op) -> Self::Output
+    fn visit_operator(&mut self, op: Op<'a>) -> Self::Output
         requires { can_visit self.old op }
-        ensures { visits self.old op result self.new };
+        ensures { visits self.old op.entry result self.new };
 }

@@ -1,7 +1,8 @@
 -- Small bodies, computed: good ones are accepted and bad ones refused. What is expected is what the
 -- standard's rules say of them.
 use Rattle.std.proofs.Common.{◌≡◌, ℕ, pos, Bool, true, false, List, [], ◌∷◌, ◌++◌, length, Option, Some, None, refl, slice_get}
-use Rattle.validate_resources.specs.Lists.{context_of, same_number}
+use Rattle.validate_resources.specs.Context.{same_number}
+use Rattle.validate_resources.specs.Lists.{context_of}
 use Rattle.validate_types.specs.declared.types.CompositeInnerType.TheVariants.{Func}
 use Rattle.validate_visit.specs.declared.op.Op.{Op}
 use Rattle.validate_visit.specs.declared.op.Op.TheVariants.{Control, Numeric}

@@ -1,65 +1,20 @@
--- Operators made by hand, of forms that the table doesn't have yet: blocks, branches and exceptions,
--- with the rows of the standard. The examples use them, so that the rules are tried on every form.
-use Rattle.std.specs.Prelude.{ℕ, suc, pred, Bool, true, false, ◌&&◌, List, [], ◌∷◌, ◌++◌, length, map, take, drop, None}
+-- Operators made by hand: those of forms that the table doesn't have yet, with the rows of the standard,
+-- and openers whose block type isn't checked. The examples use them, so that the rules are tried on every
+-- form.
+use Rattle.std.specs.Prelude.{ℕ, suc, Bool, true, false, List, [], ◌∷◌, drop}
+use Rattle.validation_rules.specs.Branches.{has_label, br_row, br_if_row, br_table_row, return_row}
 use Rattle.validation_rules.specs.Context.{ValType, I32, BlockType, Context, block_signature}
-use Rattle.validation_rules.specs.Rows.{FrameKind, Block, If, Loop, TryTable, LegacyTry, LegacyCatch, LegacyCatchAll, Head, label_types, Flat, Opens, BeginsElse, BeginsCatch, Ends, Delegates, Plain, Target, Clause, Row, Operator}
-use Rattle.validation_rules.specs.Table.{plain, alike, closing}
-
--- ---- labels
-
-abbrev pub some_label : List Head → Bool
-some_label [] = false
-some_label (h ∷ hs) = true
-
-abbrev pub types_of : Context → List Head → List ValType
-types_of cx [] = []
-types_of cx (h ∷ hs) = label_types cx h
-
--- the types that a branch to label d carries, and whether there is one
-abbrev pub label_at : Context → List Head → ℕ → List ValType
-label_at cx hs d = types_of cx (drop d hs)
-
-abbrev pub has_label : List Head → ℕ → Bool
-has_label hs d = some_label (drop d hs)
-
-abbrev pub all_labels : List Head → List ℕ → Bool
-all_labels hs [] = true
-all_labels hs (d ∷ ds) = has_label hs d && all_labels hs ds
-
--- a branch carries the operands in place, of which there are as many as the label's types
-abbrev pub target : Context → List Head → ℕ → Target
-target cx hs d = record { depth = d; carried = take (length (label_at cx hs d)) }
+use Rattle.validation_rules.specs.Rows.{FrameKind, Block, If, Loop, TryTable, LegacyTry, LegacyCatch, LegacyCatchAll, Head, Opens, BeginsElse, BeginsCatch, Ends, Delegates, Clause, Operator}
+use Rattle.validation_rules.specs.Table.{plain, ends_live, flat, alike, closing, opens}
 
 -- ---- rows
 
-abbrev pub ends_live : Bool → List ValType → Row
-ends_live premise wanted = record (plain premise wanted []) { dead = true }
-
-abbrev pub br_row : Context → List Head → ℕ → Row
-br_row cx hs d = record (ends_live (has_label hs d) (label_at cx hs d)) { targets = target cx hs d ∷ [] }
-
-abbrev pub br_if_row : Context → List Head → ℕ → Row
-br_if_row cx hs d = record (plain (has_label hs d) (label_at cx hs d ++ I32 ∷ []) (label_at cx hs d)) { targets = target cx hs d ∷ [] }
-
--- the labels, and the default one
-abbrev pub br_table_row : Context → List Head → List ℕ → ℕ → Row
-br_table_row cx hs ds d =
-    record {
-      premise = all_labels hs (d ∷ ds);
-      reads = None;
-      operands = Plain (label_at cx hs d ++ I32 ∷ []) (map (λ e. label_at cx hs e ++ I32 ∷ []) ds) [];
-      sets = None;
-      targets = map (target cx hs) (d ∷ ds);
-      clauses = [];
-      dead = true;
-    }
-
--- an opener, with operands above the parameters
-abbrev pub opening : Context → FrameKind → BlockType → List ValType → List Clause → Operator
-opening cx kind bt more clauses =
+-- an opener with clauses
+abbrev pub opening : Context → FrameKind → BlockType → List Clause → Operator
+opening cx kind bt clauses =
     record {
       form = Opens (record { kind = kind; block_type = bt });
-      row = λ hs. record (plain true ((block_signature cx.of_module bt).params ++ more) []) { clauses = clauses };
+      row = λ hs. record (plain true (block_signature cx.of_module bt).params []) { clauses = clauses };
     }
 
 abbrev pub is_catch_part : FrameKind → Bool
@@ -77,13 +32,13 @@ abbrev pub unreachable : Operator
 unreachable = alike (ends_live true [])
 
 abbrev pub a_block : Context → BlockType → Operator
-a_block cx bt = opening cx Block bt [] []
+a_block cx bt = opens cx Block [] true bt
 
 abbrev pub a_loop : Context → BlockType → Operator
-a_loop cx bt = opening cx Loop bt [] []
+a_loop cx bt = opens cx Loop [] true bt
 
 abbrev pub an_if : Context → BlockType → Operator
-an_if cx bt = opening cx If bt (I32 ∷ []) []
+an_if cx bt = opens cx If (I32 ∷ []) true bt
 
 abbrev pub an_else : Operator
 an_else = closing BeginsElse true
@@ -92,27 +47,26 @@ abbrev pub an_end : Operator
 an_end = closing Ends true
 
 abbrev pub br : Context → ℕ → Operator
-br cx d = record { form = Flat; row = λ hs. br_row cx hs d }
+br cx d = flat (λ hs. br_row cx hs d)
 
 abbrev pub br_if : Context → ℕ → Operator
-br_if cx d = record { form = Flat; row = λ hs. br_if_row cx hs d }
+br_if cx d = flat (λ hs. br_if_row cx hs d)
 
 abbrev pub br_table : Context → List ℕ → ℕ → Operator
-br_table cx ds d = record { form = Flat; row = λ hs. br_table_row cx hs ds d }
+br_table cx ds d = flat (λ hs. br_table_row cx hs true ds d)
 
--- a branch to the outermost label
 abbrev pub a_return : Context → Operator
-a_return cx = record { form = Flat; row = λ hs. br_row cx hs (pred (length hs)) }
+a_return cx = flat (λ hs. return_row cx hs)
 
 abbrev pub a_try_table : Context → BlockType → List Clause → Operator
-a_try_table cx bt clauses = opening cx TryTable bt [] clauses
+a_try_table cx bt clauses = opening cx TryTable bt clauses
 
 -- of a tag with these parameters
 abbrev pub throw : List ValType → Operator
 throw types = alike (ends_live true types)
 
 abbrev pub a_try : Context → BlockType → Operator
-a_try cx bt = opening cx LegacyTry bt [] []
+a_try cx bt = opening cx LegacyTry bt []
 
 abbrev pub a_catch : List ValType → Operator
 a_catch types = closing (BeginsCatch false types) true
@@ -125,4 +79,4 @@ abbrev pub delegate : ℕ → Operator
 delegate d = record { form = Delegates; row = λ hs. plain (has_label hs (suc d)) [] [] }
 
 abbrev pub rethrow : ℕ → Operator
-rethrow d = record { form = Flat; row = λ hs. ends_live (catch_label (drop d hs)) [] }
+rethrow d = flat (λ hs. ends_live (catch_label (drop d hs)) [])

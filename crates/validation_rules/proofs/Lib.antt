@@ -6,3 +6,4 @@ pub mod Order
 pub mod Valid
 pub mod Handmade
 mod Examples
+mod ExamplesBranches

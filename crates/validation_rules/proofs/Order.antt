@@ -5,10 +5,10 @@ use Rattle.validate_visit.specs.Order.{Nesting, is_ordered_from, nesting, reads_
 use Rattle.validate_visit.specs.declared.op.Op.{Op}
 use Rattle.validate_visit.specs.declared.op.Op.TheVariants.{Control, Numeric}
 use Rattle.validate_visit.specs.declared.op.ControlOp.{ControlOp}
-use Rattle.validate_visit.specs.declared.op.ControlOp.TheVariants.{Block as BlockOp, End}
-use Rattle.validation_rules.specs.Context.{ValType, BlockType, Context}
+use Rattle.validate_visit.specs.declared.op.ControlOp.TheVariants.{Block as BlockOp, Loop as LoopOp, If as IfOp, Else as ElseOp, End}
+use Rattle.validation_rules.specs.Context.{ValType, I32, BlockType, Context}
 use Rattle.validation_rules.specs.Fits.{MaybeType}
-use Rattle.validation_rules.specs.Rows.{FrameKind, Block, Head, results, is_if, is_try, may_catch, Form, Flat, Opens, BeginsElse, BeginsCatch, Ends, Delegates, Row, Operator}
+use Rattle.validation_rules.specs.Rows.{FrameKind, Block, If, Loop, Head, results, is_if, is_try, may_catch, Form, Flat, Opens, BeginsElse, BeginsCatch, Ends, Delegates, Row, Operator}
 use Rattle.validation_rules.specs.Static.{Frame, State, heads, set_in, pushes_at, given_over, after_over, step_in, before, start}
 use Rattle.validation_rules.specs.Order.{nesting_of, RowsHold, RowsAreOrdered, BodiesAreOrdered}
 use Rattle.validation_rules.specs.Table.{checked_block, opener, operator, control_operator, body}
@@ -51,12 +51,15 @@ rows_are_ordered cx code ty h = ordered cx code (start ty).frames [] h
 
 -- ---- the operators of the table
 
-opener_nests : (cx : Context) (kind : FrameKind) (declared : BlockType) (o : Option BlockType) → nesting_of (opener cx kind declared o).form ≡ Nesting.Opens kind
-opener_nests cx kind declared (Some bt) = refl
-opener_nests cx kind declared None = refl
+opener_nests : (cx : Context) (kind : FrameKind) (above : List ValType) (declared : BlockType) (o : Option BlockType) → nesting_of (opener cx kind above declared o).form ≡ Nesting.Opens kind
+opener_nests cx kind above declared (Some bt) = refl
+opener_nests cx kind above declared None = refl
 
 control_nests : (cx : Context) (op : ControlOp) → nesting_of (control_operator cx op).form ≡ control_nesting op
-control_nests cx (BlockOp bt) = opener_nests cx Block bt (checked_block cx bt)
+control_nests cx (BlockOp bt) = opener_nests cx Block [] bt (checked_block cx bt)
+control_nests cx (LoopOp bt) = opener_nests cx Loop [] bt (checked_block cx bt)
+control_nests cx (IfOp bt) = opener_nests cx If (I32 ∷ []) bt (checked_block cx bt)
+control_nests cx ElseOp = refl
 control_nests cx End = refl
 control_nests cx _ = refl
 

@@ -1,20 +1,23 @@
 -- Every step keeps the state valid.
-use Rattle.std.proofs.Common.{◌≡◌, ℕ, zero, suc, Bool, true, false, not, ◌&&◌, ◌||◌, List, [], ◌∷◌, map, drop, Option, Some, None, refl, sym, subst, slice_get}
+use Rattle.std.proofs.Common.{◌≡◌, ℕ, zero, suc, pred, Bool, true, false, not, ◌&&◌, ◌||◌, List, [], ◌∷◌, ◌++◌, length, map, drop, Option, Some, None, refl, sym, ap, ◌∙◌, subst, slice_get}
 use Rattle.std.specs.List.{AllByRecursion}
 use Rattle.std.specs.Option.{option_map}
 use Rattle.validate_types.specs.Features.{has, multi_value}
+use Rattle.validate_types.specs.Gates.{is_open}
+use Rattle.validate_types.specs.declared.gate.Gate.TheVariants.{ReferenceTypes}
 use Rattle.validate_resources.specs.Context.{IsLawful, Valid}
 use Rattle.validate_visit.specs.declared.op.Op.{Op}
 use Rattle.validate_visit.specs.declared.op.Op.TheVariants.{Control, Numeric}
 use Rattle.validate_visit.specs.declared.op.ControlOp.{ControlOp}
-use Rattle.validate_visit.specs.declared.op.ControlOp.TheVariants.{Nop, Block as BlockOp, End, Drop, LocalGet, LocalSet, LocalTee}
+use Rattle.validate_visit.specs.declared.op.ControlOp.TheVariants.{Unreachable, Nop, Block as BlockOp, Loop as LoopOp, If as IfOp, Else as ElseOp, End, Br, BrIf, BrTable, Return, Drop, Select, TypedSelect, TypedSelectMulti, LocalGet, LocalSet, LocalTee}
 use Rattle.validate_visit.specs.declared.op.NumericOp.{NumericOp}
 use Rattle.validate_visit.specs.declared.op.NumericOp.TheVariants.{I32Const}
-use Rattle.validation_rules.specs.Context.{ModuleContext, SubType, ValType, BlockType, Empty, Val, FuncType, Context, block_signature, declared_signature}
-use Rattle.validation_rules.specs.Fits.{MaybeType, Known}
-use Rattle.validation_rules.specs.Rows.{FrameKind, Block, Head, params, results, Form, Flat, Opens, BeginsElse, BeginsCatch, Ends, Delegates, Plain, Row, Operator, gives, takes, guard}
+use Rattle.validation_rules.specs.Context.{ModuleContext, SubType, ValType, I32, BlockType, Empty, Val, FuncType, Context, block_signature, declared_signature}
+use Rattle.validation_rules.specs.Branches.{types_of, label_at}
+use Rattle.validation_rules.specs.Fits.{MaybeType, Bottom, Known}
+use Rattle.validation_rules.specs.Rows.{FrameKind, Block, If, Loop, is_loop, Head, params, results, label_by, Form, Flat, Opens, BeginsElse, BeginsCatch, Ends, Delegates, Plain, Row, Operator, gives, takes, guard}
 use Rattle.validation_rules.specs.Static.{Frame, State, heads, set_in, onto, on_top, found, below_top, pushes_at, pushes_by, own_after, given_over, after_over, step, step_in, before, start}
-use Rattle.validation_rules.specs.Table.{may_name, checked_block, opener, alike, closing, looking, drops, local_or, control_operator, numeric_row, operator, body}
+use Rattle.validation_rules.specs.Table.{may_name, checked_block, opener, flat, alike, closing, looking, drops, selected, selects, by_type, control_operator, numeric_row, operator, body}
 use Rattle.validation_rules.specs.Valid.{OperandIsValid, Resolves, BlockIsValid, FrameIsValid, HeadIsValid, PushesValid, StateIsValid, StepsKeepValid, TableKeepsValid}
 use Rattle.validation_rules.proofs.Below.{and_true}
 use Rattle.validation_rules.proofs.Steps.{some_injective, guard_some, bind_some, stepped}
@@ -144,26 +147,74 @@ module _ (cx : Context) (laws : IsLawful cx.of_module) where
         begun = λ hs all types p e. absurd cc;
       }
 
-  drops_valid : (xs pushed : List MaybeType) → drops xs ≡ Some pushed → Operands pushed
-  drops_valid (x ∷ []) pushed e = subst (λ ys. AllByRecursion (OperandIsValid cx.of_module) ys) (some_injective _ _ e) tt
-  drops_valid [] pushed e = absurd cc
-  drops_valid (x ∷ y ∷ xs) pushed e = absurd cc
+  drops_valid : (xs pushed : List MaybeType) → Operands xs → drops xs ≡ Some pushed → Operands pushed
+  drops_valid (x ∷ []) pushed v e = subst Operands (some_injective _ _ e) tt
+  drops_valid [] pushed v e = absurd cc
+  drops_valid (x ∷ y ∷ xs) pushed v e = absurd cc
+
+  nothing_pushed : (pushed : List MaybeType) (b : Bool) → guard b (Some []) ≡ Some pushed → Operands pushed
+  nothing_pushed pushed b g = subst Operands (some_injective _ _ (guard_some _ _ _ g).1) tt
+
+  else_valid : PushesValid cx (closing BeginsElse true)
+  else_valid =
+      record {
+        pushed = λ hs xs pushed p v f g. nothing_pushed pushed _ g;
+        opened = λ hs k p e. absurd cc;
+        begun = λ hs all types p e. absurd cc;
+      }
 
   end_valid : PushesValid cx (closing Ends true)
   end_valid =
       record {
-        pushed = λ hs xs pushed p v f g. subst (λ ys. AllByRecursion (OperandIsValid cx.of_module) ys) (some_injective _ _ (guard_some _ _ _ g).1) tt;
+        pushed = λ hs xs pushed p v f g. nothing_pushed pushed _ g;
         opened = λ hs k p e. absurd cc;
         begun = λ hs all types p e. absurd cc;
       }
 
-  drop_valid : PushesValid cx (alike (looking true 1 drops))
-  drop_valid =
+  -- an operator that looks at valid operands
+  looks_valid : (n : ℕ) (gives : List MaybeType → Option (List MaybeType)) → ((xs pushed : List MaybeType) → Operands xs → gives xs ≡ Some pushed → Operands pushed) → PushesValid cx (alike (looking true n gives))
+  looks_valid n gives h =
       record {
-        pushed = λ hs xs pushed p v f g. drops_valid xs pushed g;
+        pushed = λ hs xs pushed p v f g. h xs pushed f g;
         opened = λ hs k p e. absurd cc;
         begun = λ hs all types p e. absurd cc;
       }
+
+  selected_valid : (a b : MaybeType) (o : Option MaybeType) (ys : List MaybeType) → OperandIsValid cx.of_module a → OperandIsValid cx.of_module b → selected a b ≡ o → option_map (λ (x : MaybeType). x ∷ []) o ≡ Some ys → Operands ys
+  selected_valid a b None ys v w e h = absurd cc
+  selected_valid Bottom b (Some x) ys v w e h = subst Operands (some_injective _ _ h) (subst (OperandIsValid cx.of_module) (some_injective _ _ e) w, tt)
+  selected_valid (Known t) Bottom (Some x) ys v w e h = subst Operands (some_injective _ _ h) (subst (OperandIsValid cx.of_module) (some_injective _ _ e) v, tt)
+  selected_valid (Known t) (Known u) (Some x) ys v w e h = subst Operands (some_injective _ _ h) (subst (OperandIsValid cx.of_module) (some_injective _ _ (guard_some _ _ _ e).1) v, tt)
+
+  selects_valid : (xs pushed : List MaybeType) → Operands xs → selects cx xs ≡ Some pushed → Operands pushed
+  selects_valid (a ∷ b ∷ c ∷ []) pushed v h = selected_valid a b (selected a b) pushed v.0 v.1.0 refl (guard_some _ _ _ h).1
+  selects_valid [] pushed v h = absurd cc
+  selects_valid (a ∷ []) pushed v h = absurd cc
+  selects_valid (a ∷ b ∷ []) pushed v h = absurd cc
+  selects_valid (a ∷ b ∷ c ∷ d ∷ xs) pushed v h = absurd cc
+
+  -- an operator whose row is plain and depends on the open frames, where what it pushes is valid
+  flat_valid : (row : List Head → Row) (wanted push : List Head → List ValType) (also : List Head → List (List ValType)) → ((hs : List Head) → (row hs).operands ≡ Plain (wanted hs) (also hs) (push hs)) → ((hs : List Head) → AllByRecursion (HeadIsValid cx) hs → AllByRecursion (Valid cx.of_module) (push hs)) → PushesValid cx (flat row)
+  flat_valid row wanted push also is h =
+      record {
+        pushed = λ hs xs pushed p v f g.
+            let k : gives cx (Plain (wanted hs) (also hs) (push hs)) xs ≡ Some pushed = ap (λ o. gives cx o xs) (sym (is hs)) ∙ g in
+            subst Operands (some_injective _ _ (guard_some _ _ _ k).1) (all_known cx.of_module (push hs) (h hs v));
+        opened = λ hs k p e. absurd cc;
+        begun = λ hs all types p e. absurd cc;
+      }
+
+  label_valid : (b : Bool) (h : Head) → HeadIsValid cx h → AllByRecursion (Valid cx.of_module) (label_by cx b h)
+  label_valid true h v = params_valid cx.of_module laws cx.shared h.block_type v
+  label_valid false h v = results_valid cx.of_module laws cx.shared h.block_type v
+
+  types_of_valid : (hs : List Head) → AllByRecursion (HeadIsValid cx) hs → AllByRecursion (Valid cx.of_module) (types_of cx hs)
+  types_of_valid [] v = tt
+  types_of_valid (h ∷ hs) v = label_valid (is_loop h.kind) h v.0
+
+  -- the types of a label are valid
+  pub label_at_valid : (hs : List Head) (d : ℕ) → AllByRecursion (HeadIsValid cx) hs → AllByRecursion (Valid cx.of_module) (label_at cx hs d)
+  label_at_valid hs d v = types_of_valid (drop d hs) (all_drop (HeadIsValid cx) d hs v)
 
   get_valid : (locals : List ValType) (i : ℕ) (t : ValType) → AllByRecursion (Valid cx.of_module) locals → slice_get locals i ≡ Some t → Valid cx.of_module t
   get_valid [] zero t h e = absurd cc
@@ -171,9 +222,9 @@ module _ (cx : Context) (laws : IsLawful cx.of_module) where
   get_valid (u ∷ locals) zero t h e = subst (Valid cx.of_module) (some_injective u t e) h.0
   get_valid (u ∷ locals) (suc i) t h e = get_valid locals i t h.1 e
 
-  local_valid : (o : Option ValType) (reads sets : Option ℕ) (wanted push : ValType → List ValType) → ((t : ValType) → o ≡ Some t → AllByRecursion (Valid cx.of_module) (push t)) → PushesValid cx (alike (local_or o (λ t. record { premise = true; reads = reads; operands = Plain (wanted t) [] (push t); sets = sets; targets = []; clauses = []; dead = false })))
-  local_valid None reads sets wanted push h = plain_valid false None None [] [] false (λ p. tt)
-  local_valid (Some t) reads sets wanted push h = plain_valid true reads sets (wanted t) (push t) false (λ p. h t refl)
+  typed_valid : (premise : Bool) (o : Option ValType) (reads sets : Option ℕ) (wanted push : ValType → List ValType) → ((t : ValType) → o ≡ Some t → AllByRecursion (Valid cx.of_module) (push t)) → PushesValid cx (alike (by_type o (λ t. record { premise = premise; reads = reads; operands = Plain (wanted t) [] (push t); sets = sets; targets = []; clauses = []; dead = false })))
+  typed_valid premise None reads sets wanted push h = plain_valid false None None [] [] false (λ p. tt)
+  typed_valid premise (Some t) reads sets wanted push h = plain_valid premise reads sets (wanted t) (push t) false (λ p. h t refl)
 
   shared_by : (a b : Bool) → (not a || b) ≡ true → a ≡ true → b ≡ true
   shared_by true b h e = h
@@ -195,11 +246,8 @@ module _ (cx : Context) (laws : IsLawful cx.of_module) where
       let g = guard_some _ _ _ h in
       subst (λ b. BlockIsValid cx.of_module cx.shared b) (some_injective _ _ g.1) (named_resolves i (cx.of_module.type_at i) refl (and_true (has cx.features multi_value) _ g.0).1)
 
-  nothing_pushed : (pushed : List MaybeType) (b : Bool) → guard b (Some []) ≡ Some pushed → Operands pushed
-  nothing_pushed pushed b g = subst (λ ys. AllByRecursion (OperandIsValid cx.of_module) ys) (some_injective _ _ (guard_some _ _ _ g).1) tt
-
-  opener_valid : (kind : FrameKind) (declared : BlockType) (o : Option BlockType) → checked_block cx declared ≡ o → PushesValid cx (opener cx kind declared o)
-  opener_valid kind declared (Some bt) e =
+  opener_valid : (kind : FrameKind) (above : List ValType) (declared : BlockType) (o : Option BlockType) → checked_block cx declared ≡ o → PushesValid cx (opener cx kind above declared o)
+  opener_valid kind above declared (Some bt) e =
       record {
         pushed = λ hs xs pushed p v f g. nothing_pushed pushed _ g;
         opened = λ hs k p i.
@@ -207,7 +255,7 @@ module _ (cx : Context) (laws : IsLawful cx.of_module) where
             subst (λ (h : Head). BlockIsValid cx.of_module cx.shared h.block_type) d (checked_valid declared bt e);
         begun = λ hs all types p i. absurd cc;
       }
-  opener_valid kind declared None e =
+  opener_valid kind above declared None e =
       record {
         pushed = λ hs xs pushed p v f g. absurd cc;
         opened = λ hs k p i. absurd cc;
@@ -215,13 +263,26 @@ module _ (cx : Context) (laws : IsLawful cx.of_module) where
       }
 
   control_valid : (op : ControlOp) → AllByRecursion (Valid cx.of_module) cx.locals → PushesValid cx (control_operator cx op)
+  control_valid Unreachable l = plain_valid _ _ _ _ [] _ (λ p. tt)
   control_valid Nop l = plain_valid _ _ _ _ [] _ (λ p. tt)
-  control_valid (BlockOp bt) l = opener_valid Block bt (checked_block cx bt) refl
+  control_valid (BlockOp bt) l = opener_valid Block [] bt (checked_block cx bt) refl
+  control_valid (LoopOp bt) l = opener_valid Loop [] bt (checked_block cx bt) refl
+  control_valid (IfOp bt) l = opener_valid If (I32 ∷ []) bt (checked_block cx bt) refl
+  control_valid ElseOp l = else_valid
   control_valid End l = end_valid
-  control_valid Drop l = drop_valid
-  control_valid (LocalGet i) l = local_valid (slice_get cx.locals i) (Some i) None (λ t. []) (λ t. t ∷ []) (λ t e. (get_valid cx.locals i t l e, tt))
-  control_valid (LocalSet i) l = local_valid (slice_get cx.locals i) None (Some i) (λ t. t ∷ []) (λ t. []) (λ t e. tt)
-  control_valid (LocalTee i) l = local_valid (slice_get cx.locals i) None (Some i) (λ t. t ∷ []) (λ t. t ∷ []) (λ t e. (get_valid cx.locals i t l e, tt))
+  control_valid (Br d) l = flat_valid _ (λ hs. label_at cx hs d) (λ hs. []) (λ hs. []) (λ hs. refl) (λ hs v. tt)
+  control_valid (BrIf d) l = flat_valid _ (λ hs. label_at cx hs d ++ I32 ∷ []) (λ hs. label_at cx hs d) (λ hs. []) (λ hs. refl) (λ hs v. label_at_valid hs d v)
+  control_valid (BrTable table) l =
+      flat_valid _ (λ hs. label_at cx hs table.default ++ I32 ∷ []) (λ hs. []) (λ hs. map (λ e. label_at cx hs e ++ I32 ∷ []) table.targets.now) (λ hs. refl) (λ hs v. tt)
+  control_valid Return l = flat_valid _ (λ hs. label_at cx hs (pred (length hs))) (λ hs. []) (λ hs. []) (λ hs. refl) (λ hs v. tt)
+  control_valid Drop l = looks_valid 1 drops drops_valid
+  control_valid Select l = looks_valid 3 (selects cx) selects_valid
+  control_valid (TypedSelect t) l =
+      typed_valid (is_open cx.features ReferenceTypes) (cx.of_module.canonical cx.features t) None None (λ u. u ∷ u ∷ I32 ∷ []) (λ u. u ∷ []) (λ u e. (laws.checked cx.features t u e, tt))
+  control_valid (TypedSelectMulti ts) l = plain_valid _ _ _ _ [] _ (λ p. tt)
+  control_valid (LocalGet i) l = typed_valid true (slice_get cx.locals i) (Some i) None (λ t. []) (λ t. t ∷ []) (λ t e. (get_valid cx.locals i t l e, tt))
+  control_valid (LocalSet i) l = typed_valid true (slice_get cx.locals i) None (Some i) (λ t. t ∷ []) (λ t. []) (λ t e. tt)
+  control_valid (LocalTee i) l = typed_valid true (slice_get cx.locals i) None (Some i) (λ t. t ∷ []) (λ t. t ∷ []) (λ t e. (get_valid cx.locals i t l e, tt))
 
   -- every row of the group pushes one number
   numeric_valid : (op : NumericOp) → PushesValid cx (alike (numeric_row op))

@@ -4,5 +4,7 @@ pub mod Rows
 pub mod Static
 pub mod Pops
 pub mod Valid
+pub mod Shapes
+pub mod Branches
 pub mod Table
 pub mod Order

@@ -1,67 +1,65 @@
 -- The table of operators: the row of each, in the context of a body (WebAssembly core specification,
 -- "Validation: Instructions").
-use Rattle.std.specs.Prelude.{ℕ, Bool, true, false, not, ◌&&◌, ◌||◌, List, [], ◌∷◌, Option, Some, None, map, slice_get}
+pub use Rattle.validation_rules.specs.Shapes.{plain, ends_live, looking, flat, alike, closing, constant, test, binary}
+use Rattle.std.specs.Prelude.{ℕ, Bool, true, false, not, ◌&&◌, ◌||◌, List, [], ◌∷◌, ◌++◌, Option, Some, None, map, slice_get}
 use Rattle.std.specs.Option.{option_map}
+use Rattle.validate_resources.specs.Context.{same_number}
 use Rattle.validate_types.specs.Features.{has, multi_value}
+use Rattle.validate_types.specs.Gates.{is_open}
+use Rattle.validate_types.specs.declared.gate.Gate.{Gate}
+use Rattle.validate_types.specs.declared.gate.Gate.TheVariants.{ReferenceTypes}
 use Rattle.validate_visit.specs.declared.op.Op.{Op}
 use Rattle.validate_visit.specs.declared.op.Op.TheVariants.{Control, Numeric}
 use Rattle.validate_visit.specs.declared.op.ControlOp.{ControlOp}
-use Rattle.validate_visit.specs.declared.op.ControlOp.TheVariants.{Nop, Block as BlockOp, End, Drop, LocalGet, LocalSet, LocalTee}
+use Rattle.validate_visit.specs.declared.op.ControlOp.TheVariants.{Unreachable, Nop, Block as BlockOp, Loop as LoopOp, If as IfOp, Else as ElseOp, End, Br, BrIf, BrTable, Return, Drop, Select, TypedSelect, TypedSelectMulti, LocalGet, LocalSet, LocalTee}
 use Rattle.validate_visit.specs.declared.op.NumericOp.{NumericOp}
 use Rattle.validate_visit.specs.declared.op.NumericOp.TheVariants.{I32Const, I64Const, I32Eqz, I32Add, I32Sub, I32Mul, I64Add, I64Sub, I64Mul}
+use Rattle.validation_rules.specs.Branches.{br_row, br_if_row, br_table_row, return_row}
 use Rattle.validation_rules.specs.Context.{SubType, ValType, I32, I64, BlockType, Empty, Val, FuncType, Context, block_signature}
-use Rattle.validation_rules.specs.Fits.{MaybeType}
-use Rattle.validation_rules.specs.Rows.{FrameKind, Block, Form, Flat, Opens, Ends, guard, Plain, Looks, Row, Operator}
+use Rattle.validation_rules.specs.Fits.{MaybeType, Bottom, Known, fits}
+use Rattle.validation_rules.specs.Rows.{FrameKind, Block, If, Loop, Opens, BeginsElse, Ends, guard, Row, Operator}
 
--- ---- rows of one shape
+-- the row holds where the gate is open too
+abbrev pub gated : Context → Gate → Row → Row
+gated cx gate r = record r { premise = is_open cx.features gate && r.premise }
 
--- wanted and pushed types; it neither reaches a label nor ends the live part
-abbrev pub plain : Bool → List ValType → List ValType → Row
-plain premise wanted pushed =
-    record { premise = premise; reads = None; operands = Plain wanted [] pushed; sets = None; targets = []; clauses = []; dead = false }
-
--- so many operands, and what is pushed for those found
-abbrev pub looking : Bool → ℕ → (List MaybeType → Option (List MaybeType)) → Row
-looking premise takes gives = record (plain premise [] []) { operands = Looks takes gives }
-
--- a row that doesn't depend on the open frames
-abbrev pub alike : Row → Operator
-alike r = record { form = Flat; row = λ hs. r }
-
--- an operator that closes a frame or a part of it
-abbrev pub closing : Form → Bool → Operator
-closing form premise = record { form = form; row = λ hs. plain premise [] [] }
-
-abbrev pub constant : ValType → Row
-constant t = plain true [] (t ∷ [])
-
-abbrev pub test : ValType → Row
-test t = plain true (t ∷ []) (I32 ∷ [])
-
-abbrev pub binary : ValType → Row
-binary t = plain true (t ∷ t ∷ []) (t ∷ [])
+-- the row of a type, where there is one
+abbrev pub by_type : Option ValType → (ValType → Row) → Row
+by_type None row = plain false [] []
+by_type (Some t) row = row t
 
 -- ---- variables
 
--- the local's type, where there is one
-abbrev pub local_or : Option ValType → (ValType → Row) → Row
-local_or None row = plain false [] []
-local_or (Some t) row = row t
-
 abbrev pub local_get : Context → ℕ → Row
-local_get cx i = local_or (slice_get cx.locals i) (λ t. record (plain true [] (t ∷ [])) { reads = Some i })
+local_get cx i = by_type (slice_get cx.locals i) (λ t. record (plain true [] (t ∷ [])) { reads = Some i })
 
 abbrev pub local_set : Context → ℕ → Row
-local_set cx i = local_or (slice_get cx.locals i) (λ t. record (plain true (t ∷ []) []) { sets = Some i })
+local_set cx i = by_type (slice_get cx.locals i) (λ t. record (plain true (t ∷ []) []) { sets = Some i })
 
 abbrev pub local_tee : Context → ℕ → Row
-local_tee cx i = local_or (slice_get cx.locals i) (λ t. record (plain true (t ∷ []) (t ∷ [])) { sets = Some i })
+local_tee cx i = by_type (slice_get cx.locals i) (λ t. record (plain true (t ∷ []) (t ∷ [])) { sets = Some i })
 
 -- ---- any operand
 
 abbrev pub drops : List MaybeType → Option (List MaybeType)
 drops (x ∷ []) = Some []
 drops _ = None
+
+-- what `select` gives for its two operands: an unknown one gives way to the other, and known ones
+-- have to be of one type
+abbrev pub selected : MaybeType → MaybeType → Option MaybeType
+selected Bottom b = Some b
+selected (Known t) Bottom = Some (Known t)
+selected (Known t) (Known u) = guard (same_number t u) (Some (Known t))
+
+-- the test lies on top
+abbrev pub selects : Context → List MaybeType → Option (List MaybeType)
+selects cx (a ∷ b ∷ c ∷ []) = guard (fits cx c I32) (option_map (λ x. x ∷ []) (selected a b))
+selects cx _ = None
+
+-- with its type written, which has to pass the check of value types
+abbrev pub typed_select : Context → ValType → Row
+typed_select cx t = by_type (cx.of_module.canonical cx.features t) (λ u. plain (is_open cx.features ReferenceTypes) (u ∷ u ∷ I32 ∷ []) (u ∷ []))
 
 -- ---- blocks
 
@@ -77,23 +75,34 @@ checked_block cx Empty = Some Empty
 checked_block cx (Val t) = option_map (λ u. Val u) (cx.of_module.canonical cx.features t)
 checked_block cx (FuncType i) = guard (has cx.features multi_value && may_name cx (cx.of_module.type_at i)) (Some (FuncType i))
 
--- an operator that takes the parameters and opens a frame over them
-abbrev pub opens : Context → FrameKind → Bool → BlockType → Operator
-opens cx kind premise bt =
-    record { form = Opens (record { kind = kind; block_type = bt }); row = λ hs. plain premise (block_signature cx.of_module bt).params [] }
+-- an operator that takes the parameters, with these operands above them, and opens a frame over them
+abbrev pub opens : Context → FrameKind → List ValType → Bool → BlockType → Operator
+opens cx kind above premise bt =
+    record { form = Opens (record { kind = kind; block_type = bt }); row = λ hs. plain premise ((block_signature cx.of_module bt).params ++ above) [] }
 
 -- with the block type that its check answered
-abbrev pub opener : Context → FrameKind → BlockType → Option BlockType → Operator
-opener cx kind declared (Some bt) = opens cx kind true bt
-opener cx kind declared None = opens cx kind false declared
+abbrev pub opener : Context → FrameKind → List ValType → BlockType → Option BlockType → Operator
+opener cx kind above declared (Some bt) = opens cx kind above true bt
+opener cx kind above declared None = opens cx kind above false declared
 
 -- ---- the groups
 
 abbrev pub control_operator : Context → ControlOp → Operator
+control_operator cx Unreachable = alike (ends_live true [])
 control_operator cx Nop = alike (plain true [] [])
-control_operator cx (BlockOp bt) = opener cx Block bt (checked_block cx bt)
+control_operator cx (BlockOp bt) = opener cx Block [] bt (checked_block cx bt)
+control_operator cx (LoopOp bt) = opener cx Loop [] bt (checked_block cx bt)
+control_operator cx (IfOp bt) = opener cx If (I32 ∷ []) bt (checked_block cx bt)
+control_operator cx ElseOp = closing BeginsElse true
 control_operator cx End = closing Ends true
+control_operator cx (Br d) = flat (λ hs. br_row cx hs d)
+control_operator cx (BrIf d) = flat (λ hs. br_if_row cx hs d)
+control_operator cx (BrTable table) = flat (λ hs. br_table_row cx hs table.complete table.targets.now table.default)
+control_operator cx Return = flat (λ hs. return_row cx hs)
 control_operator cx Drop = alike (looking true 1 drops)
+control_operator cx Select = alike (looking true 3 (selects cx))
+control_operator cx (TypedSelect t) = alike (typed_select cx t)
+control_operator cx (TypedSelectMulti ts) = alike (plain false [] [])
 control_operator cx (LocalGet i) = alike (local_get cx i)
 control_operator cx (LocalSet i) = alike (local_set cx i)
 control_operator cx (LocalTee i) = alike (local_tee cx i)

@@ -1,12 +1,23 @@
--- Which visits take no memory: they never answer want of it (the crate's own; the standard's algorithm
--- has memory without end).
-use Rattle.std.specs.Prelude.{◌≡◌, false, Result, IfErr}
+-- Which visits take no memory but for the text of a refusal: they are accepted exactly where the row
+-- holds (the crate's own; the standard's algorithm has memory without end).
+use Rattle.std.specs.Prelude.{◌≡◌, None, Result, OnErr}
+use Rattle.validate_resources.specs.Context.{ModuleContext}
 use Rattle.validate_types.specs.Refusal.{Refusal}
 use Rattle.validate_visit.specs.declared.op.Op.{Op}
 use Rattle.validate_visit.specs.declared.op.Op.TheVariants.{Control}
-use Rattle.validate_visit.specs.declared.op.ControlOp.TheVariants.{Nop, Drop}
+use Rattle.validate_visit.specs.declared.op.ControlOp.TheVariants.{Unreachable, Nop, Br, Return, Drop}
+use Rattle.validation_rules.specs.Table.{operator}
+use Rattle.validate_stacks.specs.State.{BodyState}
+use Rattle.validate_stacks.specs.Visits.{step_body}
 
-abbrev pub AnswersNoMemory : Op → Result (Unit {0}) Refusal → Type 0
-AnswersNoMemory (Control Nop) answer = IfErr answer (λ e. e.memory ≡ false)
-AnswersNoMemory (Control Drop) answer = IfErr answer (λ e. e.memory ≡ false)
-AnswersNoMemory _ answer = Unit {0}
+-- refused only where the row doesn't hold
+abbrev pub RefusedByRow : ModuleContext → Op → BodyState → Result (Unit {0}) Refusal → Type 0
+RefusedByRow md op v answer = OnErr answer (step_body md (λ cx. operator cx op) v ≡ None)
+
+abbrev pub TakesNoMemory : ModuleContext → Op → BodyState → Result (Unit {0}) Refusal → Type 0
+TakesNoMemory md (Control Unreachable) v answer = RefusedByRow md (Control Unreachable) v answer
+TakesNoMemory md (Control Nop) v answer = RefusedByRow md (Control Nop) v answer
+TakesNoMemory md (Control (Br depth)) v answer = RefusedByRow md (Control (Br depth)) v answer
+TakesNoMemory md (Control Return) v answer = RefusedByRow md (Control Return) v answer
+TakesNoMemory md (Control Drop) v answer = RefusedByRow md (Control Drop) v answer
+TakesNoMemory md _ v answer = Unit {0}

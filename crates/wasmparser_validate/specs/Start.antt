@@ -1,18 +1,25 @@
 -- The states that a validator is made in.
-use Rattle.std.specs.Prelude.{◌≡◌, ◌⊎◌, ℕ, ◌+◌, ◌<◌, ◌++◌, true, false, List, [], Some, None, length, map}
+use Rattle.std.specs.Prelude.{◌≡◌, ◌⊎◌, ℕ, ◌+◌, ◌<◌, ◌++◌, true, false, List, [], Option, Some, None, length, map}
+use Rattle.std.specs.Option.{option_map}
 use Rattle.validate_resources.specs.Context.{ModuleContext, signature_of}
 use Rattle.validate_types.specs.declared.features.WasmFeatures.{WasmFeatures}
 use Rattle.validate_types.specs.declared.types.SubType.{SubType}
 use Rattle.validate_types.specs.declared.types.ValType.{ValType}
+use Rattle.validate_visit.specs.declared.frame.BlockType.{BlockType}
 use Rattle.validate_visit.specs.declared.frame.BlockType.TheVariants.{Val, FuncType}
+use Rattle.validate_visit.specs.declared.frame.FrameKind.{FrameKind}
 use Rattle.validation_rules.specs.Static.{start}
 use Rattle.validate_stacks.specs.State.{BodyState}
-use Rattle.validate_stacks.specs.Steps.{with_locals}
+use Rattle.validate_stacks.specs.Steps.{label_of, with_locals}
 use Rattle.wasmparser_validate.specs.declared.operators.validator.OperatorValidator.{OperatorValidator}
 
 -- what a validator stands for
 abbrev pub state : OperatorValidator → BodyState
 state v = v.stacks
+
+-- the kind of the innermost open frame
+abbrev pub current_kind : BodyState → Option FrameKind
+current_kind v = option_map (λ (l : BlockType × FrameKind). l.1) (label_of v 0)
 
 -- with these parameters as locals, all of them set
 abbrev pub with_params : List ValType → BodyState → BodyState
@@ -26,17 +33,19 @@ func_start features index type = record {
   features = features;
   locals = (signature_of type).params;
   entry = map (λ _. true) (signature_of type).params;
+  undone = None;
 }
 
 -- the start of a constant expression: one frame that gives this type, and no locals
 abbrev pub const_start : WasmFeatures → ValType → BodyState
-const_start features ty = record { present = start (Val ty); shared = false; features = features; locals = []; entry = [] }
+const_start features ty = record { present = start (Val ty); shared = false; features = features; locals = []; entry = []; undone = None }
 
--- the type at this index, and the state in which a function of it starts
+-- the type at this index, which hasn't too many parameters, and the state in which a function of it starts
 pub record IsFuncStart (md : ModuleContext) (features : WasmFeatures) (index : ℕ) (v : BodyState) : Type 0 where
   pub type : SubType
   pub is_there : md.type_at index ≡ Some type
   pub starts : v ≡ func_start features index type
+  pub few : length (signature_of type).params < 50001
 
 -- the type at this index has too many parameters
 pub record HasTooManyParams (md : ModuleContext) (index : ℕ) : Type 0 where

@@ -3,11 +3,11 @@
 use crate::failure::LineError;
 use crate::script::Body;
 use crate::script::numbers::read_index;
-use crate::script::operators::read_operator;
+use crate::script::operators::{read_br_table, read_operator, read_typed_select_multi};
+use crate::script::owned::OwnedOp;
 use crate::script::types::{read_type, read_value_type};
 use std::alloc::Global;
 use wasmparser_validate::types::{SubType, ValType};
-use wasmparser_validate::visit::Op;
 
 /// What a line says that is neither blank nor a comment.
 #[derive(Drop)]
@@ -19,15 +19,19 @@ pub enum Line {
     /// `local N T`: the body has this many more locals of this type.
     Locals(u32, ValType),
     /// An operator of the body.
-    Operator(Op),
+    Operator(OwnedOp),
 }
 
 /// Reads the words of a line, of which there is one at least.
 pub fn read_line(alloc: Global, words: &[&str]) -> Result<Line, LineError> {
-    if let Some((&"type", rest)) = words.split_first() {
-        return Ok(Line::SubType(read_type(alloc, rest)?));
+    match words.split_first() {
+        Some((&"type", rest)) => Ok(Line::SubType(read_type(alloc, rest)?)),
+        Some((&"br_table", labels)) => Ok(Line::Operator(read_br_table(alloc, labels)?)),
+        Some((&"select_multi", types)) => {
+            Ok(Line::Operator(read_typed_select_multi(alloc, types)?))
+        }
+        _ => read_flat_line(words).ok_or(LineError::Bad),
     }
-    read_flat_line(words).ok_or(LineError::Bad)
 }
 
 /// Reads the words of a line that takes no memory.
@@ -36,6 +40,6 @@ fn read_flat_line(words: &[&str]) -> Option<Line> {
         ["func", type_index] => Some(Line::Body(Body::Function(read_index(type_index)?))),
         ["expr", ty] => Some(Line::Body(Body::Expression(read_value_type(ty)?))),
         ["local", count, ty] => Some(Line::Locals(read_index(count)?, read_value_type(ty)?)),
-        _ => read_operator(words).map(Line::Operator),
+        _ => Some(Line::Operator(OwnedOp::Flat(read_operator(words)?))),
     }
 }

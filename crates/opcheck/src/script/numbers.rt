@@ -1,10 +1,14 @@
 //! Numbers as a script writes them: decimal digits, in constants after an optional `-`.
 
-ghost use Rattle.std.specs.Prelude.{◌≡◌, ◌≢◌, ◌<◌, ◌^◌, MatchOption, slice_index};
+ghost use Rattle.std.specs.Prelude.{◌≡◌, ◌≢◌, All, IfOk, IsErrOf, MatchOption, OnOk, map, slice_index};
 ghost use Rattle.std.specs.Option.{SomeIff};
-ghost use Rattle.std.specs.Str.Parse.{IsNumeral, digits_value};
+ghost use Rattle.std.specs.Str.Parse.{digits_value};
 ghost use Rattle.std.specs.Int.{w32, w64};
-ghost use Rattle.opcheck.specs.Numbers.{IsConstant, constant_value};
+ghost use Rattle.opcheck.specs.Numbers.{IsIndex, IsConstant, constant_value};
+ghost use Rattle.opcheck.specs.declared.failure.LineError.{LineError};
+
+use crate::failure::LineError;
+use std::alloc::Global;
 
 /// The token, if it has no `+` in front, which std's readers of numbers would allow.
 fn without_plus(token: &str) -> Option<&str>
@@ -19,9 +23,22 @@ fn without_plus(token: &str) -> Option<&str>
 
 /// The index or count that a token writes, if it does.
 pub fn read_index(token: &str) -> Option<u32>
-    ensures { SomeIff result (IsNumeral 10 token.now × (digits_value 10 token.now < 2 ^ 32)) (digits_value 10 token.now) }
+    ensures { SomeIff result (IsIndex token.now) (digits_value 10 token.now) }
 {
     without_plus(token)?.parse().ok()
+}
+
+/// The indices that these tokens write, if each of them does.
+pub fn read_indices(alloc: Global, tokens: &[&str]) -> Result<Vec<u32>, LineError>
+    ensures read { IfOk result (λ indices. indices.items ≡ map (λ token. digits_value 10 token.now) tokens.now) }
+    ensures good { OnOk result (All (λ token. IsIndex token.now) tokens.now) }
+    ensures bad { IsErrOf result LineError.Bad → ¬ (All (λ token. IsIndex token.now) tokens.now) }
+{
+    let mut indices = Vec::new(alloc);
+    for token in tokens {
+        indices.push(read_index(token).ok_or(LineError::Bad)?)?;
+    }
+    Ok(indices)
 }
 
 /// The constant of type `i32` that a token writes, if it does.

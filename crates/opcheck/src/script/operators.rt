@@ -1,15 +1,30 @@
 //! Operators by their names.
 
-use crate::script::numbers::{read_i32, read_i64, read_index};
-use crate::script::types::read_value_type;
+ghost use Rattle.std.specs.Prelude.{◌≡◌, ◌≢◌, [], All, IfOk, IsErrOf, OnOk, map};
+ghost use Rattle.std.specs.Str.Parse.{digits_value};
+ghost use Rattle.opcheck.specs.Numbers.{IsIndex};
+ghost use Rattle.opcheck.specs.Owned.{labels_of};
+ghost use Rattle.opcheck.specs.declared.failure.LineError.{LineError};
+
+use crate::failure::LineError;
+use crate::script::numbers::{read_i32, read_i64, read_index, read_indices};
+use crate::script::owned::OwnedOp;
+use crate::script::types::{read_value_type, read_value_types};
+use std::alloc::Global;
 use wasmparser_validate::visit::{BlockType, ControlOp, NumericOp, Op};
 
 /// The operators without immediates, by their names.
-const PLAIN: &[(&str, Op)] = &[
+const PLAIN: &[(&str, Op<'static>)] = &[
+    ("unreachable", Op::Control(ControlOp::Unreachable)),
     ("nop", Op::Control(ControlOp::Nop)),
     ("block", Op::Control(ControlOp::Block(BlockType::Empty))),
+    ("loop", Op::Control(ControlOp::Loop(BlockType::Empty))),
+    ("if", Op::Control(ControlOp::If(BlockType::Empty))),
+    ("else", Op::Control(ControlOp::Else)),
     ("end", Op::Control(ControlOp::End)),
+    ("return", Op::Control(ControlOp::Return)),
     ("drop", Op::Control(ControlOp::Drop)),
+    ("select", Op::Control(ControlOp::Select)),
     ("i32.eqz", Op::Numeric(NumericOp::I32Eqz)),
     ("i32.add", Op::Numeric(NumericOp::I32Add)),
     ("i32.sub", Op::Numeric(NumericOp::I32Sub)),
@@ -19,21 +34,22 @@ const PLAIN: &[(&str, Op)] = &[
     ("i64.mul", Op::Numeric(NumericOp::I64Mul)),
 ];
 
-/// The operator that a line's words write, if they do: its name, and its immediates after it.
-pub fn read_operator(words: &[&str]) -> Option<Op> {
+/// The operator that a line's words write, if they do, where it has no list: its name, and its
+/// immediates after it.
+pub fn read_operator(words: &[&str]) -> Option<Op<'static>> {
     match *words {
         [name] => plain_operator(name).or_else(|| constant_operator(name, "0")),
         [name, immediate] => {
             constant_operator(name, immediate)
-                .or_else(|| block_operator(name, immediate))
-                .or_else(|| local_operator(name, immediate))
+                .or_else(|| typed_operator(name, immediate))
+                .or_else(|| indexed_operator(name, immediate))
         }
         _ => None,
     }
 }
 
 /// The operator without immediates of this name.
-fn plain_operator(name: &str) -> Option<Op> {
+fn plain_operator(name: &str) -> Option<Op<'static>> {
     PLAIN
         .iter()
         .find(|named| named.0 == name)
@@ -41,7 +57,7 @@ fn plain_operator(name: &str) -> Option<Op> {
 }
 
 /// The constant of this type and value.
-fn constant_operator(name: &str, value: &str) -> Option<Op> {
+fn constant_operator(name: &str, value: &str) -> Option<Op<'static>> {
     match name {
         "i32.const" => Some(Op::Numeric(NumericOp::I32Const(read_i32(value)?))),
         "i64.const" => Some(Op::Numeric(NumericOp::I64Const(read_i64(value)?))),
@@ -49,10 +65,13 @@ fn constant_operator(name: &str, value: &str) -> Option<Op> {
     }
 }
 
-/// The opener of this name, of a block of this type.
-fn block_operator(name: &str, block_type: &str) -> Option<Op> {
+/// The operator of this name, an opener of a block of this type or a `select` of this type.
+fn typed_operator(name: &str, ty: &str) -> Option<Op<'static>> {
     match name {
-        "block" => Some(Op::Control(ControlOp::Block(read_block_type(block_type)?))),
+        "block" => Some(Op::Control(ControlOp::Block(read_block_type(ty)?))),
+        "loop" => Some(Op::Control(ControlOp::Loop(read_block_type(ty)?))),
+        "if" => Some(Op::Control(ControlOp::If(read_block_type(ty)?))),
+        "select_t" => Some(Op::Control(ControlOp::TypedSelect(read_value_type(ty)?))),
         _ => None,
     }
 }
@@ -65,13 +84,34 @@ fn read_block_type(word: &str) -> Option<BlockType> {
     }
 }
 
-/// The operator of this name on the local at this index.
-fn local_operator(name: &str, index: &str) -> Option<Op> {
+/// The operator of this name on the label or the local at this index.
+fn indexed_operator(name: &str, index: &str) -> Option<Op<'static>> {
     let index = read_index(index)?;
     match name {
+        "br" => Some(Op::Control(ControlOp::Br(index))),
+        "br_if" => Some(Op::Control(ControlOp::BrIf(index))),
         "local.get" => Some(Op::Control(ControlOp::LocalGet(index))),
         "local.set" => Some(Op::Control(ControlOp::LocalSet(index))),
         "local.tee" => Some(Op::Control(ControlOp::LocalTee(index))),
         _ => None,
     }
+}
+
+/// A `br_table` to these labels, of which the last is the default.
+pub fn read_br_table(alloc: Global, labels: &[&str]) -> Result<OwnedOp, LineError>
+    ensures labels { IfOk result (λ op. labels_of op ≡ map (λ label. digits_value 10 label.now) labels.now) }
+    ensures good { OnOk result (All (λ label. IsIndex label.now) labels.now) }
+    ensures bad { IsErrOf result LineError.Bad → labels.now ≢ [] → ¬ (All (λ label. IsIndex label.now) labels.now) }
+{
+    let (default, targets) = labels.split_last().ok_or(LineError::Bad)?;
+    let default = read_index(default).ok_or(LineError::Bad)?;
+    Ok(OwnedOp::BrTable {
+        targets: read_indices(alloc, targets)?,
+        default,
+    })
+}
+
+/// A `select` of several values, of these types.
+pub fn read_typed_select_multi(alloc: Global, types: &[&str]) -> Result<OwnedOp, LineError> {
+    Ok(OwnedOp::TypedSelectMulti(read_value_types(alloc, types)?))
 }

@@ -46,7 +46,8 @@ fn read_signature(alloc: Global, words: &[&str]) -> Result<FuncType, LineError> 
     Ok(FuncType::new(params, results))
 }
 
-fn read_value_types(alloc: Global, words: &[&str]) -> Result<Vec<ValType>, LineError> {
+/// The value types that these words name.
+pub fn read_value_types(alloc: Global, words: &[&str]) -> Result<Vec<ValType>, LineError> {
     words
         .iter()
         .map(|word| read_value_type(word).ok_or(LineError::Bad))

@@ -3,6 +3,7 @@
 use super::{expect_bad, expect_body, expect_run};
 use crate::check::check_script;
 use crate::failure::{BadScript, Failure};
+use crate::script::owned::OwnedOp;
 use crate::script::{Body, BodyLine, Script};
 use std::alloc::{AllocError, Global};
 use std::test::Fail;
@@ -64,8 +65,8 @@ fn names_the_first_cause(rt: HostRuntime) -> Result<(), Fail> {
     expect_bad(&rt, b"type func ->\nfunc 0\nend\n# \xc3(", "input")
 }
 
-/// A script of this many types and these operators.
-fn script_of(alloc: Global, types: usize, operators: &[(Op, u64)]) -> Result<Script, AllocError> {
+/// A script of this many types and so many `end`s.
+fn script_of(alloc: Global, types: usize, ends: usize) -> Result<Script, AllocError> {
     let mut script = Script {
         types: Vec::with_capacity(alloc, types)?,
         body: BodyLine {
@@ -73,8 +74,12 @@ fn script_of(alloc: Global, types: usize, operators: &[(Op, u64)]) -> Result<Scr
             offset: 1,
         },
         locals: Vec::new(alloc),
-        operators: Vec::from_slice(alloc, operators)?,
+        operators: Vec::new(alloc),
     };
+    for _ in 0..ends {
+        let end = OwnedOp::Flat(Op::Control(ControlOp::End));
+        script.operators.push((end, 2))?;
+    }
     for _ in 0..types {
         script.types.push(SubType {
             is_final: true,
@@ -89,13 +94,12 @@ fn script_of(alloc: Global, types: usize, operators: &[(Op, u64)]) -> Result<Scr
 
 #[test]
 fn counts_types(rt: HostRuntime) -> Result<(), Fail> {
-    let end = (Op::Control(ControlOp::End), 2);
-    let most = script_of(rt.alloc(), 1_000_000, &[end])?;
+    let most = script_of(rt.alloc(), 1_000_000, 1)?;
     assert!(rt; check_script(rt.alloc(), most).is_ok());
-    let more = script_of(rt.alloc(), 1_000_001, &[end])?;
+    let more = script_of(rt.alloc(), 1_000_001, 1)?;
     let cause = check_script(rt.alloc(), more).err();
     assert_eq!(rt; cause, Some(Failure::BadScript(BadScript::Module)));
-    let both = script_of(rt.alloc(), 1_000_001, &[end, end])?;
+    let both = script_of(rt.alloc(), 1_000_001, 2)?;
     let cause = check_script(rt.alloc(), both).err();
     assert_eq!(rt; cause, Some(Failure::BadScript(BadScript::Order)));
     Ok(())

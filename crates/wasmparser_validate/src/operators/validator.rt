@@ -5,7 +5,7 @@ ghost use Rattle.std.specs.Option.{option_copied};
 ghost use Rattle.validation_rules.specs.Static.{operand_count, frame_count};
 ghost use Rattle.validate_stacks.specs.State.{IsStarting};
 ghost use Rattle.validate_resources.specs.Context.{ModuleContext, Valid, signature_of};
-ghost use Rattle.validate_stacks.specs.Steps.{peeked, frame_at};
+ghost use Rattle.validate_stacks.specs.Steps.{peeked, frame_at, label_of};
 ghost use Rattle.wasmparser_validate.specs.Start.{state, func_start, const_start, with_params, IsFuncStart, HasTooManyParams, DefinesLocals, CannotDefine};
 
 use validate_locals::Locals;
@@ -24,6 +24,7 @@ pub struct OperatorValidator {
 /// Declares the parameters, each as a local. False where they would be more than 50,000.
 fn define_params(stacks: &mut Stacks, params: &[ValType]) -> Result<bool, OutOfMemory>
     ensures defined { IfOk result (λ done. MatchBool done (stacks.new ≡ with_params params.now stacks.old) (50000 < length stacks.old.locals + length params.now)) }
+    ensures few { length stacks.old.locals < 50001 → IfOk result (λ done. done ≡ true → length stacks.old.locals + length params.now < 50001) }
 {
     for ty in params {
         if !stacks.define_locals(1, *ty)? {
@@ -133,6 +134,14 @@ impl OperatorValidator {
         self.stacks.get_frame(depth)
     }
 
+    /// The block type and the kind of the frame that a branch of this depth names, the innermost at 0,
+    /// or None past the end.
+    pub fn jump(&self, depth: u32) -> Option<(BlockType, FrameKind)>
+        ensures { result ≡ label_of (state self.now) depth }
+    {
+        self.stacks.jump(depth)
+    }
+
     /// The declared locals.
     pub fn locals(&self) -> &Locals
         ensures { result.now ≡ (state self.now).locals }
@@ -162,6 +171,7 @@ fn start_func(
     allocs: OperatorValidatorAllocations,
 ) -> Result<OperatorValidator, Error>
     ensures made { IfOk result (λ v. state v ≡ func_start features ty sub_type.now) }
+    ensures few { OnOk result (length (signature_of sub_type.now).params < 50001) }
     ensures refused { IfErr result (λ e. e.memory ≡ false → 50000 < length (signature_of sub_type.now).params) }
     ensures offset { IfErr result (λ e. e.offset ≡ offset) }
 {

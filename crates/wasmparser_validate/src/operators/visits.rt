@@ -4,17 +4,23 @@ ghost use Rattle.std.specs.Prelude.{◌≡◌};
 ghost use Rattle.validate_visit.specs.declared.op.Op.{Op};
 ghost use Rattle.validation_rules.specs.Table.{operator};
 ghost use Rattle.validate_stacks.specs.Visits.{MayVisit, Meets};
-ghost use Rattle.wasmparser_validate.specs.Memory.{AnswersNoMemory};
-ghost use Rattle.wasmparser_validate.specs.Start.{state};
+ghost use Rattle.wasmparser_validate.specs.Memory.{TakesNoMemory};
+ghost use Rattle.wasmparser_validate.specs.Start.{state, current_kind};
 
 use crate::operators::validator::OperatorValidator;
 use validate_resources::WasmModuleResources;
-use validate_rows::blocks::check_block;
-use validate_rows::control::{check_drop, check_end, check_nop};
+use validate_rows::blocks::check_opener;
+use validate_rows::branches::{check_br, check_br_if, check_br_table, check_return};
+use validate_rows::control::{check_else, check_end, check_nop, check_unreachable};
 use validate_rows::numeric::{check_binary_op, check_const, check_test_op};
+use validate_rows::parametric::{
+    check_drop, check_select, check_typed_select, check_typed_select_multi,
+};
 use validate_rows::variables::{check_local_get, check_local_set, check_local_tee};
-use validate_types::{Error, ValType};
-use validate_visit::{BlockType, ControlOp, NumericOp, Op, VisitOperator};
+use validate_types::{Error, Gate, ValType};
+use validate_visit::{
+    BlockType, BrTable, ControlOp, FrameKind, FrameStack, NumericOp, Op, VisitOperator,
+};
 
 /// A validator that is about to visit an operator, with the lookup and the operator's offset
 /// (wasmparser's `WasmProposalValidator`).
@@ -48,28 +54,103 @@ impl OperatorValidator {
     }
 }
 
-impl<'validator, 'resources, R: WasmModuleResources> VisitOperator
+impl<'a, 'validator, 'resources, R: WasmModuleResources> VisitOperator<'a>
     for WasmProposalValidator<'validator, 'resources, R> {
     type Output = Result<(), Error>;
 
     ghost can_visit = { λ v op. MayVisit (R.context v.resources.now) (state v.inner.now) };
 
-    ghost visits = { λ v op answer w. (w.inner.ghost_name ≡ v.inner.ghost_name) × (w.offset ≡ v.offset) × (w.resources ≡ v.resources) × Meets (R.context v.resources.now) (λ cx. operator cx op) v.offset (state v.inner.now) answer (state w.inner.now) × AnswersNoMemory op answer };
+    ghost visits = { λ v op answer w. (w.inner.ghost_name ≡ v.inner.ghost_name) × (w.offset ≡ v.offset) × (w.resources ≡ v.resources) × Meets (R.context v.resources.now) (λ cx. operator cx op) v.offset (state v.inner.now) answer (state w.inner.now) × TakesNoMemory (R.context v.resources.now) op (state v.inner.now) answer };
+
+    fn visit_unreachable(&mut self) -> Result<(), Error> {
+        check_unreachable(&mut self.inner.stacks, self.resources, self.offset)
+    }
 
     fn visit_nop(&mut self) -> Result<(), Error> {
         check_nop(&mut self.inner.stacks, self.resources, self.offset)
     }
 
     fn visit_block(&mut self, ty: BlockType) -> Result<(), Error> {
-        check_block(&mut self.inner.stacks, self.resources, self.offset, ty)
+        check_opener(
+            &mut self.inner.stacks,
+            self.resources,
+            self.offset,
+            FrameKind::Block,
+            &[],
+            ty,
+        )
+    }
+
+    fn visit_loop(&mut self, ty: BlockType) -> Result<(), Error> {
+        check_opener(
+            &mut self.inner.stacks,
+            self.resources,
+            self.offset,
+            FrameKind::Loop,
+            &[],
+            ty,
+        )
+    }
+
+    fn visit_if(&mut self, ty: BlockType) -> Result<(), Error> {
+        check_opener(
+            &mut self.inner.stacks,
+            self.resources,
+            self.offset,
+            FrameKind::If,
+            &[ValType::I32],
+            ty,
+        )
+    }
+
+    fn visit_else(&mut self) -> Result<(), Error> {
+        check_else(&mut self.inner.stacks, self.resources, self.offset)
     }
 
     fn visit_end(&mut self) -> Result<(), Error> {
         check_end(&mut self.inner.stacks, self.resources, self.offset)
     }
 
+    fn visit_br(&mut self, relative_depth: u32) -> Result<(), Error> {
+        check_br(
+            &mut self.inner.stacks,
+            self.resources,
+            self.offset,
+            relative_depth,
+        )
+    }
+
+    fn visit_br_if(&mut self, relative_depth: u32) -> Result<(), Error> {
+        check_br_if(
+            &mut self.inner.stacks,
+            self.resources,
+            self.offset,
+            relative_depth,
+        )
+    }
+
+    fn visit_br_table(&mut self, targets: BrTable<'a>) -> Result<(), Error> {
+        check_br_table(&mut self.inner.stacks, self.resources, self.offset, targets)
+    }
+
+    fn visit_return(&mut self) -> Result<(), Error> {
+        check_return(&mut self.inner.stacks, self.resources, self.offset)
+    }
+
     fn visit_drop(&mut self) -> Result<(), Error> {
         check_drop(&mut self.inner.stacks, self.resources, self.offset)
+    }
+
+    fn visit_select(&mut self) -> Result<(), Error> {
+        check_select(&mut self.inner.stacks, self.resources, self.offset)
+    }
+
+    fn visit_typed_select(&mut self, ty: ValType) -> Result<(), Error> {
+        check_typed_select(&mut self.inner.stacks, self.resources, self.offset, ty)
+    }
+
+    fn visit_typed_select_multi(&mut self, _tys: &'a [ValType]) -> Result<(), Error> {
+        check_typed_select_multi(&mut self.inner.stacks, self.resources, self.offset)
     }
 
     fn visit_local_get(&mut self, local_index: u32) -> Result<(), Error> {
@@ -104,6 +185,7 @@ impl<'validator, 'resources, R: WasmModuleResources> VisitOperator
             &mut self.inner.stacks,
             self.resources,
             self.offset,
+            Gate::Mvp,
             ValType::I32,
         )
     }
@@ -113,6 +195,7 @@ impl<'validator, 'resources, R: WasmModuleResources> VisitOperator
             &mut self.inner.stacks,
             self.resources,
             self.offset,
+            Gate::Mvp,
             ValType::I64,
         )
     }
@@ -122,6 +205,7 @@ impl<'validator, 'resources, R: WasmModuleResources> VisitOperator
             &mut self.inner.stacks,
             self.resources,
             self.offset,
+            Gate::Mvp,
             ValType::I32,
         )
     }
@@ -131,6 +215,7 @@ impl<'validator, 'resources, R: WasmModuleResources> VisitOperator
             &mut self.inner.stacks,
             self.resources,
             self.offset,
+            Gate::Mvp,
             ValType::I32,
         )
     }
@@ -140,6 +225,7 @@ impl<'validator, 'resources, R: WasmModuleResources> VisitOperator
             &mut self.inner.stacks,
             self.resources,
             self.offset,
+            Gate::Mvp,
             ValType::I32,
         )
     }
@@ -149,6 +235,7 @@ impl<'validator, 'resources, R: WasmModuleResources> VisitOperator
             &mut self.inner.stacks,
             self.resources,
             self.offset,
+            Gate::Mvp,
             ValType::I32,
         )
     }
@@ -158,6 +245,7 @@ impl<'validator, 'resources, R: WasmModuleResources> VisitOperator
             &mut self.inner.stacks,
             self.resources,
             self.offset,
+            Gate::Mvp,
             ValType::I64,
         )
     }
@@ -167,6 +255,7 @@ impl<'validator, 'resources, R: WasmModuleResources> VisitOperator
             &mut self.inner.stacks,
             self.resources,
             self.offset,
+            Gate::Mvp,
             ValType::I64,
         )
     }
@@ -176,11 +265,12 @@ impl<'validator, 'resources, R: WasmModuleResources> VisitOperator
             &mut self.inner.stacks,
             self.resources,
             self.offset,
+            Gate::Mvp,
             ValType::I64,
         )
     }
 
-    fn visit_operator(&mut self, op: Op) -> Result<(), Error> {
+    fn visit_operator(&mut self, op: Op<'a>) -> Result<(), Error> {
         match op {
             Op::Control(op) => self.control_operator(op),
             Op::Numeric(op) => self.numeric_operator(op),
@@ -193,15 +283,26 @@ impl<'validator, 'resources, R: WasmModuleResources> WasmProposalValidator<
     'resources,
     R,
 > {
-    fn control_operator(&mut self, op: ControlOp) -> Result<(), Error>
-        requires { ⟦<WasmProposalValidator<'validator, 'resources, R> as VisitOperator>⟧.can_visit self.old (Op.Control op) }
-        ensures { ⟦<WasmProposalValidator<'validator, 'resources, R> as VisitOperator>⟧.visits self.old (Op.Control op) result self.new }
+    fn control_operator<'a>(&mut self, op: ControlOp<'a>) -> Result<(), Error>
+        requires { ⟦<WasmProposalValidator<'validator, 'resources, R> as VisitOperator<'a>>⟧.can_visit self.old (Op.Control op) }
+        ensures { ⟦<WasmProposalValidator<'validator, 'resources, R> as VisitOperator<'a>>⟧.visits self.old (Op.Control op.entry) result self.new }
     {
         match op {
+            ControlOp::Unreachable => self.visit_unreachable(),
             ControlOp::Nop => self.visit_nop(),
             ControlOp::Block(ty) => self.visit_block(ty),
+            ControlOp::Loop(ty) => self.visit_loop(ty),
+            ControlOp::If(ty) => self.visit_if(ty),
+            ControlOp::Else => self.visit_else(),
             ControlOp::End => self.visit_end(),
+            ControlOp::Br(relative_depth) => self.visit_br(relative_depth),
+            ControlOp::BrIf(relative_depth) => self.visit_br_if(relative_depth),
+            ControlOp::BrTable(targets) => self.visit_br_table(targets),
+            ControlOp::Return => self.visit_return(),
             ControlOp::Drop => self.visit_drop(),
+            ControlOp::Select => self.visit_select(),
+            ControlOp::TypedSelect(ty) => self.visit_typed_select(ty),
+            ControlOp::TypedSelectMulti(tys) => self.visit_typed_select_multi(tys),
             ControlOp::LocalGet(local_index) => self.visit_local_get(local_index),
             ControlOp::LocalSet(local_index) => self.visit_local_set(local_index),
             ControlOp::LocalTee(local_index) => self.visit_local_tee(local_index),
@@ -209,8 +310,8 @@ impl<'validator, 'resources, R: WasmModuleResources> WasmProposalValidator<
     }
 
     fn numeric_operator(&mut self, op: NumericOp) -> Result<(), Error>
-        requires { ⟦<WasmProposalValidator<'validator, 'resources, R> as VisitOperator>⟧.can_visit self.old (Op.Numeric op) }
-        ensures { ⟦<WasmProposalValidator<'validator, 'resources, R> as VisitOperator>⟧.visits self.old (Op.Numeric op) result self.new }
+        requires { ⟦<WasmProposalValidator<'validator, 'resources, R> as VisitOperator<'resources>>⟧.can_visit self.old (Op.Numeric op) }
+        ensures { ⟦<WasmProposalValidator<'validator, 'resources, R> as VisitOperator<'resources>>⟧.visits self.old (Op.Numeric op) result self.new }
     {
         match op {
             NumericOp::I32Const(value) => self.visit_i32_const(value),
@@ -223,5 +324,14 @@ impl<'validator, 'resources, R: WasmModuleResources> WasmProposalValidator<
             NumericOp::I64Sub => self.visit_i64_sub(),
             NumericOp::I64Mul => self.visit_i64_mul(),
         }
+    }
+}
+
+impl<'validator, 'resources, R> FrameStack for WasmProposalValidator<'validator, 'resources, R> {
+    ghost current = { λ v. current_kind (state v.inner.now) };
+
+    fn current_frame(&self) -> Option<FrameKind> {
+        let (_, kind) = self.inner.jump(0)?;
+        Some(kind)
     }
 }

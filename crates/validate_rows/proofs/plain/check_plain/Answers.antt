@@ -1,15 +1,25 @@
-use Rattle.std.proofs.Common.{rules}
-use Rattle.validate_stacks.specs.Pops.{pushed_each}
+use Rattle.std.proofs.Common.{rules, ◌≡◌, true, None, reverse, refl, ◌∙◌}
+use Rattle.validation_rules.specs.Table.{plain, gated, alike}
+use Rattle.validate_stacks.specs.Pops.{popped_each, pushed_each}
+use Rattle.validate_stacks.specs.Visits.{step_body}
 use Rattle.validate_stacks.proofs.Validity.{kept_on}
-use Rattle.validate_rows.proofs.Rows.{plain_passes, plain_refused}
+use Rattle.validate_rows.proofs.Rows.{plain_passes, plain_refused, gate_open, gate_closed}
 use Rattle.validate_rows.proofs.Meeting.{meets_last, meets_refused}
 use Rattle.validate_rows.proofs.plain.check_plain.Goals as goal
+
+pub returns-in_err-check_enabled : goal.returns-in_err-check_enabled
+returns-in_err-check_enabled g c =
+    let md = g.R.WasmModuleResources.context c.args.resources.now in
+    let v = c.args.stacks.now in
+    let none = gate_closed md v c.args.gate c.args.wanted.now c.args.pushed.now in
+    meets_refused md _ c.args.offset v v _ (search rules) (search (rules, none)) (search rules) c.requires.visit.valid refl
 
 pub returns-in_err-pop_types : goal.returns-in_err-pop_types
 returns-in_err-pop_types g c =
     let md = g.R.WasmModuleResources.context c.args.resources.now in
     let v = c.args.stacks.now in
-    let none = plain_refused md v c.args.wanted.now c.args.pushed.now c.requires.visit.open_frame in
+    let none : popped_each md (reverse c.args.wanted.now) v ≡ None → step_body md (λ cx. alike (gated cx c.args.gate (plain true c.args.wanted.now c.args.pushed.now))) v ≡ None =
+    λ n. gate_open md v c.args.gate c.args.wanted.now c.args.pushed.now c.in_ok-check_enabled.ensures.open ∙ plain_refused md v c.args.wanted.now c.args.pushed.now c.requires.visit.open_frame n in
     meets_refused md _ c.args.offset v c.pop_types.new.self _ (search rules) (search (rules, none)) (search rules) c.pop_types.ensures.valid c.pop_types.ensures.kept
 
 pub returns : goal.returns
@@ -18,5 +28,5 @@ returns g c =
     let v = c.args.stacks.now in
     let u = c.pop_types.new.self in
     meets_last md _ c.args.offset v c.push_types.new.self (pushed_each c.args.pushed.now u) c.push_types.result
-    (plain_passes md v u c.push_types.new.self c.args.wanted.now c.args.pushed.now c.requires.visit.open_frame c.in_ok-pop_types.ensures.passed) c.push_types.ensures.pushed c.push_types.ensures.memory c.push_types.ensures.offset
+    (λ q. gate_open md v c.args.gate c.args.wanted.now c.args.pushed.now c.in_ok-check_enabled.ensures.open ∙ plain_passes md v u c.push_types.new.self c.args.wanted.now c.args.pushed.now c.requires.visit.open_frame c.in_ok-pop_types.ensures.passed q) c.push_types.ensures.pushed c.push_types.ensures.memory c.push_types.ensures.offset
     (c.push_types.ensures.valid md c.requires.pushed c.pop_types.ensures.valid) (kept_on v u c.push_types.new.self c.pop_types.ensures.kept c.push_types.ensures.kept)

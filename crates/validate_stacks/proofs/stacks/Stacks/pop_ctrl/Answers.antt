@@ -21,7 +21,7 @@ pub returns-then-own_len-gt0-clause-refused : goal.returns-then-own_len-gt0-clau
 returns-then-own_len-gt0-clause-refused g c =
     let md = g.R.WasmModuleResources.context c.args.resources.now in
     let there = sym c.get_frame.ensures ∙ ap option_copied c.in-Some.is in
-    λ _. closed_left_over md c.args.self.now c.in-Some.innermost.now c.results.result.now there c.results.ensures c.pop_types.new.self c.in_ok-pop_types.ensures.passed (omega (arith, c.own_len.ensures))
+    closed_left_over md c.args.self.now c.in-Some.innermost.now c.results.result.now there c.results.ensures c.pop_types.new.self c.in_ok-pop_types.ensures.passed (omega (arith, c.own_len.ensures))
 
 none_of : (l : List MaybeType) → length l ≡ 0 → l ≡ []
 none_of [] h = refl

@@ -1,4 +1,4 @@
-use Rattle.std.proofs.Common.{suc, length, map, true, ◌∙◌, ap, arith}
+use Rattle.std.proofs.Common.{None, suc, length, map, true, ◌∙◌, ap, arith}
 use Rattle.validation_rules.specs.Static.{State}
 use Rattle.validate_stacks.specs.Steps.{pushed}
 use Rattle.validate_stacks.proofs.Cuts.{HasShape-more, cut-push}
@@ -15,5 +15,5 @@ returns c =
     record {
       exact =
           rw (c.put.ensures.items, c.take_room.ensures.items)
-          (ap (λ (p : State). record { present = p; shared = s.shared; features = s.features; locals = s.locals; entry = map (λ _. true) s.locals }) (cut-push s.control.items c.args.ty s.operands.items c.self.invariant) ∙ ap (pushed c.args.ty) c.self.view_is);
+          (ap (λ (p : State). record { present = p; shared = s.shared; features = s.features; locals = s.locals; entry = map (λ _. true) s.locals; undone = None }) (cut-push s.control.items c.args.ty s.operands.items c.self.invariant) ∙ ap (pushed c.args.ty) c.self.view_is);
     }

@@ -1,0 +1,3 @@
+mod Indices
+pub mod Locals
+pub mod Reports

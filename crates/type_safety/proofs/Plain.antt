@@ -1,0 +1,73 @@
+-- Plain rows keep what the law asks of operators, all at once.
+use Rattle.std.proofs.Common.{◌≡◌, ℕ, Bool, true, false, List, [], ◌∷◌, ◌++◌, length, map, take, Option, Some, refl, sym, ap, ◌∙◌, slice_get}
+use Rattle.validate_resources.specs.Context.{IsLawful}
+use Rattle.validation_rules.specs.Context.{ValType, Context, AllBelow}
+use Rattle.validation_rules.specs.Fits.{MaybeType, Known, all_fit}
+use Rattle.validation_rules.specs.Rows.{Head, Form, Plain, Looks, Target, Row, guard, all_fit_each, gives, is_row}
+use Rattle.validation_rules.specs.Table.{looking, flat, alike, closing}
+use Rattle.validation_rules.proofs.Below.{and_true, true_and, below-trans, below_of_fit, fit_of_below}
+use Rattle.validation_rules.proofs.Steps.{some_injective, guard_some}
+use Rattle.type_safety.specs.Theorem.{Falls, IsLawfulRow, IsLawfulOperator}
+
+module _ (cx : Context) (laws : IsLawful cx.of_module) where
+  each_below : (xs ys : List ValType) (lists : List (List ValType)) → AllBelow cx ys xs → all_fit_each cx (map Known xs) lists ≡ true → all_fit_each cx (map Known ys) lists ≡ true
+  each_below xs ys [] below h = refl
+  each_below xs ys (ws ∷ lists) below h =
+      let a = and_true (all_fit cx (map Known xs) ws) _ h in
+      true_and _ _ (fit_of_below cx ys ws (below-trans cx laws ys xs ws below (below_of_fit cx xs ws a.0))) (each_below xs ys lists below a.1)
+
+  -- ---- plain operands, all at once
+  pub plain_falls : (wanted : List ValType) (also : List (List ValType)) (push : List ValType) (xs ys : List ValType) (pushed : List MaybeType) → AllBelow cx ys xs → gives cx (Plain wanted also push) (map Known xs) ≡ Some pushed → Falls cx (Plain wanted also push) xs ys pushed
+  plain_falls wanted also push xs ys pushed below h =
+      let g = guard_some _ _ _ h in
+      record {
+        upper = push;
+        lower = push;
+        known = some_injective _ _ (sym g.1);
+        passes = ap (λ b. guard b (Some (map Known push))) (each_below xs ys (wanted ∷ also) below g.0);
+        below = λ us b. b;
+      }
+
+  -- what plain operands passed: they are below the wanted types
+  pub plain_below : (wanted : List ValType) (also : List (List ValType)) (push ys : List ValType) (pushed : List MaybeType) → gives cx (Plain wanted also push) (map Known ys) ≡ Some pushed → AllBelow cx ys wanted
+  plain_below wanted also push ys pushed h =
+      below_of_fit cx ys wanted (and_true (all_fit cx (map Known ys) wanted) _ (guard_some _ _ _ h).0).0
+
+  pub below_front : (ps more ys : List ValType) → AllBelow cx ys (ps ++ more) → AllBelow cx (take (length ps) ys) ps
+  below_front [] more ys h = tt
+  below_front (p ∷ ps) more (y ∷ ys) h = (h.0, below_front ps more ys h.1)
+  below_front (p ∷ ps) more [] h = elim h [ ]
+
+  -- ---- rows that reach no label
+  pub no_target : (hs : List Head) (row : Row) → row.targets ≡ [] → ((xs ys : List ValType) (pushed : List MaybeType) → AllBelow cx ys xs → gives cx row.operands (map Known xs) ≡ Some pushed → Falls cx row.operands xs ys pushed) → IsLawfulRow cx hs row
+  no_target hs row none falls =
+      record {
+        falls = falls;
+        reaches = λ ys pushed p g j t e.
+            let d : slice_get {X = Target} [] j ≡ Some t = ap (λ ts. slice_get ts j) (sym none) ∙ e in
+            absurd cc;
+      }
+
+  -- an operator that neither opens nor closes a frame
+  pub flat_lawful : (row : List Head → Row) → ((hs : List Head) → IsLawfulRow cx hs (row hs)) → IsLawfulOperator cx (flat row)
+  flat_lawful row h =
+      record {
+        row = h;
+        closing = λ hs i. absurd cc;
+        takes_params = λ hs k ys pushed e. absurd cc;
+      }
+
+  -- every operator with a plain row, whatever its types, gate and locals
+  pub plain_lawful : (premise : Bool) (reads sets : Option ℕ) (wanted push : List ValType) (dead : Bool) → IsLawfulOperator cx (alike (record { premise = premise; reads = reads; operands = Plain wanted [] push; sets = sets; targets = []; clauses = []; dead = dead }))
+  plain_lawful premise reads sets wanted push dead = flat_lawful _ (λ hs. no_target hs _ refl (plain_falls wanted [] push))
+
+  pub looking_lawful : (premise : Bool) (n : ℕ) (f : List MaybeType → Option (List MaybeType)) → ((xs ys : List ValType) (pushed : List MaybeType) → AllBelow cx ys xs → f (map Known xs) ≡ Some pushed → Falls cx (Looks n f) xs ys pushed) → IsLawfulOperator cx (alike (looking premise n f))
+  looking_lawful premise n f h = flat_lawful _ (λ hs. no_target hs _ refl h)
+
+  pub closing_lawful : (form : Form) (premise : Bool) → is_row form ≡ false → IsLawfulOperator cx (closing form premise)
+  closing_lawful form premise i =
+      record {
+        row = λ hs. no_target hs _ refl (plain_falls [] [] []);
+        closing = λ hs k. (refl, refl);
+        takes_params = λ hs h ys pushed e. let d : true ≡ false = ap is_row (sym e) ∙ i in absurd cc;
+      }

@@ -1,0 +1,36 @@
+use Rattle.std.proofs.Common.{rules, ◌≡◌, true, false, length, nat_eq, refl}
+use Rattle.validate_stacks.specs.State.{context}
+use Rattle.validate_rows.proofs.Tables.{not_a_label, of_another_count, of_that_count}
+use Rattle.validate_rows.proofs.branches.check_target.Goals as goal
+
+pub returns-in_err-block_type-clause-refused : goal.returns-in_err-block_type-clause-refused
+returns-in_err-block_type-clause-refused g c =
+    let md = g.R.WasmModuleResources.context c.args.resources.now in
+    let none = not_a_label md c.args.stacks.now c.args.relative_depth c.args.count in
+    search (rules, none)
+
+pub returns-then-types-count-clause-refused : goal.returns-then-types-count-clause-refused
+returns-then-types-count-clause-refused g c =
+    let md = g.R.WasmModuleResources.context c.args.resources.now in
+    let v = c.args.stacks.now in
+    let ts = c.label_types-types.result.now in
+    let other : nat_eq (length ts) c.args.count ≡ false = search rules in
+    of_another_count md v c.args.relative_depth c.args.count c.in_ok-block_type.block_type c.in_ok-block_type.kind ts c.in_ok-block_type.ensures.found (c.label_types-types.ensures (context md v) refl) other
+
+pub returns-clause-fits : goal.returns-clause-fits
+returns-clause-fits g c =
+    let md = g.R.WasmModuleResources.context c.args.resources.now in
+    let v = c.args.stacks.now in
+    let ts = c.label_types-types.result.now in
+    let same : nat_eq (length ts) c.args.count ≡ true = search rules in
+    let fits = of_that_count md v c.args.relative_depth c.args.count c.in_ok-block_type.block_type c.in_ok-block_type.kind ts c.in_ok-block_type.ensures.found (c.label_types-types.ensures (context md v) refl) true same in
+    search (rules, fits)
+
+pub returns-clause-refused : goal.returns-clause-refused
+returns-clause-refused g c =
+    let md = g.R.WasmModuleResources.context c.args.resources.now in
+    let v = c.args.stacks.now in
+    let ts = c.label_types-types.result.now in
+    let same : nat_eq (length ts) c.args.count ≡ true = search rules in
+    let fits = of_that_count md v c.args.relative_depth c.args.count c.in_ok-block_type.block_type c.in_ok-block_type.kind ts c.in_ok-block_type.ensures.found (c.label_types-types.ensures (context md v) refl) false same in
+    search (rules, fits)

@@ -1,0 +1,100 @@
+use Rattle.std.proofs.Common.{rules, ◌≡◌, inr, true, false, Some, None, sym, ap, ◌∙◌, subst}
+use Rattle.validation_rules.specs.Table.{looking, selects, alike}
+use Rattle.validation_rules.specs.Valid.{OperandIsValid}
+use Rattle.validate_stacks.specs.Pops.{passes, IsKept}
+use Rattle.validate_stacks.specs.State.{BodyState, IsValid, context}
+use Rattle.validate_stacks.specs.Steps.{found, pushed}
+use Rattle.validate_stacks.specs.Visits.{step_body}
+use Rattle.validate_stacks.proofs.Validity.{kept_on, pushed_valid, pushed_kept}
+use Rattle.validate_rows.proofs.Selecting.{test_refused, upper_missing, lower_missing, both_found, no_found, after_valid, after_kept, found_valid, selected_one}
+use Rattle.validate_rows.proofs.Meeting.{meets_none, meets_done, meets_refused}
+use Rattle.validate_rows.proofs.parametric.check_select.Goals as goal
+
+pub returns-in_err-pop_operand : goal.returns-in_err-pop_operand
+returns-in_err-pop_operand g c =
+    let md = g.R.WasmModuleResources.context c.args.resources.now in
+    let v = c.args.stacks.now in
+    let w = c.pop_operand.new.self in
+    let none = test_refused md v c.requires.open_frame in
+    meets_none md _ c.args.offset v w _ (search rules) (search (rules, none)) (search rules) (after_valid md v w c.requires.valid c.in_err-pop_operand.ensures.left) (after_kept v w c.in_err-pop_operand.ensures.left)
+
+pub returns-in_err-upper : goal.returns-in_err-upper
+returns-in_err-upper g c =
+    let md = g.R.WasmModuleResources.context c.args.resources.now in
+    let v = c.args.stacks.now in
+    let u = c.pop_operand.new.self in
+    let w = c.pop_operand-2.new.self in
+    let e = c.in_ok-pop_operand.ensures.popped in
+    let none : passes (context md u) (found u) None ≡ false → step_body md (λ cx. alike (looking true 3 (selects cx))) v ≡ None =
+    λ n. upper_missing md v c.requires.open_frame u c.in_ok-pop_operand.ensures.passed e (no_found (context md u) (found u) n) in
+    let valid = after_valid md v u c.requires.valid (inr e) in
+    meets_none md _ c.args.offset v w _ (search rules) (search (rules, none)) (search rules) (after_valid md u w valid c.in_err-upper.ensures.left) (kept_on v u w (after_kept v u (inr e)) (after_kept u w c.in_err-upper.ensures.left))
+
+pub returns-in_err-lower : goal.returns-in_err-lower
+returns-in_err-lower g c =
+    let md = g.R.WasmModuleResources.context c.args.resources.now in
+    let v = c.args.stacks.now in
+    let u = c.pop_operand.new.self in
+    let w = c.pop_operand-2.new.self in
+    let x = c.pop_operand-3.new.self in
+    let e = c.in_ok-pop_operand.ensures.popped in
+    let f = c.in_ok-upper.ensures.popped in
+    let none : passes (context md w) (found w) None ≡ false → step_body md (λ cx. alike (looking true 3 (selects cx))) v ≡ None =
+    λ n. lower_missing md v c.requires.open_frame u c.in_ok-pop_operand.ensures.passed e w c.in_ok-upper.upper c.in_ok-upper.ensures.value f (no_found (context md w) (found w) n) in
+    let valid = after_valid md u w (after_valid md v u c.requires.valid (inr e)) (inr f) in
+    meets_none md _ c.args.offset v x _ (search rules) (search (rules, none)) (search rules) (after_valid md w x valid c.in_err-lower.ensures.left) (kept_on v w x (kept_on v u w (after_kept v u (inr e)) (after_kept u w (inr f))) (after_kept w x c.in_err-lower.ensures.left))
+
+pub returns-in_err-ty : goal.returns-in_err-ty
+returns-in_err-ty g c =
+    let md = g.R.WasmModuleResources.context c.args.resources.now in
+    let v = c.args.stacks.now in
+    let u = c.pop_operand.new.self in
+    let w = c.pop_operand-2.new.self in
+    let x = c.pop_operand-3.new.self in
+    let e = c.in_ok-pop_operand.ensures.popped in
+    let f = c.in_ok-upper.ensures.popped in
+    let h = c.in_ok-lower.ensures.popped in
+    let none = both_found md v c.requires.open_frame u c.in_ok-pop_operand.ensures.passed e w c.in_ok-upper.upper c.in_ok-upper.ensures.value f c.in_ok-lower.lower None c.in_ok-lower.ensures.value in
+    let valid = after_valid md u w (after_valid md v u c.requires.valid (inr e)) (inr f) in
+    meets_none md _ c.args.offset v x _ (search rules) (search (rules, none)) (search rules) (after_valid md w x valid (inr h)) (kept_on v w x (kept_on v u w (after_kept v u (inr e)) (after_kept u w (inr f))) (after_kept w x (inr h)))
+
+pub returns-in-Ok : goal.returns-in-Ok
+returns-in-Ok g c =
+    let md = g.R.WasmModuleResources.context c.args.resources.now in
+    let v = c.args.stacks.now in
+    let u = c.pop_operand.new.self in
+    let w = c.pop_operand-2.new.self in
+    let x = c.pop_operand-3.new.self in
+    let y = c.push_operand.new.self in
+    let t = c.in_ok-ty.ty in
+    let e = c.in_ok-pop_operand.ensures.popped in
+    let f = c.in_ok-upper.ensures.popped in
+    let h = c.in_ok-lower.ensures.popped in
+    let q = c.in-Ok.ensures.exact in
+    let valid_u = after_valid md v u c.requires.valid (inr e) in
+    let valid_w = after_valid md u w valid_u (inr f) in
+    let valid_x = after_valid md w x valid_w (inr h) in
+    let step = both_found md v c.requires.open_frame u c.in_ok-pop_operand.ensures.passed e w c.in_ok-upper.upper c.in_ok-upper.ensures.value f c.in_ok-lower.lower (Some t) c.in_ok-lower.ensures.value c.in_ok-ty.ensures.given in
+    let lower = found_valid md w c.in_ok-lower.lower valid_w c.in_ok-lower.ensures.value in
+    let upper = found_valid md u c.in_ok-upper.upper valid_u c.in_ok-upper.ensures.value in
+    let given = selected_one c.in_ok-lower.lower c.in_ok-upper.upper t (OperandIsValid md) lower upper c.in_ok-ty.ensures.given in
+    let kept = kept_on v w x (kept_on v u w (after_kept v u (inr e)) (after_kept u w (inr f))) (after_kept w x (inr h)) in
+    meets_done md _ c.args.offset v y (step ∙ ap Some (ap (λ (z : BodyState). pushed t z) (sym h) ∙ sym q)) (subst (IsValid md) (sym q) (pushed_valid md t x given valid_x)) (kept_on v x y kept (subst (IsKept x) (sym q) (pushed_kept t x)))
+
+pub returns-in-Err : goal.returns-in-Err
+returns-in-Err g c =
+    let md = g.R.WasmModuleResources.context c.args.resources.now in
+    let v = c.args.stacks.now in
+    let u = c.pop_operand.new.self in
+    let w = c.pop_operand-2.new.self in
+    let x = c.pop_operand-3.new.self in
+    let y = c.push_operand.new.self in
+    let e = c.in_ok-pop_operand.ensures.popped in
+    let f = c.in_ok-upper.ensures.popped in
+    let h = c.in_ok-lower.ensures.popped in
+    let q = c.in-Err.ensures.exact in
+    let valid = after_valid md w x (after_valid md u w (after_valid md v u c.requires.valid (inr e)) (inr f)) (inr h) in
+    let kept = kept_on v w x (kept_on v u w (after_kept v u (inr e)) (after_kept u w (inr f))) (after_kept w x (inr h)) in
+    let full : c.out_of_memory.result.memory ≡ true = search rules in
+    let none : c.out_of_memory.result.memory ≡ false → step_body md (λ cx. alike (looking true 3 (selects cx))) v ≡ None = λ n. (let clash : true ≡ false = sym full ∙ n in absurd cc) in
+    meets_refused md _ c.args.offset v y _ (search rules) none (search rules) (subst (IsValid md) (sym q) valid) (subst (IsKept v) (sym q) kept)

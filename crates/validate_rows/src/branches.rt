@@ -1,0 +1,149 @@
+//! Branches (WebAssembly core specification, "Control Instructions").
+
+ghost use Rattle.std.specs.Prelude.{◌≡◌, None, Some, true, false, length, IfOk, OnOk, OnErr, IfErr};
+ghost use Rattle.validation_rules.specs.Branches.{br_row, br_if_row, br_table_row, return_row};
+ghost use Rattle.validation_rules.specs.Table.{flat};
+ghost use Rattle.validate_stacks.specs.State.{IsValid, context};
+ghost use Rattle.validate_stacks.specs.Steps.{label_of};
+ghost use Rattle.validate_stacks.specs.Visits.{step_body, MayVisit, Meets};
+ghost use Rattle.validate_rows.specs.Targets.{is_target, are_targets};
+
+use validate_resources::WasmModuleResources;
+use validate_stacks::Stacks;
+use validate_stacks::blocks::label_types;
+use validate_types::{Error, ValType};
+use validate_visit::{BlockType, BrTable, FrameKind};
+
+/// The block type and the kind of the frame that a label names, counted from the innermost.
+fn label(stacks: &Stacks, offset: u64, relative_depth: u32) -> Result<(BlockType, FrameKind), Error>
+    ensures found { IfOk result (λ found. label_of stacks.now relative_depth ≡ Some found) }
+    ensures missing { OnErr result (label_of stacks.now relative_depth ≡ None) }
+    ensures offset { IfErr result (λ e. e.offset ≡ offset) }
+{
+    match stacks.jump(relative_depth) {
+        Some(found) => Ok(found),
+        None => Err(Error::new("unknown label: branch depth too large", offset)),
+    }
+}
+
+/// `br`: the types of the label, and the live part of the frame ends. It takes no memory but for the
+/// text of a refusal: it is refused only where its row doesn't hold.
+pub fn check_br<R: WasmModuleResources>(
+    stacks: &mut Stacks,
+    resources: &R,
+    offset: u64,
+    relative_depth: u32,
+) -> Result<(), Error>
+    requires { MayVisit (R.context resources.now) stacks.old }
+    ensures visit { Meets (R.context resources.now) (λ cx. flat (λ hs. br_row cx hs relative_depth)) offset stacks.old result stacks.new }
+    ensures memory { OnErr result (step_body (R.context resources.now) (λ cx. flat (λ hs. br_row cx hs relative_depth)) stacks.old ≡ None) }
+{
+    let (block_type, kind) = label(stacks, offset, relative_depth)?;
+    stacks.pop_types(resources, offset, label_types(resources, &block_type, kind))?;
+    stacks.unreachable();
+    Ok(())
+}
+
+/// `br_if`: `[t i32] -> [t]`, with the types t of the label.
+pub fn check_br_if<R: WasmModuleResources>(
+    stacks: &mut Stacks,
+    resources: &R,
+    offset: u64,
+    relative_depth: u32,
+) -> Result<(), Error>
+    requires { MayVisit (R.context resources.now) stacks.old }
+    ensures { Meets (R.context resources.now) (λ cx. flat (λ hs. br_if_row cx hs relative_depth)) offset stacks.old result stacks.new }
+{
+    stacks.pop_types(resources, offset, &[ValType::I32])?;
+    let (block_type, kind) = label(stacks, offset, relative_depth)?;
+    let types = label_types(resources, &block_type, kind);
+    stacks.pop_types(resources, offset, types)?;
+    stacks.push_types(offset, types)
+}
+
+/// `return`: a branch to the outermost label, whose types are the results of the body. It takes no
+/// memory but for the text of a refusal: it is refused only where its row doesn't hold.
+pub fn check_return<R: WasmModuleResources>(
+    stacks: &mut Stacks,
+    resources: &R,
+    offset: u64,
+) -> Result<(), Error>
+    requires { MayVisit (R.context resources.now) stacks.old }
+    ensures visit { Meets (R.context resources.now) (λ cx. flat (λ hs. return_row cx hs)) offset stacks.old result stacks.new }
+    ensures memory { OnErr result (step_body (R.context resources.now) (λ cx. flat (λ hs. return_row cx hs)) stacks.old ≡ None) }
+{
+    let outermost = stacks.control_stack_height() - 1;
+    let Some(frame) = stacks.get_frame(outermost) else {
+        unreachable!()
+    };
+    let frame = *frame;
+    let results = label_types(resources, &frame.block_type, frame.kind);
+    stacks.pop_types(resources, offset, results)?;
+    stacks.unreachable();
+    Ok(())
+}
+
+/// A target of `br_table`: its label, which has to have as many types as the default one, and the
+/// operands in place have to fit them.
+fn check_target<R: WasmModuleResources>(
+    stacks: &Stacks,
+    resources: &R,
+    offset: u64,
+    relative_depth: u32,
+    count: usize,
+) -> Result<(), Error>
+    ensures fits { OnOk result (is_target (R.context resources.now) stacks.now count relative_depth ≡ true) }
+    ensures refused { OnErr result (is_target (R.context resources.now) stacks.now count relative_depth ≡ false) }
+    ensures offset { IfErr result (λ e. e.offset ≡ offset) }
+{
+    let (block_type, kind) = label(stacks, offset, relative_depth)?;
+    let types = label_types(resources, &block_type, kind);
+    if types.len() != count {
+        return Err(Error::new(
+            "type mismatch: br_table target labels have different number of types",
+            offset,
+        ));
+    }
+    stacks.match_operands(resources, offset, types)
+}
+
+/// Every target of `br_table`, up to the end of the table, which has to be complete.
+fn check_targets<R: WasmModuleResources>(
+    stacks: &Stacks,
+    resources: &R,
+    offset: u64,
+    table: BrTable,
+    count: usize,
+) -> Result<(), Error>
+    ensures fits { OnOk result (are_targets (R.context resources.now) stacks.now count table.entry.complete table.entry.targets.now ≡ true) }
+    ensures refused { OnErr result (are_targets (R.context resources.now) stacks.now count table.entry.complete table.entry.targets.now ≡ false) }
+    ensures offset { IfErr result (λ e. e.offset ≡ offset) }
+{
+    for target in table.targets() {
+        match target {
+            Ok(relative_depth) => check_target(stacks, resources, offset, relative_depth, count)?,
+            Err(_) => return Err(Error::new("unexpected end of branch targets", offset)),
+        }
+    }
+    Ok(())
+}
+
+/// `br_table`: `[t i32]`, with the types t of the default label, which fit every other label too; and
+/// the live part of the frame ends.
+pub fn check_br_table<R: WasmModuleResources>(
+    stacks: &mut Stacks,
+    resources: &R,
+    offset: u64,
+    table: BrTable,
+) -> Result<(), Error>
+    requires { MayVisit (R.context resources.now) stacks.old }
+    ensures { Meets (R.context resources.now) (λ cx. flat (λ hs. br_table_row cx hs table.entry.complete table.entry.targets.now table.entry.default)) offset stacks.old result stacks.new }
+{
+    stacks.pop_types(resources, offset, &[ValType::I32])?;
+    let (block_type, kind) = label(stacks, offset, table.default())?;
+    let types = label_types(resources, &block_type, kind);
+    check_targets(stacks, resources, offset, table, types.len())?;
+    stacks.pop_types(resources, offset, types)?;
+    stacks.unreachable();
+    Ok(())
+}

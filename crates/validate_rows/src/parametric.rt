@@ -1,0 +1,100 @@
+//! Operators on operands of any type (WebAssembly core specification, "Parametric Instructions").
+
+ghost use Rattle.std.specs.Prelude.{◌≡◌, true, false, [], None, Some, IfOk, OnErr, IfErr};
+ghost use Rattle.validate_types.specs.Gates.{is_open};
+ghost use Rattle.validation_rules.specs.Table.{plain, looking, drops, selected, selects, typed_select, alike};
+ghost use Rattle.validate_stacks.specs.Visits.{step_body, MayVisit, Meets};
+
+use crate::plain::{check_enabled, check_plain};
+use validate_resources::WasmModuleResources;
+use validate_stacks::Stacks;
+use validate_types::{Error, Gate, MaybeType, ValType};
+
+/// `drop`: any one operand. It takes no memory: it is refused only where its row doesn't hold.
+pub fn check_drop<R: WasmModuleResources>(
+    stacks: &mut Stacks,
+    resources: &R,
+    offset: u64,
+) -> Result<(), Error>
+    requires { MayVisit (R.context resources.now) stacks.old }
+    ensures visit { Meets (R.context resources.now) (λ cx. alike (looking true 1 drops)) offset stacks.old result stacks.new }
+    ensures memory { OnErr result (step_body (R.context resources.now) (λ cx. alike (looking true 1 drops)) stacks.old ≡ None) }
+{
+    match stacks.pop_operand(resources, offset, None) {
+        Ok(_) => Ok(()),
+        Err(refusal) => Err(refusal),
+    }
+}
+
+/// What `select` gives for its two operands: an unknown one gives way to the other, and known ones
+/// have to be of one type.
+fn select_type(lower: MaybeType, upper: MaybeType, offset: u64) -> Result<MaybeType, Error>
+    ensures given { IfOk result (λ t. selected lower upper ≡ Some t) }
+    ensures refused { OnErr result (selected lower upper ≡ None) }
+    ensures offset { IfErr result (λ e. e.offset ≡ offset) }
+{
+    match (lower, upper) {
+        (MaybeType::Bottom, other) | (other, MaybeType::Bottom) => Ok(other),
+        (MaybeType::Known(one), MaybeType::Known(other)) => {
+            if one == other {
+                Ok(lower)
+            } else {
+                Err(Error::new(
+                    "type mismatch: select operands have different types",
+                    offset,
+                ))
+            }
+        }
+    }
+}
+
+/// `select` without a type: `[a b i32] -> [c]` of two operands of one type, or of which one or both
+/// are unknown.
+pub fn check_select<R: WasmModuleResources>(
+    stacks: &mut Stacks,
+    resources: &R,
+    offset: u64,
+) -> Result<(), Error>
+    requires { MayVisit (R.context resources.now) stacks.old }
+    ensures { Meets (R.context resources.now) (λ cx. alike (looking true 3 (selects cx))) offset stacks.old result stacks.new }
+{
+    stacks.pop_operand(resources, offset, Some(ValType::I32))?;
+    let upper = stacks.pop_operand(resources, offset, None)?;
+    let lower = stacks.pop_operand(resources, offset, None)?;
+    let ty = select_type(lower, upper, offset)?;
+    match stacks.push_operand(ty) {
+        Ok(()) => Ok(()),
+        Err(_) => Err(Error::out_of_memory(offset)),
+    }
+}
+
+/// `select` with its type: `[t t i32] -> [t]` of the checked type. Its gate is `reference_types`.
+pub fn check_typed_select<R: WasmModuleResources>(
+    stacks: &mut Stacks,
+    resources: &R,
+    offset: u64,
+    ty: ValType,
+) -> Result<(), Error>
+    requires { MayVisit (R.context resources.now) stacks.old }
+    ensures { Meets (R.context resources.now) (λ cx. alike (typed_select cx ty)) offset stacks.old result stacks.new }
+{
+    check_enabled(stacks, offset, Gate::ReferenceTypes)?;
+    let mut checked = ty;
+    resources.check_value_type(&mut checked, &stacks.features(), offset)?;
+    let wanted = [checked, checked, ValType::I32];
+    check_plain(stacks, resources, offset, Gate::Mvp, &wanted, &[checked])
+}
+
+/// `select` with several types: it is never accepted. Its gate is `reference_types`.
+pub fn check_typed_select_multi<R: WasmModuleResources>(
+    stacks: &mut Stacks,
+    resources: &R,
+    offset: u64,
+) -> Result<(), Error>
+    requires { MayVisit (R.context resources.now) stacks.old }
+    ensures { Meets (R.context resources.now) (λ cx. alike (plain false [] [])) offset stacks.old result stacks.new }
+{
+    let _resources = resources;
+    check_enabled(stacks, offset, Gate::ReferenceTypes)?;
+    Err(Error::new("invalid result arity", offset))
+}

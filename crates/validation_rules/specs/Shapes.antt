@@ -1,0 +1,40 @@
+-- Rows and operators of one shape, from which the table of operators is built (WebAssembly core
+-- specification, "Validation: Instructions").
+use Rattle.std.specs.Prelude.{ℕ, Bool, true, false, List, [], ◌∷◌, Option, None}
+use Rattle.validation_rules.specs.Context.{ValType, I32}
+use Rattle.validation_rules.specs.Fits.{MaybeType}
+use Rattle.validation_rules.specs.Rows.{Head, Form, Flat, Plain, Looks, Row, Operator}
+
+-- wanted and pushed types; it neither reaches a label nor ends the live part
+abbrev pub plain : Bool → List ValType → List ValType → Row
+plain premise wanted pushed =
+    record { premise = premise; reads = None; operands = Plain wanted [] pushed; sets = None; targets = []; clauses = []; dead = false }
+
+-- it ends the live part of its frame
+abbrev pub ends_live : Bool → List ValType → Row
+ends_live premise wanted = record (plain premise wanted []) { dead = true }
+
+-- so many operands, and what is pushed for those found
+abbrev pub looking : Bool → ℕ → (List MaybeType → Option (List MaybeType)) → Row
+looking premise takes gives = record (plain premise [] []) { operands = Looks takes gives }
+
+-- a row that depends on the open frames
+abbrev pub flat : (List Head → Row) → Operator
+flat row = record { form = Flat; row = row }
+
+-- a row that doesn't
+abbrev pub alike : Row → Operator
+alike r = flat (λ hs. r)
+
+-- an operator that closes a frame or a part of it
+abbrev pub closing : Form → Bool → Operator
+closing form premise = record { form = form; row = λ hs. plain premise [] [] }
+
+abbrev pub constant : ValType → Row
+constant t = plain true [] (t ∷ [])
+
+abbrev pub test : ValType → Row
+test t = plain true (t ∷ []) (I32 ∷ [])
+
+abbrev pub binary : ValType → Row
+binary t = plain true (t ∷ t ∷ []) (t ∷ [])

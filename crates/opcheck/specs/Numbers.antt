@@ -8,6 +8,10 @@ use mir.Syntax.{Width}
 abbrev pub IsIndex : List ℕ → Type 0
 IsIndex bs = IsNumeral 10 bs × (digits_value 10 bs < 2 ^ 32)
 
+-- digits that write the bits of a float of 64 bits
+abbrev pub IsBits : List ℕ → Type 0
+IsBits bs = IsNumeral 10 bs × (digits_value 10 bs < 2 ^ 64)
+
 -- the digits of a constant: all that follows its minus
 abbrev pub constant_digits : List ℕ → List ℕ
 constant_digits bs = if starts_with_minus bs then drop 1 bs else bs

@@ -15,10 +15,6 @@ use Rattle.opcheck.specs.Begin.{HasLocals, CannotBegin}
 use Rattle.opcheck.specs.declared.script.BodyLine.{BodyLine}
 use Rattle.opcheck.specs.declared.script.LocalLine.{LocalLine}
 
--- the proposals under which scripts are checked: all
-abbrev pub all_features : WasmFeatures
-all_features = record { 0 = 2 ^ 21 - 1 }
-
 -- the operators can be those of a body: they are in order, and their immediates those of a module
 abbrev pub may_be_body : List (Op × ℕ) → Bool
 may_be_body ops = is_well_ordered_list (operators ops) && list_all (λ (p : Op × ℕ). module_immediates p.0) ops

@@ -8,14 +8,13 @@ ghost use Rattle.validate_stacks.specs.State.{IsStarting};
 ghost use Rattle.wasmparser_validate.specs.Start.{state};
 ghost use Rattle.opcheck.specs.Begin.{IsExpressionStart, IsBodyStart, CannotStart, HasLocals, CannotBegin};
 ghost use Rattle.opcheck.specs.Owned.{op_values, owned_values};
-ghost use Rattle.opcheck.specs.Reports.{IsReport, all_features, may_be_body};
+ghost use Rattle.opcheck.specs.Reports.{IsReport, may_be_body};
 ghost use Rattle.opcheck.specs.declared.failure.BadScript.{BadScript};
 ghost use Rattle.opcheck.specs.declared.failure.Failure.{Failure};
 
 use crate::failure::{BadScript, Failure};
 use crate::script::owned::borrowed_ops;
 use crate::script::{Body, BodyLine, LocalLine, Script};
-use bitflags::Flags;
 use std::alloc::Global;
 use wasmparser_validate::operators::{OperatorValidator, OperatorValidatorAllocations, check_ops};
 use wasmparser_validate::resources::uses::laws;
@@ -35,10 +34,11 @@ pub struct Report {
 /// Checks a script: first its order, then its module, then its body. The operators that are checked
 /// are those of the script, with the same lists.
 pub fn check_script(alloc: Global, script: Script) -> Result<Report, Failure>
-    ensures report { IfOk result (λ report. (ops : _) × (op_values ops ≡ owned_values script.operators.items) × (may_be_body ops ≡ true) × IsReport (context_of script.types.items) all_features script.body script.locals.items ops report.heights.items report.outcome) }
+    ensures report { IfOk result (λ report. (ops : _) × (op_values ops ≡ owned_values script.operators.items) × (may_be_body ops ≡ true) × IsReport (context_of script.types.items) script.features script.body script.locals.items ops report.heights.items report.outcome) }
     ensures cause { IfErr result (λ failure. (failure ≡ Failure.OutOfMemory) ⊎ ((failure ≡ Failure.BadScript BadScript.Order) × ((ops : _) × (op_values ops ≡ owned_values script.operators.items) × (may_be_body ops ≡ false))) ⊎ ((failure ≡ Failure.BadScript BadScript.Module) × (1000000 < length script.types.items))) }
 {
     let Script {
+        features,
         types,
         body,
         locals,
@@ -47,26 +47,26 @@ pub fn check_script(alloc: Global, script: Script) -> Result<Report, Failure>
     let Ok(ops) = borrowed_ops(alloc, &operators) else {
         return Err(Failure::OutOfMemory);
     };
-    check_operators(alloc, types, body, &locals, &ops)
+    check_operators(alloc, features, types, body, &locals, &ops)
 }
 
-/// Checks the operators of a body, in a module of these types.
+/// Checks the operators of a body, in a module of these types, with these proposals on.
 fn check_operators(
     alloc: Global,
+    features: WasmFeatures,
     types: Vec<SubType>,
     line: BodyLine,
     locals: &[LocalLine],
     ops: &[(Op<'_>, u64)],
 ) -> Result<Report, Failure>
     ensures ordered { OnOk result (may_be_body ops.now ≡ true) }
-    ensures report { IfOk result (λ report. IsReport (context_of types.items) all_features line locals.now ops.now report.heights.items report.outcome) }
+    ensures report { IfOk result (λ report. IsReport (context_of types.items) features line locals.now ops.now report.heights.items report.outcome) }
     ensures cause { IfErr result (λ failure. ((failure ≡ Failure.BadScript BadScript.Order) × (may_be_body ops.now ≡ false)) ⊎ ((failure ≡ Failure.BadScript BadScript.Module) × (1000000 < length types.items))) }
 {
     if !is_well_ordered(ops) || !have_module_immediates(ops) {
         return Err(Failure::BadScript(BadScript::Order));
     }
     let module = module_of(alloc, types)?;
-    let features = every_proposal();
     let mut heights = Vec::new(alloc);
     let mut validator = match begin_body(alloc, &module, &features, line, locals) {
         Ok(validator) => validator,
@@ -80,13 +80,6 @@ fn check_operators(
         Err((_, refusal)) => Err(refusal),
     };
     Ok(Report { heights, outcome })
-}
-
-/// The proposals under which scripts are checked: all.
-fn every_proposal() -> WasmFeatures
-    ensures { result ≡ all_features }
-{
-    WasmFeatures::all()
 }
 
 /// Whether the immediates are those of a module, as they are of all operators that a script can write.

@@ -1,20 +1,24 @@
 //! A script, as it was read.
 
+pub mod features;
 pub mod lines;
 pub mod numbers;
+pub mod numeric;
 pub mod operators;
 pub mod owned;
 pub mod types;
 pub mod words;
 
+ghost use Rattle.opcheck.specs.Lines.{all_features};
 ghost use Rattle.std.specs.Prelude.{◌≡◌, ◌↔◌, false, Some, IsSome, IfSome, IsErrOf, OnOk};
 
 use crate::failure::{BadScript, Failure, LineError};
 use crate::script::lines::{Line, read_line};
 use crate::script::owned::OwnedOp;
 use crate::script::words::words_of;
+use bitflags::Flags;
 use std::alloc::Global;
-use wasmparser_validate::types::{SubType, ValType};
+use wasmparser_validate::types::{SubType, ValType, WasmFeatures};
 
 /// What the operators of a script are the body of.
 #[derive(Clone, Copy, Debug, PartialEq, Eq)]
@@ -48,6 +52,8 @@ pub struct LocalLine {
 /// A script whose lines are all of the grammar, and in their places.
 #[derive(Drop)]
 pub struct Script {
+    /// The proposals that are on.
+    pub features: WasmFeatures,
     /// The types that the module declares.
     pub types: Vec<SubType>,
     /// The `func` or `expr` line.
@@ -61,6 +67,7 @@ pub struct Script {
 /// What a script's first lines say.
 #[derive(Drop)]
 struct Draft {
+    features: Option<WasmFeatures>,
     types: Vec<SubType>,
     body: Option<BodyLine>,
     locals: Vec<LocalLine>,
@@ -91,10 +98,11 @@ pub fn read_script(alloc: Global, text: &str) -> Result<Script, Failure> {
 
 impl Draft {
     ghost use Rattle.opcheck.specs.declared.failure.LineError.{LineError};
-    ghost use Rattle.opcheck.specs.Lines.{part_of, may_stand, AddsLine};
+    ghost use Rattle.opcheck.specs.Lines.{part_of, may_stand, features_or_all, AddsLine};
 
     fn new(alloc: Global) -> Draft {
         Draft {
+            features: None,
             types: Vec::new(alloc),
             body: None,
             locals: Vec::new(alloc),
@@ -133,6 +141,10 @@ impl Draft {
         ensures bad { IsErrOf result LineError.Bad ↔ (may_stand line (part_of self.old) ≡ false) }
     {
         match (line, self.part()) {
+            (Line::Feature(named), Part::Module) => {
+                let before = self.features.unwrap_or(WasmFeatures::empty());
+                self.features = Some(before.union(named));
+            }
             (Line::SubType(ty), Part::Module) => self.types.push(ty)?,
             (Line::Body(body), Part::Module) => {
                 self.body = Some(BodyLine { body, offset });
@@ -148,25 +160,40 @@ impl Draft {
         Ok(())
     }
 
-    /// The whole script, if it has its `func` or `expr` line.
+    /// The whole script, if it has its `func` or `expr` line. Every proposal is on where no `feature`
+    /// line stands.
     fn finish(self) -> Option<Script>
         ensures whole { IsSome result ↔ IsSome self.body }
+        ensures features { IfSome result (λ script. script.features ≡ features_or_all self.features) }
         ensures types { IfSome result (λ script. script.types ≡ self.types) }
         ensures body { IfSome result (λ script. self.body ≡ Some script.body) }
         ensures locals { IfSome result (λ script. script.locals ≡ self.locals) }
         ensures operators { IfSome result (λ script. script.operators ≡ self.operators) }
     {
         let Draft {
+            features,
             types,
             body,
             locals,
             operators,
         } = self;
+        let features = match features {
+            Some(features) => features,
+            None => every_proposal(),
+        };
         Some(Script {
+            features,
             types,
             body: body?,
             locals,
             operators,
         })
     }
+}
+
+/// Every proposal.
+fn every_proposal() -> WasmFeatures
+    ensures { result ≡ all_features }
+{
+    WasmFeatures::all()
 }

@@ -5,15 +5,17 @@ use Rattle.validate_types.specs.Gates.{is_open}
 use Rattle.validate_types.specs.declared.gate.Gate.TheVariants.{ReferenceTypes}
 use Rattle.validate_resources.specs.Context.{IsLawful, is_number, same_number}
 use Rattle.validate_visit.specs.declared.op.Op.{Op}
-use Rattle.validate_visit.specs.declared.op.Op.TheVariants.{Control, Numeric}
+use Rattle.validate_visit.specs.declared.op.Op.TheVariants.{Control, Numeric, Convert}
 use Rattle.validate_visit.specs.declared.op.ControlOp.{ControlOp}
 use Rattle.validate_visit.specs.declared.op.ControlOp.TheVariants.{Unreachable, Nop, Block as BlockOp, Loop as LoopOp, If as IfOp, Else as ElseOp, End, Br, BrIf, BrTable, Return, Drop, Select, TypedSelect, TypedSelectMulti, LocalGet, LocalSet, LocalTee}
 use Rattle.validate_visit.specs.declared.op.NumericOp.{NumericOp}
-use Rattle.validate_visit.specs.declared.op.NumericOp.TheVariants.{I32Const}
+use Rattle.validate_visit.specs.declared.op.NumericOp.TheVariants.{I32Const, I64Const, F32Const, F64Const}
+use Rattle.validate_visit.specs.declared.op.ConvertOp.{ConvertOp}
+use Rattle.validate_visit.specs.declared.op.ConvertOp.TheVariants.{I32WrapI64}
 use Rattle.validation_rules.specs.Context.{ValType, I32, BlockType, Context, AllBelow, block_signature}
 use Rattle.validation_rules.specs.Fits.{MaybeType, Known}
 use Rattle.validation_rules.specs.Rows.{FrameKind, Block, If, Loop, Head, params, BeginsElse, Ends, Plain, Looks, Operator, guard}
-use Rattle.validation_rules.specs.Table.{checked_block, opens, opener, alike, by_type, drops, selects, control_operator, numeric_row, operator, body}
+use Rattle.validation_rules.specs.Table.{checked_block, opens, opener, alike, by_type, drops, selects, control_operator, numeric_row, convert_row, operator, body}
 use Rattle.validation_rules.proofs.Steps.{some_injective, guard_some}
 use Rattle.type_safety.specs.Theorem.{Falls, IsLawfulOperator}
 use Rattle.type_safety.proofs.Branches.{br_lawful, br_if_lawful, br_table_lawful}
@@ -103,13 +105,21 @@ module _ (cx : Context) (laws : IsLawful cx.of_module) where
   control_lawful (LocalTee i) = typed_lawful true (slice_get cx.locals i) None (Some i) (λ t. t ∷ []) (λ t. t ∷ [])
 
   -- all rows of the group are plain: a new one needs no clause
-  numeric_lawful : (op : NumericOp) → IsLawfulOperator cx (alike (numeric_row op))
-  numeric_lawful (I32Const n) = plain_lawful cx laws _ _ _ _ _ _
+  numeric_lawful : (op : NumericOp) → IsLawfulOperator cx (alike (numeric_row cx op))
+  numeric_lawful (I32Const x) = plain_lawful cx laws _ _ _ _ _ _
+  numeric_lawful (I64Const x) = plain_lawful cx laws _ _ _ _ _ _
+  numeric_lawful (F32Const x) = plain_lawful cx laws _ _ _ _ _ _
+  numeric_lawful (F64Const x) = plain_lawful cx laws _ _ _ _ _ _
   numeric_lawful _ = plain_lawful cx laws _ _ _ _ _ _
+
+  convert_lawful : (op : ConvertOp) → IsLawfulOperator cx (alike (convert_row cx op))
+  convert_lawful I32WrapI64 = plain_lawful cx laws _ _ _ _ _ _
+  convert_lawful _ = plain_lawful cx laws _ _ _ _ _ _
 
   pub operator_lawful : (op : Op) → IsLawfulOperator cx (operator cx op)
   operator_lawful (Control op) = control_lawful op
   operator_lawful (Numeric op) = numeric_lawful op
+  operator_lawful (Convert op) = convert_lawful op
 
   pub body_lawful : (ops : List Op) (j : ℕ) (op : Operator) → slice_get (body cx ops) j ≡ Some op → IsLawfulOperator cx op
   body_lawful [] j op e = absurd cc

@@ -18,6 +18,8 @@ mod fixture;
 #[cfg(test)]
 mod lists;
 #[cfg(test)]
+mod numeric;
+#[cfg(test)]
 mod ops;
 #[cfg(test)]
 mod parts;
@@ -25,3 +27,5 @@ mod parts;
 mod queries;
 #[cfg(test)]
 mod selects;
+#[cfg(test)]
+mod table;

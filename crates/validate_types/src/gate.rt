@@ -10,8 +10,16 @@ use crate::features::WasmFeatures;
 pub enum Gate {
     /// Nothing: an operator of WebAssembly's first version.
     Mvp,
+    /// Floats, which a profile can leave out.
+    Floats,
     /// The proposal `reference_types`.
     ReferenceTypes,
+    /// The proposal `sign_extension`.
+    SignExtension,
+    /// The proposal `saturating_float_to_int`.
+    SaturatingFloatToInt,
+    /// The proposal `wide_arithmetic`.
+    WideArithmetic,
 }
 
 impl Gate {
@@ -21,7 +29,11 @@ impl Gate {
     {
         match self {
             Gate::Mvp => true,
+            Gate::Floats => features.floats(),
             Gate::ReferenceTypes => features.reference_types(),
+            Gate::SignExtension => features.sign_extension(),
+            Gate::SaturatingFloatToInt => features.saturating_float_to_int(),
+            Gate::WideArithmetic => features.wide_arithmetic(),
         }
     }
 
@@ -29,7 +41,13 @@ impl Gate {
     pub fn refusal(self) -> &'static str {
         match self {
             Gate::Mvp => "unknown operator",
+            Gate::Floats => "floating-point instruction disallowed",
             Gate::ReferenceTypes => "reference types support is not enabled",
+            Gate::SignExtension => "sign extension operations support is not enabled",
+            Gate::SaturatingFloatToInt => {
+                "saturating float to int conversions support is not enabled"
+            }
+            Gate::WideArithmetic => "wide arithmetic support is not enabled",
         }
     }
 }

@@ -6,11 +6,11 @@ use Rattle.validate_visit.specs.declared.br_table.BrTable.{BrTable}
 use Rattle.validate_visit.specs.declared.frame.BlockType.{BlockType}
 use Rattle.validate_visit.specs.declared.frame.BlockType.TheVariants.{Empty, Val, FuncType}
 use Rattle.validate_visit.specs.declared.op.Op.{Op}
-use Rattle.validate_visit.specs.declared.op.Op.TheVariants.{Control, Numeric}
+use Rattle.validate_visit.specs.declared.op.Op.TheVariants.{Control, Numeric, Convert}
 use Rattle.validate_visit.specs.declared.op.ControlOp.{ControlOp}
 use Rattle.validate_visit.specs.declared.op.ControlOp.TheVariants.{Unreachable, Nop, Block, Loop, If, Else, End, Br, BrIf, BrTable as BrTableOp, Return, Drop, Select, TypedSelect, TypedSelectMulti, LocalGet, LocalSet, LocalTee}
 use Rattle.validate_visit.specs.declared.op.NumericOp.{NumericOp}
-use Rattle.validate_visit.specs.declared.op.NumericOp.TheVariants.{I32Const, I64Const}
+use Rattle.validate_visit.specs.declared.op.NumericOp.TheVariants.{I32Const, I64Const, F32Const, F64Const}
 
 -- an index
 abbrev pub is_index : ℕ → Bool
@@ -54,8 +54,11 @@ control_immediates (LocalTee i) = is_index i
 abbrev pub numeric_immediates : NumericOp → Bool
 numeric_immediates (I32Const n) = is_signed 31 n
 numeric_immediates (I64Const n) = is_signed 63 n
+numeric_immediates (F32Const x) = nat_lt x.0 (2 ^ 32)
+numeric_immediates (F64Const x) = nat_lt x.0 (2 ^ 64)
 numeric_immediates _ = true
 
 abbrev pub module_immediates : Op → Bool
 module_immediates (Control op) = control_immediates op
 module_immediates (Numeric op) = numeric_immediates op
+module_immediates (Convert op) = true

@@ -5,6 +5,7 @@
 pub mod br_table;
 pub mod frame;
 pub mod frame_stack;
+pub mod ieee;
 pub mod op;
 pub mod order;
 pub mod visitor;
@@ -12,6 +13,7 @@ pub mod visitor;
 pub use crate::br_table::{BrTable, BrTableTargets, IncompleteTable};
 pub use crate::frame::{BlockType, Frame, FrameKind};
 pub use crate::frame_stack::FrameStack;
-pub use crate::op::{ControlOp, NumericOp, Op, has_module_immediates};
+pub use crate::ieee::{Ieee32, Ieee64};
+pub use crate::op::{ControlOp, ConvertOp, NumericOp, Op, has_module_immediates};
 pub use crate::order::is_well_ordered;
 pub use crate::visitor::VisitOperator;

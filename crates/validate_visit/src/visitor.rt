@@ -4,7 +4,8 @@ ghost use Rattle.validate_visit.specs.declared.op.Op.{Op};
 
 use crate::br_table::BrTable;
 use crate::frame::BlockType;
-use crate::op::{ControlOp, NumericOp, Op};
+use crate::ieee::{Ieee32, Ieee64};
+use crate::op::{ControlOp, ConvertOp, NumericOp, Op};
 use validate_types::ValType;
 
 /// Visits operators (wasmparser's `VisitOperator`): one call for each operator, with its immediates.
@@ -121,10 +122,200 @@ pub trait VisitOperator<'a> {
         requires { can_visit self.old (Op.Numeric (NumericOp.I64Const value)) }
         ensures { visits self.old (Op.Numeric (NumericOp.I64Const value)) result self.new };
 
+    /// `f32.const`
+    fn visit_f32_const(&mut self, value: Ieee32) -> Self::Output
+        requires { can_visit self.old (Op.Numeric (NumericOp.F32Const value)) }
+        ensures { visits self.old (Op.Numeric (NumericOp.F32Const value)) result self.new };
+
+    /// `f64.const`
+    fn visit_f64_const(&mut self, value: Ieee64) -> Self::Output
+        requires { can_visit self.old (Op.Numeric (NumericOp.F64Const value)) }
+        ensures { visits self.old (Op.Numeric (NumericOp.F64Const value)) result self.new };
+
     /// `i32.eqz`
     fn visit_i32_eqz(&mut self) -> Self::Output
         requires { can_visit self.old (Op.Numeric NumericOp.I32Eqz) }
         ensures { visits self.old (Op.Numeric NumericOp.I32Eqz) result self.new };
+
+    /// `i32.eq`
+    fn visit_i32_eq(&mut self) -> Self::Output
+        requires { can_visit self.old (Op.Numeric NumericOp.I32Eq) }
+        ensures { visits self.old (Op.Numeric NumericOp.I32Eq) result self.new };
+
+    /// `i32.ne`
+    fn visit_i32_ne(&mut self) -> Self::Output
+        requires { can_visit self.old (Op.Numeric NumericOp.I32Ne) }
+        ensures { visits self.old (Op.Numeric NumericOp.I32Ne) result self.new };
+
+    /// `i32.lt_s`
+    fn visit_i32_lt_s(&mut self) -> Self::Output
+        requires { can_visit self.old (Op.Numeric NumericOp.I32LtS) }
+        ensures { visits self.old (Op.Numeric NumericOp.I32LtS) result self.new };
+
+    /// `i32.lt_u`
+    fn visit_i32_lt_u(&mut self) -> Self::Output
+        requires { can_visit self.old (Op.Numeric NumericOp.I32LtU) }
+        ensures { visits self.old (Op.Numeric NumericOp.I32LtU) result self.new };
+
+    /// `i32.gt_s`
+    fn visit_i32_gt_s(&mut self) -> Self::Output
+        requires { can_visit self.old (Op.Numeric NumericOp.I32GtS) }
+        ensures { visits self.old (Op.Numeric NumericOp.I32GtS) result self.new };
+
+    /// `i32.gt_u`
+    fn visit_i32_gt_u(&mut self) -> Self::Output
+        requires { can_visit self.old (Op.Numeric NumericOp.I32GtU) }
+        ensures { visits self.old (Op.Numeric NumericOp.I32GtU) result self.new };
+
+    /// `i32.le_s`
+    fn visit_i32_le_s(&mut self) -> Self::Output
+        requires { can_visit self.old (Op.Numeric NumericOp.I32LeS) }
+        ensures { visits self.old (Op.Numeric NumericOp.I32LeS) result self.new };
+
+    /// `i32.le_u`
+    fn visit_i32_le_u(&mut self) -> Self::Output
+        requires { can_visit self.old (Op.Numeric NumericOp.I32LeU) }
+        ensures { visits self.old (Op.Numeric NumericOp.I32LeU) result self.new };
+
+    /// `i32.ge_s`
+    fn visit_i32_ge_s(&mut self) -> Self::Output
+        requires { can_visit self.old (Op.Numeric NumericOp.I32GeS) }
+        ensures { visits self.old (Op.Numeric NumericOp.I32GeS) result self.new };
+
+    /// `i32.ge_u`
+    fn visit_i32_ge_u(&mut self) -> Self::Output
+        requires { can_visit self.old (Op.Numeric NumericOp.I32GeU) }
+        ensures { visits self.old (Op.Numeric NumericOp.I32GeU) result self.new };
+
+    /// `i64.eqz`
+    fn visit_i64_eqz(&mut self) -> Self::Output
+        requires { can_visit self.old (Op.Numeric NumericOp.I64Eqz) }
+        ensures { visits self.old (Op.Numeric NumericOp.I64Eqz) result self.new };
+
+    /// `i64.eq`
+    fn visit_i64_eq(&mut self) -> Self::Output
+        requires { can_visit self.old (Op.Numeric NumericOp.I64Eq) }
+        ensures { visits self.old (Op.Numeric NumericOp.I64Eq) result self.new };
+
+    /// `i64.ne`
+    fn visit_i64_ne(&mut self) -> Self::Output
+        requires { can_visit self.old (Op.Numeric NumericOp.I64Ne) }
+        ensures { visits self.old (Op.Numeric NumericOp.I64Ne) result self.new };
+
+    /// `i64.lt_s`
+    fn visit_i64_lt_s(&mut self) -> Self::Output
+        requires { can_visit self.old (Op.Numeric NumericOp.I64LtS) }
+        ensures { visits self.old (Op.Numeric NumericOp.I64LtS) result self.new };
+
+    /// `i64.lt_u`
+    fn visit_i64_lt_u(&mut self) -> Self::Output
+        requires { can_visit self.old (Op.Numeric NumericOp.I64LtU) }
+        ensures { visits self.old (Op.Numeric NumericOp.I64LtU) result self.new };
+
+    /// `i64.gt_s`
+    fn visit_i64_gt_s(&mut self) -> Self::Output
+        requires { can_visit self.old (Op.Numeric NumericOp.I64GtS) }
+        ensures { visits self.old (Op.Numeric NumericOp.I64GtS) result self.new };
+
+    /// `i64.gt_u`
+    fn visit_i64_gt_u(&mut self) -> Self::Output
+        requires { can_visit self.old (Op.Numeric NumericOp.I64GtU) }
+        ensures { visits self.old (Op.Numeric NumericOp.I64GtU) result self.new };
+
+    /// `i64.le_s`
+    fn visit_i64_le_s(&mut self) -> Self::Output
+        requires { can_visit self.old (Op.Numeric NumericOp.I64LeS) }
+        ensures { visits self.old (Op.Numeric NumericOp.I64LeS) result self.new };
+
+    /// `i64.le_u`
+    fn visit_i64_le_u(&mut self) -> Self::Output
+        requires { can_visit self.old (Op.Numeric NumericOp.I64LeU) }
+        ensures { visits self.old (Op.Numeric NumericOp.I64LeU) result self.new };
+
+    /// `i64.ge_s`
+    fn visit_i64_ge_s(&mut self) -> Self::Output
+        requires { can_visit self.old (Op.Numeric NumericOp.I64GeS) }
+        ensures { visits self.old (Op.Numeric NumericOp.I64GeS) result self.new };
+
+    /// `i64.ge_u`
+    fn visit_i64_ge_u(&mut self) -> Self::Output
+        requires { can_visit self.old (Op.Numeric NumericOp.I64GeU) }
+        ensures { visits self.old (Op.Numeric NumericOp.I64GeU) result self.new };
+
+    /// `f32.eq`
+    fn visit_f32_eq(&mut self) -> Self::Output
+        requires { can_visit self.old (Op.Numeric NumericOp.F32Eq) }
+        ensures { visits self.old (Op.Numeric NumericOp.F32Eq) result self.new };
+
+    /// `f32.ne`
+    fn visit_f32_ne(&mut self) -> Self::Output
+        requires { can_visit self.old (Op.Numeric NumericOp.F32Ne) }
+        ensures { visits self.old (Op.Numeric NumericOp.F32Ne) result self.new };
+
+    /// `f32.lt`
+    fn visit_f32_lt(&mut self) -> Self::Output
+        requires { can_visit self.old (Op.Numeric NumericOp.F32Lt) }
+        ensures { visits self.old (Op.Numeric NumericOp.F32Lt) result self.new };
+
+    /// `f32.gt`
+    fn visit_f32_gt(&mut self) -> Self::Output
+        requires { can_visit self.old (Op.Numeric NumericOp.F32Gt) }
+        ensures { visits self.old (Op.Numeric NumericOp.F32Gt) result self.new };
+
+    /// `f32.le`
+    fn visit_f32_le(&mut self) -> Self::Output
+        requires { can_visit self.old (Op.Numeric NumericOp.F32Le) }
+        ensures { visits self.old (Op.Numeric NumericOp.F32Le) result self.new };
+
+    /// `f32.ge`
+    fn visit_f32_ge(&mut self) -> Self::Output
+        requires { can_visit self.old (Op.Numeric NumericOp.F32Ge) }
+        ensures { visits self.old (Op.Numeric NumericOp.F32Ge) result self.new };
+
+    /// `f64.eq`
+    fn visit_f64_eq(&mut self) -> Self::Output
+        requires { can_visit self.old (Op.Numeric NumericOp.F64Eq) }
+        ensures { visits self.old (Op.Numeric NumericOp.F64Eq) result self.new };
+
+    /// `f64.ne`
+    fn visit_f64_ne(&mut self) -> Self::Output
+        requires { can_visit self.old (Op.Numeric NumericOp.F64Ne) }
+        ensures { visits self.old (Op.Numeric NumericOp.F64Ne) result self.new };
+
+    /// `f64.lt`
+    fn visit_f64_lt(&mut self) -> Self::Output
+        requires { can_visit self.old (Op.Numeric NumericOp.F64Lt) }
+        ensures { visits self.old (Op.Numeric NumericOp.F64Lt) result self.new };
+
+    /// `f64.gt`
+    fn visit_f64_gt(&mut self) -> Self::Output
+        requires { can_visit self.old (Op.Numeric NumericOp.F64Gt) }
+        ensures { visits self.old (Op.Numeric NumericOp.F64Gt) result self.new };
+
+    /// `f64.le`
+    fn visit_f64_le(&mut self) -> Self::Output
+        requires { can_visit self.old (Op.Numeric NumericOp.F64Le) }
+        ensures { visits self.old (Op.Numeric NumericOp.F64Le) result self.new };
+
+    /// `f64.ge`
+    fn visit_f64_ge(&mut self) -> Self::Output
+        requires { can_visit self.old (Op.Numeric NumericOp.F64Ge) }
+        ensures { visits self.old (Op.Numeric NumericOp.F64Ge) result self.new };
+
+    /// `i32.clz`
+    fn visit_i32_clz(&mut self) -> Self::Output
+        requires { can_visit self.old (Op.Numeric NumericOp.I32Clz) }
+        ensures { visits self.old (Op.Numeric NumericOp.I32Clz) result self.new };
+
+    /// `i32.ctz`
+    fn visit_i32_ctz(&mut self) -> Self::Output
+        requires { can_visit self.old (Op.Numeric NumericOp.I32Ctz) }
+        ensures { visits self.old (Op.Numeric NumericOp.I32Ctz) result self.new };
+
+    /// `i32.popcnt`
+    fn visit_i32_popcnt(&mut self) -> Self::Output
+        requires { can_visit self.old (Op.Numeric NumericOp.I32Popcnt) }
+        ensures { visits self.old (Op.Numeric NumericOp.I32Popcnt) result self.new };
 
     /// `i32.add`
     fn visit_i32_add(&mut self) -> Self::Output
@@ -141,6 +332,81 @@ pub trait VisitOperator<'a> {
         requires { can_visit self.old (Op.Numeric NumericOp.I32Mul) }
         ensures { visits self.old (Op.Numeric NumericOp.I32Mul) result self.new };
 
+    /// `i32.div_s`
+    fn visit_i32_div_s(&mut self) -> Self::Output
+        requires { can_visit self.old (Op.Numeric NumericOp.I32DivS) }
+        ensures { visits self.old (Op.Numeric NumericOp.I32DivS) result self.new };
+
+    /// `i32.div_u`
+    fn visit_i32_div_u(&mut self) -> Self::Output
+        requires { can_visit self.old (Op.Numeric NumericOp.I32DivU) }
+        ensures { visits self.old (Op.Numeric NumericOp.I32DivU) result self.new };
+
+    /// `i32.rem_s`
+    fn visit_i32_rem_s(&mut self) -> Self::Output
+        requires { can_visit self.old (Op.Numeric NumericOp.I32RemS) }
+        ensures { visits self.old (Op.Numeric NumericOp.I32RemS) result self.new };
+
+    /// `i32.rem_u`
+    fn visit_i32_rem_u(&mut self) -> Self::Output
+        requires { can_visit self.old (Op.Numeric NumericOp.I32RemU) }
+        ensures { visits self.old (Op.Numeric NumericOp.I32RemU) result self.new };
+
+    /// `i32.and`
+    fn visit_i32_and(&mut self) -> Self::Output
+        requires { can_visit self.old (Op.Numeric NumericOp.I32And) }
+        ensures { visits self.old (Op.Numeric NumericOp.I32And) result self.new };
+
+    /// `i32.or`
+    fn visit_i32_or(&mut self) -> Self::Output
+        requires { can_visit self.old (Op.Numeric NumericOp.I32Or) }
+        ensures { visits self.old (Op.Numeric NumericOp.I32Or) result self.new };
+
+    /// `i32.xor`
+    fn visit_i32_xor(&mut self) -> Self::Output
+        requires { can_visit self.old (Op.Numeric NumericOp.I32Xor) }
+        ensures { visits self.old (Op.Numeric NumericOp.I32Xor) result self.new };
+
+    /// `i32.shl`
+    fn visit_i32_shl(&mut self) -> Self::Output
+        requires { can_visit self.old (Op.Numeric NumericOp.I32Shl) }
+        ensures { visits self.old (Op.Numeric NumericOp.I32Shl) result self.new };
+
+    /// `i32.shr_s`
+    fn visit_i32_shr_s(&mut self) -> Self::Output
+        requires { can_visit self.old (Op.Numeric NumericOp.I32ShrS) }
+        ensures { visits self.old (Op.Numeric NumericOp.I32ShrS) result self.new };
+
+    /// `i32.shr_u`
+    fn visit_i32_shr_u(&mut self) -> Self::Output
+        requires { can_visit self.old (Op.Numeric NumericOp.I32ShrU) }
+        ensures { visits self.old (Op.Numeric NumericOp.I32ShrU) result self.new };
+
+    /// `i32.rotl`
+    fn visit_i32_rotl(&mut self) -> Self::Output
+        requires { can_visit self.old (Op.Numeric NumericOp.I32Rotl) }
+        ensures { visits self.old (Op.Numeric NumericOp.I32Rotl) result self.new };
+
+    /// `i32.rotr`
+    fn visit_i32_rotr(&mut self) -> Self::Output
+        requires { can_visit self.old (Op.Numeric NumericOp.I32Rotr) }
+        ensures { visits self.old (Op.Numeric NumericOp.I32Rotr) result self.new };
+
+    /// `i64.clz`
+    fn visit_i64_clz(&mut self) -> Self::Output
+        requires { can_visit self.old (Op.Numeric NumericOp.I64Clz) }
+        ensures { visits self.old (Op.Numeric NumericOp.I64Clz) result self.new };
+
+    /// `i64.ctz`
+    fn visit_i64_ctz(&mut self) -> Self::Output
+        requires { can_visit self.old (Op.Numeric NumericOp.I64Ctz) }
+        ensures { visits self.old (Op.Numeric NumericOp.I64Ctz) result self.new };
+
+    /// `i64.popcnt`
+    fn visit_i64_popcnt(&mut self) -> Self::Output
+        requires { can_visit self.old (Op.Numeric NumericOp.I64Popcnt) }
+        ensures { visits self.old (Op.Numeric NumericOp.I64Popcnt) result self.new };
+
     /// `i64.add`
     fn visit_i64_add(&mut self) -> Self::Output
         requires { can_visit self.old (Op.Numeric NumericOp.I64Add) }
@@ -155,6 +421,416 @@ pub trait VisitOperator<'a> {
     fn visit_i64_mul(&mut self) -> Self::Output
         requires { can_visit self.old (Op.Numeric NumericOp.I64Mul) }
         ensures { visits self.old (Op.Numeric NumericOp.I64Mul) result self.new };
+
+    /// `i64.div_s`
+    fn visit_i64_div_s(&mut self) -> Self::Output
+        requires { can_visit self.old (Op.Numeric NumericOp.I64DivS) }
+        ensures { visits self.old (Op.Numeric NumericOp.I64DivS) result self.new };
+
+    /// `i64.div_u`
+    fn visit_i64_div_u(&mut self) -> Self::Output
+        requires { can_visit self.old (Op.Numeric NumericOp.I64DivU) }
+        ensures { visits self.old (Op.Numeric NumericOp.I64DivU) result self.new };
+
+    /// `i64.rem_s`
+    fn visit_i64_rem_s(&mut self) -> Self::Output
+        requires { can_visit self.old (Op.Numeric NumericOp.I64RemS) }
+        ensures { visits self.old (Op.Numeric NumericOp.I64RemS) result self.new };
+
+    /// `i64.rem_u`
+    fn visit_i64_rem_u(&mut self) -> Self::Output
+        requires { can_visit self.old (Op.Numeric NumericOp.I64RemU) }
+        ensures { visits self.old (Op.Numeric NumericOp.I64RemU) result self.new };
+
+    /// `i64.and`
+    fn visit_i64_and(&mut self) -> Self::Output
+        requires { can_visit self.old (Op.Numeric NumericOp.I64And) }
+        ensures { visits self.old (Op.Numeric NumericOp.I64And) result self.new };
+
+    /// `i64.or`
+    fn visit_i64_or(&mut self) -> Self::Output
+        requires { can_visit self.old (Op.Numeric NumericOp.I64Or) }
+        ensures { visits self.old (Op.Numeric NumericOp.I64Or) result self.new };
+
+    /// `i64.xor`
+    fn visit_i64_xor(&mut self) -> Self::Output
+        requires { can_visit self.old (Op.Numeric NumericOp.I64Xor) }
+        ensures { visits self.old (Op.Numeric NumericOp.I64Xor) result self.new };
+
+    /// `i64.shl`
+    fn visit_i64_shl(&mut self) -> Self::Output
+        requires { can_visit self.old (Op.Numeric NumericOp.I64Shl) }
+        ensures { visits self.old (Op.Numeric NumericOp.I64Shl) result self.new };
+
+    /// `i64.shr_s`
+    fn visit_i64_shr_s(&mut self) -> Self::Output
+        requires { can_visit self.old (Op.Numeric NumericOp.I64ShrS) }
+        ensures { visits self.old (Op.Numeric NumericOp.I64ShrS) result self.new };
+
+    /// `i64.shr_u`
+    fn visit_i64_shr_u(&mut self) -> Self::Output
+        requires { can_visit self.old (Op.Numeric NumericOp.I64ShrU) }
+        ensures { visits self.old (Op.Numeric NumericOp.I64ShrU) result self.new };
+
+    /// `i64.rotl`
+    fn visit_i64_rotl(&mut self) -> Self::Output
+        requires { can_visit self.old (Op.Numeric NumericOp.I64Rotl) }
+        ensures { visits self.old (Op.Numeric NumericOp.I64Rotl) result self.new };
+
+    /// `i64.rotr`
+    fn visit_i64_rotr(&mut self) -> Self::Output
+        requires { can_visit self.old (Op.Numeric NumericOp.I64Rotr) }
+        ensures { visits self.old (Op.Numeric NumericOp.I64Rotr) result self.new };
+
+    /// `f32.abs`
+    fn visit_f32_abs(&mut self) -> Self::Output
+        requires { can_visit self.old (Op.Numeric NumericOp.F32Abs) }
+        ensures { visits self.old (Op.Numeric NumericOp.F32Abs) result self.new };
+
+    /// `f32.neg`
+    fn visit_f32_neg(&mut self) -> Self::Output
+        requires { can_visit self.old (Op.Numeric NumericOp.F32Neg) }
+        ensures { visits self.old (Op.Numeric NumericOp.F32Neg) result self.new };
+
+    /// `f32.ceil`
+    fn visit_f32_ceil(&mut self) -> Self::Output
+        requires { can_visit self.old (Op.Numeric NumericOp.F32Ceil) }
+        ensures { visits self.old (Op.Numeric NumericOp.F32Ceil) result self.new };
+
+    /// `f32.floor`
+    fn visit_f32_floor(&mut self) -> Self::Output
+        requires { can_visit self.old (Op.Numeric NumericOp.F32Floor) }
+        ensures { visits self.old (Op.Numeric NumericOp.F32Floor) result self.new };
+
+    /// `f32.trunc`
+    fn visit_f32_trunc(&mut self) -> Self::Output
+        requires { can_visit self.old (Op.Numeric NumericOp.F32Trunc) }
+        ensures { visits self.old (Op.Numeric NumericOp.F32Trunc) result self.new };
+
+    /// `f32.nearest`
+    fn visit_f32_nearest(&mut self) -> Self::Output
+        requires { can_visit self.old (Op.Numeric NumericOp.F32Nearest) }
+        ensures { visits self.old (Op.Numeric NumericOp.F32Nearest) result self.new };
+
+    /// `f32.sqrt`
+    fn visit_f32_sqrt(&mut self) -> Self::Output
+        requires { can_visit self.old (Op.Numeric NumericOp.F32Sqrt) }
+        ensures { visits self.old (Op.Numeric NumericOp.F32Sqrt) result self.new };
+
+    /// `f32.add`
+    fn visit_f32_add(&mut self) -> Self::Output
+        requires { can_visit self.old (Op.Numeric NumericOp.F32Add) }
+        ensures { visits self.old (Op.Numeric NumericOp.F32Add) result self.new };
+
+    /// `f32.sub`
+    fn visit_f32_sub(&mut self) -> Self::Output
+        requires { can_visit self.old (Op.Numeric NumericOp.F32Sub) }
+        ensures { visits self.old (Op.Numeric NumericOp.F32Sub) result self.new };
+
+    /// `f32.mul`
+    fn visit_f32_mul(&mut self) -> Self::Output
+        requires { can_visit self.old (Op.Numeric NumericOp.F32Mul) }
+        ensures { visits self.old (Op.Numeric NumericOp.F32Mul) result self.new };
+
+    /// `f32.div`
+    fn visit_f32_div(&mut self) -> Self::Output
+        requires { can_visit self.old (Op.Numeric NumericOp.F32Div) }
+        ensures { visits self.old (Op.Numeric NumericOp.F32Div) result self.new };
+
+    /// `f32.min`
+    fn visit_f32_min(&mut self) -> Self::Output
+        requires { can_visit self.old (Op.Numeric NumericOp.F32Min) }
+        ensures { visits self.old (Op.Numeric NumericOp.F32Min) result self.new };
+
+    /// `f32.max`
+    fn visit_f32_max(&mut self) -> Self::Output
+        requires { can_visit self.old (Op.Numeric NumericOp.F32Max) }
+        ensures { visits self.old (Op.Numeric NumericOp.F32Max) result self.new };
+
+    /// `f32.copysign`
+    fn visit_f32_copysign(&mut self) -> Self::Output
+        requires { can_visit self.old (Op.Numeric NumericOp.F32Copysign) }
+        ensures { visits self.old (Op.Numeric NumericOp.F32Copysign) result self.new };
+
+    /// `f64.abs`
+    fn visit_f64_abs(&mut self) -> Self::Output
+        requires { can_visit self.old (Op.Numeric NumericOp.F64Abs) }
+        ensures { visits self.old (Op.Numeric NumericOp.F64Abs) result self.new };
+
+    /// `f64.neg`
+    fn visit_f64_neg(&mut self) -> Self::Output
+        requires { can_visit self.old (Op.Numeric NumericOp.F64Neg) }
+        ensures { visits self.old (Op.Numeric NumericOp.F64Neg) result self.new };
+
+    /// `f64.ceil`
+    fn visit_f64_ceil(&mut self) -> Self::Output
+        requires { can_visit self.old (Op.Numeric NumericOp.F64Ceil) }
+        ensures { visits self.old (Op.Numeric NumericOp.F64Ceil) result self.new };
+
+    /// `f64.floor`
+    fn visit_f64_floor(&mut self) -> Self::Output
+        requires { can_visit self.old (Op.Numeric NumericOp.F64Floor) }
+        ensures { visits self.old (Op.Numeric NumericOp.F64Floor) result self.new };
+
+    /// `f64.trunc`
+    fn visit_f64_trunc(&mut self) -> Self::Output
+        requires { can_visit self.old (Op.Numeric NumericOp.F64Trunc) }
+        ensures { visits self.old (Op.Numeric NumericOp.F64Trunc) result self.new };
+
+    /// `f64.nearest`
+    fn visit_f64_nearest(&mut self) -> Self::Output
+        requires { can_visit self.old (Op.Numeric NumericOp.F64Nearest) }
+        ensures { visits self.old (Op.Numeric NumericOp.F64Nearest) result self.new };
+
+    /// `f64.sqrt`
+    fn visit_f64_sqrt(&mut self) -> Self::Output
+        requires { can_visit self.old (Op.Numeric NumericOp.F64Sqrt) }
+        ensures { visits self.old (Op.Numeric NumericOp.F64Sqrt) result self.new };
+
+    /// `f64.add`
+    fn visit_f64_add(&mut self) -> Self::Output
+        requires { can_visit self.old (Op.Numeric NumericOp.F64Add) }
+        ensures { visits self.old (Op.Numeric NumericOp.F64Add) result self.new };
+
+    /// `f64.sub`
+    fn visit_f64_sub(&mut self) -> Self::Output
+        requires { can_visit self.old (Op.Numeric NumericOp.F64Sub) }
+        ensures { visits self.old (Op.Numeric NumericOp.F64Sub) result self.new };
+
+    /// `f64.mul`
+    fn visit_f64_mul(&mut self) -> Self::Output
+        requires { can_visit self.old (Op.Numeric NumericOp.F64Mul) }
+        ensures { visits self.old (Op.Numeric NumericOp.F64Mul) result self.new };
+
+    /// `f64.div`
+    fn visit_f64_div(&mut self) -> Self::Output
+        requires { can_visit self.old (Op.Numeric NumericOp.F64Div) }
+        ensures { visits self.old (Op.Numeric NumericOp.F64Div) result self.new };
+
+    /// `f64.min`
+    fn visit_f64_min(&mut self) -> Self::Output
+        requires { can_visit self.old (Op.Numeric NumericOp.F64Min) }
+        ensures { visits self.old (Op.Numeric NumericOp.F64Min) result self.new };
+
+    /// `f64.max`
+    fn visit_f64_max(&mut self) -> Self::Output
+        requires { can_visit self.old (Op.Numeric NumericOp.F64Max) }
+        ensures { visits self.old (Op.Numeric NumericOp.F64Max) result self.new };
+
+    /// `f64.copysign`
+    fn visit_f64_copysign(&mut self) -> Self::Output
+        requires { can_visit self.old (Op.Numeric NumericOp.F64Copysign) }
+        ensures { visits self.old (Op.Numeric NumericOp.F64Copysign) result self.new };
+
+    /// `i64.add128`
+    fn visit_i64_add128(&mut self) -> Self::Output
+        requires { can_visit self.old (Op.Numeric NumericOp.I64Add128) }
+        ensures { visits self.old (Op.Numeric NumericOp.I64Add128) result self.new };
+
+    /// `i64.sub128`
+    fn visit_i64_sub128(&mut self) -> Self::Output
+        requires { can_visit self.old (Op.Numeric NumericOp.I64Sub128) }
+        ensures { visits self.old (Op.Numeric NumericOp.I64Sub128) result self.new };
+
+    /// `i64.mul_wide_s`
+    fn visit_i64_mul_wide_s(&mut self) -> Self::Output
+        requires { can_visit self.old (Op.Numeric NumericOp.I64MulWideS) }
+        ensures { visits self.old (Op.Numeric NumericOp.I64MulWideS) result self.new };
+
+    /// `i64.mul_wide_u`
+    fn visit_i64_mul_wide_u(&mut self) -> Self::Output
+        requires { can_visit self.old (Op.Numeric NumericOp.I64MulWideU) }
+        ensures { visits self.old (Op.Numeric NumericOp.I64MulWideU) result self.new };
+
+    /// `i32.wrap_i64`
+    fn visit_i32_wrap_i64(&mut self) -> Self::Output
+        requires { can_visit self.old (Op.Convert ConvertOp.I32WrapI64) }
+        ensures { visits self.old (Op.Convert ConvertOp.I32WrapI64) result self.new };
+
+    /// `i32.trunc_f32_s`
+    fn visit_i32_trunc_f32_s(&mut self) -> Self::Output
+        requires { can_visit self.old (Op.Convert ConvertOp.I32TruncF32S) }
+        ensures { visits self.old (Op.Convert ConvertOp.I32TruncF32S) result self.new };
+
+    /// `i32.trunc_f32_u`
+    fn visit_i32_trunc_f32_u(&mut self) -> Self::Output
+        requires { can_visit self.old (Op.Convert ConvertOp.I32TruncF32U) }
+        ensures { visits self.old (Op.Convert ConvertOp.I32TruncF32U) result self.new };
+
+    /// `i32.trunc_f64_s`
+    fn visit_i32_trunc_f64_s(&mut self) -> Self::Output
+        requires { can_visit self.old (Op.Convert ConvertOp.I32TruncF64S) }
+        ensures { visits self.old (Op.Convert ConvertOp.I32TruncF64S) result self.new };
+
+    /// `i32.trunc_f64_u`
+    fn visit_i32_trunc_f64_u(&mut self) -> Self::Output
+        requires { can_visit self.old (Op.Convert ConvertOp.I32TruncF64U) }
+        ensures { visits self.old (Op.Convert ConvertOp.I32TruncF64U) result self.new };
+
+    /// `i64.trunc_f32_s`
+    fn visit_i64_trunc_f32_s(&mut self) -> Self::Output
+        requires { can_visit self.old (Op.Convert ConvertOp.I64TruncF32S) }
+        ensures { visits self.old (Op.Convert ConvertOp.I64TruncF32S) result self.new };
+
+    /// `i64.trunc_f32_u`
+    fn visit_i64_trunc_f32_u(&mut self) -> Self::Output
+        requires { can_visit self.old (Op.Convert ConvertOp.I64TruncF32U) }
+        ensures { visits self.old (Op.Convert ConvertOp.I64TruncF32U) result self.new };
+
+    /// `i64.trunc_f64_s`
+    fn visit_i64_trunc_f64_s(&mut self) -> Self::Output
+        requires { can_visit self.old (Op.Convert ConvertOp.I64TruncF64S) }
+        ensures { visits self.old (Op.Convert ConvertOp.I64TruncF64S) result self.new };
+
+    /// `i64.trunc_f64_u`
+    fn visit_i64_trunc_f64_u(&mut self) -> Self::Output
+        requires { can_visit self.old (Op.Convert ConvertOp.I64TruncF64U) }
+        ensures { visits self.old (Op.Convert ConvertOp.I64TruncF64U) result self.new };
+
+    /// `i64.extend_i32_s`
+    fn visit_i64_extend_i32_s(&mut self) -> Self::Output
+        requires { can_visit self.old (Op.Convert ConvertOp.I64ExtendI32S) }
+        ensures { visits self.old (Op.Convert ConvertOp.I64ExtendI32S) result self.new };
+
+    /// `i64.extend_i32_u`
+    fn visit_i64_extend_i32_u(&mut self) -> Self::Output
+        requires { can_visit self.old (Op.Convert ConvertOp.I64ExtendI32U) }
+        ensures { visits self.old (Op.Convert ConvertOp.I64ExtendI32U) result self.new };
+
+    /// `f32.convert_i32_s`
+    fn visit_f32_convert_i32_s(&mut self) -> Self::Output
+        requires { can_visit self.old (Op.Convert ConvertOp.F32ConvertI32S) }
+        ensures { visits self.old (Op.Convert ConvertOp.F32ConvertI32S) result self.new };
+
+    /// `f32.convert_i32_u`
+    fn visit_f32_convert_i32_u(&mut self) -> Self::Output
+        requires { can_visit self.old (Op.Convert ConvertOp.F32ConvertI32U) }
+        ensures { visits self.old (Op.Convert ConvertOp.F32ConvertI32U) result self.new };
+
+    /// `f32.convert_i64_s`
+    fn visit_f32_convert_i64_s(&mut self) -> Self::Output
+        requires { can_visit self.old (Op.Convert ConvertOp.F32ConvertI64S) }
+        ensures { visits self.old (Op.Convert ConvertOp.F32ConvertI64S) result self.new };
+
+    /// `f32.convert_i64_u`
+    fn visit_f32_convert_i64_u(&mut self) -> Self::Output
+        requires { can_visit self.old (Op.Convert ConvertOp.F32ConvertI64U) }
+        ensures { visits self.old (Op.Convert ConvertOp.F32ConvertI64U) result self.new };
+
+    /// `f64.convert_i32_s`
+    fn visit_f64_convert_i32_s(&mut self) -> Self::Output
+        requires { can_visit self.old (Op.Convert ConvertOp.F64ConvertI32S) }
+        ensures { visits self.old (Op.Convert ConvertOp.F64ConvertI32S) result self.new };
+
+    /// `f64.convert_i32_u`
+    fn visit_f64_convert_i32_u(&mut self) -> Self::Output
+        requires { can_visit self.old (Op.Convert ConvertOp.F64ConvertI32U) }
+        ensures { visits self.old (Op.Convert ConvertOp.F64ConvertI32U) result self.new };
+
+    /// `f64.convert_i64_s`
+    fn visit_f64_convert_i64_s(&mut self) -> Self::Output
+        requires { can_visit self.old (Op.Convert ConvertOp.F64ConvertI64S) }
+        ensures { visits self.old (Op.Convert ConvertOp.F64ConvertI64S) result self.new };
+
+    /// `f64.convert_i64_u`
+    fn visit_f64_convert_i64_u(&mut self) -> Self::Output
+        requires { can_visit self.old (Op.Convert ConvertOp.F64ConvertI64U) }
+        ensures { visits self.old (Op.Convert ConvertOp.F64ConvertI64U) result self.new };
+
+    /// `f32.demote_f64`
+    fn visit_f32_demote_f64(&mut self) -> Self::Output
+        requires { can_visit self.old (Op.Convert ConvertOp.F32DemoteF64) }
+        ensures { visits self.old (Op.Convert ConvertOp.F32DemoteF64) result self.new };
+
+    /// `f64.promote_f32`
+    fn visit_f64_promote_f32(&mut self) -> Self::Output
+        requires { can_visit self.old (Op.Convert ConvertOp.F64PromoteF32) }
+        ensures { visits self.old (Op.Convert ConvertOp.F64PromoteF32) result self.new };
+
+    /// `i32.reinterpret_f32`
+    fn visit_i32_reinterpret_f32(&mut self) -> Self::Output
+        requires { can_visit self.old (Op.Convert ConvertOp.I32ReinterpretF32) }
+        ensures { visits self.old (Op.Convert ConvertOp.I32ReinterpretF32) result self.new };
+
+    /// `i64.reinterpret_f64`
+    fn visit_i64_reinterpret_f64(&mut self) -> Self::Output
+        requires { can_visit self.old (Op.Convert ConvertOp.I64ReinterpretF64) }
+        ensures { visits self.old (Op.Convert ConvertOp.I64ReinterpretF64) result self.new };
+
+    /// `f32.reinterpret_i32`
+    fn visit_f32_reinterpret_i32(&mut self) -> Self::Output
+        requires { can_visit self.old (Op.Convert ConvertOp.F32ReinterpretI32) }
+        ensures { visits self.old (Op.Convert ConvertOp.F32ReinterpretI32) result self.new };
+
+    /// `f64.reinterpret_i64`
+    fn visit_f64_reinterpret_i64(&mut self) -> Self::Output
+        requires { can_visit self.old (Op.Convert ConvertOp.F64ReinterpretI64) }
+        ensures { visits self.old (Op.Convert ConvertOp.F64ReinterpretI64) result self.new };
+
+    /// `i32.extend8_s`
+    fn visit_i32_extend8_s(&mut self) -> Self::Output
+        requires { can_visit self.old (Op.Convert ConvertOp.I32Extend8S) }
+        ensures { visits self.old (Op.Convert ConvertOp.I32Extend8S) result self.new };
+
+    /// `i32.extend16_s`
+    fn visit_i32_extend16_s(&mut self) -> Self::Output
+        requires { can_visit self.old (Op.Convert ConvertOp.I32Extend16S) }
+        ensures { visits self.old (Op.Convert ConvertOp.I32Extend16S) result self.new };
+
+    /// `i64.extend8_s`
+    fn visit_i64_extend8_s(&mut self) -> Self::Output
+        requires { can_visit self.old (Op.Convert ConvertOp.I64Extend8S) }
+        ensures { visits self.old (Op.Convert ConvertOp.I64Extend8S) result self.new };
+
+    /// `i64.extend16_s`
+    fn visit_i64_extend16_s(&mut self) -> Self::Output
+        requires { can_visit self.old (Op.Convert ConvertOp.I64Extend16S) }
+        ensures { visits self.old (Op.Convert ConvertOp.I64Extend16S) result self.new };
+
+    /// `i64.extend32_s`
+    fn visit_i64_extend32_s(&mut self) -> Self::Output
+        requires { can_visit self.old (Op.Convert ConvertOp.I64Extend32S) }
+        ensures { visits self.old (Op.Convert ConvertOp.I64Extend32S) result self.new };
+
+    /// `i32.trunc_sat_f32_s`
+    fn visit_i32_trunc_sat_f32_s(&mut self) -> Self::Output
+        requires { can_visit self.old (Op.Convert ConvertOp.I32TruncSatF32S) }
+        ensures { visits self.old (Op.Convert ConvertOp.I32TruncSatF32S) result self.new };
+
+    /// `i32.trunc_sat_f32_u`
+    fn visit_i32_trunc_sat_f32_u(&mut self) -> Self::Output
+        requires { can_visit self.old (Op.Convert ConvertOp.I32TruncSatF32U) }
+        ensures { visits self.old (Op.Convert ConvertOp.I32TruncSatF32U) result self.new };
+
+    /// `i32.trunc_sat_f64_s`
+    fn visit_i32_trunc_sat_f64_s(&mut self) -> Self::Output
+        requires { can_visit self.old (Op.Convert ConvertOp.I32TruncSatF64S) }
+        ensures { visits self.old (Op.Convert ConvertOp.I32TruncSatF64S) result self.new };
+
+    /// `i32.trunc_sat_f64_u`
+    fn visit_i32_trunc_sat_f64_u(&mut self) -> Self::Output
+        requires { can_visit self.old (Op.Convert ConvertOp.I32TruncSatF64U) }
+        ensures { visits self.old (Op.Convert ConvertOp.I32TruncSatF64U) result self.new };
+
+    /// `i64.trunc_sat_f32_s`
+    fn visit_i64_trunc_sat_f32_s(&mut self) -> Self::Output
+        requires { can_visit self.old (Op.Convert ConvertOp.I64TruncSatF32S) }
+        ensures { visits self.old (Op.Convert ConvertOp.I64TruncSatF32S) result self.new };
+
+    /// `i64.trunc_sat_f32_u`
+    fn visit_i64_trunc_sat_f32_u(&mut self) -> Self::Output
+        requires { can_visit self.old (Op.Convert ConvertOp.I64TruncSatF32U) }
+        ensures { visits self.old (Op.Convert ConvertOp.I64TruncSatF32U) result self.new };
+
+    /// `i64.trunc_sat_f64_s`
+    fn visit_i64_trunc_sat_f64_s(&mut self) -> Self::Output
+        requires { can_visit self.old (Op.Convert ConvertOp.I64TruncSatF64S) }
+        ensures { visits self.old (Op.Convert ConvertOp.I64TruncSatF64S) result self.new };
+
+    /// `i64.trunc_sat_f64_u`
+    fn visit_i64_trunc_sat_f64_u(&mut self) -> Self::Output
+        requires { can_visit self.old (Op.Convert ConvertOp.I64TruncSatF64U) }
+        ensures { visits self.old (Op.Convert ConvertOp.I64TruncSatF64U) result self.new };
 
     /// The visit that `op` names.
     fn visit_operator(&mut self, op: Op<'a>) -> Self::Output

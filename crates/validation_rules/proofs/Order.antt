@@ -3,7 +3,7 @@
 use Rattle.std.proofs.Common.{◌≡◌, ℕ, Bool, true, List, [], ◌∷◌, length, map, Option, Some, None, refl, sym, ap, ◌∙◌, subst}
 use Rattle.validate_visit.specs.Order.{Nesting, is_ordered_from, nesting, reads_on, control_nesting}
 use Rattle.validate_visit.specs.declared.op.Op.{Op}
-use Rattle.validate_visit.specs.declared.op.Op.TheVariants.{Control, Numeric}
+use Rattle.validate_visit.specs.declared.op.Op.TheVariants.{Control, Numeric, Convert}
 use Rattle.validate_visit.specs.declared.op.ControlOp.{ControlOp}
 use Rattle.validate_visit.specs.declared.op.ControlOp.TheVariants.{Block as BlockOp, Loop as LoopOp, If as IfOp, Else as ElseOp, End}
 use Rattle.validation_rules.specs.Context.{ValType, I32, BlockType, Context}
@@ -67,6 +67,7 @@ control_nests cx _ = refl
 pub operator_nests : (cx : Context) (op : Op) → nesting_of (operator cx op).form ≡ nesting op
 operator_nests cx (Control op) = control_nests cx op
 operator_nests cx (Numeric op) = refl
+operator_nests cx (Convert op) = refl
 
 body_nests : (cx : Context) (ops : List Op) → nestings (body cx ops) ≡ map nesting ops
 body_nests cx [] = refl

@@ -7,17 +7,19 @@ use Rattle.validate_types.specs.Gates.{is_open}
 use Rattle.validate_types.specs.declared.gate.Gate.TheVariants.{ReferenceTypes}
 use Rattle.validate_resources.specs.Context.{IsLawful, Valid}
 use Rattle.validate_visit.specs.declared.op.Op.{Op}
-use Rattle.validate_visit.specs.declared.op.Op.TheVariants.{Control, Numeric}
+use Rattle.validate_visit.specs.declared.op.Op.TheVariants.{Control, Numeric, Convert}
 use Rattle.validate_visit.specs.declared.op.ControlOp.{ControlOp}
 use Rattle.validate_visit.specs.declared.op.ControlOp.TheVariants.{Unreachable, Nop, Block as BlockOp, Loop as LoopOp, If as IfOp, Else as ElseOp, End, Br, BrIf, BrTable, Return, Drop, Select, TypedSelect, TypedSelectMulti, LocalGet, LocalSet, LocalTee}
 use Rattle.validate_visit.specs.declared.op.NumericOp.{NumericOp}
-use Rattle.validate_visit.specs.declared.op.NumericOp.TheVariants.{I32Const}
+use Rattle.validate_visit.specs.declared.op.NumericOp.TheVariants.{I32Const, I64Const, F32Const, F64Const, I64Add128, I64Sub128, I64MulWideS, I64MulWideU}
+use Rattle.validate_visit.specs.declared.op.ConvertOp.{ConvertOp}
+use Rattle.validate_visit.specs.declared.op.ConvertOp.TheVariants.{I32WrapI64}
 use Rattle.validation_rules.specs.Context.{ModuleContext, SubType, ValType, I32, BlockType, Empty, Val, FuncType, Context, block_signature, declared_signature}
 use Rattle.validation_rules.specs.Branches.{types_of, label_at}
 use Rattle.validation_rules.specs.Fits.{MaybeType, Bottom, Known}
 use Rattle.validation_rules.specs.Rows.{FrameKind, Block, If, Loop, is_loop, Head, params, results, label_by, Form, Flat, Opens, BeginsElse, BeginsCatch, Ends, Delegates, Plain, Row, Operator, gives, takes, guard}
 use Rattle.validation_rules.specs.Static.{Frame, State, heads, set_in, onto, on_top, found, below_top, pushes_at, pushes_by, own_after, given_over, after_over, step, step_in, before, start}
-use Rattle.validation_rules.specs.Table.{may_name, checked_block, opener, flat, alike, closing, looking, drops, selected, selects, by_type, control_operator, numeric_row, operator, body}
+use Rattle.validation_rules.specs.Table.{may_name, checked_block, opener, flat, alike, closing, looking, drops, selected, selects, by_type, control_operator, numeric_row, convert_row, operator, body}
 use Rattle.validation_rules.specs.Valid.{OperandIsValid, Resolves, BlockIsValid, FrameIsValid, HeadIsValid, PushesValid, StateIsValid, StepsKeepValid, TableKeepsValid}
 use Rattle.validation_rules.proofs.Below.{and_true}
 use Rattle.validation_rules.proofs.Steps.{some_injective, guard_some, bind_some, stepped}
@@ -284,14 +286,26 @@ module _ (cx : Context) (laws : IsLawful cx.of_module) where
   control_valid (LocalSet i) l = typed_valid true (slice_get cx.locals i) None (Some i) (λ t. t ∷ []) (λ t. []) (λ t e. tt)
   control_valid (LocalTee i) l = typed_valid true (slice_get cx.locals i) None (Some i) (λ t. t ∷ []) (λ t. t ∷ []) (λ t e. (get_valid cx.locals i t l e, tt))
 
-  -- every row of the group pushes one number
-  numeric_valid : (op : NumericOp) → PushesValid cx (alike (numeric_row op))
-  numeric_valid (I32Const n) = plain_valid _ _ _ _ _ _ (λ p. (laws.number_valid _ refl, tt))
+  -- every row of the group pushes one number, or two
+  numeric_valid : (op : NumericOp) → PushesValid cx (alike (numeric_row cx op))
+  numeric_valid (I32Const x) = plain_valid _ _ _ _ _ _ (λ p. (laws.number_valid _ refl, tt))
+  numeric_valid (I64Const x) = plain_valid _ _ _ _ _ _ (λ p. (laws.number_valid _ refl, tt))
+  numeric_valid (F32Const x) = plain_valid _ _ _ _ _ _ (λ p. (laws.number_valid _ refl, tt))
+  numeric_valid (F64Const x) = plain_valid _ _ _ _ _ _ (λ p. (laws.number_valid _ refl, tt))
+  numeric_valid I64Add128 = plain_valid _ _ _ _ _ _ (λ p. (laws.number_valid _ refl, (laws.number_valid _ refl, tt)))
+  numeric_valid I64Sub128 = plain_valid _ _ _ _ _ _ (λ p. (laws.number_valid _ refl, (laws.number_valid _ refl, tt)))
+  numeric_valid I64MulWideS = plain_valid _ _ _ _ _ _ (λ p. (laws.number_valid _ refl, (laws.number_valid _ refl, tt)))
+  numeric_valid I64MulWideU = plain_valid _ _ _ _ _ _ (λ p. (laws.number_valid _ refl, (laws.number_valid _ refl, tt)))
   numeric_valid _ = plain_valid _ _ _ _ _ _ (λ p. (laws.number_valid _ refl, tt))
+
+  convert_valid : (op : ConvertOp) → PushesValid cx (alike (convert_row cx op))
+  convert_valid I32WrapI64 = plain_valid _ _ _ _ _ _ (λ p. (laws.number_valid _ refl, tt))
+  convert_valid _ = plain_valid _ _ _ _ _ _ (λ p. (laws.number_valid _ refl, tt))
 
   pub operator_valid : (op : Op) → AllByRecursion (Valid cx.of_module) cx.locals → PushesValid cx (operator cx op)
   operator_valid (Control op) l = control_valid op l
   operator_valid (Numeric op) l = numeric_valid op
+  operator_valid (Convert op) l = convert_valid op
 
 pub table_keeps_valid : (md : ModuleContext) → IsLawful md → TableKeepsValid md
 table_keeps_valid md laws cx op s u same h e =

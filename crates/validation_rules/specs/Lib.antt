@@ -6,5 +6,7 @@ pub mod Pops
 pub mod Valid
 pub mod Shapes
 pub mod Branches
+pub mod Numeric
+pub mod Convert
 pub mod Table
 pub mod Order

@@ -1,7 +1,9 @@
 -- Rows and operators of one shape, from which the table of operators is built (WebAssembly core
 -- specification, "Validation: Instructions").
-use Rattle.std.specs.Prelude.{ℕ, Bool, true, false, List, [], ◌∷◌, Option, None}
-use Rattle.validation_rules.specs.Context.{ValType, I32}
+use Rattle.std.specs.Prelude.{ℕ, Bool, true, false, ◌&&◌, List, [], ◌∷◌, Option, None}
+use Rattle.validate_types.specs.Gates.{is_open}
+use Rattle.validate_types.specs.declared.gate.Gate.{Gate}
+use Rattle.validation_rules.specs.Context.{ValType, I32, I64, Context}
 use Rattle.validation_rules.specs.Fits.{MaybeType}
 use Rattle.validation_rules.specs.Rows.{Head, Form, Flat, Plain, Looks, Row, Operator}
 
@@ -36,5 +38,26 @@ constant t = plain true [] (t ∷ [])
 abbrev pub test : ValType → Row
 test t = plain true (t ∷ []) (I32 ∷ [])
 
+abbrev pub unary : ValType → Row
+unary t = plain true (t ∷ []) (t ∷ [])
+
 abbrev pub binary : ValType → Row
 binary t = plain true (t ∷ t ∷ []) (t ∷ [])
+
+abbrev pub comparison : ValType → Row
+comparison t = plain true (t ∷ t ∷ []) (I32 ∷ [])
+
+abbrev pub conversion : ValType → ValType → Row
+conversion into from = plain true (from ∷ []) (into ∷ [])
+
+-- on numbers of 128 bits, each in two of 64
+abbrev pub binary_wide : Row
+binary_wide = plain true (I64 ∷ I64 ∷ I64 ∷ I64 ∷ []) (I64 ∷ I64 ∷ [])
+
+-- two numbers of 64 bits to one of 128
+abbrev pub multiply_wide : Row
+multiply_wide = plain true (I64 ∷ I64 ∷ []) (I64 ∷ I64 ∷ [])
+
+-- the row holds where the gate is open too
+abbrev pub gated : Context → Gate → Row → Row
+gated cx gate r = record r { premise = is_open cx.features gate && r.premise }

@@ -1,27 +1,22 @@
 -- The table of operators: the row of each, in the context of a body (WebAssembly core specification,
 -- "Validation: Instructions").
-pub use Rattle.validation_rules.specs.Shapes.{plain, ends_live, looking, flat, alike, closing, constant, test, binary}
+pub use Rattle.validation_rules.specs.Shapes.{plain, ends_live, looking, flat, alike, closing, constant, test, unary, binary, comparison, conversion, binary_wide, multiply_wide, gated}
 use Rattle.std.specs.Prelude.{ℕ, Bool, true, false, not, ◌&&◌, ◌||◌, List, [], ◌∷◌, ◌++◌, Option, Some, None, map, slice_get}
 use Rattle.std.specs.Option.{option_map}
 use Rattle.validate_resources.specs.Context.{same_number}
 use Rattle.validate_types.specs.Features.{has, multi_value}
 use Rattle.validate_types.specs.Gates.{is_open}
-use Rattle.validate_types.specs.declared.gate.Gate.{Gate}
 use Rattle.validate_types.specs.declared.gate.Gate.TheVariants.{ReferenceTypes}
 use Rattle.validate_visit.specs.declared.op.Op.{Op}
-use Rattle.validate_visit.specs.declared.op.Op.TheVariants.{Control, Numeric}
+use Rattle.validate_visit.specs.declared.op.Op.TheVariants.{Control, Numeric, Convert}
 use Rattle.validate_visit.specs.declared.op.ControlOp.{ControlOp}
 use Rattle.validate_visit.specs.declared.op.ControlOp.TheVariants.{Unreachable, Nop, Block as BlockOp, Loop as LoopOp, If as IfOp, Else as ElseOp, End, Br, BrIf, BrTable, Return, Drop, Select, TypedSelect, TypedSelectMulti, LocalGet, LocalSet, LocalTee}
-use Rattle.validate_visit.specs.declared.op.NumericOp.{NumericOp}
-use Rattle.validate_visit.specs.declared.op.NumericOp.TheVariants.{I32Const, I64Const, I32Eqz, I32Add, I32Sub, I32Mul, I64Add, I64Sub, I64Mul}
+pub use Rattle.validation_rules.specs.Numeric.{numeric_row}
+pub use Rattle.validation_rules.specs.Convert.{convert_row}
 use Rattle.validation_rules.specs.Branches.{br_row, br_if_row, br_table_row, return_row}
 use Rattle.validation_rules.specs.Context.{SubType, ValType, I32, I64, BlockType, Empty, Val, FuncType, Context, block_signature}
 use Rattle.validation_rules.specs.Fits.{MaybeType, Bottom, Known, fits}
 use Rattle.validation_rules.specs.Rows.{FrameKind, Block, If, Loop, Opens, BeginsElse, Ends, guard, Row, Operator}
-
--- the row holds where the gate is open too
-abbrev pub gated : Context → Gate → Row → Row
-gated cx gate r = record r { premise = is_open cx.features gate && r.premise }
 
 -- the row of a type, where there is one
 abbrev pub by_type : Option ValType → (ValType → Row) → Row
@@ -107,20 +102,10 @@ control_operator cx (LocalGet i) = alike (local_get cx i)
 control_operator cx (LocalSet i) = alike (local_set cx i)
 control_operator cx (LocalTee i) = alike (local_tee cx i)
 
-abbrev pub numeric_row : NumericOp → Row
-numeric_row (I32Const n) = constant I32
-numeric_row (I64Const n) = constant I64
-numeric_row I32Eqz = test I32
-numeric_row I32Add = binary I32
-numeric_row I32Sub = binary I32
-numeric_row I32Mul = binary I32
-numeric_row I64Add = binary I64
-numeric_row I64Sub = binary I64
-numeric_row I64Mul = binary I64
-
 abbrev pub operator : Context → Op → Operator
 operator cx (Control op) = control_operator cx op
-operator cx (Numeric op) = alike (numeric_row op)
+operator cx (Numeric op) = alike (numeric_row cx op)
+operator cx (Convert op) = alike (convert_row cx op)
 
 -- a body, as the rules see it
 abbrev pub body : Context → List Op → List Operator

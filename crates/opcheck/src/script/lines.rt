@@ -2,16 +2,19 @@
 
 use crate::failure::LineError;
 use crate::script::Body;
+use crate::script::features::read_feature;
 use crate::script::numbers::read_index;
 use crate::script::operators::{read_br_table, read_operator, read_typed_select_multi};
 use crate::script::owned::OwnedOp;
 use crate::script::types::{read_type, read_value_type};
 use std::alloc::Global;
-use wasmparser_validate::types::{SubType, ValType};
+use wasmparser_validate::types::{SubType, ValType, WasmFeatures};
 
 /// What a line says that is neither blank nor a comment.
 #[derive(Drop)]
 pub enum Line {
+    /// `feature NAME`: these proposals are on.
+    Feature(WasmFeatures),
     /// `type ..`: the module declares this type.
     SubType(SubType),
     /// `func N` or `expr T`: what the operators are the body of.
@@ -37,6 +40,7 @@ pub fn read_line(alloc: Global, words: &[&str]) -> Result<Line, LineError> {
 /// Reads the words of a line that takes no memory.
 fn read_flat_line(words: &[&str]) -> Option<Line> {
     match *words {
+        ["feature", name] => Some(Line::Feature(read_feature(name)?)),
         ["func", type_index] => Some(Line::Body(Body::Function(read_index(type_index)?))),
         ["expr", ty] => Some(Line::Body(Body::Expression(read_value_type(ty)?))),
         ["local", count, ty] => Some(Line::Locals(read_index(count)?, read_value_type(ty)?)),

@@ -4,7 +4,7 @@ ghost use Rattle.std.specs.Prelude.{◌≡◌, ◌≢◌, All, IfOk, IsErrOf, Ma
 ghost use Rattle.std.specs.Option.{SomeIff};
 ghost use Rattle.std.specs.Str.Parse.{digits_value};
 ghost use Rattle.std.specs.Int.{w32, w64};
-ghost use Rattle.opcheck.specs.Numbers.{IsIndex, IsConstant, constant_value};
+ghost use Rattle.opcheck.specs.Numbers.{IsIndex, IsBits, IsConstant, constant_value};
 ghost use Rattle.opcheck.specs.declared.failure.LineError.{LineError};
 
 use crate::failure::LineError;
@@ -51,6 +51,13 @@ pub fn read_i32(token: &str) -> Option<i32>
 /// The constant of type `i64` that a token writes, if it does.
 pub fn read_i64(token: &str) -> Option<i64>
     ensures { SomeIff result (IsConstant w64 token.now) (constant_value token.now) }
+{
+    without_plus(token)?.parse().ok()
+}
+
+/// The bits of a float of 64 bits that a token writes, if it does.
+pub fn read_u64(token: &str) -> Option<u64>
+    ensures { SomeIff result (IsBits token.now) (digits_value 10 token.now) }
 {
     without_plus(token)?.parse().ok()
 }

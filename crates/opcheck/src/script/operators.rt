@@ -7,13 +7,14 @@ ghost use Rattle.opcheck.specs.Owned.{labels_of};
 ghost use Rattle.opcheck.specs.declared.failure.LineError.{LineError};
 
 use crate::failure::LineError;
-use crate::script::numbers::{read_i32, read_i64, read_index, read_indices};
+use crate::script::numbers::{read_i32, read_i64, read_index, read_indices, read_u64};
+use crate::script::numeric::{CONVERT, NUMERIC};
 use crate::script::owned::OwnedOp;
 use crate::script::types::{read_value_type, read_value_types};
 use std::alloc::Global;
-use wasmparser_validate::visit::{BlockType, ControlOp, NumericOp, Op};
+use wasmparser_validate::visit::{BlockType, ControlOp, Ieee32, Ieee64, NumericOp, Op};
 
-/// The operators without immediates, by their names.
+/// The operators without immediates but those of numbers, by their names.
 const PLAIN: &[(&str, Op<'static>)] = &[
     ("unreachable", Op::Control(ControlOp::Unreachable)),
     ("nop", Op::Control(ControlOp::Nop)),
@@ -25,13 +26,6 @@ const PLAIN: &[(&str, Op<'static>)] = &[
     ("return", Op::Control(ControlOp::Return)),
     ("drop", Op::Control(ControlOp::Drop)),
     ("select", Op::Control(ControlOp::Select)),
-    ("i32.eqz", Op::Numeric(NumericOp::I32Eqz)),
-    ("i32.add", Op::Numeric(NumericOp::I32Add)),
-    ("i32.sub", Op::Numeric(NumericOp::I32Sub)),
-    ("i32.mul", Op::Numeric(NumericOp::I32Mul)),
-    ("i64.add", Op::Numeric(NumericOp::I64Add)),
-    ("i64.sub", Op::Numeric(NumericOp::I64Sub)),
-    ("i64.mul", Op::Numeric(NumericOp::I64Mul)),
 ];
 
 /// The operator that a line's words write, if they do, where it has no list: its name, and its
@@ -50,7 +44,14 @@ pub fn read_operator(words: &[&str]) -> Option<Op<'static>> {
 
 /// The operator without immediates of this name.
 fn plain_operator(name: &str) -> Option<Op<'static>> {
-    PLAIN
+    named_in(PLAIN, name)
+        .or_else(|| named_in(NUMERIC, name))
+        .or_else(|| named_in(CONVERT, name))
+}
+
+/// The operator of this name in a list.
+fn named_in(operators: &[(&str, Op<'static>)], name: &str) -> Option<Op<'static>> {
+    operators
         .iter()
         .find(|named| named.0 == name)
         .map(|named| named.1)
@@ -61,6 +62,8 @@ fn constant_operator(name: &str, value: &str) -> Option<Op<'static>> {
     match name {
         "i32.const" => Some(Op::Numeric(NumericOp::I32Const(read_i32(value)?))),
         "i64.const" => Some(Op::Numeric(NumericOp::I64Const(read_i64(value)?))),
+        "f32.const" => Some(Op::Numeric(NumericOp::F32Const(Ieee32(read_index(value)?)))),
+        "f64.const" => Some(Op::Numeric(NumericOp::F64Const(Ieee64(read_u64(value)?)))),
         _ => None,
     }
 }

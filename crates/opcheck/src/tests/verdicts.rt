@@ -5,9 +5,12 @@ use crate::check::check_script;
 use crate::failure::{BadScript, Failure};
 use crate::script::owned::OwnedOp;
 use crate::script::{Body, BodyLine, Script};
+use bitflags::Flags;
 use std::alloc::{AllocError, Global};
 use std::test::Fail;
-use wasmparser_validate::types::{CompositeInnerType, CompositeType, FuncType, SubType};
+use wasmparser_validate::types::{
+    CompositeInnerType, CompositeType, FuncType, SubType, WasmFeatures,
+};
 use wasmparser_validate::visit::{ControlOp, Op};
 
 #[test]
@@ -68,6 +71,7 @@ fn names_the_first_cause(rt: HostRuntime) -> Result<(), Fail> {
 /// A script of this many types and so many `end`s.
 fn script_of(alloc: Global, types: usize, ends: usize) -> Result<Script, AllocError> {
     let mut script = Script {
+        features: WasmFeatures::all(),
         types: Vec::with_capacity(alloc, types)?,
         body: BodyLine {
             body: Body::Function(0),

@@ -12,14 +12,14 @@ use validate_resources::WasmModuleResources;
 use validate_rows::blocks::check_opener;
 use validate_rows::branches::{check_br, check_br_if, check_br_table, check_return};
 use validate_rows::control::{check_else, check_end, check_nop, check_unreachable};
-use validate_rows::numeric::{check_binary_op, check_const, check_test_op};
 use validate_rows::parametric::{
     check_drop, check_select, check_typed_select, check_typed_select_multi,
 };
 use validate_rows::variables::{check_local_get, check_local_set, check_local_tee};
 use validate_types::{Error, Gate, ValType};
 use validate_visit::{
-    BlockType, BrTable, ControlOp, FrameKind, FrameStack, NumericOp, Op, VisitOperator,
+    BlockType, BrTable, ControlOp, ConvertOp, FrameKind, FrameStack, Ieee32, Ieee64, NumericOp, Op,
+    VisitOperator,
 };
 
 /// A validator that is about to visit an operator, with the lookup and the operator's offset
@@ -181,99 +181,586 @@ impl<'a, 'validator, 'resources, R: WasmModuleResources> VisitOperator<'a>
     }
 
     fn visit_i32_const(&mut self, _value: i32) -> Result<(), Error> {
-        check_const(
-            &mut self.inner.stacks,
-            self.resources,
-            self.offset,
-            Gate::Mvp,
-            ValType::I32,
-        )
+        self.check_const(Gate::Mvp, ValType::I32)
     }
 
     fn visit_i64_const(&mut self, _value: i64) -> Result<(), Error> {
-        check_const(
-            &mut self.inner.stacks,
-            self.resources,
-            self.offset,
-            Gate::Mvp,
-            ValType::I64,
-        )
+        self.check_const(Gate::Mvp, ValType::I64)
+    }
+
+    fn visit_f32_const(&mut self, _value: Ieee32) -> Result<(), Error> {
+        self.check_const(Gate::Floats, ValType::F32)
+    }
+
+    fn visit_f64_const(&mut self, _value: Ieee64) -> Result<(), Error> {
+        self.check_const(Gate::Floats, ValType::F64)
     }
 
     fn visit_i32_eqz(&mut self) -> Result<(), Error> {
-        check_test_op(
-            &mut self.inner.stacks,
-            self.resources,
-            self.offset,
-            Gate::Mvp,
-            ValType::I32,
-        )
+        self.check_test_op(Gate::Mvp, ValType::I32)
+    }
+
+    fn visit_i32_eq(&mut self) -> Result<(), Error> {
+        self.check_cmp_op(Gate::Mvp, ValType::I32)
+    }
+
+    fn visit_i32_ne(&mut self) -> Result<(), Error> {
+        self.check_cmp_op(Gate::Mvp, ValType::I32)
+    }
+
+    fn visit_i32_lt_s(&mut self) -> Result<(), Error> {
+        self.check_cmp_op(Gate::Mvp, ValType::I32)
+    }
+
+    fn visit_i32_lt_u(&mut self) -> Result<(), Error> {
+        self.check_cmp_op(Gate::Mvp, ValType::I32)
+    }
+
+    fn visit_i32_gt_s(&mut self) -> Result<(), Error> {
+        self.check_cmp_op(Gate::Mvp, ValType::I32)
+    }
+
+    fn visit_i32_gt_u(&mut self) -> Result<(), Error> {
+        self.check_cmp_op(Gate::Mvp, ValType::I32)
+    }
+
+    fn visit_i32_le_s(&mut self) -> Result<(), Error> {
+        self.check_cmp_op(Gate::Mvp, ValType::I32)
+    }
+
+    fn visit_i32_le_u(&mut self) -> Result<(), Error> {
+        self.check_cmp_op(Gate::Mvp, ValType::I32)
+    }
+
+    fn visit_i32_ge_s(&mut self) -> Result<(), Error> {
+        self.check_cmp_op(Gate::Mvp, ValType::I32)
+    }
+
+    fn visit_i32_ge_u(&mut self) -> Result<(), Error> {
+        self.check_cmp_op(Gate::Mvp, ValType::I32)
+    }
+
+    fn visit_i64_eqz(&mut self) -> Result<(), Error> {
+        self.check_test_op(Gate::Mvp, ValType::I64)
+    }
+
+    fn visit_i64_eq(&mut self) -> Result<(), Error> {
+        self.check_cmp_op(Gate::Mvp, ValType::I64)
+    }
+
+    fn visit_i64_ne(&mut self) -> Result<(), Error> {
+        self.check_cmp_op(Gate::Mvp, ValType::I64)
+    }
+
+    fn visit_i64_lt_s(&mut self) -> Result<(), Error> {
+        self.check_cmp_op(Gate::Mvp, ValType::I64)
+    }
+
+    fn visit_i64_lt_u(&mut self) -> Result<(), Error> {
+        self.check_cmp_op(Gate::Mvp, ValType::I64)
+    }
+
+    fn visit_i64_gt_s(&mut self) -> Result<(), Error> {
+        self.check_cmp_op(Gate::Mvp, ValType::I64)
+    }
+
+    fn visit_i64_gt_u(&mut self) -> Result<(), Error> {
+        self.check_cmp_op(Gate::Mvp, ValType::I64)
+    }
+
+    fn visit_i64_le_s(&mut self) -> Result<(), Error> {
+        self.check_cmp_op(Gate::Mvp, ValType::I64)
+    }
+
+    fn visit_i64_le_u(&mut self) -> Result<(), Error> {
+        self.check_cmp_op(Gate::Mvp, ValType::I64)
+    }
+
+    fn visit_i64_ge_s(&mut self) -> Result<(), Error> {
+        self.check_cmp_op(Gate::Mvp, ValType::I64)
+    }
+
+    fn visit_i64_ge_u(&mut self) -> Result<(), Error> {
+        self.check_cmp_op(Gate::Mvp, ValType::I64)
+    }
+
+    fn visit_f32_eq(&mut self) -> Result<(), Error> {
+        self.check_cmp_op(Gate::Floats, ValType::F32)
+    }
+
+    fn visit_f32_ne(&mut self) -> Result<(), Error> {
+        self.check_cmp_op(Gate::Floats, ValType::F32)
+    }
+
+    fn visit_f32_lt(&mut self) -> Result<(), Error> {
+        self.check_cmp_op(Gate::Floats, ValType::F32)
+    }
+
+    fn visit_f32_gt(&mut self) -> Result<(), Error> {
+        self.check_cmp_op(Gate::Floats, ValType::F32)
+    }
+
+    fn visit_f32_le(&mut self) -> Result<(), Error> {
+        self.check_cmp_op(Gate::Floats, ValType::F32)
+    }
+
+    fn visit_f32_ge(&mut self) -> Result<(), Error> {
+        self.check_cmp_op(Gate::Floats, ValType::F32)
+    }
+
+    fn visit_f64_eq(&mut self) -> Result<(), Error> {
+        self.check_cmp_op(Gate::Floats, ValType::F64)
+    }
+
+    fn visit_f64_ne(&mut self) -> Result<(), Error> {
+        self.check_cmp_op(Gate::Floats, ValType::F64)
+    }
+
+    fn visit_f64_lt(&mut self) -> Result<(), Error> {
+        self.check_cmp_op(Gate::Floats, ValType::F64)
+    }
+
+    fn visit_f64_gt(&mut self) -> Result<(), Error> {
+        self.check_cmp_op(Gate::Floats, ValType::F64)
+    }
+
+    fn visit_f64_le(&mut self) -> Result<(), Error> {
+        self.check_cmp_op(Gate::Floats, ValType::F64)
+    }
+
+    fn visit_f64_ge(&mut self) -> Result<(), Error> {
+        self.check_cmp_op(Gate::Floats, ValType::F64)
+    }
+
+    fn visit_i32_clz(&mut self) -> Result<(), Error> {
+        self.check_unary_op(Gate::Mvp, ValType::I32)
+    }
+
+    fn visit_i32_ctz(&mut self) -> Result<(), Error> {
+        self.check_unary_op(Gate::Mvp, ValType::I32)
+    }
+
+    fn visit_i32_popcnt(&mut self) -> Result<(), Error> {
+        self.check_unary_op(Gate::Mvp, ValType::I32)
     }
 
     fn visit_i32_add(&mut self) -> Result<(), Error> {
-        check_binary_op(
-            &mut self.inner.stacks,
-            self.resources,
-            self.offset,
-            Gate::Mvp,
-            ValType::I32,
-        )
+        self.check_binary_op(Gate::Mvp, ValType::I32)
     }
 
     fn visit_i32_sub(&mut self) -> Result<(), Error> {
-        check_binary_op(
-            &mut self.inner.stacks,
-            self.resources,
-            self.offset,
-            Gate::Mvp,
-            ValType::I32,
-        )
+        self.check_binary_op(Gate::Mvp, ValType::I32)
     }
 
     fn visit_i32_mul(&mut self) -> Result<(), Error> {
-        check_binary_op(
-            &mut self.inner.stacks,
-            self.resources,
-            self.offset,
-            Gate::Mvp,
-            ValType::I32,
-        )
+        self.check_binary_op(Gate::Mvp, ValType::I32)
+    }
+
+    fn visit_i32_div_s(&mut self) -> Result<(), Error> {
+        self.check_binary_op(Gate::Mvp, ValType::I32)
+    }
+
+    fn visit_i32_div_u(&mut self) -> Result<(), Error> {
+        self.check_binary_op(Gate::Mvp, ValType::I32)
+    }
+
+    fn visit_i32_rem_s(&mut self) -> Result<(), Error> {
+        self.check_binary_op(Gate::Mvp, ValType::I32)
+    }
+
+    fn visit_i32_rem_u(&mut self) -> Result<(), Error> {
+        self.check_binary_op(Gate::Mvp, ValType::I32)
+    }
+
+    fn visit_i32_and(&mut self) -> Result<(), Error> {
+        self.check_binary_op(Gate::Mvp, ValType::I32)
+    }
+
+    fn visit_i32_or(&mut self) -> Result<(), Error> {
+        self.check_binary_op(Gate::Mvp, ValType::I32)
+    }
+
+    fn visit_i32_xor(&mut self) -> Result<(), Error> {
+        self.check_binary_op(Gate::Mvp, ValType::I32)
+    }
+
+    fn visit_i32_shl(&mut self) -> Result<(), Error> {
+        self.check_binary_op(Gate::Mvp, ValType::I32)
+    }
+
+    fn visit_i32_shr_s(&mut self) -> Result<(), Error> {
+        self.check_binary_op(Gate::Mvp, ValType::I32)
+    }
+
+    fn visit_i32_shr_u(&mut self) -> Result<(), Error> {
+        self.check_binary_op(Gate::Mvp, ValType::I32)
+    }
+
+    fn visit_i32_rotl(&mut self) -> Result<(), Error> {
+        self.check_binary_op(Gate::Mvp, ValType::I32)
+    }
+
+    fn visit_i32_rotr(&mut self) -> Result<(), Error> {
+        self.check_binary_op(Gate::Mvp, ValType::I32)
+    }
+
+    fn visit_i64_clz(&mut self) -> Result<(), Error> {
+        self.check_unary_op(Gate::Mvp, ValType::I64)
+    }
+
+    fn visit_i64_ctz(&mut self) -> Result<(), Error> {
+        self.check_unary_op(Gate::Mvp, ValType::I64)
+    }
+
+    fn visit_i64_popcnt(&mut self) -> Result<(), Error> {
+        self.check_unary_op(Gate::Mvp, ValType::I64)
     }
 
     fn visit_i64_add(&mut self) -> Result<(), Error> {
-        check_binary_op(
-            &mut self.inner.stacks,
-            self.resources,
-            self.offset,
-            Gate::Mvp,
-            ValType::I64,
-        )
+        self.check_binary_op(Gate::Mvp, ValType::I64)
     }
 
     fn visit_i64_sub(&mut self) -> Result<(), Error> {
-        check_binary_op(
-            &mut self.inner.stacks,
-            self.resources,
-            self.offset,
-            Gate::Mvp,
-            ValType::I64,
-        )
+        self.check_binary_op(Gate::Mvp, ValType::I64)
     }
 
     fn visit_i64_mul(&mut self) -> Result<(), Error> {
-        check_binary_op(
-            &mut self.inner.stacks,
-            self.resources,
-            self.offset,
-            Gate::Mvp,
-            ValType::I64,
-        )
+        self.check_binary_op(Gate::Mvp, ValType::I64)
+    }
+
+    fn visit_i64_div_s(&mut self) -> Result<(), Error> {
+        self.check_binary_op(Gate::Mvp, ValType::I64)
+    }
+
+    fn visit_i64_div_u(&mut self) -> Result<(), Error> {
+        self.check_binary_op(Gate::Mvp, ValType::I64)
+    }
+
+    fn visit_i64_rem_s(&mut self) -> Result<(), Error> {
+        self.check_binary_op(Gate::Mvp, ValType::I64)
+    }
+
+    fn visit_i64_rem_u(&mut self) -> Result<(), Error> {
+        self.check_binary_op(Gate::Mvp, ValType::I64)
+    }
+
+    fn visit_i64_and(&mut self) -> Result<(), Error> {
+        self.check_binary_op(Gate::Mvp, ValType::I64)
+    }
+
+    fn visit_i64_or(&mut self) -> Result<(), Error> {
+        self.check_binary_op(Gate::Mvp, ValType::I64)
+    }
+
+    fn visit_i64_xor(&mut self) -> Result<(), Error> {
+        self.check_binary_op(Gate::Mvp, ValType::I64)
+    }
+
+    fn visit_i64_shl(&mut self) -> Result<(), Error> {
+        self.check_binary_op(Gate::Mvp, ValType::I64)
+    }
+
+    fn visit_i64_shr_s(&mut self) -> Result<(), Error> {
+        self.check_binary_op(Gate::Mvp, ValType::I64)
+    }
+
+    fn visit_i64_shr_u(&mut self) -> Result<(), Error> {
+        self.check_binary_op(Gate::Mvp, ValType::I64)
+    }
+
+    fn visit_i64_rotl(&mut self) -> Result<(), Error> {
+        self.check_binary_op(Gate::Mvp, ValType::I64)
+    }
+
+    fn visit_i64_rotr(&mut self) -> Result<(), Error> {
+        self.check_binary_op(Gate::Mvp, ValType::I64)
+    }
+
+    fn visit_f32_abs(&mut self) -> Result<(), Error> {
+        self.check_unary_op(Gate::Floats, ValType::F32)
+    }
+
+    fn visit_f32_neg(&mut self) -> Result<(), Error> {
+        self.check_unary_op(Gate::Floats, ValType::F32)
+    }
+
+    fn visit_f32_ceil(&mut self) -> Result<(), Error> {
+        self.check_unary_op(Gate::Floats, ValType::F32)
+    }
+
+    fn visit_f32_floor(&mut self) -> Result<(), Error> {
+        self.check_unary_op(Gate::Floats, ValType::F32)
+    }
+
+    fn visit_f32_trunc(&mut self) -> Result<(), Error> {
+        self.check_unary_op(Gate::Floats, ValType::F32)
+    }
+
+    fn visit_f32_nearest(&mut self) -> Result<(), Error> {
+        self.check_unary_op(Gate::Floats, ValType::F32)
+    }
+
+    fn visit_f32_sqrt(&mut self) -> Result<(), Error> {
+        self.check_unary_op(Gate::Floats, ValType::F32)
+    }
+
+    fn visit_f32_add(&mut self) -> Result<(), Error> {
+        self.check_binary_op(Gate::Floats, ValType::F32)
+    }
+
+    fn visit_f32_sub(&mut self) -> Result<(), Error> {
+        self.check_binary_op(Gate::Floats, ValType::F32)
+    }
+
+    fn visit_f32_mul(&mut self) -> Result<(), Error> {
+        self.check_binary_op(Gate::Floats, ValType::F32)
+    }
+
+    fn visit_f32_div(&mut self) -> Result<(), Error> {
+        self.check_binary_op(Gate::Floats, ValType::F32)
+    }
+
+    fn visit_f32_min(&mut self) -> Result<(), Error> {
+        self.check_binary_op(Gate::Floats, ValType::F32)
+    }
+
+    fn visit_f32_max(&mut self) -> Result<(), Error> {
+        self.check_binary_op(Gate::Floats, ValType::F32)
+    }
+
+    fn visit_f32_copysign(&mut self) -> Result<(), Error> {
+        self.check_binary_op(Gate::Floats, ValType::F32)
+    }
+
+    fn visit_f64_abs(&mut self) -> Result<(), Error> {
+        self.check_unary_op(Gate::Floats, ValType::F64)
+    }
+
+    fn visit_f64_neg(&mut self) -> Result<(), Error> {
+        self.check_unary_op(Gate::Floats, ValType::F64)
+    }
+
+    fn visit_f64_ceil(&mut self) -> Result<(), Error> {
+        self.check_unary_op(Gate::Floats, ValType::F64)
+    }
+
+    fn visit_f64_floor(&mut self) -> Result<(), Error> {
+        self.check_unary_op(Gate::Floats, ValType::F64)
+    }
+
+    fn visit_f64_trunc(&mut self) -> Result<(), Error> {
+        self.check_unary_op(Gate::Floats, ValType::F64)
+    }
+
+    fn visit_f64_nearest(&mut self) -> Result<(), Error> {
+        self.check_unary_op(Gate::Floats, ValType::F64)
+    }
+
+    fn visit_f64_sqrt(&mut self) -> Result<(), Error> {
+        self.check_unary_op(Gate::Floats, ValType::F64)
+    }
+
+    fn visit_f64_add(&mut self) -> Result<(), Error> {
+        self.check_binary_op(Gate::Floats, ValType::F64)
+    }
+
+    fn visit_f64_sub(&mut self) -> Result<(), Error> {
+        self.check_binary_op(Gate::Floats, ValType::F64)
+    }
+
+    fn visit_f64_mul(&mut self) -> Result<(), Error> {
+        self.check_binary_op(Gate::Floats, ValType::F64)
+    }
+
+    fn visit_f64_div(&mut self) -> Result<(), Error> {
+        self.check_binary_op(Gate::Floats, ValType::F64)
+    }
+
+    fn visit_f64_min(&mut self) -> Result<(), Error> {
+        self.check_binary_op(Gate::Floats, ValType::F64)
+    }
+
+    fn visit_f64_max(&mut self) -> Result<(), Error> {
+        self.check_binary_op(Gate::Floats, ValType::F64)
+    }
+
+    fn visit_f64_copysign(&mut self) -> Result<(), Error> {
+        self.check_binary_op(Gate::Floats, ValType::F64)
+    }
+
+    fn visit_i64_add128(&mut self) -> Result<(), Error> {
+        self.check_binop128(Gate::WideArithmetic)
+    }
+
+    fn visit_i64_sub128(&mut self) -> Result<(), Error> {
+        self.check_binop128(Gate::WideArithmetic)
+    }
+
+    fn visit_i64_mul_wide_s(&mut self) -> Result<(), Error> {
+        self.check_i64_mul_wide(Gate::WideArithmetic)
+    }
+
+    fn visit_i64_mul_wide_u(&mut self) -> Result<(), Error> {
+        self.check_i64_mul_wide(Gate::WideArithmetic)
+    }
+
+    fn visit_i32_wrap_i64(&mut self) -> Result<(), Error> {
+        self.check_conversion_op(Gate::Mvp, ValType::I32, ValType::I64)
+    }
+
+    fn visit_i32_trunc_f32_s(&mut self) -> Result<(), Error> {
+        self.check_conversion_op(Gate::Mvp, ValType::I32, ValType::F32)
+    }
+
+    fn visit_i32_trunc_f32_u(&mut self) -> Result<(), Error> {
+        self.check_conversion_op(Gate::Mvp, ValType::I32, ValType::F32)
+    }
+
+    fn visit_i32_trunc_f64_s(&mut self) -> Result<(), Error> {
+        self.check_conversion_op(Gate::Mvp, ValType::I32, ValType::F64)
+    }
+
+    fn visit_i32_trunc_f64_u(&mut self) -> Result<(), Error> {
+        self.check_conversion_op(Gate::Mvp, ValType::I32, ValType::F64)
+    }
+
+    fn visit_i64_trunc_f32_s(&mut self) -> Result<(), Error> {
+        self.check_conversion_op(Gate::Mvp, ValType::I64, ValType::F32)
+    }
+
+    fn visit_i64_trunc_f32_u(&mut self) -> Result<(), Error> {
+        self.check_conversion_op(Gate::Mvp, ValType::I64, ValType::F32)
+    }
+
+    fn visit_i64_trunc_f64_s(&mut self) -> Result<(), Error> {
+        self.check_conversion_op(Gate::Mvp, ValType::I64, ValType::F64)
+    }
+
+    fn visit_i64_trunc_f64_u(&mut self) -> Result<(), Error> {
+        self.check_conversion_op(Gate::Mvp, ValType::I64, ValType::F64)
+    }
+
+    fn visit_i64_extend_i32_s(&mut self) -> Result<(), Error> {
+        self.check_conversion_op(Gate::Mvp, ValType::I64, ValType::I32)
+    }
+
+    fn visit_i64_extend_i32_u(&mut self) -> Result<(), Error> {
+        self.check_conversion_op(Gate::Mvp, ValType::I64, ValType::I32)
+    }
+
+    fn visit_f32_convert_i32_s(&mut self) -> Result<(), Error> {
+        self.check_conversion_op(Gate::Floats, ValType::F32, ValType::I32)
+    }
+
+    fn visit_f32_convert_i32_u(&mut self) -> Result<(), Error> {
+        self.check_conversion_op(Gate::Floats, ValType::F32, ValType::I32)
+    }
+
+    fn visit_f32_convert_i64_s(&mut self) -> Result<(), Error> {
+        self.check_conversion_op(Gate::Floats, ValType::F32, ValType::I64)
+    }
+
+    fn visit_f32_convert_i64_u(&mut self) -> Result<(), Error> {
+        self.check_conversion_op(Gate::Floats, ValType::F32, ValType::I64)
+    }
+
+    fn visit_f64_convert_i32_s(&mut self) -> Result<(), Error> {
+        self.check_conversion_op(Gate::Floats, ValType::F64, ValType::I32)
+    }
+
+    fn visit_f64_convert_i32_u(&mut self) -> Result<(), Error> {
+        self.check_conversion_op(Gate::Floats, ValType::F64, ValType::I32)
+    }
+
+    fn visit_f64_convert_i64_s(&mut self) -> Result<(), Error> {
+        self.check_conversion_op(Gate::Floats, ValType::F64, ValType::I64)
+    }
+
+    fn visit_f64_convert_i64_u(&mut self) -> Result<(), Error> {
+        self.check_conversion_op(Gate::Floats, ValType::F64, ValType::I64)
+    }
+
+    fn visit_f32_demote_f64(&mut self) -> Result<(), Error> {
+        self.check_conversion_op(Gate::Floats, ValType::F32, ValType::F64)
+    }
+
+    fn visit_f64_promote_f32(&mut self) -> Result<(), Error> {
+        self.check_conversion_op(Gate::Floats, ValType::F64, ValType::F32)
+    }
+
+    fn visit_i32_reinterpret_f32(&mut self) -> Result<(), Error> {
+        self.check_conversion_op(Gate::Mvp, ValType::I32, ValType::F32)
+    }
+
+    fn visit_i64_reinterpret_f64(&mut self) -> Result<(), Error> {
+        self.check_conversion_op(Gate::Mvp, ValType::I64, ValType::F64)
+    }
+
+    fn visit_f32_reinterpret_i32(&mut self) -> Result<(), Error> {
+        self.check_conversion_op(Gate::Floats, ValType::F32, ValType::I32)
+    }
+
+    fn visit_f64_reinterpret_i64(&mut self) -> Result<(), Error> {
+        self.check_conversion_op(Gate::Floats, ValType::F64, ValType::I64)
+    }
+
+    fn visit_i32_extend8_s(&mut self) -> Result<(), Error> {
+        self.check_unary_op(Gate::SignExtension, ValType::I32)
+    }
+
+    fn visit_i32_extend16_s(&mut self) -> Result<(), Error> {
+        self.check_unary_op(Gate::SignExtension, ValType::I32)
+    }
+
+    fn visit_i64_extend8_s(&mut self) -> Result<(), Error> {
+        self.check_unary_op(Gate::SignExtension, ValType::I64)
+    }
+
+    fn visit_i64_extend16_s(&mut self) -> Result<(), Error> {
+        self.check_unary_op(Gate::SignExtension, ValType::I64)
+    }
+
+    fn visit_i64_extend32_s(&mut self) -> Result<(), Error> {
+        self.check_unary_op(Gate::SignExtension, ValType::I64)
+    }
+
+    fn visit_i32_trunc_sat_f32_s(&mut self) -> Result<(), Error> {
+        self.check_conversion_op(Gate::SaturatingFloatToInt, ValType::I32, ValType::F32)
+    }
+
+    fn visit_i32_trunc_sat_f32_u(&mut self) -> Result<(), Error> {
+        self.check_conversion_op(Gate::SaturatingFloatToInt, ValType::I32, ValType::F32)
+    }
+
+    fn visit_i32_trunc_sat_f64_s(&mut self) -> Result<(), Error> {
+        self.check_conversion_op(Gate::SaturatingFloatToInt, ValType::I32, ValType::F64)
+    }
+
+    fn visit_i32_trunc_sat_f64_u(&mut self) -> Result<(), Error> {
+        self.check_conversion_op(Gate::SaturatingFloatToInt, ValType::I32, ValType::F64)
+    }
+
+    fn visit_i64_trunc_sat_f32_s(&mut self) -> Result<(), Error> {
+        self.check_conversion_op(Gate::SaturatingFloatToInt, ValType::I64, ValType::F32)
+    }
+
+    fn visit_i64_trunc_sat_f32_u(&mut self) -> Result<(), Error> {
+        self.check_conversion_op(Gate::SaturatingFloatToInt, ValType::I64, ValType::F32)
+    }
+
+    fn visit_i64_trunc_sat_f64_s(&mut self) -> Result<(), Error> {
+        self.check_conversion_op(Gate::SaturatingFloatToInt, ValType::I64, ValType::F64)
+    }
+
+    fn visit_i64_trunc_sat_f64_u(&mut self) -> Result<(), Error> {
+        self.check_conversion_op(Gate::SaturatingFloatToInt, ValType::I64, ValType::F64)
     }
 
     fn visit_operator(&mut self, op: Op<'a>) -> Result<(), Error> {
         match op {
             Op::Control(op) => self.control_operator(op),
             Op::Numeric(op) => self.numeric_operator(op),
+            Op::Convert(op) => self.convert_operator(op),
         }
     }
 }
@@ -316,13 +803,156 @@ impl<'validator, 'resources, R: WasmModuleResources> WasmProposalValidator<
         match op {
             NumericOp::I32Const(value) => self.visit_i32_const(value),
             NumericOp::I64Const(value) => self.visit_i64_const(value),
+            NumericOp::F32Const(value) => self.visit_f32_const(value),
+            NumericOp::F64Const(value) => self.visit_f64_const(value),
             NumericOp::I32Eqz => self.visit_i32_eqz(),
+            NumericOp::I32Eq => self.visit_i32_eq(),
+            NumericOp::I32Ne => self.visit_i32_ne(),
+            NumericOp::I32LtS => self.visit_i32_lt_s(),
+            NumericOp::I32LtU => self.visit_i32_lt_u(),
+            NumericOp::I32GtS => self.visit_i32_gt_s(),
+            NumericOp::I32GtU => self.visit_i32_gt_u(),
+            NumericOp::I32LeS => self.visit_i32_le_s(),
+            NumericOp::I32LeU => self.visit_i32_le_u(),
+            NumericOp::I32GeS => self.visit_i32_ge_s(),
+            NumericOp::I32GeU => self.visit_i32_ge_u(),
+            NumericOp::I64Eqz => self.visit_i64_eqz(),
+            NumericOp::I64Eq => self.visit_i64_eq(),
+            NumericOp::I64Ne => self.visit_i64_ne(),
+            NumericOp::I64LtS => self.visit_i64_lt_s(),
+            NumericOp::I64LtU => self.visit_i64_lt_u(),
+            NumericOp::I64GtS => self.visit_i64_gt_s(),
+            NumericOp::I64GtU => self.visit_i64_gt_u(),
+            NumericOp::I64LeS => self.visit_i64_le_s(),
+            NumericOp::I64LeU => self.visit_i64_le_u(),
+            NumericOp::I64GeS => self.visit_i64_ge_s(),
+            NumericOp::I64GeU => self.visit_i64_ge_u(),
+            NumericOp::F32Eq => self.visit_f32_eq(),
+            NumericOp::F32Ne => self.visit_f32_ne(),
+            NumericOp::F32Lt => self.visit_f32_lt(),
+            NumericOp::F32Gt => self.visit_f32_gt(),
+            NumericOp::F32Le => self.visit_f32_le(),
+            NumericOp::F32Ge => self.visit_f32_ge(),
+            NumericOp::F64Eq => self.visit_f64_eq(),
+            NumericOp::F64Ne => self.visit_f64_ne(),
+            NumericOp::F64Lt => self.visit_f64_lt(),
+            NumericOp::F64Gt => self.visit_f64_gt(),
+            NumericOp::F64Le => self.visit_f64_le(),
+            NumericOp::F64Ge => self.visit_f64_ge(),
+            NumericOp::I32Clz => self.visit_i32_clz(),
+            NumericOp::I32Ctz => self.visit_i32_ctz(),
+            NumericOp::I32Popcnt => self.visit_i32_popcnt(),
             NumericOp::I32Add => self.visit_i32_add(),
             NumericOp::I32Sub => self.visit_i32_sub(),
             NumericOp::I32Mul => self.visit_i32_mul(),
+            NumericOp::I32DivS => self.visit_i32_div_s(),
+            NumericOp::I32DivU => self.visit_i32_div_u(),
+            NumericOp::I32RemS => self.visit_i32_rem_s(),
+            NumericOp::I32RemU => self.visit_i32_rem_u(),
+            NumericOp::I32And => self.visit_i32_and(),
+            NumericOp::I32Or => self.visit_i32_or(),
+            NumericOp::I32Xor => self.visit_i32_xor(),
+            NumericOp::I32Shl => self.visit_i32_shl(),
+            NumericOp::I32ShrS => self.visit_i32_shr_s(),
+            NumericOp::I32ShrU => self.visit_i32_shr_u(),
+            NumericOp::I32Rotl => self.visit_i32_rotl(),
+            NumericOp::I32Rotr => self.visit_i32_rotr(),
+            NumericOp::I64Clz => self.visit_i64_clz(),
+            NumericOp::I64Ctz => self.visit_i64_ctz(),
+            NumericOp::I64Popcnt => self.visit_i64_popcnt(),
             NumericOp::I64Add => self.visit_i64_add(),
             NumericOp::I64Sub => self.visit_i64_sub(),
             NumericOp::I64Mul => self.visit_i64_mul(),
+            NumericOp::I64DivS => self.visit_i64_div_s(),
+            NumericOp::I64DivU => self.visit_i64_div_u(),
+            NumericOp::I64RemS => self.visit_i64_rem_s(),
+            NumericOp::I64RemU => self.visit_i64_rem_u(),
+            NumericOp::I64And => self.visit_i64_and(),
+            NumericOp::I64Or => self.visit_i64_or(),
+            NumericOp::I64Xor => self.visit_i64_xor(),
+            NumericOp::I64Shl => self.visit_i64_shl(),
+            NumericOp::I64ShrS => self.visit_i64_shr_s(),
+            NumericOp::I64ShrU => self.visit_i64_shr_u(),
+            NumericOp::I64Rotl => self.visit_i64_rotl(),
+            NumericOp::I64Rotr => self.visit_i64_rotr(),
+            NumericOp::F32Abs => self.visit_f32_abs(),
+            NumericOp::F32Neg => self.visit_f32_neg(),
+            NumericOp::F32Ceil => self.visit_f32_ceil(),
+            NumericOp::F32Floor => self.visit_f32_floor(),
+            NumericOp::F32Trunc => self.visit_f32_trunc(),
+            NumericOp::F32Nearest => self.visit_f32_nearest(),
+            NumericOp::F32Sqrt => self.visit_f32_sqrt(),
+            NumericOp::F32Add => self.visit_f32_add(),
+            NumericOp::F32Sub => self.visit_f32_sub(),
+            NumericOp::F32Mul => self.visit_f32_mul(),
+            NumericOp::F32Div => self.visit_f32_div(),
+            NumericOp::F32Min => self.visit_f32_min(),
+            NumericOp::F32Max => self.visit_f32_max(),
+            NumericOp::F32Copysign => self.visit_f32_copysign(),
+            NumericOp::F64Abs => self.visit_f64_abs(),
+            NumericOp::F64Neg => self.visit_f64_neg(),
+            NumericOp::F64Ceil => self.visit_f64_ceil(),
+            NumericOp::F64Floor => self.visit_f64_floor(),
+            NumericOp::F64Trunc => self.visit_f64_trunc(),
+            NumericOp::F64Nearest => self.visit_f64_nearest(),
+            NumericOp::F64Sqrt => self.visit_f64_sqrt(),
+            NumericOp::F64Add => self.visit_f64_add(),
+            NumericOp::F64Sub => self.visit_f64_sub(),
+            NumericOp::F64Mul => self.visit_f64_mul(),
+            NumericOp::F64Div => self.visit_f64_div(),
+            NumericOp::F64Min => self.visit_f64_min(),
+            NumericOp::F64Max => self.visit_f64_max(),
+            NumericOp::F64Copysign => self.visit_f64_copysign(),
+            NumericOp::I64Add128 => self.visit_i64_add128(),
+            NumericOp::I64Sub128 => self.visit_i64_sub128(),
+            NumericOp::I64MulWideS => self.visit_i64_mul_wide_s(),
+            NumericOp::I64MulWideU => self.visit_i64_mul_wide_u(),
+        }
+    }
+
+    fn convert_operator(&mut self, op: ConvertOp) -> Result<(), Error>
+        requires { ⟦<WasmProposalValidator<'validator, 'resources, R> as VisitOperator<'resources>>⟧.can_visit self.old (Op.Convert op) }
+        ensures { ⟦<WasmProposalValidator<'validator, 'resources, R> as VisitOperator<'resources>>⟧.visits self.old (Op.Convert op) result self.new }
+    {
+        match op {
+            ConvertOp::I32WrapI64 => self.visit_i32_wrap_i64(),
+            ConvertOp::I32TruncF32S => self.visit_i32_trunc_f32_s(),
+            ConvertOp::I32TruncF32U => self.visit_i32_trunc_f32_u(),
+            ConvertOp::I32TruncF64S => self.visit_i32_trunc_f64_s(),
+            ConvertOp::I32TruncF64U => self.visit_i32_trunc_f64_u(),
+            ConvertOp::I64TruncF32S => self.visit_i64_trunc_f32_s(),
+            ConvertOp::I64TruncF32U => self.visit_i64_trunc_f32_u(),
+            ConvertOp::I64TruncF64S => self.visit_i64_trunc_f64_s(),
+            ConvertOp::I64TruncF64U => self.visit_i64_trunc_f64_u(),
+            ConvertOp::I64ExtendI32S => self.visit_i64_extend_i32_s(),
+            ConvertOp::I64ExtendI32U => self.visit_i64_extend_i32_u(),
+            ConvertOp::F32ConvertI32S => self.visit_f32_convert_i32_s(),
+            ConvertOp::F32ConvertI32U => self.visit_f32_convert_i32_u(),
+            ConvertOp::F32ConvertI64S => self.visit_f32_convert_i64_s(),
+            ConvertOp::F32ConvertI64U => self.visit_f32_convert_i64_u(),
+            ConvertOp::F64ConvertI32S => self.visit_f64_convert_i32_s(),
+            ConvertOp::F64ConvertI32U => self.visit_f64_convert_i32_u(),
+            ConvertOp::F64ConvertI64S => self.visit_f64_convert_i64_s(),
+            ConvertOp::F64ConvertI64U => self.visit_f64_convert_i64_u(),
+            ConvertOp::F32DemoteF64 => self.visit_f32_demote_f64(),
+            ConvertOp::F64PromoteF32 => self.visit_f64_promote_f32(),
+            ConvertOp::I32ReinterpretF32 => self.visit_i32_reinterpret_f32(),
+            ConvertOp::I64ReinterpretF64 => self.visit_i64_reinterpret_f64(),
+            ConvertOp::F32ReinterpretI32 => self.visit_f32_reinterpret_i32(),
+            ConvertOp::F64ReinterpretI64 => self.visit_f64_reinterpret_i64(),
+            ConvertOp::I32Extend8S => self.visit_i32_extend8_s(),
+            ConvertOp::I32Extend16S => self.visit_i32_extend16_s(),
+            ConvertOp::I64Extend8S => self.visit_i64_extend8_s(),
+            ConvertOp::I64Extend16S => self.visit_i64_extend16_s(),
+            ConvertOp::I64Extend32S => self.visit_i64_extend32_s(),
+            ConvertOp::I32TruncSatF32S => self.visit_i32_trunc_sat_f32_s(),
+            ConvertOp::I32TruncSatF32U => self.visit_i32_trunc_sat_f32_u(),
+            ConvertOp::I32TruncSatF64S => self.visit_i32_trunc_sat_f64_s(),
+            ConvertOp::I32TruncSatF64U => self.visit_i32_trunc_sat_f64_u(),
+            ConvertOp::I64TruncSatF32S => self.visit_i64_trunc_sat_f32_s(),
+            ConvertOp::I64TruncSatF32U => self.visit_i64_trunc_sat_f32_u(),
+            ConvertOp::I64TruncSatF64S => self.visit_i64_trunc_sat_f64_s(),
+            ConvertOp::I64TruncSatF64U => self.visit_i64_trunc_sat_f64_u(),
         }
     }
 }

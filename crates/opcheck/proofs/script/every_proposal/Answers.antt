@@ -1,6 +1,6 @@
 use Rattle.std.proofs.Common.{◌≡◌, ap}
 use Rattle.bitflags.specs.Sets.{known_from}
-use Rattle.opcheck.proofs.check.every_proposal.Goals as goal
+use Rattle.opcheck.proofs.script.every_proposal.Goals as goal
 
 pub returns : goal.returns
 unfolding known_from

@@ -19,6 +19,7 @@ fn label(stacks: &Stacks, offset: u64, relative_depth: u32) -> Result<(BlockType
     ensures found { IfOk result (λ found. label_of stacks.now relative_depth ≡ Some found) }
     ensures missing { OnErr result (label_of stacks.now relative_depth ≡ None) }
     ensures offset { IfErr result (λ e. e.offset ≡ offset) }
+    ensures memory { IfErr result (λ e. e.memory ≡ false) }
 {
     match stacks.jump(relative_depth) {
         Some(found) => Ok(found),
@@ -129,7 +130,8 @@ fn check_targets<R: WasmModuleResources>(
 }
 
 /// `br_table`: `[t i32]`, with the types t of the default label, which fit every other label too; and
-/// the live part of the frame ends.
+/// the live part of the frame ends. It takes no memory but for the text of a refusal: it is refused
+/// only where its row doesn't hold.
 pub fn check_br_table<R: WasmModuleResources>(
     stacks: &mut Stacks,
     resources: &R,
@@ -137,7 +139,8 @@ pub fn check_br_table<R: WasmModuleResources>(
     table: BrTable,
 ) -> Result<(), Error>
     requires { MayVisit (R.context resources.now) stacks.old }
-    ensures { Meets (R.context resources.now) (λ cx. flat (λ hs. br_table_row cx hs table.entry.complete table.entry.targets.now table.entry.default)) offset stacks.old result stacks.new }
+    ensures visit { Meets (R.context resources.now) (λ cx. flat (λ hs. br_table_row cx hs table.entry.complete table.entry.targets.now table.entry.default)) offset stacks.old result stacks.new }
+    ensures memory { OnErr result (step_body (R.context resources.now) (λ cx. flat (λ hs. br_table_row cx hs table.entry.complete table.entry.targets.now table.entry.default)) stacks.old ≡ None) }
 {
     stacks.pop_types(resources, offset, &[ValType::I32])?;
     let (block_type, kind) = label(stacks, offset, table.default())?;

@@ -32,6 +32,7 @@ fn select_type(lower: MaybeType, upper: MaybeType, offset: u64) -> Result<MaybeT
     ensures given { IfOk result (λ t. selected lower upper ≡ Some t) }
     ensures refused { OnErr result (selected lower upper ≡ None) }
     ensures offset { IfErr result (λ e. e.offset ≡ offset) }
+    ensures memory { IfErr result (λ e. e.memory ≡ false) }
 {
     match (lower, upper) {
         (MaybeType::Bottom, other) | (other, MaybeType::Bottom) => Ok(other),
@@ -92,7 +93,8 @@ pub fn check_typed_select_multi<R: WasmModuleResources>(
     offset: u64,
 ) -> Result<(), Error>
     requires { MayVisit (R.context resources.now) stacks.old }
-    ensures { Meets (R.context resources.now) (λ cx. alike (plain false [] [])) offset stacks.old result stacks.new }
+    ensures visit { Meets (R.context resources.now) (λ cx. alike (plain false [] [])) offset stacks.old result stacks.new }
+    ensures memory { IfErr result (λ e. e.memory ≡ false) }
 {
     let _resources = resources;
     check_enabled(stacks, offset, Gate::ReferenceTypes)?;

@@ -16,6 +16,7 @@ pub(crate) fn check_enabled(stacks: &Stacks, offset: u64, gate: Gate) -> Result<
     ensures open { OnOk result (is_open stacks.now.features gate ≡ true) }
     ensures closed { OnErr result (is_open stacks.now.features gate ≡ false) }
     ensures offset { IfErr result (λ e. e.offset ≡ offset) }
+    ensures memory { IfErr result (λ e. e.memory ≡ false) }
 {
     if gate.is_open(stacks.features()) {
         Ok(())

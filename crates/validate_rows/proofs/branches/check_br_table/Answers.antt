@@ -10,16 +10,24 @@ use Rattle.validate_rows.proofs.Tables.{table_untested, table_none, types_table,
 use Rattle.validate_rows.proofs.Meeting.{meets_none, meets_done}
 use Rattle.validate_rows.proofs.branches.check_br_table.Goals as goal
 
-pub returns-in_err-pop_types : goal.returns-in_err-pop_types
-returns-in_err-pop_types g c =
+pub returns-in_err-pop_types-clause-visit : goal.returns-in_err-pop_types-clause-visit
+returns-in_err-pop_types-clause-visit g c =
     let md = g.R.WasmModuleResources.context c.args.resources.now in
     let v = c.args.stacks.now in
     let t = c.args.table in
     let none = table_untested md v c.requires.open_frame t.complete t.targets.now t.default in
     meets_none md _ c.args.offset v c.pop_types.new.self _ (search rules) (search (rules, none)) (search rules) c.pop_types.ensures.valid c.pop_types.ensures.kept
 
-pub returns-in_err-block_type : goal.returns-in_err-block_type
-returns-in_err-block_type g c =
+pub returns-in_err-pop_types-clause-memory : goal.returns-in_err-pop_types-clause-memory
+returns-in_err-pop_types-clause-memory g c =
+    let md = g.R.WasmModuleResources.context c.args.resources.now in
+    let v = c.args.stacks.now in
+    let t = c.args.table in
+    let none = table_untested md v c.requires.open_frame t.complete t.targets.now t.default in
+    search (rules, none)
+
+pub returns-in_err-block_type-clause-visit : goal.returns-in_err-block_type-clause-visit
+returns-in_err-block_type-clause-visit g c =
     let md = g.R.WasmModuleResources.context c.args.resources.now in
     let v = c.args.stacks.now in
     let u = c.pop_types.new.self in
@@ -28,14 +36,33 @@ returns-in_err-block_type g c =
     λ n. table_none md v c.requires.open_frame t.complete t.targets.now t.default u c.in_ok-pop_types.ensures.passed (ap (label_of u) (sym c.default.ensures) ∙ n) in
     meets_none md _ c.args.offset v u _ (search rules) (search (rules, none)) (search rules) c.pop_types.ensures.valid c.pop_types.ensures.kept
 
-pub returns-in_err-check_targets : goal.returns-in_err-check_targets
-returns-in_err-check_targets g c =
+pub returns-in_err-block_type-clause-memory : goal.returns-in_err-block_type-clause-memory
+returns-in_err-block_type-clause-memory g c =
+    let md = g.R.WasmModuleResources.context c.args.resources.now in
+    let v = c.args.stacks.now in
+    let u = c.pop_types.new.self in
+    let t = c.args.table in
+    let none : label_of u c.default.result ≡ None → step_body md (λ cx. flat (λ hs. br_table_row cx hs t.complete t.targets.now t.default)) v ≡ None =
+    λ n. table_none md v c.requires.open_frame t.complete t.targets.now t.default u c.in_ok-pop_types.ensures.passed (ap (label_of u) (sym c.default.ensures) ∙ n) in
+    search (rules, none)
+
+pub returns-in_err-check_targets-clause-visit : goal.returns-in_err-check_targets-clause-visit
+returns-in_err-check_targets-clause-visit g c =
     let md = g.R.WasmModuleResources.context c.args.resources.now in
     let v = c.args.stacks.now in
     let u = c.pop_types.new.self in
     let t = c.args.table in
     let none = table_other_targets md v c.requires.open_frame t.complete t.targets.now t.default c.pop_types.new.self c.in_ok-pop_types.ensures.passed c.in_ok-block_type.block_type c.in_ok-block_type.kind c.label_types-types.result.now (ap (label_of u) (sym c.default.ensures) ∙ c.in_ok-block_type.ensures.found) (c.label_types-types.ensures (context md v) refl) in
     meets_none md _ c.args.offset v u _ (search rules) (search (rules, none)) (search rules) c.pop_types.ensures.valid c.pop_types.ensures.kept
+
+pub returns-in_err-check_targets-clause-memory : goal.returns-in_err-check_targets-clause-memory
+returns-in_err-check_targets-clause-memory g c =
+    let md = g.R.WasmModuleResources.context c.args.resources.now in
+    let v = c.args.stacks.now in
+    let u = c.pop_types.new.self in
+    let t = c.args.table in
+    let none = table_other_targets md v c.requires.open_frame t.complete t.targets.now t.default c.pop_types.new.self c.in_ok-pop_types.ensures.passed c.in_ok-block_type.block_type c.in_ok-block_type.kind c.label_types-types.result.now (ap (label_of u) (sym c.default.ensures) ∙ c.in_ok-block_type.ensures.found) (c.label_types-types.ensures (context md v) refl) in
+    search (rules, none)
 
 pub pop_types-requires-2-clause-types : goal.pop_types-requires-2-clause-types
 pop_types-requires-2-clause-types g c =
@@ -46,8 +73,8 @@ pop_types-requires-2-clause-types g c =
     let laws = g.met.R.WasmModuleResources.lawful c.args.resources.now in
     label_valid md v t.default c.label_types-types.result.now laws c.requires.valid (types_table md v c.requires.open_frame t.complete t.targets.now t.default c.pop_types.new.self c.in_ok-pop_types.ensures.passed c.in_ok-block_type.block_type c.in_ok-block_type.kind c.label_types-types.result.now (ap (label_of u) (sym c.default.ensures) ∙ c.in_ok-block_type.ensures.found) (c.label_types-types.ensures (context md v) refl))
 
-pub returns-in_err-pop_types-2 : goal.returns-in_err-pop_types-2
-returns-in_err-pop_types-2 g c =
+pub returns-in_err-pop_types-2-clause-visit : goal.returns-in_err-pop_types-2-clause-visit
+returns-in_err-pop_types-2-clause-visit g c =
     let md = g.R.WasmModuleResources.context c.args.resources.now in
     let v = c.args.stacks.now in
     let u = c.pop_types.new.self in
@@ -56,8 +83,17 @@ returns-in_err-pop_types-2 g c =
     let none = table_refused md v c.requires.open_frame t.complete t.targets.now t.default c.pop_types.new.self c.in_ok-pop_types.ensures.passed c.in_ok-block_type.block_type c.in_ok-block_type.kind c.label_types-types.result.now (ap (label_of u) (sym c.default.ensures) ∙ c.in_ok-block_type.ensures.found) (c.label_types-types.ensures (context md v) refl) in
     meets_none md _ c.args.offset v w _ (search rules) (search (rules, none)) (search rules) c.pop_types-2.ensures.valid (kept_on v u w c.pop_types.ensures.kept c.pop_types-2.ensures.kept)
 
-pub returns : goal.returns
-returns g c =
+pub returns-in_err-pop_types-2-clause-memory : goal.returns-in_err-pop_types-2-clause-memory
+returns-in_err-pop_types-2-clause-memory g c =
+    let md = g.R.WasmModuleResources.context c.args.resources.now in
+    let v = c.args.stacks.now in
+    let u = c.pop_types.new.self in
+    let t = c.args.table in
+    let none = table_refused md v c.requires.open_frame t.complete t.targets.now t.default c.pop_types.new.self c.in_ok-pop_types.ensures.passed c.in_ok-block_type.block_type c.in_ok-block_type.kind c.label_types-types.result.now (ap (label_of u) (sym c.default.ensures) ∙ c.in_ok-block_type.ensures.found) (c.label_types-types.ensures (context md v) refl) in
+    search (rules, none)
+
+pub returns-clause-visit : goal.returns-clause-visit
+returns-clause-visit g c =
     let md = g.R.WasmModuleResources.context c.args.resources.now in
     let v = c.args.stacks.now in
     let u = c.pop_types.new.self in

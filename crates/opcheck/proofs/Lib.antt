@@ -1,3 +1,4 @@
+mod Access
 mod Indices
 pub mod Locals
 pub mod Reports

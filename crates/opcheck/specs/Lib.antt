@@ -1,7 +1,12 @@
 pub mod Numbers
 pub mod Status
 pub mod Owned
+pub mod Types
+pub mod Memory
+pub mod Globals
+pub mod Access
 pub mod Lines
+pub mod Module
 pub mod Begin
 pub mod Reports
 pub mod Texts

@@ -8,9 +8,13 @@ use mir.Syntax.{Width}
 abbrev pub IsIndex : List ℕ → Type 0
 IsIndex bs = IsNumeral 10 bs × (digits_value 10 bs < 2 ^ 32)
 
--- digits that write the bits of a float of 64 bits
-abbrev pub IsBits : List ℕ → Type 0
-IsBits bs = IsNumeral 10 bs × (digits_value 10 bs < 2 ^ 64)
+-- digits that write a number in the range of the exponent of an alignment
+abbrev pub IsExponent : List ℕ → Type 0
+IsExponent bs = IsNumeral 10 bs × (digits_value 10 bs < 2 ^ 8)
+
+-- digits that write a number of 64 bits
+abbrev pub IsLongNumber : List ℕ → Type 0
+IsLongNumber bs = IsNumeral 10 bs × (digits_value 10 bs < 2 ^ 64)
 
 -- the digits of a constant: all that follows its minus
 abbrev pub constant_digits : List ℕ → List ℕ

@@ -1,11 +1,12 @@
 //! Checking a script that was read.
 
-ghost use Rattle.std.specs.Prelude.{◌≡◌, ◌⊎◌, true, false, None, ◌<◌, length, IfOk, OnOk, IfErr};
+ghost use Rattle.std.specs.Prelude.{◌≡◌, ◌⊎◌, true, false, None, IfOk, OnOk, IfErr};
 ghost use Rattle.std.specs.List.{list_all};
 ghost use Rattle.validate_visit.specs.Immediates.{module_immediates};
-ghost use Rattle.validate_resources.specs.Lists.{context_of, declared_types};
+ghost use Rattle.validate_resources.specs.Lists.{context_of, declared, is_module};
 ghost use Rattle.validate_stacks.specs.State.{IsStarting};
 ghost use Rattle.wasmparser_validate.specs.Start.{state};
+ghost use Rattle.opcheck.specs.Module.{declared_by};
 ghost use Rattle.opcheck.specs.Begin.{IsExpressionStart, IsBodyStart, CannotStart, HasLocals, CannotBegin};
 ghost use Rattle.opcheck.specs.Owned.{op_values, owned_values};
 ghost use Rattle.opcheck.specs.Reports.{IsReport, may_be_body};
@@ -14,12 +15,12 @@ ghost use Rattle.opcheck.specs.declared.failure.Failure.{Failure};
 
 use crate::failure::{BadScript, Failure};
 use crate::script::owned::borrowed_ops;
-use crate::script::{Body, BodyLine, LocalLine, Script};
+use crate::script::{Body, BodyLine, Declarations, LocalLine, Script};
 use std::alloc::Global;
 use wasmparser_validate::operators::{OperatorValidator, OperatorValidatorAllocations, check_ops};
 use wasmparser_validate::resources::uses::laws;
 use wasmparser_validate::resources::{ModuleLists, WasmModuleResources};
-use wasmparser_validate::types::{Error, SubType, ValType, WasmFeatures};
+use wasmparser_validate::types::{Error, ValType, WasmFeatures};
 use wasmparser_validate::visit::{Op, has_module_immediates, is_well_ordered};
 
 /// What the validator says of a body.
@@ -34,12 +35,13 @@ pub struct Report {
 /// Checks a script: first its order, then its module, then its body. The operators that are checked
 /// are those of the script, with the same lists.
 pub fn check_script(alloc: Global, script: Script) -> Result<Report, Failure>
-    ensures report { IfOk result (λ report. (ops : _) × (op_values ops ≡ owned_values script.operators.items) × (may_be_body ops ≡ true) × IsReport (context_of script.types.items) script.features script.body script.locals.items ops report.heights.items report.outcome) }
-    ensures cause { IfErr result (λ failure. (failure ≡ Failure.OutOfMemory) ⊎ ((failure ≡ Failure.BadScript BadScript.Order) × ((ops : _) × (op_values ops ≡ owned_values script.operators.items) × (may_be_body ops ≡ false))) ⊎ ((failure ≡ Failure.BadScript BadScript.Module) × (1000000 < length script.types.items))) }
+    ensures module { OnOk result (is_module (declared_by script.declarations) ≡ true) }
+    ensures report { IfOk result (λ report. (ops : _) × (op_values ops ≡ owned_values script.operators.items) × (may_be_body ops ≡ true) × IsReport (context_of (declared_by script.declarations)) script.features script.body script.locals.items ops report.heights.items report.outcome) }
+    ensures cause { IfErr result (λ failure. (failure ≡ Failure.OutOfMemory) ⊎ ((failure ≡ Failure.BadScript BadScript.Order) × ((ops : _) × (op_values ops ≡ owned_values script.operators.items) × (may_be_body ops ≡ false))) ⊎ ((failure ≡ Failure.BadScript BadScript.Module) × (is_module (declared_by script.declarations) ≡ false))) }
 {
     let Script {
         features,
-        types,
+        declarations,
         body,
         locals,
         operators,
@@ -47,26 +49,27 @@ pub fn check_script(alloc: Global, script: Script) -> Result<Report, Failure>
     let Ok(ops) = borrowed_ops(alloc, &operators) else {
         return Err(Failure::OutOfMemory);
     };
-    check_operators(alloc, features, types, body, &locals, &ops)
+    check_operators(alloc, features, declarations, body, &locals, &ops)
 }
 
-/// Checks the operators of a body, in a module of these types, with these proposals on.
+/// Checks the operators of a body, in the module of these declarations, with these proposals on.
 fn check_operators(
     alloc: Global,
     features: WasmFeatures,
-    types: Vec<SubType>,
+    declarations: Declarations,
     line: BodyLine,
     locals: &[LocalLine],
     ops: &[(Op<'_>, u64)],
 ) -> Result<Report, Failure>
     ensures ordered { OnOk result (may_be_body ops.now ≡ true) }
-    ensures report { IfOk result (λ report. IsReport (context_of types.items) features line locals.now ops.now report.heights.items report.outcome) }
-    ensures cause { IfErr result (λ failure. ((failure ≡ Failure.BadScript BadScript.Order) × (may_be_body ops.now ≡ false)) ⊎ ((failure ≡ Failure.BadScript BadScript.Module) × (1000000 < length types.items))) }
+    ensures module { OnOk result (is_module (declared_by declarations) ≡ true) }
+    ensures report { IfOk result (λ report. IsReport (context_of (declared_by declarations)) features line locals.now ops.now report.heights.items report.outcome) }
+    ensures cause { IfErr result (λ failure. ((failure ≡ Failure.BadScript BadScript.Order) × (may_be_body ops.now ≡ false)) ⊎ ((failure ≡ Failure.BadScript BadScript.Module) × (is_module (declared_by declarations) ≡ false))) }
 {
     if !is_well_ordered(ops) || !have_module_immediates(ops) {
         return Err(Failure::BadScript(BadScript::Order));
     }
-    let module = module_of(alloc, types)?;
+    let module = module_of(alloc, declarations)?;
     let mut heights = Vec::new(alloc);
     let mut validator = match begin_body(alloc, &module, &features, line, locals) {
         Ok(validator) => validator,
@@ -89,12 +92,20 @@ fn have_module_immediates(operators: &[(Op<'_>, u64)]) -> bool
     operators.iter().all(|pair| has_module_immediates(&pair.0))
 }
 
-/// The module that declares these types.
-fn module_of(alloc: Global, types: Vec<SubType>) -> Result<ModuleLists, Failure>
-    ensures kept { IfOk result (λ lists. declared_types lists ≡ types.items) }
-    ensures cause { IfErr result (λ failure. (failure ≡ Failure.BadScript BadScript.Module) × (1000000 < length types.items)) }
+/// The module of these declarations.
+fn module_of(alloc: Global, declarations: Declarations) -> Result<ModuleLists, Failure>
+    ensures kept { IfOk result (λ lists. declared lists ≡ declared_by declarations) }
+    ensures module { OnOk result (is_module (declared_by declarations) ≡ true) }
+    ensures cause { IfErr result (λ failure. (failure ≡ Failure.BadScript BadScript.Module) × (is_module (declared_by declarations) ≡ false)) }
 {
-    ModuleLists::new(alloc, types).map_err(|error| {
+    let Declarations {
+        types,
+        functions,
+        memories,
+        globals,
+        data_count,
+    } = declarations;
+    ModuleLists::new(alloc, types, functions, memories, globals, data_count).map_err(|error| {
         if error.is_out_of_memory() {
             Failure::OutOfMemory
         } else {

@@ -14,7 +14,7 @@ pub enum BadScript {
     Line(u64),
     /// Its operators aren't well ordered.
     Order,
-    /// Its types are those of no module.
+    /// Its declarations are those of no module.
     Module,
 }
 

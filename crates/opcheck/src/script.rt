@@ -1,7 +1,11 @@
 //! A script, as it was read.
 
+pub mod access;
+pub mod atomic;
 pub mod features;
+pub mod globals;
 pub mod lines;
+pub mod memory;
 pub mod numbers;
 pub mod numeric;
 pub mod operators;
@@ -18,7 +22,8 @@ use crate::script::owned::OwnedOp;
 use crate::script::words::words_of;
 use bitflags::Flags;
 use std::alloc::Global;
-use wasmparser_validate::types::{SubType, ValType, WasmFeatures};
+use wasmparser_validate::resources::FuncDecl;
+use wasmparser_validate::types::{GlobalType, MemoryType, SubType, ValType, WasmFeatures};
 
 /// What the operators of a script are the body of.
 #[derive(Clone, Copy, Debug, PartialEq, Eq)]
@@ -49,13 +54,28 @@ pub struct LocalLine {
     pub offset: u64,
 }
 
+/// What the module of a script declares.
+#[derive(Drop)]
+pub struct Declarations {
+    /// Its types.
+    pub types: Vec<SubType>,
+    /// Its functions.
+    pub functions: Vec<FuncDecl>,
+    /// Its memories.
+    pub memories: Vec<MemoryType>,
+    /// Its globals.
+    pub globals: Vec<GlobalType>,
+    /// How many data segments it has, if it says so.
+    pub data_count: Option<u32>,
+}
+
 /// A script whose lines are all of the grammar, and in their places.
 #[derive(Drop)]
 pub struct Script {
     /// The proposals that are on.
     pub features: WasmFeatures,
-    /// The types that the module declares.
-    pub types: Vec<SubType>,
+    /// The module.
+    pub declarations: Declarations,
     /// The `func` or `expr` line.
     pub body: BodyLine,
     /// The `local` lines.
@@ -68,7 +88,7 @@ pub struct Script {
 #[derive(Drop)]
 struct Draft {
     features: Option<WasmFeatures>,
-    types: Vec<SubType>,
+    declarations: Declarations,
     body: Option<BodyLine>,
     locals: Vec<LocalLine>,
     operators: Vec<(OwnedOp, u64)>,
@@ -103,7 +123,13 @@ impl Draft {
     fn new(alloc: Global) -> Draft {
         Draft {
             features: None,
-            types: Vec::new(alloc),
+            declarations: Declarations {
+                types: Vec::new(alloc),
+                functions: Vec::new(alloc),
+                memories: Vec::new(alloc),
+                globals: Vec::new(alloc),
+                data_count: None,
+            },
             body: None,
             locals: Vec::new(alloc),
             operators: Vec::new(alloc),
@@ -138,21 +164,29 @@ impl Draft {
     /// Adds a line, if this is its place.
     fn add(&mut self, line: Line, offset: u64) -> Result<(), LineError>
         ensures added { OnOk result (AddsLine self.old self.new line offset) }
-        ensures bad { IsErrOf result LineError.Bad ↔ (may_stand line (part_of self.old) ≡ false) }
+        ensures bad { IsErrOf result LineError.Bad ↔ (may_stand line (part_of self.old) self.old.declarations.data_count ≡ false) }
     {
-        match (line, self.part()) {
-            (Line::Feature(named), Part::Module) => {
+        match (line, self.part(), self.declarations.data_count) {
+            (Line::Feature(named), Part::Module, _) => {
                 let before = self.features.unwrap_or(WasmFeatures::empty());
                 self.features = Some(before.union(named));
             }
-            (Line::SubType(ty), Part::Module) => self.types.push(ty)?,
-            (Line::Body(body), Part::Module) => {
+            (Line::SubType(ty), Part::Module, _) => self.declarations.types.push(ty)?,
+            (Line::Function(function), Part::Module, _) => {
+                self.declarations.functions.push(function)?;
+            }
+            (Line::Memory(ty), Part::Module, _) => self.declarations.memories.push(ty)?,
+            (Line::Global(ty), Part::Module, _) => self.declarations.globals.push(ty)?,
+            (Line::DataCount(count), Part::Module, None) => {
+                self.declarations.data_count = Some(count);
+            }
+            (Line::Body(body), Part::Module, _) => {
                 self.body = Some(BodyLine { body, offset });
             }
-            (Line::Locals(count, ty), Part::Locals) => {
+            (Line::Locals(count, ty), Part::Locals, _) => {
                 self.locals.push(LocalLine { count, ty, offset })?;
             }
-            (Line::Operator(op), Part::Locals | Part::Operators) => {
+            (Line::Operator(op), Part::Locals | Part::Operators, _) => {
                 self.operators.push((op, offset))?;
             }
             _ => return Err(LineError::Bad),
@@ -165,14 +199,14 @@ impl Draft {
     fn finish(self) -> Option<Script>
         ensures whole { IsSome result ↔ IsSome self.body }
         ensures features { IfSome result (λ script. script.features ≡ features_or_all self.features) }
-        ensures types { IfSome result (λ script. script.types ≡ self.types) }
+        ensures declarations { IfSome result (λ script. script.declarations ≡ self.declarations) }
         ensures body { IfSome result (λ script. self.body ≡ Some script.body) }
         ensures locals { IfSome result (λ script. script.locals ≡ self.locals) }
         ensures operators { IfSome result (λ script. script.operators ≡ self.operators) }
     {
         let Draft {
             features,
-            types,
+            declarations,
             body,
             locals,
             operators,
@@ -183,7 +217,7 @@ impl Draft {
         };
         Some(Script {
             features,
-            types,
+            declarations,
             body: body?,
             locals,
             operators,

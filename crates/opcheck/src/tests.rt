@@ -2,10 +2,14 @@
 
 mod blocks;
 mod branches;
+mod calls;
 mod expressions;
 mod fakes;
 mod features;
+mod globals;
 mod lines;
+mod memory;
+mod memory_names;
 mod numeric;
 mod operators;
 mod parts;
@@ -58,6 +62,31 @@ fn expect_refused(
 ) -> Result<(), Fail> {
     let out = format!(in rt.alloc(); "{before}refused {refusal}\nrefused\n")?;
     expect_body(rt, lines, out.as_str(), 1)
+}
+
+/// Runs the body of these lines in a module of these, and compares what it prints and the status.
+fn expect_in(
+    rt: &(impl Abort + AllocGlobal),
+    module: &str,
+    lines: &str,
+    out: &str,
+    status: u8,
+) -> Result<(), Fail> {
+    let script = format!(in rt.alloc(); "{module}\ntype func ->\nfunc 0\n{lines}")?;
+    expect_run(rt, script.as_bytes(), out, "", status)
+}
+
+/// Runs operators of which the last is refused, in a module of these lines, and compares what it prints
+/// before the refusal, and the refusal.
+fn expect_refused_in(
+    rt: &(impl Abort + AllocGlobal),
+    module: &str,
+    lines: &str,
+    before: &str,
+    refusal: &str,
+) -> Result<(), Fail> {
+    let out = format!(in rt.alloc(); "{before}refused {refusal}\nrefused\n")?;
+    expect_in(rt, module, lines, &out, 1)
 }
 
 /// Runs a bad script, and compares the cause.

@@ -1,6 +1,6 @@
 -- Runs of small bodies of the table's branches: where each label of a row leads, and what is carried there.
-use Rattle.std.proofs.Common.{◌≡◌, ℕ, ◌+◌, zero, suc, pos, true, false, List, [], ◌∷◌, drop, Some, refl, subst, slice_get}
-use Rattle.validate_resources.specs.Lists.{context_of}
+use Rattle.std.proofs.Common.{◌≡◌, ℕ, ◌+◌, zero, suc, pos, true, false, List, [], ◌∷◌, drop, Some, None, refl, subst, slice_get}
+use Rattle.validate_resources.specs.Lists.{Declared, context_of}
 use Rattle.validate_resources.specs.Lawful.{lawful_lists}
 use Rattle.validate_types.specs.Features.{multi_value, reference_types}
 use Rattle.validate_types.specs.declared.types.CompositeInnerType.TheVariants.{Func}
@@ -25,6 +25,9 @@ a_type params results =
 abbrev types : List SubType
 types = a_type [] [] ∷ a_type (I32 ∷ []) (I64 ∷ []) ∷ []
 
+abbrev declared : Declared
+declared = record { types = types; functions = []; memories = []; globals = []; data_count = None }
+
 abbrev to_nothing : BlockType
 to_nothing = FuncType 0
 
@@ -32,7 +35,7 @@ abbrev i32_to_i64 : BlockType
 i32_to_i64 = FuncType 1
 
 abbrev cx : Context
-cx = record { of_module = context_of types; features = record { 0 = multi_value + reference_types }; shared = false; locals = []; entry = [] }
+cx = record { of_module = context_of declared; features = record { 0 = multi_value + reference_types }; shared = false; locals = []; entry = [] }
 
 abbrev i32_const : Op
 i32_const = Numeric (I32Const (pos 0))
@@ -100,7 +103,7 @@ goes_on : Step cx looping (At 3 (in_loop (I32 ∷ I32 ∷ [])) []) (At 4 (in_loo
 goes_on = (operator cx (Control (BrIf 0)), refl, at_test, GoesOn (I32 ∷ []) (I32 ∷ []) refl refl refl (refl, tt) refl)
 
 looping_safe : IsTypeSafe cx looping to_nothing
-looping_safe = body_safety (context_of types) (lawful_lists types) cx looping_ops to_nothing refl ([], refl)
+looping_safe = body_safety (context_of declared) (lawful_lists declared) cx looping_ops to_nothing refl ([], refl)
 
 -- ---- a table of a target and a default, out of the outer of two blocks and out of the inner one
 
@@ -142,7 +145,7 @@ by_target = (
 )
 
 choosing_safe : IsTypeSafe cx choosing to_nothing
-choosing_safe = body_safety (context_of types) (lawful_lists types) cx choosing_ops to_nothing refl ([], refl)
+choosing_safe = body_safety (context_of declared) (lawful_lists declared) cx choosing_ops to_nothing refl ([], refl)
 
 -- ---- out of a block of other results
 
@@ -183,4 +186,4 @@ mixing_ops =
     i32_const ∷ Control (IfOp Empty) ∷ Control Return ∷ end ∷ i32_const ∷ Control (IfOp (Val I64)) ∷ Control Unreachable ∷ Control Select ∷ Control ElseOp ∷ i64_const ∷ i64_const ∷ i32_const ∷ Control (TypedSelect I64) ∷ end ∷ drops ∷ end ∷ []
 
 mixing_safe : IsTypeSafe cx (body cx mixing_ops) to_nothing
-mixing_safe = body_safety (context_of types) (lawful_lists types) cx mixing_ops to_nothing refl ([], refl)
+mixing_safe = body_safety (context_of declared) (lawful_lists declared) cx mixing_ops to_nothing refl ([], refl)

@@ -9,3 +9,5 @@ pub mod Blocks
 pub mod Handmade
 mod Examples
 mod ExamplesBranches
+mod ExamplesCalls
+mod ExamplesMemory

@@ -2,23 +2,31 @@
 use Rattle.std.proofs.Common.{◌≡◌, ℕ, zero, suc, pred, Bool, true, false, List, [], ◌∷◌, ◌++◌, length, map, take, Option, Some, None, refl, sym, ap, ◌∙◌, subst, slice_get}
 use Rattle.std.specs.Option.{option_map}
 use Rattle.validate_types.specs.Gates.{is_open}
-use Rattle.validate_types.specs.declared.gate.Gate.TheVariants.{ReferenceTypes}
+use Rattle.validate_types.specs.declared.gate.Gate.{Gate}
+use Rattle.validate_types.specs.declared.gate.Gate.TheVariants.{Mvp, Floats, ReferenceTypes, BulkMemory, BulkMemoryOpt, Threads, MemoryControl}
 use Rattle.validate_resources.specs.Context.{IsLawful, is_number, same_number}
+use Rattle.validate_types.specs.declared.types.GlobalType.{GlobalType}
 use Rattle.validate_visit.specs.declared.op.Op.{Op}
-use Rattle.validate_visit.specs.declared.op.Op.TheVariants.{Control, Numeric, Convert}
+use Rattle.validate_visit.specs.declared.op.Op.TheVariants.{Control, Numeric, Convert, Memory, Atomic}
 use Rattle.validate_visit.specs.declared.op.ControlOp.{ControlOp}
-use Rattle.validate_visit.specs.declared.op.ControlOp.TheVariants.{Unreachable, Nop, Block as BlockOp, Loop as LoopOp, If as IfOp, Else as ElseOp, End, Br, BrIf, BrTable, Return, Drop, Select, TypedSelect, TypedSelectMulti, LocalGet, LocalSet, LocalTee}
+use Rattle.validate_visit.specs.declared.op.ControlOp.TheVariants.{Unreachable, Nop, Block as BlockOp, Loop as LoopOp, If as IfOp, Else as ElseOp, End, Br, BrIf, BrTable, Return, Call, ReturnCall, Drop, Select, TypedSelect, TypedSelectMulti, LocalGet, LocalSet, LocalTee, GlobalGet, GlobalSet}
 use Rattle.validate_visit.specs.declared.op.NumericOp.{NumericOp}
 use Rattle.validate_visit.specs.declared.op.NumericOp.TheVariants.{I32Const, I64Const, F32Const, F64Const}
 use Rattle.validate_visit.specs.declared.op.ConvertOp.{ConvertOp}
 use Rattle.validate_visit.specs.declared.op.ConvertOp.TheVariants.{I32WrapI64}
-use Rattle.validation_rules.specs.Context.{ValType, I32, BlockType, Context, AllBelow, block_signature}
+use Rattle.validate_visit.specs.declared.op.MemoryOp.{MemoryOp}
+use Rattle.validate_visit.specs.declared.op.MemoryOp.TheVariants.{F32Load, F64Load, F32Store, F64Store, MemoryInit, DataDrop, MemoryCopy, MemoryFill, MemoryDiscard}
+use Rattle.validate_visit.specs.declared.op.AtomicOp.{AtomicOp}
+use Rattle.validate_visit.specs.declared.op.AtomicOp.TheVariants.{AtomicFence, Pause}
+use Rattle.validation_rules.specs.Calls.{global_type, callee}
+use Rattle.validation_rules.specs.Context.{Signature, ValType, I32, BlockType, Context, AllBelow, block_signature}
+use Rattle.validation_rules.specs.Access.{memory_index, copies}
 use Rattle.validation_rules.specs.Fits.{MaybeType, Known}
-use Rattle.validation_rules.specs.Rows.{FrameKind, Block, If, Loop, Head, params, BeginsElse, Ends, Plain, Looks, Operator, guard}
-use Rattle.validation_rules.specs.Table.{checked_block, opens, opener, alike, by_type, drops, selects, control_operator, numeric_row, convert_row, operator, body}
+use Rattle.validation_rules.specs.Rows.{FrameKind, Block, If, Loop, Head, params, BeginsElse, Ends, Plain, Looks, Row, Operator, guard}
+use Rattle.validation_rules.specs.Table.{plain, checked_block, opens, opener, alike, by_lookup, gated, drops, selects, control_operator, numeric_row, convert_row, memory_row, atomic_row, operator, body}
 use Rattle.validation_rules.proofs.Steps.{some_injective, guard_some}
 use Rattle.type_safety.specs.Theorem.{Falls, IsLawfulOperator}
-use Rattle.type_safety.proofs.Branches.{br_lawful, br_if_lawful, br_table_lawful}
+use Rattle.type_safety.proofs.Branches.{br_lawful, br_if_lawful, br_table_lawful, return_call_lawful}
 use Rattle.type_safety.proofs.Plain.{plain_falls, plain_below, below_front, no_target, flat_lawful, plain_lawful, looking_lawful, closing_lawful}
 
 module _ (cx : Context) (laws : IsLawful cx.of_module) where
@@ -64,7 +72,7 @@ module _ (cx : Context) (laws : IsLawful cx.of_module) where
   select_falls (x ∷ y ∷ z ∷ []) (a ∷ c ∷ d ∷ e ∷ ys) pushed b h = elim b.1.1.1 [ ]
 
   -- a row of a type is plain, and so is the one where there is no type
-  typed_lawful : (premise : Bool) (o : Option ValType) (reads sets : Option ℕ) (wanted push : ValType → List ValType) → IsLawfulOperator cx (alike (by_type o (λ t. record { premise = premise; reads = reads; operands = Plain (wanted t) [] (push t); sets = sets; targets = []; clauses = []; dead = false })))
+  typed_lawful : (premise : Bool) (o : Option ValType) (reads sets : Option ℕ) (wanted push : ValType → List ValType) → IsLawfulOperator cx (alike (by_lookup o (λ t. record { premise = premise; reads = reads; operands = Plain (wanted t) [] (push t); sets = sets; targets = []; clauses = []; dead = false })))
   typed_lawful premise None reads sets wanted push = plain_lawful cx laws false None None [] [] false
   typed_lawful premise (Some t) reads sets wanted push = plain_lawful cx laws premise reads sets (wanted t) (push t) false
 
@@ -84,6 +92,18 @@ module _ (cx : Context) (laws : IsLawful cx.of_module) where
   opener_lawful kind above declared (Some bt) = opens_lawful kind above true bt
   opener_lawful kind above declared None = opens_lawful kind above false declared
 
+  call_lawful : (o : Option Signature) → IsLawfulOperator cx (alike (by_lookup o (λ s. plain true s.params s.results)))
+  call_lawful None = plain_lawful cx laws _ _ _ _ _ _
+  call_lawful (Some s) = plain_lawful cx laws _ _ _ _ _ _
+
+  global_get_lawful : (o : Option GlobalType) → IsLawfulOperator cx (alike (by_lookup o (λ g. plain true [] (g.content_type ∷ []))))
+  global_get_lawful None = plain_lawful cx laws _ _ _ _ _ _
+  global_get_lawful (Some g) = plain_lawful cx laws _ _ _ _ _ _
+
+  global_set_lawful : (o : Option GlobalType) → IsLawfulOperator cx (alike (by_lookup o (λ g. plain g.mutable (g.content_type ∷ []) [])))
+  global_set_lawful None = plain_lawful cx laws _ _ _ _ _ _
+  global_set_lawful (Some g) = plain_lawful cx laws _ _ _ _ _ _
+
   control_lawful : (op : ControlOp) → IsLawfulOperator cx (control_operator cx op)
   control_lawful Unreachable = plain_lawful cx laws _ _ _ _ _ _
   control_lawful Nop = plain_lawful cx laws _ _ _ _ _ _
@@ -96,6 +116,8 @@ module _ (cx : Context) (laws : IsLawful cx.of_module) where
   control_lawful (BrIf d) = flat_lawful cx laws _ (λ hs. br_if_lawful cx laws hs d)
   control_lawful (BrTable table) = flat_lawful cx laws _ (λ hs. br_table_lawful cx laws hs table.complete table.targets.now table.default)
   control_lawful Return = flat_lawful cx laws _ (λ hs. br_lawful cx laws hs (pred (length hs)))
+  control_lawful (Call f) = call_lawful (callee cx f)
+  control_lawful (ReturnCall f) = flat_lawful cx laws _ (λ hs. return_call_lawful cx laws hs (callee cx f))
   control_lawful Drop = looking_lawful cx laws true 1 drops drop_falls
   control_lawful Select = looking_lawful cx laws true 3 (selects cx) select_falls
   control_lawful (TypedSelect t) = typed_lawful (is_open cx.features ReferenceTypes) (cx.of_module.canonical cx.features t) None None (λ u. u ∷ u ∷ I32 ∷ []) (λ u. u ∷ [])
@@ -103,6 +125,8 @@ module _ (cx : Context) (laws : IsLawful cx.of_module) where
   control_lawful (LocalGet i) = typed_lawful true (slice_get cx.locals i) (Some i) None (λ t. []) (λ t. t ∷ [])
   control_lawful (LocalSet i) = typed_lawful true (slice_get cx.locals i) None (Some i) (λ t. t ∷ []) (λ t. [])
   control_lawful (LocalTee i) = typed_lawful true (slice_get cx.locals i) None (Some i) (λ t. t ∷ []) (λ t. t ∷ [])
+  control_lawful (GlobalGet i) = global_get_lawful (global_type cx i)
+  control_lawful (GlobalSet i) = global_set_lawful (global_type cx i)
 
   -- all rows of the group are plain: a new one needs no clause
   numeric_lawful : (op : NumericOp) → IsLawfulOperator cx (alike (numeric_row cx op))
@@ -116,10 +140,34 @@ module _ (cx : Context) (laws : IsLawful cx.of_module) where
   convert_lawful I32WrapI64 = plain_lawful cx laws _ _ _ _ _ _
   convert_lawful _ = plain_lawful cx laws _ _ _ _ _ _
 
+  -- a row for an address is plain, and so is the one where there is no address
+  by_lookup_lawful : (gate : Gate) (o : Option ValType) (row : ValType → Row) → ((t : ValType) → IsLawfulOperator cx (alike (gated cx gate (row t)))) → IsLawfulOperator cx (alike (gated cx gate (by_lookup o row)))
+  by_lookup_lawful gate None row h = plain_lawful cx laws _ _ _ _ _ _
+  by_lookup_lawful gate (Some t) row h = h t
+
+  memory_lawful : (op : MemoryOp) → IsLawfulOperator cx (alike (memory_row cx op))
+  memory_lawful (F32Load arg) = by_lookup_lawful Floats _ _ (λ t. plain_lawful cx laws _ _ _ _ _ _)
+  memory_lawful (F64Load arg) = by_lookup_lawful Floats _ _ (λ t. plain_lawful cx laws _ _ _ _ _ _)
+  memory_lawful (F32Store arg) = by_lookup_lawful Floats _ _ (λ t. plain_lawful cx laws _ _ _ _ _ _)
+  memory_lawful (F64Store arg) = by_lookup_lawful Floats _ _ (λ t. plain_lawful cx laws _ _ _ _ _ _)
+  memory_lawful (MemoryInit segment m) = by_lookup_lawful BulkMemory _ _ (λ t. plain_lawful cx laws _ _ _ _ _ _)
+  memory_lawful (DataDrop segment) = plain_lawful cx laws _ _ _ _ _ _
+  memory_lawful (MemoryCopy dst src) = by_lookup_lawful BulkMemoryOpt _ (λ t. by_lookup (memory_index cx.of_module src) (copies t)) (λ t. by_lookup_lawful BulkMemoryOpt _ (copies t) (λ u. plain_lawful cx laws _ _ _ _ _ _))
+  memory_lawful (MemoryFill m) = by_lookup_lawful BulkMemoryOpt _ _ (λ t. plain_lawful cx laws _ _ _ _ _ _)
+  memory_lawful (MemoryDiscard m) = by_lookup_lawful MemoryControl _ _ (λ t. plain_lawful cx laws _ _ _ _ _ _)
+  memory_lawful _ = by_lookup_lawful Mvp _ _ (λ t. plain_lawful cx laws _ _ _ _ _ _)
+
+  atomic_lawful : (op : AtomicOp) → IsLawfulOperator cx (alike (atomic_row cx op))
+  atomic_lawful (AtomicFence ordering) = plain_lawful cx laws _ _ _ _ _ _
+  atomic_lawful Pause = plain_lawful cx laws _ _ _ _ _ _
+  atomic_lawful _ = by_lookup_lawful Threads _ _ (λ t. plain_lawful cx laws _ _ _ _ _ _)
+
   pub operator_lawful : (op : Op) → IsLawfulOperator cx (operator cx op)
   operator_lawful (Control op) = control_lawful op
   operator_lawful (Numeric op) = numeric_lawful op
   operator_lawful (Convert op) = convert_lawful op
+  operator_lawful (Memory op) = memory_lawful op
+  operator_lawful (Atomic op) = atomic_lawful op
 
   pub body_lawful : (ops : List Op) (j : ℕ) (op : Operator) → slice_get (body cx ops) j ≡ Some op → IsLawfulOperator cx op
   body_lawful [] j op e = absurd cc

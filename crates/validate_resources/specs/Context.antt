@@ -2,10 +2,12 @@
 -- (WebAssembly core specification, "Types" and "Validation: Matching").
 use Rattle.std.specs.Prelude.{◌≡◌, ℕ, Bool, true, false, Option, Some}
 use Rattle.std.specs.List.{AllByRecursion}
-use Rattle.validate_types.specs.Types.{Signature}
+use Rattle.validate_types.specs.Types.{Signature, index_type}
 use Rattle.validate_types.specs.declared.features.WasmFeatures.{WasmFeatures}
 use Rattle.validate_types.specs.declared.types.CompositeInnerType.{CompositeInnerType}
 use Rattle.validate_types.specs.declared.types.CompositeInnerType.TheVariants.{Func}
+use Rattle.validate_types.specs.declared.types.GlobalType.{GlobalType}
+use Rattle.validate_types.specs.declared.types.MemoryType.{MemoryType}
 use Rattle.validate_types.specs.declared.types.SubType.{SubType}
 use Rattle.validate_types.specs.declared.types.ValType.{ValType}
 use Rattle.validate_types.specs.declared.types.ValType.TheVariants.{I32, I64, F32, F64, V128}
@@ -15,6 +17,12 @@ use Rattle.validate_types.specs.declared.types.ValType.TheVariants.{I32, I64, F3
 -- features.
 pub record ModuleContext : Type 0 where
   pub type_at : ℕ → Option SubType
+  -- the index of a function's type
+  pub type_index_of : ℕ → Option ℕ
+  pub memory_at : ℕ → Option MemoryType
+  pub global_at : ℕ → Option GlobalType
+  -- how many data segments there are, where the module says so
+  pub data_count : Option ℕ
   pub valid : ValType → Bool
   -- false where either side isn't valid and canonical
   pub below : ValType → ValType → Bool
@@ -39,6 +47,12 @@ same_number F64 F64 = true
 same_number V128 V128 = true
 same_number _ _ = false
 
+-- a type of addresses
+abbrev pub is_index_type : ValType → Bool
+is_index_type I32 = true
+is_index_type I64 = true
+is_index_type _ = false
+
 abbrev pub inner_signature : CompositeInnerType → Signature
 inner_signature (Func f) = f
 
@@ -58,5 +72,8 @@ pub record IsLawful (cx : ModuleContext) : Type 0 where
   -- whatever a look-up hands out is valid and canonical
   pub params : (i : ℕ) (s : SubType) → cx.type_at i ≡ Some s → AllByRecursion (Valid cx) (signature_of s).params
   pub results : (i : ℕ) (s : SubType) → cx.type_at i ≡ Some s → AllByRecursion (Valid cx) (signature_of s).results
+  pub globals : (i : ℕ) (g : GlobalType) → cx.global_at i ≡ Some g → Valid cx g.content_type
+  -- addresses of a memory have 32 or 64 bits
+  pub memory_index : (i : ℕ) (m : MemoryType) → cx.memory_at i ≡ Some m → is_index_type (index_type m) ≡ true
   -- where a check passes, it writes a valid and canonical form
   pub checked : (features : WasmFeatures) (t u : ValType) → cx.canonical features t ≡ Some u → Valid cx u

@@ -9,8 +9,8 @@ ghost use Rattle.std.specs.Prelude.{◌≡◌, true, false, None, Some, OnOk, If
 ghost use Rattle.std.specs.Option.{option_copied};
 ghost use Rattle.validate_resources.specs.Context.{ModuleContext, IsLawful, Valid};
 
-pub use crate::lists::ModuleLists;
-use validate_types::{Error, SubType, ValType, WasmFeatures};
+pub use crate::lists::{FuncDecl, ModuleLists};
+use validate_types::{Error, GlobalType, MemoryType, SubType, ValType, WasmFeatures};
 
 /// What a module declares (wasmparser's `WasmModuleResources`).
 ///
@@ -20,6 +20,22 @@ use validate_types::{Error, SubType, ValType, WasmFeatures};
 pub trait WasmModuleResources {
     /// What the look-ups answer, the types that are valid and canonical, and the order on them.
     ghost context: { Self → ModuleContext };
+
+    /// The type of the memory at this index, or None past the end.
+    fn memory_at(&self, memory_index: u32) -> Option<MemoryType>
+        ensures { result ≡ (context self.now).memory_at memory_index };
+
+    /// The type of the global at this index, or None past the end.
+    fn global_at(&self, global_index: u32) -> Option<GlobalType>
+        ensures { result ≡ (context self.now).global_at global_index };
+
+    /// The index of the type of the function at this index, or None past the end.
+    fn type_index_of_function(&self, function_index: u32) -> Option<u32>
+        ensures { result ≡ (context self.now).type_index_of function_index };
+
+    /// How many data segments there are, or None where the module doesn't say.
+    fn data_count(&self) -> Option<u32>
+        ensures { result ≡ (context self.now).data_count };
 
     /// The type declared at this index, or None past the end.
     fn sub_type_at(&self, type_index: u32) -> Option<&SubType>

@@ -1,5 +1,7 @@
 pub mod Rows
 pub mod Meeting
+pub mod Addresses
+pub mod Calling
 pub mod Opening
 pub mod Branching
 pub mod Elses

@@ -12,7 +12,7 @@ use Rattle.validation_rules.specs.Context.{I32, Context}
 use Rattle.validation_rules.specs.Fits.{MaybeType, Bottom, Known, fits}
 use Rattle.validation_rules.specs.Rows.{Head, Flat, guard}
 use Rattle.validation_rules.specs.Static.{Frame, State, set_in, bind, then_after}
-use Rattle.validation_rules.specs.Table.{looking, plain, selected, selects, typed_select, by_type, alike}
+use Rattle.validation_rules.specs.Table.{looking, plain, selected, selects, typed_select, by_lookup, alike}
 use Rattle.validation_rules.specs.Valid.{OperandIsValid}
 use Rattle.validation_rules.proofs.Steps.{some_injective, guard_some}
 use Rattle.validate_stacks.specs.Pops.{passes, IsKept}
@@ -129,9 +129,9 @@ no_found cx (Some x) h = absurd cc
 -- ---- `select` with its type
 
 module _ (md : ModuleContext) (v : BodyState) (t : ValType) where
-  typed_as : (o : Option ValType) (b : Bool) → md.canonical v.features t ≡ o → is_open v.features ReferenceTypes ≡ b → step_body md (λ c. alike (typed_select c t)) v ≡ step_body md (λ c. alike (by_type o (λ u. plain b (u ∷ u ∷ I32 ∷ []) (u ∷ [])))) v
+  typed_as : (o : Option ValType) (b : Bool) → md.canonical v.features t ≡ o → is_open v.features ReferenceTypes ≡ b → step_body md (λ c. alike (typed_select c t)) v ≡ step_body md (λ c. alike (by_lookup o (λ u. plain b (u ∷ u ∷ I32 ∷ []) (u ∷ [])))) v
   typed_as o b ho hb =
-      same_row md v (λ c. alike (typed_select c t)) (alike (by_type o (λ u. plain b (u ∷ u ∷ I32 ∷ []) (u ∷ [])))) (ap₂ (λ o b. alike (by_type o (λ u. plain b (u ∷ u ∷ I32 ∷ []) (u ∷ [])))) ho hb)
+      same_row md v (λ c. alike (typed_select c t)) (alike (by_lookup o (λ u. plain b (u ∷ u ∷ I32 ∷ []) (u ∷ [])))) (ap₂ (λ o b. alike (by_lookup o (λ u. plain b (u ∷ u ∷ I32 ∷ []) (u ∷ [])))) ho hb)
 
   pub typed_closed : is_open v.features ReferenceTypes ≡ false → step_body md (λ c. alike (typed_select c t)) v ≡ None
   typed_closed h = by (md.canonical v.features t) refl

@@ -10,7 +10,7 @@ ghost use Rattle.wasmparser_validate.specs.State.{BodyState, IsStarting};
 ghost use Rattle.wasmparser_validate.specs.Static.{start};
 
 use crate::expect::{Wanted, expect_answer};
-use crate::fixture::{func_type, module_of, validator, validator_under};
+use crate::fixture::{func_type, module_of, module_of_types, validator, validator_under};
 use crate::ops::{
     DROP, EMPTY_BLOCK, END, I32_CONST, I32_EQZ, I64_CONST, block_of, if_of, local_get, loop_of,
     typed_block, typed_if, typed_loop,
@@ -193,7 +193,7 @@ fn a_shared_function_names_shared_types(rt: HostRuntime) -> Result<(), Fail> {
     shared.composite_type.shared = true;
     types.push(shared)?;
     types.push(func_type(&rt, &[], &[])?)?;
-    let lists = ModuleLists::new(rt.alloc(), types)?;
+    let lists = module_of_types(&rt, types)?;
     let mut v = validator(&rt, &lists)?;
     let own = typed_block(0);
     let text = "shared functions cannot access unshared functions";

@@ -73,20 +73,20 @@ pub fn expect_answer(
     }
     let mut noted = Vec::new(rt.alloc());
     match (check_any(v, list, lists, &mut noted), wanted) {
-        (Ok(closed), Wanted::Answer(wanted)) => assert_eq!(rt; closed, wanted),
+        (Ok(closed), Wanted::Answer(wanted)) => assert_eq!(rt; closed, wanted, "{ops:?}"),
         (Err((place, refusal)), Wanted::Refusal(wanted, text)) => {
-            assert_eq!(rt; place, wanted);
-            assert_eq!(rt; refusal.message(), text);
+            assert_eq!(rt; place, wanted, "{ops:?}");
+            assert_eq!(rt; refusal.message(), text, "{ops:?}");
             assert_eq!(rt; refusal.offset(), (wanted as u64).saturating_add(100));
             assert!(rt; !refusal.is_out_of_memory());
         }
-        (Ok(_), Wanted::Refusal(..)) => assert!(rt; false, "accepted"),
-        (Err(_), Wanted::Answer(_)) => assert!(rt; false, "refused"),
+        (Ok(_), Wanted::Refusal(..)) => assert!(rt; false, "accepted: {ops:?}"),
+        (Err(_), Wanted::Answer(_)) => assert!(rt; false, "refused: {ops:?}"),
     }
-    assert_eq!(rt; noted.as_slice(), heights);
-    assert_eq!(rt; v.operand_stack_height(), left.len());
+    assert_eq!(rt; noted.as_slice(), heights, "{ops:?}");
+    assert_eq!(rt; v.operand_stack_height(), left.len(), "{ops:?}");
     for (depth, ty) in left.iter().enumerate() {
-        assert_eq!(rt; v.peek_operand_at(depth), Some(*ty));
+        assert_eq!(rt; v.peek_operand_at(depth), Some(*ty), "{ops:?}");
     }
     Ok(())
 }

@@ -1,4 +1,4 @@
-//! A module of function types, and validators of bodies in it.
+//! Modules of function types, and validators of bodies in them.
 
 ghost use Rattle.std.specs.Prelude.{IfOk};
 ghost use Rattle.wasmparser_validate.specs.Start.{state};
@@ -7,7 +7,7 @@ ghost use Rattle.wasmparser_validate.specs.State.{IsStarting};
 use bitflags::Flags;
 use std::test::Fail;
 use wasmparser_validate::operators::{OperatorValidator, OperatorValidatorAllocations};
-use wasmparser_validate::resources::{ModuleLists, WasmModuleResources};
+use wasmparser_validate::resources::{FuncDecl, ModuleLists, WasmModuleResources};
 use wasmparser_validate::types::{
     CompositeInnerType, CompositeType, Error, FuncType, SubType, ValType, WasmFeatures,
 };
@@ -28,7 +28,48 @@ pub fn func_type(
     })
 }
 
-/// A module with these types, each with its parameters and its results, from index 0 on.
+/// A function type by its parts.
+#[derive(Clone, Copy)]
+pub struct Signature<'a> {
+    pub params: &'a [ValType],
+    pub results: &'a [ValType],
+    pub shared: bool,
+}
+
+impl<'a> Signature<'a> {
+    /// The type as a module declares it.
+    pub fn declared(self, rt: &impl AllocGlobal) -> Result<SubType, Fail> {
+        let mut sub_type = func_type(rt, self.params, self.results)?;
+        sub_type.composite_type.shared = self.shared;
+        Ok(sub_type)
+    }
+}
+
+/// Functions of the types at these indices.
+pub fn functions_of(rt: &impl AllocGlobal, type_indices: &[u32]) -> Result<Vec<FuncDecl>, Fail> {
+    let functions = type_indices
+        .iter()
+        .map(|index| FuncDecl { type_index: *index });
+    Ok(functions.collect(rt.alloc())?)
+}
+
+/// A module with these types and functions, and nothing else.
+pub fn module_with(
+    rt: &impl AllocGlobal,
+    types: Vec<SubType>,
+    functions: Vec<FuncDecl>,
+) -> Result<ModuleLists, Error> {
+    let memories = Vec::new(rt.alloc());
+    let globals = Vec::new(rt.alloc());
+    ModuleLists::new(rt.alloc(), types, functions, memories, globals, None)
+}
+
+/// A module with these types alone.
+pub fn module_of_types(rt: &impl AllocGlobal, types: Vec<SubType>) -> Result<ModuleLists, Error> {
+    module_with(rt, types, Vec::new(rt.alloc()))
+}
+
+/// A module with these types alone, each with its parameters and its results, from index 0 on.
 pub fn module_of(
     rt: &impl AllocGlobal,
     signatures: &[(&[ValType], &[ValType])],
@@ -37,7 +78,7 @@ pub fn module_of(
     for (params, results) in signatures {
         types.push(func_type(rt, params, results)?)?;
     }
-    Ok(ModuleLists::new(rt.alloc(), types)?)
+    Ok(module_of_types(rt, types)?)
 }
 
 /// A module with the one type `[params] -> [results]`, at index 0.

@@ -87,6 +87,14 @@ pub fn cut_br_table(targets: &[u32], default: u32) -> Op<'_> {
     }))
 }
 
+pub fn call(function: u32) -> Op<'static> {
+    Op::Control(ControlOp::Call(function))
+}
+
+pub fn return_call(function: u32) -> Op<'static> {
+    Op::Control(ControlOp::ReturnCall(function))
+}
+
 pub fn typed_select(ty: ValType) -> Op<'static> {
     Op::Control(ControlOp::TypedSelect(ty))
 }
@@ -105,4 +113,12 @@ pub fn local_set(index: u32) -> Op<'static> {
 
 pub fn local_tee(index: u32) -> Op<'static> {
     Op::Control(ControlOp::LocalTee(index))
+}
+
+pub fn global_get(index: u32) -> Op<'static> {
+    Op::Control(ControlOp::GlobalGet(index))
+}
+
+pub fn global_set(index: u32) -> Op<'static> {
+    Op::Control(ControlOp::GlobalSet(index))
 }

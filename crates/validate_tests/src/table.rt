@@ -1,18 +1,9 @@
 //! What each numeric operator takes and gives, and the proposal that it needs: the table that the
 //! tests of `numeric` run through. It is written out from the standard, by the operators' names.
 
+use crate::rows::Needs;
 use wasmparser_validate::types::ValType::{self, F32, F64, I32, I64};
 use wasmparser_validate::visit::{ConvertOp, Ieee32, Ieee64, NumericOp, Op};
-
-/// The proposal that an operator needs, if it needs one.
-#[derive(Clone, Copy)]
-pub enum Needs {
-    Nothing,
-    Floats,
-    SignExtension,
-    SaturatingFloatToInt,
-    WideArithmetic,
-}
 
 /// An operator, what it takes, what it gives, the last of each on top, and what it needs.
 pub type Entry = (Op<'static>, &'static [ValType], &'static [ValType], Needs);

@@ -14,12 +14,24 @@ pub enum Gate {
     Floats,
     /// The proposal `reference_types`.
     ReferenceTypes,
+    /// The proposal `bulk_memory`.
+    BulkMemory,
+    /// The part of `bulk_memory` that can be on without the rest: `bulk_memory_opt`.
+    BulkMemoryOpt,
     /// The proposal `sign_extension`.
     SignExtension,
     /// The proposal `saturating_float_to_int`.
     SaturatingFloatToInt,
+    /// The proposal `threads`.
+    Threads,
+    /// The proposal `tail_call`.
+    TailCall,
+    /// The proposal `memory_control`.
+    MemoryControl,
     /// The proposal `wide_arithmetic`.
     WideArithmetic,
+    /// The proposal `acquire_release_atomics`.
+    AcquireReleaseAtomics,
 }
 
 impl Gate {
@@ -31,9 +43,15 @@ impl Gate {
             Gate::Mvp => true,
             Gate::Floats => features.floats(),
             Gate::ReferenceTypes => features.reference_types(),
+            Gate::BulkMemory => features.bulk_memory(),
+            Gate::BulkMemoryOpt => features.bulk_memory_opt(),
             Gate::SignExtension => features.sign_extension(),
             Gate::SaturatingFloatToInt => features.saturating_float_to_int(),
+            Gate::Threads => features.threads(),
+            Gate::TailCall => features.tail_call(),
+            Gate::MemoryControl => features.memory_control(),
             Gate::WideArithmetic => features.wide_arithmetic(),
+            Gate::AcquireReleaseAtomics => features.acquire_release_atomics(),
         }
     }
 
@@ -43,11 +61,16 @@ impl Gate {
             Gate::Mvp => "unknown operator",
             Gate::Floats => "floating-point instruction disallowed",
             Gate::ReferenceTypes => "reference types support is not enabled",
+            Gate::BulkMemory | Gate::BulkMemoryOpt => "bulk memory support is not enabled",
             Gate::SignExtension => "sign extension operations support is not enabled",
             Gate::SaturatingFloatToInt => {
                 "saturating float to int conversions support is not enabled"
             }
+            Gate::Threads => "threads support is not enabled",
+            Gate::TailCall => "tail calls support is not enabled",
+            Gate::MemoryControl => "memory control support is not enabled",
             Gate::WideArithmetic => "wide arithmetic support is not enabled",
+            Gate::AcquireReleaseAtomics => "acquire-release atomics support is not enabled",
         }
     }
 }

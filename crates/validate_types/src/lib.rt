@@ -10,4 +10,7 @@ pub mod types;
 pub use crate::error::{Error, OutOfMemory};
 pub use crate::features::WasmFeatures;
 pub use crate::gate::Gate;
-pub use crate::types::{CompositeInnerType, CompositeType, FuncType, MaybeType, SubType, ValType};
+pub use crate::types::{
+    CompositeInnerType, CompositeType, FuncType, GlobalType, MaybeType, MemoryType, SubType,
+    ValType,
+};

@@ -1,6 +1,7 @@
 //! Value types, and the types that a module declares (WebAssembly core specification, "Types").
 
 ghost use Rattle.std.specs.Prelude.{◌≡◌, true};
+ghost use Rattle.validate_types.specs.Types.{index_type as type_of_addresses};
 
 use std::marker::Model;
 
@@ -114,4 +115,37 @@ pub struct SubType {
     pub is_final: bool,
     /// What it is made of.
     pub composite_type: CompositeType,
+}
+
+/// The type of a memory (wasmparser's `MemoryType`), without its limits.
+#[derive(Clone, Copy, Debug, PartialEq, Eq)]
+pub struct MemoryType {
+    /// Whether its addresses have 64 bits.
+    pub memory64: bool,
+    /// Whether it is shared.
+    pub shared: bool,
+}
+
+impl MemoryType {
+    /// The type of its addresses: `i64` where it is marked as one of 64 bits, else `i32`.
+    pub fn index_type(&self) -> ValType
+        ensures { result ≡ type_of_addresses self.now }
+    {
+        if self.memory64 {
+            ValType::I64
+        } else {
+            ValType::I32
+        }
+    }
+}
+
+/// The type of a global (wasmparser's `GlobalType`).
+#[derive(Clone, Copy, Debug, PartialEq, Eq)]
+pub struct GlobalType {
+    /// The type of its value.
+    pub content_type: ValType,
+    /// Whether it can be written.
+    pub mutable: bool,
+    /// Whether it is shared.
+    pub shared: bool,
 }

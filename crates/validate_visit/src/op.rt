@@ -2,11 +2,12 @@
 
 ghost use Rattle.std.specs.Prelude.{◌≡◌};
 ghost use Rattle.std.specs.List.{list_all};
-ghost use Rattle.validate_visit.specs.Immediates.{module_immediates, control_immediates, block_immediates, table_immediates, numeric_immediates, is_index};
+ghost use Rattle.validate_visit.specs.Immediates.{module_immediates, control_immediates, block_immediates, table_immediates, numeric_immediates, memory_immediates, atomic_immediates, access_immediates, is_index};
 
 use crate::br_table::BrTable;
 use crate::frame::BlockType;
 use crate::ieee::{Ieee32, Ieee64};
+use crate::memory::{MemArg, MemArgTarget, Ordering};
 use validate_types::ValType;
 
 /// Operators on control and variables, and on operands of any type.
@@ -34,6 +35,10 @@ pub enum ControlOp<'a> {
     BrTable(BrTable<'a>),
     /// `return`
     Return,
+    /// `call` of the function at this index.
+    Call(u32),
+    /// `return_call` of the function at this index.
+    ReturnCall(u32),
     /// `drop`
     Drop,
     /// `select` without a type.
@@ -48,6 +53,10 @@ pub enum ControlOp<'a> {
     LocalSet(u32),
     /// `local.tee` of the local at this index.
     LocalTee(u32),
+    /// `global.get` of the global at this index.
+    GlobalGet(u32),
+    /// `global.set` of the global at this index.
+    GlobalSet(u32),
 }
 
 /// Operators on numbers of one type, and constants.
@@ -348,6 +357,222 @@ pub enum ConvertOp {
     I64TruncSatF64U,
 }
 
+/// Operators on memories.
+#[derive(Clone, Copy, Debug, PartialEq, Eq)]
+pub enum MemoryOp {
+    /// `i32.load`
+    I32Load(MemArg),
+    /// `i64.load`
+    I64Load(MemArg),
+    /// `f32.load`
+    F32Load(MemArg),
+    /// `f64.load`
+    F64Load(MemArg),
+    /// `i32.load8_s`
+    I32Load8S(MemArg),
+    /// `i32.load8_u`
+    I32Load8U(MemArg),
+    /// `i32.load16_s`
+    I32Load16S(MemArg),
+    /// `i32.load16_u`
+    I32Load16U(MemArg),
+    /// `i64.load8_s`
+    I64Load8S(MemArg),
+    /// `i64.load8_u`
+    I64Load8U(MemArg),
+    /// `i64.load16_s`
+    I64Load16S(MemArg),
+    /// `i64.load16_u`
+    I64Load16U(MemArg),
+    /// `i64.load32_s`
+    I64Load32S(MemArg),
+    /// `i64.load32_u`
+    I64Load32U(MemArg),
+    /// `i32.store`
+    I32Store(MemArg),
+    /// `i64.store`
+    I64Store(MemArg),
+    /// `f32.store`
+    F32Store(MemArg),
+    /// `f64.store`
+    F64Store(MemArg),
+    /// `i32.store8`
+    I32Store8(MemArg),
+    /// `i32.store16`
+    I32Store16(MemArg),
+    /// `i64.store8`
+    I64Store8(MemArg),
+    /// `i64.store16`
+    I64Store16(MemArg),
+    /// `i64.store32`
+    I64Store32(MemArg),
+    /// `memory.size` of the memory at this index.
+    MemorySize(u32),
+    /// `memory.grow` of the memory at this index.
+    MemoryGrow(u32),
+    /// `memory.init`
+    MemoryInit {
+        /// The data segment at this index.
+        data_index: u32,
+        /// The memory at this index.
+        mem: u32,
+    },
+    /// `data.drop` of the data segment at this index.
+    DataDrop(u32),
+    /// `memory.copy`
+    MemoryCopy {
+        /// The memory at this index is written.
+        dst_mem: u32,
+        /// The memory at this index is read.
+        src_mem: u32,
+    },
+    /// `memory.fill` of the memory at this index.
+    MemoryFill(u32),
+    /// `memory.discard` of the memory at this index.
+    MemoryDiscard(u32),
+}
+
+/// Atomic operators on memories, fences and pauses.
+#[derive(Clone, Copy, Debug, PartialEq, Eq)]
+pub enum AtomicOp {
+    /// `memory.atomic.notify`
+    MemoryAtomicNotify(MemArg),
+    /// `memory.atomic.wait32`
+    MemoryAtomicWait32(MemArg),
+    /// `memory.atomic.wait64`
+    MemoryAtomicWait64(MemArg),
+    /// `atomic.fence` of this ordering.
+    AtomicFence(Ordering),
+    /// `i32.atomic.load`
+    I32AtomicLoad(MemArg),
+    /// `i64.atomic.load`
+    I64AtomicLoad(MemArg),
+    /// `i32.atomic.load8_u`
+    I32AtomicLoad8U(MemArg),
+    /// `i32.atomic.load16_u`
+    I32AtomicLoad16U(MemArg),
+    /// `i64.atomic.load8_u`
+    I64AtomicLoad8U(MemArg),
+    /// `i64.atomic.load16_u`
+    I64AtomicLoad16U(MemArg),
+    /// `i64.atomic.load32_u`
+    I64AtomicLoad32U(MemArg),
+    /// `i32.atomic.store`
+    I32AtomicStore(MemArg),
+    /// `i64.atomic.store`
+    I64AtomicStore(MemArg),
+    /// `i32.atomic.store8`
+    I32AtomicStore8(MemArg),
+    /// `i32.atomic.store16`
+    I32AtomicStore16(MemArg),
+    /// `i64.atomic.store8`
+    I64AtomicStore8(MemArg),
+    /// `i64.atomic.store16`
+    I64AtomicStore16(MemArg),
+    /// `i64.atomic.store32`
+    I64AtomicStore32(MemArg),
+    /// `i32.atomic.rmw.add`
+    I32AtomicRmwAdd(MemArg),
+    /// `i64.atomic.rmw.add`
+    I64AtomicRmwAdd(MemArg),
+    /// `i32.atomic.rmw8.add_u`
+    I32AtomicRmw8AddU(MemArg),
+    /// `i32.atomic.rmw16.add_u`
+    I32AtomicRmw16AddU(MemArg),
+    /// `i64.atomic.rmw8.add_u`
+    I64AtomicRmw8AddU(MemArg),
+    /// `i64.atomic.rmw16.add_u`
+    I64AtomicRmw16AddU(MemArg),
+    /// `i64.atomic.rmw32.add_u`
+    I64AtomicRmw32AddU(MemArg),
+    /// `i32.atomic.rmw.sub`
+    I32AtomicRmwSub(MemArg),
+    /// `i64.atomic.rmw.sub`
+    I64AtomicRmwSub(MemArg),
+    /// `i32.atomic.rmw8.sub_u`
+    I32AtomicRmw8SubU(MemArg),
+    /// `i32.atomic.rmw16.sub_u`
+    I32AtomicRmw16SubU(MemArg),
+    /// `i64.atomic.rmw8.sub_u`
+    I64AtomicRmw8SubU(MemArg),
+    /// `i64.atomic.rmw16.sub_u`
+    I64AtomicRmw16SubU(MemArg),
+    /// `i64.atomic.rmw32.sub_u`
+    I64AtomicRmw32SubU(MemArg),
+    /// `i32.atomic.rmw.and`
+    I32AtomicRmwAnd(MemArg),
+    /// `i64.atomic.rmw.and`
+    I64AtomicRmwAnd(MemArg),
+    /// `i32.atomic.rmw8.and_u`
+    I32AtomicRmw8AndU(MemArg),
+    /// `i32.atomic.rmw16.and_u`
+    I32AtomicRmw16AndU(MemArg),
+    /// `i64.atomic.rmw8.and_u`
+    I64AtomicRmw8AndU(MemArg),
+    /// `i64.atomic.rmw16.and_u`
+    I64AtomicRmw16AndU(MemArg),
+    /// `i64.atomic.rmw32.and_u`
+    I64AtomicRmw32AndU(MemArg),
+    /// `i32.atomic.rmw.or`
+    I32AtomicRmwOr(MemArg),
+    /// `i64.atomic.rmw.or`
+    I64AtomicRmwOr(MemArg),
+    /// `i32.atomic.rmw8.or_u`
+    I32AtomicRmw8OrU(MemArg),
+    /// `i32.atomic.rmw16.or_u`
+    I32AtomicRmw16OrU(MemArg),
+    /// `i64.atomic.rmw8.or_u`
+    I64AtomicRmw8OrU(MemArg),
+    /// `i64.atomic.rmw16.or_u`
+    I64AtomicRmw16OrU(MemArg),
+    /// `i64.atomic.rmw32.or_u`
+    I64AtomicRmw32OrU(MemArg),
+    /// `i32.atomic.rmw.xor`
+    I32AtomicRmwXor(MemArg),
+    /// `i64.atomic.rmw.xor`
+    I64AtomicRmwXor(MemArg),
+    /// `i32.atomic.rmw8.xor_u`
+    I32AtomicRmw8XorU(MemArg),
+    /// `i32.atomic.rmw16.xor_u`
+    I32AtomicRmw16XorU(MemArg),
+    /// `i64.atomic.rmw8.xor_u`
+    I64AtomicRmw8XorU(MemArg),
+    /// `i64.atomic.rmw16.xor_u`
+    I64AtomicRmw16XorU(MemArg),
+    /// `i64.atomic.rmw32.xor_u`
+    I64AtomicRmw32XorU(MemArg),
+    /// `i32.atomic.rmw.xchg`
+    I32AtomicRmwXchg(MemArg),
+    /// `i64.atomic.rmw.xchg`
+    I64AtomicRmwXchg(MemArg),
+    /// `i32.atomic.rmw8.xchg_u`
+    I32AtomicRmw8XchgU(MemArg),
+    /// `i32.atomic.rmw16.xchg_u`
+    I32AtomicRmw16XchgU(MemArg),
+    /// `i64.atomic.rmw8.xchg_u`
+    I64AtomicRmw8XchgU(MemArg),
+    /// `i64.atomic.rmw16.xchg_u`
+    I64AtomicRmw16XchgU(MemArg),
+    /// `i64.atomic.rmw32.xchg_u`
+    I64AtomicRmw32XchgU(MemArg),
+    /// `i32.atomic.rmw.cmpxchg`
+    I32AtomicRmwCmpxchg(MemArg),
+    /// `i64.atomic.rmw.cmpxchg`
+    I64AtomicRmwCmpxchg(MemArg),
+    /// `i32.atomic.rmw8.cmpxchg_u`
+    I32AtomicRmw8CmpxchgU(MemArg),
+    /// `i32.atomic.rmw16.cmpxchg_u`
+    I32AtomicRmw16CmpxchgU(MemArg),
+    /// `i64.atomic.rmw8.cmpxchg_u`
+    I64AtomicRmw8CmpxchgU(MemArg),
+    /// `i64.atomic.rmw16.cmpxchg_u`
+    I64AtomicRmw16CmpxchgU(MemArg),
+    /// `i64.atomic.rmw32.cmpxchg_u`
+    I64AtomicRmw32CmpxchgU(MemArg),
+    /// `pause`
+    Pause,
+}
+
 /// An operator with its immediates (in place of wasmparser's `Operator`, which has no groups).
 #[derive(Clone, Copy, Debug, PartialEq, Eq)]
 pub enum Op<'a> {
@@ -357,6 +582,10 @@ pub enum Op<'a> {
     Numeric(NumericOp),
     /// A conversion of numbers.
     Convert(ConvertOp),
+    /// An operator on memories.
+    Memory(MemoryOp),
+    /// An atomic operator on memories.
+    Atomic(AtomicOp),
 }
 
 /// Whether the immediates are those of a module: no type among them holds an id, and each number lies
@@ -369,6 +598,8 @@ pub fn has_module_immediates(op: &Op<'_>) -> bool
         Op::Control(op) => has_control_immediates(*op),
         Op::Numeric(op) => has_numeric_immediates(*op),
         Op::Convert(_) => true,
+        Op::Memory(op) => has_memory_immediates(*op),
+        Op::Atomic(op) => has_atomic_immediates(*op),
     }
 }
 
@@ -379,9 +610,13 @@ fn has_control_immediates(op: ControlOp<'_>) -> bool
         ControlOp::Block(ty) | ControlOp::Loop(ty) | ControlOp::If(ty) => has_block_immediates(ty),
         ControlOp::Br(index)
         | ControlOp::BrIf(index)
+        | ControlOp::Call(index)
+        | ControlOp::ReturnCall(index)
         | ControlOp::LocalGet(index)
         | ControlOp::LocalSet(index)
-        | ControlOp::LocalTee(index) => is_in_range(index),
+        | ControlOp::LocalTee(index)
+        | ControlOp::GlobalGet(index)
+        | ControlOp::GlobalSet(index) => is_in_range(index),
         ControlOp::BrTable(table) => has_table_immediates(table),
         _ => true,
     }
@@ -425,4 +660,125 @@ fn has_numeric_immediates(op: NumericOp) -> bool
         NumericOp::F64Const(value) => value.bits() <= u64::MAX,
         _ => true,
     }
+}
+
+fn has_memory_immediates(op: MemoryOp) -> bool
+    ensures { result ≡ memory_immediates op }
+{
+    match op {
+        MemoryOp::MemorySize(index)
+        | MemoryOp::MemoryGrow(index)
+        | MemoryOp::MemoryFill(index)
+        | MemoryOp::MemoryDiscard(index)
+        | MemoryOp::DataDrop(index) => is_in_range(index),
+        MemoryOp::MemoryInit { data_index, mem } => is_in_range(data_index) && is_in_range(mem),
+        MemoryOp::MemoryCopy { dst_mem, src_mem } => is_in_range(dst_mem) && is_in_range(src_mem),
+        MemoryOp::I32Load(memarg)
+        | MemoryOp::I64Load(memarg)
+        | MemoryOp::F32Load(memarg)
+        | MemoryOp::F64Load(memarg)
+        | MemoryOp::I32Load8S(memarg)
+        | MemoryOp::I32Load8U(memarg)
+        | MemoryOp::I32Load16S(memarg)
+        | MemoryOp::I32Load16U(memarg)
+        | MemoryOp::I64Load8S(memarg)
+        | MemoryOp::I64Load8U(memarg)
+        | MemoryOp::I64Load16S(memarg)
+        | MemoryOp::I64Load16U(memarg)
+        | MemoryOp::I64Load32S(memarg)
+        | MemoryOp::I64Load32U(memarg)
+        | MemoryOp::I32Store(memarg)
+        | MemoryOp::I64Store(memarg)
+        | MemoryOp::F32Store(memarg)
+        | MemoryOp::F64Store(memarg)
+        | MemoryOp::I32Store8(memarg)
+        | MemoryOp::I32Store16(memarg)
+        | MemoryOp::I64Store8(memarg)
+        | MemoryOp::I64Store16(memarg)
+        | MemoryOp::I64Store32(memarg) => has_access_immediates(memarg),
+    }
+}
+
+fn has_atomic_immediates(op: AtomicOp) -> bool
+    ensures { result ≡ atomic_immediates op }
+{
+    match op {
+        AtomicOp::AtomicFence(_) | AtomicOp::Pause => true,
+        AtomicOp::MemoryAtomicNotify(memarg)
+        | AtomicOp::MemoryAtomicWait32(memarg)
+        | AtomicOp::MemoryAtomicWait64(memarg)
+        | AtomicOp::I32AtomicLoad(memarg)
+        | AtomicOp::I64AtomicLoad(memarg)
+        | AtomicOp::I32AtomicLoad8U(memarg)
+        | AtomicOp::I32AtomicLoad16U(memarg)
+        | AtomicOp::I64AtomicLoad8U(memarg)
+        | AtomicOp::I64AtomicLoad16U(memarg)
+        | AtomicOp::I64AtomicLoad32U(memarg)
+        | AtomicOp::I32AtomicStore(memarg)
+        | AtomicOp::I64AtomicStore(memarg)
+        | AtomicOp::I32AtomicStore8(memarg)
+        | AtomicOp::I32AtomicStore16(memarg)
+        | AtomicOp::I64AtomicStore8(memarg)
+        | AtomicOp::I64AtomicStore16(memarg)
+        | AtomicOp::I64AtomicStore32(memarg)
+        | AtomicOp::I32AtomicRmwAdd(memarg)
+        | AtomicOp::I64AtomicRmwAdd(memarg)
+        | AtomicOp::I32AtomicRmw8AddU(memarg)
+        | AtomicOp::I32AtomicRmw16AddU(memarg)
+        | AtomicOp::I64AtomicRmw8AddU(memarg)
+        | AtomicOp::I64AtomicRmw16AddU(memarg)
+        | AtomicOp::I64AtomicRmw32AddU(memarg)
+        | AtomicOp::I32AtomicRmwSub(memarg)
+        | AtomicOp::I64AtomicRmwSub(memarg)
+        | AtomicOp::I32AtomicRmw8SubU(memarg)
+        | AtomicOp::I32AtomicRmw16SubU(memarg)
+        | AtomicOp::I64AtomicRmw8SubU(memarg)
+        | AtomicOp::I64AtomicRmw16SubU(memarg)
+        | AtomicOp::I64AtomicRmw32SubU(memarg)
+        | AtomicOp::I32AtomicRmwAnd(memarg)
+        | AtomicOp::I64AtomicRmwAnd(memarg)
+        | AtomicOp::I32AtomicRmw8AndU(memarg)
+        | AtomicOp::I32AtomicRmw16AndU(memarg)
+        | AtomicOp::I64AtomicRmw8AndU(memarg)
+        | AtomicOp::I64AtomicRmw16AndU(memarg)
+        | AtomicOp::I64AtomicRmw32AndU(memarg)
+        | AtomicOp::I32AtomicRmwOr(memarg)
+        | AtomicOp::I64AtomicRmwOr(memarg)
+        | AtomicOp::I32AtomicRmw8OrU(memarg)
+        | AtomicOp::I32AtomicRmw16OrU(memarg)
+        | AtomicOp::I64AtomicRmw8OrU(memarg)
+        | AtomicOp::I64AtomicRmw16OrU(memarg)
+        | AtomicOp::I64AtomicRmw32OrU(memarg)
+        | AtomicOp::I32AtomicRmwXor(memarg)
+        | AtomicOp::I64AtomicRmwXor(memarg)
+        | AtomicOp::I32AtomicRmw8XorU(memarg)
+        | AtomicOp::I32AtomicRmw16XorU(memarg)
+        | AtomicOp::I64AtomicRmw8XorU(memarg)
+        | AtomicOp::I64AtomicRmw16XorU(memarg)
+        | AtomicOp::I64AtomicRmw32XorU(memarg)
+        | AtomicOp::I32AtomicRmwXchg(memarg)
+        | AtomicOp::I64AtomicRmwXchg(memarg)
+        | AtomicOp::I32AtomicRmw8XchgU(memarg)
+        | AtomicOp::I32AtomicRmw16XchgU(memarg)
+        | AtomicOp::I64AtomicRmw8XchgU(memarg)
+        | AtomicOp::I64AtomicRmw16XchgU(memarg)
+        | AtomicOp::I64AtomicRmw32XchgU(memarg)
+        | AtomicOp::I32AtomicRmwCmpxchg(memarg)
+        | AtomicOp::I64AtomicRmwCmpxchg(memarg)
+        | AtomicOp::I32AtomicRmw8CmpxchgU(memarg)
+        | AtomicOp::I32AtomicRmw16CmpxchgU(memarg)
+        | AtomicOp::I64AtomicRmw8CmpxchgU(memarg)
+        | AtomicOp::I64AtomicRmw16CmpxchgU(memarg)
+        | AtomicOp::I64AtomicRmw32CmpxchgU(memarg) => has_access_immediates(memarg),
+    }
+}
+
+fn has_access_immediates(memarg: MemArg) -> bool
+    ensures { result ≡ access_immediates memarg }
+{
+    let MemArgTarget::Memory(index) = memarg.target;
+    memarg.align <= u8::MAX
+        && memarg.max_align <= u8::MAX
+        && memarg.offset <= u64::MAX
+        && is_in_range(index)
 }

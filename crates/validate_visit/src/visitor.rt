@@ -5,7 +5,8 @@ ghost use Rattle.validate_visit.specs.declared.op.Op.{Op};
 use crate::br_table::BrTable;
 use crate::frame::BlockType;
 use crate::ieee::{Ieee32, Ieee64};
-use crate::op::{ControlOp, ConvertOp, NumericOp, Op};
+use crate::memory::{MemArg, Ordering};
+use crate::op::{AtomicOp, ControlOp, ConvertOp, MemoryOp, NumericOp, Op};
 use validate_types::ValType;
 
 /// Visits operators (wasmparser's `VisitOperator`): one call for each operator, with its immediates.
@@ -77,6 +78,16 @@ pub trait VisitOperator<'a> {
         requires { can_visit self.old (Op.Control ControlOp.Return) }
         ensures { visits self.old (Op.Control ControlOp.Return) result self.new };
 
+    /// `call`
+    fn visit_call(&mut self, function_index: u32) -> Self::Output
+        requires { can_visit self.old (Op.Control (ControlOp.Call function_index)) }
+        ensures { visits self.old (Op.Control (ControlOp.Call function_index)) result self.new };
+
+    /// `return_call`
+    fn visit_return_call(&mut self, function_index: u32) -> Self::Output
+        requires { can_visit self.old (Op.Control (ControlOp.ReturnCall function_index)) }
+        ensures { visits self.old (Op.Control (ControlOp.ReturnCall function_index)) result self.new };
+
     /// `drop`
     fn visit_drop(&mut self) -> Self::Output
         requires { can_visit self.old (Op.Control ControlOp.Drop) }
@@ -111,6 +122,16 @@ pub trait VisitOperator<'a> {
     fn visit_local_tee(&mut self, local_index: u32) -> Self::Output
         requires { can_visit self.old (Op.Control (ControlOp.LocalTee local_index)) }
         ensures { visits self.old (Op.Control (ControlOp.LocalTee local_index)) result self.new };
+
+    /// `global.get`
+    fn visit_global_get(&mut self, global_index: u32) -> Self::Output
+        requires { can_visit self.old (Op.Control (ControlOp.GlobalGet global_index)) }
+        ensures { visits self.old (Op.Control (ControlOp.GlobalGet global_index)) result self.new };
+
+    /// `global.set`
+    fn visit_global_set(&mut self, global_index: u32) -> Self::Output
+        requires { can_visit self.old (Op.Control (ControlOp.GlobalSet global_index)) }
+        ensures { visits self.old (Op.Control (ControlOp.GlobalSet global_index)) result self.new };
 
     /// `i32.const`
     fn visit_i32_const(&mut self, value: i32) -> Self::Output
@@ -831,6 +852,496 @@ pub trait VisitOperator<'a> {
     fn visit_i64_trunc_sat_f64_u(&mut self) -> Self::Output
         requires { can_visit self.old (Op.Convert ConvertOp.I64TruncSatF64U) }
         ensures { visits self.old (Op.Convert ConvertOp.I64TruncSatF64U) result self.new };
+
+    /// `i32.load`
+    fn visit_i32_load(&mut self, memarg: MemArg) -> Self::Output
+        requires { can_visit self.old (Op.Memory (MemoryOp.I32Load memarg)) }
+        ensures { visits self.old (Op.Memory (MemoryOp.I32Load memarg)) result self.new };
+
+    /// `i64.load`
+    fn visit_i64_load(&mut self, memarg: MemArg) -> Self::Output
+        requires { can_visit self.old (Op.Memory (MemoryOp.I64Load memarg)) }
+        ensures { visits self.old (Op.Memory (MemoryOp.I64Load memarg)) result self.new };
+
+    /// `f32.load`
+    fn visit_f32_load(&mut self, memarg: MemArg) -> Self::Output
+        requires { can_visit self.old (Op.Memory (MemoryOp.F32Load memarg)) }
+        ensures { visits self.old (Op.Memory (MemoryOp.F32Load memarg)) result self.new };
+
+    /// `f64.load`
+    fn visit_f64_load(&mut self, memarg: MemArg) -> Self::Output
+        requires { can_visit self.old (Op.Memory (MemoryOp.F64Load memarg)) }
+        ensures { visits self.old (Op.Memory (MemoryOp.F64Load memarg)) result self.new };
+
+    /// `i32.load8_s`
+    fn visit_i32_load8_s(&mut self, memarg: MemArg) -> Self::Output
+        requires { can_visit self.old (Op.Memory (MemoryOp.I32Load8S memarg)) }
+        ensures { visits self.old (Op.Memory (MemoryOp.I32Load8S memarg)) result self.new };
+
+    /// `i32.load8_u`
+    fn visit_i32_load8_u(&mut self, memarg: MemArg) -> Self::Output
+        requires { can_visit self.old (Op.Memory (MemoryOp.I32Load8U memarg)) }
+        ensures { visits self.old (Op.Memory (MemoryOp.I32Load8U memarg)) result self.new };
+
+    /// `i32.load16_s`
+    fn visit_i32_load16_s(&mut self, memarg: MemArg) -> Self::Output
+        requires { can_visit self.old (Op.Memory (MemoryOp.I32Load16S memarg)) }
+        ensures { visits self.old (Op.Memory (MemoryOp.I32Load16S memarg)) result self.new };
+
+    /// `i32.load16_u`
+    fn visit_i32_load16_u(&mut self, memarg: MemArg) -> Self::Output
+        requires { can_visit self.old (Op.Memory (MemoryOp.I32Load16U memarg)) }
+        ensures { visits self.old (Op.Memory (MemoryOp.I32Load16U memarg)) result self.new };
+
+    /// `i64.load8_s`
+    fn visit_i64_load8_s(&mut self, memarg: MemArg) -> Self::Output
+        requires { can_visit self.old (Op.Memory (MemoryOp.I64Load8S memarg)) }
+        ensures { visits self.old (Op.Memory (MemoryOp.I64Load8S memarg)) result self.new };
+
+    /// `i64.load8_u`
+    fn visit_i64_load8_u(&mut self, memarg: MemArg) -> Self::Output
+        requires { can_visit self.old (Op.Memory (MemoryOp.I64Load8U memarg)) }
+        ensures { visits self.old (Op.Memory (MemoryOp.I64Load8U memarg)) result self.new };
+
+    /// `i64.load16_s`
+    fn visit_i64_load16_s(&mut self, memarg: MemArg) -> Self::Output
+        requires { can_visit self.old (Op.Memory (MemoryOp.I64Load16S memarg)) }
+        ensures { visits self.old (Op.Memory (MemoryOp.I64Load16S memarg)) result self.new };
+
+    /// `i64.load16_u`
+    fn visit_i64_load16_u(&mut self, memarg: MemArg) -> Self::Output
+        requires { can_visit self.old (Op.Memory (MemoryOp.I64Load16U memarg)) }
+        ensures { visits self.old (Op.Memory (MemoryOp.I64Load16U memarg)) result self.new };
+
+    /// `i64.load32_s`
+    fn visit_i64_load32_s(&mut self, memarg: MemArg) -> Self::Output
+        requires { can_visit self.old (Op.Memory (MemoryOp.I64Load32S memarg)) }
+        ensures { visits self.old (Op.Memory (MemoryOp.I64Load32S memarg)) result self.new };
+
+    /// `i64.load32_u`
+    fn visit_i64_load32_u(&mut self, memarg: MemArg) -> Self::Output
+        requires { can_visit self.old (Op.Memory (MemoryOp.I64Load32U memarg)) }
+        ensures { visits self.old (Op.Memory (MemoryOp.I64Load32U memarg)) result self.new };
+
+    /// `i32.store`
+    fn visit_i32_store(&mut self, memarg: MemArg) -> Self::Output
+        requires { can_visit self.old (Op.Memory (MemoryOp.I32Store memarg)) }
+        ensures { visits self.old (Op.Memory (MemoryOp.I32Store memarg)) result self.new };
+
+    /// `i64.store`
+    fn visit_i64_store(&mut self, memarg: MemArg) -> Self::Output
+        requires { can_visit self.old (Op.Memory (MemoryOp.I64Store memarg)) }
+        ensures { visits self.old (Op.Memory (MemoryOp.I64Store memarg)) result self.new };
+
+    /// `f32.store`
+    fn visit_f32_store(&mut self, memarg: MemArg) -> Self::Output
+        requires { can_visit self.old (Op.Memory (MemoryOp.F32Store memarg)) }
+        ensures { visits self.old (Op.Memory (MemoryOp.F32Store memarg)) result self.new };
+
+    /// `f64.store`
+    fn visit_f64_store(&mut self, memarg: MemArg) -> Self::Output
+        requires { can_visit self.old (Op.Memory (MemoryOp.F64Store memarg)) }
+        ensures { visits self.old (Op.Memory (MemoryOp.F64Store memarg)) result self.new };
+
+    /// `i32.store8`
+    fn visit_i32_store8(&mut self, memarg: MemArg) -> Self::Output
+        requires { can_visit self.old (Op.Memory (MemoryOp.I32Store8 memarg)) }
+        ensures { visits self.old (Op.Memory (MemoryOp.I32Store8 memarg)) result self.new };
+
+    /// `i32.store16`
+    fn visit_i32_store16(&mut self, memarg: MemArg) -> Self::Output
+        requires { can_visit self.old (Op.Memory (MemoryOp.I32Store16 memarg)) }
+        ensures { visits self.old (Op.Memory (MemoryOp.I32Store16 memarg)) result self.new };
+
+    /// `i64.store8`
+    fn visit_i64_store8(&mut self, memarg: MemArg) -> Self::Output
+        requires { can_visit self.old (Op.Memory (MemoryOp.I64Store8 memarg)) }
+        ensures { visits self.old (Op.Memory (MemoryOp.I64Store8 memarg)) result self.new };
+
+    /// `i64.store16`
+    fn visit_i64_store16(&mut self, memarg: MemArg) -> Self::Output
+        requires { can_visit self.old (Op.Memory (MemoryOp.I64Store16 memarg)) }
+        ensures { visits self.old (Op.Memory (MemoryOp.I64Store16 memarg)) result self.new };
+
+    /// `i64.store32`
+    fn visit_i64_store32(&mut self, memarg: MemArg) -> Self::Output
+        requires { can_visit self.old (Op.Memory (MemoryOp.I64Store32 memarg)) }
+        ensures { visits self.old (Op.Memory (MemoryOp.I64Store32 memarg)) result self.new };
+
+    /// `memory.size`
+    fn visit_memory_size(&mut self, mem: u32) -> Self::Output
+        requires { can_visit self.old (Op.Memory (MemoryOp.MemorySize mem)) }
+        ensures { visits self.old (Op.Memory (MemoryOp.MemorySize mem)) result self.new };
+
+    /// `memory.grow`
+    fn visit_memory_grow(&mut self, mem: u32) -> Self::Output
+        requires { can_visit self.old (Op.Memory (MemoryOp.MemoryGrow mem)) }
+        ensures { visits self.old (Op.Memory (MemoryOp.MemoryGrow mem)) result self.new };
+
+    /// `memory.init`
+    fn visit_memory_init(&mut self, data_index: u32, mem: u32) -> Self::Output
+        requires { can_visit self.old (Op.Memory (MemoryOp.MemoryInit data_index mem)) }
+        ensures { visits self.old (Op.Memory (MemoryOp.MemoryInit data_index mem)) result self.new };
+
+    /// `data.drop`
+    fn visit_data_drop(&mut self, data_index: u32) -> Self::Output
+        requires { can_visit self.old (Op.Memory (MemoryOp.DataDrop data_index)) }
+        ensures { visits self.old (Op.Memory (MemoryOp.DataDrop data_index)) result self.new };
+
+    /// `memory.copy`
+    fn visit_memory_copy(&mut self, dst_mem: u32, src_mem: u32) -> Self::Output
+        requires { can_visit self.old (Op.Memory (MemoryOp.MemoryCopy dst_mem src_mem)) }
+        ensures { visits self.old (Op.Memory (MemoryOp.MemoryCopy dst_mem src_mem)) result self.new };
+
+    /// `memory.fill`
+    fn visit_memory_fill(&mut self, mem: u32) -> Self::Output
+        requires { can_visit self.old (Op.Memory (MemoryOp.MemoryFill mem)) }
+        ensures { visits self.old (Op.Memory (MemoryOp.MemoryFill mem)) result self.new };
+
+    /// `memory.discard`
+    fn visit_memory_discard(&mut self, mem: u32) -> Self::Output
+        requires { can_visit self.old (Op.Memory (MemoryOp.MemoryDiscard mem)) }
+        ensures { visits self.old (Op.Memory (MemoryOp.MemoryDiscard mem)) result self.new };
+
+    /// `memory.atomic.notify`
+    fn visit_memory_atomic_notify(&mut self, memarg: MemArg) -> Self::Output
+        requires { can_visit self.old (Op.Atomic (AtomicOp.MemoryAtomicNotify memarg)) }
+        ensures { visits self.old (Op.Atomic (AtomicOp.MemoryAtomicNotify memarg)) result self.new };
+
+    /// `memory.atomic.wait32`
+    fn visit_memory_atomic_wait32(&mut self, memarg: MemArg) -> Self::Output
+        requires { can_visit self.old (Op.Atomic (AtomicOp.MemoryAtomicWait32 memarg)) }
+        ensures { visits self.old (Op.Atomic (AtomicOp.MemoryAtomicWait32 memarg)) result self.new };
+
+    /// `memory.atomic.wait64`
+    fn visit_memory_atomic_wait64(&mut self, memarg: MemArg) -> Self::Output
+        requires { can_visit self.old (Op.Atomic (AtomicOp.MemoryAtomicWait64 memarg)) }
+        ensures { visits self.old (Op.Atomic (AtomicOp.MemoryAtomicWait64 memarg)) result self.new };
+
+    /// `atomic.fence`
+    fn visit_atomic_fence(&mut self, ordering: Ordering) -> Self::Output
+        requires { can_visit self.old (Op.Atomic (AtomicOp.AtomicFence ordering)) }
+        ensures { visits self.old (Op.Atomic (AtomicOp.AtomicFence ordering)) result self.new };
+
+    /// `i32.atomic.load`
+    fn visit_i32_atomic_load(&mut self, memarg: MemArg) -> Self::Output
+        requires { can_visit self.old (Op.Atomic (AtomicOp.I32AtomicLoad memarg)) }
+        ensures { visits self.old (Op.Atomic (AtomicOp.I32AtomicLoad memarg)) result self.new };
+
+    /// `i64.atomic.load`
+    fn visit_i64_atomic_load(&mut self, memarg: MemArg) -> Self::Output
+        requires { can_visit self.old (Op.Atomic (AtomicOp.I64AtomicLoad memarg)) }
+        ensures { visits self.old (Op.Atomic (AtomicOp.I64AtomicLoad memarg)) result self.new };
+
+    /// `i32.atomic.load8_u`
+    fn visit_i32_atomic_load8_u(&mut self, memarg: MemArg) -> Self::Output
+        requires { can_visit self.old (Op.Atomic (AtomicOp.I32AtomicLoad8U memarg)) }
+        ensures { visits self.old (Op.Atomic (AtomicOp.I32AtomicLoad8U memarg)) result self.new };
+
+    /// `i32.atomic.load16_u`
+    fn visit_i32_atomic_load16_u(&mut self, memarg: MemArg) -> Self::Output
+        requires { can_visit self.old (Op.Atomic (AtomicOp.I32AtomicLoad16U memarg)) }
+        ensures { visits self.old (Op.Atomic (AtomicOp.I32AtomicLoad16U memarg)) result self.new };
+
+    /// `i64.atomic.load8_u`
+    fn visit_i64_atomic_load8_u(&mut self, memarg: MemArg) -> Self::Output
+        requires { can_visit self.old (Op.Atomic (AtomicOp.I64AtomicLoad8U memarg)) }
+        ensures { visits self.old (Op.Atomic (AtomicOp.I64AtomicLoad8U memarg)) result self.new };
+
+    /// `i64.atomic.load16_u`
+    fn visit_i64_atomic_load16_u(&mut self, memarg: MemArg) -> Self::Output
+        requires { can_visit self.old (Op.Atomic (AtomicOp.I64AtomicLoad16U memarg)) }
+        ensures { visits self.old (Op.Atomic (AtomicOp.I64AtomicLoad16U memarg)) result self.new };
+
+    /// `i64.atomic.load32_u`
+    fn visit_i64_atomic_load32_u(&mut self, memarg: MemArg) -> Self::Output
+        requires { can_visit self.old (Op.Atomic (AtomicOp.I64AtomicLoad32U memarg)) }
+        ensures { visits self.old (Op.Atomic (AtomicOp.I64AtomicLoad32U memarg)) result self.new };
+
+    /// `i32.atomic.store`
+    fn visit_i32_atomic_store(&mut self, memarg: MemArg) -> Self::Output
+        requires { can_visit self.old (Op.Atomic (AtomicOp.I32AtomicStore memarg)) }
+        ensures { visits self.old (Op.Atomic (AtomicOp.I32AtomicStore memarg)) result self.new };
+
+    /// `i64.atomic.store`
+    fn visit_i64_atomic_store(&mut self, memarg: MemArg) -> Self::Output
+        requires { can_visit self.old (Op.Atomic (AtomicOp.I64AtomicStore memarg)) }
+        ensures { visits self.old (Op.Atomic (AtomicOp.I64AtomicStore memarg)) result self.new };
+
+    /// `i32.atomic.store8`
+    fn visit_i32_atomic_store8(&mut self, memarg: MemArg) -> Self::Output
+        requires { can_visit self.old (Op.Atomic (AtomicOp.I32AtomicStore8 memarg)) }
+        ensures { visits self.old (Op.Atomic (AtomicOp.I32AtomicStore8 memarg)) result self.new };
+
+    /// `i32.atomic.store16`
+    fn visit_i32_atomic_store16(&mut self, memarg: MemArg) -> Self::Output
+        requires { can_visit self.old (Op.Atomic (AtomicOp.I32AtomicStore16 memarg)) }
+        ensures { visits self.old (Op.Atomic (AtomicOp.I32AtomicStore16 memarg)) result self.new };
+
+    /// `i64.atomic.store8`
+    fn visit_i64_atomic_store8(&mut self, memarg: MemArg) -> Self::Output
+        requires { can_visit self.old (Op.Atomic (AtomicOp.I64AtomicStore8 memarg)) }
+        ensures { visits self.old (Op.Atomic (AtomicOp.I64AtomicStore8 memarg)) result self.new };
+
+    /// `i64.atomic.store16`
+    fn visit_i64_atomic_store16(&mut self, memarg: MemArg) -> Self::Output
+        requires { can_visit self.old (Op.Atomic (AtomicOp.I64AtomicStore16 memarg)) }
+        ensures { visits self.old (Op.Atomic (AtomicOp.I64AtomicStore16 memarg)) result self.new };
+
+    /// `i64.atomic.store32`
+    fn visit_i64_atomic_store32(&mut self, memarg: MemArg) -> Self::Output
+        requires { can_visit self.old (Op.Atomic (AtomicOp.I64AtomicStore32 memarg)) }
+        ensures { visits self.old (Op.Atomic (AtomicOp.I64AtomicStore32 memarg)) result self.new };
+
+    /// `i32.atomic.rmw.add`
+    fn visit_i32_atomic_rmw_add(&mut self, memarg: MemArg) -> Self::Output
+        requires { can_visit self.old (Op.Atomic (AtomicOp.I32AtomicRmwAdd memarg)) }
+        ensures { visits self.old (Op.Atomic (AtomicOp.I32AtomicRmwAdd memarg)) result self.new };
+
+    /// `i64.atomic.rmw.add`
+    fn visit_i64_atomic_rmw_add(&mut self, memarg: MemArg) -> Self::Output
+        requires { can_visit self.old (Op.Atomic (AtomicOp.I64AtomicRmwAdd memarg)) }
+        ensures { visits self.old (Op.Atomic (AtomicOp.I64AtomicRmwAdd memarg)) result self.new };
+
+    /// `i32.atomic.rmw8.add_u`
+    fn visit_i32_atomic_rmw8_add_u(&mut self, memarg: MemArg) -> Self::Output
+        requires { can_visit self.old (Op.Atomic (AtomicOp.I32AtomicRmw8AddU memarg)) }
+        ensures { visits self.old (Op.Atomic (AtomicOp.I32AtomicRmw8AddU memarg)) result self.new };
+
+    /// `i32.atomic.rmw16.add_u`
+    fn visit_i32_atomic_rmw16_add_u(&mut self, memarg: MemArg) -> Self::Output
+        requires { can_visit self.old (Op.Atomic (AtomicOp.I32AtomicRmw16AddU memarg)) }
+        ensures { visits self.old (Op.Atomic (AtomicOp.I32AtomicRmw16AddU memarg)) result self.new };
+
+    /// `i64.atomic.rmw8.add_u`
+    fn visit_i64_atomic_rmw8_add_u(&mut self, memarg: MemArg) -> Self::Output
+        requires { can_visit self.old (Op.Atomic (AtomicOp.I64AtomicRmw8AddU memarg)) }
+        ensures { visits self.old (Op.Atomic (AtomicOp.I64AtomicRmw8AddU memarg)) result self.new };
+
+    /// `i64.atomic.rmw16.add_u`
+    fn visit_i64_atomic_rmw16_add_u(&mut self, memarg: MemArg) -> Self::Output
+        requires { can_visit self.old (Op.Atomic (AtomicOp.I64AtomicRmw16AddU memarg)) }
+        ensures { visits self.old (Op.Atomic (AtomicOp.I64AtomicRmw16AddU memarg)) result self.new };
+
+    /// `i64.atomic.rmw32.add_u`
+    fn visit_i64_atomic_rmw32_add_u(&mut self, memarg: MemArg) -> Self::Output
+        requires { can_visit self.old (Op.Atomic (AtomicOp.I64AtomicRmw32AddU memarg)) }
+        ensures { visits self.old (Op.Atomic (AtomicOp.I64AtomicRmw32AddU memarg)) result self.new };
+
+    /// `i32.atomic.rmw.sub`
+    fn visit_i32_atomic_rmw_sub(&mut self, memarg: MemArg) -> Self::Output
+        requires { can_visit self.old (Op.Atomic (AtomicOp.I32AtomicRmwSub memarg)) }
+        ensures { visits self.old (Op.Atomic (AtomicOp.I32AtomicRmwSub memarg)) result self.new };
+
+    /// `i64.atomic.rmw.sub`
+    fn visit_i64_atomic_rmw_sub(&mut self, memarg: MemArg) -> Self::Output
+        requires { can_visit self.old (Op.Atomic (AtomicOp.I64AtomicRmwSub memarg)) }
+        ensures { visits self.old (Op.Atomic (AtomicOp.I64AtomicRmwSub memarg)) result self.new };
+
+    /// `i32.atomic.rmw8.sub_u`
+    fn visit_i32_atomic_rmw8_sub_u(&mut self, memarg: MemArg) -> Self::Output
+        requires { can_visit self.old (Op.Atomic (AtomicOp.I32AtomicRmw8SubU memarg)) }
+        ensures { visits self.old (Op.Atomic (AtomicOp.I32AtomicRmw8SubU memarg)) result self.new };
+
+    /// `i32.atomic.rmw16.sub_u`
+    fn visit_i32_atomic_rmw16_sub_u(&mut self, memarg: MemArg) -> Self::Output
+        requires { can_visit self.old (Op.Atomic (AtomicOp.I32AtomicRmw16SubU memarg)) }
+        ensures { visits self.old (Op.Atomic (AtomicOp.I32AtomicRmw16SubU memarg)) result self.new };
+
+    /// `i64.atomic.rmw8.sub_u`
+    fn visit_i64_atomic_rmw8_sub_u(&mut self, memarg: MemArg) -> Self::Output
+        requires { can_visit self.old (Op.Atomic (AtomicOp.I64AtomicRmw8SubU memarg)) }
+        ensures { visits self.old (Op.Atomic (AtomicOp.I64AtomicRmw8SubU memarg)) result self.new };
+
+    /// `i64.atomic.rmw16.sub_u`
+    fn visit_i64_atomic_rmw16_sub_u(&mut self, memarg: MemArg) -> Self::Output
+        requires { can_visit self.old (Op.Atomic (AtomicOp.I64AtomicRmw16SubU memarg)) }
+        ensures { visits self.old (Op.Atomic (AtomicOp.I64AtomicRmw16SubU memarg)) result self.new };
+
+    /// `i64.atomic.rmw32.sub_u`
+    fn visit_i64_atomic_rmw32_sub_u(&mut self, memarg: MemArg) -> Self::Output
+        requires { can_visit self.old (Op.Atomic (AtomicOp.I64AtomicRmw32SubU memarg)) }
+        ensures { visits self.old (Op.Atomic (AtomicOp.I64AtomicRmw32SubU memarg)) result self.new };
+
+    /// `i32.atomic.rmw.and`
+    fn visit_i32_atomic_rmw_and(&mut self, memarg: MemArg) -> Self::Output
+        requires { can_visit self.old (Op.Atomic (AtomicOp.I32AtomicRmwAnd memarg)) }
+        ensures { visits self.old (Op.Atomic (AtomicOp.I32AtomicRmwAnd memarg)) result self.new };
+
+    /// `i64.atomic.rmw.and`
+    fn visit_i64_atomic_rmw_and(&mut self, memarg: MemArg) -> Self::Output
+        requires { can_visit self.old (Op.Atomic (AtomicOp.I64AtomicRmwAnd memarg)) }
+        ensures { visits self.old (Op.Atomic (AtomicOp.I64AtomicRmwAnd memarg)) result self.new };
+
+    /// `i32.atomic.rmw8.and_u`
+    fn visit_i32_atomic_rmw8_and_u(&mut self, memarg: MemArg) -> Self::Output
+        requires { can_visit self.old (Op.Atomic (AtomicOp.I32AtomicRmw8AndU memarg)) }
+        ensures { visits self.old (Op.Atomic (AtomicOp.I32AtomicRmw8AndU memarg)) result self.new };
+
+    /// `i32.atomic.rmw16.and_u`
+    fn visit_i32_atomic_rmw16_and_u(&mut self, memarg: MemArg) -> Self::Output
+        requires { can_visit self.old (Op.Atomic (AtomicOp.I32AtomicRmw16AndU memarg)) }
+        ensures { visits self.old (Op.Atomic (AtomicOp.I32AtomicRmw16AndU memarg)) result self.new };
+
+    /// `i64.atomic.rmw8.and_u`
+    fn visit_i64_atomic_rmw8_and_u(&mut self, memarg: MemArg) -> Self::Output
+        requires { can_visit self.old (Op.Atomic (AtomicOp.I64AtomicRmw8AndU memarg)) }
+        ensures { visits self.old (Op.Atomic (AtomicOp.I64AtomicRmw8AndU memarg)) result self.new };
+
+    /// `i64.atomic.rmw16.and_u`
+    fn visit_i64_atomic_rmw16_and_u(&mut self, memarg: MemArg) -> Self::Output
+        requires { can_visit self.old (Op.Atomic (AtomicOp.I64AtomicRmw16AndU memarg)) }
+        ensures { visits self.old (Op.Atomic (AtomicOp.I64AtomicRmw16AndU memarg)) result self.new };
+
+    /// `i64.atomic.rmw32.and_u`
+    fn visit_i64_atomic_rmw32_and_u(&mut self, memarg: MemArg) -> Self::Output
+        requires { can_visit self.old (Op.Atomic (AtomicOp.I64AtomicRmw32AndU memarg)) }
+        ensures { visits self.old (Op.Atomic (AtomicOp.I64AtomicRmw32AndU memarg)) result self.new };
+
+    /// `i32.atomic.rmw.or`
+    fn visit_i32_atomic_rmw_or(&mut self, memarg: MemArg) -> Self::Output
+        requires { can_visit self.old (Op.Atomic (AtomicOp.I32AtomicRmwOr memarg)) }
+        ensures { visits self.old (Op.Atomic (AtomicOp.I32AtomicRmwOr memarg)) result self.new };
+
+    /// `i64.atomic.rmw.or`
+    fn visit_i64_atomic_rmw_or(&mut self, memarg: MemArg) -> Self::Output
+        requires { can_visit self.old (Op.Atomic (AtomicOp.I64AtomicRmwOr memarg)) }
+        ensures { visits self.old (Op.Atomic (AtomicOp.I64AtomicRmwOr memarg)) result self.new };
+
+    /// `i32.atomic.rmw8.or_u`
+    fn visit_i32_atomic_rmw8_or_u(&mut self, memarg: MemArg) -> Self::Output
+        requires { can_visit self.old (Op.Atomic (AtomicOp.I32AtomicRmw8OrU memarg)) }
+        ensures { visits self.old (Op.Atomic (AtomicOp.I32AtomicRmw8OrU memarg)) result self.new };
+
+    /// `i32.atomic.rmw16.or_u`
+    fn visit_i32_atomic_rmw16_or_u(&mut self, memarg: MemArg) -> Self::Output
+        requires { can_visit self.old (Op.Atomic (AtomicOp.I32AtomicRmw16OrU memarg)) }
+        ensures { visits self.old (Op.Atomic (AtomicOp.I32AtomicRmw16OrU memarg)) result self.new };
+
+    /// `i64.atomic.rmw8.or_u`
+    fn visit_i64_atomic_rmw8_or_u(&mut self, memarg: MemArg) -> Self::Output
+        requires { can_visit self.old (Op.Atomic (AtomicOp.I64AtomicRmw8OrU memarg)) }
+        ensures { visits self.old (Op.Atomic (AtomicOp.I64AtomicRmw8OrU memarg)) result self.new };
+
+    /// `i64.atomic.rmw16.or_u`
+    fn visit_i64_atomic_rmw16_or_u(&mut self, memarg: MemArg) -> Self::Output
+        requires { can_visit self.old (Op.Atomic (AtomicOp.I64AtomicRmw16OrU memarg)) }
+        ensures { visits self.old (Op.Atomic (AtomicOp.I64AtomicRmw16OrU memarg)) result self.new };
+
+    /// `i64.atomic.rmw32.or_u`
+    fn visit_i64_atomic_rmw32_or_u(&mut self, memarg: MemArg) -> Self::Output
+        requires { can_visit self.old (Op.Atomic (AtomicOp.I64AtomicRmw32OrU memarg)) }
+        ensures { visits self.old (Op.Atomic (AtomicOp.I64AtomicRmw32OrU memarg)) result self.new };
+
+    /// `i32.atomic.rmw.xor`
+    fn visit_i32_atomic_rmw_xor(&mut self, memarg: MemArg) -> Self::Output
+        requires { can_visit self.old (Op.Atomic (AtomicOp.I32AtomicRmwXor memarg)) }
+        ensures { visits self.old (Op.Atomic (AtomicOp.I32AtomicRmwXor memarg)) result self.new };
+
+    /// `i64.atomic.rmw.xor`
+    fn visit_i64_atomic_rmw_xor(&mut self, memarg: MemArg) -> Self::Output
+        requires { can_visit self.old (Op.Atomic (AtomicOp.I64AtomicRmwXor memarg)) }
+        ensures { visits self.old (Op.Atomic (AtomicOp.I64AtomicRmwXor memarg)) result self.new };
+
+    /// `i32.atomic.rmw8.xor_u`
+    fn visit_i32_atomic_rmw8_xor_u(&mut self, memarg: MemArg) -> Self::Output
+        requires { can_visit self.old (Op.Atomic (AtomicOp.I32AtomicRmw8XorU memarg)) }
+        ensures { visits self.old (Op.Atomic (AtomicOp.I32AtomicRmw8XorU memarg)) result self.new };
+
+    /// `i32.atomic.rmw16.xor_u`
+    fn visit_i32_atomic_rmw16_xor_u(&mut self, memarg: MemArg) -> Self::Output
+        requires { can_visit self.old (Op.Atomic (AtomicOp.I32AtomicRmw16XorU memarg)) }
+        ensures { visits self.old (Op.Atomic (AtomicOp.I32AtomicRmw16XorU memarg)) result self.new };
+
+    /// `i64.atomic.rmw8.xor_u`
+    fn visit_i64_atomic_rmw8_xor_u(&mut self, memarg: MemArg) -> Self::Output
+        requires { can_visit self.old (Op.Atomic (AtomicOp.I64AtomicRmw8XorU memarg)) }
+        ensures { visits self.old (Op.Atomic (AtomicOp.I64AtomicRmw8XorU memarg)) result self.new };
+
+    /// `i64.atomic.rmw16.xor_u`
+    fn visit_i64_atomic_rmw16_xor_u(&mut self, memarg: MemArg) -> Self::Output
+        requires { can_visit self.old (Op.Atomic (AtomicOp.I64AtomicRmw16XorU memarg)) }
+        ensures { visits self.old (Op.Atomic (AtomicOp.I64AtomicRmw16XorU memarg)) result self.new };
+
+    /// `i64.atomic.rmw32.xor_u`
+    fn visit_i64_atomic_rmw32_xor_u(&mut self, memarg: MemArg) -> Self::Output
+        requires { can_visit self.old (Op.Atomic (AtomicOp.I64AtomicRmw32XorU memarg)) }
+        ensures { visits self.old (Op.Atomic (AtomicOp.I64AtomicRmw32XorU memarg)) result self.new };
+
+    /// `i32.atomic.rmw.xchg`
+    fn visit_i32_atomic_rmw_xchg(&mut self, memarg: MemArg) -> Self::Output
+        requires { can_visit self.old (Op.Atomic (AtomicOp.I32AtomicRmwXchg memarg)) }
+        ensures { visits self.old (Op.Atomic (AtomicOp.I32AtomicRmwXchg memarg)) result self.new };
+
+    /// `i64.atomic.rmw.xchg`
+    fn visit_i64_atomic_rmw_xchg(&mut self, memarg: MemArg) -> Self::Output
+        requires { can_visit self.old (Op.Atomic (AtomicOp.I64AtomicRmwXchg memarg)) }
+        ensures { visits self.old (Op.Atomic (AtomicOp.I64AtomicRmwXchg memarg)) result self.new };
+
+    /// `i32.atomic.rmw8.xchg_u`
+    fn visit_i32_atomic_rmw8_xchg_u(&mut self, memarg: MemArg) -> Self::Output
+        requires { can_visit self.old (Op.Atomic (AtomicOp.I32AtomicRmw8XchgU memarg)) }
+        ensures { visits self.old (Op.Atomic (AtomicOp.I32AtomicRmw8XchgU memarg)) result self.new };
+
+    /// `i32.atomic.rmw16.xchg_u`
+    fn visit_i32_atomic_rmw16_xchg_u(&mut self, memarg: MemArg) -> Self::Output
+        requires { can_visit self.old (Op.Atomic (AtomicOp.I32AtomicRmw16XchgU memarg)) }
+        ensures { visits self.old (Op.Atomic (AtomicOp.I32AtomicRmw16XchgU memarg)) result self.new };
+
+    /// `i64.atomic.rmw8.xchg_u`
+    fn visit_i64_atomic_rmw8_xchg_u(&mut self, memarg: MemArg) -> Self::Output
+        requires { can_visit self.old (Op.Atomic (AtomicOp.I64AtomicRmw8XchgU memarg)) }
+        ensures { visits self.old (Op.Atomic (AtomicOp.I64AtomicRmw8XchgU memarg)) result self.new };
+
+    /// `i64.atomic.rmw16.xchg_u`
+    fn visit_i64_atomic_rmw16_xchg_u(&mut self, memarg: MemArg) -> Self::Output
+        requires { can_visit self.old (Op.Atomic (AtomicOp.I64AtomicRmw16XchgU memarg)) }
+        ensures { visits self.old (Op.Atomic (AtomicOp.I64AtomicRmw16XchgU memarg)) result self.new };
+
+    /// `i64.atomic.rmw32.xchg_u`
+    fn visit_i64_atomic_rmw32_xchg_u(&mut self, memarg: MemArg) -> Self::Output
+        requires { can_visit self.old (Op.Atomic (AtomicOp.I64AtomicRmw32XchgU memarg)) }
+        ensures { visits self.old (Op.Atomic (AtomicOp.I64AtomicRmw32XchgU memarg)) result self.new };
+
+    /// `i32.atomic.rmw.cmpxchg`
+    fn visit_i32_atomic_rmw_cmpxchg(&mut self, memarg: MemArg) -> Self::Output
+        requires { can_visit self.old (Op.Atomic (AtomicOp.I32AtomicRmwCmpxchg memarg)) }
+        ensures { visits self.old (Op.Atomic (AtomicOp.I32AtomicRmwCmpxchg memarg)) result self.new };
+
+    /// `i64.atomic.rmw.cmpxchg`
+    fn visit_i64_atomic_rmw_cmpxchg(&mut self, memarg: MemArg) -> Self::Output
+        requires { can_visit self.old (Op.Atomic (AtomicOp.I64AtomicRmwCmpxchg memarg)) }
+        ensures { visits self.old (Op.Atomic (AtomicOp.I64AtomicRmwCmpxchg memarg)) result self.new };
+
+    /// `i32.atomic.rmw8.cmpxchg_u`
+    fn visit_i32_atomic_rmw8_cmpxchg_u(&mut self, memarg: MemArg) -> Self::Output
+        requires { can_visit self.old (Op.Atomic (AtomicOp.I32AtomicRmw8CmpxchgU memarg)) }
+        ensures { visits self.old (Op.Atomic (AtomicOp.I32AtomicRmw8CmpxchgU memarg)) result self.new };
+
+    /// `i32.atomic.rmw16.cmpxchg_u`
+    fn visit_i32_atomic_rmw16_cmpxchg_u(&mut self, memarg: MemArg) -> Self::Output
+        requires { can_visit self.old (Op.Atomic (AtomicOp.I32AtomicRmw16CmpxchgU memarg)) }
+        ensures { visits self.old (Op.Atomic (AtomicOp.I32AtomicRmw16CmpxchgU memarg)) result self.new };
+
+    /// `i64.atomic.rmw8.cmpxchg_u`
+    fn visit_i64_atomic_rmw8_cmpxchg_u(&mut self, memarg: MemArg) -> Self::Output
+        requires { can_visit self.old (Op.Atomic (AtomicOp.I64AtomicRmw8CmpxchgU memarg)) }
+        ensures { visits self.old (Op.Atomic (AtomicOp.I64AtomicRmw8CmpxchgU memarg)) result self.new };
+
+    /// `i64.atomic.rmw16.cmpxchg_u`
+    fn visit_i64_atomic_rmw16_cmpxchg_u(&mut self, memarg: MemArg) -> Self::Output
+        requires { can_visit self.old (Op.Atomic (AtomicOp.I64AtomicRmw16CmpxchgU memarg)) }
+        ensures { visits self.old (Op.Atomic (AtomicOp.I64AtomicRmw16CmpxchgU memarg)) result self.new };
+
+    /// `i64.atomic.rmw32.cmpxchg_u`
+    fn visit_i64_atomic_rmw32_cmpxchg_u(&mut self, memarg: MemArg) -> Self::Output
+        requires { can_visit self.old (Op.Atomic (AtomicOp.I64AtomicRmw32CmpxchgU memarg)) }
+        ensures { visits self.old (Op.Atomic (AtomicOp.I64AtomicRmw32CmpxchgU memarg)) result self.new };
+
+    /// `pause`
+    fn visit_pause(&mut self) -> Self::Output
+        requires { can_visit self.old (Op.Atomic AtomicOp.Pause) }
+        ensures { visits self.old (Op.Atomic AtomicOp.Pause) result self.new };
 
     /// The visit that `op` names.
     fn visit_operator(&mut self, op: Op<'a>) -> Self::Output

@@ -2,7 +2,7 @@
 -- standard's rules say of them.
 use Rattle.std.proofs.Common.{◌≡◌, ℕ, pos, Bool, true, false, List, [], ◌∷◌, ◌++◌, length, Option, Some, None, refl, slice_get}
 use Rattle.validate_resources.specs.Context.{same_number}
-use Rattle.validate_resources.specs.Lists.{context_of}
+use Rattle.validate_resources.specs.Lists.{Declared, context_of}
 use Rattle.validate_types.specs.declared.types.CompositeInnerType.TheVariants.{Func}
 use Rattle.validate_visit.specs.declared.op.Op.{Op}
 use Rattle.validate_visit.specs.declared.op.Op.TheVariants.{Control, Numeric}
@@ -25,6 +25,9 @@ a_type params results =
 abbrev types : List SubType
 types = a_type [] [] ∷ a_type (I32 ∷ []) [] ∷ a_type (I32 ∷ []) (I32 ∷ []) ∷ a_type (I32 ∷ I64 ∷ []) (I64 ∷ I32 ∷ []) ∷ []
 
+abbrev declared : Declared
+declared = record { types = types; functions = []; memories = []; globals = []; data_count = None }
+
 -- from nothing to nothing, from i32 to nothing, from i32 to i32, and two in and out
 abbrev to_nothing : BlockType
 to_nothing = FuncType 0
@@ -40,7 +43,7 @@ two_to_two = FuncType 3
 
 module _ (features : WasmFeatures) where
   abbrev cx : Context
-  cx = record { of_module = context_of types; features = features; shared = false; locals = I32 ∷ I64 ∷ []; entry = true ∷ false ∷ [] }
+  cx = record { of_module = context_of declared; features = features; shared = false; locals = I32 ∷ I64 ∷ []; entry = true ∷ false ∷ [] }
 
   -- ---- operators, as the rules see them
 
@@ -573,7 +576,7 @@ tilted t u = same_number t u
 module _ (features : WasmFeatures) where
   abbrev tilted_context : Context
   tilted_context = record {
-    of_module = record { type_at = slice_get (a_type (I32 ∷ []) (I64 ∷ []) ∷ a_type (I64 ∷ []) (I32 ∷ []) ∷ []); valid = λ t. true; below = tilted; canonical = λ f t. None };
+    of_module = record { type_at = slice_get (a_type (I32 ∷ []) (I64 ∷ []) ∷ a_type (I64 ∷ []) (I32 ∷ []) ∷ []); type_index_of = λ i. None; memory_at = λ i. None; global_at = λ i. None; data_count = None; valid = λ t. true; below = tilted; canonical = λ f t. None };
     features = features;
     shared = false;
     locals = [];

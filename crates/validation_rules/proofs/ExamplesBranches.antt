@@ -1,7 +1,7 @@
 -- Small bodies of the table's branches, blocks and `select`, also in dead code, computed. What is
 -- expected is what the standard's rules say of them.
 use Rattle.std.proofs.Common.{◌≡◌, ℕ, ◌+◌, pos, Bool, true, false, List, [], ◌∷◌, length, Option, Some, None, refl, ap}
-use Rattle.validate_resources.specs.Lists.{context_of}
+use Rattle.validate_resources.specs.Lists.{Declared, context_of}
 use Rattle.validate_types.specs.Features.{multi_value, floats, reference_types}
 use Rattle.validate_types.specs.declared.types.CompositeInnerType.TheVariants.{Func}
 use Rattle.validate_visit.specs.declared.op.Op.{Op}
@@ -24,6 +24,9 @@ a_type shared params results =
 abbrev types : List SubType
 types = a_type false [] [] ∷ a_type true (I32 ∷ []) (I64 ∷ []) ∷ a_type true (I64 ∷ []) (I64 ∷ []) ∷ []
 
+abbrev declared : Declared
+declared = record { types = types; functions = []; memories = []; globals = []; data_count = None }
+
 abbrev to_nothing : BlockType
 to_nothing = FuncType 0
 
@@ -35,7 +38,7 @@ i64_to_i64 = FuncType 2
 
 -- with these proposals on
 abbrev under : ℕ → Bool → Context
-under bits shared = record { of_module = context_of types; features = record { 0 = bits }; shared = shared; locals = []; entry = [] }
+under bits shared = record { of_module = context_of declared; features = record { 0 = bits }; shared = shared; locals = []; entry = [] }
 
 abbrev cx : Context
 cx = under (multi_value + reference_types) false
@@ -497,7 +500,7 @@ written F32 = F64
 written t = t
 
 abbrev writing : Context
-writing = record cx { of_module = record (context_of types) { canonical = λ f t. Some (written t) } }
+writing = record cx { of_module = record (context_of declared) { canonical = λ f t. Some (written t) } }
 
 typed_select_written : OpenUnder writing to_nothing (unreachable ∷ typed_select F32 ∷ []) (frame Block to_nothing (Known F64 ∷ []) true ∷ [])
 typed_select_written = refl

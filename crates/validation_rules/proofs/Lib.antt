@@ -7,3 +7,5 @@ pub mod Valid
 pub mod Handmade
 mod Examples
 mod ExamplesBranches
+mod ExamplesCalls
+mod ExamplesMemory

@@ -1,25 +1,35 @@
 -- Every step keeps the state valid.
 use Rattle.std.proofs.Common.{◌≡◌, ℕ, zero, suc, pred, Bool, true, false, not, ◌&&◌, ◌||◌, List, [], ◌∷◌, ◌++◌, length, map, drop, Option, Some, None, refl, sym, ap, ◌∙◌, subst, slice_get}
-use Rattle.std.specs.List.{AllByRecursion}
+use Rattle.std.specs.List.{AllByRecursion, list_all}
 use Rattle.std.specs.Option.{option_map}
 use Rattle.validate_types.specs.Features.{has, multi_value}
 use Rattle.validate_types.specs.Gates.{is_open}
-use Rattle.validate_types.specs.declared.gate.Gate.TheVariants.{ReferenceTypes}
-use Rattle.validate_resources.specs.Context.{IsLawful, Valid}
+use Rattle.validate_types.specs.Types.{index_type}
+use Rattle.validate_types.specs.declared.gate.Gate.{Gate}
+use Rattle.validate_types.specs.declared.types.GlobalType.{GlobalType}
+use Rattle.validate_types.specs.declared.types.MemoryType.{MemoryType}
+use Rattle.validate_types.specs.declared.gate.Gate.TheVariants.{Mvp, Floats, ReferenceTypes, BulkMemory, BulkMemoryOpt, Threads, TailCall, MemoryControl}
+use Rattle.validate_resources.specs.Context.{IsLawful, Valid, is_index_type, is_number}
 use Rattle.validate_visit.specs.declared.op.Op.{Op}
-use Rattle.validate_visit.specs.declared.op.Op.TheVariants.{Control, Numeric, Convert}
+use Rattle.validate_visit.specs.declared.op.Op.TheVariants.{Control, Numeric, Convert, Memory, Atomic}
 use Rattle.validate_visit.specs.declared.op.ControlOp.{ControlOp}
-use Rattle.validate_visit.specs.declared.op.ControlOp.TheVariants.{Unreachable, Nop, Block as BlockOp, Loop as LoopOp, If as IfOp, Else as ElseOp, End, Br, BrIf, BrTable, Return, Drop, Select, TypedSelect, TypedSelectMulti, LocalGet, LocalSet, LocalTee}
+use Rattle.validate_visit.specs.declared.op.ControlOp.TheVariants.{Unreachable, Nop, Block as BlockOp, Loop as LoopOp, If as IfOp, Else as ElseOp, End, Br, BrIf, BrTable, Return, Call, ReturnCall, Drop, Select, TypedSelect, TypedSelectMulti, LocalGet, LocalSet, LocalTee, GlobalGet, GlobalSet}
 use Rattle.validate_visit.specs.declared.op.NumericOp.{NumericOp}
 use Rattle.validate_visit.specs.declared.op.NumericOp.TheVariants.{I32Const, I64Const, F32Const, F64Const, I64Add128, I64Sub128, I64MulWideS, I64MulWideU}
 use Rattle.validate_visit.specs.declared.op.ConvertOp.{ConvertOp}
 use Rattle.validate_visit.specs.declared.op.ConvertOp.TheVariants.{I32WrapI64}
-use Rattle.validation_rules.specs.Context.{ModuleContext, SubType, ValType, I32, BlockType, Empty, Val, FuncType, Context, block_signature, declared_signature}
+use Rattle.validate_visit.specs.declared.op.MemoryOp.{MemoryOp}
+use Rattle.validate_visit.specs.declared.op.MemoryOp.TheVariants.{F32Load, F64Load, F32Store, F64Store, MemorySize, MemoryGrow, MemoryInit, DataDrop, MemoryCopy, MemoryFill, MemoryDiscard}
+use Rattle.validate_visit.specs.declared.op.AtomicOp.{AtomicOp}
+use Rattle.validate_visit.specs.declared.op.AtomicOp.TheVariants.{AtomicFence, Pause}
+use Rattle.validation_rules.specs.Access.{memory_index, copies}
+use Rattle.validation_rules.specs.Context.{ModuleContext, Signature, SubType, ValType, I32, BlockType, Empty, Val, FuncType, Context, block_signature, declared_signature}
 use Rattle.validation_rules.specs.Branches.{types_of, label_at}
+use Rattle.validation_rules.specs.Calls.{may_access, accessed, global_type, called, callee, tail_call}
 use Rattle.validation_rules.specs.Fits.{MaybeType, Bottom, Known}
 use Rattle.validation_rules.specs.Rows.{FrameKind, Block, If, Loop, is_loop, Head, params, results, label_by, Form, Flat, Opens, BeginsElse, BeginsCatch, Ends, Delegates, Plain, Row, Operator, gives, takes, guard}
-use Rattle.validation_rules.specs.Static.{Frame, State, heads, set_in, onto, on_top, found, below_top, pushes_at, pushes_by, own_after, given_over, after_over, step, step_in, before, start}
-use Rattle.validation_rules.specs.Table.{may_name, checked_block, opener, flat, alike, closing, looking, drops, selected, selects, by_type, control_operator, numeric_row, convert_row, operator, body}
+use Rattle.validation_rules.specs.Static.{Frame, State, bind, heads, set_in, onto, on_top, found, below_top, pushes_at, pushes_by, own_after, given_over, after_over, step, step_in, before, start}
+use Rattle.validation_rules.specs.Table.{plain, may_name, checked_block, opener, flat, alike, closing, looking, drops, selected, selects, by_lookup, gated, control_operator, numeric_row, convert_row, memory_row, atomic_row, operator, body}
 use Rattle.validation_rules.specs.Valid.{OperandIsValid, Resolves, BlockIsValid, FrameIsValid, HeadIsValid, PushesValid, StateIsValid, StepsKeepValid, TableKeepsValid}
 use Rattle.validation_rules.proofs.Below.{and_true}
 use Rattle.validation_rules.proofs.Steps.{some_injective, guard_some, bind_some, stepped}
@@ -224,7 +234,7 @@ module _ (cx : Context) (laws : IsLawful cx.of_module) where
   get_valid (u ∷ locals) zero t h e = subst (Valid cx.of_module) (some_injective u t e) h.0
   get_valid (u ∷ locals) (suc i) t h e = get_valid locals i t h.1 e
 
-  typed_valid : (premise : Bool) (o : Option ValType) (reads sets : Option ℕ) (wanted push : ValType → List ValType) → ((t : ValType) → o ≡ Some t → AllByRecursion (Valid cx.of_module) (push t)) → PushesValid cx (alike (by_type o (λ t. record { premise = premise; reads = reads; operands = Plain (wanted t) [] (push t); sets = sets; targets = []; clauses = []; dead = false })))
+  typed_valid : (premise : Bool) (o : Option ValType) (reads sets : Option ℕ) (wanted push : ValType → List ValType) → ((t : ValType) → o ≡ Some t → AllByRecursion (Valid cx.of_module) (push t)) → PushesValid cx (alike (by_lookup o (λ t. record { premise = premise; reads = reads; operands = Plain (wanted t) [] (push t); sets = sets; targets = []; clauses = []; dead = false })))
   typed_valid premise None reads sets wanted push h = plain_valid false None None [] [] false (λ p. tt)
   typed_valid premise (Some t) reads sets wanted push h = plain_valid premise reads sets (wanted t) (push t) false (λ p. h t refl)
 
@@ -264,6 +274,37 @@ module _ (cx : Context) (laws : IsLawful cx.of_module) where
         begun = λ hs all types p i. absurd cc;
       }
 
+  -- ---- what look-ups give
+
+  global_valid : (i : ℕ) (g : GlobalType) → global_type cx i ≡ Some g → Valid cx.of_module g.content_type
+  global_valid i g e =
+      let b = bind_some (cx.of_module.global_at i) (accessed cx) g e in
+      let k = guard_some (may_access cx b.0.shared) _ _ b.2 in
+      subst (λ (h : GlobalType). Valid cx.of_module h.content_type) (some_injective _ _ k.1) (laws.globals i b.0 b.1)
+
+  signature_valid : (f : ℕ) (s : Signature) → callee cx f ≡ Some s → AllByRecursion (Valid cx.of_module) s.results
+  signature_valid f s e =
+      let b = bind_some (bind (cx.of_module.type_index_of f) cx.of_module.type_at) (called cx) s e in
+      let i = bind_some (cx.of_module.type_index_of f) cx.of_module.type_at b.0 b.1 in
+      let k = guard_some (may_access cx b.0.composite_type.shared) _ _ b.2 in
+      subst (λ (t : Signature). AllByRecursion (Valid cx.of_module) t.results) (some_injective _ _ k.1) (laws.results i.0 b.0 i.2)
+
+  global_get_valid : (i : ℕ) (o : Option GlobalType) → global_type cx i ≡ o → PushesValid cx (alike (by_lookup o (λ g. plain true [] (g.content_type ∷ []))))
+  global_get_valid i None e = plain_valid _ _ _ _ _ _ (λ p. tt)
+  global_get_valid i (Some g) e = plain_valid _ _ _ _ _ _ (λ p. (global_valid i g e, tt))
+
+  global_set_valid : (o : Option GlobalType) → PushesValid cx (alike (by_lookup o (λ g. plain g.mutable (g.content_type ∷ []) [])))
+  global_set_valid None = plain_valid _ _ _ _ [] _ (λ p. tt)
+  global_set_valid (Some g) = plain_valid _ _ _ _ [] _ (λ p. tt)
+
+  call_valid : (f : ℕ) (o : Option Signature) → callee cx f ≡ o → PushesValid cx (alike (by_lookup o (λ s. plain true s.params s.results)))
+  call_valid f None e = plain_valid _ _ _ _ [] _ (λ p. tt)
+  call_valid f (Some s) e = plain_valid _ _ _ _ s.results _ (λ p. signature_valid f s e)
+
+  return_call_valid : (o : Option Signature) → PushesValid cx (flat (λ hs. gated cx TailCall (by_lookup o (tail_call cx hs))))
+  return_call_valid None = flat_valid _ (λ hs. []) (λ hs. []) (λ hs. []) (λ hs. refl) (λ hs v. tt)
+  return_call_valid (Some s) = flat_valid _ (λ hs. s.params) (λ hs. []) (λ hs. []) (λ hs. refl) (λ hs v. tt)
+
   control_valid : (op : ControlOp) → AllByRecursion (Valid cx.of_module) cx.locals → PushesValid cx (control_operator cx op)
   control_valid Unreachable l = plain_valid _ _ _ _ [] _ (λ p. tt)
   control_valid Nop l = plain_valid _ _ _ _ [] _ (λ p. tt)
@@ -277,6 +318,8 @@ module _ (cx : Context) (laws : IsLawful cx.of_module) where
   control_valid (BrTable table) l =
       flat_valid _ (λ hs. label_at cx hs table.default ++ I32 ∷ []) (λ hs. []) (λ hs. map (λ e. label_at cx hs e ++ I32 ∷ []) table.targets.now) (λ hs. refl) (λ hs v. tt)
   control_valid Return l = flat_valid _ (λ hs. label_at cx hs (pred (length hs))) (λ hs. []) (λ hs. []) (λ hs. refl) (λ hs v. tt)
+  control_valid (Call f) l = call_valid f (callee cx f) refl
+  control_valid (ReturnCall f) l = return_call_valid (callee cx f)
   control_valid Drop l = looks_valid 1 drops drops_valid
   control_valid Select l = looks_valid 3 (selects cx) selects_valid
   control_valid (TypedSelect t) l =
@@ -285,6 +328,21 @@ module _ (cx : Context) (laws : IsLawful cx.of_module) where
   control_valid (LocalGet i) l = typed_valid true (slice_get cx.locals i) (Some i) None (λ t. []) (λ t. t ∷ []) (λ t e. (get_valid cx.locals i t l e, tt))
   control_valid (LocalSet i) l = typed_valid true (slice_get cx.locals i) None (Some i) (λ t. t ∷ []) (λ t. []) (λ t e. tt)
   control_valid (LocalTee i) l = typed_valid true (slice_get cx.locals i) None (Some i) (λ t. t ∷ []) (λ t. t ∷ []) (λ t e. (get_valid cx.locals i t l e, tt))
+  control_valid (GlobalGet i) l = global_get_valid i (global_type cx i) refl
+  control_valid (GlobalSet i) l = global_set_valid (global_type cx i)
+
+  -- a list of numbers
+  numbers_valid : (ts : List ValType) → list_all is_number ts ≡ true → AllByRecursion (Valid cx.of_module) ts
+  numbers_valid [] h = tt
+  numbers_valid (t ∷ ts) h =
+      let a = and_true (is_number t) _ h in
+      (laws.number_valid t a.0, numbers_valid ts a.1)
+
+  numbers_pushed : (premise : Bool) (reads sets : Option ℕ) (wanted push : List ValType) (dead : Bool) → list_all is_number push ≡ true → PushesValid cx (alike (record { premise = premise; reads = reads; operands = Plain wanted [] push; sets = sets; targets = []; clauses = []; dead = dead }))
+  numbers_pushed premise reads sets wanted push dead h = plain_valid premise reads sets wanted push dead (λ p. numbers_valid push h)
+
+  index_is_number : (t : ValType) → is_index_type t ≡ true → is_number t ≡ true
+  index_is_number t h = refl
 
   -- every row of the group pushes one number, or two
   numeric_valid : (op : NumericOp) → PushesValid cx (alike (numeric_row cx op))
@@ -302,10 +360,44 @@ module _ (cx : Context) (laws : IsLawful cx.of_module) where
   convert_valid I32WrapI64 = plain_valid _ _ _ _ _ _ (λ p. (laws.number_valid _ refl, tt))
   convert_valid _ = plain_valid _ _ _ _ _ _ (λ p. (laws.number_valid _ refl, tt))
 
+  -- a row for an address is one for the type of it
+  by_lookup_valid : (gate : Gate) (o : Option ValType) (row : ValType → Row) → ((t : ValType) → o ≡ Some t → PushesValid cx (alike (gated cx gate (row t)))) → PushesValid cx (alike (gated cx gate (by_lookup o row)))
+  by_lookup_valid gate None row h = plain_valid _ None None [] [] false (λ p. tt)
+  by_lookup_valid gate (Some t) row h = h t refl
+
+  -- the types of addresses are numbers
+  index_valid : (m : ℕ) (t : ValType) → memory_index cx.of_module m ≡ Some t → Valid cx.of_module t
+  index_valid m t e = by (cx.of_module.memory_at m) refl e
+    where
+      by : (o : Option MemoryType) → cx.of_module.memory_at m ≡ o → option_map index_type o ≡ Some t → Valid cx.of_module t
+      by None k h = absurd cc
+      by (Some ty) k h = subst (Valid cx.of_module) (some_injective _ _ h) (laws.number_valid (index_type ty) (index_is_number (index_type ty) (laws.memory_index m ty k)))
+
+  memory_valid : (op : MemoryOp) → PushesValid cx (alike (memory_row cx op))
+  memory_valid (F32Load arg) = by_lookup_valid Floats _ _ (λ t e. numbers_pushed _ _ _ _ _ _ refl)
+  memory_valid (F64Load arg) = by_lookup_valid Floats _ _ (λ t e. numbers_pushed _ _ _ _ _ _ refl)
+  memory_valid (F32Store arg) = by_lookup_valid Floats _ _ (λ t e. numbers_pushed _ _ _ _ _ _ refl)
+  memory_valid (F64Store arg) = by_lookup_valid Floats _ _ (λ t e. numbers_pushed _ _ _ _ _ _ refl)
+  memory_valid (MemorySize m) = by_lookup_valid Mvp _ _ (λ t e. plain_valid _ _ _ _ _ _ (λ p. (index_valid m t e, tt)))
+  memory_valid (MemoryGrow m) = by_lookup_valid Mvp _ _ (λ t e. plain_valid _ _ _ _ _ _ (λ p. (index_valid m t e, tt)))
+  memory_valid (MemoryInit segment m) = by_lookup_valid BulkMemory _ _ (λ t e. numbers_pushed _ _ _ _ _ _ refl)
+  memory_valid (DataDrop segment) = numbers_pushed _ _ _ _ _ _ refl
+  memory_valid (MemoryCopy dst src) = by_lookup_valid BulkMemoryOpt _ (λ t. by_lookup (memory_index cx.of_module src) (copies t)) (λ t e. by_lookup_valid BulkMemoryOpt _ (copies t) (λ u k. numbers_pushed _ _ _ _ _ _ refl))
+  memory_valid (MemoryFill m) = by_lookup_valid BulkMemoryOpt _ _ (λ t e. numbers_pushed _ _ _ _ _ _ refl)
+  memory_valid (MemoryDiscard m) = by_lookup_valid MemoryControl _ _ (λ t e. numbers_pushed _ _ _ _ _ _ refl)
+  memory_valid _ = by_lookup_valid Mvp _ _ (λ t e. numbers_pushed _ _ _ _ _ _ refl)
+
+  atomic_valid : (op : AtomicOp) → PushesValid cx (alike (atomic_row cx op))
+  atomic_valid (AtomicFence ordering) = numbers_pushed _ _ _ _ _ _ refl
+  atomic_valid Pause = numbers_pushed _ _ _ _ _ _ refl
+  atomic_valid _ = by_lookup_valid Threads _ _ (λ t e. numbers_pushed _ _ _ _ _ _ refl)
+
   pub operator_valid : (op : Op) → AllByRecursion (Valid cx.of_module) cx.locals → PushesValid cx (operator cx op)
   operator_valid (Control op) l = control_valid op l
   operator_valid (Numeric op) l = numeric_valid op
   operator_valid (Convert op) l = convert_valid op
+  operator_valid (Memory op) l = memory_valid op
+  operator_valid (Atomic op) l = atomic_valid op
 
 pub table_keeps_valid : (md : ModuleContext) → IsLawful md → TableKeepsValid md
 table_keeps_valid md laws cx op s u same h e =

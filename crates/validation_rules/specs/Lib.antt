@@ -8,5 +8,9 @@ pub mod Shapes
 pub mod Branches
 pub mod Numeric
 pub mod Convert
+pub mod Calls
+pub mod Access
+pub mod Memory
+pub mod Atomic
 pub mod Table
 pub mod Order

@@ -1,6 +1,6 @@
 -- Rows and operators of one shape, from which the table of operators is built (WebAssembly core
 -- specification, "Validation: Instructions").
-use Rattle.std.specs.Prelude.{ℕ, Bool, true, false, ◌&&◌, List, [], ◌∷◌, Option, None}
+use Rattle.std.specs.Prelude.{ℕ, Bool, true, false, ◌&&◌, List, [], ◌∷◌, Option, Some, None}
 use Rattle.validate_types.specs.Gates.{is_open}
 use Rattle.validate_types.specs.declared.gate.Gate.{Gate}
 use Rattle.validation_rules.specs.Context.{ValType, I32, I64, Context}
@@ -11,6 +11,11 @@ use Rattle.validation_rules.specs.Rows.{Head, Form, Flat, Plain, Looks, Row, Ope
 abbrev pub plain : Bool → List ValType → List ValType → Row
 plain premise wanted pushed =
     record { premise = premise; reads = None; operands = Plain wanted [] pushed; sets = None; targets = []; clauses = []; dead = false }
+
+-- the row for what a look-up found; where it found nothing, one that never holds
+abbrev pub by_lookup : {A : Type 0} → Option A → (A → Row) → Row
+by_lookup None row = plain false [] []
+by_lookup (Some x) row = row x
 
 -- it ends the live part of its frame
 abbrev pub ends_live : Bool → List ValType → Row

@@ -1,38 +1,36 @@
 -- The table of operators: the row of each, in the context of a body (WebAssembly core specification,
 -- "Validation: Instructions").
-pub use Rattle.validation_rules.specs.Shapes.{plain, ends_live, looking, flat, alike, closing, constant, test, unary, binary, comparison, conversion, binary_wide, multiply_wide, gated}
+pub use Rattle.validation_rules.specs.Shapes.{by_lookup, plain, ends_live, looking, flat, alike, closing, constant, test, unary, binary, comparison, conversion, binary_wide, multiply_wide, gated}
 use Rattle.std.specs.Prelude.{ℕ, Bool, true, false, not, ◌&&◌, ◌||◌, List, [], ◌∷◌, ◌++◌, Option, Some, None, map, slice_get}
 use Rattle.std.specs.Option.{option_map}
 use Rattle.validate_resources.specs.Context.{same_number}
 use Rattle.validate_types.specs.Features.{has, multi_value}
 use Rattle.validate_types.specs.Gates.{is_open}
-use Rattle.validate_types.specs.declared.gate.Gate.TheVariants.{ReferenceTypes}
+use Rattle.validate_types.specs.declared.gate.Gate.TheVariants.{ReferenceTypes, TailCall}
 use Rattle.validate_visit.specs.declared.op.Op.{Op}
-use Rattle.validate_visit.specs.declared.op.Op.TheVariants.{Control, Numeric, Convert}
+use Rattle.validate_visit.specs.declared.op.Op.TheVariants.{Control, Numeric, Convert, Memory, Atomic}
 use Rattle.validate_visit.specs.declared.op.ControlOp.{ControlOp}
-use Rattle.validate_visit.specs.declared.op.ControlOp.TheVariants.{Unreachable, Nop, Block as BlockOp, Loop as LoopOp, If as IfOp, Else as ElseOp, End, Br, BrIf, BrTable, Return, Drop, Select, TypedSelect, TypedSelectMulti, LocalGet, LocalSet, LocalTee}
+use Rattle.validate_visit.specs.declared.op.ControlOp.TheVariants.{Unreachable, Nop, Block as BlockOp, Loop as LoopOp, If as IfOp, Else as ElseOp, End, Br, BrIf, BrTable, Return, Call, ReturnCall, Drop, Select, TypedSelect, TypedSelectMulti, LocalGet, LocalSet, LocalTee, GlobalGet, GlobalSet}
 pub use Rattle.validation_rules.specs.Numeric.{numeric_row}
 pub use Rattle.validation_rules.specs.Convert.{convert_row}
+pub use Rattle.validation_rules.specs.Memory.{memory_row}
+pub use Rattle.validation_rules.specs.Atomic.{atomic_row}
 use Rattle.validation_rules.specs.Branches.{br_row, br_if_row, br_table_row, return_row}
-use Rattle.validation_rules.specs.Context.{SubType, ValType, I32, I64, BlockType, Empty, Val, FuncType, Context, block_signature}
+use Rattle.validation_rules.specs.Calls.{call_row, return_call_row, global_get, global_set}
+use Rattle.validation_rules.specs.Context.{SubType, ValType, I32, BlockType, Empty, Val, FuncType, Context, block_signature}
 use Rattle.validation_rules.specs.Fits.{MaybeType, Bottom, Known, fits}
 use Rattle.validation_rules.specs.Rows.{FrameKind, Block, If, Loop, Opens, BeginsElse, Ends, guard, Row, Operator}
-
--- the row of a type, where there is one
-abbrev pub by_type : Option ValType → (ValType → Row) → Row
-by_type None row = plain false [] []
-by_type (Some t) row = row t
 
 -- ---- variables
 
 abbrev pub local_get : Context → ℕ → Row
-local_get cx i = by_type (slice_get cx.locals i) (λ t. record (plain true [] (t ∷ [])) { reads = Some i })
+local_get cx i = by_lookup (slice_get cx.locals i) (λ t. record (plain true [] (t ∷ [])) { reads = Some i })
 
 abbrev pub local_set : Context → ℕ → Row
-local_set cx i = by_type (slice_get cx.locals i) (λ t. record (plain true (t ∷ []) []) { sets = Some i })
+local_set cx i = by_lookup (slice_get cx.locals i) (λ t. record (plain true (t ∷ []) []) { sets = Some i })
 
 abbrev pub local_tee : Context → ℕ → Row
-local_tee cx i = by_type (slice_get cx.locals i) (λ t. record (plain true (t ∷ []) (t ∷ [])) { sets = Some i })
+local_tee cx i = by_lookup (slice_get cx.locals i) (λ t. record (plain true (t ∷ []) (t ∷ [])) { sets = Some i })
 
 -- ---- any operand
 
@@ -54,7 +52,7 @@ selects cx _ = None
 
 -- with its type written, which has to pass the check of value types
 abbrev pub typed_select : Context → ValType → Row
-typed_select cx t = by_type (cx.of_module.canonical cx.features t) (λ u. plain (is_open cx.features ReferenceTypes) (u ∷ u ∷ I32 ∷ []) (u ∷ []))
+typed_select cx t = by_lookup (cx.of_module.canonical cx.features t) (λ u. plain (is_open cx.features ReferenceTypes) (u ∷ u ∷ I32 ∷ []) (u ∷ []))
 
 -- ---- blocks
 
@@ -94,6 +92,8 @@ control_operator cx (Br d) = flat (λ hs. br_row cx hs d)
 control_operator cx (BrIf d) = flat (λ hs. br_if_row cx hs d)
 control_operator cx (BrTable table) = flat (λ hs. br_table_row cx hs table.complete table.targets.now table.default)
 control_operator cx Return = flat (λ hs. return_row cx hs)
+control_operator cx (Call f) = alike (call_row cx f)
+control_operator cx (ReturnCall f) = flat (λ hs. gated cx TailCall (return_call_row cx hs f))
 control_operator cx Drop = alike (looking true 1 drops)
 control_operator cx Select = alike (looking true 3 (selects cx))
 control_operator cx (TypedSelect t) = alike (typed_select cx t)
@@ -101,11 +101,15 @@ control_operator cx (TypedSelectMulti ts) = alike (plain false [] [])
 control_operator cx (LocalGet i) = alike (local_get cx i)
 control_operator cx (LocalSet i) = alike (local_set cx i)
 control_operator cx (LocalTee i) = alike (local_tee cx i)
+control_operator cx (GlobalGet i) = alike (global_get cx i)
+control_operator cx (GlobalSet i) = alike (global_set cx i)
 
 abbrev pub operator : Context → Op → Operator
 operator cx (Control op) = control_operator cx op
 operator cx (Numeric op) = alike (numeric_row cx op)
 operator cx (Convert op) = alike (convert_row cx op)
+operator cx (Memory op) = alike (memory_row cx op)
+operator cx (Atomic op) = alike (atomic_row cx op)
 
 -- a body, as the rules see it
 abbrev pub body : Context → List Op → List Operator

@@ -1,6 +1,7 @@
 //! The validator of a body's operators (wasmparser's `validator::operators`).
 
 pub mod check;
+mod memory;
 mod numeric;
 pub mod safety;
 pub mod validator;

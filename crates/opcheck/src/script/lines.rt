@@ -3,12 +3,15 @@
 use crate::failure::LineError;
 use crate::script::Body;
 use crate::script::features::read_feature;
+use crate::script::globals::read_global_type;
+use crate::script::memory::read_memory_type;
 use crate::script::numbers::read_index;
 use crate::script::operators::{read_br_table, read_operator, read_typed_select_multi};
 use crate::script::owned::OwnedOp;
 use crate::script::types::{read_type, read_value_type};
 use std::alloc::Global;
-use wasmparser_validate::types::{SubType, ValType, WasmFeatures};
+use wasmparser_validate::resources::FuncDecl;
+use wasmparser_validate::types::{GlobalType, MemoryType, SubType, ValType, WasmFeatures};
 
 /// What a line says that is neither blank nor a comment.
 #[derive(Drop)]
@@ -17,6 +20,14 @@ pub enum Line {
     Feature(WasmFeatures),
     /// `type ..`: the module declares this type.
     SubType(SubType),
+    /// `fn N`: the module declares this function.
+    Function(FuncDecl),
+    /// `memory ..`: the module declares a memory of this type.
+    Memory(MemoryType),
+    /// `global ..`: the module declares a global of this type.
+    Global(GlobalType),
+    /// `data COUNT`: the module has this many data segments.
+    DataCount(u32),
     /// `func N` or `expr T`: what the operators are the body of.
     Body(Body),
     /// `local N T`: the body has this many more locals of this type.
@@ -41,6 +52,15 @@ pub fn read_line(alloc: Global, words: &[&str]) -> Result<Line, LineError> {
 fn read_flat_line(words: &[&str]) -> Option<Line> {
     match *words {
         ["feature", name] => Some(Line::Feature(read_feature(name)?)),
+        ["fn", type_index] => Some(Line::Function(FuncDecl {
+            type_index: read_index(type_index)?,
+        })),
+        ["memory", ref marks @ ..] => Some(Line::Memory(read_memory_type(marks)?)),
+        ["global", ty, ref marks @ ..] => {
+            let content_type = read_value_type(ty)?;
+            Some(Line::Global(read_global_type(content_type, marks)?))
+        }
+        ["data", count] => Some(Line::DataCount(read_index(count)?)),
         ["func", type_index] => Some(Line::Body(Body::Function(read_index(type_index)?))),
         ["expr", ty] => Some(Line::Body(Body::Expression(read_value_type(ty)?))),
         ["local", count, ty] => Some(Line::Locals(read_index(count)?, read_value_type(ty)?)),

@@ -4,7 +4,7 @@ ghost use Rattle.std.specs.Prelude.{◌≡◌, ◌≢◌, All, IfOk, IsErrOf, Ma
 ghost use Rattle.std.specs.Option.{SomeIff};
 ghost use Rattle.std.specs.Str.Parse.{digits_value};
 ghost use Rattle.std.specs.Int.{w32, w64};
-ghost use Rattle.opcheck.specs.Numbers.{IsIndex, IsBits, IsConstant, constant_value};
+ghost use Rattle.opcheck.specs.Numbers.{IsIndex, IsExponent, IsLongNumber, IsConstant, constant_value};
 ghost use Rattle.opcheck.specs.declared.failure.LineError.{LineError};
 
 use crate::failure::LineError;
@@ -55,9 +55,16 @@ pub fn read_i64(token: &str) -> Option<i64>
     without_plus(token)?.parse().ok()
 }
 
-/// The bits of a float of 64 bits that a token writes, if it does.
+/// The exponent of an alignment that a token writes, if it does.
+pub fn read_u8(token: &str) -> Option<u8>
+    ensures { SomeIff result (IsExponent token.now) (digits_value 10 token.now) }
+{
+    without_plus(token)?.parse().ok()
+}
+
+/// The bits of a float of 64 bits, or the offset of an access, that a token writes, if it does.
 pub fn read_u64(token: &str) -> Option<u64>
-    ensures { SomeIff result (IsBits token.now) (digits_value 10 token.now) }
+    ensures { SomeIff result (IsLongNumber token.now) (digits_value 10 token.now) }
 {
     without_plus(token)?.parse().ok()
 }

@@ -7,12 +7,14 @@ ghost use Rattle.opcheck.specs.Owned.{labels_of};
 ghost use Rattle.opcheck.specs.declared.failure.LineError.{LineError};
 
 use crate::failure::LineError;
+use crate::script::atomic::read_atomic_operator;
+use crate::script::memory::read_memory_operator;
 use crate::script::numbers::{read_i32, read_i64, read_index, read_indices, read_u64};
 use crate::script::numeric::{CONVERT, NUMERIC};
 use crate::script::owned::OwnedOp;
 use crate::script::types::{read_value_type, read_value_types};
 use std::alloc::Global;
-use wasmparser_validate::visit::{BlockType, ControlOp, Ieee32, Ieee64, NumericOp, Op};
+use wasmparser_validate::visit::{AtomicOp, BlockType, ControlOp, Ieee32, Ieee64, NumericOp, Op};
 
 /// The operators without immediates but those of numbers, by their names.
 const PLAIN: &[(&str, Op<'static>)] = &[
@@ -26,11 +28,19 @@ const PLAIN: &[(&str, Op<'static>)] = &[
     ("return", Op::Control(ControlOp::Return)),
     ("drop", Op::Control(ControlOp::Drop)),
     ("select", Op::Control(ControlOp::Select)),
+    ("pause", Op::Atomic(AtomicOp::Pause)),
 ];
 
 /// The operator that a line's words write, if they do, where it has no list: its name, and its
 /// immediates after it.
 pub fn read_operator(words: &[&str]) -> Option<Op<'static>> {
+    operator_without_memory(words)
+        .or_else(|| read_memory_operator(words))
+        .or_else(|| read_atomic_operator(words))
+}
+
+/// The operator that these words write, if it is one on no memory.
+fn operator_without_memory(words: &[&str]) -> Option<Op<'static>> {
     match *words {
         [name] => plain_operator(name).or_else(|| constant_operator(name, "0")),
         [name, immediate] => {
@@ -87,15 +97,19 @@ fn read_block_type(word: &str) -> Option<BlockType> {
     }
 }
 
-/// The operator of this name on the label or the local at this index.
+/// The operator of this name on the label, the function, the local or the global at this index.
 fn indexed_operator(name: &str, index: &str) -> Option<Op<'static>> {
     let index = read_index(index)?;
     match name {
         "br" => Some(Op::Control(ControlOp::Br(index))),
         "br_if" => Some(Op::Control(ControlOp::BrIf(index))),
+        "call" => Some(Op::Control(ControlOp::Call(index))),
+        "return_call" => Some(Op::Control(ControlOp::ReturnCall(index))),
         "local.get" => Some(Op::Control(ControlOp::LocalGet(index))),
         "local.set" => Some(Op::Control(ControlOp::LocalSet(index))),
         "local.tee" => Some(Op::Control(ControlOp::LocalTee(index))),
+        "global.get" => Some(Op::Control(ControlOp::GlobalGet(index))),
+        "global.set" => Some(Op::Control(ControlOp::GlobalSet(index))),
         _ => None,
     }
 }

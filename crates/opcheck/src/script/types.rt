@@ -1,5 +1,8 @@
 //! The types that a script names and declares.
 
+ghost use Rattle.std.specs.Prelude.{◌↔◌, IsTrue, IfOk, map};
+ghost use Rattle.opcheck.specs.Types.{BeginsShared};
+
 use crate::failure::LineError;
 use std::alloc::Global;
 use wasmparser_validate::types::{CompositeInnerType, CompositeType, FuncType, SubType, ValType};
@@ -21,18 +24,32 @@ pub fn read_value_type(word: &str) -> Option<ValType> {
         .map(|named| named.1)
 }
 
-/// The type that a `type` line declares, from the words after `type`.
-pub fn read_type(alloc: Global, words: &[&str]) -> Result<SubType, LineError> {
-    let Some((&"func", signature)) = words.split_first() else {
+/// The type that a `type` line declares, from the words after `type`: the marks, of which `shared` is
+/// the only one, the kind, and the signature.
+pub fn read_type(alloc: Global, words: &[&str]) -> Result<SubType, LineError>
+    ensures { IfOk result (λ ty. IsTrue ty.composite_type.shared ↔ BeginsShared (map (λ word. word.now) words.now)) }
+{
+    let kind = words
+        .iter()
+        .position(|word| *word != "shared")
+        .ok_or(LineError::Bad)?;
+    let Some((&"func", signature)) = words[kind..].split_first() else {
         return Err(LineError::Bad);
     };
     Ok(SubType {
         is_final: true,
         composite_type: CompositeType {
             inner: CompositeInnerType::Func(read_signature(alloc, signature)?),
-            shared: false,
+            shared: is_marked_shared(words),
         },
     })
+}
+
+/// Whether the first of these words is the mark `shared`.
+fn is_marked_shared(words: &[&str]) -> bool
+    ensures { IsTrue result ↔ BeginsShared (map (λ word. word.now) words.now) }
+{
+    matches!(*words, ["shared", ..])
 }
 
 /// A function type: its parameters, an arrow, and its results.

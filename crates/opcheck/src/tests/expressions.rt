@@ -3,9 +3,10 @@
 use super::{expect_bad, expect_run};
 use crate::check::begin_body;
 use crate::script::{Body, BodyLine};
+use std::alloc::Global;
 use std::test::Fail;
 use wasmparser_validate::resources::ModuleLists;
-use wasmparser_validate::types::{ValType, WasmFeatures};
+use wasmparser_validate::types::{Error, ValType, WasmFeatures};
 
 #[test]
 fn answers_expressions(rt: HostRuntime) -> Result<(), Fail> {
@@ -99,9 +100,21 @@ fn places_expressions(rt: HostRuntime) -> Result<(), Fail> {
     Ok(())
 }
 
+/// A module that declares nothing.
+fn empty_module(alloc: Global) -> Result<ModuleLists, Error> {
+    ModuleLists::new(
+        alloc,
+        Vec::new(alloc),
+        Vec::new(alloc),
+        Vec::new(alloc),
+        Vec::new(alloc),
+        None,
+    )
+}
+
 #[test]
 fn refuses_the_type_at_its_line(rt: HostRuntime) -> Result<(), Fail> {
-    let lists = ModuleLists::new(rt.alloc(), Vec::new(rt.alloc()))?;
+    let lists = empty_module(rt.alloc())?;
     let line = BodyLine {
         body: Body::Expression(ValType::F32),
         offset: 77,

@@ -4,7 +4,7 @@ use super::{expect_bad, expect_body, expect_run};
 use crate::check::check_script;
 use crate::failure::{BadScript, Failure};
 use crate::script::owned::OwnedOp;
-use crate::script::{Body, BodyLine, Script};
+use crate::script::{Body, BodyLine, Declarations, Script};
 use bitflags::Flags;
 use std::alloc::{AllocError, Global};
 use std::test::Fail;
@@ -72,7 +72,13 @@ fn names_the_first_cause(rt: HostRuntime) -> Result<(), Fail> {
 fn script_of(alloc: Global, types: usize, ends: usize) -> Result<Script, AllocError> {
     let mut script = Script {
         features: WasmFeatures::all(),
-        types: Vec::with_capacity(alloc, types)?,
+        declarations: Declarations {
+            types: Vec::with_capacity(alloc, types)?,
+            functions: Vec::new(alloc),
+            memories: Vec::new(alloc),
+            globals: Vec::new(alloc),
+            data_count: None,
+        },
         body: BodyLine {
             body: Body::Function(0),
             offset: 1,
@@ -85,7 +91,7 @@ fn script_of(alloc: Global, types: usize, ends: usize) -> Result<Script, AllocEr
         script.operators.push((end, 2))?;
     }
     for _ in 0..types {
-        script.types.push(SubType {
+        script.declarations.types.push(SubType {
             is_final: true,
             composite_type: CompositeType {
                 inner: CompositeInnerType::Func(FuncType::new(Vec::new(alloc), Vec::new(alloc))),

@@ -11,15 +11,19 @@ use crate::operators::validator::OperatorValidator;
 use validate_resources::WasmModuleResources;
 use validate_rows::blocks::check_opener;
 use validate_rows::branches::{check_br, check_br_if, check_br_table, check_return};
+use validate_rows::calls::{check_call, check_return_call};
 use validate_rows::control::{check_else, check_end, check_nop, check_unreachable};
+use validate_rows::globals::{check_global_get, check_global_set};
 use validate_rows::parametric::{
     check_drop, check_select, check_typed_select, check_typed_select_multi,
 };
+use validate_rows::plain::check_plain;
 use validate_rows::variables::{check_local_get, check_local_set, check_local_tee};
+use validate_rows::{atomic, memory};
 use validate_types::{Error, Gate, ValType};
 use validate_visit::{
-    BlockType, BrTable, ControlOp, ConvertOp, FrameKind, FrameStack, Ieee32, Ieee64, NumericOp, Op,
-    VisitOperator,
+    AtomicOp, BlockType, BrTable, ControlOp, ConvertOp, FrameKind, FrameStack, Ieee32, Ieee64,
+    MemArg, MemoryOp, NumericOp, Op, Ordering, VisitOperator,
 };
 
 /// A validator that is about to visit an operator, with the lookup and the operator's offset
@@ -137,6 +141,24 @@ impl<'a, 'validator, 'resources, R: WasmModuleResources> VisitOperator<'a>
         check_return(&mut self.inner.stacks, self.resources, self.offset)
     }
 
+    fn visit_call(&mut self, function_index: u32) -> Result<(), Error> {
+        check_call(
+            &mut self.inner.stacks,
+            self.resources,
+            self.offset,
+            function_index,
+        )
+    }
+
+    fn visit_return_call(&mut self, function_index: u32) -> Result<(), Error> {
+        check_return_call(
+            &mut self.inner.stacks,
+            self.resources,
+            self.offset,
+            function_index,
+        )
+    }
+
     fn visit_drop(&mut self) -> Result<(), Error> {
         check_drop(&mut self.inner.stacks, self.resources, self.offset)
     }
@@ -177,6 +199,24 @@ impl<'a, 'validator, 'resources, R: WasmModuleResources> VisitOperator<'a>
             self.resources,
             self.offset,
             local_index,
+        )
+    }
+
+    fn visit_global_get(&mut self, global_index: u32) -> Result<(), Error> {
+        check_global_get(
+            &mut self.inner.stacks,
+            self.resources,
+            self.offset,
+            global_index,
+        )
+    }
+
+    fn visit_global_set(&mut self, global_index: u32) -> Result<(), Error> {
+        check_global_set(
+            &mut self.inner.stacks,
+            self.resources,
+            self.offset,
+            global_index,
         )
     }
 
@@ -756,11 +796,434 @@ impl<'a, 'validator, 'resources, R: WasmModuleResources> VisitOperator<'a>
         self.check_conversion_op(Gate::SaturatingFloatToInt, ValType::I64, ValType::F64)
     }
 
+    fn visit_i32_load(&mut self, memarg: MemArg) -> Result<(), Error> {
+        self.check_load(Gate::Mvp, memarg, ValType::I32)
+    }
+
+    fn visit_i64_load(&mut self, memarg: MemArg) -> Result<(), Error> {
+        self.check_load(Gate::Mvp, memarg, ValType::I64)
+    }
+
+    fn visit_f32_load(&mut self, memarg: MemArg) -> Result<(), Error> {
+        self.check_load(Gate::Floats, memarg, ValType::F32)
+    }
+
+    fn visit_f64_load(&mut self, memarg: MemArg) -> Result<(), Error> {
+        self.check_load(Gate::Floats, memarg, ValType::F64)
+    }
+
+    fn visit_i32_load8_s(&mut self, memarg: MemArg) -> Result<(), Error> {
+        self.check_load(Gate::Mvp, memarg, ValType::I32)
+    }
+
+    fn visit_i32_load8_u(&mut self, memarg: MemArg) -> Result<(), Error> {
+        self.check_load(Gate::Mvp, memarg, ValType::I32)
+    }
+
+    fn visit_i32_load16_s(&mut self, memarg: MemArg) -> Result<(), Error> {
+        self.check_load(Gate::Mvp, memarg, ValType::I32)
+    }
+
+    fn visit_i32_load16_u(&mut self, memarg: MemArg) -> Result<(), Error> {
+        self.check_load(Gate::Mvp, memarg, ValType::I32)
+    }
+
+    fn visit_i64_load8_s(&mut self, memarg: MemArg) -> Result<(), Error> {
+        self.check_load(Gate::Mvp, memarg, ValType::I64)
+    }
+
+    fn visit_i64_load8_u(&mut self, memarg: MemArg) -> Result<(), Error> {
+        self.check_load(Gate::Mvp, memarg, ValType::I64)
+    }
+
+    fn visit_i64_load16_s(&mut self, memarg: MemArg) -> Result<(), Error> {
+        self.check_load(Gate::Mvp, memarg, ValType::I64)
+    }
+
+    fn visit_i64_load16_u(&mut self, memarg: MemArg) -> Result<(), Error> {
+        self.check_load(Gate::Mvp, memarg, ValType::I64)
+    }
+
+    fn visit_i64_load32_s(&mut self, memarg: MemArg) -> Result<(), Error> {
+        self.check_load(Gate::Mvp, memarg, ValType::I64)
+    }
+
+    fn visit_i64_load32_u(&mut self, memarg: MemArg) -> Result<(), Error> {
+        self.check_load(Gate::Mvp, memarg, ValType::I64)
+    }
+
+    fn visit_i32_store(&mut self, memarg: MemArg) -> Result<(), Error> {
+        self.check_store(Gate::Mvp, memarg, ValType::I32)
+    }
+
+    fn visit_i64_store(&mut self, memarg: MemArg) -> Result<(), Error> {
+        self.check_store(Gate::Mvp, memarg, ValType::I64)
+    }
+
+    fn visit_f32_store(&mut self, memarg: MemArg) -> Result<(), Error> {
+        self.check_store(Gate::Floats, memarg, ValType::F32)
+    }
+
+    fn visit_f64_store(&mut self, memarg: MemArg) -> Result<(), Error> {
+        self.check_store(Gate::Floats, memarg, ValType::F64)
+    }
+
+    fn visit_i32_store8(&mut self, memarg: MemArg) -> Result<(), Error> {
+        self.check_store(Gate::Mvp, memarg, ValType::I32)
+    }
+
+    fn visit_i32_store16(&mut self, memarg: MemArg) -> Result<(), Error> {
+        self.check_store(Gate::Mvp, memarg, ValType::I32)
+    }
+
+    fn visit_i64_store8(&mut self, memarg: MemArg) -> Result<(), Error> {
+        self.check_store(Gate::Mvp, memarg, ValType::I64)
+    }
+
+    fn visit_i64_store16(&mut self, memarg: MemArg) -> Result<(), Error> {
+        self.check_store(Gate::Mvp, memarg, ValType::I64)
+    }
+
+    fn visit_i64_store32(&mut self, memarg: MemArg) -> Result<(), Error> {
+        self.check_store(Gate::Mvp, memarg, ValType::I64)
+    }
+
+    fn visit_memory_size(&mut self, mem: u32) -> Result<(), Error> {
+        memory::check_memory_size(&mut self.inner.stacks, self.resources, self.offset, mem)
+    }
+
+    fn visit_memory_grow(&mut self, mem: u32) -> Result<(), Error> {
+        memory::check_memory_grow(&mut self.inner.stacks, self.resources, self.offset, mem)
+    }
+
+    fn visit_memory_init(&mut self, data_index: u32, mem: u32) -> Result<(), Error> {
+        memory::check_memory_init(
+            &mut self.inner.stacks,
+            self.resources,
+            self.offset,
+            data_index,
+            mem,
+        )
+    }
+
+    fn visit_data_drop(&mut self, data_index: u32) -> Result<(), Error> {
+        memory::check_data_drop(
+            &mut self.inner.stacks,
+            self.resources,
+            self.offset,
+            data_index,
+        )
+    }
+
+    fn visit_memory_copy(&mut self, dst_mem: u32, src_mem: u32) -> Result<(), Error> {
+        memory::check_memory_copy(
+            &mut self.inner.stacks,
+            self.resources,
+            self.offset,
+            dst_mem,
+            src_mem,
+        )
+    }
+
+    fn visit_memory_fill(&mut self, mem: u32) -> Result<(), Error> {
+        memory::check_memory_fill(&mut self.inner.stacks, self.resources, self.offset, mem)
+    }
+
+    fn visit_memory_discard(&mut self, mem: u32) -> Result<(), Error> {
+        memory::check_memory_discard(&mut self.inner.stacks, self.resources, self.offset, mem)
+    }
+
+    fn visit_memory_atomic_notify(&mut self, memarg: MemArg) -> Result<(), Error> {
+        atomic::check_atomic_notify(&mut self.inner.stacks, self.resources, self.offset, memarg)
+    }
+
+    fn visit_memory_atomic_wait32(&mut self, memarg: MemArg) -> Result<(), Error> {
+        self.check_atomic_wait(memarg, ValType::I32)
+    }
+
+    fn visit_memory_atomic_wait64(&mut self, memarg: MemArg) -> Result<(), Error> {
+        self.check_atomic_wait(memarg, ValType::I64)
+    }
+
+    fn visit_atomic_fence(&mut self, ordering: Ordering) -> Result<(), Error> {
+        atomic::check_atomic_fence(
+            &mut self.inner.stacks,
+            self.resources,
+            self.offset,
+            ordering,
+        )
+    }
+
+    fn visit_i32_atomic_load(&mut self, memarg: MemArg) -> Result<(), Error> {
+        self.check_atomic_load(memarg, ValType::I32)
+    }
+
+    fn visit_i64_atomic_load(&mut self, memarg: MemArg) -> Result<(), Error> {
+        self.check_atomic_load(memarg, ValType::I64)
+    }
+
+    fn visit_i32_atomic_load8_u(&mut self, memarg: MemArg) -> Result<(), Error> {
+        self.check_atomic_load(memarg, ValType::I32)
+    }
+
+    fn visit_i32_atomic_load16_u(&mut self, memarg: MemArg) -> Result<(), Error> {
+        self.check_atomic_load(memarg, ValType::I32)
+    }
+
+    fn visit_i64_atomic_load8_u(&mut self, memarg: MemArg) -> Result<(), Error> {
+        self.check_atomic_load(memarg, ValType::I64)
+    }
+
+    fn visit_i64_atomic_load16_u(&mut self, memarg: MemArg) -> Result<(), Error> {
+        self.check_atomic_load(memarg, ValType::I64)
+    }
+
+    fn visit_i64_atomic_load32_u(&mut self, memarg: MemArg) -> Result<(), Error> {
+        self.check_atomic_load(memarg, ValType::I64)
+    }
+
+    fn visit_i32_atomic_store(&mut self, memarg: MemArg) -> Result<(), Error> {
+        self.check_atomic_store(memarg, ValType::I32)
+    }
+
+    fn visit_i64_atomic_store(&mut self, memarg: MemArg) -> Result<(), Error> {
+        self.check_atomic_store(memarg, ValType::I64)
+    }
+
+    fn visit_i32_atomic_store8(&mut self, memarg: MemArg) -> Result<(), Error> {
+        self.check_atomic_store(memarg, ValType::I32)
+    }
+
+    fn visit_i32_atomic_store16(&mut self, memarg: MemArg) -> Result<(), Error> {
+        self.check_atomic_store(memarg, ValType::I32)
+    }
+
+    fn visit_i64_atomic_store8(&mut self, memarg: MemArg) -> Result<(), Error> {
+        self.check_atomic_store(memarg, ValType::I64)
+    }
+
+    fn visit_i64_atomic_store16(&mut self, memarg: MemArg) -> Result<(), Error> {
+        self.check_atomic_store(memarg, ValType::I64)
+    }
+
+    fn visit_i64_atomic_store32(&mut self, memarg: MemArg) -> Result<(), Error> {
+        self.check_atomic_store(memarg, ValType::I64)
+    }
+
+    fn visit_i32_atomic_rmw_add(&mut self, memarg: MemArg) -> Result<(), Error> {
+        self.check_atomic_binary_memory_op(memarg, ValType::I32)
+    }
+
+    fn visit_i64_atomic_rmw_add(&mut self, memarg: MemArg) -> Result<(), Error> {
+        self.check_atomic_binary_memory_op(memarg, ValType::I64)
+    }
+
+    fn visit_i32_atomic_rmw8_add_u(&mut self, memarg: MemArg) -> Result<(), Error> {
+        self.check_atomic_binary_memory_op(memarg, ValType::I32)
+    }
+
+    fn visit_i32_atomic_rmw16_add_u(&mut self, memarg: MemArg) -> Result<(), Error> {
+        self.check_atomic_binary_memory_op(memarg, ValType::I32)
+    }
+
+    fn visit_i64_atomic_rmw8_add_u(&mut self, memarg: MemArg) -> Result<(), Error> {
+        self.check_atomic_binary_memory_op(memarg, ValType::I64)
+    }
+
+    fn visit_i64_atomic_rmw16_add_u(&mut self, memarg: MemArg) -> Result<(), Error> {
+        self.check_atomic_binary_memory_op(memarg, ValType::I64)
+    }
+
+    fn visit_i64_atomic_rmw32_add_u(&mut self, memarg: MemArg) -> Result<(), Error> {
+        self.check_atomic_binary_memory_op(memarg, ValType::I64)
+    }
+
+    fn visit_i32_atomic_rmw_sub(&mut self, memarg: MemArg) -> Result<(), Error> {
+        self.check_atomic_binary_memory_op(memarg, ValType::I32)
+    }
+
+    fn visit_i64_atomic_rmw_sub(&mut self, memarg: MemArg) -> Result<(), Error> {
+        self.check_atomic_binary_memory_op(memarg, ValType::I64)
+    }
+
+    fn visit_i32_atomic_rmw8_sub_u(&mut self, memarg: MemArg) -> Result<(), Error> {
+        self.check_atomic_binary_memory_op(memarg, ValType::I32)
+    }
+
+    fn visit_i32_atomic_rmw16_sub_u(&mut self, memarg: MemArg) -> Result<(), Error> {
+        self.check_atomic_binary_memory_op(memarg, ValType::I32)
+    }
+
+    fn visit_i64_atomic_rmw8_sub_u(&mut self, memarg: MemArg) -> Result<(), Error> {
+        self.check_atomic_binary_memory_op(memarg, ValType::I64)
+    }
+
+    fn visit_i64_atomic_rmw16_sub_u(&mut self, memarg: MemArg) -> Result<(), Error> {
+        self.check_atomic_binary_memory_op(memarg, ValType::I64)
+    }
+
+    fn visit_i64_atomic_rmw32_sub_u(&mut self, memarg: MemArg) -> Result<(), Error> {
+        self.check_atomic_binary_memory_op(memarg, ValType::I64)
+    }
+
+    fn visit_i32_atomic_rmw_and(&mut self, memarg: MemArg) -> Result<(), Error> {
+        self.check_atomic_binary_memory_op(memarg, ValType::I32)
+    }
+
+    fn visit_i64_atomic_rmw_and(&mut self, memarg: MemArg) -> Result<(), Error> {
+        self.check_atomic_binary_memory_op(memarg, ValType::I64)
+    }
+
+    fn visit_i32_atomic_rmw8_and_u(&mut self, memarg: MemArg) -> Result<(), Error> {
+        self.check_atomic_binary_memory_op(memarg, ValType::I32)
+    }
+
+    fn visit_i32_atomic_rmw16_and_u(&mut self, memarg: MemArg) -> Result<(), Error> {
+        self.check_atomic_binary_memory_op(memarg, ValType::I32)
+    }
+
+    fn visit_i64_atomic_rmw8_and_u(&mut self, memarg: MemArg) -> Result<(), Error> {
+        self.check_atomic_binary_memory_op(memarg, ValType::I64)
+    }
+
+    fn visit_i64_atomic_rmw16_and_u(&mut self, memarg: MemArg) -> Result<(), Error> {
+        self.check_atomic_binary_memory_op(memarg, ValType::I64)
+    }
+
+    fn visit_i64_atomic_rmw32_and_u(&mut self, memarg: MemArg) -> Result<(), Error> {
+        self.check_atomic_binary_memory_op(memarg, ValType::I64)
+    }
+
+    fn visit_i32_atomic_rmw_or(&mut self, memarg: MemArg) -> Result<(), Error> {
+        self.check_atomic_binary_memory_op(memarg, ValType::I32)
+    }
+
+    fn visit_i64_atomic_rmw_or(&mut self, memarg: MemArg) -> Result<(), Error> {
+        self.check_atomic_binary_memory_op(memarg, ValType::I64)
+    }
+
+    fn visit_i32_atomic_rmw8_or_u(&mut self, memarg: MemArg) -> Result<(), Error> {
+        self.check_atomic_binary_memory_op(memarg, ValType::I32)
+    }
+
+    fn visit_i32_atomic_rmw16_or_u(&mut self, memarg: MemArg) -> Result<(), Error> {
+        self.check_atomic_binary_memory_op(memarg, ValType::I32)
+    }
+
+    fn visit_i64_atomic_rmw8_or_u(&mut self, memarg: MemArg) -> Result<(), Error> {
+        self.check_atomic_binary_memory_op(memarg, ValType::I64)
+    }
+
+    fn visit_i64_atomic_rmw16_or_u(&mut self, memarg: MemArg) -> Result<(), Error> {
+        self.check_atomic_binary_memory_op(memarg, ValType::I64)
+    }
+
+    fn visit_i64_atomic_rmw32_or_u(&mut self, memarg: MemArg) -> Result<(), Error> {
+        self.check_atomic_binary_memory_op(memarg, ValType::I64)
+    }
+
+    fn visit_i32_atomic_rmw_xor(&mut self, memarg: MemArg) -> Result<(), Error> {
+        self.check_atomic_binary_memory_op(memarg, ValType::I32)
+    }
+
+    fn visit_i64_atomic_rmw_xor(&mut self, memarg: MemArg) -> Result<(), Error> {
+        self.check_atomic_binary_memory_op(memarg, ValType::I64)
+    }
+
+    fn visit_i32_atomic_rmw8_xor_u(&mut self, memarg: MemArg) -> Result<(), Error> {
+        self.check_atomic_binary_memory_op(memarg, ValType::I32)
+    }
+
+    fn visit_i32_atomic_rmw16_xor_u(&mut self, memarg: MemArg) -> Result<(), Error> {
+        self.check_atomic_binary_memory_op(memarg, ValType::I32)
+    }
+
+    fn visit_i64_atomic_rmw8_xor_u(&mut self, memarg: MemArg) -> Result<(), Error> {
+        self.check_atomic_binary_memory_op(memarg, ValType::I64)
+    }
+
+    fn visit_i64_atomic_rmw16_xor_u(&mut self, memarg: MemArg) -> Result<(), Error> {
+        self.check_atomic_binary_memory_op(memarg, ValType::I64)
+    }
+
+    fn visit_i64_atomic_rmw32_xor_u(&mut self, memarg: MemArg) -> Result<(), Error> {
+        self.check_atomic_binary_memory_op(memarg, ValType::I64)
+    }
+
+    fn visit_i32_atomic_rmw_xchg(&mut self, memarg: MemArg) -> Result<(), Error> {
+        self.check_atomic_binary_memory_op(memarg, ValType::I32)
+    }
+
+    fn visit_i64_atomic_rmw_xchg(&mut self, memarg: MemArg) -> Result<(), Error> {
+        self.check_atomic_binary_memory_op(memarg, ValType::I64)
+    }
+
+    fn visit_i32_atomic_rmw8_xchg_u(&mut self, memarg: MemArg) -> Result<(), Error> {
+        self.check_atomic_binary_memory_op(memarg, ValType::I32)
+    }
+
+    fn visit_i32_atomic_rmw16_xchg_u(&mut self, memarg: MemArg) -> Result<(), Error> {
+        self.check_atomic_binary_memory_op(memarg, ValType::I32)
+    }
+
+    fn visit_i64_atomic_rmw8_xchg_u(&mut self, memarg: MemArg) -> Result<(), Error> {
+        self.check_atomic_binary_memory_op(memarg, ValType::I64)
+    }
+
+    fn visit_i64_atomic_rmw16_xchg_u(&mut self, memarg: MemArg) -> Result<(), Error> {
+        self.check_atomic_binary_memory_op(memarg, ValType::I64)
+    }
+
+    fn visit_i64_atomic_rmw32_xchg_u(&mut self, memarg: MemArg) -> Result<(), Error> {
+        self.check_atomic_binary_memory_op(memarg, ValType::I64)
+    }
+
+    fn visit_i32_atomic_rmw_cmpxchg(&mut self, memarg: MemArg) -> Result<(), Error> {
+        self.check_atomic_binary_memory_cmpxchg(memarg, ValType::I32)
+    }
+
+    fn visit_i64_atomic_rmw_cmpxchg(&mut self, memarg: MemArg) -> Result<(), Error> {
+        self.check_atomic_binary_memory_cmpxchg(memarg, ValType::I64)
+    }
+
+    fn visit_i32_atomic_rmw8_cmpxchg_u(&mut self, memarg: MemArg) -> Result<(), Error> {
+        self.check_atomic_binary_memory_cmpxchg(memarg, ValType::I32)
+    }
+
+    fn visit_i32_atomic_rmw16_cmpxchg_u(&mut self, memarg: MemArg) -> Result<(), Error> {
+        self.check_atomic_binary_memory_cmpxchg(memarg, ValType::I32)
+    }
+
+    fn visit_i64_atomic_rmw8_cmpxchg_u(&mut self, memarg: MemArg) -> Result<(), Error> {
+        self.check_atomic_binary_memory_cmpxchg(memarg, ValType::I64)
+    }
+
+    fn visit_i64_atomic_rmw16_cmpxchg_u(&mut self, memarg: MemArg) -> Result<(), Error> {
+        self.check_atomic_binary_memory_cmpxchg(memarg, ValType::I64)
+    }
+
+    fn visit_i64_atomic_rmw32_cmpxchg_u(&mut self, memarg: MemArg) -> Result<(), Error> {
+        self.check_atomic_binary_memory_cmpxchg(memarg, ValType::I64)
+    }
+
+    fn visit_pause(&mut self) -> Result<(), Error> {
+        check_plain(
+            &mut self.inner.stacks,
+            self.resources,
+            self.offset,
+            Gate::AcquireReleaseAtomics,
+            &[],
+            &[],
+        )
+    }
+
     fn visit_operator(&mut self, op: Op<'a>) -> Result<(), Error> {
         match op {
             Op::Control(op) => self.control_operator(op),
             Op::Numeric(op) => self.numeric_operator(op),
             Op::Convert(op) => self.convert_operator(op),
+            Op::Memory(op) => self.memory_operator(op),
+            Op::Atomic(op) => self.atomic_operator(op),
         }
     }
 }
@@ -786,6 +1249,8 @@ impl<'validator, 'resources, R: WasmModuleResources> WasmProposalValidator<
             ControlOp::BrIf(relative_depth) => self.visit_br_if(relative_depth),
             ControlOp::BrTable(targets) => self.visit_br_table(targets),
             ControlOp::Return => self.visit_return(),
+            ControlOp::Call(function_index) => self.visit_call(function_index),
+            ControlOp::ReturnCall(function_index) => self.visit_return_call(function_index),
             ControlOp::Drop => self.visit_drop(),
             ControlOp::Select => self.visit_select(),
             ControlOp::TypedSelect(ty) => self.visit_typed_select(ty),
@@ -793,6 +1258,8 @@ impl<'validator, 'resources, R: WasmModuleResources> WasmProposalValidator<
             ControlOp::LocalGet(local_index) => self.visit_local_get(local_index),
             ControlOp::LocalSet(local_index) => self.visit_local_set(local_index),
             ControlOp::LocalTee(local_index) => self.visit_local_tee(local_index),
+            ControlOp::GlobalGet(global_index) => self.visit_global_get(global_index),
+            ControlOp::GlobalSet(global_index) => self.visit_global_set(global_index),
         }
     }
 
@@ -953,6 +1420,126 @@ impl<'validator, 'resources, R: WasmModuleResources> WasmProposalValidator<
             ConvertOp::I64TruncSatF32U => self.visit_i64_trunc_sat_f32_u(),
             ConvertOp::I64TruncSatF64S => self.visit_i64_trunc_sat_f64_s(),
             ConvertOp::I64TruncSatF64U => self.visit_i64_trunc_sat_f64_u(),
+        }
+    }
+
+    fn memory_operator(&mut self, op: MemoryOp) -> Result<(), Error>
+        requires { ⟦<WasmProposalValidator<'validator, 'resources, R> as VisitOperator<'resources>>⟧.can_visit self.old (Op.Memory op) }
+        ensures { ⟦<WasmProposalValidator<'validator, 'resources, R> as VisitOperator<'resources>>⟧.visits self.old (Op.Memory op) result self.new }
+    {
+        match op {
+            MemoryOp::I32Load(memarg) => self.visit_i32_load(memarg),
+            MemoryOp::I64Load(memarg) => self.visit_i64_load(memarg),
+            MemoryOp::F32Load(memarg) => self.visit_f32_load(memarg),
+            MemoryOp::F64Load(memarg) => self.visit_f64_load(memarg),
+            MemoryOp::I32Load8S(memarg) => self.visit_i32_load8_s(memarg),
+            MemoryOp::I32Load8U(memarg) => self.visit_i32_load8_u(memarg),
+            MemoryOp::I32Load16S(memarg) => self.visit_i32_load16_s(memarg),
+            MemoryOp::I32Load16U(memarg) => self.visit_i32_load16_u(memarg),
+            MemoryOp::I64Load8S(memarg) => self.visit_i64_load8_s(memarg),
+            MemoryOp::I64Load8U(memarg) => self.visit_i64_load8_u(memarg),
+            MemoryOp::I64Load16S(memarg) => self.visit_i64_load16_s(memarg),
+            MemoryOp::I64Load16U(memarg) => self.visit_i64_load16_u(memarg),
+            MemoryOp::I64Load32S(memarg) => self.visit_i64_load32_s(memarg),
+            MemoryOp::I64Load32U(memarg) => self.visit_i64_load32_u(memarg),
+            MemoryOp::I32Store(memarg) => self.visit_i32_store(memarg),
+            MemoryOp::I64Store(memarg) => self.visit_i64_store(memarg),
+            MemoryOp::F32Store(memarg) => self.visit_f32_store(memarg),
+            MemoryOp::F64Store(memarg) => self.visit_f64_store(memarg),
+            MemoryOp::I32Store8(memarg) => self.visit_i32_store8(memarg),
+            MemoryOp::I32Store16(memarg) => self.visit_i32_store16(memarg),
+            MemoryOp::I64Store8(memarg) => self.visit_i64_store8(memarg),
+            MemoryOp::I64Store16(memarg) => self.visit_i64_store16(memarg),
+            MemoryOp::I64Store32(memarg) => self.visit_i64_store32(memarg),
+            MemoryOp::MemorySize(mem) => self.visit_memory_size(mem),
+            MemoryOp::MemoryGrow(mem) => self.visit_memory_grow(mem),
+            MemoryOp::MemoryInit { data_index, mem } => self.visit_memory_init(data_index, mem),
+            MemoryOp::DataDrop(data_index) => self.visit_data_drop(data_index),
+            MemoryOp::MemoryCopy { dst_mem, src_mem } => self.visit_memory_copy(dst_mem, src_mem),
+            MemoryOp::MemoryFill(mem) => self.visit_memory_fill(mem),
+            MemoryOp::MemoryDiscard(mem) => self.visit_memory_discard(mem),
+        }
+    }
+
+    fn atomic_operator(&mut self, op: AtomicOp) -> Result<(), Error>
+        requires { ⟦<WasmProposalValidator<'validator, 'resources, R> as VisitOperator<'resources>>⟧.can_visit self.old (Op.Atomic op) }
+        ensures { ⟦<WasmProposalValidator<'validator, 'resources, R> as VisitOperator<'resources>>⟧.visits self.old (Op.Atomic op) result self.new }
+    {
+        match op {
+            AtomicOp::MemoryAtomicNotify(memarg) => self.visit_memory_atomic_notify(memarg),
+            AtomicOp::MemoryAtomicWait32(memarg) => self.visit_memory_atomic_wait32(memarg),
+            AtomicOp::MemoryAtomicWait64(memarg) => self.visit_memory_atomic_wait64(memarg),
+            AtomicOp::AtomicFence(ordering) => self.visit_atomic_fence(ordering),
+            AtomicOp::I32AtomicLoad(memarg) => self.visit_i32_atomic_load(memarg),
+            AtomicOp::I64AtomicLoad(memarg) => self.visit_i64_atomic_load(memarg),
+            AtomicOp::I32AtomicLoad8U(memarg) => self.visit_i32_atomic_load8_u(memarg),
+            AtomicOp::I32AtomicLoad16U(memarg) => self.visit_i32_atomic_load16_u(memarg),
+            AtomicOp::I64AtomicLoad8U(memarg) => self.visit_i64_atomic_load8_u(memarg),
+            AtomicOp::I64AtomicLoad16U(memarg) => self.visit_i64_atomic_load16_u(memarg),
+            AtomicOp::I64AtomicLoad32U(memarg) => self.visit_i64_atomic_load32_u(memarg),
+            AtomicOp::I32AtomicStore(memarg) => self.visit_i32_atomic_store(memarg),
+            AtomicOp::I64AtomicStore(memarg) => self.visit_i64_atomic_store(memarg),
+            AtomicOp::I32AtomicStore8(memarg) => self.visit_i32_atomic_store8(memarg),
+            AtomicOp::I32AtomicStore16(memarg) => self.visit_i32_atomic_store16(memarg),
+            AtomicOp::I64AtomicStore8(memarg) => self.visit_i64_atomic_store8(memarg),
+            AtomicOp::I64AtomicStore16(memarg) => self.visit_i64_atomic_store16(memarg),
+            AtomicOp::I64AtomicStore32(memarg) => self.visit_i64_atomic_store32(memarg),
+            AtomicOp::I32AtomicRmwAdd(memarg) => self.visit_i32_atomic_rmw_add(memarg),
+            AtomicOp::I64AtomicRmwAdd(memarg) => self.visit_i64_atomic_rmw_add(memarg),
+            AtomicOp::I32AtomicRmw8AddU(memarg) => self.visit_i32_atomic_rmw8_add_u(memarg),
+            AtomicOp::I32AtomicRmw16AddU(memarg) => self.visit_i32_atomic_rmw16_add_u(memarg),
+            AtomicOp::I64AtomicRmw8AddU(memarg) => self.visit_i64_atomic_rmw8_add_u(memarg),
+            AtomicOp::I64AtomicRmw16AddU(memarg) => self.visit_i64_atomic_rmw16_add_u(memarg),
+            AtomicOp::I64AtomicRmw32AddU(memarg) => self.visit_i64_atomic_rmw32_add_u(memarg),
+            AtomicOp::I32AtomicRmwSub(memarg) => self.visit_i32_atomic_rmw_sub(memarg),
+            AtomicOp::I64AtomicRmwSub(memarg) => self.visit_i64_atomic_rmw_sub(memarg),
+            AtomicOp::I32AtomicRmw8SubU(memarg) => self.visit_i32_atomic_rmw8_sub_u(memarg),
+            AtomicOp::I32AtomicRmw16SubU(memarg) => self.visit_i32_atomic_rmw16_sub_u(memarg),
+            AtomicOp::I64AtomicRmw8SubU(memarg) => self.visit_i64_atomic_rmw8_sub_u(memarg),
+            AtomicOp::I64AtomicRmw16SubU(memarg) => self.visit_i64_atomic_rmw16_sub_u(memarg),
+            AtomicOp::I64AtomicRmw32SubU(memarg) => self.visit_i64_atomic_rmw32_sub_u(memarg),
+            AtomicOp::I32AtomicRmwAnd(memarg) => self.visit_i32_atomic_rmw_and(memarg),
+            AtomicOp::I64AtomicRmwAnd(memarg) => self.visit_i64_atomic_rmw_and(memarg),
+            AtomicOp::I32AtomicRmw8AndU(memarg) => self.visit_i32_atomic_rmw8_and_u(memarg),
+            AtomicOp::I32AtomicRmw16AndU(memarg) => self.visit_i32_atomic_rmw16_and_u(memarg),
+            AtomicOp::I64AtomicRmw8AndU(memarg) => self.visit_i64_atomic_rmw8_and_u(memarg),
+            AtomicOp::I64AtomicRmw16AndU(memarg) => self.visit_i64_atomic_rmw16_and_u(memarg),
+            AtomicOp::I64AtomicRmw32AndU(memarg) => self.visit_i64_atomic_rmw32_and_u(memarg),
+            AtomicOp::I32AtomicRmwOr(memarg) => self.visit_i32_atomic_rmw_or(memarg),
+            AtomicOp::I64AtomicRmwOr(memarg) => self.visit_i64_atomic_rmw_or(memarg),
+            AtomicOp::I32AtomicRmw8OrU(memarg) => self.visit_i32_atomic_rmw8_or_u(memarg),
+            AtomicOp::I32AtomicRmw16OrU(memarg) => self.visit_i32_atomic_rmw16_or_u(memarg),
+            AtomicOp::I64AtomicRmw8OrU(memarg) => self.visit_i64_atomic_rmw8_or_u(memarg),
+            AtomicOp::I64AtomicRmw16OrU(memarg) => self.visit_i64_atomic_rmw16_or_u(memarg),
+            AtomicOp::I64AtomicRmw32OrU(memarg) => self.visit_i64_atomic_rmw32_or_u(memarg),
+            AtomicOp::I32AtomicRmwXor(memarg) => self.visit_i32_atomic_rmw_xor(memarg),
+            AtomicOp::I64AtomicRmwXor(memarg) => self.visit_i64_atomic_rmw_xor(memarg),
+            AtomicOp::I32AtomicRmw8XorU(memarg) => self.visit_i32_atomic_rmw8_xor_u(memarg),
+            AtomicOp::I32AtomicRmw16XorU(memarg) => self.visit_i32_atomic_rmw16_xor_u(memarg),
+            AtomicOp::I64AtomicRmw8XorU(memarg) => self.visit_i64_atomic_rmw8_xor_u(memarg),
+            AtomicOp::I64AtomicRmw16XorU(memarg) => self.visit_i64_atomic_rmw16_xor_u(memarg),
+            AtomicOp::I64AtomicRmw32XorU(memarg) => self.visit_i64_atomic_rmw32_xor_u(memarg),
+            AtomicOp::I32AtomicRmwXchg(memarg) => self.visit_i32_atomic_rmw_xchg(memarg),
+            AtomicOp::I64AtomicRmwXchg(memarg) => self.visit_i64_atomic_rmw_xchg(memarg),
+            AtomicOp::I32AtomicRmw8XchgU(memarg) => self.visit_i32_atomic_rmw8_xchg_u(memarg),
+            AtomicOp::I32AtomicRmw16XchgU(memarg) => self.visit_i32_atomic_rmw16_xchg_u(memarg),
+            AtomicOp::I64AtomicRmw8XchgU(memarg) => self.visit_i64_atomic_rmw8_xchg_u(memarg),
+            AtomicOp::I64AtomicRmw16XchgU(memarg) => self.visit_i64_atomic_rmw16_xchg_u(memarg),
+            AtomicOp::I64AtomicRmw32XchgU(memarg) => self.visit_i64_atomic_rmw32_xchg_u(memarg),
+            AtomicOp::I32AtomicRmwCmpxchg(memarg) => self.visit_i32_atomic_rmw_cmpxchg(memarg),
+            AtomicOp::I64AtomicRmwCmpxchg(memarg) => self.visit_i64_atomic_rmw_cmpxchg(memarg),
+            AtomicOp::I32AtomicRmw8CmpxchgU(memarg) => self.visit_i32_atomic_rmw8_cmpxchg_u(memarg),
+            AtomicOp::I32AtomicRmw16CmpxchgU(memarg) => self.visit_i32_atomic_rmw16_cmpxchg_u(
+                memarg,
+            ),
+            AtomicOp::I64AtomicRmw8CmpxchgU(memarg) => self.visit_i64_atomic_rmw8_cmpxchg_u(memarg),
+            AtomicOp::I64AtomicRmw16CmpxchgU(memarg) => self.visit_i64_atomic_rmw16_cmpxchg_u(
+                memarg,
+            ),
+            AtomicOp::I64AtomicRmw32CmpxchgU(memarg) => self.visit_i64_atomic_rmw32_cmpxchg_u(
+                memarg,
+            ),
+            AtomicOp::Pause => self.visit_pause(),
         }
     }
 }

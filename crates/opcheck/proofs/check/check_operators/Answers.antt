@@ -19,7 +19,7 @@ returns-then-not-is_well_ordered-clause-cause c =
 
 pub returns-clause-report : goal.returns-clause-report
 returns-clause-report c =
-    let types = ap context_of c.in_ok-module.ensures.kept in
+    let same = ap context_of c.in_ok-module.ensures.kept in
     let line = c.args.line in
     let lines = c.args.locals.now in
     let ops = c.args.ops.now in
@@ -28,8 +28,8 @@ returns-clause-report c =
     elim c.match-check_ops.branch [
       | in-Ok-check_ops w ↦
           let was = w.in-Ok-check_ops.ensures in
-          ran_through _ _ _ _ types refl line lines ops _ _ begun has_locals c.in-Ok.ensures.starting _ _ w.outcome-is was.rows was.closed was.heights was.safe
+          ran_through _ _ _ _ same refl line lines ops _ _ begun has_locals c.in-Ok.ensures.starting _ _ w.outcome-is was.rows was.closed was.heights was.safe
       | in-Err-check_ops w ↦
           let was = w.in-Err-check_ops.ensures in
-          refused_at _ _ _ _ types refl line lines ops _ _ begun has_locals c.in-Ok.ensures.starting _ _ w.outcome-is was.refused was.heights
+          refused_at _ _ _ _ same refl line lines ops _ _ begun has_locals c.in-Ok.ensures.starting _ _ w.outcome-is was.refused was.heights
     ]

@@ -1,0 +1,161 @@
+//! Calls (WebAssembly core specification, "Control Instructions").
+
+ghost use Rattle.std.specs.Prelude.{◌≡◌, true, false, None, Some, ◌&&◌, nat_eq, length, map, pred, IfOk, OnOk, OnErr, IfErr};
+ghost use Rattle.std.specs.List.{AllByRecursion};
+ghost use Rattle.validate_types.specs.declared.gate.Gate.TheVariants.{TailCall};
+ghost use Rattle.validate_resources.specs.Context.{Valid};
+ghost use Rattle.validation_rules.specs.Calls.{callee as called, call_row, returns, return_call_row};
+ghost use Rattle.validation_rules.specs.Context.{Context};
+ghost use Rattle.validation_rules.specs.Fits.{Known, all_fit};
+ghost use Rattle.validation_rules.specs.Static.{heads};
+ghost use Rattle.validation_rules.specs.Table.{alike, flat, gated};
+ghost use Rattle.validate_stacks.specs.State.{context};
+ghost use Rattle.validate_stacks.specs.Visits.{MayVisit, Meets};
+
+use crate::plain::{check_enabled, check_plain};
+use std::alloc::{AllocError, Global};
+use validate_resources::WasmModuleResources;
+use validate_stacks::blocks::label_types;
+use validate_stacks::{Stacks, ty_to_str};
+use validate_types::{CompositeInnerType, Error, FuncType, Gate, ValType};
+
+/// The type of a function, which has to be declared, and in a shared function has to be shared
+/// (wasmparser's `type_of_function`).
+fn type_of_function<'a, R: WasmModuleResources>(
+    stacks: &Stacks,
+    resources: &'a R,
+    offset: u64,
+    function_index: u32,
+) -> Result<&'a FuncType, Error>
+    ensures found { IfOk result (λ f. called (context (R.context resources.now) stacks.now) function_index ≡ Some f.now) }
+    ensures params { IfOk result (λ f. AllByRecursion (Valid (R.context resources.now)) f.now.params) }
+    ensures results { IfOk result (λ f. AllByRecursion (Valid (R.context resources.now)) f.now.results) }
+    ensures refused { OnErr result (called (context (R.context resources.now) stacks.now) function_index ≡ None) }
+    ensures offset { IfErr result (λ e. e.offset ≡ offset) }
+{
+    let Some(type_index) = resources.type_index_of_function(function_index) else {
+        return Err(unknown_function(stacks.allocator(), offset, function_index));
+    };
+    let Some(sub_type) = resources.sub_type_at(type_index) else {
+        return Err(Error::new("unknown type: type index out of bounds", offset));
+    };
+    if stacks.is_shared() && !sub_type.composite_type.shared {
+        return Err(Error::new("shared functions cannot access unshared functions", offset));
+    }
+    let CompositeInnerType::Func(func_type) = &sub_type.composite_type.inner;
+    Ok(func_type)
+}
+
+fn unknown_function(alloc: Global, offset: u64, function_index: u32) -> Error
+    ensures { result.offset ≡ offset }
+{
+    match format!(in alloc; "unknown function {function_index}: function index out of bounds") {
+        Ok(text) => Error::with_text(text, offset),
+        Err(_) => Error::out_of_memory(offset),
+    }
+}
+
+/// `call`: what the function takes, and what it gives.
+pub fn check_call<R: WasmModuleResources>(
+    stacks: &mut Stacks,
+    resources: &R,
+    offset: u64,
+    function_index: u32,
+) -> Result<(), Error>
+    requires { MayVisit (R.context resources.now) stacks.old }
+    ensures { Meets (R.context resources.now) (λ cx. alike (call_row cx function_index)) offset stacks.old result stacks.new }
+{
+    let func_type = type_of_function(stacks, resources, offset, function_index)?;
+    let (params, results) = (func_type.params(), func_type.results());
+    check_plain(stacks, resources, offset, Gate::Mvp, params, results)
+}
+
+/// Whether the types are as many as those above them, and each is below its place.
+fn are_below<R: WasmModuleResources>(resources: &R, types: &[ValType], above: &[ValType]) -> bool
+    requires types { AllByRecursion (Valid (R.context resources.now)) types.now }
+    requires above { AllByRecursion (Valid (R.context resources.now)) above.now }
+    ensures { (cx : Context) → cx.of_module ≡ R.context resources.now → result ≡ all_fit cx (map Known types.now) above.now }
+{
+    if types.len() != above.len() {
+        return false;
+    }
+    for index in 0..types.len() {
+        if !resources.is_subtype(types[index], above[index]) {
+            return false;
+        }
+    }
+    true
+}
+
+/// The results of a function that is called in the place of the rest of the body: as many as the
+/// body's, and each below its place (wasmparser's `check_func_type_same_results`).
+fn check_func_type_same_results<R: WasmModuleResources>(
+    stacks: &Stacks,
+    resources: &R,
+    offset: u64,
+    results: &[ValType],
+) -> Result<(), Error>
+    requires visit { MayVisit (R.context resources.now) stacks.now }
+    requires results { AllByRecursion (Valid (R.context resources.now)) results.now }
+    ensures below { OnOk result (returns (context (R.context resources.now) stacks.now) (heads stacks.now.present.frames) results.now ≡ true) }
+    ensures other { OnErr result (returns (context (R.context resources.now) stacks.now) (heads stacks.now.present.frames) results.now ≡ false) }
+    ensures offset { IfErr result (λ e. e.offset ≡ offset) }
+{
+    let outermost = stacks.control_stack_height() - 1;
+    let Some(frame) = stacks.get_frame(outermost) else {
+        unreachable!()
+    };
+    let frame = *frame;
+    let wanted = label_types(resources, &frame.block_type, frame.kind);
+    if are_below(resources, results, wanted) {
+        Ok(())
+    } else {
+        Err(other_results(stacks.allocator(), offset, wanted, results))
+    }
+}
+
+fn other_results(alloc: Global, offset: u64, wanted: &[ValType], results: &[ValType]) -> Error
+    ensures { result.offset ≡ offset }
+{
+    match other_results_text(alloc, wanted, results) {
+        Ok(text) => Error::with_text(text, offset),
+        Err(_) => Error::out_of_memory(offset),
+    }
+}
+
+fn other_results_text(
+    alloc: Global,
+    wanted: &[ValType],
+    results: &[ValType],
+) -> Result<String, AllocError> {
+    let wanted = names_of(alloc, wanted)?;
+    let results = names_of(alloc, results)?;
+    format!(in alloc;
+        "type mismatch: current function requires result type [{wanted}] but callee returns [{results}]"
+    )
+}
+
+/// The names of types, parted by spaces.
+fn names_of(alloc: Global, types: &[ValType]) -> Result<String, AllocError> {
+    let names: Vec<&str> = types.iter().map(|ty| ty_to_str(*ty)).collect(alloc)?;
+    names.join(alloc, " ")
+}
+
+/// `return_call`: what the function takes. The body returns its results, and the live part of the frame
+/// ends. Its gate is `tail_call`.
+pub fn check_return_call<R: WasmModuleResources>(
+    stacks: &mut Stacks,
+    resources: &R,
+    offset: u64,
+    function_index: u32,
+) -> Result<(), Error>
+    requires { MayVisit (R.context resources.now) stacks.old }
+    ensures { Meets (R.context resources.now) (λ cx. flat (λ hs. gated cx TailCall (return_call_row cx hs function_index))) offset stacks.old result stacks.new }
+{
+    check_enabled(stacks, offset, Gate::TailCall)?;
+    let func_type = type_of_function(stacks, resources, offset, function_index)?;
+    check_func_type_same_results(stacks, resources, offset, func_type.results())?;
+    stacks.pop_types(resources, offset, func_type.params())?;
+    stacks.unreachable();
+    Ok(())
+}

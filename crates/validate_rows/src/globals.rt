@@ -1,0 +1,86 @@
+//! Operators on globals (WebAssembly core specification, "Variable Instructions").
+
+ghost use Rattle.std.specs.Prelude.{◌≡◌, false, None, Some, IfOk, OnErr, IfErr};
+ghost use Rattle.validate_resources.specs.Context.{Valid};
+ghost use Rattle.validation_rules.specs.Calls.{global_type, global_get, global_set};
+ghost use Rattle.validation_rules.specs.Table.{alike};
+ghost use Rattle.validate_stacks.specs.State.{context};
+ghost use Rattle.validate_stacks.specs.Visits.{MayVisit, Meets};
+
+use crate::plain::check_plain;
+use validate_resources::WasmModuleResources;
+use validate_resources::uses::laws;
+use validate_stacks::Stacks;
+use validate_types::{Error, Gate, GlobalType};
+
+/// The type of a global, which has to be declared, and in a shared function has to be shared
+/// (wasmparser's `global_type_at`).
+fn global_type_at<R: WasmModuleResources>(
+    stacks: &Stacks,
+    resources: &R,
+    offset: u64,
+    global_index: u32,
+) -> Result<GlobalType, Error>
+    ensures found { IfOk result (λ g. global_type (context (R.context resources.now) stacks.now) global_index ≡ Some g) }
+    ensures valid { IfOk result (λ g. Valid (R.context resources.now) g.content_type) }
+    ensures refused { OnErr result (global_type (context (R.context resources.now) stacks.now) global_index ≡ None) }
+    ensures offset { IfErr result (λ e. e.offset ≡ offset) }
+    ensures memory { IfErr result (λ e. e.memory ≡ false) }
+{
+    laws(resources);
+    let Some(global) = resources.global_at(global_index) else {
+        return Err(Error::new("unknown global: global index out of bounds", offset));
+    };
+    if stacks.is_shared() && !global.shared {
+        return Err(Error::new("shared functions cannot access unshared globals", offset));
+    }
+    Ok(global)
+}
+
+/// `global.get`: `[] -> [t]`.
+pub fn check_global_get<R: WasmModuleResources>(
+    stacks: &mut Stacks,
+    resources: &R,
+    offset: u64,
+    global_index: u32,
+) -> Result<(), Error>
+    requires { MayVisit (R.context resources.now) stacks.old }
+    ensures { Meets (R.context resources.now) (λ cx. alike (global_get cx global_index)) offset stacks.old result stacks.new }
+{
+    let global = global_type_at(stacks, resources, offset, global_index)?;
+    check_plain(
+        stacks,
+        resources,
+        offset,
+        Gate::Mvp,
+        &[],
+        &[global.content_type],
+    )
+}
+
+/// `global.set`: `[t] -> []` of a global that can be written.
+pub fn check_global_set<R: WasmModuleResources>(
+    stacks: &mut Stacks,
+    resources: &R,
+    offset: u64,
+    global_index: u32,
+) -> Result<(), Error>
+    requires { MayVisit (R.context resources.now) stacks.old }
+    ensures { Meets (R.context resources.now) (λ cx. alike (global_set cx global_index)) offset stacks.old result stacks.new }
+{
+    let global = global_type_at(stacks, resources, offset, global_index)?;
+    if !global.mutable {
+        return Err(Error::new(
+            "global is immutable: cannot modify it with `global.set`",
+            offset,
+        ));
+    }
+    check_plain(
+        stacks,
+        resources,
+        offset,
+        Gate::Mvp,
+        &[global.content_type],
+        &[],
+    )
+}

@@ -1,0 +1,387 @@
+-- Small bodies of the table's operators on memories, and every row of these operators, computed. What
+-- is expected is what the standard's rules say of them, and for atomic operators the threads proposal.
+use Rattle.std.proofs.Common.{◌≡◌, ◌+◌, ◌-◌, ℕ, pos, nat_eq, Bool, true, false, List, [], ◌∷◌, ◌++◌, length, map, Option, Some, None, refl}
+use Rattle.validate_resources.specs.Context.{is_index_type}
+use Rattle.validate_resources.specs.Lists.{Declared, context_of}
+use Rattle.validate_types.specs.Features.{floats, bulk_memory, bulk_memory_opt, threads, memory_control, acquire_release_atomics}
+use Rattle.validate_types.specs.declared.types.MemoryType.{MemoryType}
+use Rattle.validate_visit.specs.declared.memory.MemArg.{MemArg}
+use Rattle.validate_visit.specs.declared.memory.MemArgTarget.TheVariants.{Memory as InMemory}
+use Rattle.validate_visit.specs.declared.memory.Ordering.TheVariants.{SeqCst, AcqRel}
+use Rattle.validate_visit.specs.declared.op.AtomicOp.{AtomicOp}
+use Rattle.validate_visit.specs.declared.op.AtomicOp.TheVariants.{MemoryAtomicNotify, MemoryAtomicWait32, MemoryAtomicWait64, AtomicFence, I32AtomicLoad, I64AtomicLoad, I32AtomicLoad8U, I32AtomicLoad16U, I64AtomicLoad8U, I64AtomicLoad16U, I64AtomicLoad32U, I32AtomicStore, I64AtomicStore, I32AtomicStore8, I32AtomicStore16, I64AtomicStore8, I64AtomicStore16, I64AtomicStore32, I32AtomicRmwAdd, I64AtomicRmwAdd, I32AtomicRmw8AddU, I32AtomicRmw16AddU, I64AtomicRmw8AddU, I64AtomicRmw16AddU, I64AtomicRmw32AddU, I32AtomicRmwSub, I64AtomicRmwSub, I32AtomicRmw8SubU, I32AtomicRmw16SubU, I64AtomicRmw8SubU, I64AtomicRmw16SubU, I64AtomicRmw32SubU, I32AtomicRmwAnd, I64AtomicRmwAnd, I32AtomicRmw8AndU, I32AtomicRmw16AndU, I64AtomicRmw8AndU, I64AtomicRmw16AndU, I64AtomicRmw32AndU, I32AtomicRmwOr, I64AtomicRmwOr, I32AtomicRmw8OrU, I32AtomicRmw16OrU, I64AtomicRmw8OrU, I64AtomicRmw16OrU, I64AtomicRmw32OrU, I32AtomicRmwXor, I64AtomicRmwXor, I32AtomicRmw8XorU, I32AtomicRmw16XorU, I64AtomicRmw8XorU, I64AtomicRmw16XorU, I64AtomicRmw32XorU, I32AtomicRmwXchg, I64AtomicRmwXchg, I32AtomicRmw8XchgU, I32AtomicRmw16XchgU, I64AtomicRmw8XchgU, I64AtomicRmw16XchgU, I64AtomicRmw32XchgU, I32AtomicRmwCmpxchg, I64AtomicRmwCmpxchg, I32AtomicRmw8CmpxchgU, I32AtomicRmw16CmpxchgU, I64AtomicRmw8CmpxchgU, I64AtomicRmw16CmpxchgU, I64AtomicRmw32CmpxchgU, Pause}
+use Rattle.validate_visit.specs.declared.op.ControlOp.TheVariants.{Unreachable, End}
+use Rattle.validate_visit.specs.declared.op.MemoryOp.{MemoryOp}
+use Rattle.validate_visit.specs.declared.op.MemoryOp.TheVariants.{I32Load, I64Load, F32Load, F64Load, I32Load8S, I32Load8U, I32Load16S, I32Load16U, I64Load8S, I64Load8U, I64Load16S, I64Load16U, I64Load32S, I64Load32U, I32Store, I64Store, F32Store, F64Store, I32Store8, I32Store16, I64Store8, I64Store16, I64Store32, MemorySize, MemoryGrow, MemoryInit, DataDrop, MemoryCopy, MemoryFill, MemoryDiscard}
+use Rattle.validate_visit.specs.declared.op.NumericOp.TheVariants.{I32Const, I64Const}
+use Rattle.validate_visit.specs.declared.op.Op.{Op}
+use Rattle.validate_visit.specs.declared.op.Op.TheVariants.{Control, Numeric, Memory, Atomic}
+use Rattle.validation_rules.specs.Context.{ValType, I32, I64, F32, F64, V128, BlockType, Empty, Val, Context}
+use Rattle.validation_rules.specs.Fits.{MaybeType, Known}
+use Rattle.validation_rules.specs.Rows.{Block}
+use Rattle.validation_rules.specs.Static.{State, framed, before, start}
+use Rattle.validation_rules.specs.Table.{alike, plain, operator, body}
+
+-- ---- a module of two memories and two data segments: memory 0, which is shared, has addresses of 32
+-- bits, and memory 1 of 64; whether it is shared is nothing to any of these operators
+
+abbrev memories : List MemoryType
+memories = record { memory64 = false; shared = true } ∷ record { memory64 = true; shared = false } ∷ []
+
+abbrev with_count : Option ℕ → Declared
+with_count count = record { types = []; functions = []; globals = []; memories = memories; data_count = count }
+
+-- with these proposals on
+abbrev over : Option ℕ → ℕ → Context
+over count bits = record { of_module = context_of (with_count count); features = record { 0 = bits }; shared = false; locals = []; entry = [] }
+
+abbrev under : ℕ → Context
+under bits = over (Some 2) bits
+
+-- all of them
+abbrev every : ℕ
+every = 2097151
+
+abbrev cx : Context
+cx = under every
+
+-- a type of addresses is an i32 or an i64
+index_types : map is_index_type (I32 ∷ I64 ∷ F32 ∷ F64 ∷ V128 ∷ []) ≡ true ∷ true ∷ false ∷ false ∷ false ∷ []
+index_types = refl
+
+-- ---- accesses
+
+-- of this alignment, where that one is natural (both are exponents of 2)
+abbrev aligned : ℕ → ℕ → ℕ → MemArg
+aligned align max_align m = record { align = align; max_align = max_align; offset = 0; target = InMemory m }
+
+-- an alignment smaller than the natural one, just that, and greater by one
+abbrev smaller : ℕ → MemArg
+smaller m = aligned 1 2 m
+
+abbrev natural : ℕ → MemArg
+natural m = aligned 2 2 m
+
+abbrev greater : ℕ → MemArg
+greater m = aligned 3 2 m
+
+-- and at this offset
+abbrev at_offset : ℕ → ℕ → MemArg
+at_offset offset m = record (natural m) { offset = offset }
+
+-- ---- whole rows
+
+abbrev premise : Context → Op → Bool
+premise c op = ((operator c op).row []).premise
+
+abbrev AllHold : List Op → Type 0
+AllHold ops = map (premise cx) ops ≡ map (λ op. true) ops
+
+abbrev NoneHolds : List Op → Type 0
+NoneHolds ops = map (premise cx) ops ≡ map (λ op. false) ops
+
+-- With these proposals alone, each operator wants and pushes exactly these types, and does nothing
+-- else; without them, and with all others, no row holds, unless it needs none.
+abbrev Says : List Op → List ValType → List ValType → ℕ → Type 0
+Says ops wanted pushed needs =
+    (map (operator (under needs)) ops ≡ map (λ op. alike (plain true wanted pushed)) ops) × (map (premise (under (every - needs))) ops ≡ map (λ op. nat_eq needs 0) ops)
+
+-- Operators of an access that may be aligned less: over an address of either type, these above it and
+-- pushed, and never aligned more, nor to a memory that isn't there.
+abbrev Access : (MemArg → List MemoryOp) → List ValType → List ValType → ℕ → Type 0
+Access group above pushed needs =
+    let ops = λ (arg : MemArg). map (λ op. Memory op) (group arg) in
+    Says (ops (natural 0)) (I32 ∷ above) pushed needs × Says (ops (smaller 1)) (I64 ∷ above) pushed needs × AllHold (ops (smaller 0)) × NoneHolds (ops (greater 0)) × NoneHolds (ops (greater 1)) × NoneHolds (ops (natural 2))
+
+-- and of one whose alignment is the natural one
+abbrev AtomicAccess : (MemArg → List AtomicOp) → List ValType → List ValType → Type 0
+AtomicAccess group above pushed =
+    let ops = λ (arg : MemArg). map (λ op. Atomic op) (group arg) in
+    Says (ops (natural 0)) (I32 ∷ above) pushed threads × Says (ops (natural 1)) (I64 ∷ above) pushed threads × NoneHolds (ops (smaller 0)) × NoneHolds (ops (smaller 1)) × NoneHolds (ops (greater 0)) × NoneHolds (ops (natural 2))
+
+-- ---- loads and stores
+
+loads_of_i32 : Access (λ arg. I32Load arg ∷ I32Load8S arg ∷ I32Load8U arg ∷ I32Load16S arg ∷ I32Load16U arg ∷ []) [] (I32 ∷ []) 0
+loads_of_i32 = ((refl, refl), (refl, refl), refl, refl, refl, refl)
+
+loads_of_i64 : Access (λ arg. I64Load arg ∷ I64Load8S arg ∷ I64Load8U arg ∷ I64Load16S arg ∷ I64Load16U arg ∷ I64Load32S arg ∷ I64Load32U arg ∷ []) [] (I64 ∷ []) 0
+loads_of_i64 = ((refl, refl), (refl, refl), refl, refl, refl, refl)
+
+load_of_f32 : Access (λ arg. F32Load arg ∷ []) [] (F32 ∷ []) floats
+load_of_f32 = ((refl, refl), (refl, refl), refl, refl, refl, refl)
+
+load_of_f64 : Access (λ arg. F64Load arg ∷ []) [] (F64 ∷ []) floats
+load_of_f64 = ((refl, refl), (refl, refl), refl, refl, refl, refl)
+
+stores_of_i32 : Access (λ arg. I32Store arg ∷ I32Store8 arg ∷ I32Store16 arg ∷ []) (I32 ∷ []) [] 0
+stores_of_i32 = ((refl, refl), (refl, refl), refl, refl, refl, refl)
+
+stores_of_i64 : Access (λ arg. I64Store arg ∷ I64Store8 arg ∷ I64Store16 arg ∷ I64Store32 arg ∷ []) (I64 ∷ []) [] 0
+stores_of_i64 = ((refl, refl), (refl, refl), refl, refl, refl, refl)
+
+store_of_f32 : Access (λ arg. F32Store arg ∷ []) (F32 ∷ []) [] floats
+store_of_f32 = ((refl, refl), (refl, refl), refl, refl, refl, refl)
+
+store_of_f64 : Access (λ arg. F64Store arg ∷ []) (F64 ∷ []) [] floats
+store_of_f64 = ((refl, refl), (refl, refl), refl, refl, refl, refl)
+
+-- ---- atomic accesses
+
+atomic_loads_of_i32 : AtomicAccess (λ arg. I32AtomicLoad arg ∷ I32AtomicLoad8U arg ∷ I32AtomicLoad16U arg ∷ []) [] (I32 ∷ [])
+atomic_loads_of_i32 = ((refl, refl), (refl, refl), refl, refl, refl, refl)
+
+atomic_loads_of_i64 : AtomicAccess (λ arg. I64AtomicLoad arg ∷ I64AtomicLoad8U arg ∷ I64AtomicLoad16U arg ∷ I64AtomicLoad32U arg ∷ []) [] (I64 ∷ [])
+atomic_loads_of_i64 = ((refl, refl), (refl, refl), refl, refl, refl, refl)
+
+atomic_stores_of_i32 : AtomicAccess (λ arg. I32AtomicStore arg ∷ I32AtomicStore8 arg ∷ I32AtomicStore16 arg ∷ []) (I32 ∷ []) []
+atomic_stores_of_i32 = ((refl, refl), (refl, refl), refl, refl, refl, refl)
+
+atomic_stores_of_i64 : AtomicAccess (λ arg. I64AtomicStore arg ∷ I64AtomicStore8 arg ∷ I64AtomicStore16 arg ∷ I64AtomicStore32 arg ∷ []) (I64 ∷ []) []
+atomic_stores_of_i64 = ((refl, refl), (refl, refl), refl, refl, refl, refl)
+
+-- `add`, `sub`, `and`, `or`, `xor` and `xchg`: an operand, and what was there
+rmw_of_i32 : AtomicAccess (λ arg. I32AtomicRmwAdd arg ∷ I32AtomicRmw8AddU arg ∷ I32AtomicRmw16AddU arg ∷ I32AtomicRmwSub arg ∷ I32AtomicRmw8SubU arg ∷ I32AtomicRmw16SubU arg ∷ I32AtomicRmwAnd arg ∷ I32AtomicRmw8AndU arg ∷ I32AtomicRmw16AndU arg ∷ I32AtomicRmwOr arg ∷ I32AtomicRmw8OrU arg ∷ I32AtomicRmw16OrU arg ∷ I32AtomicRmwXor arg ∷ I32AtomicRmw8XorU arg ∷ I32AtomicRmw16XorU arg ∷ I32AtomicRmwXchg arg ∷ I32AtomicRmw8XchgU arg ∷ I32AtomicRmw16XchgU arg ∷ []) (I32 ∷ []) (I32 ∷ [])
+rmw_of_i32 = ((refl, refl), (refl, refl), refl, refl, refl, refl)
+
+rmw_of_i64 : AtomicAccess (λ arg. I64AtomicRmwAdd arg ∷ I64AtomicRmw8AddU arg ∷ I64AtomicRmw16AddU arg ∷ I64AtomicRmw32AddU arg ∷ I64AtomicRmwSub arg ∷ I64AtomicRmw8SubU arg ∷ I64AtomicRmw16SubU arg ∷ I64AtomicRmw32SubU arg ∷ I64AtomicRmwAnd arg ∷ I64AtomicRmw8AndU arg ∷ I64AtomicRmw16AndU arg ∷ I64AtomicRmw32AndU arg ∷ I64AtomicRmwOr arg ∷ I64AtomicRmw8OrU arg ∷ I64AtomicRmw16OrU arg ∷ I64AtomicRmw32OrU arg ∷ I64AtomicRmwXor arg ∷ I64AtomicRmw8XorU arg ∷ I64AtomicRmw16XorU arg ∷ I64AtomicRmw32XorU arg ∷ I64AtomicRmwXchg arg ∷ I64AtomicRmw8XchgU arg ∷ I64AtomicRmw16XchgU arg ∷ I64AtomicRmw32XchgU arg ∷ []) (I64 ∷ []) (I64 ∷ [])
+rmw_of_i64 = ((refl, refl), (refl, refl), refl, refl, refl, refl)
+
+-- what is expected, what replaces it, and what was there
+cmpxchg_of_i32 : AtomicAccess (λ arg. I32AtomicRmwCmpxchg arg ∷ I32AtomicRmw8CmpxchgU arg ∷ I32AtomicRmw16CmpxchgU arg ∷ []) (I32 ∷ I32 ∷ []) (I32 ∷ [])
+cmpxchg_of_i32 = ((refl, refl), (refl, refl), refl, refl, refl, refl)
+
+cmpxchg_of_i64 : AtomicAccess (λ arg. I64AtomicRmwCmpxchg arg ∷ I64AtomicRmw8CmpxchgU arg ∷ I64AtomicRmw16CmpxchgU arg ∷ I64AtomicRmw32CmpxchgU arg ∷ []) (I64 ∷ I64 ∷ []) (I64 ∷ [])
+cmpxchg_of_i64 = ((refl, refl), (refl, refl), refl, refl, refl, refl)
+
+-- how many to wake, and how many were
+notify : AtomicAccess (λ arg. MemoryAtomicNotify arg ∷ []) (I32 ∷ []) (I32 ∷ [])
+notify = ((refl, refl), (refl, refl), refl, refl, refl, refl)
+
+-- what is expected, how long to wait, and how the waiting ended
+wait_of_i32 : AtomicAccess (λ arg. MemoryAtomicWait32 arg ∷ []) (I32 ∷ I64 ∷ []) (I32 ∷ [])
+wait_of_i32 = ((refl, refl), (refl, refl), refl, refl, refl, refl)
+
+wait_of_i64 : AtomicAccess (λ arg. MemoryAtomicWait64 arg ∷ []) (I64 ∷ I64 ∷ []) (I32 ∷ [])
+wait_of_i64 = ((refl, refl), (refl, refl), refl, refl, refl, refl)
+
+-- ---- fences
+
+fence : Says (Atomic (AtomicFence SeqCst) ∷ []) [] [] threads
+fence = (refl, refl)
+
+-- the weaker ordering needs both proposals
+weaker_fence : Says (Atomic (AtomicFence AcqRel) ∷ []) [] [] (threads + acquire_release_atomics)
+weaker_fence = (refl, refl)
+
+weaker_fence_closed : premise (under (every - acquire_release_atomics)) (Atomic (AtomicFence AcqRel)) ≡ false
+weaker_fence_closed = refl
+
+weaker_fence_no_threads : premise (under (every - threads)) (Atomic (AtomicFence AcqRel)) ≡ false
+weaker_fence_no_threads = refl
+
+-- and `pause` the second alone
+pause : Says (Atomic Pause ∷ []) [] [] acquire_release_atomics
+pause = (refl, refl)
+
+-- ---- whole memories and data segments
+
+size_of_32 : Says (Memory (MemorySize 0) ∷ []) [] (I32 ∷ []) 0
+size_of_32 = (refl, refl)
+
+size_of_64 : Says (Memory (MemorySize 1) ∷ []) [] (I64 ∷ []) 0
+size_of_64 = (refl, refl)
+
+grow_of_32 : Says (Memory (MemoryGrow 0) ∷ []) (I32 ∷ []) (I32 ∷ []) 0
+grow_of_32 = (refl, refl)
+
+grow_of_64 : Says (Memory (MemoryGrow 1) ∷ []) (I64 ∷ []) (I64 ∷ []) 0
+grow_of_64 = (refl, refl)
+
+-- an address, a byte and a length
+fill_of_32 : Says (Memory (MemoryFill 0) ∷ []) (I32 ∷ I32 ∷ I32 ∷ []) [] bulk_memory_opt
+fill_of_32 = (refl, refl)
+
+fill_of_64 : Says (Memory (MemoryFill 1) ∷ []) (I64 ∷ I32 ∷ I64 ∷ []) [] bulk_memory_opt
+fill_of_64 = (refl, refl)
+
+discard_of_32 : Says (Memory (MemoryDiscard 0) ∷ []) (I32 ∷ I32 ∷ []) [] memory_control
+discard_of_32 = (refl, refl)
+
+discard_of_64 : Says (Memory (MemoryDiscard 1) ∷ []) (I64 ∷ I64 ∷ []) [] memory_control
+discard_of_64 = (refl, refl)
+
+-- to an address, from an address, and a length of 64 bits only where both are
+copy_in_32 : Says (Memory (MemoryCopy 0 0) ∷ []) (I32 ∷ I32 ∷ I32 ∷ []) [] bulk_memory_opt
+copy_in_32 = (refl, refl)
+
+copy_to_32 : Says (Memory (MemoryCopy 0 1) ∷ []) (I32 ∷ I64 ∷ I32 ∷ []) [] bulk_memory_opt
+copy_to_32 = (refl, refl)
+
+copy_to_64 : Says (Memory (MemoryCopy 1 0) ∷ []) (I64 ∷ I32 ∷ I32 ∷ []) [] bulk_memory_opt
+copy_to_64 = (refl, refl)
+
+copy_in_64 : Says (Memory (MemoryCopy 1 1) ∷ []) (I64 ∷ I64 ∷ I64 ∷ []) [] bulk_memory_opt
+copy_in_64 = (refl, refl)
+
+-- an address, and within the segment an offset and a length
+init_of_32 : Says (Memory (MemoryInit 1 0) ∷ []) (I32 ∷ I32 ∷ I32 ∷ []) [] bulk_memory
+init_of_32 = (refl, refl)
+
+init_of_64 : Says (Memory (MemoryInit 0 1) ∷ []) (I64 ∷ I32 ∷ I32 ∷ []) [] bulk_memory
+init_of_64 = (refl, refl)
+
+drop_segment : Says (Memory (DataDrop 0) ∷ Memory (DataDrop 1) ∷ []) [] [] bulk_memory
+drop_segment = (refl, refl)
+
+-- a memory that isn't there
+no_memory : NoneHolds (map (λ op. Memory op) (MemorySize 2 ∷ MemoryGrow 2 ∷ MemoryFill 2 ∷ MemoryDiscard 2 ∷ MemoryCopy 2 0 ∷ MemoryCopy 0 2 ∷ MemoryInit 0 2 ∷ []))
+no_memory = refl
+
+-- a segment that isn't there: there are two
+no_segment : NoneHolds (map (λ op. Memory op) (MemoryInit 2 0 ∷ MemoryInit 2 1 ∷ MemoryInit 3 0 ∷ DataDrop 2 ∷ DataDrop 3 ∷ []))
+no_segment = refl
+
+-- a module that doesn't say how many segments it has, or has none
+abbrev on_segments : List Op
+on_segments = Memory (MemoryInit 0 0) ∷ Memory (MemoryInit 0 1) ∷ Memory (DataDrop 0) ∷ []
+
+no_count : map (premise (over None every)) on_segments ≡ false ∷ false ∷ false ∷ []
+no_count = refl
+
+count_of_none : map (premise (over (Some 0) every)) on_segments ≡ false ∷ false ∷ false ∷ []
+count_of_none = refl
+
+-- ---- other alignments, and offsets
+
+-- one operator of each shape
+abbrev plain_accesses : MemArg → List Op
+plain_accesses arg = Memory (I32Load arg) ∷ Memory (F64Store arg) ∷ []
+
+abbrev atomic_accesses : MemArg → List Op
+atomic_accesses arg =
+    Atomic (I64AtomicLoad arg) ∷ Atomic (I32AtomicStore arg) ∷ Atomic (I32AtomicRmwAdd arg) ∷ Atomic (I64AtomicRmwCmpxchg arg) ∷ Atomic (MemoryAtomicNotify arg) ∷ Atomic (MemoryAtomicWait32 arg) ∷ []
+
+abbrev accesses : MemArg → List Op
+accesses arg = plain_accesses arg ++ atomic_accesses arg
+
+-- of 8 bytes, and of one
+of_eight : AllHold (accesses (aligned 3 3 0))
+of_eight = refl
+
+of_one : AllHold (accesses (aligned 0 0 1))
+of_one = refl
+
+one_as_two : NoneHolds (accesses (aligned 1 0 0))
+one_as_two = refl
+
+eight_as_one : AllHold (plain_accesses (aligned 0 3 0))
+eight_as_one = refl
+
+eight_as_four : NoneHolds (atomic_accesses (aligned 2 3 0))
+eight_as_four = refl
+
+-- the last offset of 32 bits, at an address of 32
+last_offset : AllHold (accesses (at_offset 4294967295 0))
+last_offset = refl
+
+-- and the next
+first_beyond : NoneHolds (accesses (at_offset 4294967296 0))
+first_beyond = refl
+
+-- at an address of 64 bits that one, and the last of 64
+beyond_in_64 : AllHold (accesses (at_offset 4294967296 1))
+beyond_in_64 = refl
+
+last_in_64 : AllHold (accesses (at_offset 18446744073709551615 1))
+last_in_64 = refl
+
+-- ---- bodies
+
+abbrev i32_const : Op
+i32_const = Numeric (I32Const (pos 0))
+
+abbrev i64_const : Op
+i64_const = Numeric (I64Const (pos 0))
+
+abbrev unreachable : Op
+unreachable = Control Unreachable
+
+abbrev end : Op
+end = Control End
+
+abbrev i32_load : MemArg → Op
+i32_load arg = Memory (I32Load arg)
+
+abbrev i64_store : MemArg → Op
+i64_store arg = Memory (I64Store arg)
+
+abbrev after_all : BlockType → List Op → Option State
+after_all ty ops = before cx (body cx ops) (start ty) (length ops)
+
+abbrev Refused : List Op → Type 0
+Refused ops = after_all Empty ops ≡ None
+
+-- accepted so far, with these operands in the outermost frame, the top first
+abbrev Stands : List Op → List MaybeType → Bool → Type 0
+Stands ops own dead = after_all Empty ops ≡ Some (framed (record { head = record { kind = Block; block_type = Empty }; own = own; dead = dead; first_set = [] } ∷ []))
+
+-- the address goes, and what lies below it stays
+load_in_32 : Stands (i64_const ∷ i32_const ∷ i32_load (natural 0) ∷ []) (Known I32 ∷ Known I64 ∷ []) false
+load_in_32 = refl
+
+load_in_64 : Stands (i32_const ∷ i64_const ∷ i32_load (smaller 1) ∷ []) (Known I32 ∷ Known I32 ∷ []) false
+load_in_64 = refl
+
+-- an address of the other memory's type, and none
+load_in_32_by_64 : Refused (i64_const ∷ i32_load (natural 0) ∷ [])
+load_in_32_by_64 = refl
+
+load_in_64_by_32 : Refused (i32_const ∷ i32_load (natural 1) ∷ [])
+load_in_64_by_32 = refl
+
+load_at_once : Refused (i32_load (natural 0) ∷ [])
+load_at_once = refl
+
+-- also in dead code: it gives its type, and its memory, alignment and offset count
+load_in_dead : Stands (unreachable ∷ i32_load (natural 0) ∷ []) (Known I32 ∷ []) true
+load_in_dead = refl
+
+load_of_no_memory : Refused (unreachable ∷ i32_load (natural 2) ∷ [])
+load_of_no_memory = refl
+
+load_aligned_more : Refused (unreachable ∷ i32_load (greater 0) ∷ [])
+load_aligned_more = refl
+
+load_beyond : Refused (unreachable ∷ i32_load (at_offset 4294967296 0) ∷ [])
+load_beyond = refl
+
+-- the value lies above the address
+store_in_32 : Stands (i32_const ∷ i32_const ∷ i64_const ∷ i64_store (natural 0) ∷ []) (Known I32 ∷ []) false
+store_in_32 = refl
+
+store_turned : Refused (i64_const ∷ i32_const ∷ i64_store (natural 0) ∷ [])
+store_turned = refl
+
+store_without_address : Refused (i64_const ∷ i64_store (natural 1) ∷ [])
+store_without_address = refl
+
+-- the expected value and then the time to wait, above the address
+wait_for_i32 : Stands (i32_const ∷ i32_const ∷ i64_const ∷ Atomic (MemoryAtomicWait32 (natural 0)) ∷ []) (Known I32 ∷ []) false
+wait_for_i32 = refl
+
+wait_turned : Refused (i32_const ∷ i64_const ∷ i32_const ∷ Atomic (MemoryAtomicWait32 (natural 0)) ∷ [])
+wait_turned = refl
+
+-- to memory 1 from memory 0, and not the other way round
+copies_out : Stands (i64_const ∷ i32_const ∷ i32_const ∷ Memory (MemoryCopy 1 0) ∷ []) [] false
+copies_out = refl
+
+copies_turned : Refused (i64_const ∷ i32_const ∷ i32_const ∷ Memory (MemoryCopy 0 1) ∷ [])
+copies_turned = refl
+
+-- a body that grows memory 1 by its own size, and gives what it had
+grows : after_all (Val I64) (Memory (MemorySize 1) ∷ Memory (MemoryGrow 1) ∷ end ∷ []) ≡ Some (record { frames = []; left = Known I64 ∷ [] })
+grows = refl
+
+grows_by_other : Refused (Memory (MemorySize 0) ∷ Memory (MemoryGrow 1) ∷ [])
+grows_by_other = refl

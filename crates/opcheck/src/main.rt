@@ -2,19 +2,9 @@
 //! prints the validator's verdict on each operator and on the whole.
 #![tactic(auto)]
 
-mod check;
-mod failure;
-mod input;
-mod print;
-mod run;
-mod script;
-#[cfg(test)]
-mod tests;
-mod verdict;
-
 use std::process::ExitCode;
 
 fn main(rt: HostRuntime) -> ExitCode {
-    let status = run::run(rt.alloc(), rt.reader(), rt.stdout(), rt.stderr());
+    let status = opcheck_script::run(rt.alloc(), rt.reader(), rt.stdout(), rt.stderr());
     ExitCode::from(status)
 }

@@ -25,13 +25,13 @@ use Rattle.type_safety.proofs.Table.{operator_lawful}
 
 abbrev a_type : List ValType → List ValType → SubType
 a_type params results =
-    record { is_final = true; composite_type = record { inner = Func (record { params = params; results = results }); shared = false } }
+    record { is_final = true; supertype_idx = None; composite_type = record { inner = Func (record { params = params; results = results }); shared = false } }
 
 abbrev types : List SubType
 types = a_type [] [] ∷ a_type (I32 ∷ []) [] ∷ a_type (I32 ∷ []) (I32 ∷ []) ∷ []
 
 abbrev declared : Declared
-declared = record { types = types; functions = []; memories = []; globals = []; data_count = None }
+declared = record { types = types; functions = []; tables = []; memories = []; globals = []; elements = []; data_count = None }
 
 abbrev to_nothing : BlockType
 to_nothing = FuncType 0
@@ -136,7 +136,7 @@ module _ (features : WasmFeatures) where
 
   -- no run of it is stuck, however long
   adding_safe : IsTypeSafe cx adding one_to_one
-  adding_safe = body_safety (context_of declared) (lawful_lists declared) cx (Control (LocalGet 0) ∷ Numeric (I32Const (pos 1)) ∷ Numeric I32Add ∷ Control End ∷ []) one_to_one refl (Known I32 ∷ [], refl)
+  adding_safe = body_safety (context_of declared) (lawful_lists declared refl) cx (Control (LocalGet 0) ∷ Numeric (I32Const (pos 1)) ∷ Numeric I32Add ∷ Control End ∷ []) one_to_one refl (Known I32 ∷ [], refl)
 
   -- ---- bodies that aren't accepted get stuck
 
@@ -243,12 +243,12 @@ module _ (features : WasmFeatures) where
 
   looping_lawful : AllLawful looping
   looping_lawful =
-      let laws = lawful_lists declared in
+      let laws = lawful_lists declared refl in
       (operator_lawful cx laws (Numeric (I32Const (pos 0))), (loop_lawful cx laws takes_one, (branch_lawful cx laws 0, (end_lawful cx laws, (end_lawful cx laws, tt)))))
 
   -- and no run of it is stuck
   looping_safe : IsTypeSafe cx looping to_nothing
-  looping_safe = type_safety cx looping to_nothing (lawful_lists declared) (each_lawful looping looping_lawful) ([], refl)
+  looping_safe = type_safety cx looping to_nothing (lawful_lists declared refl) (each_lawful looping looping_lawful) ([], refl)
 
   -- ---- a run that returns from inside
 
@@ -347,14 +347,14 @@ module _ (features : WasmFeatures) where
 
   throwing_safe : IsTypeSafe cx throwing to_nothing
   throwing_safe =
-      let laws = lawful_lists declared in
+      let laws = lawful_lists declared refl in
       type_safety cx throwing to_nothing laws
       (each_lawful throwing (block_lawful cx laws (Val I32), (try_table_lawful cx laws Empty (a_clause ∷ []), (operator_lawful cx laws (Numeric (I32Const (pos 0))), (throw_lawful cx laws (I32 ∷ []), (end_lawful cx laws, (operator_lawful cx laws (Numeric (I32Const (pos 0))), (end_lawful cx laws, (operator_lawful cx laws (Control Drop), (end_lawful cx laws, tt))))))))))
       ([], refl)
 
   legacy_safe : IsTypeSafe cx legacy to_nothing
   legacy_safe =
-      let laws = lawful_lists declared in
+      let laws = lawful_lists declared refl in
       type_safety cx legacy to_nothing laws
       (each_lawful legacy (try_lawful cx laws Empty, (operator_lawful cx laws (Numeric (I32Const (pos 0))), (throw_lawful cx laws (I32 ∷ []), (catch_lawful cx laws (I32 ∷ []), (operator_lawful cx laws (Control Drop), (end_lawful cx laws, (end_lawful cx laws, tt))))))))
       ([], refl)
@@ -391,7 +391,7 @@ module _ (features : WasmFeatures) where
 
   choosing_safe : IsTypeSafe cx choosing (Val I32)
   choosing_safe =
-      let laws = lawful_lists declared in
+      let laws = lawful_lists declared refl in
       type_safety cx choosing (Val I32) laws
       (each_lawful choosing (operator_lawful cx laws (Numeric (I32Const (pos 0))), (if_lawful cx laws (Val I32), (operator_lawful cx laws (Numeric (I32Const (pos 0))), (else_lawful cx laws, (operator_lawful cx laws (Numeric (I32Const (pos 0))), (end_lawful cx laws, (end_lawful cx laws, tt))))))))
       (Known I32 ∷ [], refl)
@@ -519,7 +519,7 @@ tilted t u = same_number t u
 module _ (features : WasmFeatures) where
   abbrev tilted_context : Context
   tilted_context = record {
-    of_module = record { type_at = λ i. None; type_index_of = λ i. None; memory_at = λ i. None; global_at = λ i. None; data_count = None; valid = λ t. true; below = tilted; canonical = λ f t. None };
+    of_module = record { type_at = λ i. None; type_of_id = λ i. None; type_index_of = λ i. None; type_id_of = λ i. None; is_referenced = λ i. false; table_at = λ i. None; memory_at = λ i. None; global_at = λ i. None; element_at = λ i. None; data_count = None; below = tilted; is_shared = λ r. false; canonical = λ f t. None; canonical_ref = λ r. None; canonical_heap = λ h. None };
     features = features;
     shared = false;
     locals = [];

@@ -20,13 +20,13 @@ use Rattle.type_safety.proofs.Bodies.{body_safety}
 
 abbrev a_type : List ValType → List ValType → SubType
 a_type params results =
-    record { is_final = true; composite_type = record { inner = Func (record { params = params; results = results }); shared = false } }
+    record { is_final = true; supertype_idx = None; composite_type = record { inner = Func (record { params = params; results = results }); shared = false } }
 
 abbrev types : List SubType
 types = a_type [] [] ∷ a_type (I32 ∷ []) (I64 ∷ []) ∷ []
 
 abbrev declared : Declared
-declared = record { types = types; functions = []; memories = []; globals = []; data_count = None }
+declared = record { types = types; functions = []; tables = []; memories = []; globals = []; elements = []; data_count = None }
 
 abbrev to_nothing : BlockType
 to_nothing = FuncType 0
@@ -103,7 +103,7 @@ goes_on : Step cx looping (At 3 (in_loop (I32 ∷ I32 ∷ [])) []) (At 4 (in_loo
 goes_on = (operator cx (Control (BrIf 0)), refl, at_test, GoesOn (I32 ∷ []) (I32 ∷ []) refl refl refl (refl, tt) refl)
 
 looping_safe : IsTypeSafe cx looping to_nothing
-looping_safe = body_safety (context_of declared) (lawful_lists declared) cx looping_ops to_nothing refl ([], refl)
+looping_safe = body_safety (context_of declared) (lawful_lists declared refl) cx looping_ops to_nothing refl ([], refl)
 
 -- ---- a table of a target and a default, out of the outer of two blocks and out of the inner one
 
@@ -145,7 +145,7 @@ by_target = (
 )
 
 choosing_safe : IsTypeSafe cx choosing to_nothing
-choosing_safe = body_safety (context_of declared) (lawful_lists declared) cx choosing_ops to_nothing refl ([], refl)
+choosing_safe = body_safety (context_of declared) (lawful_lists declared refl) cx choosing_ops to_nothing refl ([], refl)
 
 -- ---- out of a block of other results
 
@@ -186,4 +186,4 @@ mixing_ops =
     i32_const ∷ Control (IfOp Empty) ∷ Control Return ∷ end ∷ i32_const ∷ Control (IfOp (Val I64)) ∷ Control Unreachable ∷ Control Select ∷ Control ElseOp ∷ i64_const ∷ i64_const ∷ i32_const ∷ Control (TypedSelect I64) ∷ end ∷ drops ∷ end ∷ []
 
 mixing_safe : IsTypeSafe cx (body cx mixing_ops) to_nothing
-mixing_safe = body_safety (context_of declared) (lawful_lists declared) cx mixing_ops to_nothing refl ([], refl)
+mixing_safe = body_safety (context_of declared) (lawful_lists declared refl) cx mixing_ops to_nothing refl ([], refl)

@@ -23,10 +23,10 @@ use Rattle.type_safety.proofs.Bodies.{body_safety}
 
 abbrev a_type : List ValType → List ValType → SubType
 a_type params results =
-    record { is_final = true; composite_type = record { inner = Func (record { params = params; results = results }); shared = false } }
+    record { is_final = true; supertype_idx = None; composite_type = record { inner = Func (record { params = params; results = results }); shared = false } }
 
 abbrev declared : Declared
-declared = record { types = a_type [] (I32 ∷ I64 ∷ []) ∷ a_type (I32 ∷ []) (I64 ∷ []) ∷ []; functions = record { type_index = 1 } ∷ record { type_index = 0 } ∷ []; memories = []; globals = record { content_type = I32; mutable = false; shared = false } ∷ record { content_type = I64; mutable = true; shared = false } ∷ []; data_count = None }
+declared = record { types = a_type [] (I32 ∷ I64 ∷ []) ∷ a_type (I32 ∷ []) (I64 ∷ []) ∷ []; functions = record { type_index = 1; referenced = false } ∷ record { type_index = 0; referenced = false } ∷ []; tables = []; memories = []; globals = record { content_type = I32; mutable = false; shared = false } ∷ record { content_type = I64; mutable = true; shared = false } ∷ []; elements = []; data_count = None }
 
 abbrev cx : Context
 cx = record { of_module = context_of declared; features = record { 0 = floats + tail_call }; shared = false; locals = []; entry = [] }
@@ -93,7 +93,7 @@ stuck_at_tail_call d =
     absurd cc
 
 leaving_safe : IsTypeSafe cx leaving (Val I64)
-leaving_safe = body_safety (context_of declared) (lawful_lists declared) cx leaving_ops (Val I64) refl (Known I64 ∷ [], refl)
+leaving_safe = body_safety (context_of declared) (lawful_lists declared refl) cx leaving_ops (Val I64) refl (Known I64 ∷ [], refl)
 
 -- ---- a call gives its results, the last on top, and a global takes that one
 
@@ -121,4 +121,4 @@ sets = (
 )
 
 calling_safe : IsTypeSafe cx calling (Val I64)
-calling_safe = body_safety (context_of declared) (lawful_lists declared) cx calling_ops (Val I64) refl (Known I64 ∷ [], refl)
+calling_safe = body_safety (context_of declared) (lawful_lists declared refl) cx calling_ops (Val I64) refl (Known I64 ∷ [], refl)

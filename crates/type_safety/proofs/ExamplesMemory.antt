@@ -20,7 +20,7 @@ use Rattle.type_safety.specs.Theorem.{IsTypeSafe}
 use Rattle.type_safety.proofs.Bodies.{body_safety}
 
 abbrev declared : Declared
-declared = record { types = []; functions = []; globals = []; memories = record { memory64 = false; shared = false } ∷ record { memory64 = true; shared = false } ∷ []; data_count = None }
+declared = record { types = []; functions = []; globals = []; tables = []; memories = record { memory64 = false; shared = false } ∷ record { memory64 = true; shared = false } ∷ []; elements = []; data_count = None }
 
 abbrev cx : Context
 cx = record { of_module = context_of declared; features = record { 0 = bulk_memory_opt }; shared = false; locals = []; entry = [] }
@@ -93,7 +93,7 @@ stuck d =
     absurd cc
 
 moving_safe : IsTypeSafe cx moving Empty
-moving_safe = body_safety (context_of declared) (lawful_lists declared) cx moving_ops Empty refl ([], refl)
+moving_safe = body_safety (context_of declared) (lawful_lists declared refl) cx moving_ops Empty refl ([], refl)
 
 -- ---- a copy from memory 1 to memory 0, of a length of 32 bits
 
@@ -101,4 +101,4 @@ abbrev copying_ops : List Op
 copying_ops = Memory (MemorySize 0) ∷ Memory (MemorySize 1) ∷ i32_const ∷ Memory (MemoryCopy 0 1) ∷ end ∷ []
 
 copying_safe : IsTypeSafe cx (body cx copying_ops) Empty
-copying_safe = body_safety (context_of declared) (lawful_lists declared) cx copying_ops Empty refl ([], refl)
+copying_safe = body_safety (context_of declared) (lawful_lists declared refl) cx copying_ops Empty refl ([], refl)

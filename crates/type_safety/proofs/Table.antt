@@ -19,7 +19,7 @@ use Rattle.validate_visit.specs.declared.op.MemoryOp.TheVariants.{F32Load, F64Lo
 use Rattle.validate_visit.specs.declared.op.AtomicOp.{AtomicOp}
 use Rattle.validate_visit.specs.declared.op.AtomicOp.TheVariants.{AtomicFence, Pause}
 use Rattle.validation_rules.specs.Calls.{global_type, callee}
-use Rattle.validation_rules.specs.Context.{Signature, ValType, I32, BlockType, Context, AllBelow, block_signature}
+use Rattle.validation_rules.specs.Context.{Signature, ValType, I32, I64, F32, F64, V128, BlockType, Context, AllBelow, block_signature}
 use Rattle.validation_rules.specs.Access.{memory_index, copies}
 use Rattle.validation_rules.specs.Fits.{MaybeType, Known}
 use Rattle.validation_rules.specs.Rows.{FrameKind, Block, If, Loop, Head, params, BeginsElse, Ends, Plain, Looks, Row, Operator, guard}
@@ -41,7 +41,12 @@ module _ (cx : Context) (laws : IsLawful cx.of_module) where
 
   -- the number or vector types on both sides
   number_twice : (t u : ValType) → same_number t u ≡ true → (is_number t ≡ true) × (is_number u ≡ true)
-  number_twice t u h = (refl, refl)
+  number_twice I32 I32 h = (refl, refl)
+  number_twice I64 I64 h = (refl, refl)
+  number_twice F32 F32 h = (refl, refl)
+  number_twice F64 F64 h = (refl, refl)
+  number_twice V128 V128 h = (refl, refl)
+  number_twice _ _ h = absurd cc
 
   select_falls : (xs ys : List ValType) (pushed : List MaybeType) → AllBelow cx ys xs → selects cx (map Known xs) ≡ Some pushed → Falls cx (Looks 3 (selects cx)) xs ys pushed
   select_falls (a ∷ b ∷ c ∷ []) (a' ∷ b' ∷ c' ∷ []) pushed below h =

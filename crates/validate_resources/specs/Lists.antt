@@ -1,46 +1,89 @@
--- The module context of lists.
-use Rattle.std.specs.Prelude.{ℕ, Bool, List, true, ◌&&◌, nat_le, nat_lt, length, Option, Some, None, slice_get, if◌then◌else◌}
+-- What a module declares, as lists, and its context (WebAssembly core specification, "Modules", and
+-- "Conventions" of validation: contexts).
+use Rattle.std.specs.Prelude.{ℕ, Bool, List, false, ◌&&◌, map, nat_le, nat_lt, length, Option, Some, None, slice_get, option_map, unwrap_or, if◌then◌else◌}
 use Rattle.std.specs.List.{list_all}
-use Rattle.std.specs.Option.{option_map}
 use Rattle.validate_types.specs.Features.{type_gate}
 use Rattle.validate_types.specs.declared.features.WasmFeatures.{WasmFeatures}
+use Rattle.validate_types.specs.declared.heap.CoreTypeId.{CoreTypeId}
+use Rattle.validate_types.specs.declared.heap.UnpackedIndex.{UnpackedIndex}
+use Rattle.validate_types.specs.declared.refs.RefType.{RefType}
 use Rattle.validate_types.specs.declared.types.GlobalType.{GlobalType}
 use Rattle.validate_types.specs.declared.types.MemoryType.{MemoryType}
 use Rattle.validate_types.specs.declared.types.SubType.{SubType}
+use Rattle.validate_types.specs.declared.types.TableType.{TableType}
 use Rattle.validate_types.specs.declared.types.ValType.{ValType}
 use Rattle.validate_resources.specs.declared.lists.FuncDecl.{FuncDecl}
-use Rattle.validate_resources.specs.declared.lists.ModuleLists.{ModuleLists}
-use Rattle.validate_resources.specs.Context.{ModuleContext, same_number}
+use Rattle.validate_resources.specs.Context.{ModuleContext}
+use Rattle.validate_resources.specs.Indices.{is_known, is_id, ref_test, type_test, table_test, global_test, sub_test, ref_form, table_form, global_form, sub_form, type_form, canonical_heap, canonical_ref}
+use Rattle.validate_resources.specs.Order.{heap_shared, supertypes_fit, type_below}
 
 -- what a module declares
 pub record Declared : Type 0 where
   pub types : List SubType
   pub functions : List FuncDecl
+  pub tables : List TableType
   pub memories : List MemoryType
   pub globals : List GlobalType
+  pub elements : List RefType
   pub data_count : Option ℕ
 
--- what was handed to `new`
-abbrev pub declared : ModuleLists → Declared
-declared m = record { types = m.types.items; functions = m.functions.items; memories = m.memories.items; globals = m.globals.items; data_count = m.data_count }
+-- ---- the causes of a refusal (Specification, "Validation: Modules")
 
--- at most 1,000,000 types, and each function of one of them
-abbrev pub is_module : Declared → Bool
-is_module d = nat_le (length d.types) 1000000 && list_all (λ (f : FuncDecl). nat_lt f.type_index (length d.types)) d.functions
+abbrev pub max_types : ℕ
+max_types = 1000000
 
--- the canonical form of a number or vector type is the type itself, if its gate is open
-abbrev pub canonical_number : WasmFeatures → ValType → Option ValType
-canonical_number features t = if type_gate features t then Some t else None
+-- a test of each index in the lists
+abbrev pub indices_test : (UnpackedIndex → Bool) → List SubType → List TableType → List GlobalType → List RefType → Bool
+indices_test p types tables globals elements = list_all (sub_test p) types && list_all (table_test p) tables && list_all (global_test p) globals && list_all (ref_test p) elements
 
--- the context of these declarations: each number or vector type is below itself alone
+-- each function is of one of the types
+abbrev pub functions_typed : Declared → Bool
+functions_typed d = list_all (λ (f : FuncDecl). nat_lt f.type_index (length d.types)) d.functions
+
+-- at most 1,000,000 types; each index passes the test, at their number; each function is of one of
+-- them; each supertype is an earlier type of the same sharedness
+abbrev pub is_module : (ℕ → UnpackedIndex → Bool) → Declared → Bool
+is_module p d = nat_le (length d.types) max_types && indices_test (p (length d.types)) d.types d.tables d.globals d.elements && functions_typed d && supertypes_fit d.types
+
+-- ---- the canonical lists
+
+abbrev pub canonical_lists : Declared → Declared
+canonical_lists d = record d { types = map sub_form d.types; tables = map table_form d.tables; globals = map global_form d.globals; elements = map ref_form d.elements }
+
+-- the canonical lists of what is declared, where no cause of a refusal stands
+abbrev pub module_of : Declared → Option Declared
+module_of d = if is_module is_known d then Some (canonical_lists d) else None
+
+-- ---- the context
+
+-- the gate of the type is open, and each index in it known
+abbrev pub canonical_under : ℕ → WasmFeatures → ValType → Option ValType
+canonical_under n features t = if type_gate features t && type_test (is_known n) t then Some (type_form t) else None
+
+-- both types are valid and canonical, and the one below the other
+abbrev pub valid_below : List SubType → ValType → ValType → Bool
+valid_below types t u = type_test (is_id (length types)) t && type_test (is_id (length types)) u && type_below types t u
+
+-- type i has id i
+abbrev pub type_id : ℕ → CoreTypeId
+type_id i = record { index = i }
+
+-- the context of these declarations
 abbrev pub context_of : Declared → ModuleContext
 context_of d = record {
-  type_at = λ i. slice_get d.types i;
+  type_at = slice_get d.types;
+  type_of_id = λ id. slice_get d.types id.index;
   type_index_of = λ i. option_map (λ (f : FuncDecl). f.type_index) (slice_get d.functions i);
-  memory_at = λ i. slice_get d.memories i;
-  global_at = λ i. slice_get d.globals i;
+  type_id_of = λ i. option_map (λ (f : FuncDecl). type_id f.type_index) (slice_get d.functions i);
+  is_referenced = λ i. unwrap_or (option_map (λ (f : FuncDecl). f.referenced) (slice_get d.functions i)) false;
+  table_at = slice_get d.tables;
+  memory_at = slice_get d.memories;
+  global_at = slice_get d.globals;
+  element_at = slice_get d.elements;
   data_count = d.data_count;
-  valid = λ t. true;
-  below = same_number;
-  canonical = canonical_number;
+  below = valid_below d.types;
+  is_shared = λ r. heap_shared d.types r.heap_type;
+  canonical = canonical_under (length d.types);
+  canonical_ref = canonical_ref (length d.types);
+  canonical_heap = canonical_heap (length d.types);
 }

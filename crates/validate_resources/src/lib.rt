@@ -5,12 +5,16 @@
 pub mod lists;
 pub mod uses;
 
-ghost use Rattle.std.specs.Prelude.{◌≡◌, true, false, None, Some, OnOk, IfErr};
+ghost use Rattle.std.specs.Prelude.{◌≡◌, true, false, None, Some, IsSome, OnOk, IfErr};
 ghost use Rattle.std.specs.Option.{option_copied};
+ghost use Rattle.validate_types.specs.declared.types.ValType.{ValType};
 ghost use Rattle.validate_resources.specs.Context.{ModuleContext, IsLawful, Valid};
 
 pub use crate::lists::{FuncDecl, ModuleLists};
-use validate_types::{Error, GlobalType, MemoryType, SubType, ValType, WasmFeatures};
+use validate_types::{
+    CoreTypeId, Error, GlobalType, HeapType, MemoryType, RefType, SubType, TableType, ValType,
+    WasmFeatures,
+};
 
 /// What a module declares (wasmparser's `WasmModuleResources`).
 ///
@@ -21,6 +25,10 @@ pub trait WasmModuleResources {
     /// What the look-ups answer, the types that are valid and canonical, and the order on them.
     ghost context: { Self → ModuleContext };
 
+    /// The type of the table at this index, or None past the end.
+    fn table_at(&self, table_index: u32) -> Option<TableType>
+        ensures { result ≡ (context self.now).table_at table_index };
+
     /// The type of the memory at this index, or None past the end.
     fn memory_at(&self, memory_index: u32) -> Option<MemoryType>
         ensures { result ≡ (context self.now).memory_at memory_index };
@@ -29,22 +37,58 @@ pub trait WasmModuleResources {
     fn global_at(&self, global_index: u32) -> Option<GlobalType>
         ensures { result ≡ (context self.now).global_at global_index };
 
+    /// The type declared at this index, or None past the end.
+    fn sub_type_at(&self, type_index: u32) -> Option<&SubType>
+        ensures { option_copied result ≡ (context self.now).type_at type_index };
+
+    /// The type that this id names, which the lookup knows.
+    fn sub_type_at_id(&self, id: CoreTypeId) -> &SubType
+        requires { IsSome ((context self.now).type_of_id id) }
+        ensures { (context self.now).type_of_id id ≡ Some result.now };
+
+    /// The id of the type of the function at this index, or None past the end.
+    fn type_id_of_function(&self, function_index: u32) -> Option<CoreTypeId>
+        ensures { result ≡ (context self.now).type_id_of function_index };
+
     /// The index of the type of the function at this index, or None past the end.
     fn type_index_of_function(&self, function_index: u32) -> Option<u32>
         ensures { result ≡ (context self.now).type_index_of function_index };
+
+    /// The type of the element segment at this index, or None past the end.
+    fn element_type_at(&self, element_index: u32) -> Option<RefType>
+        ensures { result ≡ (context self.now).element_at element_index };
 
     /// How many data segments there are, or None where the module doesn't say.
     fn data_count(&self) -> Option<u32>
         ensures { result ≡ (context self.now).data_count };
 
-    /// The type declared at this index, or None past the end.
-    fn sub_type_at(&self, type_index: u32) -> Option<&SubType>
-        ensures { option_copied result ≡ (context self.now).type_at type_index };
+    /// Whether `ref.func` may name the function at this index.
+    fn is_function_referenced(&self, function_index: u32) -> bool
+        ensures { result ≡ (context self.now).is_referenced function_index };
 
     /// Whether `a` is below `b` in the order of types. Nothing is said of types that aren't valid
     /// and canonical.
     fn is_subtype(&self, a: ValType, b: ValType) -> bool
         ensures { Valid (context self.now) a → Valid (context self.now) b → result ≡ (context self.now).below a b };
+
+    /// Whether the reference is to something shared. Nothing is said of a type that isn't valid and
+    /// canonical.
+    fn is_shared(&self, ty: RefType) -> bool
+        ensures { Valid (context self.now) (ValType.Ref ty) → result ≡ (context self.now).is_shared ty };
+
+    /// Checks a heap type of a module and writes its canonical form. It refuses, at the offset handed
+    /// in, where an index in it is unknown, or for want of memory.
+    fn check_heap_type(&self, ty: &mut HeapType, offset: u64) -> Result<(), Error>
+        ensures canonical { OnOk result ((context self.now).canonical_heap ty.old ≡ Some ty.new) }
+        ensures refused { IfErr result (λ e. e.memory ≡ false → (context self.now).canonical_heap ty.old ≡ None) }
+        ensures offset { IfErr result (λ e. e.offset ≡ offset) };
+
+    /// Checks a reference type of a module and writes its canonical form. It refuses, at the offset
+    /// handed in, where an index in it is unknown, or for want of memory.
+    fn check_ref_type(&self, ty: &mut RefType, offset: u64) -> Result<(), Error>
+        ensures canonical { OnOk result ((context self.now).canonical_ref ty.old ≡ Some ty.new) }
+        ensures refused { IfErr result (λ e. e.memory ≡ false → (context self.now).canonical_ref ty.old ≡ None) }
+        ensures offset { IfErr result (λ e. e.offset ≡ offset) };
 
     /// Checks a value type of a module and writes its canonical form. It refuses, at the offset
     /// handed in, where the gate of the type is closed or an index in it is unknown, or for want of

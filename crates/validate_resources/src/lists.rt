@@ -1,11 +1,23 @@
 //! A lookup over lists.
 
-ghost use Rattle.std.specs.Prelude.{◌≡◌, true, false, nat_lt, IfOk, OnOk, OnErr, IfErr};
+mod canonical;
+mod order;
+
+ghost use Rattle.std.specs.Prelude.{◌≡◌, ◌<◌, length, codes, Some, None, Ok, true, false, nat_lt, is_ok, IfOk, OnOk, OnErr, IfErr};
 ghost use Rattle.std.specs.List.{list_all};
+ghost use Rattle.validate_resources.specs.Indices.{is_id, unknown_text};
+ghost use Rattle.validate_resources.specs.Lists.{max_types, is_module, module_of};
 
 use crate::WasmModuleResources;
+use crate::lists::canonical::{
+    Forms, canonical_heap, canonical_lists, canonical_ref, canonical_type,
+};
+use crate::lists::order::{is_heap_shared, is_type_below, supertypes_fit};
 use std::alloc::Global;
-use validate_types::{Error, GlobalType, MemoryType, SubType, ValType, WasmFeatures};
+use validate_types::{
+    CoreTypeId, Error, GlobalType, HeapType, MemoryType, RefType, SubType, TableType, ValType,
+    WasmFeatures,
+};
 
 /// How many types a lookup over lists holds at the most.
 pub const MAX_TYPES: usize = 1_000_000;
@@ -15,50 +27,75 @@ pub const MAX_TYPES: usize = 1_000_000;
 pub struct FuncDecl {
     /// The index of its type.
     pub type_index: u32,
+    /// Whether `ref.func` may name it.
+    pub referenced: bool,
 }
 
-/// A lookup over lists: item `i` of a list is the one at index `i`.
+/// A lookup over lists: item `i` of a list is the one at index `i`, and type `i` has id `i`.
+///
+/// The types that it keeps are canonical, with ids for indices.
 #[derive(Debug, Drop)]
 pub struct ModuleLists {
+    alloc: Global,
     types: Vec<SubType>,
     functions: Vec<FuncDecl>,
+    tables: Vec<TableType>,
     memories: Vec<MemoryType>,
     globals: Vec<GlobalType>,
+    elements: Vec<RefType>,
     data_count: Option<u32>,
+    ghost module: { is_module is_id (record { types = types.items; functions = functions.items; tables = tables.items; memories = memories.items; globals = globals.items; elements = elements.items; data_count = data_count }) ≡ true },
 }
 
 impl ModuleLists {
-    ghost use Rattle.validate_resources.specs.Lists.{declared, is_module};
+    ghost use Rattle.validate_resources.specs.Kept.{declared};
 
-    /// Keeps the lists, and the number of data segments where the module says it. It refuses at offset
-    /// 0: `too many types` for more than 1,000,000, and else `unknown type` where the type of a function
-    /// isn't there. It takes no memory.
+    /// Keeps the lists in their canonical form, with an id for each index, and the number of data
+    /// segments where the module says it.
+    ///
+    /// It refuses at offset 0: `too many types` for more than 1,000,000; else `unknown type` where
+    /// there is no type for an index; else `invalid supertype` where a supertype isn't an earlier
+    /// type or is of another sharedness. It takes memory for the canonical lists, and refuses where
+    /// there is none.
     pub fn new(
         alloc: Global,
         types: Vec<SubType>,
         functions: Vec<FuncDecl>,
+        tables: Vec<TableType>,
         memories: Vec<MemoryType>,
         globals: Vec<GlobalType>,
+        elements: Vec<RefType>,
         data_count: Option<u32>,
     ) -> Result<ModuleLists, Error>
-        ensures kept { IfOk result (λ m. declared m ≡ record { types = types.items; functions = functions.items; memories = memories.items; globals = globals.items; data_count = data_count }) }
-        ensures module { OnOk result (is_module (record { types = types.items; functions = functions.items; memories = memories.items; globals = globals.items; data_count = data_count }) ≡ true) }
-        ensures none { OnErr result (is_module (record { types = types.items; functions = functions.items; memories = memories.items; globals = globals.items; data_count = data_count }) ≡ false) }
-        ensures memory { IfErr result (λ e. e.memory ≡ false) }
+        ensures kept { IfOk result (λ m. module_of (record { types = types.items; functions = functions.items; tables = tables.items; memories = memories.items; globals = globals.items; elements = elements.items; data_count = data_count }) ≡ Some (declared m)) }
+        ensures refused { IfErr result (λ e. e.memory ≡ false → module_of (record { types = types.items; functions = functions.items; tables = tables.items; memories = memories.items; globals = globals.items; elements = elements.items; data_count = data_count }) ≡ None) }
+        ensures too_many { max_types < length types.items → IfErr result (λ e. e ≡ record { offset = 0; text = codes "too many types"; memory = false }) }
         ensures offset { IfErr result (λ e. e.offset ≡ 0) }
     {
-        let _alloc = alloc;
         if types.len() > MAX_TYPES {
             return Err(Error::new("too many types", 0));
         }
+        let forms = canonical_lists(alloc, &types, &tables, &globals, &elements)?;
         if !have_types(&functions, types.len()) {
             return Err(Error::new("unknown type", 0));
         }
+        if !supertypes_fit(&types) {
+            return Err(Error::new("invalid supertype", 0));
+        }
+        let Forms {
+            types,
+            tables,
+            globals,
+            elements,
+        } = forms;
         Ok(ModuleLists {
+            alloc,
             types,
             functions,
+            tables,
             memories,
             globals,
+            elements,
             data_count,
         })
     }
@@ -73,16 +110,63 @@ fn have_types(functions: &[FuncDecl], count: usize) -> bool
         .all(|function| (function.type_index as usize) < count)
 }
 
+/// Writes a canonical form, or refuses where there is no type of the number handed in. The text of
+/// that refusal takes memory.
+fn write_form<T: Copy>(
+    ty: &mut T,
+    form: Result<T, u32>,
+    alloc: Global,
+    offset: u64,
+) -> Result<(), Error>
+    ensures written { OnOk result (form ≡ Ok ty.new) }
+    ensures refused { IfErr result (λ e. e.memory ≡ false → IfErr form (λ n. e.text ≡ unknown_text n)) }
+    ensures unknown { OnErr result (is_ok form ≡ false) }
+    ensures offset { IfErr result (λ e. e.offset ≡ offset) }
+{
+    match form {
+        Ok(form) => {
+            *ty = form;
+            Ok(())
+        }
+        Err(number) => match format!(in alloc; "unknown type {number}: type index out of bounds") {
+            Ok(text) => Err(Error::with_text(text, offset)),
+            Err(_) => Err(Error::out_of_memory(offset)),
+        },
+    }
+}
+
 impl WasmModuleResources for ModuleLists {
-    ghost use Rattle.validate_resources.specs.Lists.{context_of, declared};
+    ghost use Rattle.validate_resources.specs.Kept.{declared};
+    ghost use Rattle.validate_resources.specs.Lists.{context_of};
     ghost use Rattle.validate_resources.specs.Lawful.{lawful_lists};
 
     ghost context = { λ m. context_of (declared m) };
 
-    ghost lawful = { λ m. lawful_lists (declared m) };
+    ghost lawful = { λ m. lawful_lists (declared m) m.module };
+
+    fn table_at(&self, table_index: u32) -> Option<TableType> {
+        self.tables.get(table_index as usize).copied()
+    }
+
+    fn memory_at(&self, memory_index: u32) -> Option<MemoryType> {
+        self.memories.get(memory_index as usize).copied()
+    }
 
     fn global_at(&self, global_index: u32) -> Option<GlobalType> {
         self.globals.get(global_index as usize).copied()
+    }
+
+    fn sub_type_at(&self, type_index: u32) -> Option<&SubType> {
+        self.types.get(type_index as usize)
+    }
+
+    fn sub_type_at_id(&self, id: CoreTypeId) -> &SubType {
+        &self.types[id.index() as usize]
+    }
+
+    fn type_id_of_function(&self, function_index: u32) -> Option<CoreTypeId> {
+        let function = self.functions.get(function_index as usize)?;
+        Some(CoreTypeId::from_index(function.type_index))
     }
 
     fn type_index_of_function(&self, function_index: u32) -> Option<u32> {
@@ -90,20 +174,38 @@ impl WasmModuleResources for ModuleLists {
         Some(function.type_index)
     }
 
-    fn memory_at(&self, memory_index: u32) -> Option<MemoryType> {
-        self.memories.get(memory_index as usize).copied()
+    fn element_type_at(&self, element_index: u32) -> Option<RefType> {
+        self.elements.get(element_index as usize).copied()
     }
 
     fn data_count(&self) -> Option<u32> {
         self.data_count
     }
 
-    fn sub_type_at(&self, type_index: u32) -> Option<&SubType> {
-        self.types.get(type_index as usize)
+    fn is_function_referenced(&self, function_index: u32) -> bool {
+        match self.functions.get(function_index as usize) {
+            Some(function) => function.referenced,
+            None => false,
+        }
     }
 
+    /// A question costs the length of a chain of supertypes, and takes no memory.
     fn is_subtype(&self, a: ValType, b: ValType) -> bool {
-        a == b
+        is_type_below(&self.types, a, b)
+    }
+
+    fn is_shared(&self, ty: RefType) -> bool {
+        is_heap_shared(&self.types, ty.heap_type())
+    }
+
+    fn check_heap_type(&self, ty: &mut HeapType, offset: u64) -> Result<(), Error> {
+        let form = canonical_heap(*ty, self.types.len());
+        write_form(ty, form, self.alloc, offset)
+    }
+
+    fn check_ref_type(&self, ty: &mut RefType, offset: u64) -> Result<(), Error> {
+        let form = canonical_ref(*ty, self.types.len());
+        write_form(ty, form, self.alloc, offset)
     }
 
     fn check_value_type(
@@ -112,9 +214,10 @@ impl WasmModuleResources for ModuleLists {
         features: &WasmFeatures,
         offset: u64,
     ) -> Result<(), Error> {
-        match features.check_value_type(*ty) {
-            Ok(()) => Ok(()),
-            Err(text) => Err(Error::new(text, offset)),
+        if let Err(text) = features.check_value_type(*ty) {
+            return Err(Error::new(text, offset));
         }
+        let form = canonical_type(*ty, self.types.len());
+        write_form(ty, form, self.alloc, offset)
     }
 }

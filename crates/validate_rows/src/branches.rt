@@ -93,6 +93,7 @@ fn check_target<R: WasmModuleResources>(
     relative_depth: u32,
     count: usize,
 ) -> Result<(), Error>
+    requires { IsValid (R.context resources.now) stacks.now }
     ensures fits { OnOk result (is_target (R.context resources.now) stacks.now count relative_depth ≡ true) }
     ensures refused { OnErr result (is_target (R.context resources.now) stacks.now count relative_depth ≡ false) }
     ensures offset { IfErr result (λ e. e.offset ≡ offset) }
@@ -116,6 +117,7 @@ fn check_targets<R: WasmModuleResources>(
     table: BrTable,
     count: usize,
 ) -> Result<(), Error>
+    requires { IsValid (R.context resources.now) stacks.now }
     ensures fits { OnOk result (are_targets (R.context resources.now) stacks.now count table.entry.complete table.entry.targets.now ≡ true) }
     ensures refused { OnErr result (are_targets (R.context resources.now) stacks.now count table.entry.complete table.entry.targets.now ≡ false) }
     ensures offset { IfErr result (λ e. e.offset ≡ offset) }

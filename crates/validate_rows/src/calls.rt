@@ -3,7 +3,7 @@
 ghost use Rattle.std.specs.Prelude.{◌≡◌, true, false, None, Some, ◌&&◌, nat_eq, length, map, pred, IfOk, OnOk, OnErr, IfErr};
 ghost use Rattle.std.specs.List.{AllByRecursion};
 ghost use Rattle.validate_types.specs.declared.gate.Gate.TheVariants.{TailCall};
-ghost use Rattle.validate_resources.specs.Context.{Valid};
+ghost use Rattle.validate_resources.specs.Context.{Valid, signature_of};
 ghost use Rattle.validation_rules.specs.Calls.{callee as called, call_row, returns, return_call_row};
 ghost use Rattle.validation_rules.specs.Context.{Context};
 ghost use Rattle.validation_rules.specs.Fits.{Known, all_fit};
@@ -17,7 +17,7 @@ use std::alloc::{AllocError, Global};
 use validate_resources::WasmModuleResources;
 use validate_stacks::blocks::label_types;
 use validate_stacks::{Stacks, ty_to_str};
-use validate_types::{CompositeInnerType, Error, FuncType, Gate, ValType};
+use validate_types::{CompositeInnerType, Error, FuncType, Gate, SubType, ValType};
 
 /// The type of a function, which has to be declared, and in a shared function has to be shared
 /// (wasmparser's `type_of_function`).
@@ -42,8 +42,16 @@ fn type_of_function<'a, R: WasmModuleResources>(
     if stacks.is_shared() && !sub_type.composite_type.shared {
         return Err(Error::new("shared functions cannot access unshared functions", offset));
     }
-    let CompositeInnerType::Func(func_type) = &sub_type.composite_type.inner;
-    Ok(func_type)
+    Ok(func_type_of(sub_type))
+}
+
+/// What a type of a function takes and gives.
+fn func_type_of(sub_type: &SubType) -> &FuncType
+    ensures { result.now ≡ signature_of sub_type.now }
+{
+    match &sub_type.composite_type.inner {
+        CompositeInnerType::Func(func_type) => func_type,
+    }
 }
 
 fn unknown_function(alloc: Global, offset: u64, function_index: u32) -> Error

@@ -2,7 +2,7 @@
 
 ghost use Rattle.std.specs.Prelude.{◌≡◌, true, false, [], None, Some, IfOk, OnErr, IfErr};
 ghost use Rattle.validate_types.specs.Gates.{is_open};
-ghost use Rattle.validation_rules.specs.Table.{plain, looking, drops, selected, selects, typed_select, alike};
+ghost use Rattle.validation_rules.specs.Table.{plain, looking, drops, is_selectable, selected, selects, typed_select, alike};
 ghost use Rattle.validate_stacks.specs.Visits.{step_body, MayVisit, Meets};
 
 use crate::plain::{check_enabled, check_plain};
@@ -26,6 +26,17 @@ pub fn check_drop<R: WasmModuleResources>(
     }
 }
 
+/// Whether `select` takes this operand: it takes no reference.
+fn can_select(operand: MaybeType) -> bool
+    ensures { result ≡ is_selectable operand }
+{
+    match operand {
+        MaybeType::Bottom => true,
+        MaybeType::UnknownRef(_) | MaybeType::Known(ValType::Ref(_)) => false,
+        MaybeType::Known(_) => true,
+    }
+}
+
 /// What `select` gives for its two operands: an unknown one gives way to the other, and known ones
 /// have to be of one type.
 fn select_type(lower: MaybeType, upper: MaybeType, offset: u64) -> Result<MaybeType, Error>
@@ -34,18 +45,16 @@ fn select_type(lower: MaybeType, upper: MaybeType, offset: u64) -> Result<MaybeT
     ensures offset { IfErr result (λ e. e.offset ≡ offset) }
     ensures memory { IfErr result (λ e. e.memory ≡ false) }
 {
+    if !can_select(lower) || !can_select(upper) {
+        return Err(Error::new("type mismatch: select only takes integral types", offset));
+    }
     match (lower, upper) {
-        (MaybeType::Bottom, other) | (other, MaybeType::Bottom) => Ok(other),
-        (MaybeType::Known(one), MaybeType::Known(other)) => {
-            if one == other {
-                Ok(lower)
-            } else {
-                Err(Error::new(
-                    "type mismatch: select operands have different types",
-                    offset,
-                ))
-            }
-        }
+        (MaybeType::Known(one), MaybeType::Known(other)) if one != other => Err(Error::new(
+            "type mismatch: select operands have different types",
+            offset,
+        )),
+        (MaybeType::Bottom, other) => Ok(other),
+        _ => Ok(lower),
     }
 }
 

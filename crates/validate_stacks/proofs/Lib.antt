@@ -1,5 +1,6 @@
 mod Tops
 mod Cuts
+mod Marks
 pub mod Looks
 pub mod Matching
 pub mod Validity

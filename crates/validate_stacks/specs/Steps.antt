@@ -1,12 +1,13 @@
 -- The steps of the stacks on what they stand for.
-use Rattle.std.specs.Prelude.{ℕ, List, [], ◌∷◌, ◌++◌, Bool, true, false, Option, Some, None, length, drop, slice_get, slice_index_or, replicate, ◌||◌}
+use Rattle.std.specs.Prelude.{ℕ, List, [], ◌∷◌, ◌++◌, Bool, true, false, Option, Some, None, length, drop, slice_get, slice_index_or, replicate, map, ◌||◌}
 use Rattle.std.specs.Option.{option_map}
 use Rattle.validate_types.specs.declared.features.WasmFeatures.{WasmFeatures}
+use Rattle.validate_types.specs.Types.{is_defaultable}
 use Rattle.validate_types.specs.declared.types.ValType.{ValType}
 use Rattle.validate_visit.specs.declared.frame.BlockType.{BlockType}
 use Rattle.validate_visit.specs.declared.frame.Frame.{Frame as FlatFrame}
 use Rattle.validate_visit.specs.declared.frame.FrameKind.{FrameKind}
-use Rattle.validation_rules.specs.Fits.{MaybeType, Bottom, Known}
+use Rattle.validation_rules.specs.Fits.{MaybeType, Bottom, UnknownRef, Known}
 use Rattle.validation_rules.specs.Rows.{Head}
 use Rattle.validation_rules.specs.Static.{Frame, State, heads, has, set_in, joined}
 use Rattle.validate_stacks.specs.Flat.{with_heights}
@@ -45,6 +46,7 @@ all_in (f ∷ fs) left = f.own ++ all_in fs left
 abbrev pub known_of : MaybeType → Option ValType
 known_of (Known t) = Some t
 known_of Bottom = None
+known_of (UnknownRef a) = None
 
 -- the type of the operand at this depth, where it is known; None past the end
 abbrev pub peeked : BodyState → ℕ → Option (Option ValType)
@@ -131,6 +133,15 @@ with_set set i (f ∷ fs) = record f { first_set = joined set f.first_set i } �
 abbrev pub local_set : ℕ → BodyState → BodyState
 local_set i v = record v { present = record { frames = with_set (is_set_in v i) i v.present.frames; left = v.present.left } }
 
--- with so many more locals of a type, set when the body begins
+-- the locals that were first set in a frame that is still open, in order
+abbrev pub order_in : List Frame → List ℕ
+order_in [] = []
+order_in (f ∷ fs) = order_in fs ++ f.first_set
+
+-- with so many more locals of a type, set when the body begins where it has a default value
 abbrev pub with_locals : ℕ → ValType → BodyState → BodyState
-with_locals count ty v = record v { locals = v.locals ++ replicate count ty; entry = v.entry ++ replicate count true }
+with_locals count ty v = record v { locals = v.locals ++ replicate count ty; entry = v.entry ++ replicate count (is_defaultable ty) }
+
+-- with these parameters as locals, all of them set when the body begins
+abbrev pub with_params : List ValType → BodyState → BodyState
+with_params params v = record v { locals = v.locals ++ params; entry = v.entry ++ map (λ _. true) params }

@@ -43,6 +43,8 @@ impl Stacks {
         offset: u64,
         wanted: &[ValType],
     ) -> Result<(), Error>
+        requires types { AllByRecursion (Valid (R.context resources.now)) wanted.now }
+        requires state { IsValid (R.context resources.now) self.now }
         ensures passed { OnOk result (tops_fit (context (R.context resources.now) self.now) wanted.now self.now ≡ true) }
         ensures refused { OnErr result (tops_fit (context (R.context resources.now) self.now) wanted.now self.now ≡ false) }
         ensures offset { IfErr result (λ e. e.offset ≡ offset) }

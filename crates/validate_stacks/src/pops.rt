@@ -3,7 +3,7 @@
 ghost use Rattle.std.specs.Prelude.{◌≡◌, ◌⊎◌, true, false, None, Some, OnOk, OnErr, IfOk, IfErr};
 ghost use Rattle.std.specs.Option.{ForSome};
 ghost use Rattle.validate_resources.specs.Context.{Valid};
-ghost use Rattle.validation_rules.specs.Fits.{fits};
+ghost use Rattle.validation_rules.specs.Fits.{UnknownRef, fits};
 ghost use Rattle.validation_rules.specs.Valid.{OperandIsValid};
 ghost use Rattle.validate_stacks.specs.State.{IsValid, context};
 ghost use Rattle.validate_stacks.specs.Names.{type_name};
@@ -13,7 +13,7 @@ ghost use Rattle.validate_stacks.specs.Steps.{found, popped};
 use crate::stacks::Stacks;
 use std::alloc::Global;
 use validate_resources::WasmModuleResources;
-use validate_types::{Error, MaybeType, ValType};
+use validate_types::{AbstractHeapType, Error, HeapType, MaybeType, RefType, ValType};
 
 /// The name of a type in a refusal (wasmparser's `ty_to_str`).
 pub fn ty_to_str(ty: ValType) -> &'static str
@@ -25,6 +25,7 @@ pub fn ty_to_str(ty: ValType) -> &'static str
         ValType::F32 => "f32",
         ValType::F64 => "f64",
         ValType::V128 => "v128",
+        ValType::Ref(ty) => ty.wat(),
     }
 }
 
@@ -53,6 +54,17 @@ fn mismatch(alloc: Global, expected: ValType, found: ValType, offset: u64) -> Er
     let expected = ty_to_str(expected);
     let found = ty_to_str(found);
     match format!(in alloc; "type mismatch: expected {expected}, found {found}") {
+        Ok(text) => Error::with_text(text, offset),
+        Err(_) => Error::out_of_memory(offset),
+    }
+}
+
+/// The refusal of a reference where a number or a vector is wanted.
+fn reference_found(alloc: Global, expected: ValType, offset: u64) -> Error
+    ensures { result.offset ≡ offset }
+{
+    let expected = ty_to_str(expected);
+    match format!(in alloc; "type mismatch: expected {expected}, found heap type") {
         Ok(text) => Error::with_text(text, offset),
         Err(_) => Error::out_of_memory(offset),
     }
@@ -92,6 +104,8 @@ impl Stacks {
         found: Option<MaybeType>,
         expected: Option<ValType>,
     ) -> Result<MaybeType, Error>
+        requires wanted { ForSome expected (Valid (R.context resources.now)) }
+        requires found { ForSome found (OperandIsValid (R.context resources.now)) }
         ensures value { IfOk result (λ t. found ≡ Some t) }
         ensures passed { OnOk result (passes (context (R.context resources.now) self.now) found expected ≡ true) }
         ensures refused { OnErr result (passes (context (R.context resources.now) self.now) found expected ≡ false) }
@@ -109,7 +123,43 @@ impl Stacks {
                     Err(mismatch(self.allocator(), wanted, found, offset))
                 }
             }
+            (MaybeType::UnknownRef(ty), Some(wanted)) => {
+                self.check_unknown(resources, offset, ty, wanted)?;
+                Ok(actual)
+            }
             _ => Ok(actual),
+        }
+    }
+
+    /// Whether an unknown reference, of which an abstract type may be known, fits what is wanted: with
+    /// the sharedness of that.
+    fn check_unknown<R: WasmModuleResources>(
+        &self,
+        resources: &R,
+        offset: u64,
+        found: Option<AbstractHeapType>,
+        wanted: ValType,
+    ) -> Result<(), Error>
+        requires { Valid (R.context resources.now) wanted }
+        ensures passed { OnOk result (fits (context (R.context resources.now) self.now) (UnknownRef found) wanted ≡ true) }
+        ensures refused { OnErr result (fits (context (R.context resources.now) self.now) (UnknownRef found) wanted ≡ false) }
+        ensures offset { IfErr result (λ e. e.offset ≡ offset) }
+    {
+        let ValType::Ref(reference) = wanted else {
+            return Err(reference_found(self.allocator(), wanted, offset));
+        };
+        let Some(ty) = found else {
+            return Ok(());
+        };
+        let shared = resources.is_shared(reference);
+        let actual = ValType::Ref(RefType {
+            nullable: false,
+            heap_type: HeapType::Abstract { shared, ty },
+        });
+        if resources.is_subtype(actual, wanted) {
+            Ok(())
+        } else {
+            Err(mismatch(self.allocator(), wanted, actual, offset))
         }
     }
 }

@@ -3,13 +3,13 @@
 ghost use Rattle.std.specs.Prelude.{◌≡◌, ◌≢◌, ◌+◌, ◌<◌, ◌≤◌, [], length, IfOk, OnErr, MatchBool, MatchResult, IsTrue, not};
 ghost use Rattle.std.specs.Option.{option_copied};
 ghost use Rattle.validation_rules.specs.Static.{operand_count, frame_count};
-ghost use Rattle.validate_stacks.specs.Steps.{empty, own_of, found, known_of, peeked, frame_at, label_of, found_below, ended, pushed, popped, opened, closed, is_set_in, local_set, with_locals};
+ghost use Rattle.validate_stacks.specs.Steps.{empty, own_of, found, known_of, peeked, frame_at, label_of, found_below, ended, pushed, popped, opened, closed, is_set_in, local_set, order_in, with_locals, with_params};
 
 use crate::allocations::OperatorValidatorAllocations;
 use crate::pile::Pile;
 use std::alloc::Global;
 use std::marker::Model;
-use validate_locals::Locals;
+use validate_locals::{LocalInits, Locals};
 use validate_types::{MaybeType, OutOfMemory, ValType, WasmFeatures};
 use validate_visit::{BlockType, Frame, FrameKind};
 
@@ -20,22 +20,23 @@ pub struct Stacks {
     operands: Pile<MaybeType>,
     control: Pile<Frame>,
     locals: Locals,
+    inits: LocalInits,
     shared: bool,
     features: WasmFeatures,
     alloc: Global,
 }
 
 impl Model for Stacks {
-    ghost use Rattle.std.specs.Prelude.{length, map, true, None};
+    ghost use Rattle.std.specs.Prelude.{None};
     ghost use Rattle.validate_stacks.specs.State.{BodyState};
 
     ghost Value = { BodyState };
 
-    ghost use Rattle.validate_stacks.specs.Flat.{cut, HasShape};
+    ghost use Rattle.validate_stacks.specs.Flat.{cut, IsSound};
 
-    ghost view = { λ s. record { present = cut s.control.items s.operands.items; shared = s.shared; features = s.features; locals = s.locals; entry = map (λ _. true) s.locals; undone = None } };
+    ghost view = { λ s. record { present = cut s.control.items s.operands.items s.inits.order; shared = s.shared; features = s.features; locals = s.locals; entry = s.inits.base; undone = None } };
 
-    ghost invariant = { λ s. HasShape s.control.items (length s.operands.items) };
+    ghost invariant = { λ s. IsSound s.control.items s.operands.items s.inits s.locals };
 }
 
 impl Stacks {
@@ -48,6 +49,7 @@ impl Stacks {
             operands: Pile::new(alloc),
             control: Pile::new(alloc),
             locals: Locals::new(alloc),
+            inits: LocalInits::new(alloc),
             shared: false,
             features,
             alloc,
@@ -92,24 +94,55 @@ impl Stacks {
         &self.locals
     }
 
-    /// Declares `count` more locals of this type. False, with nothing changed, where there would be
-    /// more than 50,000 then; want of memory changes nothing either.
+    /// Which locals are set: those that were first set, in order, and those set when the body begins.
+    pub fn inits(&self) -> &LocalInits
+        ensures order { result.now.order ≡ order_in self.now.present.frames }
+        ensures base { result.now.base ≡ self.now.entry }
+        ensures marks { length self.now.entry ≡ length self.now.locals }
+    {
+        let _frames = self.control.len();
+        &self.inits
+    }
+
+    /// Declares the parameters, each as a local that is set, whatever its type. False, with nothing
+    /// changed, where there would be more than 50,000 locals then; want of memory changes nothing either.
+    pub fn define_params(&mut self, params: &[ValType]) -> Result<bool, OutOfMemory>
+        ensures defined { IfOk result (λ done. MatchBool done (self.new ≡ with_params params.now self.old) (self.new ≡ self.old)) }
+        ensures within { IfOk result (λ done. MatchBool done (length self.old.locals + length params.now ≤ 50000) (50000 < length self.old.locals + length params.now)) }
+        ensures err { OnErr result (self.new ≡ self.old) }
+    {
+        if !self.locals.may_define(params.len()) {
+            return Ok(false);
+        }
+        self.inits.reserve(params.len())?;
+        self.locals.define_params(params)?;
+        self.inits.define_params(params.len()).unwrap();
+        Ok(true)
+    }
+
+    /// Declares `count` more locals of this type, which are set where it has a default value. False, with
+    /// nothing changed, where there would be more than 50,000 then; want of memory changes nothing either.
     pub fn define_locals(&mut self, count: u32, ty: ValType) -> Result<bool, OutOfMemory>
         ensures defined { IfOk result (λ done. MatchBool done (self.new ≡ with_locals count ty self.old) (self.new ≡ self.old)) }
         ensures within { IfOk result (λ done. MatchBool done (length self.old.locals + count ≤ 50000) (50000 < length self.old.locals + count)) }
         ensures err { OnErr result (self.new ≡ self.old) }
     {
-        self.locals.define(count, ty)
+        if !self.locals.may_define(count as usize) {
+            return Ok(false);
+        }
+        self.inits.reserve(count as usize)?;
+        self.locals.define(count, ty)?;
+        self.inits.define_locals(count, ty).unwrap();
+        Ok(true)
     }
 
-    /// Whether the local at this index isn't set. Every local has a default value until references
-    /// come, so none is.
+    /// Whether the local at this index isn't set (wasmparser's `is_uninit`).
     pub fn is_uninit(&self, local_index: u32) -> bool
         requires { local_index < length self.now.locals }
         ensures { result ≡ not (is_set_in self.now local_index) }
     {
-        let ty = self.locals.get(local_index).unwrap();
-        !ty.is_defaultable()
+        let _frames = self.control.len();
+        self.inits.is_uninit(local_index)
     }
 
     /// Sets the local at this index: where it wasn't set, it joins those first set in the innermost
@@ -118,9 +151,11 @@ impl Stacks {
         requires { local_index < length self.old.locals }
         ensures exact { MatchResult result (λ _. self.new ≡ local_set local_index self.old) (λ _. self.new ≡ self.old) }
     {
-        let _locals = &self.locals;
-        let _index = local_index;
-        Ok(())
+        // Where no frame is open, there is none that it would join.
+        if self.control.len() == 0 {
+            return Ok(());
+        }
+        self.inits.set_init(local_index)
     }
 
     /// How many operands there are, in all frames.
@@ -239,23 +274,28 @@ impl Stacks {
     {
         self.control.take_room()?;
         let height = self.operands.len();
+        let init_height = self.inits.height();
         self.control.put(Frame {
             kind,
             block_type,
             height,
             unreachable: false,
-            init_height: 0,
+            init_height,
         });
         Ok(())
     }
 
-    /// Closes the innermost frame, which has no operands of its own.
+    /// Closes the innermost frame, which has no operands of its own: the locals that were first set in it
+    /// aren't set any more. It takes no memory.
     pub fn pop_bare_ctrl(&mut self)
         requires { own_of self.old.present.frames ≡ [] }
         ensures { self.new ≡ closed self.old }
     {
         let _height = self.operands.len();
-        let _frame = self.control.pop();
+        let Some(frame) = self.control.pop() else {
+            return;
+        };
+        self.inits.drop_ctrl(frame.init_height);
     }
 }
 
@@ -265,6 +305,6 @@ fn known_type(ty: MaybeType) -> Option<ValType>
 {
     match ty {
         MaybeType::Known(ty) => Some(ty),
-        MaybeType::Bottom => None,
+        MaybeType::Bottom | MaybeType::UnknownRef(_) => None,
     }
 }

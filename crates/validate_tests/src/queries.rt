@@ -3,36 +3,32 @@
 ghost use Rattle.wasmparser_validate.specs.Start.{state};
 ghost use Rattle.wasmparser_validate.specs.State.{IsStarting};
 
-use crate::expect::{Wanted, expect_answer};
-use crate::fixture::{four_types, validator};
-use crate::ops::{
-    ELSE, EMPTY_BLOCK, EMPTY_IF, EMPTY_LOOP, END, I32_CONST, UNREACHABLE, if_of, typed_loop,
-};
+use crate::expect::expect_list;
+use crate::setting::{FOUR_TYPES, Setting};
 use std::process::Abort;
 use std::test::Fail;
 use wasmparser_validate::operators::OperatorValidator;
 use wasmparser_validate::resources::{ModuleLists, WasmModuleResources};
 use wasmparser_validate::types::{Error, ValType};
-use wasmparser_validate::visit::{BlockType, FrameKind, FrameStack, Op, VisitOperator};
+use wasmparser_validate::visit::{BlockType, FrameKind, FrameStack, VisitOperator};
 
 #[test]
 fn jump_names_the_frame_of_a_label(rt: HostRuntime) -> Result<(), Fail> {
-    let lists = four_types(&rt)?;
-    let mut v = validator(&rt, &lists)?;
+    let setting = Setting::of(FOUR_TYPES);
+    let lists = setting.lists(&rt)?;
+    let mut v = setting.validator(&rt, &lists)?;
     assert_eq!(rt; v.jump(0), Some((BlockType::FuncType(0), FrameKind::Block)));
     assert_eq!(rt; v.jump(1), None);
-    let ops = [
-        I32_CONST,
-        I32_CONST,
-        if_of(ValType::F32),
-        I32_CONST,
-        typed_loop(1),
-        EMPTY_BLOCK,
-    ];
-    let heights = [(1, 1), (2, 1), (1, 2), (2, 2), (2, 3), (2, 4)];
-    let left = [Some(ValType::I32), Some(ValType::I32)];
-    let open = Wanted::Answer(false);
-    expect_answer(&rt, &mut v, &lists, &ops, open, &heights, &left)?;
+    let text = "
+i32.const => 1 1
+i32.const => 2 1
+if f32    => 1 2
+i32.const => 2 2
+loop 1    => 2 3
+block     => 2 4
+=> i32 i32
+";
+    expect_list(&rt, &mut v, &lists, text)?;
     assert_eq!(rt; v.jump(0), Some((BlockType::Empty, FrameKind::Block)));
     assert_eq!(rt; v.jump(1), Some((BlockType::FuncType(1), FrameKind::Loop)));
     assert_eq!(rt;
@@ -48,15 +44,13 @@ fn jump_names_the_frame_of_a_label(rt: HostRuntime) -> Result<(), Fail> {
 /// The kind of the innermost frame after a list, and the label of depth 0, which is the same frame.
 fn expect_current(
     rt: &(impl Abort + AllocGlobal),
-    ops: &[Op<'_>],
-    closed: bool,
-    heights: &[(usize, usize)],
+    text: &str,
     kind: Option<FrameKind>,
 ) -> Result<(), Fail> {
-    let lists = four_types(rt)?;
-    let mut v = validator(rt, &lists)?;
-    let wanted = Wanted::Answer(closed);
-    expect_answer(rt, &mut v, &lists, ops, wanted, heights, &[])?;
+    let setting = Setting::of(FOUR_TYPES);
+    let lists = setting.lists(rt)?;
+    let mut v = setting.validator(rt, &lists)?;
+    expect_list(rt, &mut v, &lists, text)?;
     assert_eq!(rt; v.jump(0).map(|label| label.1), kind);
     assert_eq!(rt; v.with_resources(&lists, 0).current_frame(), kind);
     Ok(())
@@ -64,40 +58,32 @@ fn expect_current(
 
 #[test]
 fn the_current_frame_is_the_innermost(rt: HostRuntime) -> Result<(), Fail> {
-    expect_current(&rt, &[], false, &[], Some(FrameKind::Block))?;
-    let heights = [(0, 2)];
-    expect_current(&rt, &[EMPTY_LOOP], false, &heights, Some(FrameKind::Loop))?;
-    let heights = [(1, 1), (0, 2)];
-    let ops = [I32_CONST, EMPTY_IF];
-    expect_current(&rt, &ops, false, &heights, Some(FrameKind::If))?;
-    let heights = [(1, 1), (0, 2), (0, 2)];
-    let ops = [I32_CONST, EMPTY_IF, ELSE];
-    expect_current(&rt, &ops, false, &heights, Some(FrameKind::Else))?;
-    let heights = [(1, 1), (0, 2), (0, 2), (0, 1)];
-    let ops = [I32_CONST, EMPTY_IF, ELSE, END];
-    expect_current(&rt, &ops, false, &heights, Some(FrameKind::Block))?;
-    expect_current(&rt, &[END], true, &[(0, 0)], None)
+    expect_current(&rt, "=>", Some(FrameKind::Block))?;
+    expect_current(&rt, "loop => 0 2\n=>", Some(FrameKind::Loop))?;
+    let text = "i32.const => 1 1\nif => 0 2\n=>";
+    expect_current(&rt, text, Some(FrameKind::If))?;
+    let text = "i32.const => 1 1\nif => 0 2\nelse => 0 2\n=>";
+    expect_current(&rt, text, Some(FrameKind::Else))?;
+    let text = "i32.const => 1 1\nif => 0 2\nelse => 0 2\nend => 0 1\n=>";
+    expect_current(&rt, text, Some(FrameKind::Block))?;
+    expect_current(&rt, "end => 0 0\n=>", None)
 }
 
 #[test]
 fn the_frame_of_dead_code(rt: HostRuntime) -> Result<(), Fail> {
-    let lists = four_types(&rt)?;
-    let mut v = validator(&rt, &lists)?;
-    let ops = [I32_CONST, EMPTY_BLOCK, UNREACHABLE];
-    let heights = [(1, 1), (1, 2), (1, 2)];
-    let left = [Some(ValType::I32)];
-    let open = Wanted::Answer(false);
-    expect_answer(&rt, &mut v, &lists, &ops, open, &heights, &left)?;
-    assert_eq!(rt;
-        v.get_frame(0)
-            .map(|frame| (frame.unreachable, frame.height)),
-        Some((true, 1))
-    );
-    assert_eq!(rt;
-        v.get_frame(1)
-            .map(|frame| (frame.unreachable, frame.height)),
-        Some((false, 0))
-    );
+    let setting = Setting::of(FOUR_TYPES);
+    let lists = setting.lists(&rt)?;
+    let mut v = setting.validator(&rt, &lists)?;
+    let text = "i32.const => 1 1\nblock => 1 2\nunreachable => 1 2\n=> i32";
+    expect_list(&rt, &mut v, &lists, text)?;
+    let frames = [(0, Some((true, 1))), (1, Some((false, 0)))];
+    for (depth, wanted) in frames {
+        let frame = v.get_frame(depth);
+        assert_eq!(rt;
+            frame.map(|frame| (frame.unreachable, frame.height)),
+            wanted
+        );
+    }
     Ok(())
 }
 
@@ -111,8 +97,9 @@ fn visit_else(v: &mut OperatorValidator, lists: &ModuleLists) -> Result<(), Erro
 /// No well-ordered list has one: the visit itself refuses it.
 #[test]
 fn an_else_out_of_place_is_refused(rt: HostRuntime) -> Result<(), Fail> {
-    let lists = four_types(&rt)?;
-    let mut v = validator(&rt, &lists)?;
+    let setting = Setting::of(FOUR_TYPES);
+    let lists = setting.lists(&rt)?;
+    let mut v = setting.validator(&rt, &lists)?;
     match visit_else(&mut v, &lists) {
         Ok(()) => assert!(rt; false, "the body is no `if`"),
         Err(refusal) => {

@@ -1,9 +1,14 @@
 -- The proposals, each one bit, and the gates of types.
-use Rattle.std.specs.Prelude.{ℕ, Bool, true, ◌==◌}
+use Rattle.std.specs.Prelude.{ℕ, Bool, true, false, ◌==◌, ◌&&◌, ◌||◌}
 use Rattle.std.specs.Int.RustNames.{bit_and}
 use Rattle.validate_types.specs.declared.features.WasmFeatures.{WasmFeatures}
+use Rattle.validate_types.specs.declared.heap.AbstractHeapType.{AbstractHeapType}
+use Rattle.validate_types.specs.declared.heap.AbstractHeapType.TheVariants.{Func, Extern, Exn, NoExn, Cont, NoCont}
+use Rattle.validate_types.specs.declared.heap.HeapType.{HeapType}
+use Rattle.validate_types.specs.declared.heap.HeapType.TheVariants.{Abstract, Concrete}
+use Rattle.validate_types.specs.declared.refs.RefType.{RefType}
 use Rattle.validate_types.specs.declared.types.ValType.{ValType}
-use Rattle.validate_types.specs.declared.types.ValType.TheVariants.{I32, I64, F32, F64, V128}
+use Rattle.validate_types.specs.declared.types.ValType.TheVariants.{I32, I64, F32, F64, V128, Ref}
 
 abbrev pub multi_value : ℕ
 multi_value = 1
@@ -72,6 +77,31 @@ multibyte_array_access = 1048576
 abbrev pub has : WasmFeatures → ℕ → Bool
 has features bit = bit_and features.0 bit == bit
 
+-- the gate of an abstract heap type is open, by whether the reference to it is nullable
+abbrev pub abstract_gate : WasmFeatures → Bool → AbstractHeapType → Bool
+abstract_gate features true Func = true
+abstract_gate features true Extern = true
+abstract_gate features false Func = has features function_references
+abstract_gate features false Extern = has features function_references
+abstract_gate features _ Exn = has features exceptions
+abstract_gate features _ NoExn = has features exceptions
+abstract_gate features _ Cont = has features stack_switching
+abstract_gate features _ NoCont = has features stack_switching
+abstract_gate features _ _ = has features gc
+
+-- shared types are a proposal of their own
+abbrev pub shared_gate : WasmFeatures → Bool → Bool
+shared_gate features true = has features shared_everything_threads
+shared_gate features false = true
+
+abbrev pub heap_gate : WasmFeatures → Bool → HeapType → Bool
+heap_gate features nullable (Abstract shared ty) = shared_gate features shared && abstract_gate features nullable ty
+heap_gate features nullable (Concrete i) = has features function_references || has features gc
+
+-- the gate of a reference type is open
+abbrev pub ref_gate : WasmFeatures → RefType → Bool
+ref_gate features r = has features reference_types && heap_gate features r.nullable r.heap_type
+
 -- the gate of a value type is open
 abbrev pub type_gate : WasmFeatures → ValType → Bool
 type_gate features I32 = true
@@ -79,3 +109,4 @@ type_gate features I64 = true
 type_gate features F32 = has features floats
 type_gate features F64 = has features floats
 type_gate features V128 = has features simd
+type_gate features (Ref r) = ref_gate features r

@@ -1,10 +1,10 @@
 -- The gates of operators: the proposal that each needs (WebAssembly core specification, "Change
 -- History"; the flags are the crate's own).
 use Rattle.std.specs.Prelude.{Bool, true}
-use Rattle.validate_types.specs.Features.{has, floats, reference_types, bulk_memory, bulk_memory_opt, sign_extension, saturating_float_to_int, threads, tail_call, memory_control, wide_arithmetic, acquire_release_atomics}
+use Rattle.validate_types.specs.Features.{has, floats, reference_types, bulk_memory, bulk_memory_opt, sign_extension, saturating_float_to_int, threads, tail_call, function_references, memory_control, wide_arithmetic, acquire_release_atomics}
 use Rattle.validate_types.specs.declared.features.WasmFeatures.{WasmFeatures}
 use Rattle.validate_types.specs.declared.gate.Gate.{Gate}
-use Rattle.validate_types.specs.declared.gate.Gate.TheVariants.{Mvp, Floats, ReferenceTypes, BulkMemory, BulkMemoryOpt, SignExtension, SaturatingFloatToInt, Threads, TailCall, MemoryControl, WideArithmetic, AcquireReleaseAtomics}
+use Rattle.validate_types.specs.declared.gate.Gate.TheVariants.{Mvp, Floats, ReferenceTypes, BulkMemory, BulkMemoryOpt, SignExtension, SaturatingFloatToInt, Threads, TailCall, FunctionReferences, MemoryControl, WideArithmetic, AcquireReleaseAtomics}
 
 abbrev pub is_open : WasmFeatures → Gate → Bool
 is_open features Mvp = true
@@ -16,6 +16,7 @@ is_open features SignExtension = has features sign_extension
 is_open features SaturatingFloatToInt = has features saturating_float_to_int
 is_open features Threads = has features threads
 is_open features TailCall = has features tail_call
+is_open features FunctionReferences = has features function_references
 is_open features MemoryControl = has features memory_control
 is_open features WideArithmetic = has features wide_arithmetic
 is_open features AcquireReleaseAtomics = has features acquire_release_atomics

@@ -1,9 +1,11 @@
 //! Which proposals are on.
 
 ghost use Rattle.std.specs.Prelude.{⊤, ◌≡◌, [], ◌∷◌, codes, is_ok};
-ghost use Rattle.validate_types.specs.Features.{has, type_gate};
+ghost use Rattle.validate_types.specs.Features.{has, type_gate, ref_gate, abstract_gate};
 ghost use Rattle.validate_types.specs.Features as feature;
 
+use crate::heap::{AbstractHeapType, HeapType};
+use crate::refs::RefType;
 use crate::types::ValType;
 use bitflags::{Flag, Flags, bitflag_items};
 
@@ -302,19 +304,65 @@ impl WasmFeatures {
         match ty {
             ValType::I32 | ValType::I64 => Ok(()),
             ValType::F32 | ValType::F64 => {
-                if self.floats() {
-                    Ok(())
-                } else {
-                    Err("floating-point support is disabled")
-                }
+                allowed(self.floats(), "floating-point support is disabled")
             }
-            ValType::V128 => {
-                if self.simd() {
-                    Ok(())
-                } else {
-                    Err("SIMD support is not enabled")
+            ValType::V128 => allowed(self.simd(), "SIMD support is not enabled"),
+            ValType::Ref(ty) => self.check_ref_type(ty),
+        }
+    }
+
+    /// Ok exactly where the gate of the reference type is open, else the text of the refusal.
+    pub fn check_ref_type(self, ty: RefType) -> Result<(), &'static str>
+        ensures { is_ok result ≡ ref_gate self ty }
+    {
+        if !self.reference_types() {
+            return Err("reference types support is not enabled");
+        }
+        match ty.heap_type() {
+            HeapType::Concrete(_) => allowed(
+                self.function_references() || self.gc(),
+                "function references support is not enabled",
+            ),
+            HeapType::Abstract { shared, ty: heap } => {
+                if shared && !self.shared_everything_threads() {
+                    return Err("shared-everything-threads support is not enabled");
                 }
+                self.check_abstract_type(ty.is_nullable(), heap)
             }
         }
     }
+
+    /// The same of an unshared abstract type, by whether the reference to it is nullable.
+    fn check_abstract_type(self, nullable: bool, ty: AbstractHeapType) -> Result<(), &'static str>
+        ensures { is_ok result ≡ abstract_gate self nullable ty }
+    {
+        match ty {
+            AbstractHeapType::Func | AbstractHeapType::Extern => allowed(
+                nullable || self.function_references(),
+                "function references support is not enabled",
+            ),
+            AbstractHeapType::Exn | AbstractHeapType::NoExn => {
+                allowed(self.exceptions(), "exceptions support is not enabled")
+            }
+            AbstractHeapType::Cont | AbstractHeapType::NoCont => allowed(
+                self.stack_switching(),
+                "stack switching support is not enabled",
+            ),
+            AbstractHeapType::Any
+            | AbstractHeapType::None
+            | AbstractHeapType::NoExtern
+            | AbstractHeapType::NoFunc
+            | AbstractHeapType::Eq
+            | AbstractHeapType::Struct
+            | AbstractHeapType::Array
+            | AbstractHeapType::I31 => allowed(self.gc(), "gc support is not enabled"),
+        }
+    }
+}
+
+/// Ok where the gate is open, else this text.
+fn allowed(is_open: bool, refusal: &'static str) -> Result<(), &'static str>
+    ensures { is_ok result ≡ is_open }
+{
+    if is_open { Ok(()) } else { Err(refusal) }
 }

@@ -26,6 +26,8 @@ pub enum Gate {
     Threads,
     /// The proposal `tail_call`.
     TailCall,
+    /// The proposal `function_references`.
+    FunctionReferences,
     /// The proposal `memory_control`.
     MemoryControl,
     /// The proposal `wide_arithmetic`.
@@ -49,6 +51,7 @@ impl Gate {
             Gate::SaturatingFloatToInt => features.saturating_float_to_int(),
             Gate::Threads => features.threads(),
             Gate::TailCall => features.tail_call(),
+            Gate::FunctionReferences => features.function_references(),
             Gate::MemoryControl => features.memory_control(),
             Gate::WideArithmetic => features.wide_arithmetic(),
             Gate::AcquireReleaseAtomics => features.acquire_release_atomics(),
@@ -68,6 +71,7 @@ impl Gate {
             }
             Gate::Threads => "threads support is not enabled",
             Gate::TailCall => "tail calls support is not enabled",
+            Gate::FunctionReferences => "function references support is not enabled",
             Gate::MemoryControl => "memory control support is not enabled",
             Gate::WideArithmetic => "wide arithmetic support is not enabled",
             Gate::AcquireReleaseAtomics => "acquire-release atomics support is not enabled",

@@ -2,15 +2,20 @@
 //! refusal: what wasmparser's validator takes from the layers below it.
 #![tactic(auto)]
 
+pub mod display;
 pub mod error;
 pub mod features;
 pub mod gate;
+pub mod heap;
+pub mod refs;
 pub mod types;
 
 pub use crate::error::{Error, OutOfMemory};
 pub use crate::features::WasmFeatures;
 pub use crate::gate::Gate;
+pub use crate::heap::{AbstractHeapType, CoreTypeId, HeapType, PackedIndex, UnpackedIndex};
+pub use crate::refs::RefType;
 pub use crate::types::{
     CompositeInnerType, CompositeType, FuncType, GlobalType, MaybeType, MemoryType, SubType,
-    ValType,
+    TableType, ValType,
 };

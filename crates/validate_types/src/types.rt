@@ -1,12 +1,13 @@
 //! Value types, and the types that a module declares (WebAssembly core specification, "Types").
 
-ghost use Rattle.std.specs.Prelude.{◌≡◌, true};
-ghost use Rattle.validate_types.specs.Types.{index_type as type_of_addresses};
+ghost use Rattle.std.specs.Prelude.{◌≡◌};
+ghost use Rattle.validate_types.specs.Types.{index_type as type_of_addresses, table_index_type, is_defaultable};
 
+use crate::heap::{AbstractHeapType, PackedIndex};
+use crate::refs::RefType;
 use std::marker::Model;
 
-/// The type of a value (wasmparser's `ValType`): a number type or the vector type. References are
-/// not there yet.
+/// The type of a value (wasmparser's `ValType`): a number type, the vector type or a reference type.
 #[derive(Clone, Copy, Debug, PartialEq, Eq)]
 pub enum ValType {
     /// `i32`
@@ -19,16 +20,36 @@ pub enum ValType {
     F64,
     /// `v128`
     V128,
+    /// A reference type.
+    Ref(RefType),
 }
 
 impl ValType {
-    /// Whether the type has a default value: true of every number type and of the vector type.
+    /// `funcref`
+    pub const FUNCREF: ValType = ValType::Ref(RefType::FUNCREF);
+
+    /// `exnref`
+    pub const EXNREF: ValType = ValType::Ref(RefType::EXNREF);
+
+    /// Whether the type has a default value: false exactly of references without null.
     pub fn is_defaultable(self) -> bool
-        ensures { result ≡ true }
+        ensures { result ≡ is_defaultable self }
     {
         match self {
             ValType::I32 | ValType::I64 | ValType::F32 | ValType::F64 | ValType::V128 => true,
+            ValType::Ref(ty) => ty.is_nullable(),
         }
+    }
+}
+
+impl From<RefType> for ValType {
+    ghost use Rattle.std.specs.Prelude.{◌≡◌};
+    ghost use Rattle.validate_types.specs.declared.types.ValType.TheVariants.{Ref};
+
+    ghost from_gives = { λ r t. t ≡ Ref r };
+
+    fn from(ty: RefType) -> ValType {
+        ValType::Ref(ty)
     }
 }
 
@@ -38,6 +59,9 @@ impl ValType {
 pub enum MaybeType<T = ValType> {
     /// Nothing is known: what dead code finds below its operands.
     Bottom,
+    /// It is some reference without null, shared or not; where an abstract type is given, one below
+    /// that type or its shared copy.
+    UnknownRef(Option<AbstractHeapType>),
     /// The type is known.
     Known(T),
 }
@@ -50,6 +74,33 @@ impl From<ValType> for MaybeType {
 
     fn from(ty: ValType) -> MaybeType {
         MaybeType::Known(ty)
+    }
+}
+
+impl From<RefType> for MaybeType {
+    ghost use Rattle.std.specs.Prelude.{◌≡◌};
+    ghost use Rattle.validate_types.specs.declared.types.MaybeType.TheVariants.{Known};
+    ghost use Rattle.validate_types.specs.declared.types.ValType.TheVariants.{Ref};
+
+    ghost from_gives = { λ r m. m ≡ Known (Ref r) };
+
+    fn from(ty: RefType) -> MaybeType {
+        MaybeType::Known(ValType::Ref(ty))
+    }
+}
+
+impl From<MaybeType<RefType>> for MaybeType {
+    ghost use Rattle.std.specs.Prelude.{◌≡◌};
+    ghost use Rattle.validate_types.specs.Types.{maybe_value};
+
+    ghost from_gives = { λ r m. m ≡ maybe_value r };
+
+    fn from(ty: MaybeType<RefType>) -> MaybeType {
+        match ty {
+            MaybeType::Bottom => MaybeType::Bottom,
+            MaybeType::UnknownRef(ty) => MaybeType::UnknownRef(ty),
+            MaybeType::Known(ty) => MaybeType::Known(ValType::Ref(ty)),
+        }
     }
 }
 
@@ -113,6 +164,8 @@ pub struct CompositeType {
 pub struct SubType {
     /// Whether no type may be declared below it.
     pub is_final: bool,
+    /// The type that it is declared below, if there is one.
+    pub supertype_idx: Option<PackedIndex>,
     /// What it is made of.
     pub composite_type: CompositeType,
 }
@@ -132,6 +185,30 @@ impl MemoryType {
         ensures { result ≡ type_of_addresses self.now }
     {
         if self.memory64 {
+            ValType::I64
+        } else {
+            ValType::I32
+        }
+    }
+}
+
+/// The type of a table (wasmparser's `TableType`), without its limits.
+#[derive(Clone, Copy, Debug, PartialEq, Eq)]
+pub struct TableType {
+    /// The type of its elements.
+    pub element_type: RefType,
+    /// Whether its addresses have 64 bits.
+    pub table64: bool,
+    /// Whether it is shared.
+    pub shared: bool,
+}
+
+impl TableType {
+    /// The type of its addresses: `i64` where it is marked as one of 64 bits, else `i32`.
+    pub fn index_type(&self) -> ValType
+        ensures { result ≡ table_index_type self.now }
+    {
+        if self.table64 {
             ValType::I64
         } else {
             ValType::I32

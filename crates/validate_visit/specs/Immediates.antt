@@ -1,7 +1,13 @@
 -- Which immediates a module can have: no type holds an id, and each number lies in the range of its
 -- type (WebAssembly core specification, "Instructions").
-use Rattle.std.specs.Prelude.{ℕ, ℤ, pos, negsuc, Bool, true, ◌&&◌, ◌^◌, nat_lt}
+use Rattle.std.specs.Prelude.{ℕ, ℤ, pos, negsuc, Bool, true, false, ◌&&◌, ◌^◌, nat_lt}
 use Rattle.std.specs.List.{list_all}
+use Rattle.validate_types.specs.declared.heap.HeapType.{HeapType}
+use Rattle.validate_types.specs.declared.heap.HeapType.TheVariants.{Abstract, Concrete}
+use Rattle.validate_types.specs.declared.heap.UnpackedIndex.{UnpackedIndex}
+use Rattle.validate_types.specs.declared.heap.UnpackedIndex.TheVariants.{Module, Id}
+use Rattle.validate_types.specs.declared.types.ValType.{ValType}
+use Rattle.validate_types.specs.declared.types.ValType.TheVariants.{Ref}
 use Rattle.validate_visit.specs.declared.br_table.BrTable.{BrTable}
 use Rattle.validate_visit.specs.declared.frame.BlockType.{BlockType}
 use Rattle.validate_visit.specs.declared.frame.BlockType.TheVariants.{Empty, Val, FuncType}
@@ -28,10 +34,20 @@ abbrev pub is_signed : ℕ → ℤ → Bool
 is_signed bits (pos n) = nat_lt n (2 ^ bits)
 is_signed bits (negsuc n) = nat_lt n (2 ^ bits)
 
--- a block type is nothing, a type without an index, or the index of a function type
+-- a type of the module is named by its index, not by an id
+abbrev pub heap_immediates : HeapType → Bool
+heap_immediates (Concrete (Module i)) = is_index i
+heap_immediates (Concrete (Id id)) = false
+heap_immediates (Abstract shared ty) = true
+
+abbrev pub type_immediates : ValType → Bool
+type_immediates (Ref r) = heap_immediates r.heap_type
+type_immediates _ = true
+
+-- a block type is nothing, a type, or the index of a function type
 abbrev pub block_immediates : BlockType → Bool
 block_immediates Empty = true
-block_immediates (Val t) = true
+block_immediates (Val t) = type_immediates t
 block_immediates (FuncType i) = is_index i
 
 -- every target of a table is an index, and so is its default
@@ -54,8 +70,8 @@ control_immediates (Call i) = is_index i
 control_immediates (ReturnCall i) = is_index i
 control_immediates Drop = true
 control_immediates Select = true
-control_immediates (TypedSelect t) = true
-control_immediates (TypedSelectMulti ts) = true
+control_immediates (TypedSelect t) = type_immediates t
+control_immediates (TypedSelectMulti ts) = list_all type_immediates ts.now
 control_immediates (LocalGet i) = is_index i
 control_immediates (LocalSet i) = is_index i
 control_immediates (LocalTee i) = is_index i

@@ -6,6 +6,7 @@ pub mod br_table;
 pub mod frame;
 pub mod frame_stack;
 pub mod ieee;
+pub mod immediates;
 pub mod memory;
 pub mod op;
 pub mod order;
@@ -15,9 +16,8 @@ pub use crate::br_table::{BrTable, BrTableTargets, IncompleteTable};
 pub use crate::frame::{BlockType, Frame, FrameKind};
 pub use crate::frame_stack::FrameStack;
 pub use crate::ieee::{Ieee32, Ieee64};
+pub use crate::immediates::has_module_immediates;
 pub use crate::memory::{MemArg, MemArgTarget, Ordering};
-pub use crate::op::{
-    AtomicOp, ControlOp, ConvertOp, MemoryOp, NumericOp, Op, has_module_immediates,
-};
+pub use crate::op::{AtomicOp, ControlOp, ConvertOp, MemoryOp, NumericOp, Op};
 pub use crate::order::is_well_ordered;
 pub use crate::visitor::VisitOperator;

@@ -20,13 +20,13 @@ use Rattle.validation_rules.proofs.Handmade.{unreachable, a_block, a_loop, an_if
 
 abbrev a_type : List ValType → List ValType → SubType
 a_type params results =
-    record { is_final = true; composite_type = record { inner = Func (record { params = params; results = results }); shared = false } }
+    record { is_final = true; supertype_idx = None; composite_type = record { inner = Func (record { params = params; results = results }); shared = false } }
 
 abbrev types : List SubType
 types = a_type [] [] ∷ a_type (I32 ∷ []) [] ∷ a_type (I32 ∷ []) (I32 ∷ []) ∷ a_type (I32 ∷ I64 ∷ []) (I64 ∷ I32 ∷ []) ∷ []
 
 abbrev declared : Declared
-declared = record { types = types; functions = []; memories = []; globals = []; data_count = None }
+declared = record { types = types; functions = []; tables = []; memories = []; globals = []; elements = []; data_count = None }
 
 -- from nothing to nothing, from i32 to nothing, from i32 to i32, and two in and out
 abbrev to_nothing : BlockType
@@ -576,7 +576,7 @@ tilted t u = same_number t u
 module _ (features : WasmFeatures) where
   abbrev tilted_context : Context
   tilted_context = record {
-    of_module = record { type_at = slice_get (a_type (I32 ∷ []) (I64 ∷ []) ∷ a_type (I64 ∷ []) (I32 ∷ []) ∷ []); type_index_of = λ i. None; memory_at = λ i. None; global_at = λ i. None; data_count = None; valid = λ t. true; below = tilted; canonical = λ f t. None };
+    of_module = record { type_at = slice_get (a_type (I32 ∷ []) (I64 ∷ []) ∷ a_type (I64 ∷ []) (I32 ∷ []) ∷ []); type_of_id = λ i. None; type_index_of = λ i. None; type_id_of = λ i. None; is_referenced = λ i. false; table_at = λ i. None; memory_at = λ i. None; global_at = λ i. None; element_at = λ i. None; data_count = None; below = tilted; is_shared = λ r. false; canonical = λ f t. None; canonical_ref = λ r. None; canonical_heap = λ h. None };
     features = features;
     shared = false;
     locals = [];

@@ -19,13 +19,13 @@ use Rattle.validation_rules.proofs.Handmade as hand
 
 abbrev a_type : Bool → List ValType → List ValType → SubType
 a_type shared params results =
-    record { is_final = true; composite_type = record { inner = Func (record { params = params; results = results }); shared = shared } }
+    record { is_final = true; supertype_idx = None; composite_type = record { inner = Func (record { params = params; results = results }); shared = shared } }
 
 abbrev types : List SubType
 types = a_type false [] [] ∷ a_type true (I32 ∷ []) (I64 ∷ []) ∷ a_type true (I64 ∷ []) (I64 ∷ []) ∷ []
 
 abbrev declared : Declared
-declared = record { types = types; functions = []; memories = []; globals = []; data_count = None }
+declared = record { types = types; functions = []; tables = []; memories = []; globals = []; elements = []; data_count = None }
 
 abbrev to_nothing : BlockType
 to_nothing = FuncType 0

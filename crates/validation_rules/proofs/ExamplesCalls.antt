@@ -22,13 +22,13 @@ use Rattle.validation_rules.specs.Table.{alike, plain, operator, body}
 
 abbrev a_type : Bool → List ValType → List ValType → SubType
 a_type shared params results =
-    record { is_final = true; composite_type = record { inner = Func (record { params = params; results = results }); shared = shared } }
+    record { is_final = true; supertype_idx = None; composite_type = record { inner = Func (record { params = params; results = results }); shared = shared } }
 
 abbrev types : List SubType
 types = a_type false [] [] ∷ a_type false (I32 ∷ I64 ∷ []) (F32 ∷ []) ∷ a_type false [] (I32 ∷ []) ∷ a_type false [] (I64 ∷ []) ∷ a_type false [] (I32 ∷ I64 ∷ []) ∷ a_type true [] [] ∷ []
 
 abbrev functions : List FuncDecl
-functions = map (λ i. record { type_index = i }) (0 ∷ 1 ∷ 2 ∷ 3 ∷ 4 ∷ 5 ∷ 2 ∷ [])
+functions = map (λ i. record { type_index = i; referenced = false }) (0 ∷ 1 ∷ 2 ∷ 3 ∷ 4 ∷ 5 ∷ 2 ∷ [])
 
 abbrev a_global : ValType → Bool → Bool → GlobalType
 a_global t mutable shared = record { content_type = t; mutable = mutable; shared = shared }
@@ -37,7 +37,7 @@ abbrev globals : List GlobalType
 globals = a_global I32 false false ∷ a_global I64 true false ∷ a_global F32 true true ∷ []
 
 abbrev declared : Declared
-declared = record { types = types; functions = functions; memories = []; globals = globals; data_count = None }
+declared = record { types = types; functions = functions; tables = []; memories = []; globals = globals; elements = []; data_count = None }
 
 -- with these proposals on
 abbrev under : ℕ → Bool → Context

@@ -29,7 +29,7 @@ abbrev memories : List MemoryType
 memories = record { memory64 = false; shared = true } ∷ record { memory64 = true; shared = false } ∷ []
 
 abbrev with_count : Option ℕ → Declared
-with_count count = record { types = []; functions = []; globals = []; memories = memories; data_count = count }
+with_count count = record { types = []; functions = []; globals = []; tables = []; memories = memories; elements = []; data_count = count }
 
 -- with these proposals on
 abbrev over : Option ℕ → ℕ → Context

@@ -9,3 +9,4 @@ mod Examples
 mod ExamplesBranches
 mod ExamplesCalls
 mod ExamplesMemory
+mod ExamplesReferences

@@ -23,10 +23,10 @@ use Rattle.validate_visit.specs.declared.op.MemoryOp.TheVariants.{F32Load, F64Lo
 use Rattle.validate_visit.specs.declared.op.AtomicOp.{AtomicOp}
 use Rattle.validate_visit.specs.declared.op.AtomicOp.TheVariants.{AtomicFence, Pause}
 use Rattle.validation_rules.specs.Access.{memory_index, copies}
-use Rattle.validation_rules.specs.Context.{ModuleContext, Signature, SubType, ValType, I32, BlockType, Empty, Val, FuncType, Context, block_signature, declared_signature}
+use Rattle.validation_rules.specs.Context.{ModuleContext, Signature, SubType, ValType, I32, I64, F32, F64, V128, Ref, BlockType, Empty, Val, FuncType, Context, block_signature, declared_signature}
 use Rattle.validation_rules.specs.Branches.{types_of, label_at}
 use Rattle.validation_rules.specs.Calls.{may_access, accessed, global_type, called, callee, tail_call}
-use Rattle.validation_rules.specs.Fits.{MaybeType, Bottom, Known}
+use Rattle.validation_rules.specs.Fits.{MaybeType, Bottom, UnknownRef, Known}
 use Rattle.validation_rules.specs.Rows.{FrameKind, Block, If, Loop, is_loop, Head, params, results, label_by, Form, Flat, Opens, BeginsElse, BeginsCatch, Ends, Delegates, Plain, Row, Operator, gives, takes, guard}
 use Rattle.validation_rules.specs.Static.{Frame, State, bind, heads, set_in, onto, on_top, found, below_top, pushes_at, pushes_by, own_after, given_over, after_over, step, step_in, before, start}
 use Rattle.validation_rules.specs.Table.{plain, may_name, checked_block, opener, flat, alike, closing, looking, drops, selected, selects, by_lookup, gated, control_operator, numeric_row, convert_row, memory_row, atomic_row, operator, body}
@@ -194,8 +194,10 @@ module _ (cx : Context) (laws : IsLawful cx.of_module) where
 
   selected_valid : (a b : MaybeType) (o : Option MaybeType) (ys : List MaybeType) → OperandIsValid cx.of_module a → OperandIsValid cx.of_module b → selected a b ≡ o → option_map (λ (x : MaybeType). x ∷ []) o ≡ Some ys → Operands ys
   selected_valid a b None ys v w e h = absurd cc
-  selected_valid Bottom b (Some x) ys v w e h = subst Operands (some_injective _ _ h) (subst (OperandIsValid cx.of_module) (some_injective _ _ e) w, tt)
-  selected_valid (Known t) Bottom (Some x) ys v w e h = subst Operands (some_injective _ _ h) (subst (OperandIsValid cx.of_module) (some_injective _ _ e) v, tt)
+  selected_valid (UnknownRef a) b (Some x) ys v w e h = absurd cc
+  selected_valid (Known t) (UnknownRef b) (Some x) ys v w e h = absurd cc
+  selected_valid Bottom b (Some x) ys v w e h = subst Operands (some_injective _ _ h) (subst (OperandIsValid cx.of_module) (some_injective _ _ (guard_some _ _ _ e).1) w, tt)
+  selected_valid (Known t) Bottom (Some x) ys v w e h = subst Operands (some_injective _ _ h) (subst (OperandIsValid cx.of_module) (some_injective _ _ (guard_some _ _ _ e).1) v, tt)
   selected_valid (Known t) (Known u) (Some x) ys v w e h = subst Operands (some_injective _ _ h) (subst (OperandIsValid cx.of_module) (some_injective _ _ (guard_some _ _ _ e).1) v, tt)
 
   selects_valid : (xs pushed : List MaybeType) → Operands xs → selects cx xs ≡ Some pushed → Operands pushed
@@ -331,34 +333,45 @@ module _ (cx : Context) (laws : IsLawful cx.of_module) where
   control_valid (GlobalGet i) l = global_get_valid i (global_type cx i) refl
   control_valid (GlobalSet i) l = global_set_valid (global_type cx i)
 
+  -- a number or vector type has no index
+  number_valid : (t : ValType) → is_number t ≡ true → Valid cx.of_module t
+  number_valid (Ref r) h = absurd cc
+  number_valid I32 h = refl
+  number_valid I64 h = refl
+  number_valid F32 h = refl
+  number_valid F64 h = refl
+  number_valid V128 h = refl
+
   -- a list of numbers
   numbers_valid : (ts : List ValType) → list_all is_number ts ≡ true → AllByRecursion (Valid cx.of_module) ts
   numbers_valid [] h = tt
   numbers_valid (t ∷ ts) h =
       let a = and_true (is_number t) _ h in
-      (laws.number_valid t a.0, numbers_valid ts a.1)
+      (number_valid t a.0, numbers_valid ts a.1)
 
   numbers_pushed : (premise : Bool) (reads sets : Option ℕ) (wanted push : List ValType) (dead : Bool) → list_all is_number push ≡ true → PushesValid cx (alike (record { premise = premise; reads = reads; operands = Plain wanted [] push; sets = sets; targets = []; clauses = []; dead = dead }))
   numbers_pushed premise reads sets wanted push dead h = plain_valid premise reads sets wanted push dead (λ p. numbers_valid push h)
 
   index_is_number : (t : ValType) → is_index_type t ≡ true → is_number t ≡ true
-  index_is_number t h = refl
+  index_is_number I32 h = refl
+  index_is_number I64 h = refl
+  index_is_number _ h = absurd cc
 
   -- every row of the group pushes one number, or two
   numeric_valid : (op : NumericOp) → PushesValid cx (alike (numeric_row cx op))
-  numeric_valid (I32Const x) = plain_valid _ _ _ _ _ _ (λ p. (laws.number_valid _ refl, tt))
-  numeric_valid (I64Const x) = plain_valid _ _ _ _ _ _ (λ p. (laws.number_valid _ refl, tt))
-  numeric_valid (F32Const x) = plain_valid _ _ _ _ _ _ (λ p. (laws.number_valid _ refl, tt))
-  numeric_valid (F64Const x) = plain_valid _ _ _ _ _ _ (λ p. (laws.number_valid _ refl, tt))
-  numeric_valid I64Add128 = plain_valid _ _ _ _ _ _ (λ p. (laws.number_valid _ refl, (laws.number_valid _ refl, tt)))
-  numeric_valid I64Sub128 = plain_valid _ _ _ _ _ _ (λ p. (laws.number_valid _ refl, (laws.number_valid _ refl, tt)))
-  numeric_valid I64MulWideS = plain_valid _ _ _ _ _ _ (λ p. (laws.number_valid _ refl, (laws.number_valid _ refl, tt)))
-  numeric_valid I64MulWideU = plain_valid _ _ _ _ _ _ (λ p. (laws.number_valid _ refl, (laws.number_valid _ refl, tt)))
-  numeric_valid _ = plain_valid _ _ _ _ _ _ (λ p. (laws.number_valid _ refl, tt))
+  numeric_valid (I32Const x) = plain_valid _ _ _ _ _ _ (λ p. (refl, tt))
+  numeric_valid (I64Const x) = plain_valid _ _ _ _ _ _ (λ p. (refl, tt))
+  numeric_valid (F32Const x) = plain_valid _ _ _ _ _ _ (λ p. (refl, tt))
+  numeric_valid (F64Const x) = plain_valid _ _ _ _ _ _ (λ p. (refl, tt))
+  numeric_valid I64Add128 = plain_valid _ _ _ _ _ _ (λ p. (refl, (refl, tt)))
+  numeric_valid I64Sub128 = plain_valid _ _ _ _ _ _ (λ p. (refl, (refl, tt)))
+  numeric_valid I64MulWideS = plain_valid _ _ _ _ _ _ (λ p. (refl, (refl, tt)))
+  numeric_valid I64MulWideU = plain_valid _ _ _ _ _ _ (λ p. (refl, (refl, tt)))
+  numeric_valid _ = plain_valid _ _ _ _ _ _ (λ p. (refl, tt))
 
   convert_valid : (op : ConvertOp) → PushesValid cx (alike (convert_row cx op))
-  convert_valid I32WrapI64 = plain_valid _ _ _ _ _ _ (λ p. (laws.number_valid _ refl, tt))
-  convert_valid _ = plain_valid _ _ _ _ _ _ (λ p. (laws.number_valid _ refl, tt))
+  convert_valid I32WrapI64 = plain_valid _ _ _ _ _ _ (λ p. (refl, tt))
+  convert_valid _ = plain_valid _ _ _ _ _ _ (λ p. (refl, tt))
 
   -- a row for an address is one for the type of it
   by_lookup_valid : (gate : Gate) (o : Option ValType) (row : ValType → Row) → ((t : ValType) → o ≡ Some t → PushesValid cx (alike (gated cx gate (row t)))) → PushesValid cx (alike (gated cx gate (by_lookup o row)))
@@ -371,7 +384,7 @@ module _ (cx : Context) (laws : IsLawful cx.of_module) where
     where
       by : (o : Option MemoryType) → cx.of_module.memory_at m ≡ o → option_map index_type o ≡ Some t → Valid cx.of_module t
       by None k h = absurd cc
-      by (Some ty) k h = subst (Valid cx.of_module) (some_injective _ _ h) (laws.number_valid (index_type ty) (index_is_number (index_type ty) (laws.memory_index m ty k)))
+      by (Some ty) k h = subst (Valid cx.of_module) (some_injective _ _ h) (number_valid (index_type ty) (index_is_number (index_type ty) (laws.memory_index m ty k)))
 
   memory_valid : (op : MemoryOp) → PushesValid cx (alike (memory_row cx op))
   memory_valid (F32Load arg) = by_lookup_valid Floats _ _ (λ t e. numbers_pushed _ _ _ _ _ _ refl)

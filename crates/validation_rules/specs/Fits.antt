@@ -1,17 +1,29 @@
 -- What is found on the operand stack, and when it fits what is wanted (WebAssembly core
 -- specification, appendix "Validation Algorithm"; unknown types are those of its dead code).
-pub use Rattle.validate_types.specs.declared.types.MaybeType.TheVariants.{Bottom, Known}
+pub use Rattle.validate_types.specs.declared.types.MaybeType.TheVariants.{Bottom, UnknownRef, Known}
+use Rattle.validate_types.specs.Refs.{reference}
+use Rattle.validate_types.specs.declared.heap.AbstractHeapType.{AbstractHeapType}
+use Rattle.validate_types.specs.declared.heap.HeapType.TheVariants.{Abstract}
+use Rattle.validate_types.specs.declared.refs.RefType.{RefType}
 use Rattle.validate_types.specs.declared.types.MaybeType.{MaybeType as Maybe}
-use Rattle.std.specs.Prelude.{Bool, true, false, ◌&&◌, List, [], ◌∷◌}
-use Rattle.validation_rules.specs.Context.{ValType, Context}
+use Rattle.std.specs.Prelude.{Bool, true, false, ◌&&◌, List, [], ◌∷◌, Option, Some, None}
+use Rattle.validation_rules.specs.Context.{ValType, Ref, Context}
 
--- what a pop can find: a known type, or anything at all (in dead code)
+-- What a pop can find: a known type; or, in dead code, anything at all, or some reference without
+-- null, of which an abstract type may be known.
 abbrev pub MaybeType : Type 0
 MaybeType = Maybe ValType
+
+-- an unknown reference fits a wanted one: with the sharedness that is wanted
+abbrev pub unknown_fits : Context → Option AbstractHeapType → RefType → Bool
+unknown_fits cx None r = true
+unknown_fits cx (Some a) r = cx.of_module.below (Ref (reference false (Abstract (cx.of_module.is_shared r) a))) (Ref r)
 
 -- a found type fits a wanted one
 abbrev pub fits : Context → MaybeType → ValType → Bool
 fits cx Bottom w = true
+fits cx (UnknownRef a) (Ref r) = unknown_fits cx a r
+fits cx (UnknownRef a) _ = false
 fits cx (Known t) w = cx.of_module.below t w
 
 -- as many found types as wanted ones, each fitting

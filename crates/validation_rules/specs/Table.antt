@@ -3,7 +3,7 @@
 pub use Rattle.validation_rules.specs.Shapes.{by_lookup, plain, ends_live, looking, flat, alike, closing, constant, test, unary, binary, comparison, conversion, binary_wide, multiply_wide, gated}
 use Rattle.std.specs.Prelude.{ℕ, Bool, true, false, not, ◌&&◌, ◌||◌, List, [], ◌∷◌, ◌++◌, Option, Some, None, map, slice_get}
 use Rattle.std.specs.Option.{option_map}
-use Rattle.validate_resources.specs.Context.{same_number}
+use Rattle.validate_resources.specs.Context.{is_number, same_number}
 use Rattle.validate_types.specs.Features.{has, multi_value}
 use Rattle.validate_types.specs.Gates.{is_open}
 use Rattle.validate_types.specs.declared.gate.Gate.TheVariants.{ReferenceTypes, TailCall}
@@ -18,7 +18,7 @@ pub use Rattle.validation_rules.specs.Atomic.{atomic_row}
 use Rattle.validation_rules.specs.Branches.{br_row, br_if_row, br_table_row, return_row}
 use Rattle.validation_rules.specs.Calls.{call_row, return_call_row, global_get, global_set}
 use Rattle.validation_rules.specs.Context.{SubType, ValType, I32, BlockType, Empty, Val, FuncType, Context, block_signature}
-use Rattle.validation_rules.specs.Fits.{MaybeType, Bottom, Known, fits}
+use Rattle.validation_rules.specs.Fits.{MaybeType, Bottom, UnknownRef, Known, fits}
 use Rattle.validation_rules.specs.Rows.{FrameKind, Block, If, Loop, Opens, BeginsElse, Ends, guard, Row, Operator}
 
 -- ---- variables
@@ -38,11 +38,19 @@ abbrev pub drops : List MaybeType → Option (List MaybeType)
 drops (x ∷ []) = Some []
 drops _ = None
 
+-- `select` takes no reference
+abbrev pub is_selectable : MaybeType → Bool
+is_selectable Bottom = true
+is_selectable (UnknownRef a) = false
+is_selectable (Known t) = is_number t
+
 -- what `select` gives for its two operands: an unknown one gives way to the other, and known ones
 -- have to be of one type
 abbrev pub selected : MaybeType → MaybeType → Option MaybeType
-selected Bottom b = Some b
-selected (Known t) Bottom = Some (Known t)
+selected Bottom b = guard (is_selectable b) (Some b)
+selected (UnknownRef a) b = None
+selected (Known t) Bottom = guard (is_number t) (Some (Known t))
+selected (Known t) (UnknownRef b) = None
 selected (Known t) (Known u) = guard (same_number t u) (Some (Known t))
 
 -- the test lies on top

@@ -5,7 +5,7 @@ use Rattle.std.specs.List.{AllByRecursion}
 use Rattle.validate_resources.specs.Context.{Valid}
 use Rattle.validate_visit.specs.declared.op.Op.{Op}
 use Rattle.validation_rules.specs.Context.{ModuleContext, SubType, ValType, BlockType, Empty, Val, FuncType, Context}
-use Rattle.validation_rules.specs.Fits.{MaybeType, Bottom, Known}
+use Rattle.validation_rules.specs.Fits.{MaybeType, Bottom, UnknownRef, Known}
 use Rattle.validation_rules.specs.Rows.{Head, Opens, BeginsCatch, Operator, gives}
 use Rattle.validation_rules.specs.Static.{Frame, State, step}
 use Rattle.validation_rules.specs.Table.{operator}
@@ -13,6 +13,7 @@ use Rattle.validation_rules.specs.Table.{operator}
 -- an operand's type, where it is known, is valid
 abbrev pub OperandIsValid : ModuleContext → MaybeType → Type 0
 OperandIsValid md Bottom = Unit {0}
+OperandIsValid md (UnknownRef a) = Unit {0}
 OperandIsValid md (Known t) = Valid md t
 
 -- the type that a block type names is there, and shared in a shared function

@@ -1,5 +1,7 @@
-use Rattle.std.proofs.Common.{rules, ◌≡◌, true, false, length, nat_eq, refl}
+use Rattle.std.proofs.Common.{rules, ◌≡◌, true, false, length, nat_eq, refl, sym, ◌∙◌}
+use Rattle.validation_rules.specs.Static.{heads}
 use Rattle.validate_stacks.specs.State.{context}
+use Rattle.validate_rows.proofs.Branching.{label_there, label_valid}
 use Rattle.validate_rows.proofs.Tables.{not_a_label, of_another_count, of_that_count}
 use Rattle.validate_rows.proofs.branches.check_target.Goals as goal
 
@@ -34,3 +36,11 @@ returns-clause-refused g c =
     let same : nat_eq (length ts) c.args.count ≡ true = search rules in
     let fits = of_that_count md v c.args.relative_depth c.args.count c.in_ok-block_type.block_type c.in_ok-block_type.kind ts c.in_ok-block_type.ensures.found (c.label_types-types.ensures (context md v) refl) false same in
     search (rules, fits)
+
+pub match_operands-requires-clause-types : goal.match_operands-requires-clause-types
+match_operands-requires-clause-types g c =
+    let md = g.R.WasmModuleResources.context c.args.resources.now in
+    let v = c.args.stacks.now in
+    let d = c.args.relative_depth in
+    let there = label_there (context md v) (heads v.present.frames) d c.in_ok-block_type.block_type c.in_ok-block_type.kind c.in_ok-block_type.ensures.found in
+    label_valid md v d c.label_types-types.result.now (g.met.R.WasmModuleResources.lawful c.args.resources.now) c.requires (c.label_types-types.ensures (context md v) refl ∙ sym there.1)

@@ -7,4 +7,4 @@ use Rattle.validate_stacks.proofs.stacks.Stacks.control_stack_height.Goals as go
 pub returns : goal.returns
 returns c =
     let s = c.self.inside in
-    c.len.ensures.value ∙ (sym (frames-cut s.control.items s.operands.items) ∙ ap (λ (v : BodyState). frame_count v.present) c.self.view_is)
+    c.len.ensures.value ∙ (sym (frames-cut s.control.items s.operands.items s.inits.order) ∙ ap (λ (v : BodyState). frame_count v.present) c.self.view_is)

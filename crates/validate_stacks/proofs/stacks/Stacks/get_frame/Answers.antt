@@ -7,4 +7,4 @@ use Rattle.validate_stacks.proofs.stacks.Stacks.get_frame.Goals as goal
 pub returns : goal.returns
 returns c =
     let s = c.self.inside in
-    c.get.ensures ∙ (ap (λ fs. slice_get fs c.args.depth) (sym (heights-cut s.control.items s.operands.items c.self.invariant)) ∙ ap (λ (v : BodyState). frame_at v c.args.depth) c.self.view_is)
+    c.get.ensures ∙ (ap (λ fs. slice_get fs c.args.depth) (sym (heights-cut s.control.items s.operands.items s.inits.order c.self.invariant.shape)) ∙ ap (λ (v : BodyState). frame_at v c.args.depth) c.self.view_is)

@@ -7,4 +7,4 @@ use Rattle.validate_stacks.proofs.stacks.Stacks.operand_stack_height.Goals as go
 pub returns : goal.returns
 returns c =
     let s = c.self.inside in
-    c.len.ensures.value ∙ (sym (count-cut s.control.items s.operands.items) ∙ ap (λ (v : BodyState). operand_count v.present) c.self.view_is)
+    c.len.ensures.value ∙ (sym (count-cut s.control.items s.operands.items s.inits.order) ∙ ap (λ (v : BodyState). operand_count v.present) c.self.view_is)

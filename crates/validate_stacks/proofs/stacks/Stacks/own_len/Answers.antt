@@ -8,17 +8,17 @@ use Rattle.validate_stacks.proofs.stacks.Stacks.own_len.Goals as goal
 pub overflow_sub-result : goal.overflow_sub-result
 overflow_sub-result c =
     let s = c.self.inside in
-    let h = height_within s.control.items c.in-Some.frame.now (length s.operands.items) (sym c.get.ensures ∙ ap option_copied c.in-Some.is) c.self.invariant in
+    let h = height_within s.control.items c.in-Some.frame.now (length s.operands.items) (length s.inits.order) (sym c.get.ensures ∙ ap option_copied c.in-Some.is) c.self.invariant.shape in
     omega (arith, h)
 
 pub returns-in-Some : goal.returns-in-Some
 returns-in-Some c =
     let s = c.self.inside in
-    let e = own-cut s.control.items c.in-Some.frame.now s.operands.items (sym c.get.ensures ∙ ap option_copied c.in-Some.is) in
+    let e = own-cut s.control.items c.in-Some.frame.now s.operands.items s.inits.order (sym c.get.ensures ∙ ap option_copied c.in-Some.is) in
     let k = ap (λ (v : BodyState). length (own_of v.present.frames)) c.self.view_is in
     omega (arith, e, k)
 
 pub returns-in-None : goal.returns-in-None
 returns-in-None c =
     let s = c.self.inside in
-    own_none s.control.items s.operands.items (sym c.get.ensures ∙ ap option_copied c.in-None.is) ∙ ap (λ (v : BodyState). length (own_of v.present.frames)) c.self.view_is
+    own_none s.control.items s.operands.items s.inits.order (sym c.get.ensures ∙ ap option_copied c.in-None.is) ∙ ap (λ (v : BodyState). length (own_of v.present.frames)) c.self.view_is

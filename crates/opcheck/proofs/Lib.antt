@@ -1,4 +1,0 @@
-mod Access
-mod Indices
-pub mod Locals
-pub mod Reports

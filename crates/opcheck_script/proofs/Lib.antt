@@ -1,0 +1,6 @@
+mod Access
+mod Indices
+mod References
+mod Types
+pub mod Locals
+pub mod Reports

@@ -1,0 +1,180 @@
+//! Checking a script that was read.
+
+ghost use Rattle.std.specs.Prelude.{◌≡◌, ◌⊎◌, true, false, None, Some, IsSome, IfSome, IfOk, OnOk, IfErr};
+ghost use Rattle.std.specs.List.{list_all};
+ghost use Rattle.validate_visit.specs.Immediates.{module_immediates};
+ghost use Rattle.validate_resources.specs.Kept.{declared};
+ghost use Rattle.validate_resources.specs.Lists.{context_of, module_of};
+ghost use Rattle.validate_stacks.specs.State.{IsStarting};
+ghost use Rattle.wasmparser_validate.specs.Start.{state};
+ghost use Rattle.opcheck_script.specs.Module.{declared_by};
+ghost use Rattle.opcheck_script.specs.Begin.{IsExpressionStart, IsBodyStart, CannotStart, HasLocals, CannotBegin};
+ghost use Rattle.opcheck_script.specs.Owned.{op_values, owned_values};
+ghost use Rattle.opcheck_script.specs.Reports.{IsReport, may_be_body};
+ghost use Rattle.opcheck_script.specs.declared.failure.BadScript.{BadScript};
+ghost use Rattle.opcheck_script.specs.declared.failure.Failure.{Failure};
+
+use crate::failure::{BadScript, Failure};
+use crate::script::owned::borrowed_ops;
+use crate::script::{Body, BodyLine, Declarations, LocalLine, Script};
+use std::alloc::Global;
+use wasmparser_validate::operators::{OperatorValidator, OperatorValidatorAllocations, check_ops};
+use wasmparser_validate::resources::uses::laws;
+use wasmparser_validate::resources::{ModuleLists, WasmModuleResources};
+use wasmparser_validate::types::{Error, ValType, WasmFeatures};
+use wasmparser_validate::visit::{Op, has_module_immediates, is_well_ordered};
+
+/// What the validator says of a body.
+#[derive(Drop)]
+pub struct Report {
+    /// How many operands and frames there are after each accepted operator.
+    pub heights: Vec<(usize, usize)>,
+    /// Whether the outermost frame is closed; or the refusal that ended the run.
+    pub outcome: Result<bool, Error>,
+}
+
+/// Checks a script: first its order, then its module, then its body. The operators that are checked
+/// are those of the script, with the same lists.
+pub fn check_script(alloc: Global, script: Script) -> Result<Report, Failure>
+    ensures module { OnOk result (IsSome (module_of (declared_by script.declarations))) }
+    ensures report { IfOk result (λ report. (ops : _) × (op_values ops ≡ owned_values script.operators.items) × (may_be_body ops ≡ true) × IfSome (module_of (declared_by script.declarations)) (λ lists. IsReport (context_of lists) script.features script.body script.locals.items ops report.heights.items report.outcome)) }
+    ensures cause { IfErr result (λ failure. (failure ≡ Failure.OutOfMemory) ⊎ ((failure ≡ Failure.BadScript BadScript.Order) × ((ops : _) × (op_values ops ≡ owned_values script.operators.items) × (may_be_body ops ≡ false))) ⊎ ((failure ≡ Failure.BadScript BadScript.Module) × (module_of (declared_by script.declarations) ≡ None))) }
+{
+    let Script {
+        features,
+        declarations,
+        body,
+        locals,
+        operators,
+    } = script;
+    let Ok(ops) = borrowed_ops(alloc, &operators) else {
+        return Err(Failure::OutOfMemory);
+    };
+    check_operators(alloc, features, declarations, body, &locals, &ops)
+}
+
+/// Checks the operators of a body, in the module of these declarations, with these proposals on.
+fn check_operators(
+    alloc: Global,
+    features: WasmFeatures,
+    declarations: Declarations,
+    line: BodyLine,
+    locals: &[LocalLine],
+    ops: &[(Op<'_>, u64)],
+) -> Result<Report, Failure>
+    ensures ordered { OnOk result (may_be_body ops.now ≡ true) }
+    ensures module { OnOk result (IsSome (module_of (declared_by declarations))) }
+    ensures report { IfOk result (λ report. IfSome (module_of (declared_by declarations)) (λ lists. IsReport (context_of lists) features line locals.now ops.now report.heights.items report.outcome)) }
+    ensures cause { IfErr result (λ failure. (failure ≡ Failure.OutOfMemory) ⊎ ((failure ≡ Failure.BadScript BadScript.Order) × (may_be_body ops.now ≡ false)) ⊎ ((failure ≡ Failure.BadScript BadScript.Module) × (module_of (declared_by declarations) ≡ None))) }
+{
+    if !is_well_ordered(ops) || !have_module_immediates(ops) {
+        return Err(Failure::BadScript(BadScript::Order));
+    }
+    let module = module_lists(alloc, declarations)?;
+    let mut heights = Vec::new(alloc);
+    let mut validator = match begin_body(alloc, &module, &features, line, locals) {
+        Ok(validator) => validator,
+        Err(refusal) => {
+            let outcome = Err(refusal);
+            return Ok(Report { heights, outcome });
+        }
+    };
+    let outcome = match check_ops(&mut validator, ops, &module, &mut heights) {
+        Ok(closed) => Ok(closed),
+        Err((_, refusal)) => Err(refusal),
+    };
+    Ok(Report { heights, outcome })
+}
+
+/// Whether the immediates are those of a module, as they are of all operators that a script can write.
+fn have_module_immediates(operators: &[(Op<'_>, u64)]) -> bool
+    ensures { result ≡ list_all (λ (pair : _). module_immediates pair.0) operators.now }
+{
+    operators.iter().all(|pair| has_module_immediates(&pair.0))
+}
+
+/// The module of these declarations, in its canonical form.
+fn module_lists(alloc: Global, declarations: Declarations) -> Result<ModuleLists, Failure>
+    ensures kept { IfOk result (λ lists. module_of (declared_by declarations) ≡ Some (declared lists)) }
+    ensures cause { IfErr result (λ failure. (failure ≡ Failure.OutOfMemory) ⊎ ((failure ≡ Failure.BadScript BadScript.Module) × (module_of (declared_by declarations) ≡ None))) }
+{
+    let Declarations {
+        types,
+        functions,
+        tables,
+        memories,
+        globals,
+        elements,
+        data_count,
+    } = declarations;
+    ModuleLists::new(
+        alloc, types, functions, tables, memories, globals, elements, data_count,
+    )
+    .map_err(|error| {
+        if error.is_out_of_memory() {
+            Failure::OutOfMemory
+        } else {
+            Failure::BadScript(BadScript::Module)
+        }
+    })
+}
+
+/// A validator of this body, with all its locals. A refusal carries the number of the line that it
+/// refuses, want of memory aside.
+pub fn begin_body<R: WasmModuleResources>(
+    alloc: Global,
+    resources: &R,
+    features: &WasmFeatures,
+    line: BodyLine,
+    locals: &[LocalLine],
+) -> Result<OperatorValidator, Error>
+    ensures starting { IfOk result (λ validator. IsStarting (R.context resources.now) (state validator)) }
+    ensures locals { IfOk result (λ validator. HasLocals (R.context resources.now) features.now line.body locals.now (state validator)) }
+    ensures refused { IfErr result (λ e. e.memory ≡ false → CannotBegin (R.context resources.now) features.now line locals.now e.offset) }
+{
+    let mut validator = start_body(alloc, resources, features, line)?;
+    for local in locals {
+        validator.define_locals(local.offset, local.count, local.ty, resources)?;
+    }
+    Ok(validator)
+}
+
+/// A validator of the body that the `func` or `expr` line begins.
+fn start_body<R: WasmModuleResources>(
+    alloc: Global,
+    resources: &R,
+    features: &WasmFeatures,
+    line: BodyLine,
+) -> Result<OperatorValidator, Error>
+    ensures starting { IfOk result (λ validator. IsStarting (R.context resources.now) (state validator)) }
+    ensures made { IfOk result (λ validator. IsBodyStart (R.context resources.now) features.now line.body (state validator)) }
+    ensures refused { IfErr result (λ e. e.memory ≡ false → CannotStart (R.context resources.now) features.now line.body) }
+    ensures offset { IfErr result (λ e. e.memory ≡ false → e.offset ≡ line.offset) }
+{
+    let allocs = OperatorValidatorAllocations::new(alloc);
+    match line.body {
+        Body::Function(type_index) => {
+            OperatorValidator::new_func(type_index, line.offset, features, resources, allocs)
+        }
+        Body::Expression(ty) => start_expression(resources, features, ty, line.offset, allocs),
+    }
+}
+
+/// A validator of a constant expression of this type, which is checked first.
+fn start_expression<R: WasmModuleResources>(
+    resources: &R,
+    features: &WasmFeatures,
+    ty: ValType,
+    offset: u64,
+    allocs: OperatorValidatorAllocations,
+) -> Result<OperatorValidator, Error>
+    ensures starting { IfOk result (λ validator. IsStarting (R.context resources.now) (state validator)) }
+    ensures made { IfOk result (λ validator. IsExpressionStart (R.context resources.now) features.now ty (state validator)) }
+    ensures refused { IfErr result (λ e. e.memory ≡ false → (R.context resources.now).canonical features.now ty ≡ None) }
+    ensures offset { IfErr result (λ e. e.memory ≡ false → e.offset ≡ offset) }
+{
+    laws(resources);
+    let mut canonical = ty;
+    resources.check_value_type(&mut canonical, features, offset)?;
+    OperatorValidator::new_const_expr(features, canonical, allocs)
+}

@@ -1,0 +1,66 @@
+//! What a run prints.
+
+ghost use Rattle.std.specs.Prelude.{◌≡◌, ◌⊎◌, ◌↔◌, true, false, Err, IsOk, IfOk, IsErr, IfErr, OnOk};
+ghost use Rattle.std.specs.Io.KnownBytes.{Appends};
+ghost use Rattle.std.specs.Result.{IsErrAnd};
+ghost use Rattle.opcheck_script.specs.declared.failure.Failure.{Failure};
+ghost use Rattle.opcheck_script.specs.Status.{verdict_of};
+ghost use Rattle.opcheck_script.specs.Texts.{failure_text};
+
+use crate::check::Report;
+use crate::failure::Failure;
+use crate::verdict::Verdict;
+use std::io;
+use std::io::Write;
+use wasmparser_validate::types::Error;
+
+/// Prints a line for each accepted operator, a refusal if there is one, and the verdict. A report that
+/// ends in want of memory has no verdict.
+pub fn print_report<W: Write>(out: &mut W, report: &Report) -> Result<Verdict, Failure>
+    ensures verdict { IfOk result (λ verdict. verdict ≡ verdict_of report.now.outcome) }
+    ensures memory { IfErr report.now.outcome (λ e. e.memory ≡ true → IsErr result) }
+    ensures cause { IfErr result (λ failure. (failure ≡ Failure.Output) ⊎ ((failure ≡ Failure.OutOfMemory) × IsErrAnd report.now.outcome (λ e. e.memory ≡ true))) }
+{
+    for &(operands, frames) in &report.heights {
+        printed(writeln!(out, "ok {operands} {frames}"))?;
+    }
+    let verdict = match &report.outcome {
+        Ok(true) => Verdict::Accepted,
+        Ok(false) => Verdict::Open,
+        Err(refusal) => {
+            print_refusal(out, refusal)?;
+            Verdict::Refused
+        }
+    };
+    printed(writeln!(out, "{verdict}"))?;
+    Ok(verdict)
+}
+
+fn print_refusal<W: Write>(out: &mut W, refusal: &Error) -> Result<(), Failure>
+    ensures memory { refusal.now.memory ≡ true → result ≡ Err Failure.OutOfMemory }
+    ensures cause { refusal.now.memory ≡ false → IfErr result (λ failure. failure ≡ Failure.Output) }
+{
+    if refusal.is_out_of_memory() {
+        return Err(Failure::OutOfMemory);
+    }
+    let (offset, text) = (refusal.offset(), refusal.message());
+    printed(writeln!(out, "refused {offset}: {text}"))
+}
+
+fn printed(written: io::Result<()>) -> Result<(), Failure>
+    ensures done { IsOk result ↔ IsOk written }
+    ensures cause { IfErr result (λ failure. failure ≡ Failure.Output) }
+{
+    written.map_err(|_| Failure::Output)
+}
+
+/// Prints why a run has no verdict. After a failed write nothing is printed.
+pub fn print_failure<W: Write>(err: &mut W, failure: Failure) -> io::Result<()>
+    ensures { OnOk result (Appends (W.contents err.old) (W.contents err.new) (failure_text failure)) }
+{
+    match failure {
+        Failure::BadScript(cause) => writeln!(err, "bad script: {cause}"),
+        Failure::OutOfMemory => writeln!(err, "out of memory"),
+        Failure::Output => Ok(()),
+    }
+}

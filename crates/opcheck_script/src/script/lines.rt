@@ -1,0 +1,84 @@
+//! The lines of a script, each for itself.
+
+use crate::failure::LineError;
+use crate::script::Body;
+use crate::script::features::read_feature;
+use crate::script::functions::read_function;
+use crate::script::globals::read_global_type;
+use crate::script::memory::read_memory_type;
+use crate::script::numbers::read_index;
+use crate::script::operators::{read_br_table, read_operator, read_typed_select_multi};
+use crate::script::owned::OwnedOp;
+use crate::script::references::read_reference;
+use crate::script::tables::read_table_type;
+use crate::script::types::{read_type, read_value_type};
+use std::alloc::Global;
+use wasmparser_validate::resources::FuncDecl;
+use wasmparser_validate::types::{
+    GlobalType, MemoryType, RefType, SubType, TableType, ValType, WasmFeatures,
+};
+
+/// What a line says that is neither blank nor a comment.
+#[derive(Drop)]
+pub enum Line {
+    /// `feature NAME`: these proposals are on.
+    Feature(WasmFeatures),
+    /// `type ..`: the module declares this type.
+    SubType(SubType),
+    /// `fn N ..`: the module declares this function.
+    Function(FuncDecl),
+    /// `table T ..`: the module declares a table of this type.
+    Table(TableType),
+    /// `memory ..`: the module declares a memory of this type.
+    Memory(MemoryType),
+    /// `global ..`: the module declares a global of this type.
+    Global(GlobalType),
+    /// `elem T`: the module declares an element segment of this type.
+    Element(RefType),
+    /// `data COUNT`: the module has this many data segments.
+    DataCount(u32),
+    /// `func N` or `expr T`: what the operators are the body of.
+    Body(Body),
+    /// `local N T`: the body has this many more locals of this type.
+    Locals(u32, ValType),
+    /// An operator of the body.
+    Operator(OwnedOp),
+}
+
+/// Reads the words of a line, of which there is one at least.
+pub fn read_line(alloc: Global, words: &[&str]) -> Result<Line, LineError> {
+    match words.split_first() {
+        Some((&"type", rest)) => Ok(Line::SubType(read_type(alloc, rest)?)),
+        Some((&"br_table", labels)) => Ok(Line::Operator(read_br_table(alloc, labels)?)),
+        Some((&"select_multi", types)) => {
+            Ok(Line::Operator(read_typed_select_multi(alloc, types)?))
+        }
+        _ => read_flat_line(words).ok_or(LineError::Bad),
+    }
+}
+
+/// Reads the words of a line that takes no memory.
+fn read_flat_line(words: &[&str]) -> Option<Line> {
+    match *words {
+        ["feature", name] => Some(Line::Feature(read_feature(name)?)),
+        ["fn", type_index, ref marks @ ..] => {
+            let type_index = read_index(type_index)?;
+            Some(Line::Function(read_function(type_index, marks)?))
+        }
+        ["table", ty, ref marks @ ..] => {
+            let element_type = read_reference(ty)?;
+            Some(Line::Table(read_table_type(element_type, marks)?))
+        }
+        ["memory", ref marks @ ..] => Some(Line::Memory(read_memory_type(marks)?)),
+        ["global", ty, ref marks @ ..] => {
+            let content_type = read_value_type(ty)?;
+            Some(Line::Global(read_global_type(content_type, marks)?))
+        }
+        ["elem", ty] => Some(Line::Element(read_reference(ty)?)),
+        ["data", count] => Some(Line::DataCount(read_index(count)?)),
+        ["func", type_index] => Some(Line::Body(Body::Function(read_index(type_index)?))),
+        ["expr", ty] => Some(Line::Body(Body::Expression(read_value_type(ty)?))),
+        ["local", count, ty] => Some(Line::Locals(read_index(count)?, read_value_type(ty)?)),
+        _ => Some(Line::Operator(OwnedOp::Flat(read_operator(words)?))),
+    }
+}

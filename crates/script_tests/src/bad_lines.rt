@@ -1,0 +1,357 @@
+//! Lines that aren't of the grammar or stand out of place.
+
+use crate::transcript::{HEAD, expect_bad_lines, expect_transcript};
+use std::test::Fail;
+
+/// Bad lines at the head of a script: of types and bodies, of constant expressions, of proposals.
+const FIRST: &str = "
+type
+type func
+type func i32
+type func i33 ->
+type func I32 ->
+type func -> ->
+type func->
+type func\t->
+\ttype func ->
+type shared
+type shared shared
+type shared ->
+type Shared func ->
+type func shared ->
+type func shared ->\x20
+type func -> shared
+type struct i32
+type func func ->
+expr
+memory 0
+show
+wombat
+  # x
+nop
+local 1 i32
+func
+func 0 0
+func -1
+func +1
+func 0x1
+func 4294967296
+
+expr 0
+expr I32
+expr func
+expr i32 i32
+expr\ti32
+
+feature
+feature wombat
+feature FLOATS
+feature floats simd
+feature 1
+";
+
+/// Bad lines in a module: of functions, of globals, of memories and data segments.
+const IN_A_MODULE: &str = "
+fn
+fn x
+fn 0 0
+fn -1
+fn 4294967296
+Fn 0
+fn i32
+
+global
+global mut
+global mut i32
+global shared i32
+global i32 shared mut
+global i32 mut mut
+global i32 shared shared
+global i32 mut shared mut
+global i32 const
+global i32 Mut
+global i32 i32
+global I32
+global func
+global 0
+
+memory shared 64
+memory 32
+memory 64 64
+memory shared shared
+memory 64 shared 64
+memory 064
+memory 1
+memory Shared
+data
+data x
+data -1
+data +1
+data 4294967296
+data 1 1
+";
+
+/// Bad lines in a body: of other parts of a script and without immediates, of blocks, branches, calls and
+/// selects, of globals and memories.
+const IN_A_BODY: &str = "
+type func ->
+func 0
+local
+local 1
+local i32 1
+local 1 i32 i32
+local 4294967296 i32
+local 1 func
+call_indirect 0
+table.size 0
+try_table
+v128.const 0
+f32.const -1
+f32.const 4294967296
+f64.const 18446744073709551616
+f32.add 0
+feature floats
+try nop
+try block
+Nop
+nop 0
+nop\t
+nop # x
+end 0
+i32.add 0
+i32.const +1
+i32.const -
+i32.const --1
+i32.const 1 1
+i32.const 0x1
+i32.const 2147483648
+i32.const -2147483649
+i64.const 9223372036854775808
+i64.const -9223372036854775809
+local.get
+local.get 0 0
+local.get -0
+local.set 4294967296
+local.tee x
+
+expr i32
+
+block 4294967296
+block -1
+block +1
+block 0x1
+block x
+block I32
+block ref
+block func
+block ->
+block 0 0
+block i32 i32
+block i32 -> i64
+Block
+
+unreachable 0
+loop 4294967296
+loop x
+loop 0 0
+loop i32 i32
+if 4294967296
+if -1
+if func
+if 0 0
+if i32 -> i64
+else 1
+else i32
+Else
+
+br
+br 4294967296
+br -1
+br +1
+br x
+br 0 0
+br_if
+br_if 4294967296
+br_if i32
+br_if 0 0
+br_table
+br_table x
+br_table 0 x
+br_table x 0
+br_table 0 -1 0
+br_table 4294967296
+br_table 0 4294967296
+br_table 4294967296 0
+br_table 0, 0
+return 0
+return i32
+
+fn 0
+call
+call x
+call 0 0
+call -1
+call 4294967296
+call i32
+return_call
+return_call x
+return_call 0 0
+
+select i32
+select 0
+select_t
+select_t i32 i32
+select_t 0
+select_t func
+select_t I32
+select_multi 0
+select_multi x
+select_multi i32 x
+select_multi x i32
+select_multi i32 -> i32
+
+global i32
+global i32 mut shared
+global.get
+global.get x
+global.get 0 0
+global.get -0
+global.set
+global.set 0 0
+global.set 4294967296
+global.tee 0
+
+memory
+memory 64 shared
+data 1
+i32.load offset=1 offset=2
+i32.load offset=1 offset=1
+i32.load align=1 offset=1 align=1
+i32.load mem=0 mem=0
+i32.load offset=1 align=1 mem=0 offset=1
+i32.load offset=
+i32.load align=
+i32.load mem=
+i32.load offset
+i32.load =1
+i32.load offset=+1
+i32.load offset=-1
+i32.load align=+1
+i32.load mem=+0
+i32.load offset=0x1
+i32.load offset==1
+i32.load offset= 1
+i32.load Offset=1
+i32.load xoffset=1
+i32.load align=256
+i32.load mem=4294967296
+i32.load offset=18446744073709551616
+i32.load array=0
+i32.load offset=1 array=0
+i32.load 0
+i32.load 0 offset=1
+i64.store32 offset=1 0
+i32.atomic.rmw.add 0
+i32.atomic.rmw8.cmpxchg_u align=256
+i32.atomic.rmw16.add
+i32.load32_u
+memory.size
+memory.size 0 0
+memory.size mem=0
+memory.size 4294967296
+memory.grow
+memory.fill
+memory.discard
+memory.init 0
+memory.init 0 0 0
+memory.init x 0
+memory.init 0 x
+data.drop
+data.drop 0 0
+memory.copy
+memory.copy 0
+memory.copy 0 0 0
+atomic.fence
+atomic.fence relaxed
+atomic.fence seq_cst seq_cst
+atomic.fence SEQ_CST
+pause 0
+i32.add offset=1
+";
+
+/// Lines that would be good elsewhere. The first bad one counts, and where the body's line is missing, the
+/// one behind the last.
+const OUT_OF_PLACE: &str = "
+expr i32
+expr i32
+=> bad script: line 2
+
+expr i32
+func 0
+=> bad script: line 2
+
+expr i32
+type func ->
+=> bad script: line 2
+
+expr i32
+local 1 i32
+expr i32
+=> bad script: line 3
+
+expr i32
+nop
+local 1 i32
+=> bad script: line 3
+
+expr i32
+nop
+expr i32
+=> bad script: line 3
+
+local 1 i32
+expr i32
+=> bad script: line 1
+
+type func ->
+func 0
+nop
+local 1 i32
+=> bad script: line 4
+
+data 1
+type func ->
+data 1
+func 0
+end
+=> bad script: line 3
+
+data 0
+memory
+data 1
+func 0
+end
+=> bad script: line 3
+
+type func ->
+end
+=> bad script: line 2
+
+type func ->
+=> bad script: line 2
+
+wombat
+wombat
+=> bad script: line 1
+
+=> bad script: line 1
+";
+
+/// A bad line is named by its number, and nothing is printed.
+#[test]
+fn bad_lines(rt: HostRuntime) -> Result<(), Fail> {
+    expect_bad_lines(&rt, "", FIRST)?;
+    expect_bad_lines(&rt, "type func ->\n", IN_A_MODULE)?;
+    expect_bad_lines(&rt, HEAD, IN_A_BODY)?;
+    expect_transcript(&rt, "", OUT_OF_PLACE)
+}

@@ -1,0 +1,49 @@
+//! Tests of the program's scripts, and through them of every operator: what no contract says, as the
+//! texts of refusals, the names that are read, and that a script succeeds where memory is ample.
+//! Expected values come from the standard and from upstream's texts.
+#![tactic(auto)]
+
+#[cfg(test)]
+mod alignments;
+#[cfg(test)]
+mod atomic_rules;
+#[cfg(test)]
+mod bad_lines;
+#[cfg(test)]
+mod blocks;
+#[cfg(test)]
+mod branches;
+#[cfg(test)]
+mod call_rules;
+#[cfg(test)]
+mod calls;
+#[cfg(test)]
+mod expressions;
+#[cfg(test)]
+mod fakes;
+#[cfg(test)]
+mod features;
+#[cfg(test)]
+mod global_rules;
+#[cfg(test)]
+mod globals;
+#[cfg(test)]
+mod lines;
+#[cfg(test)]
+mod memory;
+#[cfg(test)]
+mod memory_rules;
+#[cfg(test)]
+mod operators;
+#[cfg(test)]
+mod references;
+#[cfg(test)]
+mod selects;
+#[cfg(test)]
+mod tables;
+#[cfg(test)]
+mod transcript;
+#[cfg(test)]
+mod values;
+#[cfg(test)]
+mod verdicts;

@@ -1,0 +1,146 @@
+//! Transcripts: scripts with what the program prints at each line.
+
+use opcheck_script::run;
+use std::alloc::{AllocError, Global};
+use std::process::Abort;
+use std::str;
+use std::test::Fail;
+
+/// The first lines of a script whose body takes nothing and gives nothing.
+pub const HEAD: &str = "type func ->\nfunc 0\n";
+
+/// The types that a script can write, one a line.
+pub const TYPES: &str = "i32\ni64\nf32\nf64\nv128";
+
+/// Runs a script, and compares both outputs and the status.
+pub fn expect_run(
+    rt: &(impl Abort + AllocGlobal),
+    script: &[u8],
+    out: &str,
+    err: &str,
+    status: u8,
+) -> Result<(), Fail> {
+    let mut printed = Vec::new(rt.alloc());
+    let mut said = Vec::new(rt.alloc());
+    let answer = run(rt.alloc(), script, &mut printed, &mut said);
+    let text = str::from_utf8(script).unwrap_or("bytes that are no text");
+    assert_eq!(rt; str::from_utf8(&printed)?, out, "what {text:?} prints");
+    assert_eq!(rt; str::from_utf8(&said)?, err, "what {text:?} says");
+    assert_eq!(rt; answer, status, "the status of {text:?}");
+    Ok(())
+}
+
+/// Runs a script, and compares what it prints, the last line being this verdict. A bad script prints
+/// nothing and says why.
+fn expect_verdict(
+    rt: &(impl Abort + AllocGlobal),
+    script: &str,
+    lines: &str,
+    verdict: &str,
+) -> Result<(), Fail> {
+    let last = format!(in rt.alloc(); "{verdict}\n")?;
+    if verdict.starts_with("bad script") {
+        return expect_run(rt, script.as_bytes(), lines, &last, 2);
+    }
+    let out = format!(in rt.alloc(); "{lines}{last}")?;
+    let status = if verdict == "accepted" { 0 } else { 1 };
+    expect_run(rt, script.as_bytes(), &out, "", status)
+}
+
+/// Adds a line to a text, unless it is empty.
+fn add_line(text: &mut String, line: &str) -> Result<(), AllocError> {
+    if line.is_empty() {
+        return Ok(());
+    }
+    text.push_str(line)?;
+    text.push_str("\n")
+}
+
+/// Runs each script of a transcript behind these first lines. There is one at least.
+///
+/// A line of a transcript is a line of the script, then `=>` and what the program prints there, if
+/// anything. A line that begins with `=>` ends a script and gives the verdict. Spaces at the end of a
+/// script's line are left out, and blank lines stand for nothing.
+pub fn expect_transcript(
+    rt: &(impl Abort + AllocGlobal),
+    head: &str,
+    transcript: &str,
+) -> Result<(), Fail> {
+    let mut script = String::new(rt.alloc());
+    script.push_str(head)?;
+    let mut printed = String::new(rt.alloc());
+    let mut ran = false;
+    for line in transcript.lines() {
+        let (written, answer) = line.split_once("=>").unwrap_or((line, ""));
+        let (written, answer) = (written.trim_end_matches(' '), answer.trim());
+        if written.is_empty() && !answer.is_empty() {
+            expect_verdict(rt, &script, &printed, answer)?;
+            script.clear();
+            script.push_str(head)?;
+            printed.clear();
+            ran = true;
+        } else {
+            add_line(&mut script, written)?;
+            add_line(&mut printed, answer)?;
+        }
+    }
+    assert_eq!(rt; script.as_str(), head, "a script without its verdict");
+    assert!(rt; ran, "a transcript without a script");
+    Ok(())
+}
+
+/// A text with this row in place of each `$0`, and the first word of the row in place of each `$1`, the
+/// second in place of each `$2`, and so on.
+fn fill(alloc: Global, text: &str, row: &str) -> Result<String, AllocError> {
+    let mut filled = text.replace(alloc, "$0", row)?;
+    for (k, word) in row.split_whitespace().enumerate() {
+        let number = k.saturating_add(1);
+        let mark = format!(in alloc; "${number}")?;
+        filled = filled.replace(alloc, mark.as_str(), word)?;
+    }
+    Ok(filled)
+}
+
+/// Runs a transcript behind these first lines once for each row, with the row in place of `$0` and its
+/// words in place of `$1`, `$2` and so on. Blank rows stand for nothing, and there is another one at
+/// least.
+pub fn expect_each(
+    rt: &(impl Abort + AllocGlobal),
+    head: &str,
+    rows: &str,
+    transcript: &str,
+) -> Result<(), Fail> {
+    let mut ran = false;
+    for row in rows.lines() {
+        if row.is_empty() {
+            continue;
+        }
+        let filled = fill(rt.alloc(), transcript, row)?;
+        expect_transcript(rt, head, &filled)?;
+        ran = true;
+    }
+    assert!(rt; ran, "no row");
+    Ok(())
+}
+
+/// Runs each of these lines behind these first lines and before an `end`, and expects it to be a bad
+/// line. Blank lines stand for nothing, and there is another one at least.
+pub fn expect_bad_lines(
+    rt: &(impl Abort + AllocGlobal),
+    head: &str,
+    lines: &str,
+) -> Result<(), Fail> {
+    let number = head.lines().count().saturating_add(1);
+    let said = format!(in rt.alloc(); "bad script: line {number}\n")?;
+    let mut ran = false;
+    for line in lines.lines() {
+        if line.is_empty() {
+            continue;
+        }
+        let script = format!(in rt.alloc(); "{head}{line}\nend\n")?;
+        expect_run(rt, script.as_bytes(), "", &said, 2)?;
+        ran = true;
+    }
+    assert!(rt; ran, "no line");
+    Ok(())
+}

@@ -1,0 +1,135 @@
+-- One list of marks stands for the declarations and the order.
+use Rattle.std.proofs.Common.{◌≡◌, ℕ, zero, suc, ◌<◌, List, [], ◌∷◌, ◌++◌, Bool, true, false, Some, ◌||◌, nat_eq, length, slice_get, slice_index_or, slice_set, refl, sym, ◌∙◌, ap, arith}
+use Rattle.std.specs.List.{list_any}
+use Rattle.std.proofs.lemmas.Grind.{common_steps}
+use Rattle.std.proofs.lemmas.List.{length-set}
+use Rattle.validate_locals.specs.Inits.{cleared, marked, AreFresh, IsMarked}
+
+-- ---- one more in the order, or one less
+
+fresh-append : (b : List Bool) (is : List ℕ) (i : ℕ) → AreFresh b is → slice_get (marked is b) i ≡ Some false → AreFresh b (is ++ i ∷ [])
+fresh-append b [] i f h = (h, tt)
+fresh-append b (j ∷ is) i f h = (f.0, fresh-append (slice_set b j true) is i f.1 h)
+
+fresh_front : (b : List Bool) (is : List ℕ) (i : ℕ) → AreFresh b (is ++ i ∷ []) → AreFresh b is × (slice_get (marked is b) i ≡ Some false)
+fresh_front b [] i f = (tt, f.0)
+fresh_front b (j ∷ is) i f = let r = fresh_front (slice_set b j true) is i f.1 in ((f.0, r.0), r.1)
+
+marked-append : (b : List Bool) (is : List ℕ) (i : ℕ) → marked (is ++ i ∷ []) b ≡ slice_set (marked is b) i true
+marked-append b [] i = refl
+marked-append b (j ∷ is) i = marked-append (slice_set b j true) is i
+
+set_back : (b : List Bool) (i : ℕ) → slice_get b i ≡ Some false → slice_set (slice_set b i true) i false ≡ b
+set_back [] i h = cc
+set_back (x ∷ b) zero h = let e : false ≡ x = cc in ap (λ y. y ∷ b) e
+set_back (x ∷ b) (suc i) h = ap (λ r. x ∷ r) (set_back b i h)
+
+pub marked_more : (b : List Bool) (order : List ℕ) (set : List Bool) (i : ℕ) → slice_get set i ≡ Some false → IsMarked b order set → IsMarked b (order ++ i ∷ []) (slice_set set i true)
+marked_more b order set i h m = record {
+  fresh = fresh-append b order i m.fresh (rw m.all h);
+  all = marked-append b order i ∙ ap (λ s. slice_set s i true) m.all;
+}
+
+pub marked_less : (b : List Bool) (order : List ℕ) (set : List Bool) (i : ℕ) → IsMarked b (order ++ i ∷ []) set → IsMarked b order (slice_set set i false)
+marked_less b order set i m =
+    let front = fresh_front b order i m.fresh in
+    record {
+      fresh = front.0;
+      all = sym (set_back (marked order b) i front.1) ∙ ap (λ s. slice_set s i false) (sym (marked-append b order i) ∙ m.all);
+    }
+
+-- ---- what clearing gives
+
+cleared-marked : (b : List Bool) (is : List ℕ) → AreFresh b is → cleared is (marked is b) ≡ b
+cleared-marked b [] f = refl
+cleared-marked b (i ∷ is) f = ap (λ s. slice_set s i false) (cleared-marked (slice_set b i true) is f.1) ∙ set_back b i f.0
+
+-- it gives the marks at the declaration
+pub base_is : (b : List Bool) (order : List ℕ) (set : List Bool) → IsMarked b order set → cleared order set ≡ b
+base_is b order set m = rw (← m.all) (cleared-marked b order m.fresh)
+
+pub renewed : (b : List Bool) (order : List ℕ) (set : List Bool) → IsMarked b order set → IsMarked (cleared order set) order set
+renewed b order set m = rw (base_is b order set m) m
+
+pub length-cleared : (is : List ℕ) (s : List Bool) → length (cleared is s) ≡ length s
+length-cleared [] s = refl
+length-cleared (i ∷ is) s = length-set (cleared is s) i false ∙ length-cleared is s
+
+-- ---- more declarations
+
+get-append : (b more : List Bool) (i : ℕ) → slice_get b i ≡ Some false → slice_get (b ++ more) i ≡ Some false
+get-append [] more i h = cc
+get-append (x ∷ b) more zero h = h
+get-append (x ∷ b) more (suc i) h = get-append b more i h
+
+set-append : (b more : List Bool) (i : ℕ) → slice_get b i ≡ Some false → slice_set (b ++ more) i true ≡ slice_set b i true ++ more
+set-append [] more i h = cc
+set-append (x ∷ b) more zero h = refl
+set-append (x ∷ b) more (suc i) h = ap (λ r. x ∷ r) (set-append b more i h)
+
+marked_wider : (b more : List Bool) (is : List ℕ) → AreFresh b is → IsMarked (b ++ more) is (marked is b ++ more)
+marked_wider b more [] f = record { fresh = tt; all = refl }
+marked_wider b more (i ∷ is) f =
+    let rest = marked_wider (slice_set b i true) more is f.1 in
+    record {
+      fresh = (get-append b more i f.0, rw (set-append b more i f.0) rest.fresh);
+      all = rw (set-append b more i f.0) rest.all;
+    }
+
+pub declared_more : (b more : List Bool) (order : List ℕ) (set : List Bool) → IsMarked b order set → IsMarked (b ++ more) order (set ++ more)
+declared_more b more order set m = rw (← m.all) (marked_wider b more order m.fresh)
+
+-- ---- what a mark says
+
+get_set : (b : List Bool) (j i : ℕ) → slice_get b j ≡ Some false → slice_index_or (slice_set b j true) i false ≡ (nat_eq i j || slice_index_or b i false)
+get_set [] j i h = cc
+get_set (x ∷ b) zero zero h = refl
+get_set (x ∷ b) zero (suc i) h = grind (arith, common_steps)
+get_set (x ∷ b) (suc j) zero h = grind (arith, common_steps)
+get_set (x ∷ b) (suc j) (suc i) h = let k = get_set b j i h in grind (arith, common_steps, k)
+
+or_swap : (a c d : Bool) → (a || (c || d)) ≡ ((c || a) || d)
+or_swap true true d = refl
+or_swap true false d = refl
+or_swap false true d = refl
+or_swap false false d = refl
+
+-- a local is set exactly where it has a mark
+set-marked : (b : List Bool) (is : List ℕ) (i : ℕ) → AreFresh b is → slice_index_or (marked is b) i false ≡ (list_any (nat_eq i) is || slice_index_or b i false)
+set-marked b [] i f = refl
+set-marked b (j ∷ is) i f =
+    set-marked (slice_set b j true) is i f.1
+    ∙ (ap (λ r. list_any (nat_eq i) is || r) (get_set b j i f.0) ∙ or_swap (list_any (nat_eq i) is) (nat_eq i j) (slice_index_or b i false))
+
+index_at : (s : List Bool) (i : ℕ) (v : Bool) → slice_get s i ≡ Some v → slice_index_or s i false ≡ v
+index_at [] i v h = cc
+index_at (x ∷ s) zero v h = cc
+index_at (x ∷ s) (suc i) v h = index_at s i v h
+
+pub read_at : (s : List Bool) (i : ℕ) (r : Bool) → i < length s → r ≡ slice_index_or s i r → slice_get s i ≡ Some r
+read_at [] i r h e = absurd (omega (arith, h))
+read_at (x ∷ s) zero r h e = ap Some (sym e)
+read_at (x ∷ s) (suc i) r h e = read_at s i r (omega (arith, h)) e
+
+-- a mark that was read says whether the local is set
+pub mark_is : (b : List Bool) (order : List ℕ) (set : List Bool) (i : ℕ) (r : Bool) → IsMarked b order set → slice_get set i ≡ Some r → (list_any (nat_eq i) order || slice_index_or b i false) ≡ r
+mark_is b order set i r m h = sym (set-marked b order i m.fresh) ∙ index_at (marked order b) i r (rw m.all h)
+
+-- ---- indexes
+
+within : (b : List Bool) (i : ℕ) → slice_get b i ≡ Some false → i < length b
+within [] i h = cc
+within (x ∷ b) zero h = omega arith
+within (x ∷ b) (suc i) h = let k = within b i h in omega (arith, k)
+
+length-marked : (is : List ℕ) (b : List Bool) → length (marked is b) ≡ length b
+length-marked [] b = refl
+length-marked (i ∷ is) b = length-marked is (slice_set b i true) ∙ length-set b i true
+
+-- the local that was set last has a mark
+pub last_within : (b : List Bool) (order : List ℕ) (set : List Bool) (i : ℕ) → IsMarked b (order ++ i ∷ []) set → i < length set
+last_within b order set i m =
+    let front = fresh_front b order i m.fresh in
+    let k = within (marked order b) i front.1 in
+    let all = ap length m.all in
+    omega (arith, k, length-marked order b, length-marked (order ++ i ∷ []) b, all)

@@ -1,0 +1,216 @@
+//! Which locals are set, and the order in which they were first set.
+
+ghost use Rattle.std.specs.Prelude.{◌≡◌, ◌+◌, ◌<◌, ◌≤◌, ◌↔◌, [], ◌∷◌, ◌++◌, true, length, take, drop, replicate, not, IsTrue, IfOk, OnOk, OnErr, IsOk, MatchOption};
+ghost use Rattle.validate_types.specs.Types.{is_defaultable};
+ghost use Rattle.validate_locals.specs.Inits.{is_set, order_with, AreFresh};
+
+use std::alloc::Global;
+use std::marker::Model;
+use validate_types::{OutOfMemory, ValType};
+
+/// Which locals are set (wasmparser's `LocalInits`). Contracts see an `Inits` of `specs/`: which
+/// locals were set when they were declared, those that were first set since, in order, and the room.
+#[derive(Debug, Drop)]
+pub struct LocalInits {
+    local_inits: Vec<bool>,
+    inits: Vec<u32>,
+}
+
+impl Model for LocalInits {
+    ghost use Rattle.std.specs.Vec.{vec_capacity};
+    ghost use Rattle.validate_locals.specs.Inits.{Inits, cleared, IsMarked};
+
+    ghost Value = { Inits };
+
+    ghost view = { λ a. record { base = cleared a.inits.items a.local_inits.items; order = a.inits.items; room = vec_capacity a.inits; declared_room = vec_capacity a.local_inits } };
+
+    ghost invariant = { λ a. IsMarked (cleared a.inits.items a.local_inits.items) a.inits.items a.local_inits.items };
+}
+
+impl LocalInits {
+    /// No locals. It takes no memory.
+    pub fn new(alloc: Global) -> Self
+        ensures base { result.base ≡ [] }
+        ensures order { result.order ≡ [] }
+    {
+        LocalInits {
+            local_inits: Vec::new(alloc),
+            inits: Vec::new(alloc),
+        }
+    }
+
+    /// The allocator of the buffers.
+    pub fn allocator(&self) -> Global {
+        *self.inits.allocator()
+    }
+
+    /// Whether no local is declared.
+    pub fn is_empty(&self) -> bool
+        ensures { IsTrue result ↔ (self.now.base ≡ []) }
+    {
+        self.local_inits.is_empty()
+    }
+
+    /// Forgets every local, and keeps the room.
+    pub fn clear(&mut self)
+        ensures base { self.new.base ≡ [] }
+        ensures order { self.new.order ≡ [] }
+        ensures room { self.new.room ≡ self.old.room }
+        ensures declared_room { self.new.declared_room ≡ self.old.declared_room }
+    {
+        self.local_inits.clear();
+        self.inits.clear();
+    }
+
+    /// Declares `count` more locals, each of them set or not.
+    fn declare(&mut self, count: usize, set: bool) -> Result<(), OutOfMemory>
+        ensures declared { OnOk result (self.new.base ≡ self.old.base ++ replicate count set) }
+        ensures order { self.new.order ≡ self.old.order }
+        ensures room { self.new.room ≡ self.old.room }
+        ensures declared_room { self.old.declared_room ≤ self.new.declared_room }
+        ensures succeeds { length self.old.base + count ≤ self.old.declared_room → IsOk result }
+        ensures err { OnErr result (self.new ≡ self.old) }
+    {
+        self.local_inits.reserve(count)?;
+        let len = self.local_inits.len();
+        self.local_inits.resize(len + count, set).unwrap();
+        Ok(())
+    }
+
+    /// Declares `count` parameters: they are set from the start, whatever their types. Want of memory
+    /// changes nothing, and there is none where there is room.
+    pub fn define_params(&mut self, count: usize) -> Result<(), OutOfMemory>
+        ensures declared { OnOk result (self.new.base ≡ self.old.base ++ replicate count true) }
+        ensures order { self.new.order ≡ self.old.order }
+        ensures room { self.new.room ≡ self.old.room }
+        ensures declared_room { self.old.declared_room ≤ self.new.declared_room }
+        ensures succeeds { length self.old.base + count ≤ self.old.declared_room → IsOk result }
+        ensures err { OnErr result (self.new ≡ self.old) }
+    {
+        self.declare(count, true)
+    }
+
+    /// Declares `count` more locals of this type: they are set from the start where it has a default
+    /// value. Want of memory changes nothing, and there is none where there is room.
+    pub fn define_locals(&mut self, count: u32, ty: ValType) -> Result<(), OutOfMemory>
+        ensures declared { OnOk result (self.new.base ≡ self.old.base ++ replicate count (is_defaultable ty)) }
+        ensures order { self.new.order ≡ self.old.order }
+        ensures room { self.new.room ≡ self.old.room }
+        ensures declared_room { self.old.declared_room ≤ self.new.declared_room }
+        ensures succeeds { length self.old.base + count ≤ self.old.declared_room → IsOk result }
+        ensures err { OnErr result (self.new ≡ self.old) }
+    {
+        self.declare(count as usize, ty.is_defaultable())
+    }
+
+    /// Makes room for `count` more declarations. Want of memory changes nothing, and there is none where
+    /// there is room.
+    pub fn reserve(&mut self, count: usize) -> Result<(), OutOfMemory>
+        ensures base { self.new.base ≡ self.old.base }
+        ensures order { self.new.order ≡ self.old.order }
+        ensures room { self.new.room ≡ self.old.room }
+        ensures declared_room { self.old.declared_room ≤ self.new.declared_room }
+        ensures ok { OnOk result (length self.new.base + count ≤ self.new.declared_room) }
+        ensures succeeds { length self.old.base + count ≤ self.old.declared_room → IsOk result }
+        ensures err { OnErr result (self.new ≡ self.old) }
+    {
+        self.local_inits.reserve(count)?;
+        Ok(())
+    }
+
+    /// How many locals were set since they were declared: the height that a frame notes when it is
+    /// opened.
+    pub fn height(&self) -> usize
+        ensures value { result ≡ length self.now.order }
+        ensures within { length self.now.order ≤ self.now.room }
+        ensures fresh { AreFresh self.now.base self.now.order }
+    {
+        self.inits.len()
+    }
+
+    /// How many locals can be set since they were declared before memory is wanted.
+    pub fn room(&self) -> usize
+        ensures value { result ≡ self.now.room }
+        ensures within { length self.now.order ≤ self.now.room }
+    {
+        self.inits.capacity()
+    }
+
+    /// Whether the local at this index isn't set.
+    pub fn is_uninit(&self, index: u32) -> bool
+        requires { index < length self.now.base }
+        ensures { result ≡ not (is_set self.now index) }
+    {
+        !self.local_inits[index as usize]
+    }
+
+    /// Sets the local at this index: where it wasn't set, it comes last in the order. Want of memory
+    /// changes nothing, and there is none where there is room or the local is set already.
+    pub fn set_init(&mut self, index: u32) -> Result<(), OutOfMemory>
+        requires { index < length self.old.base }
+        ensures set { OnOk result (self.new.order ≡ order_with self.old index) }
+        ensures base { self.new.base ≡ self.old.base }
+        ensures room { self.old.room ≤ self.new.room }
+        ensures declared_room { self.new.declared_room ≡ self.old.declared_room }
+        ensures succeeds { length self.old.order < self.old.room → IsOk result }
+        ensures already { is_set self.old index ≡ true → IsOk result }
+        ensures err { OnErr result (self.new ≡ self.old) }
+    {
+        if self.local_inits[index as usize] {
+            return Ok(());
+        }
+        self.inits.reserve(1)?;
+        self.inits.push(index).unwrap();
+        self.local_inits[index as usize] = true;
+        Ok(())
+    }
+
+    /// Unsets the local that was set last, and answers it.
+    fn pop_one(&mut self) -> Option<u32>
+        ensures order { MatchOption result ((self.old.order ≡ []) × (self.new.order ≡ [])) (λ i. self.old.order ≡ self.new.order ++ i ∷ []) }
+        ensures base { self.new.base ≡ self.old.base }
+        ensures room { self.new.room ≡ self.old.room }
+        ensures declared_room { self.new.declared_room ≡ self.old.declared_room }
+    {
+        let index = self.inits.pop()?;
+        self.local_inits[index as usize] = false;
+        Some(index)
+    }
+
+    /// Unsets what was first set from this height on (wasmparser's `pop_ctrl`, without its answer). It
+    /// takes no memory.
+    pub fn drop_ctrl(&mut self, height: usize)
+        ensures order { self.new.order ≡ take height self.old.order }
+        ensures base { self.new.base ≡ self.old.base }
+        ensures room { self.new.room ≡ self.old.room }
+        ensures declared_room { self.new.declared_room ≡ self.old.declared_room }
+    {
+        while self.height() > height {
+            let _ = self.pop_one();
+        }
+    }
+
+    /// What was first set from this height on, in order.
+    pub fn set_since(&self, height: usize) -> &[u32]
+        requires { height ≤ length self.now.order }
+        ensures { result.now ≡ drop height self.now.order }
+    {
+        &self.inits[height..]
+    }
+
+    /// Unsets what was first set from this height on, and answers it, in order (wasmparser's
+    /// `pop_ctrl`). Want of memory changes nothing.
+    pub fn pop_ctrl(&mut self, height: usize) -> Result<Vec<u32>, OutOfMemory>
+        requires { height ≤ length self.old.order }
+        ensures answer { IfOk result (λ reset. reset.items ≡ drop height self.old.order) }
+        ensures unset { OnOk result (self.new.order ≡ take height self.old.order) }
+        ensures base { self.new.base ≡ self.old.base }
+        ensures room { self.new.room ≡ self.old.room }
+        ensures declared_room { self.new.declared_room ≡ self.old.declared_room }
+        ensures err { OnErr result (self.new ≡ self.old) }
+    {
+        let reset = Vec::from_slice(self.allocator(), self.set_since(height))?;
+        self.drop_ctrl(height);
+        Ok(reset)
+    }
+}

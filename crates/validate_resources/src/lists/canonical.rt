@@ -1,0 +1,289 @@
+//! Canonical forms: the types of a module with an id for each index.
+
+ghost use Rattle.std.specs.Prelude.{◌≡◌, ◌≤◌, ℕ, Bool, true, false, map, length, Option, ok_or, IfOk, OnOk, OnErr, IfErr, option_map};
+ghost use Rattle.std.specs.List.{list_all};
+ghost use Rattle.validate_types.specs.Heap.{number_of};
+ghost use Rattle.validate_resources.specs.Indices.{is_known, type_test, ref_test, table_test, global_test, sub_test, inner_test, signature_test, supertype_test, type_form, ref_form, table_form, global_form, sub_form, inner_form, signature_form, index_form, canonical_index, canonical_heap, canonical_ref, canonical_type, heap_number, type_number};
+ghost use Rattle.validate_resources.specs.Lists.{max_types, indices_test};
+
+use std::alloc::Global;
+use validate_types::{
+    CompositeInnerType, CompositeType, CoreTypeId, Error, FuncType, GlobalType, HeapType,
+    PackedIndex, RefType, SubType, TableType, UnpackedIndex, ValType,
+};
+
+/// The number of an index of either kind.
+pub fn number(index: UnpackedIndex) -> u32
+    ensures { result ≡ number_of index }
+{
+    match index {
+        UnpackedIndex::Module(number) => number,
+        UnpackedIndex::Id(id) => id.index(),
+    }
+}
+
+/// The id for an index, or its number where there is no such type among so many.
+fn canonical_index(index: UnpackedIndex, count: usize) -> Result<UnpackedIndex, u32>
+    ensures { result ≡ ok_or (canonical_index count index) (number_of index) }
+{
+    let number = number(index);
+    if (number as usize) < count {
+        Ok(UnpackedIndex::Id(CoreTypeId::from_index(number)))
+    } else {
+        Err(number)
+    }
+}
+
+/// The canonical form of a heap type of a module of so many types, or the number of its index where
+/// there is no such type.
+pub fn canonical_heap(ty: HeapType, count: usize) -> Result<HeapType, u32>
+    ensures { result ≡ ok_or (canonical_heap count ty) (heap_number ty) }
+{
+    match ty {
+        HeapType::Abstract { shared, ty } => Ok(HeapType::Abstract { shared, ty }),
+        HeapType::Concrete(index) => {
+            let id = canonical_index(index, count)?;
+            Ok(HeapType::Concrete(id))
+        }
+    }
+}
+
+/// The same of a reference type.
+pub fn canonical_ref(ty: RefType, count: usize) -> Result<RefType, u32>
+    ensures { result ≡ ok_or (canonical_ref count ty) (heap_number ty.heap_type) }
+{
+    let heap_type = canonical_heap(ty.heap_type, count)?;
+    Ok(RefType { heap_type, ..ty })
+}
+
+/// The same of a value type.
+pub fn canonical_type(ty: ValType, count: usize) -> Result<ValType, u32>
+    ensures { result ≡ ok_or (canonical_type count ty) (type_number ty) }
+{
+    match ty {
+        ValType::Ref(ty) => {
+            let ty = canonical_ref(ty, count)?;
+            Ok(ValType::Ref(ty))
+        }
+        other => Ok(other),
+    }
+}
+
+/// The same of the supertype that a type declares.
+fn canonical_supertype(
+    supertype: Option<PackedIndex>,
+    count: usize,
+) -> Result<Option<PackedIndex>, u32>
+    requires { count ≤ max_types }
+    ensures known { OnOk result (supertype_test (is_known count) supertype ≡ true) }
+    ensures form { IfOk result (λ x. x ≡ option_map index_form supertype) }
+    ensures refused { OnErr result (supertype_test (is_known count) supertype ≡ false) }
+{
+    match supertype {
+        None => Ok(None),
+        Some(index) => {
+            let id = canonical_index(index.unpack(), count)?;
+            match id.pack() {
+                Some(id) => Ok(Some(id)),
+                None => unreachable!(),
+            }
+        }
+    }
+}
+
+/// What has a canonical form in a module of so many types.
+pub trait Canonical: Drop {
+    /// Whether there is a type for each index in it, among so many.
+    ghost known: { ℕ → Self → Bool };
+
+    /// The same with an id for each index.
+    ghost form: { Self → Self };
+
+    /// The canonical form. It refuses at offset 0, by `unknown type`, where there is no type for an
+    /// index in it, or for want of memory.
+    fn canonical(&self, alloc: Global, count: usize) -> Result<Self, Error>
+        requires { count ≤ max_types }
+        ensures known { OnOk result (known count self.now ≡ true) }
+        ensures form { IfOk result (λ x. x ≡ form self.now) }
+        ensures refused { IfErr result (λ e. e.memory ≡ false → known count self.now ≡ false) }
+        ensures offset { IfErr result (λ e. e.offset ≡ 0) };
+}
+
+/// The refusal of an index that is unknown.
+fn unknown_type() -> Error
+    ensures memory { result.memory ≡ false }
+    ensures offset { result.offset ≡ 0 }
+{
+    Error::new("unknown type", 0)
+}
+
+impl Canonical for ValType {
+    ghost known = { λ n t. type_test (is_known n) t };
+
+    ghost form = { type_form };
+
+    fn canonical(&self, _alloc: Global, count: usize) -> Result<ValType, Error> {
+        match canonical_type(*self, count) {
+            Ok(form) => Ok(form),
+            Err(_) => Err(unknown_type()),
+        }
+    }
+}
+
+impl Canonical for RefType {
+    ghost known = { λ n r. ref_test (is_known n) r };
+
+    ghost form = { ref_form };
+
+    fn canonical(&self, _alloc: Global, count: usize) -> Result<RefType, Error> {
+        match canonical_ref(*self, count) {
+            Ok(form) => Ok(form),
+            Err(_) => Err(unknown_type()),
+        }
+    }
+}
+
+impl Canonical for TableType {
+    ghost known = { λ n t. table_test (is_known n) t };
+
+    ghost form = { table_form };
+
+    fn canonical(&self, _alloc: Global, count: usize) -> Result<TableType, Error> {
+        match canonical_ref(self.element_type, count) {
+            Ok(element_type) => Ok(TableType {
+                element_type,
+                ..*self
+            }),
+            Err(_) => Err(unknown_type()),
+        }
+    }
+}
+
+impl Canonical for GlobalType {
+    ghost known = { λ n g. global_test (is_known n) g };
+
+    ghost form = { global_form };
+
+    fn canonical(&self, _alloc: Global, count: usize) -> Result<GlobalType, Error> {
+        match canonical_type(self.content_type, count) {
+            Ok(content_type) => Ok(GlobalType {
+                content_type,
+                ..*self
+            }),
+            Err(_) => Err(unknown_type()),
+        }
+    }
+}
+
+impl Canonical for FuncType {
+    ghost known = { λ n f. signature_test (is_known n) f };
+
+    ghost form = { signature_form };
+
+    fn canonical(&self, alloc: Global, count: usize) -> Result<FuncType, Error> {
+        let params = canonical_all(alloc, self.params(), count)?;
+        let results = canonical_all(alloc, self.results(), count)?;
+        Ok(FuncType::new(params, results))
+    }
+}
+
+impl Canonical for CompositeInnerType {
+    ghost known = { λ n i. inner_test (is_known n) i };
+
+    ghost form = { inner_form };
+
+    fn canonical(&self, alloc: Global, count: usize) -> Result<CompositeInnerType, Error> {
+        match self {
+            CompositeInnerType::Func(func) => {
+                let func = func.canonical(alloc, count)?;
+                Ok(CompositeInnerType::Func(func))
+            }
+        }
+    }
+}
+
+impl Canonical for SubType {
+    ghost known = { λ n s. sub_test (is_known n) s };
+
+    ghost form = { sub_form };
+
+    #[tactic(auto, using(std::proofs::lemmas::Bool::and_left, std::proofs::lemmas::Bool::and_right))]
+    fn canonical(&self, alloc: Global, count: usize) -> Result<SubType, Error> {
+        let supertype_idx = match canonical_supertype(self.supertype_idx, count) {
+            Ok(supertype) => supertype,
+            Err(_) => return Err(unknown_type()),
+        };
+        let inner = self.composite_type.inner.canonical(alloc, count)?;
+        Ok(SubType {
+            is_final: self.is_final,
+            supertype_idx,
+            composite_type: CompositeType {
+                inner,
+                shared: self.composite_type.shared,
+            },
+        })
+    }
+}
+
+/// The canonical forms of a list. It refuses as [`Canonical::canonical`] does.
+pub fn canonical_all<T: Canonical>(
+    alloc: Global,
+    items: &[T],
+    count: usize,
+) -> Result<Vec<T>, Error>
+    requires { count ≤ max_types }
+    ensures known { OnOk result (list_all (T.known count) items.now ≡ true) }
+    ensures form { IfOk result (λ v. v.items ≡ map T.form items.now) }
+    ensures refused { IfErr result (λ e. e.memory ≡ false → list_all (T.known count) items.now ≡ false) }
+    ensures offset { IfErr result (λ e. e.offset ≡ 0) }
+{
+    let mut forms = Vec::new(alloc);
+    for item in items {
+        let form = item.canonical(alloc, count)?;
+        if forms.push(form).is_err() {
+            return Err(Error::out_of_memory(0));
+        }
+    }
+    Ok(forms)
+}
+
+/// The lists of a module that hold indices, in their canonical form.
+#[derive(Drop)]
+pub struct Forms {
+    /// The types.
+    pub types: Vec<SubType>,
+    /// The types of the tables.
+    pub tables: Vec<TableType>,
+    /// The types of the globals.
+    pub globals: Vec<GlobalType>,
+    /// The types of the element segments.
+    pub elements: Vec<RefType>,
+}
+
+/// The canonical forms of the lists of a module that hold indices. It refuses as
+/// [`Canonical::canonical`] does.
+#[tactic(auto, using(std::proofs::lemmas::Bool::and_left, std::proofs::lemmas::Bool::and_right))]
+pub fn canonical_lists(
+    alloc: Global,
+    types: &[SubType],
+    tables: &[TableType],
+    globals: &[GlobalType],
+    elements: &[RefType],
+) -> Result<Forms, Error>
+    requires { length types.now ≤ max_types }
+    ensures known { OnOk result (indices_test (is_known (length types.now)) types.now tables.now globals.now elements.now ≡ true) }
+    ensures types { IfOk result (λ f. f.types.items ≡ map sub_form types.now) }
+    ensures tables { IfOk result (λ f. f.tables.items ≡ map table_form tables.now) }
+    ensures globals { IfOk result (λ f. f.globals.items ≡ map global_form globals.now) }
+    ensures elements { IfOk result (λ f. f.elements.items ≡ map ref_form elements.now) }
+    ensures refused { IfErr result (λ e. e.memory ≡ false → indices_test (is_known (length types.now)) types.now tables.now globals.now elements.now ≡ false) }
+    ensures offset { IfErr result (λ e. e.offset ≡ 0) }
+{
+    let count = types.len();
+    Ok(Forms {
+        types: canonical_all(alloc, types, count)?,
+        tables: canonical_all(alloc, tables, count)?,
+        globals: canonical_all(alloc, globals, count)?,
+        elements: canonical_all(alloc, elements, count)?,
+    })
+}

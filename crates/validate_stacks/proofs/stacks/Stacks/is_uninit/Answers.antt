@@ -1,0 +1,11 @@
+use Rattle.std.proofs.Common.{None, not, ◌∙◌, ap}
+use Rattle.validate_stacks.specs.State.{BodyState}
+use Rattle.validate_stacks.specs.Steps.{is_set_in}
+use Rattle.validate_stacks.proofs.Marks.{set_is}
+use Rattle.validate_stacks.proofs.stacks.Stacks.is_uninit.Goals as goal
+
+pub returns : goal.returns
+returns c =
+    let s = c.self.inside in
+    c.is_uninit.ensures
+    ∙ ap not (set_is s.control.items s.operands.items s.inits s.shared s.features s.locals None c.args.local_index c.self.invariant.shape ∙ ap (λ (v : BodyState). is_set_in v c.args.local_index) c.self.view_is)

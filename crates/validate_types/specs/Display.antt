@@ -1,0 +1,42 @@
+-- How types print.
+use Rattle.std.specs.Prelude.{ℕ, Bool, true, false, List, ◌++◌, codes, Some, None}
+use Rattle.std.specs.Fmt.{decimal}
+use Rattle.validate_types.specs.declared.heap.HeapType.{HeapType}
+use Rattle.validate_types.specs.declared.heap.HeapType.TheVariants.{Abstract, Concrete}
+use Rattle.validate_types.specs.declared.heap.UnpackedIndex.{UnpackedIndex}
+use Rattle.validate_types.specs.declared.heap.UnpackedIndex.TheVariants.{Module, Id}
+use Rattle.validate_types.specs.declared.types.MaybeType.{MaybeType}
+use Rattle.validate_types.specs.declared.types.MaybeType.TheVariants.{Bottom, UnknownRef, Known}
+use Rattle.validate_types.specs.declared.refs.RefType.{RefType}
+use Rattle.validate_types.specs.declared.types.ValType.{ValType}
+use Rattle.validate_types.specs.declared.types.ValType.TheVariants.{I32, I64, F32, F64, V128, Ref}
+use Rattle.validate_types.specs.Abstract.{heap_name}
+use Rattle.validate_types.specs.Refs.{wat_of}
+
+abbrev pub index_text : UnpackedIndex → List ℕ
+index_text (Module n) = codes "(module " ++ decimal n ++ codes ")"
+index_text (Id id) = codes "(id " ++ decimal id.index ++ codes ")"
+
+abbrev pub text_by : Bool → HeapType → List ℕ
+text_by n (Abstract shared ty) = wat_of n (Abstract shared ty)
+text_by true (Concrete i) = codes "(ref null " ++ index_text i ++ codes ")"
+text_by false (Concrete i) = codes "(ref " ++ index_text i ++ codes ")"
+
+-- the text of a reference type, where a type of the module has its index
+abbrev pub reference_text : RefType → List ℕ
+reference_text r = text_by r.nullable r.heap_type
+
+abbrev pub value_text : ValType → List ℕ
+value_text I32 = codes "i32"
+value_text I64 = codes "i64"
+value_text F32 = codes "f32"
+value_text F64 = codes "f64"
+value_text V128 = codes "v128"
+value_text (Ref r) = reference_text r
+
+-- the text of an operand, where not all of its type may be known
+abbrev pub operand_text : MaybeType ValType → List ℕ
+operand_text Bottom = codes "bot"
+operand_text (UnknownRef None) = codes "(ref shared? bot)"
+operand_text (UnknownRef (Some a)) = codes "(ref shared? " ++ heap_name true a ++ codes "bot)"
+operand_text (Known t) = value_text t

@@ -1,0 +1,48 @@
+-- Reference types (WebAssembly core specification, "Reference Types").
+use Rattle.validate_types.specs.declared.refs.RefType.{RefType}
+use Rattle.std.specs.Prelude.{ℕ, Bool, true, false, List, ◌++◌, codes, Option, Some, None, if◌then◌else◌}
+use Rattle.validate_types.specs.declared.heap.HeapType.{HeapType}
+use Rattle.validate_types.specs.declared.heap.HeapType.TheVariants.{Abstract, Concrete}
+use Rattle.validate_types.specs.Abstract.{plain_name, heap_name}
+use Rattle.validate_types.specs.Heap.{is_small}
+
+abbrev pub reference : Bool → HeapType → RefType
+reference n h = record { nullable = n; heap_type = h }
+
+-- a type index of it, if it has one, is below 2^20
+abbrev pub fits_reference : HeapType → Bool
+fits_reference (Abstract shared ty) = true
+fits_reference (Concrete i) = is_small i
+
+-- the reference to a heap type, where one can be made
+abbrev pub reference_to : Bool → HeapType → Option RefType
+reference_to n h = if fits_reference h then Some (reference n h) else None
+
+-- null is no value of it
+abbrev pub non_null : RefType → RefType
+non_null r = record r { nullable = false }
+
+-- null is a value of it
+abbrev pub with_null : RefType → RefType
+with_null r = record r { nullable = true }
+
+abbrev pub is_concrete : HeapType → Bool
+is_concrete (Abstract shared ty) = false
+is_concrete (Concrete i) = true
+
+-- the reference to the shared copy of an abstract type
+abbrev pub shared_of : Bool → HeapType → Option RefType
+shared_of n (Abstract shared ty) = Some (reference n (Abstract true ty))
+shared_of n (Concrete i) = None
+
+-- its text, as in `funcref`, `(ref func)` and `(ref null (shared func))`
+abbrev pub wat_of : Bool → HeapType → List ℕ
+wat_of true (Abstract false ty) = heap_name true ty ++ codes "ref"
+wat_of false (Abstract false ty) = codes "(ref " ++ plain_name ty ++ codes ")"
+wat_of true (Abstract true ty) = codes "(ref null (shared " ++ plain_name ty ++ codes "))"
+wat_of false (Abstract true ty) = codes "(ref (shared " ++ plain_name ty ++ codes "))"
+wat_of true (Concrete i) = codes "(ref null (type))"
+wat_of false (Concrete i) = codes "(ref (type))"
+
+abbrev pub wat : RefType → List ℕ
+wat r = wat_of r.nullable r.heap_type

@@ -1,8 +1,8 @@
 //! Atomic operators: their alignments, the memories that they name, which refusal comes first, and the
 //! orderings of fences.
 
-use crate::operators::all_but;
-use crate::transcript::expect_transcript;
+use crate::operators::expect_without;
+use crate::transcript::{expect_behind, expect_transcript};
 use std::test::Fail;
 
 /// A body beside one data segment: three lines.
@@ -200,8 +200,7 @@ memory.atomic.wait32 align=1 mem=7 offset=4294967296   => refused 25: threads su
 memory.atomic.wait64 align=1 mem=7 offset=4294967296   => refused 25: threads support is not enabled
 => refused
 ";
-    let head = format!(in rt.alloc(); "{}{NARROW}", all_but(&rt, "threads")?)?;
-    expect_transcript(&rt, &head, transcript)?;
+    expect_without(&rt, "threads", NARROW, transcript)?;
     let transcript = "
 i32.atomic.load align=1 mem=7 offset=4294967296        => refused 5: atomic instructions must always specify maximum alignment
 => refused
@@ -291,8 +290,7 @@ atomic.fence acq_rel => refused 5: acquire-release atomics are not enabled
 pause                => refused 5: acquire-release atomics support is not enabled
 => refused
 ";
-    let head = format!(in rt.alloc(); "feature threads\n{NONE}")?;
-    expect_transcript(&rt, &head, transcript)?;
+    expect_behind(&rt, "feature threads\n", NONE, transcript)?;
     let transcript = "
 atomic.fence acq_rel => ok 0 1
 => open
@@ -300,8 +298,12 @@ atomic.fence acq_rel => ok 0 1
 atomic.fence seq_cst => ok 0 1
 => open
 ";
-    let head = format!(in rt.alloc(); "feature threads\nfeature acquire_release_atomics\n{NONE}")?;
-    expect_transcript(&rt, &head, transcript)?;
+    expect_behind(
+        &rt,
+        "feature threads\nfeature acquire_release_atomics\n",
+        NONE,
+        transcript,
+    )?;
     let transcript = "
 atomic.fence seq_cst => refused 5: threads support is not enabled
 => refused
@@ -309,8 +311,7 @@ atomic.fence seq_cst => refused 5: threads support is not enabled
 atomic.fence acq_rel => refused 5: threads support is not enabled
 => refused
 ";
-    let head = format!(in rt.alloc(); "feature none\n{NONE}")?;
-    expect_transcript(&rt, &head, transcript)?;
+    expect_behind(&rt, "feature none\n", NONE, transcript)?;
     let transcript = "
 atomic.fence seq_cst => refused 24: threads support is not enabled
 => refused
@@ -318,12 +319,10 @@ atomic.fence seq_cst => refused 24: threads support is not enabled
 atomic.fence acq_rel => refused 24: threads support is not enabled
 => refused
 ";
-    let head = format!(in rt.alloc(); "{}{NONE}", all_but(&rt, "threads")?)?;
-    expect_transcript(&rt, &head, transcript)?;
+    expect_without(&rt, "threads", NONE, transcript)?;
     let transcript = "
 pause => ok 0 1
 => open
 ";
-    let head = format!(in rt.alloc(); "feature acquire_release_atomics\n{NONE}")?;
-    expect_transcript(&rt, &head, transcript)
+    expect_behind(&rt, "feature acquire_release_atomics\n", NONE, transcript)
 }

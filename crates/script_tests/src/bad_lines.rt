@@ -102,8 +102,8 @@ local i32 1
 local 1 i32 i32
 local 4294967296 i32
 local 1 func
-call_indirect 0
-table.size 0
+ref.eq
+table.atomic.get 0
 try_table
 v128.const 0
 f32.const -1

@@ -1,8 +1,8 @@
 //! Calls, and calls in the place of the rest of a body: what they take and give, the functions that they
 //! name, the results that they have to give, and which refusal comes first.
 
-use crate::operators::{all_but, expect_table};
-use crate::transcript::expect_transcript;
+use crate::operators::{expect_table, expect_without};
+use crate::transcript::{expect_behind, expect_transcript};
 use std::test::Fail;
 
 /// A body that takes nothing and gives nothing, beside function 0 of type `i32 i64 -> f32`, function 1 of
@@ -335,8 +335,7 @@ i64.const     => ok 2 1
 return_call 7 => refused 10: unknown function 7: function index out of bounds
 => refused
 ";
-    let head = format!(in rt.alloc(); "type shared func ->\n{MARKED}")?;
-    expect_transcript(&rt, &head, transcript)?;
+    expect_behind(&rt, "type shared func ->\n", MARKED, transcript)?;
     let transcript = "
 i32.const     => ok 1 1
 call 0        => ok 0 1
@@ -354,8 +353,7 @@ i32.const     => ok 1 1
 return_call 1 => ok 0 1
 => open
 ";
-    let head = format!(in rt.alloc(); "type func ->\n{MARKED}")?;
-    expect_transcript(&rt, &head, transcript)
+    expect_behind(&rt, "type func ->\n", MARKED, transcript)
 }
 
 #[test]
@@ -420,8 +418,7 @@ unreachable   => ok 0 1
 return_call 5 => ok 0 1
 => open
 ";
-    let head = format!(in rt.alloc(); "feature tail_call\n{TAIL_CALLS}")?;
-    expect_transcript(&rt, &head, transcript)?;
+    expect_behind(&rt, "feature tail_call\n", TAIL_CALLS, transcript)?;
     let transcript = "
 unreachable   => ok 0 1
 return_call 0 => refused 16: tail calls support is not enabled
@@ -431,8 +428,7 @@ unreachable   => ok 0 1
 return_call 5 => refused 16: tail calls support is not enabled
 => refused
 ";
-    let head = format!(in rt.alloc(); "feature none\n{TAIL_CALLS}")?;
-    expect_transcript(&rt, &head, transcript)?;
+    expect_behind(&rt, "feature none\n", TAIL_CALLS, transcript)?;
     let transcript = "
 unreachable            => ok 0 1
 return_call 0          => refused 35: tail calls support is not enabled
@@ -487,8 +483,7 @@ i64.const              => ok 2 1
 call 0                 => ok 1 1
 => open
 ";
-    let head = format!(in rt.alloc(); "{}{TAIL_CALLS}", all_but(&rt, "tail_call")?)?;
-    expect_transcript(&rt, &head, transcript)
+    expect_without(&rt, "tail_call", TAIL_CALLS, transcript)
 }
 
 /// The last parameter is on top.
@@ -754,6 +749,5 @@ return_call 1 => ok 0 1
 return_call 0 => refused 26: tail calls support is not enabled
 => refused
 ";
-    let head = format!(in rt.alloc(); "{}{UNSHARED_CALLEE}", all_but(&rt, "tail_call")?)?;
-    expect_transcript(&rt, &head, transcript)
+    expect_without(&rt, "tail_call", UNSHARED_CALLEE, transcript)
 }

@@ -4,6 +4,7 @@ use crate::transcript::expect_run;
 use opcheck_script::run;
 use std::io;
 use std::io::{Read, Write};
+use std::process::Abort;
 use std::test::Fail;
 
 const SCRIPT: &[u8] = b"type func i32 -> i32\nfunc 0\nlocal.get 0\ni32.const 1\ni32.add\nend\n";
@@ -55,67 +56,70 @@ impl Write for BrokenWriter {
     }
 }
 
+/// A script whose reader fails behind these bytes is bad.
+fn expect_broken_after(rt: &(impl Abort + AllocGlobal), bytes: &[u8]) {
+    let mut printed = Vec::new(rt.alloc());
+    let mut said = Vec::new(rt.alloc());
+    let status = run(rt.alloc(), BrokenReader { bytes }, &mut printed, &mut said);
+    assert_eq!(rt; status, 2, "after {bytes:?}");
+    assert_eq!(rt; printed.as_slice(), b"".as_slice(), "after {bytes:?}");
+    assert_eq!(rt;
+        said.as_slice(),
+        b"bad script: input\n".as_slice(),
+        "after {bytes:?}"
+    );
+}
+
 #[test]
 fn fails_with_its_reader(rt: HostRuntime) -> Result<(), Fail> {
     expect_run(&rt, SCRIPT, std::str::from_utf8(PRINTED)?, "", 0)?;
     for k in 0..=SCRIPT.len() {
-        let reader = BrokenReader {
-            bytes: &SCRIPT[..k],
-        };
-        let mut printed = Vec::new(rt.alloc());
-        let mut said = Vec::new(rt.alloc());
-        assert_eq!(rt;
-            run(rt.alloc(), reader, &mut printed, &mut said),
-            2,
-            "after {k} bytes"
-        );
-        assert_eq!(rt; printed.as_slice(), b"".as_slice(), "after {k} bytes");
-        assert_eq!(rt;
-            said.as_slice(),
-            b"bad script: input\n".as_slice(),
-            "after {k} bytes"
-        );
+        expect_broken_after(&rt, &SCRIPT[..k]);
     }
     Ok(())
 }
 
+/// With room for these bytes alone in its output, the script comes to this status.
+fn expect_printed(rt: &(impl Abort + AllocGlobal), bytes: &[u8], status: u8) {
+    let mut out = BrokenWriter {
+        room: bytes.len(),
+        taken: Vec::new(rt.alloc()),
+    };
+    let mut said = Vec::new(rt.alloc());
+    let answer = run(rt.alloc(), SCRIPT, &mut out, &mut said);
+    assert_eq!(rt; answer, status, "with room for {bytes:?}");
+    assert_eq!(rt; out.taken.as_slice(), bytes);
+    assert_eq!(rt; said.as_slice(), b"".as_slice(), "with room for {bytes:?}");
+}
+
 #[test]
 fn fails_with_its_output(rt: HostRuntime) -> Result<(), Fail> {
-    for room in 0..=PRINTED.len() {
-        let mut out = BrokenWriter {
-            room,
-            taken: Vec::new(rt.alloc()),
-        };
-        let mut said = Vec::new(rt.alloc());
-        let status = if room < PRINTED.len() { 3 } else { 0 };
-        assert_eq!(rt;
-            run(rt.alloc(), SCRIPT, &mut out, &mut said),
-            status,
-            "with {room} bytes"
-        );
-        assert_eq!(rt; out.taken.as_slice(), &PRINTED[..room]);
-        assert_eq!(rt; said.as_slice(), b"".as_slice(), "with {room} bytes");
+    for room in 0..PRINTED.len() {
+        expect_printed(&rt, &PRINTED[..room], 3);
     }
+    expect_printed(&rt, PRINTED, 0);
     Ok(())
+}
+
+/// A bad script is told as far as this line has room for it.
+fn expect_told(rt: &(impl Abort + AllocGlobal), told: &[u8]) {
+    let mut printed = Vec::new(rt.alloc());
+    let mut err = BrokenWriter {
+        room: told.len(),
+        taken: Vec::new(rt.alloc()),
+    };
+    let wombat: &[u8] = b"wombat";
+    let status = run(rt.alloc(), wombat, &mut printed, &mut err);
+    assert_eq!(rt; status, 2, "with room for {told:?}");
+    assert_eq!(rt; printed.as_slice(), b"".as_slice());
+    assert_eq!(rt; err.taken.as_slice(), told);
 }
 
 #[test]
 fn bears_a_broken_error_output(rt: HostRuntime) -> Result<(), Fail> {
     let line = b"bad script: line 1\n";
     for room in 0..=line.len() {
-        let mut printed = Vec::new(rt.alloc());
-        let mut err = BrokenWriter {
-            room,
-            taken: Vec::new(rt.alloc()),
-        };
-        let wombat: &[u8] = b"wombat";
-        assert_eq!(rt;
-            run(rt.alloc(), wombat, &mut printed, &mut err),
-            2,
-            "with {room} bytes"
-        );
-        assert_eq!(rt; printed.as_slice(), b"".as_slice());
-        assert_eq!(rt; err.taken.as_slice(), &line[..room]);
+        expect_told(&rt, &line[..room]);
     }
     Ok(())
 }

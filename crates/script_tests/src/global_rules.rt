@@ -2,7 +2,7 @@
 //! first.
 
 use crate::operators::expect_table;
-use crate::transcript::expect_transcript;
+use crate::transcript::{expect_behind, expect_transcript};
 use std::test::Fail;
 
 /// A body over an i64 and a v128 that can be written, and an f32 that can't: five lines.
@@ -158,8 +158,7 @@ global.set 2 => refused 7: global is immutable: cannot modify it with `global.se
 global.set 3 => refused 7: global is immutable: cannot modify it with `global.set`
 => refused
 ";
-    let head = format!(in rt.alloc(); "{MARKED}type func ->\nfunc 0\n")?;
-    expect_transcript(&rt, &head, transcript)?;
+    expect_behind(&rt, MARKED, "type func ->\nfunc 0\n", transcript)?;
     let transcript = "
 global.get 0 => refused 7: shared functions cannot access unshared globals
 => refused
@@ -200,6 +199,5 @@ global.get 4 => refused 7: unknown global: global index out of bounds
 global.set 4 => refused 7: unknown global: global index out of bounds
 => refused
 ";
-    let head = format!(in rt.alloc(); "{MARKED}type shared func ->\nfunc 0\n")?;
-    expect_transcript(&rt, &head, transcript)
+    expect_behind(&rt, MARKED, "type shared func ->\nfunc 0\n", transcript)
 }

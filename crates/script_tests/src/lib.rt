@@ -28,6 +28,8 @@ mod global_rules;
 #[cfg(test)]
 mod globals;
 #[cfg(test)]
+mod indirect_rules;
+#[cfg(test)]
 mod lines;
 #[cfg(test)]
 mod memory;
@@ -36,9 +38,15 @@ mod memory_rules;
 #[cfg(test)]
 mod operators;
 #[cfg(test)]
+mod reference_gates;
+#[cfg(test)]
+mod reference_rules;
+#[cfg(test)]
 mod references;
 #[cfg(test)]
 mod selects;
+#[cfg(test)]
+mod table_rules;
 #[cfg(test)]
 mod tables;
 #[cfg(test)]

@@ -1,7 +1,7 @@
 //! Operators on memories and data segments: their alignments and offsets, the memories and segments that
 //! they name, and which refusal comes first.
 
-use crate::operators::all_but;
+use crate::operators::expect_without;
 use crate::transcript::expect_transcript;
 use std::test::Fail;
 
@@ -266,8 +266,7 @@ f32.store align=4 mem=7 offset=4294967296 => refused 25: floating-point instruct
 f64.store align=4 mem=7 offset=4294967296 => refused 25: floating-point instruction disallowed
 => refused
 ";
-    let head = format!(in rt.alloc(); "{}{NARROW}", all_but(&rt, "floats")?)?;
-    expect_transcript(&rt, &head, transcript)?;
+    expect_without(&rt, "floats", NARROW, transcript)?;
     let transcript = "
 f32.load align=4 mem=7 offset=4294967296  => refused 5: invalid memop alignment: alignment must not be larger than natural
 => refused
@@ -443,8 +442,7 @@ memory.init 0 0 => refused 28: bulk memory support is not enabled
 data.drop 0     => refused 25: bulk memory support is not enabled
 => refused
 ";
-    let head = format!(in rt.alloc(); "{}{NARROW}", all_but(&rt, "bulk_memory")?)?;
-    expect_transcript(&rt, &head, transcript)?;
+    expect_without(&rt, "bulk_memory", NARROW, transcript)?;
     let transcript = "
 i32.const       => ok 1 1
 i32.const       => ok 2 1
@@ -467,8 +465,7 @@ memory.init 0 0 => ok 0 1
 data.drop 0     => ok 0 1
 => open
 ";
-    let head = format!(in rt.alloc(); "{}{NARROW}", all_but(&rt, "bulk_memory_opt")?)?;
-    expect_transcript(&rt, &head, transcript)
+    expect_without(&rt, "bulk_memory_opt", NARROW, transcript)
 }
 
 /// `data.drop` needs no memory, and `memory.init` looks at its memory first.
@@ -596,8 +593,7 @@ fn a_closed_gate_before_an_unknown_memory(rt: HostRuntime) -> Result<(), Fail> {
 memory.init 4294967295 4294967295 => refused 23: bulk memory support is not enabled
 => refused
 ";
-    let head = format!(in rt.alloc(); "{}{BARE}", all_but(&rt, "bulk_memory")?)?;
-    expect_transcript(&rt, &head, transcript)?;
+    expect_without(&rt, "bulk_memory", BARE, transcript)?;
     let transcript = "
 memory.copy 7 8 => refused 24: bulk memory support is not enabled
 => refused
@@ -605,12 +601,10 @@ memory.copy 7 8 => refused 24: bulk memory support is not enabled
 memory.fill 7   => refused 24: bulk memory support is not enabled
 => refused
 ";
-    let head = format!(in rt.alloc(); "{}{NONE}", all_but(&rt, "bulk_memory_opt")?)?;
-    expect_transcript(&rt, &head, transcript)?;
+    expect_without(&rt, "bulk_memory_opt", NONE, transcript)?;
     let transcript = "
 memory.discard 7 => refused 24: memory control support is not enabled
 => refused
 ";
-    let head = format!(in rt.alloc(); "{}{NONE}", all_but(&rt, "memory_control")?)?;
-    expect_transcript(&rt, &head, transcript)
+    expect_without(&rt, "memory_control", NONE, transcript)
 }

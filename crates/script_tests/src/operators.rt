@@ -1,8 +1,10 @@
 //! Every operator, by the tables of `tables`: accepted over what it takes, and in dead code; refused
 //! without it, over another type, and without the proposal that it needs.
 
-use crate::tables::{ATOMIC, CONVERSIONS, MEMORY, NUMERIC};
-use crate::transcript::expect_run;
+ghost use Rattle.std.specs.Prelude.{◌<◌, vec_len};
+
+use crate::tables::{ATOMIC, CONVERSIONS, MEMORY, NUMERIC, TABLE};
+use crate::transcript::{expect_behind, expect_run};
 use std::process::Abort;
 use std::test::Fail;
 
@@ -12,7 +14,7 @@ const FLAGS: &str = "
 multi_value
 floats:                  floating-point instruction disallowed
 simd
-reference_types
+reference_types:         reference types support is not enabled
 bulk_memory:             bulk memory support is not enabled
 bulk_memory_opt:         bulk memory support is not enabled
 sign_extension:          sign extension operations support is not enabled
@@ -21,8 +23,8 @@ threads:                 threads support is not enabled
 shared_everything_threads
 exceptions
 legacy_exceptions
-tail_call
-function_references
+tail_call:               tail calls support is not enabled
+function_references:     function references support is not enabled
 gc
 custom_descriptors
 stack_switching
@@ -41,7 +43,7 @@ fn flag_name(line: &str) -> &str {
 }
 
 /// The lines that turn every proposal on but this one.
-pub fn all_but(rt: &impl AllocGlobal, flag: &str) -> Result<String, Fail> {
+fn all_but(rt: &impl AllocGlobal, flag: &str) -> Result<String, Fail> {
     let mut lines = String::new(rt.alloc());
     for line in FLAGS.lines() {
         let name = flag_name(line);
@@ -50,6 +52,17 @@ pub fn all_but(rt: &impl AllocGlobal, flag: &str) -> Result<String, Fail> {
         }
     }
     Ok(lines)
+}
+
+/// Runs each script of a transcript with every proposal on but this one, behind these first lines.
+pub fn expect_without(
+    rt: &(impl Abort + AllocGlobal),
+    flag: &str,
+    head: &str,
+    transcript: &str,
+) -> Result<(), Fail> {
+    let features = all_but(rt, flag)?;
+    expect_behind(rt, &features, head, transcript)
 }
 
 /// The refusal of an operator without the proposal of this flag.
@@ -61,15 +74,37 @@ fn refusal_without(flag: &str) -> Option<&'static str> {
         .map(|(_, text)| text.trim())
 }
 
-/// A type that isn't this one, if this is the type of a number.
+/// The types that the tables name, and to each another one.
+const OTHERS: &[(&str, &str)] = &[
+    ("i32", "i64"),
+    ("i64", "i32"),
+    ("f32", "f64"),
+    ("f64", "f32"),
+    ("funcref", "externref"),
+    ("externref", "funcref"),
+];
+
+/// A type that isn't this one, if the tables name this one.
 fn another(ty: &str) -> Option<&'static str> {
-    match ty {
-        "i32" => Some("i64"),
-        "i64" => Some("i32"),
-        "f32" => Some("f64"),
-        "f64" => Some("f32"),
-        _ => None,
-    }
+    OTHERS.iter().find(|pair| pair.0 == ty).map(|pair| pair.1)
+}
+
+/// The types that the tables name, and to each an operator that gives one value of it.
+const CONSTANTS: &[(&str, &str)] = &[
+    ("i32", "i32.const"),
+    ("i64", "i64.const"),
+    ("f32", "f32.const"),
+    ("f64", "f64.const"),
+    ("funcref", "ref.null func"),
+    ("externref", "ref.null extern"),
+];
+
+/// The operator that gives one value of this type, if the tables name it.
+fn constant_of(ty: &str) -> Option<&'static str> {
+    CONSTANTS
+        .iter()
+        .find(|pair| pair.0 == ty)
+        .map(|pair| pair.1)
 }
 
 /// A script that is being written, and what it is to print.
@@ -108,7 +143,8 @@ impl Draft {
     fn add_constants(&mut self, types: &[&str]) -> Result<(), Fail> {
         for ty in types {
             self.operands = self.operands.saturating_add(1);
-            writeln!(self.script, "{ty}.const")?;
+            let constant = constant_of(ty).unwrap_or("none");
+            writeln!(self.script, "{constant}")?;
             writeln!(self.printed, "ok {} 1", self.operands)?;
         }
         Ok(())
@@ -172,58 +208,105 @@ impl<'a> Row<'a> {
         draft.expect_accepted(rt)
     }
 
-    /// Without one of its operands, those above being there, and over another type in its place, it is
-    /// refused.
+    /// Without the operand at this place, those above being there, it is refused.
+    fn expect_missing(&self, rt: &(impl Abort + AllocGlobal), place: usize) -> Result<(), Fail>
+        requires { place < vec_len self.now.takes }
+    {
+        let ty = self.takes[place];
+        let mut draft = Draft::begin(rt, self.module, &self.gives)?;
+        draft.add_constants(&self.takes[place + 1..])?;
+        let text = format!(in rt.alloc(); "type mismatch: expected {ty} but nothing on stack")?;
+        draft.expect_refused(rt, self.op, &text)
+    }
+
+    /// Over another type at this place it is refused.
+    fn expect_mismatch(&self, rt: &(impl Abort + AllocGlobal), place: usize) -> Result<(), Fail>
+        requires { place < vec_len self.now.takes }
+    {
+        let ty = self.takes[place];
+        let other = another(ty).unwrap_or("none");
+        let mut draft = Draft::begin(rt, self.module, &self.gives)?;
+        draft.add_constants(&self.takes[..place])?;
+        draft.add_constants(&[other])?;
+        draft.add_constants(&self.takes[place + 1..])?;
+        let text = format!(in rt.alloc(); "type mismatch: expected {ty}, found {other}")?;
+        draft.expect_refused(rt, self.op, &text)
+    }
+
+    /// Without one of its operands, and over another type in its place, it is refused.
     fn expect_mismatches(&self, rt: &(impl Abort + AllocGlobal)) -> Result<(), Fail> {
         for place in 0..self.takes.len() {
-            let ty = self.takes[place];
-            let above = &self.takes[place + 1..];
-            let mut draft = Draft::begin(rt, self.module, &self.gives)?;
-            draft.add_constants(above)?;
-            let text = format!(in rt.alloc(); "type mismatch: expected {ty} but nothing on stack")?;
-            draft.expect_refused(rt, self.op, &text)?;
-            let other = another(ty).unwrap_or("none");
-            let mut draft = Draft::begin(rt, self.module, &self.gives)?;
-            draft.add_constants(&self.takes[..place])?;
-            draft.add_constants(&[other])?;
-            draft.add_constants(above)?;
-            let text = format!(in rt.alloc(); "type mismatch: expected {ty}, found {other}")?;
-            draft.expect_refused(rt, self.op, &text)?;
+            self.expect_missing(rt, place)?;
+            self.expect_mismatch(rt, place)?;
         }
         Ok(())
     }
 
-    /// What it gives is of these types and no others, in dead code too: where the body is to give another
-    /// type in the place of one, its end is refused.
+    /// What it gives, but with this type at this place.
+    fn gives_with(
+        &self,
+        rt: &impl AllocGlobal,
+        place: usize,
+        other: &'a str,
+    ) -> Result<Vec<&'a str>, Fail>
+        requires { place < vec_len self.now.gives }
+    {
+        let mut wanted = self.gives.to_vec(rt.alloc())?;
+        wanted[place] = other;
+        Ok(wanted)
+    }
+
+    /// What it gives at this place is of its type and no other, in dead code too: where the body is to
+    /// give another type there, its end is refused.
+    fn expect_known_at(&self, rt: &(impl Abort + AllocGlobal), place: usize) -> Result<(), Fail>
+        requires { place < vec_len self.now.gives }
+    {
+        let ty = self.gives[place];
+        let other = another(ty).unwrap_or("none");
+        let wanted = self.gives_with(rt, place, other)?;
+        let mut draft = self.dead(rt, "", &wanted)?;
+        draft.add(self.op, self.gives.len(), 1)?;
+        let text = format!(in rt.alloc(); "type mismatch: expected {other}, found {ty}")?;
+        draft.expect_refused(rt, "end", &text)
+    }
+
+    /// What it gives is of these types and no others.
     fn expect_known(&self, rt: &(impl Abort + AllocGlobal)) -> Result<(), Fail> {
         for place in 0..self.gives.len() {
-            let ty = self.gives[place];
-            let other = another(ty).unwrap_or("none");
-            let mut wanted = self.gives[..place].to_vec(rt.alloc())?;
-            wanted.push(other)?;
-            wanted.extend_from_slice(&self.gives[place + 1..])?;
-            let mut draft = self.dead(rt, "", &wanted)?;
-            draft.add(self.op, self.gives.len(), 1)?;
-            let text = format!(in rt.alloc(); "type mismatch: expected {other}, found {ty}")?;
-            draft.expect_refused(rt, "end", &text)?;
+            self.expect_known_at(rt, place)?;
         }
         Ok(())
+    }
+
+    /// Behind these lines with proposals it is refused.
+    fn expect_closed(
+        &self,
+        rt: &(impl Abort + AllocGlobal),
+        features: &str,
+        text: &str,
+    ) -> Result<(), Fail> {
+        let draft = self.dead(rt, features, &self.gives)?;
+        draft.expect_refused(rt, self.op, text)
+    }
+
+    /// Under its proposal alone it is accepted.
+    fn expect_open(&self, rt: &(impl Abort + AllocGlobal)) -> Result<(), Fail> {
+        let alone = format!(in rt.alloc(); "feature {}\n", self.needs)?;
+        self.expect_dead(rt, &alone)
     }
 
     /// Under its proposal alone it is accepted; without it, whatever else is on, it is refused.
     fn expect_gate(&self, rt: &(impl Abort + AllocGlobal)) -> Result<(), Fail> {
-        let alone = format!(in rt.alloc(); "feature {}\n", self.needs)?;
-        self.expect_dead(rt, &alone)?;
+        self.expect_open(rt)?;
         if self.needs == "none" {
             return Ok(());
         }
         let Some(text) = refusal_without(self.needs) else {
             return Err(Fail::new("a row that needs no known proposal"));
         };
-        let none = self.dead(rt, "feature none\n", &self.gives)?;
-        none.expect_refused(rt, self.op, text)?;
-        let others = self.dead(rt, &all_but(rt, self.needs)?, &self.gives)?;
-        others.expect_refused(rt, self.op, text)
+        self.expect_closed(rt, "feature none\n", text)?;
+        let others = all_but(rt, self.needs)?;
+        self.expect_closed(rt, &others, text)
     }
 
     /// Runs the operator in all these ways.
@@ -279,6 +362,18 @@ fn read_row<'a>(
     })
 }
 
+/// Runs the operator of a line of a table, and gives its name.
+fn expect_row<'a>(
+    rt: &(impl Abort + AllocGlobal),
+    line: &'a str,
+    module: &'a str,
+    address: &'a str,
+) -> Result<&'a str, Fail> {
+    let row = read_row(rt, line, module, address)?;
+    row.expect(rt)?;
+    Ok(row.op)
+}
+
 /// How many rows of a table have this operator.
 fn count_of(table: &str, op: &str) -> usize {
     table
@@ -288,8 +383,8 @@ fn count_of(table: &str, op: &str) -> usize {
         .count()
 }
 
-/// Runs each of the rows of a table, in a module of these lines, whose memory has addresses of this type.
-/// The table has so many rows, each for another operator.
+/// Runs each of the rows of a table, in a module of these lines, whose memory or table has addresses of
+/// this type. There are so many rows, each for another operator.
 pub fn expect_table(
     rt: &(impl Abort + AllocGlobal),
     table: &str,
@@ -299,9 +394,8 @@ pub fn expect_table(
 ) -> Result<(), Fail> {
     let mut rows: usize = 0;
     for line in table.lines().filter(|line| !line.trim().is_empty()) {
-        let row = read_row(rt, line, module, address)?;
-        assert_eq!(rt; count_of(table, row.op), 1, "the rows of {}", row.op);
-        row.expect(rt)?;
+        let op = expect_row(rt, line, module, address)?;
+        assert_eq!(rt; count_of(table, op), 1, "the rows of {op}");
         rows = rows.saturating_add(1);
     }
     assert_eq!(rt; rows, count, "the rows of a table");
@@ -336,4 +430,16 @@ fn atomic_operators_on_a_memory_of_32_bits(rt: HostRuntime) -> Result<(), Fail> 
 #[test]
 fn atomic_operators_on_a_memory_of_64_bits(rt: HostRuntime) -> Result<(), Fail> {
     expect_table(&rt, ATOMIC, 68, "memory 64\ndata 1\n", "i64")
+}
+
+#[test]
+fn operators_on_a_table_of_32_bits(rt: HostRuntime) -> Result<(), Fail> {
+    let module = "type func i32 i64 -> f32\ntable funcref\nelem funcref\n";
+    expect_table(&rt, TABLE, 10, module, "i32")
+}
+
+#[test]
+fn operators_on_a_table_of_64_bits(rt: HostRuntime) -> Result<(), Fail> {
+    let module = "type func i32 i64 -> f32\ntable funcref 64\nelem funcref\n";
+    expect_table(&rt, TABLE, 10, module, "i64")
 }

@@ -5,7 +5,7 @@ use std::process::Abort;
 use std::test::Fail;
 
 /// Nullable references: the short names and what they stand for.
-const SHORT_NAMES: &str = "
+pub const SHORT_NAMES: &str = "
 funcref func
 externref extern
 anyref any
@@ -596,7 +596,7 @@ end         => ok 1 0
 => accepted
 ";
 
-/// Functions, tables and element segments: no operator reads the marks and the lists yet.
+/// Functions, tables and element segments, whose lines stand in any order, with their marks.
 const DECLARED: &str = "
 type func ->
 fn 0 ref

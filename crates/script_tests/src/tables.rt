@@ -1,7 +1,7 @@
 //! What each operator takes and gives, and the proposal that it needs, one operator a line: the operator
 //! as a script writes it, a colon, the types that it takes, an arrow, the types that it gives, and behind
 //! a bar the flag of the proposal, if it needs one. The last type of each list is on top. `it` is the type
-//! of the memory's addresses. All of it is written out from the standard and its proposals.
+//! of the addresses of the memory or the table. All of it is written out from the standard and its proposals.
 
 /// Constants and operators on numbers of one type: tests, comparisons, arithmetic.
 pub const NUMERIC: &str = "
@@ -259,4 +259,19 @@ i64.atomic.rmw8.cmpxchg_u:  it i64 i64 -> i64 | threads
 i64.atomic.rmw16.cmpxchg_u: it i64 i64 -> i64 | threads
 i64.atomic.rmw32.cmpxchg_u: it i64 i64 -> i64 | threads
 pause:                                 ->     | acquire_release_atomics
+";
+
+/// Operators on a table and an element segment of functions, the null of those, and a call through the
+/// table of a function of type 1, which is `i32 i64 -> f32`.
+pub const TABLE: &str = "
+table.get 0:       it            -> funcref | reference_types
+table.set 0:       it funcref    ->         | reference_types
+table.grow 0:      funcref it    -> it      | reference_types
+table.size 0:                    -> it      | reference_types
+table.fill 0:      it funcref it ->         | reference_types
+table.init 0 0:    it i32 i32    ->         | bulk_memory
+elem.drop 0:                     ->         | bulk_memory
+table.copy 0 0:    it it it      ->         | bulk_memory
+ref.null func:                   -> funcref | reference_types
+call_indirect 1 0: i32 i64 it    -> f32
 ";

@@ -12,6 +12,18 @@ pub const HEAD: &str = "type func ->\nfunc 0\n";
 /// The types that a script can write, one a line.
 pub const TYPES: &str = "i32\ni64\nf32\nf64\nv128";
 
+/// An output of a script is this text.
+fn expect_output(
+    rt: &impl Abort,
+    script: &str,
+    output: &[u8],
+    wanted: &str,
+    verb: &str,
+) -> Result<(), Fail> {
+    assert_eq!(rt; str::from_utf8(output)?, wanted, "what {script:?} {verb}");
+    Ok(())
+}
+
 /// Runs a script, and compares both outputs and the status.
 pub fn expect_run(
     rt: &(impl Abort + AllocGlobal),
@@ -24,8 +36,8 @@ pub fn expect_run(
     let mut said = Vec::new(rt.alloc());
     let answer = run(rt.alloc(), script, &mut printed, &mut said);
     let text = str::from_utf8(script).unwrap_or("bytes that are no text");
-    assert_eq!(rt; str::from_utf8(&printed)?, out, "what {text:?} prints");
-    assert_eq!(rt; str::from_utf8(&said)?, err, "what {text:?} says");
+    expect_output(rt, text, &printed, out, "prints")?;
+    expect_output(rt, text, &said, err, "says")?;
     assert_eq!(rt; answer, status, "the status of {text:?}");
     Ok(())
 }
@@ -56,6 +68,45 @@ fn add_line(text: &mut String, line: &str) -> Result<(), AllocError> {
     text.push_str("\n")
 }
 
+/// A script that is being read, behind its first lines, and what it is to print.
+#[derive(Drop)]
+struct Case<'a> {
+    head: &'a str,
+    script: String,
+    printed: String,
+}
+
+impl<'a> Case<'a> {
+    fn new(rt: &impl AllocGlobal, head: &'a str) -> Result<Case<'a>, AllocError> {
+        Ok(Case {
+            head,
+            script: head.to_string(rt.alloc())?,
+            printed: String::new(rt.alloc()),
+        })
+    }
+
+    /// Adds a line of the script, and what is printed there.
+    fn add(&mut self, written: &str, answer: &str) -> Result<(), AllocError> {
+        add_line(&mut self.script, written)?;
+        add_line(&mut self.printed, answer)
+    }
+
+    /// Runs the script, and begins the next one.
+    fn expect(&mut self, rt: &(impl Abort + AllocGlobal), verdict: &str) -> Result<(), Fail> {
+        expect_verdict(rt, &self.script, &self.printed, verdict)?;
+        self.script.clear();
+        self.printed.clear();
+        self.script.push_str(self.head)?;
+        Ok(())
+    }
+}
+
+/// What a line of a transcript has before its `=>` and behind it.
+fn parts_of(line: &str) -> (&str, &str) {
+    let (written, answer) = line.split_once("=>").unwrap_or((line, ""));
+    (written.trim_end_matches(' '), answer.trim())
+}
+
 /// Runs each script of a transcript behind these first lines. There is one at least.
 ///
 /// A line of a transcript is a line of the script, then `=>` and what the program prints there, if
@@ -66,27 +117,31 @@ pub fn expect_transcript(
     head: &str,
     transcript: &str,
 ) -> Result<(), Fail> {
-    let mut script = String::new(rt.alloc());
-    script.push_str(head)?;
-    let mut printed = String::new(rt.alloc());
+    let mut case = Case::new(rt, head)?;
     let mut ran = false;
     for line in transcript.lines() {
-        let (written, answer) = line.split_once("=>").unwrap_or((line, ""));
-        let (written, answer) = (written.trim_end_matches(' '), answer.trim());
+        let (written, answer) = parts_of(line);
         if written.is_empty() && !answer.is_empty() {
-            expect_verdict(rt, &script, &printed, answer)?;
-            script.clear();
-            script.push_str(head)?;
-            printed.clear();
+            case.expect(rt, answer)?;
             ran = true;
         } else {
-            add_line(&mut script, written)?;
-            add_line(&mut printed, answer)?;
+            case.add(written, answer)?;
         }
     }
-    assert_eq!(rt; script.as_str(), head, "a script without its verdict");
+    assert_eq!(rt; case.script.as_str(), head, "a script without its verdict");
     assert!(rt; ran, "a transcript without a script");
     Ok(())
+}
+
+/// Runs each script of a transcript behind these lines and these others.
+pub fn expect_behind(
+    rt: &(impl Abort + AllocGlobal),
+    lines: &str,
+    others: &str,
+    transcript: &str,
+) -> Result<(), Fail> {
+    let head = format!(in rt.alloc(); "{lines}{others}")?;
+    expect_transcript(rt, &head, transcript)
 }
 
 /// A text with this row in place of each `$0`, and the first word of the row in place of each `$1`, the
@@ -101,6 +156,17 @@ fn fill(alloc: Global, text: &str, row: &str) -> Result<String, AllocError> {
     Ok(filled)
 }
 
+/// Runs a transcript behind these first lines, filled with this row.
+fn expect_row(
+    rt: &(impl Abort + AllocGlobal),
+    head: &str,
+    row: &str,
+    transcript: &str,
+) -> Result<(), Fail> {
+    let filled = fill(rt.alloc(), transcript, row)?;
+    expect_transcript(rt, head, &filled)
+}
+
 /// Runs a transcript behind these first lines once for each row, with the row in place of `$0` and its
 /// words in place of `$1`, `$2` and so on. Blank rows stand for nothing, and there is another one at
 /// least.
@@ -111,16 +177,23 @@ pub fn expect_each(
     transcript: &str,
 ) -> Result<(), Fail> {
     let mut ran = false;
-    for row in rows.lines() {
-        if row.is_empty() {
-            continue;
-        }
-        let filled = fill(rt.alloc(), transcript, row)?;
-        expect_transcript(rt, head, &filled)?;
+    for row in rows.lines().filter(|row| !row.is_empty()) {
+        expect_row(rt, head, row, transcript)?;
         ran = true;
     }
     assert!(rt; ran, "no row");
     Ok(())
+}
+
+/// Runs this line behind these first lines and before an `end`, and expects this answer to a bad script.
+fn expect_bad_line(
+    rt: &(impl Abort + AllocGlobal),
+    head: &str,
+    line: &str,
+    said: &str,
+) -> Result<(), Fail> {
+    let script = format!(in rt.alloc(); "{head}{line}\nend\n")?;
+    expect_run(rt, script.as_bytes(), "", said, 2)
 }
 
 /// Runs each of these lines behind these first lines and before an `end`, and expects it to be a bad
@@ -133,12 +206,8 @@ pub fn expect_bad_lines(
     let number = head.lines().count().saturating_add(1);
     let said = format!(in rt.alloc(); "bad script: line {number}\n")?;
     let mut ran = false;
-    for line in lines.lines() {
-        if line.is_empty() {
-            continue;
-        }
-        let script = format!(in rt.alloc(); "{head}{line}\nend\n")?;
-        expect_run(rt, script.as_bytes(), "", &said, 2)?;
+    for line in lines.lines().filter(|line| !line.is_empty()) {
+        expect_bad_line(rt, head, line, &said)?;
         ran = true;
     }
     assert!(rt; ran, "no line");

@@ -1,19 +1,19 @@
 -- The rows of branches keep what the law asks of operators: every label that they name is one that the
 -- operands fit.
-use Rattle.std.proofs.Common.{◌≡◌, ℕ, zero, suc, pred, Bool, true, List, [], ◌∷◌, ◌++◌, length, map, take, drop, Option, Some, None, refl, sym, ap, ◌∙◌, subst, slice_get, append-nil}
+use Rattle.std.proofs.Common.{◌≡◌, ℕ, zero, suc, pred, Bool, true, List, [], ◌∷◌, ◌++◌, length, map, take, drop, Some, refl, sym, ap, ◌∙◌, subst, slice_get, append-nil}
 use Rattle.validate_resources.specs.Context.{IsLawful}
 use Rattle.validate_types.specs.Gates.{is_open}
-use Rattle.validate_types.specs.declared.gate.Gate.TheVariants.{TailCall}
+use Rattle.validate_types.specs.declared.gate.Gate.{Gate}
 use Rattle.validation_rules.specs.Calls.{tail_call}
-use Rattle.validation_rules.specs.Table.{by_lookup, gated}
+use Rattle.validation_rules.specs.Table.{gated}
 use Rattle.validation_rules.specs.Branches.{some_label, types_of, label_at, has_label, has_labels, target, br_row, br_if_row, br_table_row}
-use Rattle.validation_rules.specs.Context.{Signature, ValType, I32, Context, AllBelow}
+use Rattle.validation_rules.specs.Context.{ValType, I32, Context, AllBelow}
 use Rattle.validation_rules.specs.Fits.{MaybeType, Known, all_fit}
-use Rattle.validation_rules.specs.Rows.{Head, label_types, Target, Row, all_fit_each, gives}
+use Rattle.validation_rules.specs.Rows.{Head, Target, Row, all_fit_each, gives}
 use Rattle.validation_rules.proofs.Below.{and_true, below_of_fit}
 use Rattle.validation_rules.proofs.Steps.{some_injective, guard_some}
 use Rattle.type_safety.specs.Theorem.{Falls, HeadReaches, IsLawfulRow}
-use Rattle.type_safety.proofs.Plain.{plain_falls, plain_below, below_front, no_target}
+use Rattle.type_safety.proofs.Plain.{plain_falls, plain_below, below_front}
 
 module _ (cx : Context) (laws : IsLawful cx.of_module) where
   pub one_target : (hs : List Head) (row : Row) (t : Target) → row.targets ≡ t ∷ [] → ((xs ys : List ValType) (pushed : List MaybeType) → AllBelow cx ys xs → gives cx row.operands (map Known xs) ≡ Some pushed → Falls cx row.operands xs ys pushed) → ((ys : List ValType) (pushed : List MaybeType) → row.premise ≡ true → gives cx row.operands (map Known ys) ≡ Some pushed → HeadReaches cx (drop t.depth hs) (t.carried ys)) → IsLawfulRow cx hs row
@@ -24,9 +24,13 @@ module _ (cx : Context) (laws : IsLawful cx.of_module) where
       at ys h zero u e = subst (λ (v : Target). HeadReaches cx (drop v.depth hs) (v.carried ys)) (some_injective t u e) h
       at ys h (suc j) u e = absurd cc
 
+  -- types below those of a label that is there
+  pub types_reach : (hs : List Head) (ts : List ValType) → some_label hs ≡ true → AllBelow cx ts (types_of cx hs) → HeadReaches cx hs ts
+  types_reach [] ts p b = absurd cc
+  types_reach (k ∷ hs) ts p b = b
+
   front_reaches : (hs : List Head) (more ys : List ValType) → some_label hs ≡ true → AllBelow cx ys (types_of cx hs ++ more) → HeadReaches cx hs (take (length (types_of cx hs)) ys)
-  front_reaches [] more ys h below = absurd cc
-  front_reaches (k ∷ hs) more ys h below = below_front cx laws (label_types cx k) more ys below
+  front_reaches hs more ys h below = types_reach hs _ h (below_front cx laws (types_of cx hs) more ys below)
 
   pub br_lawful : (hs : List Head) (d : ℕ) → IsLawfulRow cx hs (br_row cx hs d)
   br_lawful hs d =
@@ -56,16 +60,11 @@ module _ (cx : Context) (laws : IsLawful cx.of_module) where
         reaches = λ ys pushed p g j t e. table_reaches hs (d ∷ ds) ys (and_true complete _ p).1 (guard_some _ _ _ g).0 j t e;
       }
 
-  types_reach : (hs : List Head) (ts : List ValType) → some_label hs ≡ true → all_fit cx (map Known ts) (types_of cx hs) ≡ true → HeadReaches cx hs ts
-  types_reach [] ts p h = absurd cc
-  types_reach (k ∷ hs) ts p h = below_of_fit cx ts (label_types cx k) h
-
-  -- the results of a tail call fit the outermost label
-  pub return_call_lawful : (hs : List Head) (o : Option Signature) → IsLawfulRow cx hs (gated cx TailCall (by_lookup o (tail_call cx hs)))
-  return_call_lawful hs None = no_target cx laws hs _ refl (plain_falls cx laws [] [] [])
-  return_call_lawful hs (Some s) =
-      one_target hs _ (record { depth = pred (length hs); carried = λ found. s.results }) refl (plain_falls cx laws s.params [] [])
+  -- the results of a tail call fit the outermost label, whatever the call takes
+  pub tail_call_lawful : (hs : List Head) (gate : Gate) (wanted results : List ValType) → IsLawfulRow cx hs (gated cx gate (tail_call cx hs wanted results))
+  tail_call_lawful hs gate wanted results =
+      one_target hs _ (record { depth = pred (length hs); carried = λ found. results }) refl (plain_falls cx laws wanted [] [])
       (λ ys pushed p g.
-      let q = and_true (is_open cx.features TailCall) _ p in
+      let q = and_true (is_open cx.features gate) _ p in
       let r = and_true (has_label hs (pred (length hs))) _ q.1 in
-      types_reach (drop (pred (length hs)) hs) s.results r.0 r.1)
+      types_reach (drop (pred (length hs)) hs) results r.0 (below_of_fit cx results _ r.1))

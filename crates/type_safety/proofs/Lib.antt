@@ -3,6 +3,7 @@ pub mod Operands
 pub mod Safety
 pub mod Plain
 pub mod Branches
+pub mod References
 pub mod Table
 pub mod Bodies
 pub mod Blocks
@@ -11,3 +12,4 @@ mod Examples
 mod ExamplesBranches
 mod ExamplesCalls
 mod ExamplesMemory
+mod ExamplesReferences

@@ -1,10 +1,11 @@
 -- Plain rows keep what the law asks of operators, all at once.
-use Rattle.std.proofs.Common.{◌≡◌, ℕ, Bool, true, false, List, [], ◌∷◌, ◌++◌, length, map, take, Option, Some, refl, sym, ap, ◌∙◌, slice_get}
+use Rattle.std.proofs.Common.{◌≡◌, ℕ, Bool, true, false, List, [], ◌∷◌, ◌++◌, length, map, take, Option, Some, None, refl, sym, ap, ◌∙◌, slice_get}
 use Rattle.validate_resources.specs.Context.{IsLawful}
+use Rattle.validate_types.specs.declared.gate.Gate.{Gate}
 use Rattle.validation_rules.specs.Context.{ValType, Context, AllBelow}
 use Rattle.validation_rules.specs.Fits.{MaybeType, Known, all_fit}
 use Rattle.validation_rules.specs.Rows.{Head, Form, Plain, Looks, Target, Row, guard, all_fit_each, gives, is_row}
-use Rattle.validation_rules.specs.Table.{looking, flat, alike, closing}
+use Rattle.validation_rules.specs.Table.{by_lookup, looking, flat, alike, closing, gated}
 use Rattle.validation_rules.proofs.Below.{and_true, true_and, below-trans, below_of_fit, fit_of_below}
 use Rattle.validation_rules.proofs.Steps.{some_injective, guard_some}
 use Rattle.type_safety.specs.Theorem.{Falls, IsLawfulRow, IsLawfulOperator}
@@ -47,6 +48,11 @@ module _ (cx : Context) (laws : IsLawful cx.of_module) where
             let d : slice_get {X = Target} [] j ≡ Some t = ap (λ ts. slice_get ts j) (sym none) ∙ e in
             absurd cc;
       }
+
+  -- a row for what a look-up finds, where it finds something and where it doesn't
+  pub found_lawful : {A : Type 0} (hs : List Head) (gate : Gate) (o : Option A) (row : A → Row) → ((x : A) → IsLawfulRow cx hs (gated cx gate (row x))) → IsLawfulRow cx hs (gated cx gate (by_lookup o row))
+  found_lawful hs gate None row h = no_target hs _ refl (plain_falls [] [] [])
+  found_lawful hs gate (Some x) row h = h x
 
   -- an operator that neither opens nor closes a frame
   pub flat_lawful : (row : List Head → Row) → ((hs : List Head) → IsLawfulRow cx hs (row hs)) → IsLawfulOperator cx (flat row)

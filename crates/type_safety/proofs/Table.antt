@@ -3,13 +3,13 @@ use Rattle.std.proofs.Common.{◌≡◌, ℕ, zero, suc, pred, Bool, true, false
 use Rattle.std.specs.Option.{option_map}
 use Rattle.validate_types.specs.Gates.{is_open}
 use Rattle.validate_types.specs.declared.gate.Gate.{Gate}
-use Rattle.validate_types.specs.declared.gate.Gate.TheVariants.{Mvp, Floats, ReferenceTypes, BulkMemory, BulkMemoryOpt, Threads, MemoryControl}
+use Rattle.validate_types.specs.declared.gate.Gate.TheVariants.{Mvp, Floats, ReferenceTypes, BulkMemory, BulkMemoryOpt, Threads, TailCall, FunctionReferences, MemoryControl}
 use Rattle.validate_resources.specs.Context.{IsLawful, is_number, same_number}
 use Rattle.validate_types.specs.declared.types.GlobalType.{GlobalType}
 use Rattle.validate_visit.specs.declared.op.Op.{Op}
-use Rattle.validate_visit.specs.declared.op.Op.TheVariants.{Control, Numeric, Convert, Memory, Atomic}
+use Rattle.validate_visit.specs.declared.op.Op.TheVariants.{Control, Numeric, Convert, Memory, Atomic, Reference, Table}
 use Rattle.validate_visit.specs.declared.op.ControlOp.{ControlOp}
-use Rattle.validate_visit.specs.declared.op.ControlOp.TheVariants.{Unreachable, Nop, Block as BlockOp, Loop as LoopOp, If as IfOp, Else as ElseOp, End, Br, BrIf, BrTable, Return, Call, ReturnCall, Drop, Select, TypedSelect, TypedSelectMulti, LocalGet, LocalSet, LocalTee, GlobalGet, GlobalSet}
+use Rattle.validate_visit.specs.declared.op.ControlOp.TheVariants.{Unreachable, Nop, Block as BlockOp, Loop as LoopOp, If as IfOp, Else as ElseOp, End, Br, BrIf, BrTable, Return, Call, ReturnCall, CallIndirect, ReturnCallIndirect, CallRef, ReturnCallRef, Drop, Select, TypedSelect, TypedSelectMulti, LocalGet, LocalSet, LocalTee, GlobalGet, GlobalSet}
 use Rattle.validate_visit.specs.declared.op.NumericOp.{NumericOp}
 use Rattle.validate_visit.specs.declared.op.NumericOp.TheVariants.{I32Const, I64Const, F32Const, F64Const}
 use Rattle.validate_visit.specs.declared.op.ConvertOp.{ConvertOp}
@@ -18,16 +18,24 @@ use Rattle.validate_visit.specs.declared.op.MemoryOp.{MemoryOp}
 use Rattle.validate_visit.specs.declared.op.MemoryOp.TheVariants.{F32Load, F64Load, F32Store, F64Store, MemoryInit, DataDrop, MemoryCopy, MemoryFill, MemoryDiscard}
 use Rattle.validate_visit.specs.declared.op.AtomicOp.{AtomicOp}
 use Rattle.validate_visit.specs.declared.op.AtomicOp.TheVariants.{AtomicFence, Pause}
-use Rattle.validation_rules.specs.Calls.{global_type, callee}
+use Rattle.validate_visit.specs.declared.op.ReferenceOp.{ReferenceOp}
+use Rattle.validate_visit.specs.declared.op.ReferenceOp.TheVariants.{RefNull, RefIsNull, RefFunc, RefAsNonNull, BrOnNull, BrOnNonNull}
+use Rattle.validate_visit.specs.declared.op.TableOp.{TableOp}
+use Rattle.validate_visit.specs.declared.op.TableOp.TheVariants.{TableInit, ElemDrop, TableCopy}
+use Rattle.validation_rules.specs.Calls.{global_type, callee, tail_call}
 use Rattle.validation_rules.specs.Context.{Signature, ValType, I32, I64, F32, F64, V128, BlockType, Context, AllBelow, block_signature}
 use Rattle.validation_rules.specs.Access.{memory_index, copies}
 use Rattle.validation_rules.specs.Fits.{MaybeType, Known}
+use Rattle.validation_rules.specs.Indirect.{function_place, function_reference, typed_callee, call_by, return_call_by}
+use Rattle.validation_rules.specs.References.{null_heap, is_null, non_null_above}
+use Rattle.validation_rules.specs.Tables.{table_type, inits, table_copies}
 use Rattle.validation_rules.specs.Rows.{FrameKind, Block, If, Loop, Head, params, BeginsElse, Ends, Plain, Looks, Row, Operator, guard}
-use Rattle.validation_rules.specs.Table.{plain, checked_block, opens, opener, alike, by_lookup, gated, drops, selects, control_operator, numeric_row, convert_row, memory_row, atomic_row, operator, body}
+use Rattle.validation_rules.specs.Table.{plain, checked_block, opens, opener, flat, alike, by_lookup, gated, drops, selects, control_operator, numeric_row, convert_row, memory_row, atomic_row, reference_row, table_row, operator, body}
 use Rattle.validation_rules.proofs.Steps.{some_injective, guard_some}
 use Rattle.type_safety.specs.Theorem.{Falls, IsLawfulOperator}
-use Rattle.type_safety.proofs.Branches.{br_lawful, br_if_lawful, br_table_lawful, return_call_lawful}
-use Rattle.type_safety.proofs.Plain.{plain_falls, plain_below, below_front, no_target, flat_lawful, plain_lawful, looking_lawful, closing_lawful}
+use Rattle.type_safety.proofs.Branches.{br_lawful, br_if_lawful, br_table_lawful, tail_call_lawful}
+use Rattle.type_safety.proofs.References.{is_null_falls, non_null_falls, br_on_null_lawful, br_on_non_null_lawful}
+use Rattle.type_safety.proofs.Plain.{plain_falls, plain_below, below_front, no_target, found_lawful, flat_lawful, plain_lawful, looking_lawful, closing_lawful}
 
 module _ (cx : Context) (laws : IsLawful cx.of_module) where
   -- ---- the operators of the table
@@ -109,6 +117,28 @@ module _ (cx : Context) (laws : IsLawful cx.of_module) where
   global_set_lawful None = plain_lawful cx laws _ _ _ _ _ _
   global_set_lawful (Some g) = plain_lawful cx laws _ _ _ _ _ _
 
+  -- a row for an address, or for what else a look-up finds, and the one where it finds nothing
+  by_lookup_lawful : {A : Type 0} (gate : Gate) (o : Option A) (row : A → Row) → ((t : A) → IsLawfulOperator cx (alike (gated cx gate (row t)))) → IsLawfulOperator cx (alike (gated cx gate (by_lookup o row)))
+  by_lookup_lawful gate None row h = plain_lawful cx laws _ _ _ _ _ _
+  by_lookup_lawful gate (Some t) row h = h t
+
+  -- ---- calls of a function that an operand names
+
+  call_by_lawful : (gate : Gate) (names : Option ValType) (i : ℕ) → IsLawfulOperator cx (alike (gated cx gate (call_by cx names i)))
+  call_by_lawful gate names i =
+      by_lookup_lawful gate names (λ t. by_lookup (typed_callee cx i) (λ s. plain true (s.params ++ t ∷ []) s.results))
+      (λ t. by_lookup_lawful gate (typed_callee cx i) (λ s. plain true (s.params ++ t ∷ []) s.results) (λ s. plain_lawful cx laws _ _ _ _ _ _))
+
+  return_call_lawful : (o : Option Signature) → IsLawfulOperator cx (flat (λ hs. gated cx TailCall (by_lookup o (λ s. tail_call cx hs s.params s.results))))
+  return_call_lawful o =
+      flat_lawful cx laws _ (λ hs. found_lawful cx laws hs TailCall o (λ s. tail_call cx hs s.params s.results) (λ s. tail_call_lawful cx laws hs TailCall s.params s.results))
+
+  return_call_by_lawful : (gate : Gate) (names : Option ValType) (i : ℕ) → IsLawfulOperator cx (flat (λ hs. gated cx gate (return_call_by cx hs names i)))
+  return_call_by_lawful gate names i =
+      flat_lawful cx laws _
+      (λ hs. found_lawful cx laws hs gate names (λ t. by_lookup (typed_callee cx i) (λ s. tail_call cx hs (s.params ++ t ∷ []) s.results))
+      (λ t. found_lawful cx laws hs gate (typed_callee cx i) (λ s. tail_call cx hs (s.params ++ t ∷ []) s.results) (λ s. tail_call_lawful cx laws hs gate (s.params ++ t ∷ []) s.results)))
+
   control_lawful : (op : ControlOp) → IsLawfulOperator cx (control_operator cx op)
   control_lawful Unreachable = plain_lawful cx laws _ _ _ _ _ _
   control_lawful Nop = plain_lawful cx laws _ _ _ _ _ _
@@ -122,7 +152,11 @@ module _ (cx : Context) (laws : IsLawful cx.of_module) where
   control_lawful (BrTable table) = flat_lawful cx laws _ (λ hs. br_table_lawful cx laws hs table.complete table.targets.now table.default)
   control_lawful Return = flat_lawful cx laws _ (λ hs. br_lawful cx laws hs (pred (length hs)))
   control_lawful (Call f) = call_lawful (callee cx f)
-  control_lawful (ReturnCall f) = flat_lawful cx laws _ (λ hs. return_call_lawful cx laws hs (callee cx f))
+  control_lawful (ReturnCall f) = return_call_lawful (callee cx f)
+  control_lawful (CallIndirect type table) = call_by_lawful Mvp (function_place cx table) type
+  control_lawful (ReturnCallIndirect type table) = return_call_by_lawful TailCall (function_place cx table) type
+  control_lawful (CallRef type) = call_by_lawful FunctionReferences (function_reference cx type) type
+  control_lawful (ReturnCallRef type) = return_call_by_lawful FunctionReferences (function_reference cx type) type
   control_lawful Drop = looking_lawful cx laws true 1 drops drop_falls
   control_lawful Select = looking_lawful cx laws true 3 (selects cx) select_falls
   control_lawful (TypedSelect t) = typed_lawful (is_open cx.features ReferenceTypes) (cx.of_module.canonical cx.features t) None None (λ u. u ∷ u ∷ I32 ∷ []) (λ u. u ∷ [])
@@ -145,11 +179,6 @@ module _ (cx : Context) (laws : IsLawful cx.of_module) where
   convert_lawful I32WrapI64 = plain_lawful cx laws _ _ _ _ _ _
   convert_lawful _ = plain_lawful cx laws _ _ _ _ _ _
 
-  -- a row for an address is plain, and so is the one where there is no address
-  by_lookup_lawful : (gate : Gate) (o : Option ValType) (row : ValType → Row) → ((t : ValType) → IsLawfulOperator cx (alike (gated cx gate (row t)))) → IsLawfulOperator cx (alike (gated cx gate (by_lookup o row)))
-  by_lookup_lawful gate None row h = plain_lawful cx laws _ _ _ _ _ _
-  by_lookup_lawful gate (Some t) row h = h t
-
   memory_lawful : (op : MemoryOp) → IsLawfulOperator cx (alike (memory_row cx op))
   memory_lawful (F32Load arg) = by_lookup_lawful Floats _ _ (λ t. plain_lawful cx laws _ _ _ _ _ _)
   memory_lawful (F64Load arg) = by_lookup_lawful Floats _ _ (λ t. plain_lawful cx laws _ _ _ _ _ _)
@@ -167,12 +196,28 @@ module _ (cx : Context) (laws : IsLawful cx.of_module) where
   atomic_lawful Pause = plain_lawful cx laws _ _ _ _ _ _
   atomic_lawful _ = by_lookup_lawful Threads _ _ (λ t. plain_lawful cx laws _ _ _ _ _ _)
 
+  reference_lawful : (op : ReferenceOp) → IsLawfulOperator cx (flat (λ hs. reference_row cx hs op))
+  reference_lawful (RefNull h) = by_lookup_lawful ReferenceTypes (null_heap cx h) _ (λ k. plain_lawful cx laws _ _ _ _ _ _)
+  reference_lawful RefIsNull = looking_lawful cx laws _ 1 is_null (is_null_falls cx laws)
+  reference_lawful (RefFunc f) = by_lookup_lawful ReferenceTypes (cx.of_module.type_id_of f) _ (λ id. plain_lawful cx laws _ _ _ _ _ _)
+  reference_lawful RefAsNonNull = looking_lawful cx laws _ 1 (non_null_above cx []) (non_null_falls cx laws 1 [])
+  reference_lawful (BrOnNull d) = flat_lawful cx laws _ (λ hs. br_on_null_lawful cx laws hs FunctionReferences d)
+  reference_lawful (BrOnNonNull d) = flat_lawful cx laws _ (λ hs. br_on_non_null_lawful cx laws hs FunctionReferences d)
+
+  table_lawful : (op : TableOp) → IsLawfulOperator cx (alike (table_row cx op))
+  table_lawful (TableInit segment i) = by_lookup_lawful BulkMemory (table_type cx i) (λ t. by_lookup (cx.of_module.element_at segment) (inits cx t)) (λ t. by_lookup_lawful BulkMemory _ (inits cx t) (λ r. plain_lawful cx laws _ _ _ _ _ _))
+  table_lawful (ElemDrop segment) = by_lookup_lawful BulkMemory (cx.of_module.element_at segment) _ (λ r. plain_lawful cx laws _ _ _ _ _ _)
+  table_lawful (TableCopy dst src) = by_lookup_lawful BulkMemory (table_type cx src) (λ from. by_lookup (table_type cx dst) (table_copies cx from)) (λ from. by_lookup_lawful BulkMemory _ (table_copies cx from) (λ to. plain_lawful cx laws _ _ _ _ _ _))
+  table_lawful _ = by_lookup_lawful ReferenceTypes _ _ (λ t. plain_lawful cx laws _ _ _ _ _ _)
+
   pub operator_lawful : (op : Op) → IsLawfulOperator cx (operator cx op)
   operator_lawful (Control op) = control_lawful op
   operator_lawful (Numeric op) = numeric_lawful op
   operator_lawful (Convert op) = convert_lawful op
   operator_lawful (Memory op) = memory_lawful op
   operator_lawful (Atomic op) = atomic_lawful op
+  operator_lawful (Reference op) = reference_lawful op
+  operator_lawful (Table op) = table_lawful op
 
   pub body_lawful : (ops : List Op) (j : ℕ) (op : Operator) → slice_get (body cx ops) j ≡ Some op → IsLawfulOperator cx op
   body_lawful [] j op e = absurd cc

@@ -15,7 +15,11 @@ use validate_types::{Error, ValType};
 use validate_visit::{BlockType, BrTable, FrameKind};
 
 /// The block type and the kind of the frame that a label names, counted from the innermost.
-fn label(stacks: &Stacks, offset: u64, relative_depth: u32) -> Result<(BlockType, FrameKind), Error>
+pub(crate) fn label(
+    stacks: &Stacks,
+    offset: u64,
+    relative_depth: u32,
+) -> Result<(BlockType, FrameKind), Error>
     ensures found { IfOk result (λ found. label_of stacks.now relative_depth ≡ Some found) }
     ensures missing { OnErr result (label_of stacks.now relative_depth ≡ None) }
     ensures offset { IfErr result (λ e. e.offset ≡ offset) }

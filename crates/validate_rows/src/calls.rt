@@ -4,7 +4,8 @@ ghost use Rattle.std.specs.Prelude.{◌≡◌, true, false, None, Some, ◌&&◌
 ghost use Rattle.std.specs.List.{AllByRecursion};
 ghost use Rattle.validate_types.specs.declared.gate.Gate.TheVariants.{TailCall};
 ghost use Rattle.validate_resources.specs.Context.{Valid, signature_of};
-ghost use Rattle.validation_rules.specs.Calls.{callee as called, call_row, returns, return_call_row};
+ghost use Rattle.validation_rules.specs.Calls.{callee as called, call_row, returns, tail_call, return_call_row};
+ghost use Rattle.validation_rules.specs.Indirect.{typed_callee};
 ghost use Rattle.validation_rules.specs.Context.{Context};
 ghost use Rattle.validation_rules.specs.Fits.{Known, all_fit};
 ghost use Rattle.validation_rules.specs.Static.{heads};
@@ -36,6 +37,23 @@ fn type_of_function<'a, R: WasmModuleResources>(
     let Some(type_index) = resources.type_index_of_function(function_index) else {
         return Err(unknown_function(stacks.allocator(), offset, function_index));
     };
+    func_type_at(stacks, resources, offset, type_index)
+}
+
+/// The function type at an index, which has to be declared, and in a shared function has to be shared
+/// (wasmparser's `func_type_at`).
+pub(crate) fn func_type_at<'a, R: WasmModuleResources>(
+    stacks: &Stacks,
+    resources: &'a R,
+    offset: u64,
+    type_index: u32,
+) -> Result<&'a FuncType, Error>
+    ensures found { IfOk result (λ f. typed_callee (context (R.context resources.now) stacks.now) type_index ≡ Some f.now) }
+    ensures params { IfOk result (λ f. AllByRecursion (Valid (R.context resources.now)) f.now.params) }
+    ensures results { IfOk result (λ f. AllByRecursion (Valid (R.context resources.now)) f.now.results) }
+    ensures refused { OnErr result (typed_callee (context (R.context resources.now) stacks.now) type_index ≡ None) }
+    ensures offset { IfErr result (λ e. e.offset ≡ offset) }
+{
     let Some(sub_type) = resources.sub_type_at(type_index) else {
         return Err(Error::new("unknown type: type index out of bounds", offset));
     };
@@ -54,7 +72,7 @@ fn func_type_of(sub_type: &SubType) -> &FuncType
     }
 }
 
-fn unknown_function(alloc: Global, offset: u64, function_index: u32) -> Error
+pub(crate) fn unknown_function(alloc: Global, offset: u64, function_index: u32) -> Error
     ensures { result.offset ≡ offset }
 {
     match format!(in alloc; "unknown function {function_index}: function index out of bounds") {
@@ -145,8 +163,31 @@ fn other_results_text(
 
 /// The names of types, parted by spaces.
 fn names_of(alloc: Global, types: &[ValType]) -> Result<String, AllocError> {
-    let names: Vec<&str> = types.iter().map(|ty| ty_to_str(*ty)).collect(alloc)?;
-    names.join(alloc, " ")
+    let mut names = String::new(alloc);
+    for (index, ty) in types.iter().enumerate() {
+        let parted = if index == 0 { "" } else { " " };
+        write!(names, "{parted}{ty}")?;
+    }
+    Ok(names)
+}
+
+/// The rest of a call in the place of the rest of the body: what a function of this type takes. Its
+/// results are the body's, and the live part of the frame ends (wasmparser's `check_return_call_ty`).
+pub(crate) fn check_return_call_ty<R: WasmModuleResources>(
+    stacks: &mut Stacks,
+    resources: &R,
+    offset: u64,
+    func_type: &FuncType,
+) -> Result<(), Error>
+    requires visit { MayVisit (R.context resources.now) stacks.old }
+    requires params { AllByRecursion (Valid (R.context resources.now)) func_type.now.params }
+    requires results { AllByRecursion (Valid (R.context resources.now)) func_type.now.results }
+    ensures { Meets (R.context resources.now) (λ cx. flat (λ hs. tail_call cx hs func_type.now.params func_type.now.results)) offset stacks.old result stacks.new }
+{
+    check_func_type_same_results(stacks, resources, offset, func_type.results())?;
+    stacks.pop_types(resources, offset, func_type.params())?;
+    stacks.unreachable();
+    Ok(())
 }
 
 /// `return_call`: what the function takes. The body returns its results, and the live part of the frame
@@ -162,8 +203,5 @@ pub fn check_return_call<R: WasmModuleResources>(
 {
     check_enabled(stacks, offset, Gate::TailCall)?;
     let func_type = type_of_function(stacks, resources, offset, function_index)?;
-    check_func_type_same_results(stacks, resources, offset, func_type.results())?;
-    stacks.pop_types(resources, offset, func_type.params())?;
-    stacks.unreachable();
-    Ok(())
+    check_return_call_ty(stacks, resources, offset, func_type)
 }

@@ -228,8 +228,8 @@ pub fn check_memory_copy<R: WasmModuleResources>(
     )
 }
 
-/// The type of a length that fits both memories.
-fn narrower_of(dst: ValType, src: ValType) -> ValType
+/// The type of a length that fits both memories, or both tables.
+pub(crate) fn narrower_of(dst: ValType, src: ValType) -> ValType
     requires dst { is_index_type dst ≡ true }
     requires src { is_index_type src ≡ true }
     ensures narrower { result ≡ narrower dst src }

@@ -4,5 +4,6 @@ pub mod Flat
 pub mod Steps
 pub mod Pops
 pub mod Names
+pub mod Either
 pub mod Blocks
 pub mod Visits

@@ -6,7 +6,7 @@ use Rattle.std.proofs.Math.Seq.{split_at}
 use Rattle.validate_visit.specs.declared.frame.FrameKind.{FrameKind}
 use Rattle.validate_visit.specs.declared.frame.FrameKind.TheVariants.{Block, Else}
 use Rattle.validate_visit.specs.declared.op.Op.{Op}
-use Rattle.validate_visit.specs.declared.op.Op.TheVariants.{Control, Numeric, Convert, Memory, Atomic}
+use Rattle.validate_visit.specs.declared.op.Op.TheVariants.{Control, Numeric, Convert, Memory, Atomic, Reference, Table}
 use Rattle.validate_visit.specs.declared.op.ControlOp.TheVariants.{Nop, Block as BlockOp, Loop as LoopOp, If as IfOp, Else as ElseOp}
 use Rattle.validate_visit.specs.Order.{Nesting, Flat, Opens, BeginsElse, BeginsCatch, Ends, Delegates, nesting, is_opening, is_closing, begins_else, is_if, is_try, may_catch, catch_kind, is_ordered_from, is_well_ordered_list}
 
@@ -68,6 +68,8 @@ as_nop (k ∷ ks) (Numeric op) h = refl
 as_nop (k ∷ ks) (Convert op) h = refl
 as_nop (k ∷ ks) (Memory op) h = refl
 as_nop (k ∷ ks) (Atomic op) h = refl
+as_nop (k ∷ ks) (Reference op) h = refl
+as_nop (k ∷ ks) (Table op) h = refl
 
 nop_stands : (ks : List FrameKind) (n : ℕ) → n ≡ length ks → n ≢ 0 → stands ks Flat ≡ true
 nop_stands [] n e some = absurd (some e)

@@ -12,9 +12,9 @@ use Rattle.validate_visit.specs.declared.br_table.BrTable.{BrTable}
 use Rattle.validate_visit.specs.declared.frame.BlockType.{BlockType}
 use Rattle.validate_visit.specs.declared.frame.BlockType.TheVariants.{Empty, Val, FuncType}
 use Rattle.validate_visit.specs.declared.op.Op.{Op}
-use Rattle.validate_visit.specs.declared.op.Op.TheVariants.{Control, Numeric, Convert, Memory, Atomic}
+use Rattle.validate_visit.specs.declared.op.Op.TheVariants.{Control, Numeric, Convert, Memory, Atomic, Reference, Table}
 use Rattle.validate_visit.specs.declared.op.ControlOp.{ControlOp}
-use Rattle.validate_visit.specs.declared.op.ControlOp.TheVariants.{Unreachable, Nop, Block, Loop, If, Else, End, Br, BrIf, BrTable as BrTableOp, Return, Call, ReturnCall, Drop, Select, TypedSelect, TypedSelectMulti, LocalGet, LocalSet, LocalTee, GlobalGet, GlobalSet}
+use Rattle.validate_visit.specs.declared.op.ControlOp.TheVariants.{Unreachable, Nop, Block, Loop, If, Else, End, Br, BrIf, BrTable as BrTableOp, Return, Call, ReturnCall, CallIndirect, ReturnCallIndirect, CallRef, ReturnCallRef, Drop, Select, TypedSelect, TypedSelectMulti, LocalGet, LocalSet, LocalTee, GlobalGet, GlobalSet}
 use Rattle.validate_visit.specs.declared.memory.MemArg.{MemArg}
 use Rattle.validate_visit.specs.declared.memory.MemArgTarget.{MemArgTarget}
 use Rattle.validate_visit.specs.declared.memory.MemArgTarget.TheVariants.{Memory as InMemory}
@@ -23,6 +23,10 @@ use Rattle.validate_visit.specs.declared.op.AtomicOp.TheVariants.{AtomicFence, P
 use Rattle.validate_visit.specs.declared.op.MemoryOp.{MemoryOp}
 use Rattle.validate_visit.specs.declared.op.MemoryOp.TheVariants.{I32Load, I64Load, F32Load, F64Load, I32Load8S, I32Load8U, I32Load16S, I32Load16U, I64Load8S, I64Load8U, I64Load16S, I64Load16U, I64Load32S, I64Load32U, I32Store, I64Store, F32Store, F64Store, I32Store8, I32Store16, I64Store8, I64Store16, I64Store32, MemorySize, MemoryGrow, MemoryInit, DataDrop, MemoryCopy, MemoryFill, MemoryDiscard}
 use Rattle.validate_visit.specs.declared.op.NumericOp.{NumericOp}
+use Rattle.validate_visit.specs.declared.op.ReferenceOp.{ReferenceOp}
+use Rattle.validate_visit.specs.declared.op.ReferenceOp.TheVariants.{RefNull, RefIsNull, RefFunc, RefAsNonNull, BrOnNull, BrOnNonNull}
+use Rattle.validate_visit.specs.declared.op.TableOp.{TableOp}
+use Rattle.validate_visit.specs.declared.op.TableOp.TheVariants.{TableGet, TableSet, TableGrow, TableSize, TableFill, TableInit, ElemDrop, TableCopy}
 use Rattle.validate_visit.specs.declared.op.NumericOp.TheVariants.{I32Const, I64Const, F32Const, F64Const}
 
 -- an index
@@ -68,6 +72,10 @@ control_immediates (BrTableOp t) = table_immediates t
 control_immediates Return = true
 control_immediates (Call i) = is_index i
 control_immediates (ReturnCall i) = is_index i
+control_immediates (CallIndirect i j) = is_index i && is_index j
+control_immediates (ReturnCallIndirect i j) = is_index i && is_index j
+control_immediates (CallRef i) = is_index i
+control_immediates (ReturnCallRef i) = is_index i
 control_immediates Drop = true
 control_immediates Select = true
 control_immediates (TypedSelect t) = type_immediates t
@@ -195,9 +203,29 @@ atomic_immediates (I64AtomicRmw8CmpxchgU arg) = access_immediates arg
 atomic_immediates (I64AtomicRmw16CmpxchgU arg) = access_immediates arg
 atomic_immediates (I64AtomicRmw32CmpxchgU arg) = access_immediates arg
 
+abbrev pub reference_immediates : ReferenceOp → Bool
+reference_immediates (RefNull h) = heap_immediates h
+reference_immediates RefIsNull = true
+reference_immediates (RefFunc i) = is_index i
+reference_immediates RefAsNonNull = true
+reference_immediates (BrOnNull i) = is_index i
+reference_immediates (BrOnNonNull i) = is_index i
+
+abbrev pub table_operator_immediates : TableOp → Bool
+table_operator_immediates (TableGet i) = is_index i
+table_operator_immediates (TableSet i) = is_index i
+table_operator_immediates (TableGrow i) = is_index i
+table_operator_immediates (TableSize i) = is_index i
+table_operator_immediates (TableFill i) = is_index i
+table_operator_immediates (TableInit i j) = is_index i && is_index j
+table_operator_immediates (ElemDrop i) = is_index i
+table_operator_immediates (TableCopy i j) = is_index i && is_index j
+
 abbrev pub module_immediates : Op → Bool
 module_immediates (Control op) = control_immediates op
 module_immediates (Numeric op) = numeric_immediates op
 module_immediates (Convert op) = true
 module_immediates (Memory op) = memory_immediates op
 module_immediates (Atomic op) = atomic_immediates op
+module_immediates (Reference op) = reference_immediates op
+module_immediates (Table op) = table_operator_immediates op

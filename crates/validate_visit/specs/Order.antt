@@ -5,7 +5,7 @@ use Rattle.std.specs.Prelude.{Bool, true, false, ◌&&◌, Option, Some, None, L
 use Rattle.validate_visit.specs.declared.frame.FrameKind.{FrameKind}
 use Rattle.validate_visit.specs.declared.frame.FrameKind.TheVariants.{Block, Loop, If, Else, LegacyTry, LegacyCatch, LegacyCatchAll}
 use Rattle.validate_visit.specs.declared.op.Op.{Op}
-use Rattle.validate_visit.specs.declared.op.Op.TheVariants.{Control, Numeric, Convert, Memory, Atomic}
+use Rattle.validate_visit.specs.declared.op.Op.TheVariants.{Control, Numeric, Convert, Memory, Atomic, Reference, Table}
 use Rattle.validate_visit.specs.declared.op.ControlOp.{ControlOp}
 use Rattle.validate_visit.specs.declared.op.ControlOp.TheVariants.{Block as BlockOp, Loop as LoopOp, If as IfOp, Else as ElseOp, End}
 
@@ -93,6 +93,8 @@ nesting (Numeric op) = Flat
 nesting (Convert op) = Flat
 nesting (Memory op) = Flat
 nesting (Atomic op) = Flat
+nesting (Reference op) = Flat
+nesting (Table op) = Flat
 
 -- Reading from an open outermost frame: openers nest, `else` stands in an `if` part, `catch` and
 -- `catch_all` in a `try` or `catch` part, `delegate` closes a `try` part, `end` closes any, and nothing

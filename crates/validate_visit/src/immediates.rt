@@ -2,12 +2,12 @@
 
 ghost use Rattle.std.specs.Prelude.{◌≡◌};
 ghost use Rattle.std.specs.List.{list_all};
-ghost use Rattle.validate_visit.specs.Immediates.{module_immediates, control_immediates, block_immediates, table_immediates, type_immediates, heap_immediates, numeric_immediates, memory_immediates, atomic_immediates, access_immediates, is_index};
+ghost use Rattle.validate_visit.specs.Immediates.{module_immediates, control_immediates, block_immediates, table_immediates, type_immediates, heap_immediates, numeric_immediates, memory_immediates, atomic_immediates, access_immediates, reference_immediates, table_operator_immediates, is_index};
 
 use crate::br_table::BrTable;
 use crate::frame::BlockType;
 use crate::memory::{MemArg, MemArgTarget};
-use crate::op::{AtomicOp, ControlOp, MemoryOp, NumericOp, Op};
+use crate::op::{AtomicOp, ControlOp, MemoryOp, NumericOp, Op, ReferenceOp, TableOp};
 use validate_types::{HeapType, UnpackedIndex, ValType};
 
 /// Whether the immediates are those of a module: no type among them holds an id, and each number lies
@@ -22,6 +22,8 @@ pub fn has_module_immediates(op: &Op<'_>) -> bool
         Op::Convert(_) => true,
         Op::Memory(op) => has_memory_immediates(*op),
         Op::Atomic(op) => has_atomic_immediates(*op),
+        Op::Reference(op) => has_reference_immediates(*op),
+        Op::Table(op) => has_table_operator_immediates(*op),
     }
 }
 
@@ -34,11 +36,21 @@ fn has_control_immediates(op: ControlOp<'_>) -> bool
         | ControlOp::BrIf(index)
         | ControlOp::Call(index)
         | ControlOp::ReturnCall(index)
+        | ControlOp::CallRef(index)
+        | ControlOp::ReturnCallRef(index)
         | ControlOp::LocalGet(index)
         | ControlOp::LocalSet(index)
         | ControlOp::LocalTee(index)
         | ControlOp::GlobalGet(index)
         | ControlOp::GlobalSet(index) => is_in_range(index),
+        ControlOp::CallIndirect {
+            type_index,
+            table_index,
+        }
+        | ControlOp::ReturnCallIndirect {
+            type_index,
+            table_index,
+        } => is_in_range(type_index) && is_in_range(table_index),
         ControlOp::BrTable(table) => has_table_immediates(table),
         ControlOp::TypedSelect(ty) => has_type_immediates(ty),
         ControlOp::TypedSelectMulti(types) => have_type_immediates(types),
@@ -232,4 +244,34 @@ fn has_access_immediates(memarg: MemArg) -> bool
         && memarg.max_align <= u8::MAX
         && memarg.offset <= u64::MAX
         && is_in_range(index)
+}
+
+fn has_reference_immediates(op: ReferenceOp) -> bool
+    ensures { result ≡ reference_immediates op }
+{
+    match op {
+        ReferenceOp::RefIsNull | ReferenceOp::RefAsNonNull => true,
+        ReferenceOp::RefNull(heap_type) => has_heap_immediates(heap_type),
+        ReferenceOp::RefFunc(index)
+        | ReferenceOp::BrOnNull(index)
+        | ReferenceOp::BrOnNonNull(index) => is_in_range(index),
+    }
+}
+
+fn has_table_operator_immediates(op: TableOp) -> bool
+    ensures { result ≡ table_operator_immediates op }
+{
+    match op {
+        TableOp::TableGet(index)
+        | TableOp::TableSet(index)
+        | TableOp::TableGrow(index)
+        | TableOp::TableSize(index)
+        | TableOp::TableFill(index)
+        | TableOp::ElemDrop(index) => is_in_range(index),
+        TableOp::TableInit { elem_index, table } => is_in_range(elem_index) && is_in_range(table),
+        TableOp::TableCopy {
+            dst_table,
+            src_table,
+        } => is_in_range(dst_table) && is_in_range(src_table),
+    }
 }

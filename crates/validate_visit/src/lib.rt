@@ -18,6 +18,8 @@ pub use crate::frame_stack::FrameStack;
 pub use crate::ieee::{Ieee32, Ieee64};
 pub use crate::immediates::has_module_immediates;
 pub use crate::memory::{MemArg, MemArgTarget, Ordering};
-pub use crate::op::{AtomicOp, ControlOp, ConvertOp, MemoryOp, NumericOp, Op};
+pub use crate::op::{
+    AtomicOp, ControlOp, ConvertOp, MemoryOp, NumericOp, Op, ReferenceOp, TableOp,
+};
 pub use crate::order::is_well_ordered;
 pub use crate::visitor::VisitOperator;

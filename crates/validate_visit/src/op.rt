@@ -4,7 +4,7 @@ use crate::br_table::BrTable;
 use crate::frame::BlockType;
 use crate::ieee::{Ieee32, Ieee64};
 use crate::memory::{MemArg, Ordering};
-use validate_types::ValType;
+use validate_types::{HeapType, ValType};
 
 /// Operators on control and variables, and on operands of any type.
 #[derive(Clone, Copy, Debug, PartialEq, Eq)]
@@ -35,6 +35,24 @@ pub enum ControlOp<'a> {
     Call(u32),
     /// `return_call` of the function at this index.
     ReturnCall(u32),
+    /// `call_indirect`
+    CallIndirect {
+        /// The function type at this index.
+        type_index: u32,
+        /// The table at this index holds the functions.
+        table_index: u32,
+    },
+    /// `return_call_indirect`
+    ReturnCallIndirect {
+        /// The function type at this index.
+        type_index: u32,
+        /// The table at this index holds the functions.
+        table_index: u32,
+    },
+    /// `call_ref` of a function of the type at this index.
+    CallRef(u32),
+    /// `return_call_ref` of a function of the type at this index.
+    ReturnCallRef(u32),
     /// `drop`
     Drop,
     /// `select` without a type.
@@ -569,6 +587,54 @@ pub enum AtomicOp {
     Pause,
 }
 
+/// Operators on references.
+#[derive(Clone, Copy, Debug, PartialEq, Eq)]
+pub enum ReferenceOp {
+    /// `ref.null` of this heap type.
+    RefNull(HeapType),
+    /// `ref.is_null`
+    RefIsNull,
+    /// `ref.func` of the function at this index.
+    RefFunc(u32),
+    /// `ref.as_non_null`
+    RefAsNonNull,
+    /// `br_on_null` to the label at this index.
+    BrOnNull(u32),
+    /// `br_on_non_null` to the label at this index.
+    BrOnNonNull(u32),
+}
+
+/// Operators on tables.
+#[derive(Clone, Copy, Debug, PartialEq, Eq)]
+pub enum TableOp {
+    /// `table.get` of the table at this index.
+    TableGet(u32),
+    /// `table.set` of the table at this index.
+    TableSet(u32),
+    /// `table.grow` of the table at this index.
+    TableGrow(u32),
+    /// `table.size` of the table at this index.
+    TableSize(u32),
+    /// `table.fill` of the table at this index.
+    TableFill(u32),
+    /// `table.init`
+    TableInit {
+        /// The element segment at this index.
+        elem_index: u32,
+        /// The table at this index.
+        table: u32,
+    },
+    /// `elem.drop` of the element segment at this index.
+    ElemDrop(u32),
+    /// `table.copy`
+    TableCopy {
+        /// The table at this index is written.
+        dst_table: u32,
+        /// The table at this index is read.
+        src_table: u32,
+    },
+}
+
 /// An operator with its immediates (in place of wasmparser's `Operator`, which has no groups).
 #[derive(Clone, Copy, Debug, PartialEq, Eq)]
 pub enum Op<'a> {
@@ -582,4 +648,8 @@ pub enum Op<'a> {
     Memory(MemoryOp),
     /// An atomic operator on memories.
     Atomic(AtomicOp),
+    /// An operator on references.
+    Reference(ReferenceOp),
+    /// An operator on tables.
+    Table(TableOp),
 }

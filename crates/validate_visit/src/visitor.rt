@@ -6,8 +6,10 @@ use crate::br_table::BrTable;
 use crate::frame::BlockType;
 use crate::ieee::{Ieee32, Ieee64};
 use crate::memory::{MemArg, Ordering};
-use crate::op::{AtomicOp, ControlOp, ConvertOp, MemoryOp, NumericOp, Op};
-use validate_types::ValType;
+use crate::op::{
+    AtomicOp, ControlOp, ConvertOp, MemoryOp, NumericOp, Op, ReferenceOp, TableOp,
+};
+use validate_types::{HeapType, ValType};
 
 /// Visits operators (wasmparser's `VisitOperator`): one call for each operator, with its immediates.
 ///
@@ -87,6 +89,26 @@ pub trait VisitOperator<'a> {
     fn visit_return_call(&mut self, function_index: u32) -> Self::Output
         requires { can_visit self.old (Op.Control (ControlOp.ReturnCall function_index)) }
         ensures { visits self.old (Op.Control (ControlOp.ReturnCall function_index)) result self.new };
+
+    /// `call_indirect`
+    fn visit_call_indirect(&mut self, type_index: u32, table_index: u32) -> Self::Output
+        requires { can_visit self.old (Op.Control (ControlOp.CallIndirect type_index table_index)) }
+        ensures { visits self.old (Op.Control (ControlOp.CallIndirect type_index table_index)) result self.new };
+
+    /// `return_call_indirect`
+    fn visit_return_call_indirect(&mut self, type_index: u32, table_index: u32) -> Self::Output
+        requires { can_visit self.old (Op.Control (ControlOp.ReturnCallIndirect type_index table_index)) }
+        ensures { visits self.old (Op.Control (ControlOp.ReturnCallIndirect type_index table_index)) result self.new };
+
+    /// `call_ref`
+    fn visit_call_ref(&mut self, type_index: u32) -> Self::Output
+        requires { can_visit self.old (Op.Control (ControlOp.CallRef type_index)) }
+        ensures { visits self.old (Op.Control (ControlOp.CallRef type_index)) result self.new };
+
+    /// `return_call_ref`
+    fn visit_return_call_ref(&mut self, type_index: u32) -> Self::Output
+        requires { can_visit self.old (Op.Control (ControlOp.ReturnCallRef type_index)) }
+        ensures { visits self.old (Op.Control (ControlOp.ReturnCallRef type_index)) result self.new };
 
     /// `drop`
     fn visit_drop(&mut self) -> Self::Output
@@ -1342,6 +1364,76 @@ pub trait VisitOperator<'a> {
     fn visit_pause(&mut self) -> Self::Output
         requires { can_visit self.old (Op.Atomic AtomicOp.Pause) }
         ensures { visits self.old (Op.Atomic AtomicOp.Pause) result self.new };
+
+    /// `ref.null`
+    fn visit_ref_null(&mut self, heap_type: HeapType) -> Self::Output
+        requires { can_visit self.old (Op.Reference (ReferenceOp.RefNull heap_type)) }
+        ensures { visits self.old (Op.Reference (ReferenceOp.RefNull heap_type)) result self.new };
+
+    /// `ref.is_null`
+    fn visit_ref_is_null(&mut self) -> Self::Output
+        requires { can_visit self.old (Op.Reference ReferenceOp.RefIsNull) }
+        ensures { visits self.old (Op.Reference ReferenceOp.RefIsNull) result self.new };
+
+    /// `ref.func`
+    fn visit_ref_func(&mut self, function_index: u32) -> Self::Output
+        requires { can_visit self.old (Op.Reference (ReferenceOp.RefFunc function_index)) }
+        ensures { visits self.old (Op.Reference (ReferenceOp.RefFunc function_index)) result self.new };
+
+    /// `ref.as_non_null`
+    fn visit_ref_as_non_null(&mut self) -> Self::Output
+        requires { can_visit self.old (Op.Reference ReferenceOp.RefAsNonNull) }
+        ensures { visits self.old (Op.Reference ReferenceOp.RefAsNonNull) result self.new };
+
+    /// `br_on_null`
+    fn visit_br_on_null(&mut self, relative_depth: u32) -> Self::Output
+        requires { can_visit self.old (Op.Reference (ReferenceOp.BrOnNull relative_depth)) }
+        ensures { visits self.old (Op.Reference (ReferenceOp.BrOnNull relative_depth)) result self.new };
+
+    /// `br_on_non_null`
+    fn visit_br_on_non_null(&mut self, relative_depth: u32) -> Self::Output
+        requires { can_visit self.old (Op.Reference (ReferenceOp.BrOnNonNull relative_depth)) }
+        ensures { visits self.old (Op.Reference (ReferenceOp.BrOnNonNull relative_depth)) result self.new };
+
+    /// `table.get`
+    fn visit_table_get(&mut self, table: u32) -> Self::Output
+        requires { can_visit self.old (Op.Table (TableOp.TableGet table)) }
+        ensures { visits self.old (Op.Table (TableOp.TableGet table)) result self.new };
+
+    /// `table.set`
+    fn visit_table_set(&mut self, table: u32) -> Self::Output
+        requires { can_visit self.old (Op.Table (TableOp.TableSet table)) }
+        ensures { visits self.old (Op.Table (TableOp.TableSet table)) result self.new };
+
+    /// `table.grow`
+    fn visit_table_grow(&mut self, table: u32) -> Self::Output
+        requires { can_visit self.old (Op.Table (TableOp.TableGrow table)) }
+        ensures { visits self.old (Op.Table (TableOp.TableGrow table)) result self.new };
+
+    /// `table.size`
+    fn visit_table_size(&mut self, table: u32) -> Self::Output
+        requires { can_visit self.old (Op.Table (TableOp.TableSize table)) }
+        ensures { visits self.old (Op.Table (TableOp.TableSize table)) result self.new };
+
+    /// `table.fill`
+    fn visit_table_fill(&mut self, table: u32) -> Self::Output
+        requires { can_visit self.old (Op.Table (TableOp.TableFill table)) }
+        ensures { visits self.old (Op.Table (TableOp.TableFill table)) result self.new };
+
+    /// `table.init`
+    fn visit_table_init(&mut self, elem_index: u32, table: u32) -> Self::Output
+        requires { can_visit self.old (Op.Table (TableOp.TableInit elem_index table)) }
+        ensures { visits self.old (Op.Table (TableOp.TableInit elem_index table)) result self.new };
+
+    /// `elem.drop`
+    fn visit_elem_drop(&mut self, elem_index: u32) -> Self::Output
+        requires { can_visit self.old (Op.Table (TableOp.ElemDrop elem_index)) }
+        ensures { visits self.old (Op.Table (TableOp.ElemDrop elem_index)) result self.new };
+
+    /// `table.copy`
+    fn visit_table_copy(&mut self, dst_table: u32, src_table: u32) -> Self::Output
+        requires { can_visit self.old (Op.Table (TableOp.TableCopy dst_table src_table)) }
+        ensures { visits self.old (Op.Table (TableOp.TableCopy dst_table src_table)) result self.new };
 
     /// The visit that `op` names.
     fn visit_operator(&mut self, op: Op<'a>) -> Self::Output

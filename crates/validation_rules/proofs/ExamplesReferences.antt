@@ -1,6 +1,5 @@
 -- References: the order of types, what unknown references fit, and locals that begin unset, computed.
-use Rattle.std.specs.Prelude.{◌≡◌, ℕ, ℤ, pos, Bool, true, false, List, [], ◌∷◌, Option, Some, None, length, map, refl}
-use Rattle.validate_resources.specs.Context.{is_number}
+use Rattle.std.specs.Prelude.{◌≡◌, ℕ, pos, Bool, true, false, List, [], ◌∷◌, Option, Some, None, length, map, refl}
 use Rattle.validate_resources.specs.Lists.{Declared, context_of}
 use Rattle.validate_types.specs.Refs.{reference}
 use Rattle.validate_types.specs.Types.{is_defaultable}
@@ -12,13 +11,13 @@ use Rattle.validate_types.specs.declared.heap.UnpackedIndex.TheVariants.{Module,
 use Rattle.validate_types.specs.declared.heap.UnpackedIndex.{UnpackedIndex}
 use Rattle.validate_types.specs.declared.types.CompositeInnerType.TheVariants.{Func as FuncInner}
 use Rattle.validate_types.specs.declared.types.GlobalType.{GlobalType}
-use Rattle.validate_visit.specs.declared.op.ControlOp.TheVariants.{Unreachable, Block as BlockOp, End, Drop, ReturnCall, Select, TypedSelect, LocalGet, LocalSet, GlobalGet, GlobalSet}
-use Rattle.validate_visit.specs.declared.op.NumericOp.TheVariants.{I32Const, I32Eqz}
+use Rattle.validate_visit.specs.declared.op.ControlOp.TheVariants.{Unreachable, Block as BlockOp, End, Drop, ReturnCall, TypedSelect, LocalGet, LocalSet, GlobalGet, GlobalSet}
+use Rattle.validate_visit.specs.declared.op.NumericOp.TheVariants.{I32Const}
 use Rattle.validate_visit.specs.declared.op.Op.{Op}
 use Rattle.validate_visit.specs.declared.op.Op.TheVariants.{Control, Numeric}
-use Rattle.validation_rules.specs.Context.{SubType, ValType, I32, I64, Ref, BlockType, Empty, Val, FuncType, Context}
+use Rattle.validation_rules.specs.Context.{SubType, ValType, I32, I64, Ref, BlockType, Empty, Val, Context}
 use Rattle.validation_rules.specs.Fits.{MaybeType, Bottom, UnknownRef, Known, fits}
-use Rattle.validation_rules.specs.Static.{State, before, start}
+use Rattle.validation_rules.specs.Static.{before, start}
 use Rattle.validation_rules.specs.Table.{selected, body}
 
 -- ---- a module of four function types: 1 is declared below 0, 2 below 1, and 3 is shared

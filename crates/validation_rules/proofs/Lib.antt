@@ -10,3 +10,5 @@ mod ExamplesBranches
 mod ExamplesCalls
 mod ExamplesMemory
 mod ExamplesReferences
+mod ExamplesNull
+mod ExamplesTables

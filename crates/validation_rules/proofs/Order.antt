@@ -3,7 +3,7 @@
 use Rattle.std.proofs.Common.{◌≡◌, ℕ, Bool, true, List, [], ◌∷◌, length, map, Option, Some, None, refl, sym, ap, ◌∙◌, subst}
 use Rattle.validate_visit.specs.Order.{Nesting, is_ordered_from, nesting, reads_on, control_nesting}
 use Rattle.validate_visit.specs.declared.op.Op.{Op}
-use Rattle.validate_visit.specs.declared.op.Op.TheVariants.{Control, Numeric, Convert, Memory, Atomic}
+use Rattle.validate_visit.specs.declared.op.Op.TheVariants.{Control, Numeric, Convert, Memory, Atomic, Reference, Table}
 use Rattle.validate_visit.specs.declared.op.ControlOp.{ControlOp}
 use Rattle.validate_visit.specs.declared.op.ControlOp.TheVariants.{Block as BlockOp, Loop as LoopOp, If as IfOp, Else as ElseOp, End}
 use Rattle.validation_rules.specs.Context.{ValType, I32, BlockType, Context}
@@ -70,6 +70,8 @@ operator_nests cx (Numeric op) = refl
 operator_nests cx (Convert op) = refl
 operator_nests cx (Memory op) = refl
 operator_nests cx (Atomic op) = refl
+operator_nests cx (Reference op) = refl
+operator_nests cx (Table op) = refl
 
 body_nests : (cx : Context) (ops : List Op) → nestings (body cx ops) ≡ map nesting ops
 body_nests cx [] = refl

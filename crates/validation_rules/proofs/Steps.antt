@@ -1,5 +1,6 @@
 -- What a step that is taken pushed and left, and the state before a place that follows another.
 use Rattle.std.proofs.Common.{◌≡◌, ◌≤◌, ℕ, zero, suc, Bool, true, false, List, [], ◌∷◌, ◌++◌, length, drop, Option, Some, None, refl, sym, ap, arith, ◌∙◌, slice_get}
+use Rattle.std.specs.Option.{option_map}
 use Rattle.validation_rules.specs.Context.{Context}
 use Rattle.validation_rules.specs.Fits.{MaybeType}
 use Rattle.validation_rules.specs.Rows.{Form, Row, Operator, guard}
@@ -11,6 +12,10 @@ some_injective x y h = cc
 pub guard_some : {A : Type 0} → (b : Bool) (o : Option A) (x : A) → guard b o ≡ Some x → (b ≡ true) × (o ≡ Some x)
 guard_some true o x h = (refl, h)
 guard_some false o x h = cc
+
+pub mapped_some : {A B : Type 0} (f : A → B) (o : Option A) (y : B) → option_map f o ≡ Some y → (x : A) × (o ≡ Some x) × (f x ≡ y)
+mapped_some f (Some x) y e = (x, refl, some_injective _ _ e)
+mapped_some f None y e = absurd cc
 
 pub bind_some : {A B : Type 0} → (o : Option A) (f : A → Option B) (y : B) → bind o f ≡ Some y → (x : A) × (o ≡ Some x) × (f x ≡ Some y)
 bind_some None f y h = absurd cc

@@ -4,16 +4,19 @@ use Rattle.std.specs.List.{AllByRecursion, list_all}
 use Rattle.std.specs.Option.{option_map}
 use Rattle.validate_types.specs.Features.{has, multi_value}
 use Rattle.validate_types.specs.Gates.{is_open}
-use Rattle.validate_types.specs.Types.{index_type}
+use Rattle.validate_types.specs.Types.{index_type, table_index_type}
 use Rattle.validate_types.specs.declared.gate.Gate.{Gate}
 use Rattle.validate_types.specs.declared.types.GlobalType.{GlobalType}
 use Rattle.validate_types.specs.declared.types.MemoryType.{MemoryType}
-use Rattle.validate_types.specs.declared.gate.Gate.TheVariants.{Mvp, Floats, ReferenceTypes, BulkMemory, BulkMemoryOpt, Threads, TailCall, MemoryControl}
+use Rattle.validate_types.specs.declared.types.TableType.{TableType}
+use Rattle.validate_types.specs.declared.refs.RefType.{RefType}
+use Rattle.validate_types.specs.declared.heap.HeapType.{HeapType}
+use Rattle.validate_types.specs.declared.gate.Gate.TheVariants.{Mvp, Floats, ReferenceTypes, BulkMemory, BulkMemoryOpt, Threads, TailCall, FunctionReferences, MemoryControl}
 use Rattle.validate_resources.specs.Context.{IsLawful, Valid, is_index_type, is_number}
 use Rattle.validate_visit.specs.declared.op.Op.{Op}
-use Rattle.validate_visit.specs.declared.op.Op.TheVariants.{Control, Numeric, Convert, Memory, Atomic}
+use Rattle.validate_visit.specs.declared.op.Op.TheVariants.{Control, Numeric, Convert, Memory, Atomic, Reference, Table}
 use Rattle.validate_visit.specs.declared.op.ControlOp.{ControlOp}
-use Rattle.validate_visit.specs.declared.op.ControlOp.TheVariants.{Unreachable, Nop, Block as BlockOp, Loop as LoopOp, If as IfOp, Else as ElseOp, End, Br, BrIf, BrTable, Return, Call, ReturnCall, Drop, Select, TypedSelect, TypedSelectMulti, LocalGet, LocalSet, LocalTee, GlobalGet, GlobalSet}
+use Rattle.validate_visit.specs.declared.op.ControlOp.TheVariants.{Unreachable, Nop, Block as BlockOp, Loop as LoopOp, If as IfOp, Else as ElseOp, End, Br, BrIf, BrTable, Return, Call, ReturnCall, CallIndirect, ReturnCallIndirect, CallRef, ReturnCallRef, Drop, Select, TypedSelect, TypedSelectMulti, LocalGet, LocalSet, LocalTee, GlobalGet, GlobalSet}
 use Rattle.validate_visit.specs.declared.op.NumericOp.{NumericOp}
 use Rattle.validate_visit.specs.declared.op.NumericOp.TheVariants.{I32Const, I64Const, F32Const, F64Const, I64Add128, I64Sub128, I64MulWideS, I64MulWideU}
 use Rattle.validate_visit.specs.declared.op.ConvertOp.{ConvertOp}
@@ -22,17 +25,24 @@ use Rattle.validate_visit.specs.declared.op.MemoryOp.{MemoryOp}
 use Rattle.validate_visit.specs.declared.op.MemoryOp.TheVariants.{F32Load, F64Load, F32Store, F64Store, MemorySize, MemoryGrow, MemoryInit, DataDrop, MemoryCopy, MemoryFill, MemoryDiscard}
 use Rattle.validate_visit.specs.declared.op.AtomicOp.{AtomicOp}
 use Rattle.validate_visit.specs.declared.op.AtomicOp.TheVariants.{AtomicFence, Pause}
+use Rattle.validate_visit.specs.declared.op.ReferenceOp.{ReferenceOp}
+use Rattle.validate_visit.specs.declared.op.ReferenceOp.TheVariants.{RefNull, RefIsNull, RefFunc, RefAsNonNull, BrOnNull, BrOnNonNull}
+use Rattle.validate_visit.specs.declared.op.TableOp.{TableOp}
+use Rattle.validate_visit.specs.declared.op.TableOp.TheVariants.{TableGet, TableGrow, TableSize, TableInit, ElemDrop, TableCopy}
 use Rattle.validation_rules.specs.Access.{memory_index, copies}
 use Rattle.validation_rules.specs.Context.{ModuleContext, Signature, SubType, ValType, I32, I64, F32, F64, V128, Ref, BlockType, Empty, Val, FuncType, Context, block_signature, declared_signature}
 use Rattle.validation_rules.specs.Branches.{types_of, label_at}
 use Rattle.validation_rules.specs.Calls.{may_access, accessed, global_type, called, callee, tail_call}
-use Rattle.validation_rules.specs.Fits.{MaybeType, Bottom, UnknownRef, Known}
+use Rattle.validation_rules.specs.Indirect.{function_place, function_reference, typed_callee}
+use Rattle.validation_rules.specs.References.{without_null, is_null, non_null_above, br_on_null, last_reference, on_non_null, br_on_non_null, null_heap, null_gate, reference_row}
+use Rattle.validation_rules.specs.Tables.{accessed_table, table_type, inits, table_copies, table_row}
+use Rattle.validation_rules.specs.Fits.{MaybeType, Bottom, UnknownRef, Known, fits}
 use Rattle.validation_rules.specs.Rows.{FrameKind, Block, If, Loop, is_loop, Head, params, results, label_by, Form, Flat, Opens, BeginsElse, BeginsCatch, Ends, Delegates, Plain, Row, Operator, gives, takes, guard}
 use Rattle.validation_rules.specs.Static.{Frame, State, bind, heads, set_in, onto, on_top, found, below_top, pushes_at, pushes_by, own_after, given_over, after_over, step, step_in, before, start}
 use Rattle.validation_rules.specs.Table.{plain, may_name, checked_block, opener, flat, alike, closing, looking, drops, selected, selects, by_lookup, gated, control_operator, numeric_row, convert_row, memory_row, atomic_row, operator, body}
 use Rattle.validation_rules.specs.Valid.{OperandIsValid, Resolves, BlockIsValid, FrameIsValid, HeadIsValid, PushesValid, StateIsValid, StepsKeepValid, TableKeepsValid}
 use Rattle.validation_rules.proofs.Below.{and_true}
-use Rattle.validation_rules.proofs.Steps.{some_injective, guard_some, bind_some, stepped}
+use Rattle.validation_rules.proofs.Steps.{some_injective, guard_some, bind_some, mapped_some, stepped}
 
 -- ---- lists
 
@@ -184,8 +194,8 @@ module _ (cx : Context) (laws : IsLawful cx.of_module) where
       }
 
   -- an operator that looks at valid operands
-  looks_valid : (n : ℕ) (gives : List MaybeType → Option (List MaybeType)) → ((xs pushed : List MaybeType) → Operands xs → gives xs ≡ Some pushed → Operands pushed) → PushesValid cx (alike (looking true n gives))
-  looks_valid n gives h =
+  looks_valid : (premise : Bool) (n : ℕ) (gives : List MaybeType → Option (List MaybeType)) → ((xs pushed : List MaybeType) → Operands xs → gives xs ≡ Some pushed → Operands pushed) → PushesValid cx (alike (looking premise n gives))
+  looks_valid premise n gives h =
       record {
         pushed = λ hs xs pushed p v f g. h xs pushed f g;
         opened = λ hs k p e. absurd cc;
@@ -303,9 +313,27 @@ module _ (cx : Context) (laws : IsLawful cx.of_module) where
   call_valid f None e = plain_valid _ _ _ _ [] _ (λ p. tt)
   call_valid f (Some s) e = plain_valid _ _ _ _ s.results _ (λ p. signature_valid f s e)
 
-  return_call_valid : (o : Option Signature) → PushesValid cx (flat (λ hs. gated cx TailCall (by_lookup o (tail_call cx hs))))
+  return_call_valid : (o : Option Signature) → PushesValid cx (flat (λ hs. gated cx TailCall (by_lookup o (λ s. tail_call cx hs s.params s.results))))
   return_call_valid None = flat_valid _ (λ hs. []) (λ hs. []) (λ hs. []) (λ hs. refl) (λ hs v. tt)
   return_call_valid (Some s) = flat_valid _ (λ hs. s.params) (λ hs. []) (λ hs. []) (λ hs. refl) (λ hs v. tt)
+
+  -- ---- calls of a function that an operand names
+
+  typed_signature_valid : (i : ℕ) (s : Signature) → typed_callee cx i ≡ Some s → AllByRecursion (Valid cx.of_module) s.results
+  typed_signature_valid i s e =
+      let b = bind_some (cx.of_module.type_at i) (called cx) s e in
+      let k = guard_some (may_access cx b.0.composite_type.shared) _ _ b.2 in
+      subst (λ (t : Signature). AllByRecursion (Valid cx.of_module) t.results) (some_injective _ _ k.1) (laws.results i b.0 b.1)
+
+  call_by_valid : (gate : Gate) (names : Option ValType) (i : ℕ) (o : Option Signature) → typed_callee cx i ≡ o → PushesValid cx (alike (gated cx gate (by_lookup names (λ t. by_lookup o (λ s. plain true (s.params ++ t ∷ []) s.results)))))
+  call_by_valid gate None i o e = plain_valid _ None None [] [] false (λ p. tt)
+  call_by_valid gate (Some t) i None e = plain_valid _ None None [] [] false (λ p. tt)
+  call_by_valid gate (Some t) i (Some s) e = plain_valid _ None None _ s.results false (λ p. typed_signature_valid i s e)
+
+  return_call_by_valid : (gate : Gate) (names : Option ValType) (o : Option Signature) → PushesValid cx (flat (λ hs. gated cx gate (by_lookup names (λ t. by_lookup o (λ s. tail_call cx hs (s.params ++ t ∷ []) s.results)))))
+  return_call_by_valid gate None o = flat_valid _ (λ hs. []) (λ hs. []) (λ hs. []) (λ hs. refl) (λ hs v. tt)
+  return_call_by_valid gate (Some t) None = flat_valid _ (λ hs. []) (λ hs. []) (λ hs. []) (λ hs. refl) (λ hs v. tt)
+  return_call_by_valid gate (Some t) (Some s) = flat_valid _ (λ hs. s.params ++ t ∷ []) (λ hs. []) (λ hs. []) (λ hs. refl) (λ hs v. tt)
 
   control_valid : (op : ControlOp) → AllByRecursion (Valid cx.of_module) cx.locals → PushesValid cx (control_operator cx op)
   control_valid Unreachable l = plain_valid _ _ _ _ [] _ (λ p. tt)
@@ -322,8 +350,12 @@ module _ (cx : Context) (laws : IsLawful cx.of_module) where
   control_valid Return l = flat_valid _ (λ hs. label_at cx hs (pred (length hs))) (λ hs. []) (λ hs. []) (λ hs. refl) (λ hs v. tt)
   control_valid (Call f) l = call_valid f (callee cx f) refl
   control_valid (ReturnCall f) l = return_call_valid (callee cx f)
-  control_valid Drop l = looks_valid 1 drops drops_valid
-  control_valid Select l = looks_valid 3 (selects cx) selects_valid
+  control_valid (CallIndirect type table) l = call_by_valid Mvp (function_place cx table) type (typed_callee cx type) refl
+  control_valid (ReturnCallIndirect type table) l = return_call_by_valid TailCall (function_place cx table) (typed_callee cx type)
+  control_valid (CallRef type) l = call_by_valid FunctionReferences (function_reference cx type) type (typed_callee cx type) refl
+  control_valid (ReturnCallRef type) l = return_call_by_valid FunctionReferences (function_reference cx type) (typed_callee cx type)
+  control_valid Drop l = looks_valid true 1 drops drops_valid
+  control_valid Select l = looks_valid true 3 (selects cx) selects_valid
   control_valid (TypedSelect t) l =
       typed_valid (is_open cx.features ReferenceTypes) (cx.of_module.canonical cx.features t) None None (λ u. u ∷ u ∷ I32 ∷ []) (λ u. u ∷ []) (λ u e. (laws.checked cx.features t u e, tt))
   control_valid (TypedSelectMulti ts) l = plain_valid _ _ _ _ [] _ (λ p. tt)
@@ -373,8 +405,8 @@ module _ (cx : Context) (laws : IsLawful cx.of_module) where
   convert_valid I32WrapI64 = plain_valid _ _ _ _ _ _ (λ p. (refl, tt))
   convert_valid _ = plain_valid _ _ _ _ _ _ (λ p. (refl, tt))
 
-  -- a row for an address is one for the type of it
-  by_lookup_valid : (gate : Gate) (o : Option ValType) (row : ValType → Row) → ((t : ValType) → o ≡ Some t → PushesValid cx (alike (gated cx gate (row t)))) → PushesValid cx (alike (gated cx gate (by_lookup o row)))
+  -- a row for an address, or for what else was found, is one for the type of it
+  by_lookup_valid : {A : Type 0} (gate : Gate) (o : Option A) (row : A → Row) → ((t : A) → o ≡ Some t → PushesValid cx (alike (gated cx gate (row t)))) → PushesValid cx (alike (gated cx gate (by_lookup o row)))
   by_lookup_valid gate None row h = plain_valid _ None None [] [] false (λ p. tt)
   by_lookup_valid gate (Some t) row h = h t refl
 
@@ -405,12 +437,109 @@ module _ (cx : Context) (laws : IsLawful cx.of_module) where
   atomic_valid Pause = numbers_pushed _ _ _ _ _ _ refl
   atomic_valid _ = by_lookup_valid Threads _ _ (λ t e. numbers_pushed _ _ _ _ _ _ refl)
 
+  -- ---- references
+
+  pub without_null_valid : (x y : MaybeType) → OperandIsValid cx.of_module x → without_null x ≡ Some y → OperandIsValid cx.of_module y
+  without_null_valid Bottom y v e = subst (OperandIsValid cx.of_module) (some_injective _ _ e) tt
+  without_null_valid (UnknownRef a) y v e = subst (OperandIsValid cx.of_module) (some_injective _ _ e) tt
+  without_null_valid (Known (Ref r)) y v e = subst (OperandIsValid cx.of_module) (some_injective _ _ e) v
+  without_null_valid (Known _) y v e = absurd cc
+
+  is_null_valid : (xs pushed : List MaybeType) → Operands xs → is_null xs ≡ Some pushed → Operands pushed
+  is_null_valid (x ∷ []) pushed v e = subst Operands (mapped_some _ (without_null x) pushed e).2 (refl, tt)
+  is_null_valid [] pushed v e = absurd cc
+  is_null_valid (x ∷ y ∷ xs) pushed v e = absurd cc
+
+  non_null_above_valid : (ts : List ValType) → AllByRecursion (Valid cx.of_module) ts → (xs pushed : List MaybeType) → Operands xs → non_null_above cx ts xs ≡ Some pushed → Operands pushed
+  non_null_above_valid [] h (x ∷ []) pushed v e =
+      let m = mapped_some _ (without_null x) pushed e in
+      subst Operands m.2 (without_null_valid x m.0 v.0 m.1, tt)
+  non_null_above_valid [] h [] pushed v e = absurd cc
+  non_null_above_valid [] h (x ∷ y ∷ xs) pushed v e = absurd cc
+  non_null_above_valid (t ∷ ts) h [] pushed v e = absurd cc
+  non_null_above_valid (t ∷ ts) h (x ∷ xs) pushed v e =
+      let m = mapped_some _ (non_null_above cx ts xs) pushed (guard_some (fits cx x t) _ _ e).1 in
+      subst Operands m.2 (h.0, non_null_above_valid ts h.1 xs m.0 v.1 m.1)
+
+  -- the types before the last, which is a reference
+  pub before_last_valid : (ts : List ValType) (p : List ValType × RefType) → AllByRecursion (Valid cx.of_module) ts → last_reference ts ≡ Some p → AllByRecursion (Valid cx.of_module) p.0
+  before_last_valid [] p h e = absurd cc
+  before_last_valid (Ref r ∷ []) p h e = subst (λ (q : List ValType × RefType). AllByRecursion (Valid cx.of_module) q.0) (some_injective _ _ e) tt
+  before_last_valid (t ∷ u ∷ ts) p h e =
+      let m = mapped_some _ (last_reference (u ∷ ts)) p e in
+      subst (λ (q : List ValType × RefType). AllByRecursion (Valid cx.of_module) q.0) m.2 (h.0, before_last_valid (u ∷ ts) m.0 h.1 m.1)
+  before_last_valid (t ∷ []) p h e = absurd cc
+
+  pub last_valid : (ts : List ValType) (p : List ValType × RefType) → AllByRecursion (Valid cx.of_module) ts → last_reference ts ≡ Some p → Valid cx.of_module (Ref p.1)
+  last_valid [] p h e = absurd cc
+  last_valid (Ref r ∷ []) p h e = subst (λ (q : List ValType × RefType). Valid cx.of_module (Ref q.1)) (some_injective _ _ e) h.0
+  last_valid (t ∷ u ∷ ts) p h e =
+      let m = mapped_some _ (last_reference (u ∷ ts)) p e in
+      subst (λ (q : List ValType × RefType). Valid cx.of_module (Ref q.1)) m.2 (last_valid (u ∷ ts) m.0 h.1 m.1)
+  last_valid (t ∷ []) p h e = absurd cc
+
+  br_on_null_valid : (d : ℕ) → PushesValid cx (flat (λ hs. gated cx FunctionReferences (br_on_null cx hs d)))
+  br_on_null_valid d =
+      record {
+        pushed = λ hs xs pushed p v f g. non_null_above_valid (label_at cx hs d) (label_at_valid hs d v) xs pushed f g;
+        opened = λ hs k p e. absurd cc;
+        begun = λ hs all types p e. absurd cc;
+      }
+
+  br_on_non_null_valid : (d : ℕ) → PushesValid cx (flat (λ hs. gated cx FunctionReferences (br_on_non_null cx hs d)))
+  br_on_non_null_valid d =
+      record {
+        pushed = λ hs xs pushed p v f g. by hs xs pushed (label_at_valid hs d v) (last_reference (label_at cx hs d)) refl g;
+        opened = λ hs k p e. absurd cc;
+        begun = λ hs all types p e. absurd cc;
+      }
+    where
+      by : (hs : List Head) (xs pushed : List MaybeType) → AllByRecursion (Valid cx.of_module) (label_at cx hs d) → (o : Option (List ValType × RefType)) → last_reference (label_at cx hs d) ≡ o → gives cx (by_lookup o (on_non_null cx hs d)).operands xs ≡ Some pushed → Operands pushed
+      by hs xs pushed v None k g = nothing_pushed pushed _ g
+      by hs xs pushed v (Some p) k g =
+          subst Operands (some_injective _ _ (guard_some _ _ _ g).1) (all_known cx.of_module p.0 (before_last_valid (label_at cx hs d) p v k))
+
+  null_valid : (h : HeapType) → PushesValid cx (flat (λ hs. reference_row cx hs (RefNull h)))
+  null_valid h =
+      by_lookup_valid ReferenceTypes (null_heap cx h) _
+      (λ k e. plain_valid _ _ _ _ _ _ (λ p. ((laws.checked_heap h k (guard_some (null_gate cx h) _ _ e).1).is_valid, tt)))
+
+  reference_valid : (op : ReferenceOp) → PushesValid cx (flat (λ hs. reference_row cx hs op))
+  reference_valid (RefNull h) = null_valid h
+  reference_valid RefIsNull = looks_valid _ 1 is_null is_null_valid
+  reference_valid (RefFunc f) = by_lookup_valid ReferenceTypes (cx.of_module.type_id_of f) _ (λ id e. plain_valid _ _ _ _ _ _ (λ p. ((laws.functions f id e).is_valid, tt)))
+  reference_valid RefAsNonNull = looks_valid _ 1 (non_null_above cx []) (non_null_above_valid [] tt)
+  reference_valid (BrOnNull d) = br_on_null_valid d
+  reference_valid (BrOnNonNull d) = br_on_non_null_valid d
+
+  -- ---- tables
+
+  table_found : (i : ℕ) (t : TableType) → table_type cx i ≡ Some t → cx.of_module.table_at i ≡ Some t
+  table_found i t e =
+      let b = bind_some (cx.of_module.table_at i) (accessed_table cx) t e in
+      let k = guard_some (may_access cx b.0.shared) _ _ b.2 in
+      subst (λ u. cx.of_module.table_at i ≡ Some u) (some_injective _ _ k.1) b.1
+
+  place_valid : (i : ℕ) (t : TableType) → table_type cx i ≡ Some t → Valid cx.of_module (table_index_type t)
+  place_valid i t e = number_valid _ (index_is_number _ (laws.table_index i t (table_found i t e)))
+
+  table_valid : (op : TableOp) → PushesValid cx (alike (table_row cx op))
+  table_valid (TableGet i) = by_lookup_valid ReferenceTypes (table_type cx i) _ (λ t e. plain_valid _ _ _ _ _ _ (λ p. (laws.tables i t (table_found i t e), tt)))
+  table_valid (TableGrow i) = by_lookup_valid ReferenceTypes (table_type cx i) _ (λ t e. plain_valid _ _ _ _ _ _ (λ p. (place_valid i t e, tt)))
+  table_valid (TableSize i) = by_lookup_valid ReferenceTypes (table_type cx i) _ (λ t e. plain_valid _ _ _ _ _ _ (λ p. (place_valid i t e, tt)))
+  table_valid (TableInit segment i) = by_lookup_valid BulkMemory (table_type cx i) (λ t. by_lookup (cx.of_module.element_at segment) (inits cx t)) (λ t e. by_lookup_valid BulkMemory _ (inits cx t) (λ r k. numbers_pushed _ _ _ _ _ _ refl))
+  table_valid (ElemDrop segment) = by_lookup_valid BulkMemory (cx.of_module.element_at segment) _ (λ r e. numbers_pushed _ _ _ _ _ _ refl)
+  table_valid (TableCopy dst src) = by_lookup_valid BulkMemory (table_type cx src) (λ from. by_lookup (table_type cx dst) (table_copies cx from)) (λ from e. by_lookup_valid BulkMemory _ (table_copies cx from) (λ to k. numbers_pushed _ _ _ _ _ _ refl))
+  table_valid _ = by_lookup_valid ReferenceTypes _ _ (λ t e. numbers_pushed _ _ _ _ _ _ refl)
+
   pub operator_valid : (op : Op) → AllByRecursion (Valid cx.of_module) cx.locals → PushesValid cx (operator cx op)
   operator_valid (Control op) l = control_valid op l
   operator_valid (Numeric op) l = numeric_valid op
   operator_valid (Convert op) l = convert_valid op
   operator_valid (Memory op) l = memory_valid op
   operator_valid (Atomic op) l = atomic_valid op
+  operator_valid (Reference op) l = reference_valid op
+  operator_valid (Table op) l = table_valid op
 
 pub table_keeps_valid : (md : ModuleContext) → IsLawful md → TableKeepsValid md
 table_keeps_valid md laws cx op s u same h e =

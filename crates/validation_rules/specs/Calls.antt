@@ -47,8 +47,8 @@ abbrev pub returns : Context → List Head → List ValType → Bool
 returns cx hs results = has_label hs (pred (length hs)) && all_fit cx (map Known results) (label_at cx hs (pred (length hs)))
 
 -- a call whose results the body returns: they are carried to the outermost label
-abbrev pub tail_call : Context → List Head → Signature → Row
-tail_call cx hs s = record (ends_live (returns cx hs s.results) s.params) { targets = record { depth = pred (length hs); carried = λ found. s.results } ∷ [] }
+abbrev pub tail_call : Context → List Head → List ValType → List ValType → Row
+tail_call cx hs wanted results = record (ends_live (returns cx hs results) wanted) { targets = record { depth = pred (length hs); carried = λ found. results } ∷ [] }
 
 abbrev pub return_call_row : Context → List Head → ℕ → Row
-return_call_row cx hs f = by_lookup (callee cx f) (tail_call cx hs)
+return_call_row cx hs f = by_lookup (callee cx f) (λ s. tail_call cx hs s.params s.results)

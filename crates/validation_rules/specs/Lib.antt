@@ -9,6 +9,9 @@ pub mod Branches
 pub mod Numeric
 pub mod Convert
 pub mod Calls
+pub mod Tables
+pub mod Indirect
+pub mod References
 pub mod Access
 pub mod Memory
 pub mod Atomic

@@ -6,17 +6,20 @@ use Rattle.std.specs.Option.{option_map}
 use Rattle.validate_resources.specs.Context.{is_number, same_number}
 use Rattle.validate_types.specs.Features.{has, multi_value}
 use Rattle.validate_types.specs.Gates.{is_open}
-use Rattle.validate_types.specs.declared.gate.Gate.TheVariants.{ReferenceTypes, TailCall}
+use Rattle.validate_types.specs.declared.gate.Gate.TheVariants.{ReferenceTypes, TailCall, FunctionReferences}
 use Rattle.validate_visit.specs.declared.op.Op.{Op}
-use Rattle.validate_visit.specs.declared.op.Op.TheVariants.{Control, Numeric, Convert, Memory, Atomic}
+use Rattle.validate_visit.specs.declared.op.Op.TheVariants.{Control, Numeric, Convert, Memory, Atomic, Reference, Table}
 use Rattle.validate_visit.specs.declared.op.ControlOp.{ControlOp}
-use Rattle.validate_visit.specs.declared.op.ControlOp.TheVariants.{Unreachable, Nop, Block as BlockOp, Loop as LoopOp, If as IfOp, Else as ElseOp, End, Br, BrIf, BrTable, Return, Call, ReturnCall, Drop, Select, TypedSelect, TypedSelectMulti, LocalGet, LocalSet, LocalTee, GlobalGet, GlobalSet}
+use Rattle.validate_visit.specs.declared.op.ControlOp.TheVariants.{Unreachable, Nop, Block as BlockOp, Loop as LoopOp, If as IfOp, Else as ElseOp, End, Br, BrIf, BrTable, Return, Call, ReturnCall, CallIndirect, ReturnCallIndirect, CallRef, ReturnCallRef, Drop, Select, TypedSelect, TypedSelectMulti, LocalGet, LocalSet, LocalTee, GlobalGet, GlobalSet}
 pub use Rattle.validation_rules.specs.Numeric.{numeric_row}
 pub use Rattle.validation_rules.specs.Convert.{convert_row}
 pub use Rattle.validation_rules.specs.Memory.{memory_row}
 pub use Rattle.validation_rules.specs.Atomic.{atomic_row}
+pub use Rattle.validation_rules.specs.References.{reference_row}
+pub use Rattle.validation_rules.specs.Tables.{table_row}
 use Rattle.validation_rules.specs.Branches.{br_row, br_if_row, br_table_row, return_row}
 use Rattle.validation_rules.specs.Calls.{call_row, return_call_row, global_get, global_set}
+use Rattle.validation_rules.specs.Indirect.{call_indirect_row, return_call_indirect_row, call_ref_row, return_call_ref_row}
 use Rattle.validation_rules.specs.Context.{SubType, ValType, I32, BlockType, Empty, Val, FuncType, Context, block_signature}
 use Rattle.validation_rules.specs.Fits.{MaybeType, Bottom, UnknownRef, Known, fits}
 use Rattle.validation_rules.specs.Rows.{FrameKind, Block, If, Loop, Opens, BeginsElse, Ends, guard, Row, Operator}
@@ -102,6 +105,10 @@ control_operator cx (BrTable table) = flat (λ hs. br_table_row cx hs table.comp
 control_operator cx Return = flat (λ hs. return_row cx hs)
 control_operator cx (Call f) = alike (call_row cx f)
 control_operator cx (ReturnCall f) = flat (λ hs. gated cx TailCall (return_call_row cx hs f))
+control_operator cx (CallIndirect type table) = alike (call_indirect_row cx type table)
+control_operator cx (ReturnCallIndirect type table) = flat (λ hs. gated cx TailCall (return_call_indirect_row cx hs type table))
+control_operator cx (CallRef type) = alike (gated cx FunctionReferences (call_ref_row cx type))
+control_operator cx (ReturnCallRef type) = flat (λ hs. gated cx FunctionReferences (return_call_ref_row cx hs type))
 control_operator cx Drop = alike (looking true 1 drops)
 control_operator cx Select = alike (looking true 3 (selects cx))
 control_operator cx (TypedSelect t) = alike (typed_select cx t)
@@ -118,6 +125,8 @@ operator cx (Numeric op) = alike (numeric_row cx op)
 operator cx (Convert op) = alike (convert_row cx op)
 operator cx (Memory op) = alike (memory_row cx op)
 operator cx (Atomic op) = alike (atomic_row cx op)
+operator cx (Reference op) = flat (λ hs. reference_row cx hs op)
+operator cx (Table op) = alike (table_row cx op)
 
 -- a body, as the rules see it
 abbrev pub body : Context → List Op → List Operator

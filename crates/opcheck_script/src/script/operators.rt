@@ -8,13 +8,19 @@ ghost use Rattle.opcheck_script.specs.declared.failure.LineError.{LineError};
 
 use crate::failure::LineError;
 use crate::script::atomic::read_atomic_operator;
+use crate::script::indexed::{indexed_operator, indirect_call};
 use crate::script::memory::read_memory_operator;
+use crate::script::names::named_in;
 use crate::script::numbers::{read_i32, read_i64, read_index, read_indices, read_u64};
 use crate::script::numeric::{CONVERT, NUMERIC};
 use crate::script::owned::OwnedOp;
+use crate::script::references::read_heap_type;
+use crate::script::tables::read_table_operator;
 use crate::script::types::{read_value_type, read_value_types};
 use std::alloc::Global;
-use wasmparser_validate::visit::{AtomicOp, BlockType, ControlOp, Ieee32, Ieee64, NumericOp, Op};
+use wasmparser_validate::visit::{
+    AtomicOp, BlockType, ControlOp, Ieee32, Ieee64, NumericOp, Op, ReferenceOp,
+};
 
 /// The operators without immediates but those of numbers, by their names.
 const PLAIN: &[(&str, Op<'static>)] = &[
@@ -28,6 +34,8 @@ const PLAIN: &[(&str, Op<'static>)] = &[
     ("return", Op::Control(ControlOp::Return)),
     ("drop", Op::Control(ControlOp::Drop)),
     ("select", Op::Control(ControlOp::Select)),
+    ("ref.is_null", Op::Reference(ReferenceOp::RefIsNull)),
+    ("ref.as_non_null", Op::Reference(ReferenceOp::RefAsNonNull)),
     ("pause", Op::Atomic(AtomicOp::Pause)),
 ];
 
@@ -37,9 +45,10 @@ pub fn read_operator(words: &[&str]) -> Option<Op<'static>> {
     operator_without_memory(words)
         .or_else(|| read_memory_operator(words))
         .or_else(|| read_atomic_operator(words))
+        .or_else(|| read_table_operator(words))
 }
 
-/// The operator that these words write, if it is one on no memory.
+/// The operator that these words write, if it is one on no memory and no table.
 fn operator_without_memory(words: &[&str]) -> Option<Op<'static>> {
     match *words {
         [name] => plain_operator(name).or_else(|| constant_operator(name, "0")),
@@ -48,6 +57,7 @@ fn operator_without_memory(words: &[&str]) -> Option<Op<'static>> {
                 .or_else(|| typed_operator(name, immediate))
                 .or_else(|| indexed_operator(name, immediate))
         }
+        [name, type_index, table_index] => indirect_call(name, type_index, table_index),
         _ => None,
     }
 }
@@ -57,14 +67,6 @@ fn plain_operator(name: &str) -> Option<Op<'static>> {
     named_in(PLAIN, name)
         .or_else(|| named_in(NUMERIC, name))
         .or_else(|| named_in(CONVERT, name))
-}
-
-/// The operator of this name in a list.
-fn named_in(operators: &[(&str, Op<'static>)], name: &str) -> Option<Op<'static>> {
-    operators
-        .iter()
-        .find(|named| named.0 == name)
-        .map(|named| named.1)
 }
 
 /// The constant of this type and value.
@@ -78,13 +80,15 @@ fn constant_operator(name: &str, value: &str) -> Option<Op<'static>> {
     }
 }
 
-/// The operator of this name, an opener of a block of this type or a `select` of this type.
+/// The operator of this name, an opener of a block of this type, a `select` of this type or a null of this
+/// heap type.
 fn typed_operator(name: &str, ty: &str) -> Option<Op<'static>> {
     match name {
         "block" => Some(Op::Control(ControlOp::Block(read_block_type(ty)?))),
         "loop" => Some(Op::Control(ControlOp::Loop(read_block_type(ty)?))),
         "if" => Some(Op::Control(ControlOp::If(read_block_type(ty)?))),
         "select_t" => Some(Op::Control(ControlOp::TypedSelect(read_value_type(ty)?))),
+        "ref.null" => Some(Op::Reference(ReferenceOp::RefNull(read_heap_type(ty)?))),
         _ => None,
     }
 }
@@ -94,23 +98,6 @@ fn read_block_type(word: &str) -> Option<BlockType> {
     match read_value_type(word) {
         Some(ty) => Some(BlockType::Val(ty)),
         None => read_index(word).map(BlockType::FuncType),
-    }
-}
-
-/// The operator of this name on the label, the function, the local or the global at this index.
-fn indexed_operator(name: &str, index: &str) -> Option<Op<'static>> {
-    let index = read_index(index)?;
-    match name {
-        "br" => Some(Op::Control(ControlOp::Br(index))),
-        "br_if" => Some(Op::Control(ControlOp::BrIf(index))),
-        "call" => Some(Op::Control(ControlOp::Call(index))),
-        "return_call" => Some(Op::Control(ControlOp::ReturnCall(index))),
-        "local.get" => Some(Op::Control(ControlOp::LocalGet(index))),
-        "local.set" => Some(Op::Control(ControlOp::LocalSet(index))),
-        "local.tee" => Some(Op::Control(ControlOp::LocalTee(index))),
-        "global.get" => Some(Op::Control(ControlOp::GlobalGet(index))),
-        "global.set" => Some(Op::Control(ControlOp::GlobalSet(index))),
-        _ => None,
     }
 }
 

@@ -23,7 +23,7 @@ pub fn read_reference(word: &str) -> Option<RefType>
 
 /// The heap type that a word names, if it does: an abstract type, the shared copy of one, or the type of
 /// the module at this index.
-fn read_heap_type(word: &str) -> Option<HeapType>
+pub fn read_heap_type(word: &str) -> Option<HeapType>
     ensures { IfSome result (λ ty. IsHeapName word.now ty) }
 {
     if let Some(ty) = abstract_named(word) {

@@ -5,6 +5,7 @@ ghost use Rattle.opcheck_script.specs.Types.{is_marked_shared, type_marks, super
 
 use crate::failure::LineError;
 use crate::script::access::following;
+use crate::script::names::named_in;
 use crate::script::numbers::read_index;
 use crate::script::references::read_reference;
 use std::alloc::Global;
@@ -23,10 +24,7 @@ const NUMBER_TYPES: &[(&str, ValType)] = &[
 
 /// The value type that a word names, if it does.
 pub fn read_value_type(word: &str) -> Option<ValType> {
-    match NUMBER_TYPES.iter().find(|named| named.0 == word) {
-        Some(named) => Some(named.1),
-        None => read_reference(word).map(ValType::Ref),
-    }
+    named_in(NUMBER_TYPES, word).or_else(|| read_reference(word).map(ValType::Ref))
 }
 
 /// The type that a `type` line declares, from the words after `type`: the marks, the kind, and the
@@ -52,7 +50,7 @@ pub fn read_type(alloc: Global, words: &[&str]) -> Result<SubType, LineError>
 }
 
 /// What the marks of a type say.
-#[derive(Clone, Copy, Debug, PartialEq, Eq)]
+#[derive(Clone, Copy)]
 struct Marks {
     shared: bool,
     supertype_idx: Option<PackedIndex>,

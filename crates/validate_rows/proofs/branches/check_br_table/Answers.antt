@@ -6,7 +6,7 @@ use Rattle.validate_stacks.specs.Visits.{step_body}
 use Rattle.validate_stacks.specs.State.{context}
 use Rattle.validate_stacks.proofs.Validity.{kept_on}
 use Rattle.validate_rows.proofs.Branching.{label_valid, ended_valid, ended_kept}
-use Rattle.validate_rows.proofs.Tables.{table_untested, table_none, types_table, table_refused, table_other_targets, table_passes}
+use Rattle.validate_rows.proofs.BranchTables.{table_untested, table_none, types_table, table_refused, table_other_targets, table_passes}
 use Rattle.validate_rows.proofs.Meeting.{meets_none, meets_done}
 use Rattle.validate_rows.proofs.branches.check_br_table.Goals as goal
 

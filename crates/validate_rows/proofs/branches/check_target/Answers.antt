@@ -2,7 +2,7 @@ use Rattle.std.proofs.Common.{rules, ◌≡◌, true, false, length, nat_eq, ref
 use Rattle.validation_rules.specs.Static.{heads}
 use Rattle.validate_stacks.specs.State.{context}
 use Rattle.validate_rows.proofs.Branching.{label_there, label_valid}
-use Rattle.validate_rows.proofs.Tables.{not_a_label, of_another_count, of_that_count}
+use Rattle.validate_rows.proofs.BranchTables.{not_a_label, of_another_count, of_that_count}
 use Rattle.validate_rows.proofs.branches.check_target.Goals as goal
 
 pub returns-in_err-block_type-clause-refused : goal.returns-in_err-block_type-clause-refused

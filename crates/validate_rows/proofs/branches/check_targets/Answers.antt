@@ -1,6 +1,6 @@
 use Rattle.std.proofs.Common.{rules, ◌≡◌, ◌∷◌, Ok, Err, ap, ◌∙◌}
 use Rattle.validate_visit.specs.Branches.{targets_left}
-use Rattle.validate_rows.proofs.Tables.{all_were, end_missing, one_is_none}
+use Rattle.validate_rows.proofs.BranchTables.{all_were, end_missing, one_is_none}
 use Rattle.validate_rows.proofs.branches.check_targets.Goals as goal
 
 pub returns-in_err-check_target-in-Ok-clause-refused :

@@ -2,7 +2,7 @@
 use Rattle.std.proofs.Common.{◌≡◌}
 use Rattle.std.specs.List.{list_all}
 use Rattle.validate_visit.specs.Branches.{targets_left, targets_given}
-use Rattle.validate_rows.proofs.Tables.{is_given}
+use Rattle.validate_rows.proofs.BranchTables.{is_given}
 use Rattle.validate_rows.proofs.branches.check_targets.Given as goal
 
 abbrev pub invariant-loop-target : goal.invariant-loop-target

@@ -1,6 +1,6 @@
-use Rattle.std.proofs.Common.{rules, pred, true, false, ◌&&◌, length, map, refl, sym, ap, ap₂, ◌∙◌}
+use Rattle.std.proofs.Common.{pred, ◌&&◌, length, map, refl, sym, ap, ap₂, ◌∙◌}
 use Rattle.std.specs.Option.{option_copied}
-use Rattle.validation_rules.specs.Branches.{has_label, label_at, return_row}
+use Rattle.validation_rules.specs.Branches.{return_row}
 use Rattle.validation_rules.specs.Fits.{Known, all_fit}
 use Rattle.validation_rules.specs.Static.{heads}
 use Rattle.validate_stacks.specs.State.{context}

@@ -1,54 +1,32 @@
-use Rattle.std.proofs.Common.{rules, reverse, refl, sym, ap, ◌∙◌}
-use Rattle.validation_rules.specs.Calls.{returns as comes_back}
+use Rattle.std.proofs.Common.{rules, refl, ap}
+use Rattle.validate_types.specs.Types.{Signature}
+use Rattle.validate_types.specs.declared.gate.Gate.TheVariants.{TailCall}
+use Rattle.validation_rules.specs.Calls.{tail_call, return_call_row}
 use Rattle.validation_rules.specs.Static.{heads}
-use Rattle.validate_stacks.specs.Pops.{popped_each}
+use Rattle.validation_rules.specs.Table.{by_lookup}
 use Rattle.validate_stacks.specs.State.{context}
-use Rattle.validate_rows.proofs.Branching.{ended_valid, ended_kept}
-use Rattle.validate_rows.proofs.Calling.{tail_shut, tail_unknown, tail_of_others, tail_refused, tail_passes}
-use Rattle.validate_rows.proofs.Meeting.{meets_none, meets_done}
+use Rattle.validate_rows.proofs.Calling.{flat_shut, flat_nowhere, flat_opened}
+use Rattle.validate_rows.proofs.Meeting.{meets_none, meets_as}
 use Rattle.validate_rows.proofs.calls.check_return_call.Goals as goal
 
 pub returns-in_err-check_enabled : goal.returns-in_err-check_enabled
 returns-in_err-check_enabled g c =
     let md = g.R.WasmModuleResources.context c.args.resources.now in
     let v = c.args.stacks.now in
-    let none = tail_shut md v c.args.function_index in
+    let none = flat_shut md v TailCall (λ cx hs. return_call_row cx hs c.args.function_index) in
     meets_none md _ c.args.offset v v _ (search rules) (search (rules, none)) (search rules) c.requires.valid refl
 
 pub returns-in_err-func_type : goal.returns-in_err-func_type
 returns-in_err-func_type g c =
     let md = g.R.WasmModuleResources.context c.args.resources.now in
     let v = c.args.stacks.now in
-    let none = tail_unknown md v c.args.function_index c.in_ok-check_enabled.ensures.open c.in_err-func_type.ensures.refused in
+    let none = flat_nowhere md v TailCall (λ cx hs. return_call_row cx hs c.args.function_index) c.in_ok-check_enabled.ensures.open (ap (λ o. by_lookup o (λ (s : Signature). tail_call (context md v) (heads v.present.frames) s.params s.results)) c.in_err-func_type.ensures.refused) in
     meets_none md _ c.args.offset v v _ (search rules) (search (rules, none)) (search rules) c.requires.valid refl
-
-pub returns-in_err-check_func_type_same_results : goal.returns-in_err-check_func_type_same_results
-returns-in_err-check_func_type_same_results g c =
-    let md = g.R.WasmModuleResources.context c.args.resources.now in
-    let v = c.args.stacks.now in
-    let s = c.in_ok-func_type.func_type.now in
-    let others = ap (λ ts. comes_back (context md v) (heads v.present.frames) ts) (sym c.results.ensures) ∙ c.in_err-check_func_type_same_results.ensures.other in
-    let none = tail_of_others md v c.args.function_index c.requires.open_frame s c.in_ok-check_enabled.ensures.open c.in_ok-func_type.ensures.found others in
-    meets_none md _ c.args.offset v v _ (search rules) (search (rules, none)) (search rules) c.requires.valid refl
-
-pub returns-in_err-pop_types : goal.returns-in_err-pop_types
-returns-in_err-pop_types g c =
-    let md = g.R.WasmModuleResources.context c.args.resources.now in
-    let v = c.args.stacks.now in
-    let s = c.in_ok-func_type.func_type.now in
-    let below = ap (λ ts. comes_back (context md v) (heads v.present.frames) ts) (sym c.results.ensures) ∙ c.in_ok-check_func_type_same_results.ensures.below in
-    let missing = ap (λ ts. popped_each md (reverse ts) v) (sym c.params.ensures) ∙ c.in_err-pop_types.ensures.refused in
-    let none = tail_refused md v c.args.function_index c.requires.open_frame s c.in_ok-check_enabled.ensures.open c.in_ok-func_type.ensures.found below missing in
-    meets_none md _ c.args.offset v c.pop_types.new.self _ (search rules) (search (rules, none)) (search rules) c.pop_types.ensures.valid c.pop_types.ensures.kept
 
 pub returns : goal.returns
 returns g c =
     let md = g.R.WasmModuleResources.context c.args.resources.now in
     let v = c.args.stacks.now in
-    let u = c.pop_types.new.self in
-    let w = c.unreachable.new.self in
     let s = c.in_ok-func_type.func_type.now in
-    let below = ap (λ ts. comes_back (context md v) (heads v.present.frames) ts) (sym c.results.ensures) ∙ c.in_ok-check_func_type_same_results.ensures.below in
-    let popped = ap (λ ts. popped_each md (reverse ts) v) (sym c.params.ensures) ∙ c.in_ok-pop_types.ensures.passed in
-    meets_done md _ c.args.offset v w (tail_passes md v c.args.function_index c.requires.open_frame s c.in_ok-check_enabled.ensures.open c.in_ok-func_type.ensures.found u w below popped c.unreachable.ensures)
-    (ended_valid md u w c.pop_types.ensures.valid c.unreachable.ensures) (ended_kept v u w c.pop_types.ensures.kept c.unreachable.ensures)
+    let same = flat_opened md v TailCall (λ cx hs. return_call_row cx hs c.args.function_index) (λ cx hs. tail_call cx hs s.params s.results) c.in_ok-check_enabled.ensures.open (ap (λ o. by_lookup o (λ (s : Signature). tail_call (context md v) (heads v.present.frames) s.params s.results)) c.in_ok-func_type.ensures.found) in
+    meets_as md _ _ c.args.offset v c.check_return_call_ty.new.stacks c.check_return_call_ty.result same c.check_return_call_ty.ensures

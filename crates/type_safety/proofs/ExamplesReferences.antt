@@ -1,0 +1,243 @@
+-- Runs of small bodies with branches that look whether a reference is null: what is carried where it is,
+-- and what where it isn't.
+use Rattle.std.proofs.Common.{◌≡◌, ℕ, ◌+◌, zero, suc, pos, true, false, List, [], ◌∷◌, drop, Some, None, refl, sym, subst, slice_get}
+use Rattle.validate_resources.specs.Lists.{Declared, context_of}
+use Rattle.validate_resources.specs.Lawful.{lawful_lists}
+use Rattle.validate_types.specs.Features.{multi_value, reference_types, function_references}
+use Rattle.validate_types.specs.Refs.{reference}
+use Rattle.validate_types.specs.declared.heap.AbstractHeapType.TheVariants.{Func}
+use Rattle.validate_types.specs.declared.heap.HeapType.{HeapType}
+use Rattle.validate_types.specs.declared.heap.HeapType.TheVariants.{Abstract, Concrete}
+use Rattle.validate_types.specs.declared.heap.UnpackedIndex.TheVariants.{Module, Id}
+use Rattle.validate_types.specs.declared.types.CompositeInnerType.TheVariants.{Func as FuncInner}
+use Rattle.validate_visit.specs.declared.op.ControlOp.TheVariants.{Block as BlockOp, End, CallRef, Drop}
+use Rattle.validate_visit.specs.declared.op.NumericOp.TheVariants.{I32Const}
+use Rattle.validate_visit.specs.declared.op.Op.{Op}
+use Rattle.validate_visit.specs.declared.op.Op.TheVariants.{Control, Numeric, Reference}
+use Rattle.validate_visit.specs.declared.op.ReferenceOp.TheVariants.{RefNull, RefFunc, RefIsNull, RefAsNonNull, BrOnNull, BrOnNonNull}
+use Rattle.validation_rules.specs.Branches.{target}
+use Rattle.validation_rules.specs.Context.{SubType, ValType, I32, I64, Ref, BlockType, Val, FuncType, Context}
+use Rattle.validation_rules.specs.References.{last_without_null}
+use Rattle.validation_rules.specs.Rows.{Block, Ends, Target, Operator}
+use Rattle.validation_rules.specs.Table.{body, operator}
+use Rattle.validation_rules.proofs.Steps.{some_injective}
+use Rattle.type_safety.specs.Machine.{Label, label_heads, At, Reaches, Demand, Demands, Step}
+use Rattle.type_safety.specs.Machine.Outcome.{GoesOn, Jumps}
+use Rattle.type_safety.specs.Theorem.{IsTypeSafe}
+use Rattle.type_safety.proofs.Bodies.{body_safety}
+
+abbrev func : HeapType
+func = Abstract false Func
+
+abbrev concrete : ℕ → HeapType
+concrete i = Concrete (Id (record { index = i }))
+
+-- with null, and without
+abbrev null : HeapType → ValType
+null h = Ref (reference true h)
+
+abbrev no_null : HeapType → ValType
+no_null h = Ref (reference false h)
+
+-- ---- a function from nothing to nothing, and a type of an i32 and a function
+
+abbrev a_type : List ValType → List ValType → SubType
+a_type params results =
+    record { is_final = true; supertype_idx = None; composite_type = record { inner = FuncInner (record { params = params; results = results }); shared = false } }
+
+abbrev declared : Declared
+declared = record { types = a_type [] [] ∷ a_type [] (I32 ∷ no_null func ∷ []) ∷ []; functions = record { type_index = 0; referenced = true } ∷ []; tables = []; memories = []; globals = []; elements = []; data_count = None }
+
+abbrev cx : Context
+cx = record { of_module = context_of declared; features = record { 0 = multi_value + reference_types + function_references }; shared = false; locals = []; entry = [] }
+
+abbrev to_nothing : BlockType
+to_nothing = FuncType 0
+
+abbrev to_i32_and_func : BlockType
+to_i32_and_func = FuncType 1
+
+abbrev block : BlockType → Op
+block bt = Control (BlockOp bt)
+
+abbrev end : Op
+end = Control End
+
+abbrev drops : Op
+drops = Control Drop
+
+abbrev i32_const : Op
+i32_const = Numeric (I32Const (pos 0))
+
+abbrev ref_null : HeapType → Op
+ref_null h = Reference (RefNull h)
+
+abbrev br_on_null : ℕ → Op
+br_on_null d = Reference (BrOnNull d)
+
+abbrev br_on_non_null : ℕ → Op
+br_on_non_null d = Reference (BrOnNonNull d)
+
+abbrev label : ℕ → BlockType → List ValType → Label
+label began ty own = record { began = began; head = record { kind = Block; block_type = ty }; own = own }
+
+abbrev outermost : List ValType → List Label
+outermost own = label 0 to_nothing own ∷ []
+
+-- what holds of the only one of a list
+only : {A : Type 0} (P : A → Type 0) (x : A) → P x → (j : ℕ) (y : A) → slice_get (x ∷ []) j ≡ Some y → P y
+only P x p zero y e = subst P (some_injective x y e) p
+only P x p (suc j) y e = absurd cc
+
+-- ---- out of a block with an i32, where a reference above it is null
+
+abbrev testing_ops : List Op
+testing_ops = block (Val I32) ∷ i32_const ∷ ref_null func ∷ br_on_null 0 ∷ drops ∷ end ∷ drops ∷ end ∷ []
+
+abbrev testing : List Operator
+testing = body cx testing_ops
+
+abbrev in_block : List ValType → List Label
+in_block own = label 0 (Val I32) own ∷ outermost []
+
+-- over the i32 a reference, null or not: the i32 alone is carried
+at_null : Demand cx testing 3 (label 0 (Val I32) (null func ∷ I32 ∷ [])) (outermost []) [] (operator cx (br_on_null 0))
+at_null = record {
+  row = (_, refl);
+  targets = only (λ (t : Target). Reaches cx (drop t.depth (in_block (null func ∷ I32 ∷ []))) (t.carried (I32 ∷ null func ∷ []))) (target cx (label_heads (in_block [])) 0) (refl, tt);
+  clauses = λ j c e. absurd cc;
+  no_else = λ h e. absurd cc;
+}
+
+-- it is null: behind the block, with the i32
+leaves : Step cx testing (At 3 (in_block (null func ∷ I32 ∷ [])) []) (At 6 (outermost (I32 ∷ [])) [])
+leaves = (
+  operator cx (br_on_null 0),
+  refl,
+  at_null,
+  Jumps 0 _ refl refl (record { label = label 0 (Val I32) (null func ∷ I32 ∷ []); outer = outermost []; is = refl; types = I32 ∷ []; below = (refl, tt); arrives = (5, (Ends, (0, refl), refl), refl) }),
+)
+
+-- it isn't: on, with the reference above the i32, now without null
+stays : Step cx testing (At 3 (in_block (null func ∷ I32 ∷ [])) []) (At 4 (in_block (no_null func ∷ I32 ∷ [])) [])
+stays = (
+  operator cx (br_on_null 0),
+  refl,
+  at_null,
+  GoesOn (I32 ∷ no_null func ∷ []) (I32 ∷ no_null func ∷ []) refl refl refl (refl, (refl, tt)) refl,
+)
+
+-- or of a type below it
+stays_below : Step cx testing (At 3 (in_block (null func ∷ I32 ∷ [])) []) (At 4 (in_block (no_null (concrete 0) ∷ I32 ∷ [])) [])
+stays_below = (
+  operator cx (br_on_null 0),
+  refl,
+  at_null,
+  GoesOn (I32 ∷ no_null func ∷ []) (I32 ∷ no_null (concrete 0) ∷ []) refl refl refl (refl, (refl, tt)) refl,
+)
+
+-- with a number in its place a run is stuck there
+stuck_at_number : Demands cx testing (At 3 (in_block (I32 ∷ I32 ∷ [])) []) → ⊥
+stuck_at_number d =
+    let e : operator cx (br_on_null 0) ≡ d.0 = some_injective _ _ d.1 in
+    let d' = subst (λ op. Demand cx testing 3 (label 0 (Val I32) (I32 ∷ I32 ∷ [])) (outermost []) [] op) (sym e) d.2 in
+    let r = d'.row.1 in
+    absurd cc
+
+-- and with another type below it
+stuck_over_other : Demands cx testing (At 3 (in_block (null func ∷ I64 ∷ [])) []) → ⊥
+stuck_over_other d =
+    let e : operator cx (br_on_null 0) ≡ d.0 = some_injective _ _ d.1 in
+    let d' = subst (λ op. Demand cx testing 3 (label 0 (Val I32) (null func ∷ I64 ∷ [])) (outermost []) [] op) (sym e) d.2 in
+    let r = d'.row.1 in
+    absurd cc
+
+testing_safe : IsTypeSafe cx testing to_nothing
+testing_safe = body_safety (context_of declared) (lawful_lists declared refl) cx testing_ops to_nothing refl ([], refl)
+
+-- ---- out of a block of an i32 and a function, where a reference is no null
+
+abbrev giving_ops : List Op
+giving_ops =
+    block to_i32_and_func ∷ i32_const ∷ ref_null func ∷ br_on_non_null 0 ∷ Reference (RefFunc 0) ∷ end ∷ drops ∷ drops ∷ end ∷ []
+
+abbrev giving : List Operator
+giving = body cx giving_ops
+
+abbrev in_giving : List ValType → List Label
+in_giving own = label 0 to_i32_and_func own ∷ outermost []
+
+-- both are carried, and what the block gives is never null
+at_non_null : Demand cx giving 3 (label 0 to_i32_and_func (null func ∷ I32 ∷ [])) (outermost []) [] (operator cx (br_on_non_null 0))
+at_non_null = record {
+  row = (_, refl);
+  targets = only (λ (t : Target). Reaches cx (drop t.depth (in_giving (null func ∷ I32 ∷ []))) (t.carried (I32 ∷ null func ∷ []))) (record { depth = 0; carried = last_without_null }) (refl, (refl, tt));
+  clauses = λ j c e. absurd cc;
+  no_else = λ h e. absurd cc;
+}
+
+-- it isn't null: behind the block, with the i32 and the reference without null
+gives : Step cx giving (At 3 (in_giving (null func ∷ I32 ∷ [])) []) (At 6 (outermost (no_null func ∷ I32 ∷ [])) [])
+gives = (
+  operator cx (br_on_non_null 0),
+  refl,
+  at_non_null,
+  Jumps 0 _ refl refl (record { label = label 0 to_i32_and_func (null func ∷ I32 ∷ []); outer = outermost []; is = refl; types = I32 ∷ no_null func ∷ []; below = (refl, (refl, tt)); arrives = (5, (Ends, (0, refl), refl), refl) }),
+)
+
+-- it is: on, with the i32 alone
+goes : Step cx giving (At 3 (in_giving (null func ∷ I32 ∷ [])) []) (At 4 (in_giving (I32 ∷ [])) [])
+goes = (
+  operator cx (br_on_non_null 0),
+  refl,
+  at_non_null,
+  GoesOn (I32 ∷ []) (I32 ∷ []) refl refl refl (refl, tt) refl,
+)
+
+-- without the i32 a run is stuck there
+stuck_alone : Demands cx giving (At 3 (in_giving (null func ∷ [])) []) → ⊥
+stuck_alone d =
+    let e : operator cx (br_on_non_null 0) ≡ d.0 = some_injective _ _ d.1 in
+    let d' = subst (λ op. Demand cx giving 3 (label 0 to_i32_and_func (null func ∷ [])) (outermost []) [] op) (sym e) d.2 in
+    let r = d'.row.1 in
+    absurd cc
+
+giving_safe : IsTypeSafe cx giving to_nothing
+giving_safe = body_safety (context_of declared) (lawful_lists declared refl) cx giving_ops to_nothing refl ([], refl)
+
+-- ---- a reference that is tested, loses its null, and is called
+
+abbrev calling_ops : List Op
+calling_ops =
+    ref_null func ∷ Reference RefIsNull ∷ drops ∷ ref_null (Concrete (Module 0)) ∷ Reference RefAsNonNull ∷ Control (CallRef 0) ∷ end ∷ []
+
+abbrev calling : List Operator
+calling = body cx calling_ops
+
+tests : Step cx calling (At 1 (outermost (null func ∷ [])) []) (At 2 (outermost (I32 ∷ [])) [])
+tests = (
+  operator cx (Reference RefIsNull),
+  refl,
+  record { row = (_, refl); targets = λ j t e. absurd cc; clauses = λ j c e. absurd cc; no_else = λ h e. absurd cc },
+  GoesOn (I32 ∷ []) (I32 ∷ []) refl refl refl (refl, tt) refl,
+)
+
+loses : Step cx calling (At 4 (outermost (null (concrete 0) ∷ [])) []) (At 5 (outermost (no_null (concrete 0) ∷ [])) [])
+loses = (
+  operator cx (Reference RefAsNonNull),
+  refl,
+  record { row = (_, refl); targets = λ j t e. absurd cc; clauses = λ j c e. absurd cc; no_else = λ h e. absurd cc },
+  GoesOn (no_null (concrete 0) ∷ []) (no_null (concrete 0) ∷ []) refl refl refl (refl, tt) refl,
+)
+
+-- the call takes the reference
+calls : Step cx calling (At 5 (outermost (no_null (concrete 0) ∷ [])) []) (At 6 (outermost []) [])
+calls = (
+  operator cx (Control (CallRef 0)),
+  refl,
+  record { row = (_, refl); targets = λ j t e. absurd cc; clauses = λ j c e. absurd cc; no_else = λ h e. absurd cc },
+  GoesOn [] [] refl refl refl tt refl,
+)
+
+calling_safe : IsTypeSafe cx calling to_nothing
+calling_safe = body_safety (context_of declared) (lawful_lists declared refl) cx calling_ops to_nothing refl ([], refl)

@@ -1,0 +1,163 @@
+//! Calls of a function that an operand names: by its place in a table, or by a reference (WebAssembly core
+//! specification, "Control Instructions").
+
+ghost use Rattle.std.specs.Prelude.{◌≡◌, false, None, Some, IfOk, OnErr, IfErr};
+ghost use Rattle.validate_types.specs.declared.gate.Gate.TheVariants.{TailCall, FunctionReferences};
+ghost use Rattle.validate_resources.specs.Context.{Valid};
+ghost use Rattle.validation_rules.specs.Indirect.{function_place as place_of_function, function_reference as reference_to_function, call_by, return_call_by, call_indirect_row, return_call_indirect_row, call_ref_row, return_call_ref_row};
+ghost use Rattle.validation_rules.specs.Table.{alike, flat, gated};
+ghost use Rattle.validate_stacks.specs.State.{context};
+ghost use Rattle.validate_stacks.specs.Visits.{MayVisit, Meets};
+
+use crate::calls::{check_return_call_ty, func_type_at};
+use crate::plain::{check_enabled, check_plain};
+use crate::tables::table_type_at;
+use validate_resources::WasmModuleResources;
+use validate_resources::uses::laws;
+use validate_stacks::Stacks;
+use validate_types::{Error, Gate, HeapType, RefType, UnpackedIndex, ValType};
+
+/// The type of a place in a table, which has to be one of functions.
+fn function_place<R: WasmModuleResources>(
+    stacks: &Stacks,
+    resources: &R,
+    offset: u64,
+    table_index: u32,
+) -> Result<ValType, Error>
+    ensures found { IfOk result (λ t. place_of_function (context (R.context resources.now) stacks.now) table_index ≡ Some t) }
+    ensures valid { IfOk result (λ t. Valid (R.context resources.now) t) }
+    ensures refused { OnErr result (place_of_function (context (R.context resources.now) stacks.now) table_index ≡ None) }
+    ensures offset { IfErr result (λ e. e.offset ≡ offset) }
+{
+    let table = table_type_at(stacks, resources, offset, table_index)?;
+    if !resources.is_subtype(ValType::Ref(table.element_type), ValType::FUNCREF) {
+        return Err(Error::new(
+            "type mismatch: indirect calls must go through a table with type <= funcref",
+            offset,
+        ));
+    }
+    Ok(table.index_type())
+}
+
+/// A reference, perhaps null, to a function of the type at this index, which has to be declared.
+fn function_reference<R: WasmModuleResources>(
+    stacks: &Stacks,
+    resources: &R,
+    offset: u64,
+    type_index: u32,
+) -> Result<ValType, Error>
+    ensures found { IfOk result (λ t. reference_to_function (context (R.context resources.now) stacks.now) type_index ≡ Some t) }
+    ensures valid { IfOk result (λ t. Valid (R.context resources.now) t) }
+    ensures refused { IfErr result (λ e. e.memory ≡ false → reference_to_function (context (R.context resources.now) stacks.now) type_index ≡ None) }
+    ensures offset { IfErr result (λ e. e.offset ≡ offset) }
+{
+    laws(resources);
+    let _stacks = stacks;
+    let mut heap_type = HeapType::Concrete(UnpackedIndex::Module(type_index));
+    resources.check_heap_type(&mut heap_type, offset)?;
+    let Some(ty) = RefType::new(true, heap_type) else {
+        unreachable!()
+    };
+    Ok(ValType::Ref(ty))
+}
+
+/// A call of a function of the type at this index. The operand on top, of the type `names`, names the
+/// function, and what it takes lies below.
+fn check_call_by<R: WasmModuleResources>(
+    stacks: &mut Stacks,
+    resources: &R,
+    offset: u64,
+    type_index: u32,
+    names: ValType,
+) -> Result<(), Error>
+    requires visit { MayVisit (R.context resources.now) stacks.old }
+    requires names { Valid (R.context resources.now) names }
+    ensures { Meets (R.context resources.now) (λ cx. alike (call_by cx (Some names) type_index)) offset stacks.old result stacks.new }
+{
+    stacks.pop_types(resources, offset, &[names])?;
+    let func_type = func_type_at(stacks, resources, offset, type_index)?;
+    let (params, results) = (func_type.params(), func_type.results());
+    check_plain(stacks, resources, offset, Gate::Mvp, params, results)
+}
+
+/// The same in the place of the rest of the body.
+fn check_return_call_by<R: WasmModuleResources>(
+    stacks: &mut Stacks,
+    resources: &R,
+    offset: u64,
+    type_index: u32,
+    names: ValType,
+) -> Result<(), Error>
+    requires visit { MayVisit (R.context resources.now) stacks.old }
+    requires names { Valid (R.context resources.now) names }
+    ensures { Meets (R.context resources.now) (λ cx. flat (λ hs. return_call_by cx hs (Some names) type_index)) offset stacks.old result stacks.new }
+{
+    stacks.pop_types(resources, offset, &[names])?;
+    let func_type = func_type_at(stacks, resources, offset, type_index)?;
+    check_return_call_ty(stacks, resources, offset, func_type)
+}
+
+/// `call_indirect`: `[params it] -> [results]` of a function of the type at this index in a table of
+/// functions.
+pub fn check_call_indirect<R: WasmModuleResources>(
+    stacks: &mut Stacks,
+    resources: &R,
+    offset: u64,
+    type_index: u32,
+    table_index: u32,
+) -> Result<(), Error>
+    requires { MayVisit (R.context resources.now) stacks.old }
+    ensures { Meets (R.context resources.now) (λ cx. alike (call_indirect_row cx type_index table_index)) offset stacks.old result stacks.new }
+{
+    let place = function_place(stacks, resources, offset, table_index)?;
+    check_call_by(stacks, resources, offset, type_index, place)
+}
+
+/// `return_call_indirect`: what `call_indirect` takes. The body returns the results of the function, and
+/// the live part of the frame ends. Its gate is `tail_call`.
+pub fn check_return_call_indirect<R: WasmModuleResources>(
+    stacks: &mut Stacks,
+    resources: &R,
+    offset: u64,
+    type_index: u32,
+    table_index: u32,
+) -> Result<(), Error>
+    requires { MayVisit (R.context resources.now) stacks.old }
+    ensures { Meets (R.context resources.now) (λ cx. flat (λ hs. gated cx TailCall (return_call_indirect_row cx hs type_index table_index))) offset stacks.old result stacks.new }
+{
+    check_enabled(stacks, offset, Gate::TailCall)?;
+    let place = function_place(stacks, resources, offset, table_index)?;
+    check_return_call_by(stacks, resources, offset, type_index, place)
+}
+
+/// `call_ref`: `[params (ref null t)] -> [results]` of a function of the type t at this index. Its gate is
+/// `function_references`.
+pub fn check_call_ref<R: WasmModuleResources>(
+    stacks: &mut Stacks,
+    resources: &R,
+    offset: u64,
+    type_index: u32,
+) -> Result<(), Error>
+    requires { MayVisit (R.context resources.now) stacks.old }
+    ensures { Meets (R.context resources.now) (λ cx. alike (gated cx FunctionReferences (call_ref_row cx type_index))) offset stacks.old result stacks.new }
+{
+    check_enabled(stacks, offset, Gate::FunctionReferences)?;
+    let reference = function_reference(stacks, resources, offset, type_index)?;
+    check_call_by(stacks, resources, offset, type_index, reference)
+}
+
+/// `return_call_ref`: what `call_ref` takes. The body returns the results of the function, and the live
+/// part of the frame ends. Its gate is `function_references`.
+pub fn check_return_call_ref<R: WasmModuleResources>(
+    stacks: &mut Stacks,
+    resources: &R,
+    offset: u64,
+    type_index: u32,
+) -> Result<(), Error>
+    requires { MayVisit (R.context resources.now) stacks.old }
+    ensures { Meets (R.context resources.now) (λ cx. flat (λ hs. gated cx FunctionReferences (return_call_ref_row cx hs type_index))) offset stacks.old result stacks.new }
+{
+    check_enabled(stacks, offset, Gate::FunctionReferences)?;
+    let reference = function_reference(stacks, resources, offset, type_index)?;
+    check_return_call_by(stacks, resources, offset, type_index, reference)
+}

@@ -6,9 +6,7 @@ use crate::br_table::BrTable;
 use crate::frame::BlockType;
 use crate::ieee::{Ieee32, Ieee64};
 use crate::memory::{MemArg, Ordering};
-use crate::op::{
-    AtomicOp, ControlOp, ConvertOp, MemoryOp, NumericOp, Op, ReferenceOp, TableOp,
-};
+use crate::op::{AtomicOp, ControlOp, ConvertOp, MemoryOp, NumericOp, Op, ReferenceOp, TableOp};
 use validate_types::{HeapType, ValType};
 
 /// Visits operators (wasmparser's `VisitOperator`): one call for each operator, with its immediates.

@@ -22,8 +22,8 @@ use validate_stacks::blocks::label_types;
 use validate_stacks::{Stacks, ty_to_str};
 use validate_types::{Error, Gate, HeapType, MaybeType, RefType, UnpackedIndex, ValType};
 
-/// The gate of the type of null. An index of 2^20 or more, to which no reference is made, is unknown, and
-/// so refused later on.
+/// The gate of the type of null. A type index of 2^20 or more, to which no reference can be made, has none:
+/// a lookup of at most 1,000,000 types refuses it later on.
 fn check_null_gate(stacks: &Stacks, offset: u64, heap_type: HeapType) -> Result<(), Error>
     ensures open { OnOk result ((md : ModuleContext) → null_gate (context md stacks.now) heap_type ≡ true) }
     ensures closed { OnErr result ((md : ModuleContext) → null_gate (context md stacks.now) heap_type ≡ false) }

@@ -19,8 +19,8 @@ use Rattle.validation_rules.specs.Shapes.{plain, by_lookup, looking, gated}
 
 -- ---- null, and references to functions
 
--- The gate of the type of null is open. No reference is made to a type index of 2^20 or more, and no
--- such index is known.
+-- The gate of the type of null is open. To a type index of 2^20 or more no reference can be made, so
+-- that it has no gate; of at most 1,000,000 types none has such an index.
 abbrev pub null_gate : Context → HeapType → Bool
 null_gate cx h = not (fits_reference h) || ref_gate cx.features (reference true h)
 

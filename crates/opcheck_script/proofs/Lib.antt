@@ -4,3 +4,4 @@ mod References
 mod Types
 pub mod Locals
 pub mod Reports
+mod Attempts

@@ -4,7 +4,7 @@ use Rattle.std.proofs.lemmas.List.{take_more}
 use Rattle.validate_types.specs.declared.features.WasmFeatures.{WasmFeatures}
 use Rattle.validate_resources.specs.Context.{ModuleContext}
 use Rattle.validate_stacks.specs.State.{BodyState}
-use Rattle.wasmparser_validate.specs.Start.{DefinesLocals}
+use Rattle.validate_body.specs.Start.{DefinesLocals}
 use Rattle.opcheck_script.specs.Begin.{DefinesEach, HasLocals}
 use Rattle.opcheck_script.specs.declared.script.Body.{Body}
 use Rattle.opcheck_script.specs.declared.script.LocalLine.{LocalLine}

@@ -1,5 +1,6 @@
 -- The immediates of a load or a store, as a script writes them.
-use Rattle.std.specs.Prelude.{◌≡◌, ◌+◌, ℕ, List, Option, IfSome, find, drop, length, codes, is_some, unwrap_or, nat_eq, if◌then◌else◌}
+use Rattle.std.specs.Prelude.{◌≡◌, ◌+◌, ℕ, List, Option, IfSome, find, drop, length, codes, is_some}
+use Rattle.std.specs.Prelude.{unwrap_or, nat_eq, if◌then◌else◌}
 use Rattle.std.specs.List.{starts_with}
 use Rattle.std.specs.Option.{option_map}
 use Rattle.std.specs.Str.Parse.{digits_value}
@@ -9,7 +10,8 @@ use Rattle.opcheck_script.specs.Numbers.{IsIndex, IsExponent, IsLongNumber}
 
 -- what follows this name in the first word that begins with it
 abbrev pub following : List ℕ → List (List ℕ) → Option (List ℕ)
-following name words = option_map (λ word. drop (length name) word) (find (λ word. starts_with nat_eq word name) words)
+following name words =
+    option_map (λ word. drop (length name) word) (find (λ word. starts_with nat_eq word name) words)
 
 abbrev pub offset_in : List (List ℕ) → Option (List ℕ)
 offset_in words = following (codes "offset=") words
@@ -26,7 +28,9 @@ one_if_some said = if is_some said then 1 else 0
 -- Words that write the immediates of an access. Each says one of the three, and no two say the same:
 -- there are as many words as are said of the three.
 pub record IsAccess (words : List (List ℕ)) : Type 0 where
-  pub known : length words ≡ one_if_some (offset_in words) + one_if_some (align_in words) + one_if_some (memory_in words)
+  pub known :
+      length words
+      ≡ one_if_some (offset_in words) + one_if_some (align_in words) + one_if_some (memory_in words)
   pub offset : IfSome (offset_in words) IsLongNumber
   pub align : IfSome (align_in words) IsExponent
   pub memory : IfSome (memory_in words) IsIndex

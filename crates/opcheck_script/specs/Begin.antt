@@ -4,14 +4,15 @@ use Rattle.validate_types.specs.declared.features.WasmFeatures.{WasmFeatures}
 use Rattle.validate_types.specs.declared.types.ValType.{ValType}
 use Rattle.validate_resources.specs.Context.{ModuleContext}
 use Rattle.validate_stacks.specs.State.{BodyState}
-use Rattle.wasmparser_validate.specs.Start.{const_start, IsFuncStart, HasTooManyParams, DefinesLocals, CannotDefine}
+use Rattle.validate_body.specs.Start.{const_start, IsFuncStart, HasTooManyParams, DefinesLocals, CannotDefine}
 use Rattle.opcheck_script.specs.declared.script.Body.{Body}
 use Rattle.opcheck_script.specs.declared.script.Body.TheVariants.{Function, Expression}
 use Rattle.opcheck_script.specs.declared.script.BodyLine.{BodyLine}
 use Rattle.opcheck_script.specs.declared.script.LocalLine.{LocalLine}
 
 -- a constant expression starts: its type passes the check, and the frame gives the canonical form
-pub record IsExpressionStart (md : ModuleContext) (features : WasmFeatures) (ty : ValType) (v : BodyState) : Type 0 where
+pub record IsExpressionStart
+    (md : ModuleContext) (features : WasmFeatures) (ty : ValType) (v : BodyState) : Type 0 where
   pub type : ValType
   pub is_canonical : md.canonical features ty ≡ Some type
   pub starts : v ≡ const_start features type
@@ -33,13 +34,17 @@ DefinesEach md [] v w = v ≡ w
 DefinesEach md (l ∷ ls) v w = (u : BodyState) × DefinesLocals md l.count l.ty v u × DefinesEach md ls u w
 
 -- the body's start, with exactly the locals that these lines define
-pub record HasLocals (md : ModuleContext) (features : WasmFeatures) (body : Body) (lines : List LocalLine) (w : BodyState) : Type 0 where
+pub record HasLocals
+    (md : ModuleContext) (features : WasmFeatures) (body : Body) (lines : List LocalLine)
+    (w : BodyState) : Type 0 where
   pub start : BodyState
   pub starts : IsBodyStart md features body start
   pub defines : DefinesEach md lines start w
 
 -- a `local` line, the one at this offset, defines no locals in the state that those before it lead to
-pub record HasBadLocal (md : ModuleContext) (features : WasmFeatures) (body : Body) (lines : List LocalLine) (offset : ℕ) : Type 0 where
+pub record HasBadLocal
+    (md : ModuleContext) (features : WasmFeatures) (body : Body) (lines : List LocalLine)
+    (offset : ℕ) : Type 0 where
   pub index : ℕ
   pub line : LocalLine
   pub is_there : slice_get lines index ≡ Some line
@@ -51,4 +56,5 @@ pub record HasBadLocal (md : ModuleContext) (features : WasmFeatures) (body : Bo
 -- Why a body is refused before its operators, and at which line: the `func` or `expr` line, or the
 -- first `local` line that defines none.
 abbrev pub CannotBegin : ModuleContext → WasmFeatures → BodyLine → List LocalLine → ℕ → Type 0
-CannotBegin md features line lines offset = (CannotStart md features line.body × (offset ≡ line.offset)) ⊎ HasBadLocal md features line.body lines offset
+CannotBegin md features line lines offset =
+    (CannotStart md features line.body × (offset ≡ line.offset)) ⊎ HasBadLocal md features line.body lines offset

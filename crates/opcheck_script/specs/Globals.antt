@@ -4,4 +4,5 @@ use Rattle.validate_types.specs.declared.types.GlobalType.{GlobalType}
 
 -- the marks of a global, in their order
 abbrev pub global_marks : GlobalType → List (List ℕ)
-global_marks g = (if g.mutable then codes "mut" ∷ [] else []) ++ (if g.shared then codes "shared" ∷ [] else [])
+global_marks g =
+    (if g.mutable then codes "mut" ∷ [] else []) ++ (if g.shared then codes "shared" ∷ [] else [])

@@ -1,6 +1,8 @@
 pub mod Numbers
 pub mod Status
 pub mod Owned
+pub mod Written
+pub mod Attempts
 pub mod References
 pub mod Types
 pub mod Functions

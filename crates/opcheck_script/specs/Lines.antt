@@ -1,5 +1,6 @@
 -- The words of lines, and the order of lines.
-use Rattle.std.specs.Prelude.{◌≡◌, ◌==◌, ◌++◌, ℕ, List, [], ◌∷◌, Bool, true, false, not, Option, Some, None, ◌^◌, ◌-◌, length, is_some, if◌then◌else◌, vec_len}
+use Rattle.std.specs.Prelude.{◌≡◌, ◌==◌, ◌++◌, ℕ, List, [], ◌∷◌, Bool, true, false, not, Option, Some, None}
+use Rattle.std.specs.Prelude.{◌^◌, ◌-◌, length, is_some, if◌then◌else◌, vec_len}
 use Rattle.std.specs.List.{filter, slice_split}
 use Rattle.std.specs.Int.RustNames.{bit_or}
 use Rattle.validate_types.specs.declared.features.WasmFeatures.{WasmFeatures}
@@ -14,9 +15,18 @@ use Rattle.opcheck_script.specs.declared.script.LocalLine.{LocalLine}
 use Rattle.opcheck_script.specs.declared.script.Draft.{Draft}
 use Rattle.opcheck_script.specs.declared.script.Part.{Part}
 use Rattle.opcheck_script.specs.declared.script.Part.TheVariants.{Module, Locals, Operators}
-use Rattle.opcheck_script.specs.declared.script.owned.OwnedOp.{OwnedOp}
+use Rattle.opcheck_script.specs.declared.script.written.WrittenOp.{WrittenOp}
 use Rattle.opcheck_script.specs.declared.script.lines.Line.{Line}
-use Rattle.opcheck_script.specs.declared.script.lines.Line.TheVariants.{Feature as OnFeature, SubType as OnType, Function as OnFunction, Table as OnTable, Memory as OnMemory, Global as OnGlobal, Element as OnElement, DataCount as OnDataCount, Body as OnBody, Locals as OnLocals, Operator as OnOperator}
+use Rattle.opcheck_script.specs.declared.script.lines.Line.TheVariants.{Feature as OnFeature}
+use Rattle.opcheck_script.specs.declared.script.lines.Line.TheVariants.{SubType as OnType}
+use Rattle.opcheck_script.specs.declared.script.lines.Line.TheVariants.{Function as OnFunction}
+use Rattle.opcheck_script.specs.declared.script.lines.Line.TheVariants.{Table as OnTable}
+use Rattle.opcheck_script.specs.declared.script.lines.Line.TheVariants.{Memory as OnMemory}
+use Rattle.opcheck_script.specs.declared.script.lines.Line.TheVariants.{Global as OnGlobal}
+use Rattle.opcheck_script.specs.declared.script.lines.Line.TheVariants.{Element as OnElement}
+use Rattle.opcheck_script.specs.declared.script.lines.Line.TheVariants.{DataCount as OnDataCount}
+use Rattle.opcheck_script.specs.declared.script.lines.Line.TheVariants.{Body as OnBody, Locals as OnLocals}
+use Rattle.opcheck_script.specs.declared.script.lines.Line.TheVariants.{Operator as OnOperator}
 
 -- the words of a line: what lies between spaces (32) and isn't empty
 abbrev pub words_in : List ℕ → List (List ℕ)
@@ -92,7 +102,7 @@ abbrev pub locals_of : Line → ℕ → List LocalLine
 locals_of (OnLocals n t) number = record { count = n; ty = t; offset = number } ∷ []
 locals_of _ number = []
 
-abbrev pub operators_of : Line → ℕ → List (OwnedOp × ℕ)
+abbrev pub operators_of : Line → ℕ → List (WrittenOp × ℕ)
 operators_of (OnOperator op) number = (op, number) ∷ []
 operators_of _ number = []
 

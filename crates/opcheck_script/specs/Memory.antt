@@ -2,7 +2,9 @@
 use Rattle.std.specs.Prelude.{ℕ, List, [], ◌∷◌, ◌++◌, codes, if◌then◌else◌}
 use Rattle.validate_types.specs.declared.types.MemoryType.{MemoryType}
 use Rattle.validate_visit.specs.declared.op.MemoryOp.{MemoryOp}
-use Rattle.validate_visit.specs.declared.op.MemoryOp.TheVariants.{MemorySize, MemoryGrow, MemoryInit, DataDrop, MemoryCopy, MemoryFill, MemoryDiscard}
+use Rattle.validate_visit.specs.declared.op.MemoryOp.TheVariants.{MemorySize, MemoryGrow, MemoryInit}
+use Rattle.validate_visit.specs.declared.op.MemoryOp.TheVariants.{DataDrop, MemoryCopy, MemoryFill}
+use Rattle.validate_visit.specs.declared.op.MemoryOp.TheVariants.{MemoryDiscard}
 
 -- the marks of a memory, in their order
 abbrev pub marks_of : MemoryType → List (List ℕ)

@@ -4,4 +4,13 @@ use Rattle.opcheck_script.specs.declared.script.Declarations.{Declarations}
 
 -- the lists themselves
 abbrev pub declared_by : Declarations → Declared
-declared_by d = record { types = d.types.items; functions = d.functions.items; tables = d.tables.items; memories = d.memories.items; globals = d.globals.items; elements = d.elements.items; data_count = d.data_count }
+declared_by d =
+    record {
+      types = d.types.items;
+      functions = d.functions.items;
+      tables = d.tables.items;
+      memories = d.memories.items;
+      globals = d.globals.items;
+      elements = d.elements.items;
+      data_count = d.data_count;
+    }

@@ -22,7 +22,9 @@ constant_digits bs = if starts_with_minus bs then drop 1 bs else bs
 
 -- the number that a constant writes
 abbrev pub constant_value : List ℕ → ℤ
-constant_value bs = if starts_with_minus bs then neg_ℤ (pos (digits_value 10 (constant_digits bs))) else pos (digits_value 10 (constant_digits bs))
+constant_value bs =
+    if starts_with_minus bs then neg_ℤ (pos (digits_value 10 (constant_digits bs)))
+    else pos (digits_value 10 (constant_digits bs))
 
 -- digits, perhaps after a minus, that write a number in the signed range of this width
 abbrev pub IsConstant : Width → List ℕ → Type 0

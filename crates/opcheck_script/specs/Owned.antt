@@ -1,9 +1,11 @@
 -- Operators that own their lists, and operators that borrow them.
-use Rattle.std.specs.Prelude.{ℕ, Bool, true, List, [], ◌∷◌, ◌++◌, map}
+use Rattle.std.specs.Prelude.{ℕ, Bool, true, false, List, [], ◌∷◌, ◌++◌, map}
 use Rattle.validate_types.specs.declared.types.ValType.{ValType}
+use Rattle.validate_visit.specs.Order.{Nesting, nesting, Flat as NestsFlat}
 use Rattle.validate_visit.specs.declared.op.Op.{Op}
 use Rattle.validate_visit.specs.declared.op.Op.TheVariants.{Control}
-use Rattle.validate_visit.specs.declared.op.ControlOp.TheVariants.{BrTable as OnTable, TypedSelectMulti as OnTypes}
+use Rattle.validate_visit.specs.declared.op.ControlOp.TheVariants.{BrTable as OnTable}
+use Rattle.validate_visit.specs.declared.op.ControlOp.TheVariants.{TypedSelectMulti as OnTypes}
 use Rattle.opcheck_script.specs.declared.script.owned.OwnedOp.{OwnedOp}
 use Rattle.opcheck_script.specs.declared.script.owned.OwnedOp.TheVariants.{Flat, BrTable, TypedSelectMulti}
 
@@ -28,8 +30,18 @@ owned_value (TypedSelectMulti types) = Types types.items
 abbrev pub op_values : List (Op × ℕ) → List (OpValue × ℕ)
 op_values ops = map (λ (p : Op × ℕ). (op_value p.0, p.1)) ops
 
-abbrev pub owned_values : List (OwnedOp × ℕ) → List (OpValue × ℕ)
-owned_values operators = map (λ (p : OwnedOp × ℕ). (owned_value p.0, p.1)) operators
+-- what it does to the open parts of a body
+abbrev pub value_nesting : OpValue → Nesting
+value_nesting (Other op) = nesting op
+value_nesting _ = NestsFlat
+
+abbrev pub is_flat : Nesting → Bool
+is_flat NestsFlat = true
+is_flat _ = false
+
+-- it opens no part, and ends or begins none: only such an operator may be attempted
+abbrev pub may_be_attempted : OwnedOp → Bool
+may_be_attempted op = is_flat (value_nesting (owned_value op))
 
 -- the labels of a table, the default last
 abbrev pub labels_of : OwnedOp → List ℕ

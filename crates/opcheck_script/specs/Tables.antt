@@ -2,7 +2,8 @@
 use Rattle.std.specs.Prelude.{ℕ, List, [], ◌∷◌, ◌++◌, codes, if◌then◌else◌}
 use Rattle.validate_types.specs.declared.types.TableType.{TableType}
 use Rattle.validate_visit.specs.declared.op.TableOp.{TableOp}
-use Rattle.validate_visit.specs.declared.op.TableOp.TheVariants.{TableGet, TableSet, TableGrow, TableSize, TableFill, TableInit, ElemDrop, TableCopy}
+use Rattle.validate_visit.specs.declared.op.TableOp.TheVariants.{TableGet, TableSet, TableGrow, TableSize}
+use Rattle.validate_visit.specs.declared.op.TableOp.TheVariants.{TableFill, TableInit, ElemDrop, TableCopy}
 
 -- the marks of a table, in their order
 abbrev pub table_marks : TableType → List (List ℕ)

@@ -3,7 +3,8 @@ use Rattle.std.specs.Prelude.{◌++◌, ℕ, List, [], codes, decimal}
 use Rattle.opcheck_script.specs.declared.failure.BadScript.{BadScript}
 use Rattle.opcheck_script.specs.declared.failure.BadScript.TheVariants.{Input, Line, Order, Module}
 use Rattle.opcheck_script.specs.declared.failure.Failure.{Failure}
-use Rattle.opcheck_script.specs.declared.failure.Failure.TheVariants.{BadScript as OfBadScript, OutOfMemory, Output}
+use Rattle.opcheck_script.specs.declared.failure.Failure.TheVariants.{BadScript as OfBadScript, OutOfMemory}
+use Rattle.opcheck_script.specs.declared.failure.Failure.TheVariants.{Output}
 use Rattle.opcheck_script.specs.declared.verdict.Verdict.{Verdict}
 use Rattle.opcheck_script.specs.declared.verdict.Verdict.TheVariants.{Accepted, Refused, Open}
 

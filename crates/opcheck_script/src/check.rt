@@ -3,42 +3,46 @@
 ghost use Rattle.std.specs.Prelude.{◌≡◌, ◌⊎◌, true, false, None, Some, IsSome, IfSome, IfOk, OnOk, IfErr};
 ghost use Rattle.std.specs.List.{list_all};
 ghost use Rattle.validate_visit.specs.Immediates.{module_immediates};
-ghost use Rattle.validate_resources.specs.Kept.{declared};
+ghost use Rattle.validate_resources.specs.Kept.{declared_lists};
 ghost use Rattle.validate_resources.specs.Lists.{context_of, module_of};
 ghost use Rattle.validate_stacks.specs.State.{IsStarting};
-ghost use Rattle.wasmparser_validate.specs.Start.{state};
+ghost use Rattle.validate_body.specs.Start.{state};
 ghost use Rattle.opcheck_script.specs.Module.{declared_by};
 ghost use Rattle.opcheck_script.specs.Begin.{IsExpressionStart, IsBodyStart, CannotStart, HasLocals, CannotBegin};
-ghost use Rattle.opcheck_script.specs.Owned.{op_values, owned_values};
+ghost use Rattle.opcheck_script.specs.Owned.{op_values};
+ghost use Rattle.opcheck_script.specs.Written.{written_values, attempts_of};
 ghost use Rattle.opcheck_script.specs.Reports.{IsReport, may_be_body};
 ghost use Rattle.opcheck_script.specs.declared.failure.BadScript.{BadScript};
 ghost use Rattle.opcheck_script.specs.declared.failure.Failure.{Failure};
 
+use crate::body::run_operators;
 use crate::failure::{BadScript, Failure};
+use crate::report::{Answers, Report};
 use crate::script::owned::borrowed_ops;
+use crate::script::written::WrittenOp;
 use crate::script::{Body, BodyLine, Declarations, LocalLine, Script};
 use std::alloc::Global;
-use wasmparser_validate::operators::{OperatorValidator, OperatorValidatorAllocations, check_ops};
-use wasmparser_validate::resources::uses::laws;
-use wasmparser_validate::resources::{ModuleLists, WasmModuleResources};
-use wasmparser_validate::types::{Error, ValType, WasmFeatures};
-use wasmparser_validate::visit::{Op, has_module_immediates, is_well_ordered};
-
-/// What the validator says of a body.
-#[derive(Drop)]
-pub struct Report {
-    /// How many operands and frames there are after each accepted operator.
-    pub heights: Vec<(usize, usize)>,
-    /// Whether the outermost frame is closed; or the refusal that ended the run.
-    pub outcome: Result<bool, Error>,
-}
+use validate_body::OperatorValidator;
+use validate_resources::uses::laws;
+use validate_resources::{ModuleLists, WasmModuleResources};
+use validate_stacks::OperatorValidatorAllocations;
+use validate_types::{Error, ValType, WasmFeatures};
+use validate_visit::{Op, has_module_immediates, is_well_ordered};
 
 /// Checks a script: first its order, then its module, then its body. The operators that are checked
 /// are those of the script, with the same lists.
 pub fn check_script(alloc: Global, script: Script) -> Result<Report, Failure>
     ensures module { OnOk result (IsSome (module_of (declared_by script.declarations))) }
-    ensures report { IfOk result (λ report. (ops : _) × (op_values ops ≡ owned_values script.operators.items) × (may_be_body ops ≡ true) × IfSome (module_of (declared_by script.declarations)) (λ lists. IsReport (context_of lists) script.features script.body script.locals.items ops report.heights.items report.outcome)) }
-    ensures cause { IfErr result (λ failure. (failure ≡ Failure.OutOfMemory) ⊎ ((failure ≡ Failure.BadScript BadScript.Order) × ((ops : _) × (op_values ops ≡ owned_values script.operators.items) × (may_be_body ops ≡ false))) ⊎ ((failure ≡ Failure.BadScript BadScript.Module) × (module_of (declared_by script.declarations) ≡ None))) }
+    ensures report { IfOk result (λ report. (ops : _)
+        × (op_values ops ≡ written_values script.operators.items) × (may_be_body ops ≡ true)
+        × IfSome (module_of (declared_by script.declarations))
+        (λ lists. IsReport (context_of lists) script.features script.body script.locals.items ops
+        (attempts_of script.operators.items) report.answers report.outcome)) }
+    ensures cause { IfErr result (λ failure. (failure ≡ Failure.OutOfMemory)
+        ⊎ ((failure ≡ Failure.BadScript BadScript.Order)
+        × ((ops : _) × (op_values ops ≡ written_values script.operators.items)
+        × (may_be_body ops ≡ false))) ⊎ ((failure ≡ Failure.BadScript BadScript.Module)
+        × (module_of (declared_by script.declarations) ≡ None))) }
 {
     let Script {
         features,
@@ -50,40 +54,50 @@ pub fn check_script(alloc: Global, script: Script) -> Result<Report, Failure>
     let Ok(ops) = borrowed_ops(alloc, &operators) else {
         return Err(Failure::OutOfMemory);
     };
-    check_operators(alloc, features, declarations, body, &locals, &ops)
+    check_operators(
+        alloc,
+        features,
+        declarations,
+        body,
+        &locals,
+        &operators,
+        &ops,
+    )
 }
 
-/// Checks the operators of a body, in the module of these declarations, with these proposals on.
+/// Checks the operators of a body, in the module of these declarations, with these proposals on. They
+/// borrow the lists of those that were written.
 fn check_operators(
     alloc: Global,
     features: WasmFeatures,
     declarations: Declarations,
     line: BodyLine,
     locals: &[LocalLine],
+    operators: &[(WrittenOp, u64)],
     ops: &[(Op<'_>, u64)],
 ) -> Result<Report, Failure>
+    requires { op_values ops.now ≡ written_values operators.now }
     ensures ordered { OnOk result (may_be_body ops.now ≡ true) }
     ensures module { OnOk result (IsSome (module_of (declared_by declarations))) }
-    ensures report { IfOk result (λ report. IfSome (module_of (declared_by declarations)) (λ lists. IsReport (context_of lists) features line locals.now ops.now report.heights.items report.outcome)) }
-    ensures cause { IfErr result (λ failure. (failure ≡ Failure.OutOfMemory) ⊎ ((failure ≡ Failure.BadScript BadScript.Order) × (may_be_body ops.now ≡ false)) ⊎ ((failure ≡ Failure.BadScript BadScript.Module) × (module_of (declared_by declarations) ≡ None))) }
+    ensures report { IfOk result (λ report. IfSome (module_of (declared_by declarations))
+        (λ lists. IsReport (context_of lists) features line locals.now ops.now
+        (attempts_of operators.now) report.answers report.outcome)) }
+    ensures cause { IfErr result (λ failure. (failure ≡ Failure.OutOfMemory)
+        ⊎ ((failure ≡ Failure.BadScript BadScript.Order) × (may_be_body ops.now ≡ false))
+        ⊎ ((failure ≡ Failure.BadScript BadScript.Module)
+        × (module_of (declared_by declarations) ≡ None))) }
 {
     if !is_well_ordered(ops) || !have_module_immediates(ops) {
         return Err(Failure::BadScript(BadScript::Order));
     }
     let module = module_lists(alloc, declarations)?;
-    let mut heights = Vec::new(alloc);
-    let mut validator = match begin_body(alloc, &module, &features, line, locals) {
-        Ok(validator) => validator,
-        Err(refusal) => {
-            let outcome = Err(refusal);
-            return Ok(Report { heights, outcome });
-        }
-    };
-    let outcome = match check_ops(&mut validator, ops, &module, &mut heights) {
-        Ok(closed) => Ok(closed),
-        Err((_, refusal)) => Err(refusal),
-    };
-    Ok(Report { heights, outcome })
+    match begin_body(alloc, &module, &features, line, locals) {
+        Ok(mut validator) => Ok(run_operators(alloc, &mut validator, ops, operators, &module)),
+        Err(refusal) => Ok(Report {
+            answers: Answers::Heights(Vec::new(alloc)),
+            outcome: Err(refusal),
+        }),
+    }
 }
 
 /// Whether the immediates are those of a module, as they are of all operators that a script can write.
@@ -95,8 +109,10 @@ fn have_module_immediates(operators: &[(Op<'_>, u64)]) -> bool
 
 /// The module of these declarations, in its canonical form.
 fn module_lists(alloc: Global, declarations: Declarations) -> Result<ModuleLists, Failure>
-    ensures kept { IfOk result (λ lists. module_of (declared_by declarations) ≡ Some (declared lists)) }
-    ensures cause { IfErr result (λ failure. (failure ≡ Failure.OutOfMemory) ⊎ ((failure ≡ Failure.BadScript BadScript.Module) × (module_of (declared_by declarations) ≡ None))) }
+    ensures kept { IfOk result (λ lists. module_of (declared_by declarations) ≡ Some (declared_lists lists)) }
+    ensures cause { IfErr result (λ failure. (failure ≡ Failure.OutOfMemory)
+        ⊎ ((failure ≡ Failure.BadScript BadScript.Module)
+        × (module_of (declared_by declarations) ≡ None))) }
 {
     let Declarations {
         types,
@@ -129,8 +145,10 @@ pub fn begin_body<R: WasmModuleResources>(
     locals: &[LocalLine],
 ) -> Result<OperatorValidator, Error>
     ensures starting { IfOk result (λ validator. IsStarting (R.context resources.now) (state validator)) }
-    ensures locals { IfOk result (λ validator. HasLocals (R.context resources.now) features.now line.body locals.now (state validator)) }
-    ensures refused { IfErr result (λ e. e.memory ≡ false → CannotBegin (R.context resources.now) features.now line locals.now e.offset) }
+    ensures locals { IfOk result (λ validator. HasLocals (R.context resources.now) features.now
+        line.body locals.now (state validator)) }
+    ensures refused { IfErr result (λ e. e.memory ≡ false
+        → CannotBegin (R.context resources.now) features.now line locals.now e.offset) }
 {
     let mut validator = start_body(alloc, resources, features, line)?;
     for local in locals {
@@ -147,8 +165,10 @@ fn start_body<R: WasmModuleResources>(
     line: BodyLine,
 ) -> Result<OperatorValidator, Error>
     ensures starting { IfOk result (λ validator. IsStarting (R.context resources.now) (state validator)) }
-    ensures made { IfOk result (λ validator. IsBodyStart (R.context resources.now) features.now line.body (state validator)) }
-    ensures refused { IfErr result (λ e. e.memory ≡ false → CannotStart (R.context resources.now) features.now line.body) }
+    ensures made { IfOk result (λ validator. IsBodyStart (R.context resources.now) features.now
+        line.body (state validator)) }
+    ensures refused { IfErr result (λ e. e.memory ≡ false
+        → CannotStart (R.context resources.now) features.now line.body) }
     ensures offset { IfErr result (λ e. e.memory ≡ false → e.offset ≡ line.offset) }
 {
     let allocs = OperatorValidatorAllocations::new(alloc);
@@ -169,8 +189,10 @@ fn start_expression<R: WasmModuleResources>(
     allocs: OperatorValidatorAllocations,
 ) -> Result<OperatorValidator, Error>
     ensures starting { IfOk result (λ validator. IsStarting (R.context resources.now) (state validator)) }
-    ensures made { IfOk result (λ validator. IsExpressionStart (R.context resources.now) features.now ty (state validator)) }
-    ensures refused { IfErr result (λ e. e.memory ≡ false → (R.context resources.now).canonical features.now ty ≡ None) }
+    ensures made { IfOk result (λ validator. IsExpressionStart (R.context resources.now) features.now ty
+        (state validator)) }
+    ensures refused { IfErr result (λ e. e.memory ≡ false
+        → (R.context resources.now).canonical features.now ty ≡ None) }
     ensures offset { IfErr result (λ e. e.memory ≡ false → e.offset ≡ offset) }
 {
     laws(resources);

@@ -3,11 +3,13 @@
 //! and outputs.
 #![tactic(auto)]
 
+mod body;
 mod check;
 mod failure;
 mod input;
 mod print;
 mod program;
+mod report;
 mod script;
 mod verdict;
 

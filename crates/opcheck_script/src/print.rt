@@ -7,26 +7,29 @@ ghost use Rattle.opcheck_script.specs.declared.failure.Failure.{Failure};
 ghost use Rattle.opcheck_script.specs.Status.{verdict_of};
 ghost use Rattle.opcheck_script.specs.Texts.{failure_text};
 
-use crate::check::Report;
 use crate::failure::Failure;
+use crate::report::{Answers, Report};
 use crate::verdict::Verdict;
 use std::io;
 use std::io::Write;
-use wasmparser_validate::types::Error;
+use validate_types::Error;
 
-/// Prints a line for each accepted operator, a refusal if there is one, and the verdict. A report that
-/// ends in want of memory has no verdict.
+/// Prints a line for each operator that is accepted or attempted, the refusal that ended the run if
+/// there is one, and the verdict. A report that ends in want of memory has no verdict.
 pub fn print_report<W: Write>(out: &mut W, report: &Report) -> Result<Verdict, Failure>
     ensures verdict { IfOk result (λ verdict. verdict ≡ verdict_of report.now.outcome) }
     ensures memory { IfErr report.now.outcome (λ e. e.memory ≡ true → IsErr result) }
-    ensures cause { IfErr result (λ failure. (failure ≡ Failure.Output) ⊎ ((failure ≡ Failure.OutOfMemory) × IsErrAnd report.now.outcome (λ e. e.memory ≡ true))) }
+    ensures cause { IfErr result (λ failure. (failure ≡ Failure.Output)
+        ⊎ ((failure ≡ Failure.OutOfMemory) × IsErrAnd report.now.outcome (λ e. e.memory ≡ true))) }
 {
-    for &(operands, frames) in &report.heights {
-        printed(writeln!(out, "ok {operands} {frames}"))?;
+    match &report.answers {
+        Answers::Heights(heights) => print_heights(out, heights)?,
+        Answers::Attempts(answers) => print_answers(out, answers)?,
     }
     let verdict = match &report.outcome {
         Ok(true) => Verdict::Accepted,
         Ok(false) => Verdict::Open,
+        Err(refusal) if refusal.is_out_of_memory() => return Err(Failure::OutOfMemory),
         Err(refusal) => {
             print_refusal(out, refusal)?;
             Verdict::Refused
@@ -36,13 +39,33 @@ pub fn print_report<W: Write>(out: &mut W, report: &Report) -> Result<Verdict, F
     Ok(verdict)
 }
 
-fn print_refusal<W: Write>(out: &mut W, refusal: &Error) -> Result<(), Failure>
-    ensures memory { refusal.now.memory ≡ true → result ≡ Err Failure.OutOfMemory }
-    ensures cause { refusal.now.memory ≡ false → IfErr result (λ failure. failure ≡ Failure.Output) }
+fn print_heights<W: Write>(out: &mut W, heights: &[(usize, usize)]) -> Result<(), Failure>
+    ensures { IfErr result (λ failure. failure ≡ Failure.Output) }
 {
-    if refusal.is_out_of_memory() {
-        return Err(Failure::OutOfMemory);
+    for &(operands, frames) in heights {
+        printed(writeln!(out, "ok {operands} {frames}"))?;
     }
+    Ok(())
+}
+
+fn print_answers<W: Write>(
+    out: &mut W,
+    answers: &[Result<(usize, usize), Error>],
+) -> Result<(), Failure>
+    ensures { IfErr result (λ failure. failure ≡ Failure.Output) }
+{
+    for answer in answers {
+        match answer {
+            Ok((operands, frames)) => printed(writeln!(out, "ok {operands} {frames}"))?,
+            Err(refusal) => print_refusal(out, refusal)?,
+        }
+    }
+    Ok(())
+}
+
+fn print_refusal<W: Write>(out: &mut W, refusal: &Error) -> Result<(), Failure>
+    ensures { IfErr result (λ failure. failure ≡ Failure.Output) }
+{
     let (offset, text) = (refusal.offset(), refusal.message());
     printed(writeln!(out, "refused {offset}: {text}"))
 }

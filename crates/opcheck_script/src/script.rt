@@ -17,20 +17,19 @@ pub mod references;
 pub mod tables;
 pub mod types;
 pub mod words;
+pub mod written;
 
 ghost use Rattle.opcheck_script.specs.Lines.{all_features};
 ghost use Rattle.std.specs.Prelude.{◌≡◌, ◌↔◌, false, Some, IsSome, IfSome, IsErrOf, OnOk};
 
 use crate::failure::{BadScript, Failure, LineError};
 use crate::script::lines::{Line, read_line};
-use crate::script::owned::OwnedOp;
 use crate::script::words::words_of;
+use crate::script::written::WrittenOp;
 use bitflags::Flags;
 use std::alloc::Global;
-use wasmparser_validate::resources::FuncDecl;
-use wasmparser_validate::types::{
-    GlobalType, MemoryType, RefType, SubType, TableType, ValType, WasmFeatures,
-};
+use validate_resources::FuncDecl;
+use validate_types::{GlobalType, MemoryType, RefType, SubType, TableType, ValType, WasmFeatures};
 
 /// What the operators of a script are the body of.
 #[derive(Clone, Copy, Debug, PartialEq, Eq)]
@@ -92,7 +91,7 @@ pub struct Script {
     /// The `local` lines.
     pub locals: Vec<LocalLine>,
     /// The operators, each with the number of its line.
-    pub operators: Vec<(OwnedOp, u64)>,
+    pub operators: Vec<(WrittenOp, u64)>,
 }
 
 /// What a script's first lines say.
@@ -102,7 +101,7 @@ struct Draft {
     declarations: Declarations,
     body: Option<BodyLine>,
     locals: Vec<LocalLine>,
-    operators: Vec<(OwnedOp, u64)>,
+    operators: Vec<(WrittenOp, u64)>,
 }
 
 /// The parts of a script, in their order.
@@ -177,7 +176,8 @@ impl Draft {
     /// Adds a line, if this is its place.
     fn add(&mut self, line: Line, offset: u64) -> Result<(), LineError>
         ensures added { OnOk result (AddsLine self.old self.new line offset) }
-        ensures bad { IsErrOf result LineError.Bad ↔ (may_stand line (part_of self.old) self.old.declarations.data_count ≡ false) }
+        ensures bad { IsErrOf result LineError.Bad
+            ↔ (may_stand line (part_of self.old) self.old.declarations.data_count ≡ false) }
     {
         match (line, self.part(), self.declarations.data_count) {
             (Line::Feature(named), Part::Module, _) => {

@@ -9,11 +9,12 @@ use std::fmt;
 /// What the validator says of a whole body.
 #[derive(Clone, Copy, Debug, PartialEq, Eq)]
 pub enum Verdict {
-    /// Each operator is accepted, and the outermost frame is closed.
+    /// No refusal ended the run, and the outermost frame is closed.
     Accepted,
-    /// The function, the type of the expression, a line of locals or an operator is refused.
+    /// The function, the type of the expression, a line of locals or an operator that isn't attempted
+    /// is refused.
     Refused,
-    /// Each operator is accepted, and the outermost frame is open.
+    /// No refusal ended the run, and the outermost frame is open.
     Open,
 }
 

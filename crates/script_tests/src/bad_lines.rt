@@ -111,8 +111,20 @@ f32.const 4294967296
 f64.const 18446744073709551616
 f32.add 0
 feature floats
-try nop
+try
 try block
+try block i32
+try loop
+try if 0
+try else
+try end
+try try nop
+try nop 0
+try wombat
+try local 1 i32
+try br_table
+trynop
+Try nop
 Nop
 nop 0
 nop\t

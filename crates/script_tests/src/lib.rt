@@ -8,6 +8,8 @@ mod alignments;
 #[cfg(test)]
 mod atomic_rules;
 #[cfg(test)]
+mod attempts;
+#[cfg(test)]
 mod bad_lines;
 #[cfg(test)]
 mod blocks;

@@ -1,5 +1,6 @@
 //! Transcripts: scripts with what the program prints at each line.
 
+use crate::attempts::attempted;
 use opcheck_script::run;
 use std::alloc::{AllocError, Global};
 use std::process::Abort;
@@ -24,8 +25,25 @@ fn expect_output(
     Ok(())
 }
 
-/// Runs a script, and compares both outputs and the status.
+/// Runs a script, and compares both outputs and the status; and once more with each operator attempted
+/// that may be.
 pub fn expect_run(
+    rt: &(impl Abort + AllocGlobal),
+    script: &[u8],
+    out: &str,
+    err: &str,
+    status: u8,
+) -> Result<(), Fail> {
+    expect_once(rt, script, out, err, status)?;
+    let Ok(text) = str::from_utf8(script) else {
+        return Ok(());
+    };
+    let (text, out, status) = attempted(rt, text, out, status)?;
+    expect_once(rt, text.as_bytes(), &out, err, status)
+}
+
+/// Runs a script, and compares both outputs and the status.
+fn expect_once(
     rt: &(impl Abort + AllocGlobal),
     script: &[u8],
     out: &str,

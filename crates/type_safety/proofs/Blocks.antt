@@ -1,27 +1,98 @@
--- An accepted block leaves the locals that are set as they were at its opening.
-use Rattle.std.proofs.Common.{◌≡◌, suc, ◌∷◌, Some, refl, sym, ap, ◌∙◌}
-use Rattle.validation_rules.specs.Context.{Context}
-use Rattle.validation_rules.specs.Rows.{params, Opens, Operator}
-use Rattle.validation_rules.specs.Static.{heads, set_in, popped, opened, framed, after, start, before}
-use Rattle.validation_rules.proofs.Steps.{some_injective, get_of_drop}
-use Rattle.type_safety.specs.Machine.{mark}
-use Rattle.type_safety.specs.Blocks.{BlocksKeepLocals}
-use Rattle.type_safety.proofs.Marks.{operator_at, row_at, mark_after}
+-- A block leaves the locals that are set as they were at its opening, as far as the rows hold.
+use Rattle.std.proofs.Common.{◌≡◌, ◌≤◌, ℕ, zero, suc, List, [], ◌∷◌, Some, refl, sym, ap, arith, ◌∙◌, subst, drop, slice_get}
+use Rattle.validation_rules.specs.Context.{BlockType, Context}
+use Rattle.validation_rules.specs.Fits.{MaybeType}
+use Rattle.validation_rules.specs.Rows.{Form, Flat, Opens, BeginsElse, BeginsCatch, Ends, Delegates, params, Row, Operator}
+use Rattle.validation_rules.specs.Static.{Frame, State, heads, locals_set, frame_below, opened_frame, open_state, bind, start, step, before}
+use Rattle.validation_rules.proofs.Steps.{after, some_injective, bind_some, get_of_drop, before_then, stepped}
+use Rattle.type_safety.specs.Machine.{delimiter, forms_of}
+use Rattle.type_safety.specs.Blocks.{IsBlock, IsAsBefore, BlocksKeepLocals}
+use Rattle.type_safety.proofs.Delimiters.{RowHolds, row_of_step, later_place, delimiter_within}
 use Rattle.type_safety.proofs.Safety.{after_closer}
 
-pub blocks_keep_locals : (cx : Context) → BlocksKeepLocals cx
-blocks_keep_locals cx code ty accepted k f fs b op is h e c m =
-    let o = operator_at cx code (start ty) accepted k f fs b in
-    let a = row_at cx code (start ty) accepted k o.0 o.1 f fs o.2 b in
-    let d : o.0 ≡ op = some_injective _ _ (sym (get_of_drop code k o.0 o.1 o.2) ∙ is) in
-    let form : o.0.form ≡ Opens h = ap (λ (x : Operator). x.form) d ∙ e in
-    let r = o.0.row (heads (f ∷ fs)) in
-    let inside : before cx code (start ty) (suc k) ≡ Some (framed (opened h (params cx h) ∷ popped r f ∷ fs)) =
-    a.2 ∙ ap (λ x. Some (after cx r (set_in (f ∷ fs)) f fs x a.0)) form in
-    let follows = mark_after cx code (start ty) accepted k h (params cx h) (popped r f ∷ fs) inside m.1.0 (mark c m.0) m.1.1 in
+-- ---- the states of a body: frames are open and nothing is left, or no frame is open
+
+pub data IsBodyState (s : State) : Type 0 where
+  is_open : (fs : List Frame) → s ≡ open_state fs → IsBodyState s
+  is_closed : s.frames ≡ [] → IsBodyState s
+
+given_state : (cx : Context) (f : Frame) (fs : List Frame) (r : Row) (set : List ℕ) (form : Form) (pushed : List MaybeType) → IsBodyState (after cx r set f fs form pushed)
+given_state cx f fs r set Flat pushed = is_open _ refl
+given_state cx f fs r set (Opens h) pushed = is_open _ refl
+given_state cx f fs r set BeginsElse pushed = is_open _ refl
+given_state cx f fs r set (BeginsCatch all types) pushed = is_open _ refl
+given_state cx f [] r set Ends pushed = is_closed refl
+given_state cx f (g ∷ gs) r set Ends pushed = is_open _ refl
+given_state cx f [] r set Delegates pushed = is_closed refl
+given_state cx f (g ∷ gs) r set Delegates pushed = is_open _ refl
+
+-- an operator is taken only where a frame is open
+open_frame : (cx : Context) (op : Operator) (s u : State) → IsBodyState s → step cx op s ≡ Some u → (f : Frame) × (fs : List Frame) × (s ≡ open_state (f ∷ fs))
+open_frame cx op s u (is_open (f ∷ fs) is) e = (f, fs, is)
+open_frame cx op s u (is_open [] is) e = let d = subst (λ (v : State). step cx op v ≡ Some u) is e in absurd cc
+open_frame cx op s u (is_closed is) e = absurd cc
+
+step_state : (cx : Context) (op : Operator) (s u : State) → IsBodyState s → step cx op s ≡ Some u → IsBodyState u
+step_state cx op s u i e =
+    let o = open_frame cx op s u i e in
+    let st = stepped cx op o.0 o.1 [] u (subst (λ (v : State). step cx op v ≡ Some u) o.2 e) in
+    subst IsBodyState (sym st.leaves) (given_state cx o.0 o.1 (op.row (heads (o.0 ∷ o.1))) (locals_set (o.0 ∷ o.1)) op.form st.pushed)
+
+pub state_before : (cx : Context) (code : List Operator) (s : State) (k : ℕ) (t : State) → IsBodyState s → before cx code s k ≡ Some t → IsBodyState t
+state_before cx code s zero t i b = subst IsBodyState (some_injective s t b) i
+state_before cx [] s (suc k) t i b = absurd cc
+state_before cx (op ∷ code) s (suc k) t i b =
+    let m = bind_some (step cx op s) (λ v. before cx code v k) t b in
+    state_before cx code m.0 k t (step_state cx op s m.0 i m.1) m.2
+
+-- where the rows before a place hold, so do those before an earlier one
+pub before_earlier : (cx : Context) (code : List Operator) (s : State) (n k : ℕ) (t : State) → k ≤ n → before cx code s n ≡ Some t → (u : State) × (before cx code s k ≡ Some u)
+before_earlier cx code s n zero t h b = (s, refl)
+before_earlier cx code s zero (suc k) t h b = absurd (omega (arith, h))
+before_earlier cx [] s (suc n) (suc k) t h b = absurd cc
+before_earlier cx (op ∷ code) s (suc n) (suc k) t h b =
+    let m = bind_some (step cx op s) (λ v. before cx code v n) t b in
+    let r = before_earlier cx code m.0 n k t (omega (arith, h)) m.2 in
+    (r.0, ap (λ o. bind o (λ v. before cx code v k)) m.1 ∙ r.1)
+
+-- ---- the law
+
+module _ (cx : Context) (code : List Operator) (ty : BlockType) (n : ℕ) (t : State) (holds : before cx code (start ty) (suc n) ≡ Some t) where
+  -- the row of an operator up to place n holds
+  rows_hold : (k : ℕ) (op : Operator) (more : List Operator) (f : Frame) (fs : List Frame) → k ≤ n → drop k code ≡ op ∷ more → before cx code (start ty) k ≡ Some (open_state (f ∷ fs)) → RowHolds cx code (start ty) k op f fs
+  rows_hold k op more f fs h d b =
+      let u = before_earlier cx code (start ty) (suc n) (suc k) t (omega (arith, h)) holds in
+      row_of_step cx code (start ty) k op more f fs u.0 d b (sym (before_then cx code (start ty) k op (open_state (f ∷ fs)) b (get_of_drop code k op more d)) ∙ u.1)
+
+drop_of_get : (code : List Operator) (k : ℕ) (op : Operator) → slice_get code k ≡ Some op → (more : List Operator) × (drop k code ≡ op ∷ more)
+drop_of_get [] k op e = absurd cc
+drop_of_get (x ∷ code) zero op e = (code, ap (λ o. o ∷ code) (some_injective x op e))
+drop_of_get (x ∷ code) (suc k) op e = drop_of_get code k op e
+
+-- the opener's step, and what follows its closer
+block_keeps_locals : (cx : Context) (code : List Operator) (ty : BlockType) (k c : ℕ) (b : IsBlock code k c) (f : Frame) (fs : List Frame) (t : State) → before cx code (start ty) (suc c) ≡ Some t → before cx code (start ty) k ≡ Some (open_state (f ∷ fs)) → k ≤ c → IsAsBefore cx code ty k (suc c)
+block_keeps_locals cx code ty k c b f fs t holds at h =
+    let d = drop_of_get code k b.opener b.is_opener in
+    let row = rows_hold cx code ty c t holds k b.opener d.0 f fs h d.1 at in
+    let r = b.opener.row (heads (f ∷ fs)) in
+    let inside : before cx code (start ty) (suc k) ≡ Some (open_state (opened_frame b.head (params cx b.head) ∷ frame_below r f ∷ fs)) =
+    row.next ∙ ap (λ x. Some (after cx r (locals_set (f ∷ fs)) f fs x row.pushed)) b.opens in
+    let follows = delimiter_within cx code (start ty) c (rows_hold cx code ty c t holds) k b.head (params cx b.head) (frame_below r f ∷ fs) inside b.closes.1.0 (delimiter c b.closes.0) b.closes.1.1 (omega arith) in
     record {
-      frames = _;
-      is_before = after_closer cx code ty h (popped r f ∷ fs) c m.0 m.2 follows;
+      opening = open_state (f ∷ fs);
+      is_before = at;
+      closed = _;
+      is_after = after_closer cx code ty b.head (frame_below r f ∷ fs) c b.closes.0 b.closes.2 follows;
       same_heads = refl;
       same_locals = refl;
     }
+
+pub blocks_keep_locals : (cx : Context) → BlocksKeepLocals cx
+blocks_keep_locals cx code ty k c b rows =
+    let p = later_place 0 (suc k) (forms_of (drop (suc k) code)) b.closes.1.0 (delimiter c b.closes.0) b.closes.1.1 in
+    let h : k ≤ c = omega (arith, p) in
+    let s = before_earlier cx code (start ty) (suc c) k rows.0 (omega (arith, h)) rows.1 in
+    let u = before_earlier cx code (start ty) (suc c) (suc k) rows.0 (omega (arith, h)) rows.1 in
+    let taken = sym (before_then cx code (start ty) k b.opener s.0 s.1 b.is_opener) ∙ u.1 in
+    let o = open_frame cx b.opener s.0 u.0 (state_before cx code (start ty) k s.0 (is_open _ refl) s.1) taken in
+    block_keeps_locals cx code ty k c b o.0 o.1 rows.0 rows.1 (s.1 ∙ ap Some o.2) h

@@ -1,23 +1,27 @@
 -- Runs of small bodies, and a body that gets stuck: the definitions of the machine tried.
 use Rattle.std.proofs.Common.{◌≡◌, ℕ, zero, suc, pos, Bool, true, false, List, [], ◌∷◌, length, map, take, drop, Some, None, refl, sym, ap, ◌∙◌, subst, slice_get}
-use Rattle.validate_resources.specs.Context.{same_number}
+use Rattle.validate_resources.specs.Context.{is_same_number}
 use Rattle.validate_resources.specs.Lists.{Declared, context_of}
 use Rattle.validate_resources.specs.Lawful.{lawful_lists}
 use Rattle.validate_types.specs.declared.types.CompositeInnerType.TheVariants.{Func}
+use Rattle.validate_visit.specs.declared.numbers.IntegerType.TheVariants.{I32 as IntegerI32, I64 as IntegerI64}
+use Rattle.validate_visit.specs.declared.numeric.IntegerBinaryOp.TheVariants.{Add}
 use Rattle.validate_visit.specs.declared.op.Op.TheVariants.{Control, Numeric}
 use Rattle.validate_visit.specs.declared.op.ControlOp.TheVariants.{Nop, End, Drop, LocalGet, LocalSet}
-use Rattle.validate_visit.specs.declared.op.NumericOp.TheVariants.{I32Const, I64Const, I32Eqz, I32Add, I64Add}
+use Rattle.validate_visit.specs.declared.op.NumericOp.TheVariants.{Eqz, IntegerBinary, I32Const, I64Const}
 use Rattle.validation_rules.specs.Context.{SubType, WasmFeatures, ValType, I32, I64, BlockType, Empty, Val, FuncType, Context, AllBelow}
 use Rattle.validation_rules.specs.Fits.{MaybeType, Known}
 use Rattle.validation_rules.specs.Static.{Frame}
 use Rattle.validation_rules.specs.Rows.{FrameKind, Block, If, Else, Loop, TryTable, LegacyTry, LegacyCatch, Head, params, results, is_if, Flat, Opens, BeginsElse, BeginsCatch, Ends, Delegates, Clause, Target, Operator}
-use Rattle.validation_rules.specs.Table.{plain, body, operator}
+use Rattle.validation_rules.specs.Table.{plain_row, body, operator}
 use Rattle.validation_rules.specs.Branches.{target}
 use Rattle.validation_rules.proofs.Handmade.{a_block, a_loop, an_if, an_else, an_end, br, a_return, a_try_table, throw, a_try, a_catch, delegate}
 use Rattle.validation_rules.proofs.Steps.{some_injective}
-use Rattle.type_safety.specs.Machine.{Label, label_heads, Machine, At, Returned, Trapped, LeftByException, LeftBySuspension, mark, marks, Reaches, Demand, Demands, Step, Run, first}
-use Rattle.type_safety.specs.Machine.Outcome.{GoesOn, Enters, EntersElse, SkipsIf, Jumps, Closes, Passes, Catches, CatchesLegacy, Traps, Raises, Suspends}
-use Rattle.type_safety.specs.Theorem.{LabelsBelow, IsSafe, IsTypeSafe, IsLawfulOperator}
+use Rattle.type_safety.specs.Machine.{Label, label_heads, Machine, At, Returned, Trapped, LeftByException, LeftBySuspension, delimiter, delimiters, LabelAccepts, Demand, configuration, IsNotStuck, Step, Run, initial_machine}
+use Rattle.type_safety.specs.Machine.Outcome.{traps, raises, suspends}
+use Rattle.type_safety.proofs.Outcomes.{by_going_on, by_entering, by_entering_else, by_skipping, by_jumping, by_closing, by_ending_part, by_catching, by_catching_legacy}
+use Rattle.type_safety.specs.Theorem.{LabelsBelow, IsAsValidated, IsTypeSafe}
+use Rattle.type_safety.proofs.Laws.{IsLawfulOperator}
 use Rattle.type_safety.proofs.Bodies.{body_safety}
 use Rattle.type_safety.proofs.Handmade.{block_lawful, loop_lawful, if_lawful, else_lawful, end_lawful, branch_lawful, try_table_lawful, throw_lawful, try_lawful, catch_lawful}
 use Rattle.type_safety.proofs.Safety.{type_safety}
@@ -56,7 +60,7 @@ only P x p zero y e = subst P (some_injective x y e) p
 only P x p (suc j) y e = absurd cc
 
 abbrev label : ℕ → FrameKind → BlockType → List ValType → Label
-label began kind ty own = record { began = began; head = record { kind = kind; block_type = ty }; own = own }
+label began kind ty own = record { began = began; head = record { kind = kind; block_type = ty }; operands = own }
 
 module _ (features : WasmFeatures) where
   abbrev cx : Context
@@ -83,17 +87,17 @@ module _ (features : WasmFeatures) where
 
   -- ---- a run of a body of the table, to its return
   abbrev adding : List Operator
-  adding = body cx (Control (LocalGet 0) ∷ Numeric (I32Const (pos 1)) ∷ Numeric I32Add ∷ Control End ∷ [])
+  adding = body cx (Control (LocalGet 0) ∷ Numeric (I32Const (pos 1)) ∷ Numeric (IntegerBinary IntegerI32 Add) ∷ Control End ∷ [])
 
   abbrev adding_at : ℕ → List ValType → Machine
   adding_at k own = At k (outermost one_to_one own ∷ []) []
 
-  adding_1 : Step cx adding (first one_to_one) (adding_at 1 (I32 ∷ []))
+  adding_1 : Step cx adding (initial_machine one_to_one) (adding_at 1 (I32 ∷ []))
   adding_1 = (
     operator cx (Control (LocalGet 0)),
     refl,
     record { row = (_, refl); targets = λ j t e. absurd cc; clauses = λ j c e. absurd cc; no_else = λ h e. absurd cc },
-    GoesOn (I32 ∷ []) (I32 ∷ []) refl refl refl (refl, tt) refl,
+    by_going_on (I32 ∷ []) (I32 ∷ []) refl refl refl (refl, tt) refl,
   )
 
   adding_2 : Step cx adding (adding_at 1 (I32 ∷ [])) (adding_at 2 (I32 ∷ I32 ∷ []))
@@ -101,15 +105,15 @@ module _ (features : WasmFeatures) where
     operator cx (Numeric (I32Const (pos 1))),
     refl,
     record { row = (_, refl); targets = λ j t e. absurd cc; clauses = λ j c e. absurd cc; no_else = λ h e. absurd cc },
-    GoesOn (I32 ∷ []) (I32 ∷ []) refl refl refl (refl, tt) refl,
+    by_going_on (I32 ∷ []) (I32 ∷ []) refl refl refl (refl, tt) refl,
   )
 
   adding_3 : Step cx adding (adding_at 2 (I32 ∷ I32 ∷ [])) (adding_at 3 (I32 ∷ []))
   adding_3 = (
-    operator cx (Numeric I32Add),
+    operator cx (Numeric (IntegerBinary IntegerI32 Add)),
     refl,
     record { row = (_, refl); targets = λ j t e. absurd cc; clauses = λ j c e. absurd cc; no_else = λ h e. absurd cc },
-    GoesOn (I32 ∷ []) (I32 ∷ []) refl refl refl (refl, tt) refl,
+    by_going_on (I32 ∷ []) (I32 ∷ []) refl refl refl (refl, tt) refl,
   )
 
   adding_4 : Step cx adding (adding_at 3 (I32 ∷ [])) (Returned (I32 ∷ []))
@@ -117,55 +121,55 @@ module _ (features : WasmFeatures) where
     operator cx (Control End),
     refl,
     record { row = (_, refl); targets = λ j t e. absurd cc; clauses = λ j c e. absurd cc; no_else = λ h e. absurd cc },
-    Closes (I32 ∷ []) refl (refl, tt) refl,
+    by_closing (I32 ∷ []) refl (refl, tt) refl,
   )
 
-  adding_returns : Run cx adding 4 (first one_to_one) (Returned (I32 ∷ []))
-  adding_returns = (adding_at 3 (I32 ∷ []), (adding_at 2 (I32 ∷ I32 ∷ []), (adding_at 1 (I32 ∷ []), (first one_to_one, refl, adding_1), adding_2), adding_3), adding_4)
+  adding_returns : Run cx adding 4 (initial_machine one_to_one) (Returned (I32 ∷ []))
+  adding_returns = (adding_at 3 (I32 ∷ []), (adding_at 2 (I32 ∷ I32 ∷ []), (adding_at 1 (I32 ∷ []), (initial_machine one_to_one, refl, adding_1), adding_2), adding_3), adding_4)
 
   -- any operator may trap
-  adding_traps : Step cx adding (first one_to_one) Trapped
-  adding_traps = (operator cx (Control (LocalGet 0)), refl, record { row = (_, refl); targets = λ j t e. absurd cc; clauses = λ j c e. absurd cc; no_else = λ h e. absurd cc }, Traps refl)
+  adding_traps : Step cx adding (initial_machine one_to_one) Trapped
+  adding_traps = (operator cx (Control (LocalGet 0)), refl, record { row = (_, refl); targets = λ j t e. absurd cc; clauses = λ j c e. absurd cc; no_else = λ h e. absurd cc }, traps refl)
 
   -- or leave, by an exception that nothing catches, or by a suspension
-  adding_raises : Step cx adding (first one_to_one) LeftByException
-  adding_raises = (operator cx (Control (LocalGet 0)), refl, record { row = (_, refl); targets = λ j t e. absurd cc; clauses = λ j c e. absurd cc; no_else = λ h e. absurd cc }, Raises refl)
+  adding_raises : Step cx adding (initial_machine one_to_one) LeftByException
+  adding_raises = (operator cx (Control (LocalGet 0)), refl, record { row = (_, refl); targets = λ j t e. absurd cc; clauses = λ j c e. absurd cc; no_else = λ h e. absurd cc }, raises refl)
 
-  adding_suspends : Step cx adding (first one_to_one) LeftBySuspension
-  adding_suspends = (operator cx (Control (LocalGet 0)), refl, record { row = (_, refl); targets = λ j t e. absurd cc; clauses = λ j c e. absurd cc; no_else = λ h e. absurd cc }, Suspends refl)
+  adding_suspends : Step cx adding (initial_machine one_to_one) LeftBySuspension
+  adding_suspends = (operator cx (Control (LocalGet 0)), refl, record { row = (_, refl); targets = λ j t e. absurd cc; clauses = λ j c e. absurd cc; no_else = λ h e. absurd cc }, suspends refl)
 
   -- no run of it is stuck, however long
   adding_safe : IsTypeSafe cx adding one_to_one
-  adding_safe = body_safety (context_of declared) (lawful_lists declared refl) cx (Control (LocalGet 0) ∷ Numeric (I32Const (pos 1)) ∷ Numeric I32Add ∷ Control End ∷ []) one_to_one refl (Known I32 ∷ [], refl)
+  adding_safe = body_safety (context_of declared) (lawful_lists declared refl) cx (Control (LocalGet 0) ∷ Numeric (I32Const (pos 1)) ∷ Numeric (IntegerBinary IntegerI32 Add) ∷ Control End ∷ []) one_to_one refl (Known I32 ∷ [], refl)
 
   -- ---- bodies that aren't accepted get stuck
 
   -- an operand is missing
-  stuck_at_once : Demands cx (body cx (Numeric I32Add ∷ [])) (first to_nothing) → ⊥
+  stuck_at_once : IsNotStuck cx (body cx (Numeric (IntegerBinary IntegerI32 Add) ∷ [])) (initial_machine to_nothing) → ⊥
   stuck_at_once d =
-      let e : operator cx (Numeric I32Add) ≡ d.0 = some_injective _ _ d.1 in
-      let d' = subst (λ op. Demand cx (body cx (Numeric I32Add ∷ [])) 0 (outermost to_nothing []) [] [] op) (sym e) d.2 in
+      let e : operator cx (Numeric (IntegerBinary IntegerI32 Add)) ≡ d.0 = some_injective _ _ d.1 in
+      let d' = subst (λ op. Demand cx (body cx (Numeric (IntegerBinary IntegerI32 Add) ∷ [])) (configuration 0 (outermost to_nothing []) [] [] op)) (sym e) d.2 in
       let r = d'.row.1 in
       absurd cc
 
   -- an operand has another type
-  stuck_on_type : Demands cx (body cx (Numeric I32Eqz ∷ [])) (At 0 (outermost to_nothing (I64 ∷ []) ∷ []) []) → ⊥
+  stuck_on_type : IsNotStuck cx (body cx (Numeric (Eqz IntegerI32) ∷ [])) (At 0 (outermost to_nothing (I64 ∷ []) ∷ []) []) → ⊥
   stuck_on_type d =
-      let e : operator cx (Numeric I32Eqz) ≡ d.0 = some_injective _ _ d.1 in
-      let d' = subst (λ op. Demand cx (body cx (Numeric I32Eqz ∷ [])) 0 (outermost to_nothing (I64 ∷ [])) [] [] op) (sym e) d.2 in
+      let e : operator cx (Numeric (Eqz IntegerI32)) ≡ d.0 = some_injective _ _ d.1 in
+      let d' = subst (λ op. Demand cx (body cx (Numeric (Eqz IntegerI32) ∷ [])) (configuration 0 (outermost to_nothing (I64 ∷ [])) [] [] op)) (sym e) d.2 in
       let r = d'.row.1 in
       absurd cc
 
   -- a local isn't set
-  stuck_on_local : Demands cx (body cx (Control (LocalGet 1) ∷ [])) (first to_nothing) → ⊥
+  stuck_on_local : IsNotStuck cx (body cx (Control (LocalGet 1) ∷ [])) (initial_machine to_nothing) → ⊥
   stuck_on_local d =
       let e : operator cx (Control (LocalGet 1)) ≡ d.0 = some_injective _ _ d.1 in
-      let d' = subst (λ op. Demand cx (body cx (Control (LocalGet 1) ∷ [])) 0 (outermost to_nothing []) [] [] op) (sym e) d.2 in
+      let d' = subst (λ op. Demand cx (body cx (Control (LocalGet 1) ∷ [])) (configuration 0 (outermost to_nothing []) [] [] op)) (sym e) d.2 in
       let r = d'.row.1 in
       absurd cc
 
   -- once the machine has set it, it is set
-  reads_local : Demands cx (body cx (Control (LocalGet 1) ∷ [])) (At 0 (outermost to_nothing [] ∷ []) (1 ∷ []))
+  reads_local : IsNotStuck cx (body cx (Control (LocalGet 1) ∷ [])) (At 0 (outermost to_nothing [] ∷ []) (1 ∷ []))
   reads_local = (
     operator cx (Control (LocalGet 1)),
     refl,
@@ -173,14 +177,14 @@ module _ (features : WasmFeatures) where
   )
 
   -- the list has ended, and a label is open
-  stuck_behind : Demands cx (body cx (Control Nop ∷ [])) (At 1 (outermost to_nothing [] ∷ []) []) → ⊥
+  stuck_behind : IsNotStuck cx (body cx (Control Nop ∷ [])) (At 1 (outermost to_nothing [] ∷ []) []) → ⊥
   stuck_behind d = let e = d.1 in absurd cc
 
   -- a label is missing
-  stuck_on_label : Demands cx (br cx 3 ∷ []) (first to_nothing) → ⊥
+  stuck_on_label : IsNotStuck cx (br cx 3 ∷ []) (initial_machine to_nothing) → ⊥
   stuck_on_label d =
       let e : br cx 3 ≡ d.0 = some_injective _ _ d.1 in
-      let d' = subst (λ op. Demand cx (br cx 3 ∷ []) 0 (outermost to_nothing []) [] [] op) (sym e) d.2 in
+      let d' = subst (λ op. Demand cx (br cx 3 ∷ []) (configuration 0 (outermost to_nothing []) [] [] op)) (sym e) d.2 in
       let r = d'.row.1 in
       absurd cc
 
@@ -196,12 +200,12 @@ module _ (features : WasmFeatures) where
   abbrev before_loop : Machine
   before_loop = At 1 (outermost to_nothing (I32 ∷ []) ∷ []) []
 
-  to_loop : Step cx looping (first to_nothing) before_loop
+  to_loop : Step cx looping (initial_machine to_nothing) before_loop
   to_loop = (
     i32_const,
     refl,
     record { row = (_, refl); targets = λ j t e. absurd cc; clauses = λ j c e. absurd cc; no_else = λ h e. absurd cc },
-    GoesOn (I32 ∷ []) (I32 ∷ []) refl refl refl (refl, tt) refl,
+    by_going_on (I32 ∷ []) (I32 ∷ []) refl refl refl (refl, tt) refl,
   )
 
   into_loop : Step cx looping before_loop in_loop
@@ -209,7 +213,7 @@ module _ (features : WasmFeatures) where
     a_loop cx takes_one,
     refl,
     record { row = (_, refl); targets = λ j t e. absurd cc; clauses = λ j c e. absurd cc; no_else = λ h e i. absurd (opens_no_if _ h e refl i) },
-    Enters (record { kind = Loop; block_type = takes_one }) (I32 ∷ []) refl (refl, tt) refl,
+    by_entering (record { kind = Loop; block_type = takes_one }) (I32 ∷ []) refl (refl, tt) refl,
   )
 
   -- back to where it was
@@ -219,16 +223,16 @@ module _ (features : WasmFeatures) where
     refl,
     record {
       row = (_, refl);
-      targets = only (λ (t : Target). Reaches cx (drop t.depth (label 1 Loop takes_one (I32 ∷ []) ∷ outermost to_nothing [] ∷ [])) (t.carried (I32 ∷ []))) (target cx (label_heads (label 1 Loop takes_one (I32 ∷ []) ∷ outermost to_nothing [] ∷ [])) 0) (refl, tt);
+      targets = only (λ (t : Target). LabelAccepts cx (drop t.depth (label 1 Loop takes_one (I32 ∷ []) ∷ outermost to_nothing [] ∷ [])) (t.carried (I32 ∷ []))) (target cx (label_heads (label 1 Loop takes_one (I32 ∷ []) ∷ outermost to_nothing [] ∷ [])) 0) (refl, tt);
       clauses = λ j c e. absurd cc;
       no_else = λ h e. absurd cc;
     },
-    Jumps 0 _ refl refl (record { label = label 1 Loop takes_one (I32 ∷ []); outer = outermost to_nothing [] ∷ []; is = refl; types = I32 ∷ []; below = (refl, tt); arrives = refl }),
+    by_jumping 0 _ refl refl (record { label = label 1 Loop takes_one (I32 ∷ []); outer = outermost to_nothing [] ∷ []; is = refl; types = I32 ∷ []; below = (refl, tt); arrives = refl }),
   )
 
   -- as often as one likes
-  loops_for_long : (n : ℕ) → Run cx looping (suc (suc n)) (first to_nothing) in_loop
-  loops_for_long zero = (before_loop, (first to_nothing, refl, to_loop), into_loop)
+  loops_for_long : (n : ℕ) → Run cx looping (suc (suc n)) (initial_machine to_nothing) in_loop
+  loops_for_long zero = (before_loop, (initial_machine to_nothing, refl, to_loop), into_loop)
   loops_for_long (suc n) = (in_loop, loops_for_long n, around)
 
   -- each operator of a list is lawful
@@ -264,11 +268,11 @@ module _ (features : WasmFeatures) where
     refl,
     record {
       row = (_, refl);
-      targets = only (λ (t : Target). Reaches cx (drop t.depth (inside (I32 ∷ []))) (t.carried (I32 ∷ []))) (target cx (label_heads (inside [])) 1) (refl, tt);
+      targets = only (λ (t : Target). LabelAccepts cx (drop t.depth (inside (I32 ∷ []))) (t.carried (I32 ∷ []))) (target cx (label_heads (inside [])) 1) (refl, tt);
       clauses = λ j c e. absurd cc;
       no_else = λ h e. absurd cc;
     },
-    Jumps 0 _ refl refl (record { label = outermost (Val I32) []; outer = []; is = refl; types = I32 ∷ []; below = (refl, tt); arrives = refl }),
+    by_jumping 0 _ refl refl (record { label = outermost (Val I32) []; outer = []; is = refl; types = I32 ∷ []; below = (refl, tt); arrives = refl }),
   )
 
   -- ---- a run that throws into a handler
@@ -293,10 +297,10 @@ module _ (features : WasmFeatures) where
     record {
       row = (_, refl);
       targets = λ j t e. absurd cc;
-      clauses = only (λ (c : Clause). Reaches cx (drop c.depth in_block) c.types) a_clause (refl, tt);
+      clauses = only (λ (c : Clause). LabelAccepts cx (drop c.depth in_block) c.types) a_clause (refl, tt);
       no_else = λ h e i. absurd (opens_no_if _ h e refl i);
     },
-    Enters (record { kind = TryTable; block_type = Empty }) [] refl tt refl,
+    by_entering (record { kind = TryTable; block_type = Empty }) [] refl tt refl,
   )
 
   -- the clause's label is the block outside the `try_table`, and the place is behind its `end`
@@ -305,7 +309,7 @@ module _ (features : WasmFeatures) where
     throw (I32 ∷ []),
     refl,
     record { row = (_, refl); targets = λ j t e. absurd cc; clauses = λ j c e. absurd cc; no_else = λ h e. absurd cc },
-    Catches 0 (label 1 TryTable Empty (I32 ∷ [])) in_block (a_try_table cx Empty (a_clause ∷ [])) 0 a_clause refl refl refl refl
+    by_catching 0 (label 1 TryTable Empty (I32 ∷ [])) in_block (a_try_table cx Empty (a_clause ∷ [])) 0 a_clause refl refl refl refl
         (record {
           label = label 0 Block (Val I32) [];
           outer = outermost to_nothing [] ∷ [];
@@ -322,7 +326,7 @@ module _ (features : WasmFeatures) where
     i32_const,
     refl,
     record { row = (_, refl); targets = λ j t e. absurd cc; clauses = λ j c e. absurd cc; no_else = λ h e. absurd cc },
-    Catches 0 (label 1 TryTable Empty []) in_block (a_try_table cx Empty (a_clause ∷ [])) 0 a_clause refl refl refl refl
+    by_catching 0 (label 1 TryTable Empty []) in_block (a_try_table cx Empty (a_clause ∷ [])) 0 a_clause refl refl refl refl
         (record {
           label = label 0 Block (Val I32) [];
           outer = outermost to_nothing [] ∷ [];
@@ -342,7 +346,7 @@ module _ (features : WasmFeatures) where
     throw (I32 ∷ []),
     refl,
     record { row = (_, refl); targets = λ j t e. absurd cc; clauses = λ j c e. absurd cc; no_else = λ h e. absurd cc },
-    CatchesLegacy 0 (label 0 LegacyTry Empty (I32 ∷ [])) (outermost to_nothing [] ∷ []) 3 false (I32 ∷ []) (I32 ∷ []) refl refl (0, refl) (refl, tt) refl,
+    by_catching_legacy 0 (label 0 LegacyTry Empty (I32 ∷ [])) (outermost to_nothing [] ∷ []) 3 false (I32 ∷ []) (I32 ∷ []) refl refl (0, refl) (refl, tt) refl,
   )
 
   throwing_safe : IsTypeSafe cx throwing to_nothing
@@ -370,15 +374,15 @@ module _ (features : WasmFeatures) where
   abbrev in_part : ℕ → ℕ → FrameKind → List ValType → Machine
   in_part k began kind own = At k (label began kind (Val I32) own ∷ outermost (Val I32) [] ∷ []) []
 
-  demand_if : Demand cx choosing 1 (outermost (Val I32) (I32 ∷ [])) [] [] (an_if cx (Val I32))
+  demand_if : Demand cx choosing (configuration 1 (outermost (Val I32) (I32 ∷ [])) [] [] (an_if cx (Val I32)))
   demand_if = record { row = (_, refl); targets = λ j t e. absurd cc; clauses = λ j c e. absurd cc; no_else = λ h e i w. absurd cc }
 
   first_part : Step cx choosing at_if (in_part 2 1 If [])
-  first_part = (an_if cx (Val I32), refl, demand_if, Enters (record { kind = If; block_type = Val I32 }) [] refl tt refl)
+  first_part = (an_if cx (Val I32), refl, demand_if, by_entering (record { kind = If; block_type = Val I32 }) [] refl tt refl)
 
   second_part : Step cx choosing at_if (in_part 4 3 Else [])
   second_part =
-      (an_if cx (Val I32), refl, demand_if, EntersElse (record { kind = If; block_type = Val I32 }) 3 [] refl refl (0, refl) tt refl)
+      (an_if cx (Val I32), refl, demand_if, by_entering_else (record { kind = If; block_type = Val I32 }) 3 [] refl refl (0, refl) tt refl)
 
   -- `else` is the end of the first part: on behind the closer, with the results
   passes_else : Step cx choosing (in_part 3 1 If (I32 ∷ [])) (At 6 (outermost (Val I32) (I32 ∷ []) ∷ []) [])
@@ -386,7 +390,7 @@ module _ (features : WasmFeatures) where
     an_else,
     refl,
     record { row = (_, refl); targets = λ j t e. absurd cc; clauses = λ j c e. absurd cc; no_else = λ h e. absurd cc },
-    Passes 5 (I32 ∷ []) refl (Ends, (1, refl), refl) (refl, tt) refl,
+    by_ending_part 5 (I32 ∷ []) refl (Ends, (1, refl), refl) (refl, tt) refl,
   )
 
   choosing_safe : IsTypeSafe cx choosing (Val I32)
@@ -405,7 +409,7 @@ module _ (features : WasmFeatures) where
     an_if cx Empty,
     refl,
     record { row = (_, refl); targets = λ j t e. absurd cc; clauses = λ j c e. absurd cc; no_else = λ h e i w. nothing_given h e },
-    SkipsIf (record { kind = If; block_type = Empty }) 2 [] refl refl refl (Ends, (0, refl), refl) tt refl,
+    by_skipping (record { kind = If; block_type = Empty }) 2 [] refl refl refl (Ends, (0, refl), refl) tt refl,
   )
     where
       nothing_given : (h : Head) → Opens (record { kind = If; block_type = Empty }) ≡ Opens h → AllBelow cx (take (length (params cx h)) (I32 ∷ [])) (results cx h)
@@ -414,45 +418,45 @@ module _ (features : WasmFeatures) where
           subst (λ (k : Head). AllBelow cx (take (length (params cx k)) (I32 ∷ [])) (results cx k)) d tt
 
   -- the parts and the closer of an `if`, past an inner block
-  marks_of_if : marks (i32_const ∷ an_if cx Empty ∷ a_block cx Empty ∷ an_end ∷ an_else ∷ i32_const ∷ an_end ∷ an_end ∷ []) 1 ≡ mark 4 BeginsElse ∷ mark 6 Ends ∷ []
+  marks_of_if : delimiters (i32_const ∷ an_if cx Empty ∷ a_block cx Empty ∷ an_end ∷ an_else ∷ i32_const ∷ an_end ∷ an_end ∷ []) 1 ≡ delimiter 4 BeginsElse ∷ delimiter 6 Ends ∷ []
   marks_of_if = refl
 
   -- those of a `try`, and of one that `delegate` closes
-  marks_of_try : marks (a_try cx Empty ∷ a_try cx Empty ∷ a_catch [] ∷ an_end ∷ a_catch (I32 ∷ []) ∷ an_end ∷ an_end ∷ []) 0 ≡ mark 4 (BeginsCatch false (I32 ∷ [])) ∷ mark 5 Ends ∷ []
+  marks_of_try : delimiters (a_try cx Empty ∷ a_try cx Empty ∷ a_catch [] ∷ an_end ∷ a_catch (I32 ∷ []) ∷ an_end ∷ an_end ∷ []) 0 ≡ delimiter 4 (BeginsCatch false (I32 ∷ [])) ∷ delimiter 5 Ends ∷ []
   marks_of_try = refl
 
-  marks_of_delegated : marks (a_try cx Empty ∷ i32_const ∷ delegate 0 ∷ an_end ∷ []) 0 ≡ mark 2 Delegates ∷ []
+  marks_of_delegated : delimiters (a_try cx Empty ∷ i32_const ∷ delegate 0 ∷ an_end ∷ []) 0 ≡ delimiter 2 Delegates ∷ []
   marks_of_delegated = refl
 
   -- ---- what a wrong validator would let through gets stuck
 
-  the_demand : (code : List Operator) (k : ℕ) (l : Label) (ls : List Label) (set : List ℕ) (op : Operator) → slice_get code k ≡ Some op → Demands cx code (At k (l ∷ ls) set) → Demand cx code k l ls set op
+  the_demand : (code : List Operator) (k : ℕ) (l : Label) (ls : List Label) (set : List ℕ) (op : Operator) → slice_get code k ≡ Some op → IsNotStuck cx code (At k (l ∷ ls) set) → Demand cx code (configuration k l ls set op)
   the_demand code k l ls set op is d =
-      subst (λ o. Demand cx code k l ls set o) (some_injective d.0 op (sym d.1 ∙ is)) d.2
+      subst (λ o. Demand cx code (configuration k l ls set o)) (some_injective d.0 op (sym d.1 ∙ is)) d.2
 
   -- a branch to a loop that wants the loop's results, not its parameters
   abbrev br_by_results : Operator
-  br_by_results = record { form = Flat; row = λ hs. record (plain true [] []) { dead = true; targets = record { depth = 0; carried = λ ys. ys } ∷ [] } }
+  br_by_results = record { form = Flat; row = λ hs. record (plain_row true [] []) { ends_live = true; targets = record { depth = 0; carried = λ ys. ys } ∷ [] } }
 
-  stuck_at_loop : Demands cx (i32_const ∷ a_loop cx takes_one ∷ br_by_results ∷ an_end ∷ an_end ∷ []) (At 2 (label 1 Loop takes_one [] ∷ outermost to_nothing [] ∷ []) []) → ⊥
+  stuck_at_loop : IsNotStuck cx (i32_const ∷ a_loop cx takes_one ∷ br_by_results ∷ an_end ∷ an_end ∷ []) (At 2 (label 1 Loop takes_one [] ∷ outermost to_nothing [] ∷ []) []) → ⊥
   stuck_at_loop d = (the_demand _ 2 (label 1 Loop takes_one []) (outermost to_nothing [] ∷ []) [] br_by_results refl d).targets 0 _ refl
 
   -- a table of branches that looks at its default alone
   abbrev table_by_default : Operator
   table_by_default =
-      record { form = Flat; row = λ hs. record (plain true (I32 ∷ []) []) { dead = true; targets = target cx hs 0 ∷ target cx hs 1 ∷ [] } }
+      record { form = Flat; row = λ hs. record (plain_row true (I32 ∷ []) []) { ends_live = true; targets = target cx hs 0 ∷ target cx hs 1 ∷ [] } }
 
-  stuck_at_table : Demands cx (table_by_default ∷ []) (At 0 (label 0 Block (Val I64) (I32 ∷ []) ∷ outermost to_nothing [] ∷ []) []) → ⊥
+  stuck_at_table : IsNotStuck cx (table_by_default ∷ []) (At 0 (label 0 Block (Val I64) (I32 ∷ []) ∷ outermost to_nothing [] ∷ []) []) → ⊥
   stuck_at_table d =
       let e = ((the_demand _ 0 (label 0 Block (Val I64) (I32 ∷ [])) (outermost to_nothing [] ∷ []) [] table_by_default refl d).targets 0 _ refl).0 in
       absurd cc
 
   -- an `if` without `else` that has results and no parameters
-  stuck_at_if : Demands cx (an_if cx (Val I32) ∷ i32_const ∷ an_end ∷ an_end ∷ []) (At 0 (outermost to_nothing (I32 ∷ []) ∷ []) []) → ⊥
+  stuck_at_if : IsNotStuck cx (an_if cx (Val I32) ∷ i32_const ∷ an_end ∷ an_end ∷ []) (At 0 (outermost to_nothing (I32 ∷ []) ∷ []) []) → ⊥
   stuck_at_if d = (the_demand _ 0 (outermost to_nothing (I32 ∷ [])) [] [] (an_if cx (Val I32)) refl d).no_else _ refl refl refl
 
   -- a clause that names a label inside its own frame
-  stuck_at_clause : Demands cx (a_try_table cx (Val I32) (a_clause ∷ []) ∷ []) (first to_nothing) → ⊥
+  stuck_at_clause : IsNotStuck cx (a_try_table cx (Val I32) (a_clause ∷ []) ∷ []) (initial_machine to_nothing) → ⊥
   stuck_at_clause d = (the_demand _ 0 (outermost to_nothing []) [] [] (a_try_table cx (Val I32) (a_clause ∷ [])) refl d).clauses 0 _ refl
 
   -- a run that leaves a block before it has set a local, and reads the local behind the block
@@ -465,45 +469,45 @@ module _ (features : WasmFeatures) where
     refl,
     record {
       row = (_, refl);
-      targets = only (λ (t : Target). Reaches cx (drop t.depth (label 0 Block Empty [] ∷ outermost to_nothing [] ∷ [])) (t.carried [])) (target cx (label_heads (label 0 Block Empty [] ∷ outermost to_nothing [] ∷ [])) 0) tt;
+      targets = only (λ (t : Target). LabelAccepts cx (drop t.depth (label 0 Block Empty [] ∷ outermost to_nothing [] ∷ [])) (t.carried [])) (target cx (label_heads (label 0 Block Empty [] ∷ outermost to_nothing [] ∷ [])) 0) tt;
       clauses = λ j c e. absurd cc;
       no_else = λ h e. absurd cc;
     },
-    Jumps 0 _ refl refl (record { label = label 0 Block Empty []; outer = outermost to_nothing [] ∷ []; is = refl; types = []; below = tt; arrives = (4, (Ends, (0, refl), refl), refl) }),
+    by_jumping 0 _ refl refl (record { label = label 0 Block Empty []; outer = outermost to_nothing [] ∷ []; is = refl; types = []; below = tt; arrives = (4, (Ends, (0, refl), refl), refl) }),
   )
 
-  stuck_behind_block : Demands cx leaving (At 5 (outermost to_nothing [] ∷ []) []) → ⊥
+  stuck_behind_block : IsNotStuck cx leaving (At 5 (outermost to_nothing [] ∷ []) []) → ⊥
   stuck_behind_block d =
       let r = (the_demand leaving 5 (outermost to_nothing []) [] [] gets_local refl d).row.1 in
       absurd cc
 
   -- ---- what isn't type safe
 
-  not_safe : IsTypeSafe cx (body cx (Numeric I32Add ∷ [])) to_nothing → ⊥
-  not_safe safe = stuck_at_once (safe 0 (first to_nothing) refl).0
+  not_safe : IsTypeSafe cx (body cx (Numeric (IntegerBinary IntegerI32 Add) ∷ [])) to_nothing → ⊥
+  not_safe safe = stuck_at_once (safe 0 (initial_machine to_nothing) refl).0
 
   -- a return without the result, or with another type
-  returns_nothing : IsSafe cx adding one_to_one (Returned []) → ⊥
+  returns_nothing : IsAsValidated cx adding one_to_one (Returned []) → ⊥
   returns_nothing s = s
 
-  returns_other : IsSafe cx adding one_to_one (Returned (I64 ∷ [])) → ⊥
+  returns_other : IsAsValidated cx adding one_to_one (Returned (I64 ∷ [])) → ⊥
   returns_other s = let e = s.0 in absurd cc
 
   abbrev a_frame : List MaybeType → Bool → Frame
-  a_frame own dead = record { head = record { kind = Block; block_type = to_nothing }; own = own; dead = dead; first_set = [] }
+  a_frame own dead = record { head = record { kind = Block; block_type = to_nothing }; operands = own; dead = dead; first_set = [] }
 
   -- one label for one frame, one operand for one operand, of a type below, and no dead frame
   labels_agree : LabelsBelow cx (outermost to_nothing (I32 ∷ []) ∷ []) (a_frame (Known I32 ∷ []) false ∷ [])
-  labels_agree = (refl, refl, (I32 ∷ [], refl, (refl, tt)), tt)
+  labels_agree = (record { head = refl; live = refl; operands = (I32 ∷ [], refl, (refl, tt)) }, tt)
 
   label_missing : LabelsBelow cx [] (a_frame [] false ∷ []) → ⊥
   label_missing h = h
 
   frame_is_dead : LabelsBelow cx (outermost to_nothing [] ∷ []) (a_frame [] true ∷ []) → ⊥
-  frame_is_dead h = let e = h.1 in absurd cc
+  frame_is_dead h = let e = h.0.live in absurd cc
 
   operand_missing : LabelsBelow cx (outermost to_nothing [] ∷ []) (a_frame (Known I32 ∷ []) false ∷ []) → ⊥
-  operand_missing h = no_operand h.2.0 h.2.1 h.2.2
+  operand_missing h = no_operand h.0.operands.0 h.0.operands.1 h.0.operands.2
     where
       no_operand : (us : List ValType) → Known I32 ∷ [] ≡ map Known us → AllBelow cx [] us → ⊥
       no_operand [] e b = absurd cc
@@ -514,7 +518,7 @@ module _ (features : WasmFeatures) where
 -- an order in which i32 lies below i64
 abbrev tilted : ValType → ValType → Bool
 tilted I32 I64 = true
-tilted t u = same_number t u
+tilted t u = is_same_number t u
 
 module _ (features : WasmFeatures) where
   abbrev tilted_context : Context
@@ -535,22 +539,22 @@ module _ (features : WasmFeatures) where
     operator tilted_context (Numeric (I64Const (pos 0))),
     refl,
     record { row = (_, refl); targets = λ j t e. absurd cc; clauses = λ j c e. absurd cc; no_else = λ h e. absurd cc },
-    GoesOn (I64 ∷ []) (I32 ∷ []) refl refl refl (refl, tt) refl,
+    by_going_on (I64 ∷ []) (I32 ∷ []) refl refl refl (refl, tt) refl,
   )
 
   -- what is wanted
-  takes_below : Demands tilted_context (operator tilted_context (Numeric I64Add) ∷ []) (At 0 (giving_i64 (I32 ∷ I64 ∷ []) ∷ []) [])
+  takes_below : IsNotStuck tilted_context (operator tilted_context (Numeric (IntegerBinary IntegerI64 Add)) ∷ []) (At 0 (giving_i64 (I32 ∷ I64 ∷ []) ∷ []) [])
   takes_below = (
-    operator tilted_context (Numeric I64Add),
+    operator tilted_context (Numeric (IntegerBinary IntegerI64 Add)),
     refl,
     record { row = (_, refl); targets = λ j t e. absurd cc; clauses = λ j c e. absurd cc; no_else = λ h e. absurd cc },
   )
 
   -- and not what lies above
-  takes_above : Demands tilted_context (operator tilted_context (Numeric I32Eqz) ∷ []) (At 0 (giving_i64 (I64 ∷ []) ∷ []) []) → ⊥
+  takes_above : IsNotStuck tilted_context (operator tilted_context (Numeric (Eqz IntegerI32)) ∷ []) (At 0 (giving_i64 (I64 ∷ []) ∷ []) []) → ⊥
   takes_above d =
-      let e : operator tilted_context (Numeric I32Eqz) ≡ d.0 = some_injective _ _ d.1 in
-      let d' = subst (λ op. Demand tilted_context (operator tilted_context (Numeric I32Eqz) ∷ []) 0 (giving_i64 (I64 ∷ [])) [] [] op) (sym e) d.2 in
+      let e : operator tilted_context (Numeric (Eqz IntegerI32)) ≡ d.0 = some_injective _ _ d.1 in
+      let d' = subst (λ op. Demand tilted_context (operator tilted_context (Numeric (Eqz IntegerI32)) ∷ []) (configuration 0 (giving_i64 (I64 ∷ [])) [] [] op)) (sym e) d.2 in
       let r = d'.row.1 in
       absurd cc
 
@@ -560,7 +564,7 @@ module _ (features : WasmFeatures) where
     an_end,
     refl,
     record { row = (_, refl); targets = λ j t e. absurd cc; clauses = λ j c e. absurd cc; no_else = λ h e. absurd cc },
-    Closes (I32 ∷ []) refl (refl, tt) refl,
+    by_closing (I32 ∷ []) refl (refl, tt) refl,
   )
 
   -- what a branch carries
@@ -570,9 +574,9 @@ module _ (features : WasmFeatures) where
     refl,
     record {
       row = (_, refl);
-      targets = only (λ (t : Target). Reaches tilted_context (drop t.depth (giving_i64 (I64 ∷ []) ∷ [])) (t.carried (I64 ∷ []))) (target tilted_context (label_heads (giving_i64 (I64 ∷ []) ∷ [])) 0) (refl, tt);
+      targets = only (λ (t : Target). LabelAccepts tilted_context (drop t.depth (giving_i64 (I64 ∷ []) ∷ [])) (t.carried (I64 ∷ []))) (target tilted_context (label_heads (giving_i64 (I64 ∷ []) ∷ [])) 0) (refl, tt);
       clauses = λ j c e. absurd cc;
       no_else = λ h e. absurd cc;
     },
-    Jumps 0 _ refl refl (record { label = giving_i64 (I64 ∷ []); outer = []; is = refl; types = I32 ∷ []; below = (refl, tt); arrives = refl }),
+    by_jumping 0 _ refl refl (record { label = giving_i64 (I64 ∷ []); outer = []; is = refl; types = I32 ∷ []; below = (refl, tt); arrives = refl }),
   )

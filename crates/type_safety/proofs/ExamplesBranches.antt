@@ -13,8 +13,8 @@ use Rattle.validation_rules.specs.Context.{SubType, ValType, I32, I64, BlockType
 use Rattle.validation_rules.specs.Rows.{FrameKind, Block, Loop, Ends, Target, Operator}
 use Rattle.validation_rules.specs.Table.{body, operator}
 use Rattle.validation_rules.proofs.Steps.{some_injective}
-use Rattle.type_safety.specs.Machine.{Label, label_heads, At, Returned, Reaches, Demand, Step}
-use Rattle.type_safety.specs.Machine.Outcome.{GoesOn, Jumps}
+use Rattle.type_safety.specs.Machine.{Label, label_heads, At, Returned, LabelAccepts, Demand, configuration, Step}
+use Rattle.type_safety.proofs.Outcomes.{by_going_on, by_jumping}
 use Rattle.type_safety.specs.Theorem.{IsTypeSafe}
 use Rattle.type_safety.proofs.Bodies.{body_safety}
 
@@ -53,7 +53,7 @@ abbrev br_table : List ℕ → ℕ → Op
 br_table ds d = Control (BrTable (record { targets = record { ref_ptr = (0, 0); now = ds }; complete = true; default = d }))
 
 abbrev label : ℕ → FrameKind → BlockType → List ValType → Label
-label began kind ty own = record { began = began; head = record { kind = kind; block_type = ty }; own = own }
+label began kind ty own = record { began = began; head = record { kind = kind; block_type = ty }; operands = own }
 
 abbrev outermost : BlockType → List ValType → Label
 outermost ty own = label 0 Block ty own
@@ -81,10 +81,10 @@ abbrev in_loop : List ValType → List Label
 in_loop own = label 1 Loop i32_to_i64 own ∷ outermost to_nothing [] ∷ []
 
 -- at `br_if`: the parameter, and the test above it
-at_test : Demand cx looping 3 (label 1 Loop i32_to_i64 (I32 ∷ I32 ∷ [])) (outermost to_nothing [] ∷ []) [] (operator cx (Control (BrIf 0)))
+at_test : Demand cx looping (configuration 3 (label 1 Loop i32_to_i64 (I32 ∷ I32 ∷ [])) (outermost to_nothing [] ∷ []) [] (operator cx (Control (BrIf 0))))
 at_test = record {
   row = (_, refl);
-  targets = only (λ (t : Target). Reaches cx (drop t.depth (in_loop (I32 ∷ I32 ∷ []))) (t.carried (I32 ∷ I32 ∷ []))) (target cx (label_heads (in_loop [])) 0) (refl, tt);
+  targets = only (λ (t : Target). LabelAccepts cx (drop t.depth (in_loop (I32 ∷ I32 ∷ []))) (t.carried (I32 ∷ I32 ∷ []))) (target cx (label_heads (in_loop [])) 0) (refl, tt);
   clauses = λ j c e. absurd cc;
   no_else = λ h e. absurd cc;
 }
@@ -95,12 +95,12 @@ around = (
   operator cx (Control (BrIf 0)),
   refl,
   at_test,
-  Jumps 0 _ refl refl (record { label = label 1 Loop i32_to_i64 (I32 ∷ I32 ∷ []); outer = outermost to_nothing [] ∷ []; is = refl; types = I32 ∷ []; below = (refl, tt); arrives = refl }),
+  by_jumping 0 _ refl refl (record { label = label 1 Loop i32_to_i64 (I32 ∷ I32 ∷ []); outer = outermost to_nothing [] ∷ []; is = refl; types = I32 ∷ []; below = (refl, tt); arrives = refl }),
 )
 
 -- or on, with the parameter
 goes_on : Step cx looping (At 3 (in_loop (I32 ∷ I32 ∷ [])) []) (At 4 (in_loop (I32 ∷ [])) [])
-goes_on = (operator cx (Control (BrIf 0)), refl, at_test, GoesOn (I32 ∷ []) (I32 ∷ []) refl refl refl (refl, tt) refl)
+goes_on = (operator cx (Control (BrIf 0)), refl, at_test, by_going_on (I32 ∷ []) (I32 ∷ []) refl refl refl (refl, tt) refl)
 
 looping_safe : IsTypeSafe cx looping to_nothing
 looping_safe = body_safety (context_of declared) (lawful_lists declared refl) cx looping_ops to_nothing refl ([], refl)
@@ -120,10 +120,10 @@ outer_block own = label 0 Block (Val I64) own ∷ outermost to_nothing [] ∷ []
 abbrev in_blocks : List ValType → List Label
 in_blocks own = label 1 Block (Val I64) own ∷ outer_block []
 
-at_table : Demand cx choosing 4 (label 1 Block (Val I64) (I32 ∷ I64 ∷ [])) (outer_block []) [] (operator cx (br_table (1 ∷ []) 0))
+at_table : Demand cx choosing (configuration 4 (label 1 Block (Val I64) (I32 ∷ I64 ∷ [])) (outer_block []) [] (operator cx (br_table (1 ∷ []) 0)))
 at_table = record {
   row = (_, refl);
-  targets = each_of_two (λ (t : Target). Reaches cx (drop t.depth (in_blocks (I32 ∷ I64 ∷ []))) (t.carried (I64 ∷ I32 ∷ []))) (target cx (label_heads (in_blocks [])) 0) (target cx (label_heads (in_blocks [])) 1) (refl, tt) (refl, tt);
+  targets = each_of_two (λ (t : Target). LabelAccepts cx (drop t.depth (in_blocks (I32 ∷ I64 ∷ []))) (t.carried (I64 ∷ I32 ∷ []))) (target cx (label_heads (in_blocks [])) 0) (target cx (label_heads (in_blocks [])) 1) (refl, tt) (refl, tt);
   clauses = λ j c e. absurd cc;
   no_else = λ h e. absurd cc;
 }
@@ -133,7 +133,7 @@ by_default = (
   operator cx (br_table (1 ∷ []) 0),
   refl,
   at_table,
-  Jumps 0 _ refl refl (record { label = label 1 Block (Val I64) (I32 ∷ I64 ∷ []); outer = outer_block []; is = refl; types = I64 ∷ []; below = (refl, tt); arrives = (5, (Ends, (0, refl), refl), refl) }),
+  by_jumping 0 _ refl refl (record { label = label 1 Block (Val I64) (I32 ∷ I64 ∷ []); outer = outer_block []; is = refl; types = I64 ∷ []; below = (refl, tt); arrives = (5, (Ends, (0, refl), refl), refl) }),
 )
 
 by_target : Step cx choosing (At 4 (in_blocks (I32 ∷ I64 ∷ [])) []) (At 9 (outermost to_nothing (I64 ∷ []) ∷ []) [])
@@ -141,7 +141,7 @@ by_target = (
   operator cx (br_table (1 ∷ []) 0),
   refl,
   at_table,
-  Jumps 1 _ refl refl (record { label = label 0 Block (Val I64) []; outer = outermost to_nothing [] ∷ []; is = refl; types = I64 ∷ []; below = (refl, tt); arrives = (8, (Ends, (0, refl), refl), refl) }),
+  by_jumping 1 _ refl refl (record { label = label 0 Block (Val I64) []; outer = outermost to_nothing [] ∷ []; is = refl; types = I64 ∷ []; below = (refl, tt); arrives = (8, (Ends, (0, refl), refl), refl) }),
 )
 
 choosing_safe : IsTypeSafe cx choosing to_nothing
@@ -162,11 +162,11 @@ returns = (
   refl,
   record {
     row = (_, refl);
-    targets = only (λ (t : Target). Reaches cx (drop t.depth (label 0 Block (Val I64) (I32 ∷ I64 ∷ []) ∷ outermost (Val I32) [] ∷ [])) (t.carried (I32 ∷ []))) (target cx (label_heads (label 0 Block (Val I64) [] ∷ outermost (Val I32) [] ∷ [])) 1) (refl, tt);
+    targets = only (λ (t : Target). LabelAccepts cx (drop t.depth (label 0 Block (Val I64) (I32 ∷ I64 ∷ []) ∷ outermost (Val I32) [] ∷ [])) (t.carried (I32 ∷ []))) (target cx (label_heads (label 0 Block (Val I64) [] ∷ outermost (Val I32) [] ∷ [])) 1) (refl, tt);
     clauses = λ j c e. absurd cc;
     no_else = λ h e. absurd cc;
   },
-  Jumps 0 _ refl refl (record { label = outermost (Val I32) []; outer = []; is = refl; types = I32 ∷ []; below = (refl, tt); arrives = refl }),
+  by_jumping 0 _ refl refl (record { label = outermost (Val I32) []; outer = []; is = refl; types = I32 ∷ []; below = (refl, tt); arrives = refl }),
 )
 
 -- ---- `select` takes its test and two operands, and leaves what lies below
@@ -176,7 +176,7 @@ selects = (
   operator cx (Control Select),
   refl,
   record { row = (_, refl); targets = λ j t e. absurd cc; clauses = λ j c e. absurd cc; no_else = λ h e. absurd cc },
-  GoesOn (I64 ∷ []) (I64 ∷ []) refl refl refl (refl, tt) refl,
+  by_going_on (I64 ∷ []) (I64 ∷ []) refl refl refl (refl, tt) refl,
 )
 
 -- ---- a body of both ways out of an `if`, and of dead code

@@ -14,8 +14,8 @@ use Rattle.validation_rules.specs.Fits.{Known}
 use Rattle.validation_rules.specs.Rows.{Block, Target, Operator}
 use Rattle.validation_rules.specs.Table.{body, operator}
 use Rattle.validation_rules.proofs.Steps.{some_injective}
-use Rattle.type_safety.specs.Machine.{Label, At, Returned, Reaches, Demand, Demands, Step}
-use Rattle.type_safety.specs.Machine.Outcome.{GoesOn, Jumps}
+use Rattle.type_safety.specs.Machine.{Label, At, Returned, LabelAccepts, Demand, configuration, IsNotStuck, Step}
+use Rattle.type_safety.proofs.Outcomes.{by_going_on, by_jumping}
 use Rattle.type_safety.specs.Theorem.{IsTypeSafe}
 use Rattle.type_safety.proofs.Bodies.{body_safety}
 
@@ -44,7 +44,7 @@ abbrev return_call : ℕ → Op
 return_call f = Control (ReturnCall f)
 
 abbrev label : ℕ → BlockType → List ValType → Label
-label began ty own = record { began = began; head = record { kind = Block; block_type = ty }; own = own }
+label began ty own = record { began = began; head = record { kind = Block; block_type = ty }; operands = own }
 
 -- ---- a tail call out of a block of other results
 
@@ -67,10 +67,10 @@ only P x p zero y e = subst P (some_injective x y e) p
 only P x p (suc j) y e = absurd cc
 
 -- at the call, over two i32: its label is the outermost, and it carries an i64 there
-at_tail_call : Demand cx leaving 3 (in_block (I32 ∷ I32 ∷ [])) outermost [] (operator cx (return_call 0))
+at_tail_call : Demand cx leaving (configuration 3 (in_block (I32 ∷ I32 ∷ [])) outermost [] (operator cx (return_call 0)))
 at_tail_call = record {
   row = (_, refl);
-  targets = only (λ (t : Target). Reaches cx (drop t.depth (in_block (I32 ∷ I32 ∷ []) ∷ outermost)) (t.carried (I32 ∷ []))) (record { depth = 1; carried = λ found. I64 ∷ [] }) (refl, tt);
+  targets = only (λ (t : Target). LabelAccepts cx (drop t.depth (in_block (I32 ∷ I32 ∷ []) ∷ outermost)) (t.carried (I32 ∷ []))) (record { depth = 1; carried = λ found. I64 ∷ [] }) (refl, tt);
   clauses = λ j c e. absurd cc;
   no_else = λ h e. absurd cc;
 }
@@ -81,14 +81,14 @@ leaves = (
   operator cx (return_call 0),
   refl,
   at_tail_call,
-  Jumps 0 _ refl refl (record { label = label 0 (Val I64) []; outer = []; is = refl; types = I64 ∷ []; below = (refl, tt); arrives = refl }),
+  by_jumping 0 _ refl refl (record { label = label 0 (Val I64) []; outer = []; is = refl; types = I64 ∷ []; below = (refl, tt); arrives = refl }),
 )
 
 -- without its operand a run is stuck there
-stuck_at_tail_call : Demands cx leaving (At 3 (in_block [] ∷ outermost) []) → ⊥
+stuck_at_tail_call : IsNotStuck cx leaving (At 3 (in_block [] ∷ outermost) []) → ⊥
 stuck_at_tail_call d =
     let e : operator cx (return_call 0) ≡ d.0 = some_injective _ _ d.1 in
-    let d' = subst (λ op. Demand cx leaving 3 (in_block []) outermost [] op) (sym e) d.2 in
+    let d' = subst (λ op. Demand cx leaving (configuration 3 (in_block []) outermost [] op)) (sym e) d.2 in
     let r = d'.row.1 in
     absurd cc
 
@@ -109,7 +109,7 @@ calls = (
   operator cx (call 1),
   refl,
   record { row = (_, refl); targets = λ j t e. absurd cc; clauses = λ j c e. absurd cc; no_else = λ h e. absurd cc },
-  GoesOn (I32 ∷ I64 ∷ []) (I32 ∷ I64 ∷ []) refl refl refl (refl, (refl, tt)) refl,
+  by_going_on (I32 ∷ I64 ∷ []) (I32 ∷ I64 ∷ []) refl refl refl (refl, (refl, tt)) refl,
 )
 
 sets : Step cx calling (At 1 (label 0 (Val I64) (I64 ∷ I32 ∷ []) ∷ []) []) (At 2 (label 0 (Val I64) (I32 ∷ []) ∷ []) [])
@@ -117,7 +117,7 @@ sets = (
   operator cx (Control (GlobalSet 1)),
   refl,
   record { row = (_, refl); targets = λ j t e. absurd cc; clauses = λ j c e. absurd cc; no_else = λ h e. absurd cc },
-  GoesOn [] [] refl refl refl tt refl,
+  by_going_on [] [] refl refl refl tt refl,
 )
 
 calling_safe : IsTypeSafe cx calling (Val I64)

@@ -5,8 +5,9 @@ use Rattle.validate_resources.specs.Lawful.{lawful_lists}
 use Rattle.validate_types.specs.Features.{bulk_memory_opt}
 use Rattle.validate_visit.specs.declared.memory.MemArg.{MemArg}
 use Rattle.validate_visit.specs.declared.memory.MemArgTarget.TheVariants.{Memory as InMemory}
+use Rattle.validate_visit.specs.declared.numbers.NumberType.TheVariants.{I64 as NumberI64}
 use Rattle.validate_visit.specs.declared.op.ControlOp.TheVariants.{End}
-use Rattle.validate_visit.specs.declared.op.MemoryOp.TheVariants.{I64Load, I64Store, MemorySize, MemoryCopy}
+use Rattle.validate_visit.specs.declared.op.MemoryOp.TheVariants.{Load, Store, MemorySize, MemoryCopy}
 use Rattle.validate_visit.specs.declared.op.NumericOp.TheVariants.{I32Const, I64Const}
 use Rattle.validate_visit.specs.declared.op.Op.{Op}
 use Rattle.validate_visit.specs.declared.op.Op.TheVariants.{Control, Numeric, Memory}
@@ -14,8 +15,9 @@ use Rattle.validation_rules.specs.Context.{ValType, I32, I64, Empty, Context}
 use Rattle.validation_rules.specs.Rows.{Block, Operator}
 use Rattle.validation_rules.specs.Table.{body, operator}
 use Rattle.validation_rules.proofs.Steps.{some_injective}
-use Rattle.type_safety.specs.Machine.{Label, Machine, At, Trapped, Demand, Demands, Step}
-use Rattle.type_safety.specs.Machine.Outcome.{GoesOn, Traps}
+use Rattle.type_safety.specs.Machine.{Label, Machine, At, Trapped, Demand, configuration, IsNotStuck, Step}
+use Rattle.type_safety.specs.Machine.Outcome.{traps}
+use Rattle.type_safety.proofs.Outcomes.{by_going_on}
 use Rattle.type_safety.specs.Theorem.{IsTypeSafe}
 use Rattle.type_safety.proofs.Bodies.{body_safety}
 
@@ -35,10 +37,10 @@ abbrev i64_const : Op
 i64_const = Numeric (I64Const (pos 0))
 
 abbrev load : ℕ → Op
-load m = Memory (I64Load (at_memory m))
+load m = Memory (Load NumberI64 (at_memory m))
 
 abbrev store : ℕ → Op
-store m = Memory (I64Store (at_memory m))
+store m = Memory (Store NumberI64 (at_memory m))
 
 abbrev end : Op
 end = Control End
@@ -52,7 +54,7 @@ abbrev moving : List Operator
 moving = body cx moving_ops
 
 abbrev outermost : List ValType → Label
-outermost own = record { began = 0; head = record { kind = Block; block_type = Empty }; own = own }
+outermost own = record { began = 0; head = record { kind = Block; block_type = Empty }; operands = own }
 
 abbrev standing : ℕ → List ValType → Machine
 standing k own = At k (outermost own ∷ []) []
@@ -63,7 +65,7 @@ loads = (
   operator cx (load 1),
   refl,
   record { row = (_, refl); targets = λ j t e. absurd cc; clauses = λ j c e. absurd cc; no_else = λ h e. absurd cc },
-  GoesOn (I64 ∷ []) (I64 ∷ []) refl refl refl (refl, tt) refl,
+  by_going_on (I64 ∷ []) (I64 ∷ []) refl refl refl (refl, tt) refl,
 )
 
 -- the value and the address go, and nothing comes
@@ -72,23 +74,23 @@ stores = (
   operator cx (store 0),
   refl,
   record { row = (_, refl); targets = λ j t e. absurd cc; clauses = λ j c e. absurd cc; no_else = λ h e. absurd cc },
-  GoesOn [] [] refl refl refl tt refl,
+  by_going_on [] [] refl refl refl tt refl,
 )
 
 -- or it traps, as where the address lies outside the memory
-traps : Step cx moving (standing 3 (I64 ∷ I32 ∷ [])) Trapped
-traps = (
+may_trap : Step cx moving (standing 3 (I64 ∷ I32 ∷ [])) Trapped
+may_trap = (
   operator cx (store 0),
   refl,
   record { row = (_, refl); targets = λ j t e. absurd cc; clauses = λ j c e. absurd cc; no_else = λ h e. absurd cc },
-  Traps refl,
+  traps refl,
 )
 
 -- an address of the other memory's type is stuck
-stuck : Demands cx moving (standing 2 (I32 ∷ I32 ∷ [])) → ⊥
+stuck : IsNotStuck cx moving (standing 2 (I32 ∷ I32 ∷ [])) → ⊥
 stuck d =
     let e : operator cx (load 1) ≡ d.0 = some_injective _ _ d.1 in
-    let d' = subst (λ op. Demand cx moving 2 (outermost (I32 ∷ I32 ∷ [])) [] [] op) (sym e) d.2 in
+    let d' = subst (λ op. Demand cx moving (configuration 2 (outermost (I32 ∷ I32 ∷ [])) [] [] op)) (sym e) d.2 in
     let r = d'.row.1 in
     absurd cc
 

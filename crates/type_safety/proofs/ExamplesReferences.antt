@@ -21,8 +21,8 @@ use Rattle.validation_rules.specs.References.{last_without_null}
 use Rattle.validation_rules.specs.Rows.{Block, Ends, Target, Operator}
 use Rattle.validation_rules.specs.Table.{body, operator}
 use Rattle.validation_rules.proofs.Steps.{some_injective}
-use Rattle.type_safety.specs.Machine.{Label, label_heads, At, Reaches, Demand, Demands, Step}
-use Rattle.type_safety.specs.Machine.Outcome.{GoesOn, Jumps}
+use Rattle.type_safety.specs.Machine.{Label, label_heads, At, LabelAccepts, Demand, configuration, IsNotStuck, Step}
+use Rattle.type_safety.proofs.Outcomes.{by_going_on, by_jumping}
 use Rattle.type_safety.specs.Theorem.{IsTypeSafe}
 use Rattle.type_safety.proofs.Bodies.{body_safety}
 
@@ -79,7 +79,7 @@ abbrev br_on_non_null : ℕ → Op
 br_on_non_null d = Reference (BrOnNonNull d)
 
 abbrev label : ℕ → BlockType → List ValType → Label
-label began ty own = record { began = began; head = record { kind = Block; block_type = ty }; own = own }
+label began ty own = record { began = began; head = record { kind = Block; block_type = ty }; operands = own }
 
 abbrev outermost : List ValType → List Label
 outermost own = label 0 to_nothing own ∷ []
@@ -101,10 +101,10 @@ abbrev in_block : List ValType → List Label
 in_block own = label 0 (Val I32) own ∷ outermost []
 
 -- over the i32 a reference, null or not: the i32 alone is carried
-at_null : Demand cx testing 3 (label 0 (Val I32) (null func ∷ I32 ∷ [])) (outermost []) [] (operator cx (br_on_null 0))
+at_null : Demand cx testing (configuration 3 (label 0 (Val I32) (null func ∷ I32 ∷ [])) (outermost []) [] (operator cx (br_on_null 0)))
 at_null = record {
   row = (_, refl);
-  targets = only (λ (t : Target). Reaches cx (drop t.depth (in_block (null func ∷ I32 ∷ []))) (t.carried (I32 ∷ null func ∷ []))) (target cx (label_heads (in_block [])) 0) (refl, tt);
+  targets = only (λ (t : Target). LabelAccepts cx (drop t.depth (in_block (null func ∷ I32 ∷ []))) (t.carried (I32 ∷ null func ∷ []))) (target cx (label_heads (in_block [])) 0) (refl, tt);
   clauses = λ j c e. absurd cc;
   no_else = λ h e. absurd cc;
 }
@@ -115,7 +115,7 @@ leaves = (
   operator cx (br_on_null 0),
   refl,
   at_null,
-  Jumps 0 _ refl refl (record { label = label 0 (Val I32) (null func ∷ I32 ∷ []); outer = outermost []; is = refl; types = I32 ∷ []; below = (refl, tt); arrives = (5, (Ends, (0, refl), refl), refl) }),
+  by_jumping 0 _ refl refl (record { label = label 0 (Val I32) (null func ∷ I32 ∷ []); outer = outermost []; is = refl; types = I32 ∷ []; below = (refl, tt); arrives = (5, (Ends, (0, refl), refl), refl) }),
 )
 
 -- it isn't: on, with the reference above the i32, now without null
@@ -124,7 +124,7 @@ stays = (
   operator cx (br_on_null 0),
   refl,
   at_null,
-  GoesOn (I32 ∷ no_null func ∷ []) (I32 ∷ no_null func ∷ []) refl refl refl (refl, (refl, tt)) refl,
+  by_going_on (I32 ∷ no_null func ∷ []) (I32 ∷ no_null func ∷ []) refl refl refl (refl, (refl, tt)) refl,
 )
 
 -- or of a type below it
@@ -133,22 +133,22 @@ stays_below = (
   operator cx (br_on_null 0),
   refl,
   at_null,
-  GoesOn (I32 ∷ no_null func ∷ []) (I32 ∷ no_null (concrete 0) ∷ []) refl refl refl (refl, (refl, tt)) refl,
+  by_going_on (I32 ∷ no_null func ∷ []) (I32 ∷ no_null (concrete 0) ∷ []) refl refl refl (refl, (refl, tt)) refl,
 )
 
 -- with a number in its place a run is stuck there
-stuck_at_number : Demands cx testing (At 3 (in_block (I32 ∷ I32 ∷ [])) []) → ⊥
+stuck_at_number : IsNotStuck cx testing (At 3 (in_block (I32 ∷ I32 ∷ [])) []) → ⊥
 stuck_at_number d =
     let e : operator cx (br_on_null 0) ≡ d.0 = some_injective _ _ d.1 in
-    let d' = subst (λ op. Demand cx testing 3 (label 0 (Val I32) (I32 ∷ I32 ∷ [])) (outermost []) [] op) (sym e) d.2 in
+    let d' = subst (λ op. Demand cx testing (configuration 3 (label 0 (Val I32) (I32 ∷ I32 ∷ [])) (outermost []) [] op)) (sym e) d.2 in
     let r = d'.row.1 in
     absurd cc
 
 -- and with another type below it
-stuck_over_other : Demands cx testing (At 3 (in_block (null func ∷ I64 ∷ [])) []) → ⊥
+stuck_over_other : IsNotStuck cx testing (At 3 (in_block (null func ∷ I64 ∷ [])) []) → ⊥
 stuck_over_other d =
     let e : operator cx (br_on_null 0) ≡ d.0 = some_injective _ _ d.1 in
-    let d' = subst (λ op. Demand cx testing 3 (label 0 (Val I32) (null func ∷ I64 ∷ [])) (outermost []) [] op) (sym e) d.2 in
+    let d' = subst (λ op. Demand cx testing (configuration 3 (label 0 (Val I32) (null func ∷ I64 ∷ [])) (outermost []) [] op)) (sym e) d.2 in
     let r = d'.row.1 in
     absurd cc
 
@@ -168,10 +168,10 @@ abbrev in_giving : List ValType → List Label
 in_giving own = label 0 to_i32_and_func own ∷ outermost []
 
 -- both are carried, and what the block gives is never null
-at_non_null : Demand cx giving 3 (label 0 to_i32_and_func (null func ∷ I32 ∷ [])) (outermost []) [] (operator cx (br_on_non_null 0))
+at_non_null : Demand cx giving (configuration 3 (label 0 to_i32_and_func (null func ∷ I32 ∷ [])) (outermost []) [] (operator cx (br_on_non_null 0)))
 at_non_null = record {
   row = (_, refl);
-  targets = only (λ (t : Target). Reaches cx (drop t.depth (in_giving (null func ∷ I32 ∷ []))) (t.carried (I32 ∷ null func ∷ []))) (record { depth = 0; carried = last_without_null }) (refl, (refl, tt));
+  targets = only (λ (t : Target). LabelAccepts cx (drop t.depth (in_giving (null func ∷ I32 ∷ []))) (t.carried (I32 ∷ null func ∷ []))) (record { depth = 0; carried = last_without_null }) (refl, (refl, tt));
   clauses = λ j c e. absurd cc;
   no_else = λ h e. absurd cc;
 }
@@ -182,7 +182,7 @@ gives = (
   operator cx (br_on_non_null 0),
   refl,
   at_non_null,
-  Jumps 0 _ refl refl (record { label = label 0 to_i32_and_func (null func ∷ I32 ∷ []); outer = outermost []; is = refl; types = I32 ∷ no_null func ∷ []; below = (refl, (refl, tt)); arrives = (5, (Ends, (0, refl), refl), refl) }),
+  by_jumping 0 _ refl refl (record { label = label 0 to_i32_and_func (null func ∷ I32 ∷ []); outer = outermost []; is = refl; types = I32 ∷ no_null func ∷ []; below = (refl, (refl, tt)); arrives = (5, (Ends, (0, refl), refl), refl) }),
 )
 
 -- it is: on, with the i32 alone
@@ -191,14 +191,14 @@ goes = (
   operator cx (br_on_non_null 0),
   refl,
   at_non_null,
-  GoesOn (I32 ∷ []) (I32 ∷ []) refl refl refl (refl, tt) refl,
+  by_going_on (I32 ∷ []) (I32 ∷ []) refl refl refl (refl, tt) refl,
 )
 
 -- without the i32 a run is stuck there
-stuck_alone : Demands cx giving (At 3 (in_giving (null func ∷ [])) []) → ⊥
+stuck_alone : IsNotStuck cx giving (At 3 (in_giving (null func ∷ [])) []) → ⊥
 stuck_alone d =
     let e : operator cx (br_on_non_null 0) ≡ d.0 = some_injective _ _ d.1 in
-    let d' = subst (λ op. Demand cx giving 3 (label 0 to_i32_and_func (null func ∷ [])) (outermost []) [] op) (sym e) d.2 in
+    let d' = subst (λ op. Demand cx giving (configuration 3 (label 0 to_i32_and_func (null func ∷ [])) (outermost []) [] op)) (sym e) d.2 in
     let r = d'.row.1 in
     absurd cc
 
@@ -219,7 +219,7 @@ tests = (
   operator cx (Reference RefIsNull),
   refl,
   record { row = (_, refl); targets = λ j t e. absurd cc; clauses = λ j c e. absurd cc; no_else = λ h e. absurd cc },
-  GoesOn (I32 ∷ []) (I32 ∷ []) refl refl refl (refl, tt) refl,
+  by_going_on (I32 ∷ []) (I32 ∷ []) refl refl refl (refl, tt) refl,
 )
 
 loses : Step cx calling (At 4 (outermost (null (concrete 0) ∷ [])) []) (At 5 (outermost (no_null (concrete 0) ∷ [])) [])
@@ -227,7 +227,7 @@ loses = (
   operator cx (Reference RefAsNonNull),
   refl,
   record { row = (_, refl); targets = λ j t e. absurd cc; clauses = λ j c e. absurd cc; no_else = λ h e. absurd cc },
-  GoesOn (no_null (concrete 0) ∷ []) (no_null (concrete 0) ∷ []) refl refl refl (refl, tt) refl,
+  by_going_on (no_null (concrete 0) ∷ []) (no_null (concrete 0) ∷ []) refl refl refl (refl, tt) refl,
 )
 
 -- the call takes the reference
@@ -236,7 +236,7 @@ calls = (
   operator cx (Control (CallRef 0)),
   refl,
   record { row = (_, refl); targets = λ j t e. absurd cc; clauses = λ j c e. absurd cc; no_else = λ h e. absurd cc },
-  GoesOn [] [] refl refl refl tt refl,
+  by_going_on [] [] refl refl refl tt refl,
 )
 
 calling_safe : IsTypeSafe cx calling to_nothing

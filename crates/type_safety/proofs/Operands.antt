@@ -3,17 +3,17 @@ use Rattle.std.proofs.Common.{◌≡◌, ℕ, zero, suc, Bool, true, false, ◌&
 use Rattle.validate_resources.specs.Context.{IsLawful}
 use Rattle.validation_rules.specs.Context.{ValType, Context, AllBelow, is_set_at_entry}
 use Rattle.validation_rules.specs.Fits.{MaybeType, Known, all_fit}
-use Rattle.validation_rules.specs.Rows.{Head, results, is_if, is_try, may_catch, Form, Flat, Opens, BeginsElse, BeginsCatch, Ends, Delegates, Clause, Row, guard, takes, gives, label_types}
-use Rattle.validation_rules.specs.Static.{Frame, has, is_set, reads_set, onto, on_top, found, below_top, pushes_at, pushes_by, clauses_fit, clause_fits, reaches, joined, first_set_after, closes, if_fits}
-use Rattle.type_safety.specs.Machine.{Label, frame_of, top, rest, set_after}
-use Rattle.type_safety.specs.Theorem.{Falls, HeadReaches, IsLawfulRow}
+use Rattle.validation_rules.specs.Rows.{Head, results, is_if, is_try, may_catch, Form, Flat, Opens, BeginsElse, BeginsCatch, Ends, Delegates, Clause, Row, guard, operands_wanted, pushed_for, label_types}
+use Rattle.validation_rules.specs.Static.{Frame, is_among, is_set, reads_set, onto, operands_on_top, operands_found, operands_below, pushed_by_form, pushed_by_row, clauses_fit, clause_fits, label_accepts, first_set_after, may_close}
+use Rattle.type_safety.specs.Machine.{Label, live_frame, types_on_top, set_after}
+use Rattle.type_safety.proofs.Laws.{IsMonotoneAt, HeadAccepts, IsLawfulRow}
 use Rattle.validation_rules.proofs.Below.{and_true, true_and, below-length, below-trans, below-take, below-drop, below-onto, below_of_fit, fit_of_below, drop-known, on_top-known, onto-known, length-known}
-use Rattle.validation_rules.proofs.Steps.{some_injective, guard_some}
+use Rattle.validation_rules.proofs.Steps.{if_fits, joined, some_injective, guard_some}
 
 -- ---- sets of locals
 
 abbrev pub IsWithin : List ℕ → List ℕ → Type 0
-IsWithin xs ys = (i : ℕ) → has xs i ≡ true → has ys i ≡ true
+IsWithin xs ys = (i : ℕ) → is_among xs i ≡ true → is_among ys i ≡ true
 
 or_cases : (a b : Bool) → a || b ≡ true → (a ≡ true) ⊎ (b ≡ true)
 or_cases true b h = inl refl
@@ -27,25 +27,25 @@ or_right : (a b : Bool) → b ≡ true → a || b ≡ true
 or_right true b h = refl
 or_right false b h = h
 
-has_cases : (xs ys : List ℕ) (i : ℕ) → has (xs ++ ys) i ≡ true → (has xs i ≡ true) ⊎ (has ys i ≡ true)
+has_cases : (xs ys : List ℕ) (i : ℕ) → is_among (xs ++ ys) i ≡ true → (is_among xs i ≡ true) ⊎ (is_among ys i ≡ true)
 has_cases [] ys i h = inr h
 has_cases (x ∷ xs) ys i h =
-    elim (or_cases (nat_eq i x) (has (xs ++ ys) i) h) [
-      | inl e ↦ inl (or_left (nat_eq i x) (has xs i) e)
-      | inr e ↦ elim (has_cases xs ys i e) [ inl d ↦ inl (or_right (nat_eq i x) (has xs i) d) | inr d ↦ inr d ]
+    elim (or_cases (nat_eq i x) (is_among (xs ++ ys) i) h) [
+      | inl e ↦ inl (or_left (nat_eq i x) (is_among xs i) e)
+      | inr e ↦ elim (has_cases xs ys i e) [ inl d ↦ inl (or_right (nat_eq i x) (is_among xs i) d) | inr d ↦ inr d ]
     ]
 
-has_left : (xs ys : List ℕ) (i : ℕ) → has xs i ≡ true → has (xs ++ ys) i ≡ true
+has_left : (xs ys : List ℕ) (i : ℕ) → is_among xs i ≡ true → is_among (xs ++ ys) i ≡ true
 has_left [] ys i h = absurd cc
 has_left (x ∷ xs) ys i h =
-    elim (or_cases (nat_eq i x) (has xs i) h) [
-      | inl e ↦ or_left (nat_eq i x) (has (xs ++ ys) i) e
-      | inr e ↦ or_right (nat_eq i x) (has (xs ++ ys) i) (has_left xs ys i e)
+    elim (or_cases (nat_eq i x) (is_among xs i) h) [
+      | inl e ↦ or_left (nat_eq i x) (is_among (xs ++ ys) i) e
+      | inr e ↦ or_right (nat_eq i x) (is_among (xs ++ ys) i) (has_left xs ys i e)
     ]
 
-has_right : (xs ys : List ℕ) (i : ℕ) → has ys i ≡ true → has (xs ++ ys) i ≡ true
+has_right : (xs ys : List ℕ) (i : ℕ) → is_among ys i ≡ true → is_among (xs ++ ys) i ≡ true
 has_right [] ys i h = h
-has_right (x ∷ xs) ys i h = or_right (nat_eq i x) (has (xs ++ ys) i) (has_right xs ys i h)
+has_right (x ∷ xs) ys i h = or_right (nat_eq i x) (is_among (xs ++ ys) i) (has_right xs ys i h)
 
 pub within_right : (xs ys zs : List ℕ) → IsWithin (xs ++ ys) zs → IsWithin ys zs
 within_right xs ys zs w i h = w i (has_right xs ys i h)
@@ -57,14 +57,14 @@ within_both : (xs ys zs : List ℕ) → IsWithin xs zs → IsWithin ys zs → Is
 within_both xs ys zs v w i h = elim (has_cases xs ys i h) [ inl e ↦ v i e | inr e ↦ w i e ]
 
 one_within : (j : ℕ) (zs : List ℕ) → IsWithin (j ∷ []) (j ∷ zs)
-one_within j zs i h = elim (or_cases (nat_eq i j) false h) [ inl e ↦ or_left (nat_eq i j) (has zs i) e | inr e ↦ absurd cc ]
+one_within j zs i h = elim (or_cases (nat_eq i j) false h) [ inl e ↦ or_left (nat_eq i j) (is_among zs i) e | inr e ↦ absurd cc ]
 
 joined_within : (b : Bool) (i : ℕ) (xs ys zs : List ℕ) → IsWithin (xs ++ ys) zs → IsWithin (joined b xs i ++ ys) (i ∷ zs)
-joined_within true i xs ys zs w j h = or_right (nat_eq j i) (has zs j) (w j h)
+joined_within true i xs ys zs w j h = or_right (nat_eq j i) (is_among zs j) (w j h)
 joined_within false i xs ys zs w j h =
     within_both (xs ++ i ∷ []) ys (i ∷ zs)
-    (within_both xs (i ∷ []) (i ∷ zs) (λ k e. or_right (nat_eq k i) (has zs k) (within_left xs ys zs w k e)) (one_within i zs))
-    (λ k e. or_right (nat_eq k i) (has zs k) (within_right xs ys zs w k e))
+    (within_both xs (i ∷ []) (i ∷ zs) (λ k e. or_right (nat_eq k i) (is_among zs k) (within_left xs ys zs w k e)) (one_within i zs))
+    (λ k e. or_right (nat_eq k i) (is_among zs k) (within_right xs ys zs w k e))
     j h
 
 -- the locals that a frame has set after an operator are within those of the machine
@@ -74,9 +74,9 @@ set_within cx set (Some i) xs ys zs w = joined_within (is_set cx set i) i xs ys 
 
 is_set_within : (cx : Context) (xs ys : List ℕ) (i : ℕ) → IsWithin xs ys → is_set cx xs i ≡ true → is_set cx ys i ≡ true
 is_set_within cx xs ys i w h =
-    elim (or_cases (has xs i) (is_set_at_entry cx i) h) [
-      | inl e ↦ or_left (has ys i) (is_set_at_entry cx i) (w i e)
-      | inr e ↦ or_right (has ys i) (is_set_at_entry cx i) e
+    elim (or_cases (is_among xs i) (is_set_at_entry cx i) h) [
+      | inl e ↦ or_left (is_among ys i) (is_set_at_entry cx i) (w i e)
+      | inr e ↦ or_right (is_among ys i) (is_set_at_entry cx i) e
     ]
 
 reads_within : (cx : Context) (xs ys : List ℕ) (o : Option ℕ) → IsWithin xs ys → reads_set cx xs o ≡ true → reads_set cx ys o ≡ true
@@ -85,21 +85,21 @@ reads_within cx xs ys (Some i) w h = is_set_within cx xs ys i w h
 
 -- ---- operands of a live frame whose operands are known
 
-pub found_known : (n : ℕ) (f : Frame) (us : List ValType) → f.dead ≡ false → f.own ≡ map Known us → found n f ≡ map Known (top n us)
+pub found_known : (n : ℕ) (f : Frame) (us : List ValType) → f.dead ≡ false → f.operands ≡ map Known us → operands_found n f ≡ map Known (types_on_top n us)
 found_known n f us live own =
-    ap (λ d. onto (on_top n d f.own) []) live
-    ∙ ap (λ l. onto (on_top n false l) []) own
+    ap (λ d. onto (operands_on_top n d f.operands) []) live
+    ∙ ap (λ l. onto (operands_on_top n false l) []) own
     ∙ ap (λ l. onto l []) (on_top-known n us)
     ∙ onto-known (take n us) []
 
-pub below_top_known : (n : ℕ) (f : Frame) (us : List ValType) → f.own ≡ map Known us → below_top n f ≡ map Known (rest n us)
+pub below_top_known : (n : ℕ) (f : Frame) (us : List ValType) → f.operands ≡ map Known us → operands_below n f ≡ map Known (drop n us)
 below_top_known n f us own = ap (drop n) own ∙ drop-known n us
 
 module _ (cx : Context) where
-  pub top_below : (n : ℕ) (ts us : List ValType) → AllBelow cx ts us → AllBelow cx (top n ts) (top n us)
+  pub top_below : (n : ℕ) (ts us : List ValType) → AllBelow cx ts us → AllBelow cx (types_on_top n ts) (types_on_top n us)
   top_below n ts us h = below-onto cx (take n ts) (take n us) [] [] (below-take cx n ts us h) tt
 
-  pub rest_below : (n : ℕ) (ts us : List ValType) → AllBelow cx ts us → AllBelow cx (rest n ts) (rest n us)
+  pub rest_below : (n : ℕ) (ts us : List ValType) → AllBelow cx ts us → AllBelow cx (drop n ts) (drop n us)
   rest_below n ts us h = below-drop cx n ts us h
 
   -- ---- an operator that isn't a closing one
@@ -107,29 +107,29 @@ module _ (cx : Context) where
   pub record Passes (row : Row) (hs : List Head) (set : List ℕ) (l : Label) (us : List ValType) (pushed : List MaybeType) : Type 0 where
     pub premise : row.premise ≡ true
     pub clauses : clauses_fit cx hs row.clauses ≡ true
-    pub falls : Falls cx row.operands (top (takes row.operands) us) (top (takes row.operands) l.own) pushed
-    pub holds : pushes_by cx row hs set (frame_of l) ≡ Some (map Known falls.lower)
+    pub monotone : IsMonotoneAt cx row.type (types_on_top (operands_wanted row.type) us) (types_on_top (operands_wanted row.type) l.operands) pushed
+    pub holds : pushed_by_row cx row hs set (live_frame l) ≡ Some (map Known monotone.lower)
 
-  pub passes : (row : Row) (hs : List Head) (set mset : List ℕ) (l : Label) (f : Frame) (us : List ValType) (pushed : List MaybeType) → IsLawfulRow cx hs row → f.dead ≡ false → f.own ≡ map Known us → AllBelow cx l.own us → IsWithin set mset → pushes_by cx row hs set f ≡ Some pushed → Passes row hs mset l us pushed
+  pub passes : (row : Row) (hs : List Head) (set mset : List ℕ) (l : Label) (f : Frame) (us : List ValType) (pushed : List MaybeType) → IsLawfulRow cx hs row → f.dead ≡ false → f.operands ≡ map Known us → AllBelow cx l.operands us → IsWithin set mset → pushed_by_row cx row hs set f ≡ Some pushed → Passes row hs mset l us pushed
   passes row hs set mset l f us pushed laws live own below within p =
       let g = guard_some _ _ _ p in
       let a = and_true row.premise _ g.0 in
       let b = and_true (clauses_fit cx hs row.clauses) _ a.1 in
-      let n = takes row.operands in
-      let fall = laws.falls (top n us) (top n l.own) pushed (top_below n l.own us below) (ap (gives cx row.operands) (sym (found_known n f us live own)) ∙ g.1) in
+      let n = operands_wanted row.type in
+      let fall = laws.monotone (types_on_top n us) (types_on_top n l.operands) pushed (top_below n l.operands us below) (ap (pushed_for cx row.type) (sym (found_known n f us live own)) ∙ g.1) in
       let test : (row.premise && (clauses_fit cx hs row.clauses && reads_set cx mset row.reads)) ≡ true = true_and _ _ a.0 (true_and _ _ b.0 (reads_within cx set mset row.reads within b.1)) in
       record {
         premise = a.0;
         clauses = b.0;
-        falls = fall;
-        holds = ap (λ t. guard t (gives cx row.operands (found n (frame_of l)))) test ∙ ap (gives cx row.operands) (found_known n (frame_of l) l.own refl refl) ∙ fall.passes;
+        monotone = fall;
+        holds = ap (λ t. guard t (pushed_for cx row.type (operands_found n (live_frame l)))) test ∙ ap (pushed_for cx row.type) (found_known n (live_frame l) l.operands refl refl) ∙ fall.passes;
       }
 
-  pub clause_reaches : (hs : List Head) (types : List ValType) → reaches cx hs types ≡ true → HeadReaches cx hs types
+  pub clause_reaches : (hs : List Head) (types : List ValType) → label_accepts cx hs types ≡ true → HeadAccepts cx hs types
   clause_reaches [] types h = absurd cc
   clause_reaches (k ∷ hs) types h = below_of_fit cx types (label_types cx k) h
 
-  pub each_clause : (hs : List Head) (cs : List Clause) → clauses_fit cx hs cs ≡ true → (j : ℕ) (c : Clause) → slice_get cs j ≡ Some c → HeadReaches cx (drop c.depth hs) c.types
+  pub each_clause : (hs : List Head) (cs : List Clause) → clauses_fit cx hs cs ≡ true → (j : ℕ) (c : Clause) → slice_get cs j ≡ Some c → HeadAccepts cx (drop c.depth hs) c.types
   each_clause hs [] h j c e = absurd cc
   each_clause hs (d ∷ cs) h zero c e =
       let a = and_true (clause_fits cx hs d) _ h in
@@ -138,21 +138,21 @@ module _ (cx : Context) where
 
   -- ---- a closing operator
 
-  closes_by : (l : Label) (f : Frame) (us : List ValType) → IsLawful cx.of_module → f.dead ≡ false → f.own ≡ map Known us → AllBelow cx l.own us → closes cx f ≡ true → closes cx (record { head = f.head; own = map Known l.own; dead = false; first_set = [] }) ≡ true
+  closes_by : (l : Label) (f : Frame) (us : List ValType) → IsLawful cx.of_module → f.dead ≡ false → f.operands ≡ map Known us → AllBelow cx l.operands us → may_close cx f ≡ true → may_close cx (record { head = f.head; operands = map Known l.operands; dead = false; first_set = [] }) ≡ true
   closes_by l f us laws live own below h =
       let n = length (results cx f.head) in
-      let a = and_true (nat_le (length f.own) n) _ h in
-      let len : length (map Known l.own) ≡ length f.own = length-known l.own ∙ below-length cx l.own us below ∙ sym (length-known us) ∙ ap length (sym own) in
-      let fit = below_of_fit cx (top n us) (results cx f.head) (ap (λ x. all_fit cx x (results cx f.head)) (sym (found_known n f us live own)) ∙ a.1) in
-      let lower = below-trans cx laws (top n l.own) (top n us) (results cx f.head) (top_below n l.own us below) fit in
+      let a = and_true (nat_le (length f.operands) n) _ h in
+      let len : length (map Known l.operands) ≡ length f.operands = length-known l.operands ∙ below-length cx l.operands us below ∙ sym (length-known us) ∙ ap length (sym own) in
+      let fit = below_of_fit cx (types_on_top n us) (results cx f.head) (ap (λ x. all_fit cx x (results cx f.head)) (sym (found_known n f us live own)) ∙ a.1) in
+      let lower = below-trans cx laws (types_on_top n l.operands) (types_on_top n us) (results cx f.head) (top_below n l.operands us below) fit in
       true_and _ _ (ap (λ m. nat_le m n) len ∙ a.0)
-      (ap (λ x. all_fit cx x (results cx f.head)) (found_known n (frame_of l) l.own refl refl) ∙ fit_of_below cx (top n l.own) (results cx f.head) lower)
+      (ap (λ x. all_fit cx x (results cx f.head)) (found_known n (live_frame l) l.operands refl refl) ∙ fit_of_below cx (types_on_top n l.operands) (results cx f.head) lower)
 
-  closes_below : (l : Label) (f : Frame) (us : List ValType) → IsLawful cx.of_module → l.head ≡ f.head → f.dead ≡ false → f.own ≡ map Known us → AllBelow cx l.own us → closes cx f ≡ true → closes cx (frame_of l) ≡ true
+  closes_below : (l : Label) (f : Frame) (us : List ValType) → IsLawful cx.of_module → l.head ≡ f.head → f.dead ≡ false → f.operands ≡ map Known us → AllBelow cx l.operands us → may_close cx f ≡ true → may_close cx (live_frame l) ≡ true
   closes_below l f us laws head live own below h =
-      subst (λ k. closes cx (record { head = k; own = map Known l.own; dead = false; first_set = [] }) ≡ true) (sym head) (closes_by l f us laws live own below h)
+      subst (λ k. may_close cx (record { head = k; operands = map Known l.operands; dead = false; first_set = [] }) ≡ true) (sym head) (closes_by l f us laws live own below h)
 
-  closing : (row : Row) (l : Label) (f : Frame) (us : List ValType) (kind kind' : Bool) → kind' ≡ kind → (pushed : List MaybeType) → IsLawful cx.of_module → l.head ≡ f.head → f.dead ≡ false → f.own ≡ map Known us → AllBelow cx l.own us → guard (row.premise && (kind && closes cx f)) (Some []) ≡ Some pushed → (ps : List MaybeType) × (guard (row.premise && (kind' && closes cx (frame_of l))) (Some []) ≡ Some ps)
+  closing : (row : Row) (l : Label) (f : Frame) (us : List ValType) (kind kind' : Bool) → kind' ≡ kind → (pushed : List MaybeType) → IsLawful cx.of_module → l.head ≡ f.head → f.dead ≡ false → f.operands ≡ map Known us → AllBelow cx l.operands us → guard (row.premise && (kind && may_close cx f)) (Some []) ≡ Some pushed → (ps : List MaybeType) × (guard (row.premise && (kind' && may_close cx (live_frame l))) (Some []) ≡ Some ps)
   closing row l f us kind kind' same pushed laws head live own below p =
       let g = guard_some _ _ _ p in
       let a = and_true row.premise _ g.0 in
@@ -161,7 +161,7 @@ module _ (cx : Context) where
       ([], ap (λ t. guard t (Some [])) test)
 
   -- any operator: its row holds over the label read as a live frame
-  pub holds_below : (row : Row) (hs : List Head) (set mset : List ℕ) (l : Label) (f : Frame) (us : List ValType) (form : Form) (pushed : List MaybeType) → IsLawful cx.of_module → IsLawfulRow cx hs row → l.head ≡ f.head → f.dead ≡ false → f.own ≡ map Known us → AllBelow cx l.own us → IsWithin set mset → pushes_at cx row hs set f form ≡ Some pushed → (ps : List MaybeType) × (pushes_at cx row hs mset (frame_of l) form ≡ Some ps)
+  pub holds_below : (row : Row) (hs : List Head) (set mset : List ℕ) (l : Label) (f : Frame) (us : List ValType) (form : Form) (pushed : List MaybeType) → IsLawful cx.of_module → IsLawfulRow cx hs row → l.head ≡ f.head → f.dead ≡ false → f.operands ≡ map Known us → AllBelow cx l.operands us → IsWithin set mset → pushed_by_form cx row hs set f form ≡ Some pushed → (ps : List MaybeType) × (pushed_by_form cx row hs mset (live_frame l) form ≡ Some ps)
   holds_below row hs set mset l f us Flat pushed laws rl head live own below within p =
       let a = passes row hs set mset l f us pushed rl live own below within p in
       (_, a.holds)

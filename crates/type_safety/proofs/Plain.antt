@@ -1,14 +1,15 @@
 -- Plain rows keep what the law asks of operators, all at once.
 use Rattle.std.proofs.Common.{◌≡◌, ℕ, Bool, true, false, List, [], ◌∷◌, ◌++◌, length, map, take, Option, Some, None, refl, sym, ap, ◌∙◌, slice_get}
 use Rattle.validate_resources.specs.Context.{IsLawful}
+use Rattle.validate_types.specs.Gates.{is_open}
 use Rattle.validate_types.specs.declared.gate.Gate.{Gate}
 use Rattle.validation_rules.specs.Context.{ValType, Context, AllBelow}
 use Rattle.validation_rules.specs.Fits.{MaybeType, Known, all_fit}
-use Rattle.validation_rules.specs.Rows.{Head, Form, Plain, Looks, Target, Row, guard, all_fit_each, gives, is_row}
-use Rattle.validation_rules.specs.Table.{by_lookup, looking, flat, alike, closing, gated}
+use Rattle.validation_rules.specs.Rows.{Head, Form, Plain, Looks, Target, Row, Operator, guard, all_fit_each, pushed_for, is_instruction}
+use Rattle.validation_rules.specs.Table.{lookup_row, looking_row, flat_operator, row_operator, delimiter_operator, gated_operator}
 use Rattle.validation_rules.proofs.Below.{and_true, true_and, below-trans, below_of_fit, fit_of_below}
 use Rattle.validation_rules.proofs.Steps.{some_injective, guard_some}
-use Rattle.type_safety.specs.Theorem.{Falls, IsLawfulRow, IsLawfulOperator}
+use Rattle.type_safety.proofs.Laws.{IsMonotoneAt, IsLawfulRow, IsLawfulOperator}
 
 module _ (cx : Context) (laws : IsLawful cx.of_module) where
   each_below : (xs ys : List ValType) (lists : List (List ValType)) → AllBelow cx ys xs → all_fit_each cx (map Known xs) lists ≡ true → all_fit_each cx (map Known ys) lists ≡ true
@@ -18,8 +19,8 @@ module _ (cx : Context) (laws : IsLawful cx.of_module) where
       true_and _ _ (fit_of_below cx ys ws (below-trans cx laws ys xs ws below (below_of_fit cx xs ws a.0))) (each_below xs ys lists below a.1)
 
   -- ---- plain operands, all at once
-  pub plain_falls : (wanted : List ValType) (also : List (List ValType)) (push : List ValType) (xs ys : List ValType) (pushed : List MaybeType) → AllBelow cx ys xs → gives cx (Plain wanted also push) (map Known xs) ≡ Some pushed → Falls cx (Plain wanted also push) xs ys pushed
-  plain_falls wanted also push xs ys pushed below h =
+  pub plain_monotone : (wanted : List ValType) (also : List (List ValType)) (push : List ValType) (xs ys : List ValType) (pushed : List MaybeType) → AllBelow cx ys xs → pushed_for cx (Plain wanted also push) (map Known xs) ≡ Some pushed → IsMonotoneAt cx (Plain wanted also push) xs ys pushed
+  plain_monotone wanted also push xs ys pushed below h =
       let g = guard_some _ _ _ h in
       record {
         upper = push;
@@ -30,7 +31,7 @@ module _ (cx : Context) (laws : IsLawful cx.of_module) where
       }
 
   -- what plain operands passed: they are below the wanted types
-  pub plain_below : (wanted : List ValType) (also : List (List ValType)) (push ys : List ValType) (pushed : List MaybeType) → gives cx (Plain wanted also push) (map Known ys) ≡ Some pushed → AllBelow cx ys wanted
+  pub plain_below : (wanted : List ValType) (also : List (List ValType)) (push ys : List ValType) (pushed : List MaybeType) → pushed_for cx (Plain wanted also push) (map Known ys) ≡ Some pushed → AllBelow cx ys wanted
   plain_below wanted also push ys pushed h =
       below_of_fit cx ys wanted (and_true (all_fit cx (map Known ys) wanted) _ (guard_some _ _ _ h).0).0
 
@@ -40,22 +41,22 @@ module _ (cx : Context) (laws : IsLawful cx.of_module) where
   below_front (p ∷ ps) more [] h = elim h [ ]
 
   -- ---- rows that reach no label
-  pub no_target : (hs : List Head) (row : Row) → row.targets ≡ [] → ((xs ys : List ValType) (pushed : List MaybeType) → AllBelow cx ys xs → gives cx row.operands (map Known xs) ≡ Some pushed → Falls cx row.operands xs ys pushed) → IsLawfulRow cx hs row
-  no_target hs row none falls =
+  pub no_target : (hs : List Head) (row : Row) → row.targets ≡ [] → ((xs ys : List ValType) (pushed : List MaybeType) → AllBelow cx ys xs → pushed_for cx row.type (map Known xs) ≡ Some pushed → IsMonotoneAt cx row.type xs ys pushed) → IsLawfulRow cx hs row
+  no_target hs row none monotone =
       record {
-        falls = falls;
+        monotone = monotone;
         reaches = λ ys pushed p g j t e.
             let d : slice_get {X = Target} [] j ≡ Some t = ap (λ ts. slice_get ts j) (sym none) ∙ e in
             absurd cc;
       }
 
   -- a row for what a look-up finds, where it finds something and where it doesn't
-  pub found_lawful : {A : Type 0} (hs : List Head) (gate : Gate) (o : Option A) (row : A → Row) → ((x : A) → IsLawfulRow cx hs (gated cx gate (row x))) → IsLawfulRow cx hs (gated cx gate (by_lookup o row))
-  found_lawful hs gate None row h = no_target hs _ refl (plain_falls [] [] [])
-  found_lawful hs gate (Some x) row h = h x
+  pub found_lawful : {A : Type 0} (hs : List Head) (o : Option A) (row : A → Row) → ((x : A) → IsLawfulRow cx hs (row x)) → IsLawfulRow cx hs (lookup_row o row)
+  found_lawful hs None row h = no_target hs _ refl (plain_monotone [] [] [])
+  found_lawful hs (Some x) row h = h x
 
   -- an operator that neither opens nor closes a frame
-  pub flat_lawful : (row : List Head → Row) → ((hs : List Head) → IsLawfulRow cx hs (row hs)) → IsLawfulOperator cx (flat row)
+  pub flat_lawful : (row : List Head → Row) → ((hs : List Head) → IsLawfulRow cx hs (row hs)) → IsLawfulOperator cx (flat_operator row)
   flat_lawful row h =
       record {
         row = h;
@@ -64,16 +65,25 @@ module _ (cx : Context) (laws : IsLawful cx.of_module) where
       }
 
   -- every operator with a plain row, whatever its types, gate and locals
-  pub plain_lawful : (premise : Bool) (reads sets : Option ℕ) (wanted push : List ValType) (dead : Bool) → IsLawfulOperator cx (alike (record { premise = premise; reads = reads; operands = Plain wanted [] push; sets = sets; targets = []; clauses = []; dead = dead }))
-  plain_lawful premise reads sets wanted push dead = flat_lawful _ (λ hs. no_target hs _ refl (plain_falls wanted [] push))
+  pub plain_lawful : (premise : Bool) (reads sets : Option ℕ) (wanted push : List ValType) (dead : Bool) → IsLawfulOperator cx (row_operator (record { premise = premise; reads = reads; type = Plain wanted [] push; sets = sets; targets = []; clauses = []; ends_live = dead }))
+  plain_lawful premise reads sets wanted push dead = flat_lawful _ (λ hs. no_target hs _ refl (plain_monotone wanted [] push))
 
-  pub looking_lawful : (premise : Bool) (n : ℕ) (f : List MaybeType → Option (List MaybeType)) → ((xs ys : List ValType) (pushed : List MaybeType) → AllBelow cx ys xs → f (map Known xs) ≡ Some pushed → Falls cx (Looks n f) xs ys pushed) → IsLawfulOperator cx (alike (looking premise n f))
+  pub looking_lawful : (premise : Bool) (n : ℕ) (f : List MaybeType → Option (List MaybeType)) → ((xs ys : List ValType) (pushed : List MaybeType) → AllBelow cx ys xs → f (map Known xs) ≡ Some pushed → IsMonotoneAt cx (Looks n f) xs ys pushed) → IsLawfulOperator cx (row_operator (looking_row premise n f))
   looking_lawful premise n f h = flat_lawful _ (λ hs. no_target hs _ refl h)
 
-  pub closing_lawful : (form : Form) (premise : Bool) → is_row form ≡ false → IsLawfulOperator cx (closing form premise)
+  pub closing_lawful : (form : Form) (premise : Bool) → is_instruction form ≡ false → IsLawfulOperator cx (delimiter_operator form premise)
   closing_lawful form premise i =
       record {
-        row = λ hs. no_target hs _ refl (plain_falls [] [] []);
+        row = λ hs. no_target hs _ refl (plain_monotone [] [] []);
         closing = λ hs k. (refl, refl);
-        takes_params = λ hs h ys pushed e. let d : true ≡ false = ap is_row (sym e) ∙ i in absurd cc;
+        takes_params = λ hs h ys pushed e. let d : true ≡ false = ap is_instruction (sym e) ∙ i in absurd cc;
+      }
+
+  -- a gate takes nothing away from that
+  pub behind_lawful : (gate : Gate) (op : Operator) → IsLawfulOperator cx op → IsLawfulOperator cx (gated_operator cx gate op)
+  behind_lawful gate op h =
+      record {
+        row = λ hs. record { monotone = (h.row hs).monotone; reaches = λ ys pushed p g j t e. (h.row hs).reaches ys pushed (and_true (is_open cx.features gate) _ p).1 g j t e };
+        closing = λ hs i. h.closing hs i;
+        takes_params = λ hs k ys pushed e i g. h.takes_params hs k ys pushed e i g;
       }

@@ -1,21 +1,23 @@
 -- No run of an accepted body is stuck: the invariant of runs, and that each outcome keeps it.
 use Rattle.std.proofs.Common.{◌≡◌, ℕ, zero, suc, Bool, true, false, ◌||◌, List, [], ◌∷◌, length, map, take, drop, Option, Some, refl, sym, ap, ◌∙◌, subst, slice_get}
+use Rattle.std.specs.Bool.{MatchBool}
 use Rattle.validate_resources.specs.Context.{IsLawful}
 use Rattle.validation_rules.specs.Context.{ValType, BlockType, Context, AllBelow}
 use Rattle.validation_rules.specs.Fits.{MaybeType, Known}
-use Rattle.validation_rules.specs.Rows.{params, results, body_head, Else, Head, is_loop, is_if, is_try, is_try_table, Form, Flat, Opens, BeginsElse, BeginsCatch, Ends, Delegates, Target, Clause, Row, Operator, catch_kind, takes, is_row, label_by, label_types}
-use Rattle.validation_rules.specs.Static.{Frame, onto, heads, set_in, below_top, pushes, pushes_at, pushes_by, clauses_fit, own_after, frame_after, popped, of_kind, opened, with_own, given, framed, after, start, before, IsAccepted}
-use Rattle.type_safety.specs.Machine.{Label, Machine, At, Returned, Trapped, LeftByException, LeftBySuspension, Mark, mark, marks, IsMark, IsCloser, is_closing, without_else, label_heads, frame_of, top, rest, Reaches, Demand, Demands, set_after, given_out, Arrives, ArrivesBy, Branches, Outcome, Step, Run, first}
-use Rattle.type_safety.specs.Machine.Outcome.{GoesOn, Enters, EntersElse, SkipsIf, Jumps, Closes, Passes, Catches, CatchesLegacy, Traps, Raises, Suspends}
-use Rattle.type_safety.specs.Theorem.{HeadReaches, IsLawfulOperator, OwnBelow, LabelsBelow, IsSafe, TypeSafety}
+use Rattle.validation_rules.specs.Rows.{params, results, body_head, Else, Head, is_loop, is_if, is_try, is_try_table, Form, Flat, Opens, BeginsElse, BeginsCatch, Ends, Delegates, Target, Clause, Row, Operator, catch_kind, operands_wanted, is_instruction, label_types}
+use Rattle.validation_rules.specs.Static.{Frame, onto, heads, locals_set, operands_below, pushed_types, pushed_by_form, pushed_by_row, clauses_fit, operands_after, frame_after, frame_below, of_kind, opened_frame, frame_with, open_state, start, before, IsAccepted}
+use Rattle.type_safety.specs.Machine.{Label, Machine, At, Returned, Trapped, LeftByException, LeftBySuspension, Delimiter, delimiter, delimiters, IsDelimiter, IsCloser, is_closer, HasNoElse, configuration, label_heads, live_frame, types_on_top, LabelAccepts, Demand, IsNotStuck, set_after, machine_after_exit, restart, Exits, Arrives, Branches, Outcome, Step, Run, initial_machine}
+use Rattle.type_safety.specs.Machine.Outcome.{goes_on, enters, enters_else, skips_if, jumps, closes, ends_part, catches, catches_legacy, traps, raises, suspends}
+use Rattle.type_safety.specs.Theorem.{OperandsBelow, LabelsBelow, IsAsValidated}
+use Rattle.type_safety.proofs.Laws.{HeadAccepts, IsLawfulOperator, TypeSafety}
 use Rattle.validation_rules.proofs.Below.{below-trans, below-onto, below_of_fit, known-injective, onto-known}
-use Rattle.validation_rules.proofs.Steps.{some_injective, get_of_drop}
-use Rattle.type_safety.proofs.Marks.{AfterMark, AfterMarkBy, mark_after, if_balanced, operator_at, row_at}
+use Rattle.validation_rules.proofs.Steps.{given, after, label_by, some_injective, get_of_drop}
+use Rattle.type_safety.proofs.Delimiters.{AfterDelimiter, AfterDelimiterOf, after_delimiter, if_balanced, operator_at, row_at}
 use Rattle.type_safety.proofs.Operands as operands
 use Rattle.type_safety.proofs.Operands.{IsWithin, within_right, set_within, below_top_known, rest_below}
 
 -- operands just put on an empty label, below those of the frame
-own_opened : (cx : Context) (us types : List ValType) → AllBelow cx us types → OwnBelow cx (onto us []) (onto (map Known types) [])
+own_opened : (cx : Context) (us types : List ValType) → AllBelow cx us types → OperandsBelow cx (onto us []) (onto (map Known types) [])
 own_opened cx us types below = (onto types [], onto-known types [], below-onto cx us types [] [] below tt)
 
 -- ---- what a label still has before it
@@ -23,9 +25,9 @@ own_opened cx us types below = (onto types [], onto-known types [], below-onto c
 module _ (cx : Context) (code : List Operator) (ty : BlockType) where
   -- of a frame with the head h that began at place b, inside the frames fs
   record Exit (b : ℕ) (h : Head) (fs : List Frame) : Type 0 where
-    marks_follow : (j : ℕ) (m : Mark) → slice_get (marks code b) j ≡ Some m → AfterMark cx code (start ty) h fs m
-    again : is_loop h.kind ≡ true → before cx code (start ty) (suc b) ≡ Some (framed (opened h (params cx h) ∷ fs))
-    clauses : is_try_table h.kind ≡ true → (opener : Operator) → slice_get code b ≡ Some opener → (j : ℕ) (c : Clause) → slice_get (opener.row (heads fs)).clauses j ≡ Some c → HeadReaches cx (drop c.depth (heads fs)) c.types
+    delimiters_follow : (j : ℕ) (m : Delimiter) → slice_get (delimiters code b) j ≡ Some m → AfterDelimiter cx code (start ty) h fs m
+    again : is_loop h.kind ≡ true → before cx code (start ty) (suc b) ≡ Some (open_state (opened_frame h (params cx h) ∷ fs))
+    clauses : is_try_table h.kind ≡ true → (opener : Operator) → slice_get code b ≡ Some opener → (j : ℕ) (c : Clause) → slice_get (opener.row (heads fs)).clauses j ≡ Some c → HeadAccepts cx (drop c.depth (heads fs)) c.types
 
   -- the outermost frame has the body's results
   abbrev Outside : ℕ → Head → List Frame → Type 0
@@ -35,7 +37,7 @@ module _ (cx : Context) (code : List Operator) (ty : BlockType) where
   record Agree (l : Label) (f : Frame) (fs : List Frame) : Type 0 where
     head : l.head ≡ f.head
     live : f.dead ≡ false
-    own : OwnBelow cx l.own f.own
+    operands : OperandsBelow cx l.operands f.operands
     outside : Outside l.began f.head fs
 
   abbrev Stack : List Label → List Frame → Type 0
@@ -47,10 +49,10 @@ module _ (cx : Context) (code : List Operator) (ty : BlockType) where
   record Standing (k : ℕ) (l : Label) (ls : List Label) (set : List ℕ) : Type 0 where
     f : Frame
     fs : List Frame
-    at : before cx code (start ty) k ≡ Some (framed (f ∷ fs))
+    at : before cx code (start ty) k ≡ Some (open_state (f ∷ fs))
     agree : Agree l f fs
     stack : Stack ls fs
-    within : IsWithin (set_in (f ∷ fs)) set
+    within : IsWithin (locals_set (f ∷ fs)) set
 
   abbrev Keeps : Machine → Type 0
   Keeps (At k [] set) = ⊥
@@ -74,38 +76,38 @@ module _ (cx : Context) (code : List Operator) (ty : BlockType) where
   stack_drop (suc n) [] (f ∷ fs) s = elim s [ ]
   stack_drop (suc n) (l ∷ ls) [] s = elim s [ ]
 
-  within_drop : (n : ℕ) (fs : List Frame) (set : List ℕ) → IsWithin (set_in fs) set → IsWithin (set_in (drop n fs)) set
+  within_drop : (n : ℕ) (fs : List Frame) (set : List ℕ) → IsWithin (locals_set fs) set → IsWithin (locals_set (drop n fs)) set
   within_drop zero fs set w = w
   within_drop (suc n) [] set w = w
-  within_drop (suc n) (f ∷ fs) set w = within_drop n fs set (within_right f.first_set (set_in fs) set w)
+  within_drop (suc n) (f ∷ fs) set w = within_drop n fs set (within_right f.first_set (locals_set fs) set w)
 
-  reaches_of_heads : (n : ℕ) (ls : List Label) (types : List ValType) → HeadReaches cx (drop n (label_heads ls)) types → Reaches cx (drop n ls) types
+  reaches_of_heads : (n : ℕ) (ls : List Label) (types : List ValType) → HeadAccepts cx (drop n (label_heads ls)) types → LabelAccepts cx (drop n ls) types
   reaches_of_heads zero [] types h = h
   reaches_of_heads zero (l ∷ ls) types h = h
   reaches_of_heads (suc n) [] types h = h
   reaches_of_heads (suc n) (l ∷ ls) types h = reaches_of_heads n ls types h
 
   -- what follows a closer
-  pub after_closer : (h : Head) (fs : List Frame) (c : ℕ) (form : Form) → is_closing form ≡ true → AfterMarkBy cx code (start ty) h fs c form → before cx code (start ty) (suc c) ≡ Some (given (results cx h) fs)
+  pub after_closer : (h : Head) (fs : List Frame) (c : ℕ) (form : Form) → is_closer form ≡ true → AfterDelimiterOf cx code (start ty) h fs c form → before cx code (start ty) (suc c) ≡ Some (given (results cx h) fs)
   after_closer h fs c Ends i a = a
   after_closer h fs c Delegates i a = a
   after_closer h fs c _ i a = absurd cc
 
   closer_follows : (b c : ℕ) (h : Head) (fs : List Frame) → Exit b h fs → IsCloser code b c → before cx code (start ty) (suc c) ≡ Some (given (results cx h) fs)
-  closer_follows b c h fs x k = after_closer h fs c k.0 k.2 (x.marks_follow k.1.0 (mark c k.0) k.1.1)
+  closer_follows b c h fs x k = after_closer h fs c k.0 k.2 (x.delimiters_follow k.1.0 (delimiter c k.0) k.1.1)
 
   -- results given to the next outer label
-  gives_out : (k : ℕ) (h : Head) (us : List ValType) (o : Label) (outer : List Label) (g : Frame) (gs : List Frame) (set : List ℕ) → before cx code (start ty) k ≡ Some (given (results cx h) (g ∷ gs)) → AllBelow cx us (results cx h) → Stack (o ∷ outer) (g ∷ gs) → IsWithin (set_in (g ∷ gs)) set → Standing k (record o { own = onto us o.own }) outer set
+  gives_out : (k : ℕ) (h : Head) (us : List ValType) (o : Label) (outer : List Label) (g : Frame) (gs : List Frame) (set : List ℕ) → before cx code (start ty) k ≡ Some (given (results cx h) (g ∷ gs)) → AllBelow cx us (results cx h) → Stack (o ∷ outer) (g ∷ gs) → IsWithin (locals_set (g ∷ gs)) set → Standing k (record o { operands = onto us o.operands }) outer set
   gives_out k h us o outer g gs set b below s w =
       let a = s.0 in
       record {
-        f = with_own (map Known (results cx h)) g;
+        f = frame_with (map Known (results cx h)) g;
         fs = gs;
         at = b;
         agree = record {
           head = a.head;
           live = a.live;
-          own = (onto (results cx h) a.own.0, ap (onto (map Known (results cx h))) a.own.1 ∙ onto-known (results cx h) a.own.0, below-onto cx us (results cx h) o.own a.own.0 below a.own.2);
+          operands = (onto (results cx h) a.operands.0, ap (onto (map Known (results cx h))) a.operands.1 ∙ onto-known (results cx h) a.operands.0, below-onto cx us (results cx h) o.operands a.operands.0 below a.operands.2);
           outside = a.outside;
         };
         stack = s.1;
@@ -113,42 +115,42 @@ module _ (cx : Context) (code : List Operator) (ty : BlockType) where
       }
 
   -- a branch
-  branch_by : (b : Bool) (l : Label) (us : List ValType) (o : Label) (outer : List Label) (f g : Frame) (gs : List Frame) (set : List ℕ) (next : Machine) → is_loop f.head.kind ≡ b → Agree l f (g ∷ gs) → Stack (o ∷ outer) (g ∷ gs) → IsWithin (set_in (g ∷ gs)) set → AllBelow cx us (label_by cx b f.head) → ArrivesBy code b l (o ∷ outer) set us next → Keeps next
+  branch_by : (b : Bool) (l : Label) (us : List ValType) (o : Label) (outer : List Label) (f g : Frame) (gs : List Frame) (set : List ℕ) (next : Machine) → is_loop f.head.kind ≡ b → Agree l f (g ∷ gs) → Stack (o ∷ outer) (g ∷ gs) → IsWithin (locals_set (g ∷ gs)) set → AllBelow cx us (label_by cx b f.head) → MatchBool b (next ≡ restart l (o ∷ outer) set us) (Exits cx code l (o ∷ outer) set us next) → Keeps next
   branch_by true l us o outer f g gs set next loop a s w below e =
       subst Keeps (sym e) (record {
-        f = opened f.head (params cx f.head);
+        f = opened_frame f.head (params cx f.head);
         fs = g ∷ gs;
         at = a.outside.again loop;
-        agree = record { head = a.head; live = refl; own = own_opened cx us (params cx f.head) below; outside = a.outside };
+        agree = record { head = a.head; live = refl; operands = own_opened cx us (params cx f.head) below; outside = a.outside };
         stack = s;
         within = w;
       })
   branch_by false l us o outer f g gs set next loop a s w below e =
       subst Keeps (sym e.2) (gives_out (suc e.0) f.head us o outer g gs set (closer_follows l.began e.0 f.head (g ∷ gs) a.outside e.1) below s w)
 
-  branch_to : (l : Label) (outer : List Label) (us : List ValType) (fs : List Frame) (set : List ℕ) (next : Machine) → Stack (l ∷ outer) fs → IsWithin (set_in fs) set → AllBelow cx us (label_types cx l.head) → Arrives code l outer set us next → Keeps next
+  branch_to : (l : Label) (outer : List Label) (us : List ValType) (fs : List Frame) (set : List ℕ) (next : Machine) → Stack (l ∷ outer) fs → IsWithin (locals_set fs) set → AllBelow cx us (label_types cx l.head) → Arrives cx code l outer set us next → Keeps next
   branch_to l [] us (f ∷ []) set next s w below e =
       let h : l.head ≡ body_head ty = s.0.head ∙ s.0.outside in
       subst Keeps (sym e) (subst (λ k. AllBelow cx us (label_types cx k)) h below)
   branch_to l (o ∷ outer) us (f ∷ g ∷ gs) set next s w below e =
       let k = ap (λ (h : Head). is_loop h.kind) s.0.head in
-      branch_by (is_loop l.head.kind) l us o outer f g gs set next (sym k) s.0 s.1 (within_right f.first_set (set_in (g ∷ gs)) set w) (subst (λ h. AllBelow cx us (label_by cx (is_loop l.head.kind) h)) s.0.head below) e
+      branch_by (is_loop l.head.kind) l us o outer f g gs set next (sym k) s.0 s.1 (within_right f.first_set (locals_set (g ∷ gs)) set w) (subst (λ h. AllBelow cx us (label_by cx (is_loop l.head.kind) h)) s.0.head below) e
   branch_to l outer us [] set next s w below e = elim s [ ]
   branch_to l [] us (f ∷ g ∷ gs) set next s w below e = elim s.1 [ ]
   branch_to l (o ∷ outer) us (f ∷ []) set next s w below e = elim s.1 [ ]
 
-  branches : (labels : List Label) (fs : List Frame) (carried : List ValType) (set : List ℕ) (next : Machine) → IsLawful cx.of_module → Stack labels fs → IsWithin (set_in fs) set → Reaches cx labels carried → Branches cx code labels set carried next → Keeps next
+  branches : (labels : List Label) (fs : List Frame) (carried : List ValType) (set : List ℕ) (next : Machine) → IsLawful cx.of_module → Stack labels fs → IsWithin (locals_set fs) set → LabelAccepts cx labels carried → Branches cx code labels set carried next → Keeps next
   branches labels fs carried set next laws s w r b =
       let s' = subst (λ ls. Stack ls fs) b.is s in
-      let r' : AllBelow cx carried (label_types cx b.label.head) = subst (λ ls. Reaches cx ls carried) b.is r in
+      let r' : AllBelow cx carried (label_types cx b.label.head) = subst (λ ls. LabelAccepts cx ls carried) b.is r in
       branch_to b.label b.outer b.types fs set next s' w (below-trans cx laws b.types carried (label_types cx b.label.head) b.below r') b.arrives
 
-after_closing : (cx : Context) (r : Row) (set : List ℕ) (f : Frame) (fs : List Frame) (form : Form) (pushed : List MaybeType) → is_closing form ≡ true → after cx r set f fs form pushed ≡ given (results cx f.head) fs
+after_closing : (cx : Context) (r : Row) (set : List ℕ) (f : Frame) (fs : List Frame) (form : Form) (pushed : List MaybeType) → is_closer form ≡ true → after cx r set f fs form pushed ≡ given (results cx f.head) fs
 after_closing cx r set f fs Ends pushed i = refl
 after_closing cx r set f fs Delegates pushed i = refl
 after_closing cx r set f fs _ pushed i = absurd cc
 
-by_row : (cx : Context) (r : Row) (hs : List Head) (set : List ℕ) (f : Frame) (form : Form) (o : Option (List MaybeType)) → is_row form ≡ true → pushes_at cx r hs set f form ≡ o → pushes_by cx r hs set f ≡ o
+by_row : (cx : Context) (r : Row) (hs : List Head) (set : List ℕ) (f : Frame) (form : Form) (o : Option (List MaybeType)) → is_instruction form ≡ true → pushed_by_form cx r hs set f form ≡ o → pushed_by_row cx r hs set f ≡ o
 by_row cx r hs set f Flat o i p = p
 by_row cx r hs set f (Opens h) o i p = p
 by_row cx r hs set f _ o i p = absurd cc
@@ -176,43 +178,43 @@ module _ (cx : Context) (laws : IsLawful cx.of_module) (code : List Operator) (t
     is : slice_get code k ≡ Some op
     same : label_heads (l ∷ ls) ≡ heads (s.f ∷ s.fs)
     pushed : List MaybeType
-    holds : pushes_at cx (op.row (label_heads (l ∷ ls))) (label_heads (l ∷ ls)) (set_in (s.f ∷ s.fs)) s.f op.form ≡ Some pushed
-    next : before cx code (start ty) (suc k) ≡ Some (after cx (op.row (label_heads (l ∷ ls))) (set_in (s.f ∷ s.fs)) s.f s.fs op.form pushed)
+    holds : pushed_by_form cx (op.row (label_heads (l ∷ ls))) (label_heads (l ∷ ls)) (locals_set (s.f ∷ s.fs)) s.f op.form ≡ Some pushed
+    next : before cx code (start ty) (suc k) ≡ Some (after cx (op.row (label_heads (l ∷ ls))) (locals_set (s.f ∷ s.fs)) s.f s.fs op.form pushed)
 
   place_of : (k : ℕ) (l : Label) (ls : List Label) (set : List ℕ) → Standing cx code ty k l ls set → (op : Operator) × Place k l ls set op
   place_of k l ls set s =
       let o = operator_at cx code (start ty) accepted k s.f s.fs s.at in
       let a = row_at cx code (start ty) accepted k o.0 o.1 s.f s.fs o.2 s.at in
       let same = heads_agree cx code ty (l ∷ ls) (s.f ∷ s.fs) (s.agree, s.stack) in
-      let st = set_in (s.f ∷ s.fs) in (
+      let st = locals_set (s.f ∷ s.fs) in (
         o.0,
         record {
           s = s;
           is = get_of_drop code k o.0 o.1 o.2;
           same = same;
-          pushed = a.0;
-          holds = subst (λ hs. pushes_at cx (o.0.row hs) hs st s.f o.0.form ≡ Some a.0) (sym same) a.1;
-          next = subst (λ hs. before cx code (start ty) (suc k) ≡ Some (after cx (o.0.row hs) st s.f s.fs o.0.form a.0)) (sym same) a.2;
+          pushed = a.pushed;
+          holds = subst (λ hs. pushed_by_form cx (o.0.row hs) hs st s.f o.0.form ≡ Some a.pushed) (sym same) a.holds;
+          next = subst (λ hs. before cx code (start ty) (suc k) ≡ Some (after cx (o.0.row hs) st s.f s.fs o.0.form a.pushed)) (sym same) a.next;
         },
       )
 
   module _ (k : ℕ) (l : Label) (ls : List Label) (set : List ℕ) (op : Operator) (p : Place k l ls set op) where
-    passes_here : is_row op.form ≡ true → operands.Passes cx (op.row (label_heads (l ∷ ls))) (label_heads (l ∷ ls)) set l p.s.agree.own.0 p.pushed
+    passes_here : is_instruction op.form ≡ true → operands.Passes cx (op.row (label_heads (l ∷ ls))) (label_heads (l ∷ ls)) set l p.s.agree.operands.0 p.pushed
     passes_here i =
-        operands.passes cx (op.row (label_heads (l ∷ ls))) (label_heads (l ∷ ls)) (set_in (p.s.f ∷ p.s.fs)) set l p.s.f p.s.agree.own.0 p.pushed
-        ((lawful k op p.is).row (label_heads (l ∷ ls))) p.s.agree.live p.s.agree.own.1 p.s.agree.own.2 p.s.within
-        (by_row cx (op.row (label_heads (l ∷ ls))) (label_heads (l ∷ ls)) (set_in (p.s.f ∷ p.s.fs)) p.s.f op.form _ i p.holds)
+        operands.passes cx (op.row (label_heads (l ∷ ls))) (label_heads (l ∷ ls)) (locals_set (p.s.f ∷ p.s.fs)) set l p.s.f p.s.agree.operands.0 p.pushed
+        ((lawful k op p.is).row (label_heads (l ∷ ls))) p.s.agree.live p.s.agree.operands.1 p.s.agree.operands.2 p.s.within
+        (by_row cx (op.row (label_heads (l ∷ ls))) (label_heads (l ∷ ls)) (locals_set (p.s.f ∷ p.s.fs)) p.s.f op.form _ i p.holds)
 
-    reaches_targets : (b : Bool) → is_row op.form ≡ b → (j : ℕ) (t : Target) → slice_get (op.row (label_heads (l ∷ ls))).targets j ≡ Some t → Reaches cx (drop t.depth (l ∷ ls)) (t.carried (top (takes (op.row (label_heads (l ∷ ls))).operands) l.own))
+    reaches_targets : (b : Bool) → is_instruction op.form ≡ b → (j : ℕ) (t : Target) → slice_get (op.row (label_heads (l ∷ ls))).targets j ≡ Some t → LabelAccepts cx (drop t.depth (l ∷ ls)) (t.carried (types_on_top (operands_wanted (op.row (label_heads (l ∷ ls))).type) l.operands))
     reaches_targets true i j t e =
         let a = passes_here i in
-        reaches_of_heads cx code ty t.depth (l ∷ ls) _ (((lawful k op p.is).row (label_heads (l ∷ ls))).reaches _ _ a.premise a.falls.passes j t e)
+        reaches_of_heads cx code ty t.depth (l ∷ ls) _ (((lawful k op p.is).row (label_heads (l ∷ ls))).reaches _ _ a.premise a.monotone.passes j t e)
     reaches_targets false i j t e =
         let a = (lawful k op p.is).closing (label_heads (l ∷ ls)) i in
         let d : slice_get {X = Target} [] j ≡ Some t = ap (λ ts. slice_get ts j) (sym a.0) ∙ e in
         absurd cc
 
-    reaches_clauses : (b : Bool) → is_row op.form ≡ b → (j : ℕ) (c : Clause) → slice_get (op.row (label_heads (l ∷ ls))).clauses j ≡ Some c → Reaches cx (drop c.depth (l ∷ ls)) c.types
+    reaches_clauses : (b : Bool) → is_instruction op.form ≡ b → (j : ℕ) (c : Clause) → slice_get (op.row (label_heads (l ∷ ls))).clauses j ≡ Some c → LabelAccepts cx (drop c.depth (l ∷ ls)) c.types
     reaches_clauses true i j c e =
         reaches_of_heads cx code ty c.depth (l ∷ ls) _ (operands.each_clause cx (label_heads (l ∷ ls)) _ (passes_here i).clauses j c e)
     reaches_clauses false i j c e =
@@ -221,100 +223,100 @@ module _ (cx : Context) (laws : IsLawful cx.of_module) (code : List Operator) (t
         absurd cc
 
     -- the state in a frame that the operator opens
-    inside : (h : Head) → op.form ≡ Opens h → before cx code (start ty) (suc k) ≡ Some (framed (opened h (params cx h) ∷ popped (op.row (label_heads (l ∷ ls))) p.s.f ∷ p.s.fs))
-    inside h e = p.next ∙ ap (λ x. Some (after cx (op.row (label_heads (l ∷ ls))) (set_in (p.s.f ∷ p.s.fs)) p.s.f p.s.fs x p.pushed)) e
+    inside : (h : Head) → op.form ≡ Opens h → before cx code (start ty) (suc k) ≡ Some (open_state (opened_frame h (params cx h) ∷ frame_below (op.row (label_heads (l ∷ ls))) p.s.f ∷ p.s.fs))
+    inside h e = p.next ∙ ap (λ x. Some (after cx (op.row (label_heads (l ∷ ls))) (locals_set (p.s.f ∷ p.s.fs)) p.s.f p.s.fs x p.pushed)) e
 
-    balances : (h : Head) → op.form ≡ Opens h → is_if h.kind ≡ true → without_else (marks code k) ≡ true → AllBelow cx (take (length (params cx h)) (top (takes (op.row (label_heads (l ∷ ls))).operands) l.own)) (results cx h)
+    balances : (h : Head) → op.form ≡ Opens h → is_if h.kind ≡ true → HasNoElse code k → AllBelow cx (take (length (params cx h)) (types_on_top (operands_wanted (op.row (label_heads (l ∷ ls))).type) l.operands)) (results cx h)
     balances h e i w =
-        let a = passes_here (ap is_row e) in
-        let fit = below_of_fit cx (params cx h) (results cx h) (if_balanced cx code (start ty) accepted k h (params cx h) (popped (op.row (label_heads (l ∷ ls))) p.s.f ∷ p.s.fs) i (inside h e) w) in
-        below-trans cx laws _ (params cx h) (results cx h) ((lawful k op p.is).takes_params (label_heads (l ∷ ls)) h _ _ e i a.falls.passes) fit
+        let a = passes_here (ap is_instruction e) in
+        let fit = below_of_fit cx (params cx h) (results cx h) (if_balanced cx code (start ty) accepted k h (params cx h) (frame_below (op.row (label_heads (l ∷ ls))) p.s.f ∷ p.s.fs) i (inside h e) w) in
+        below-trans cx laws _ (params cx h) (results cx h) ((lawful k op p.is).takes_params (label_heads (l ∷ ls)) h _ _ e i a.monotone.passes) fit
 
-    demand : Demand cx code k l ls set op
+    demand : Demand cx code (configuration k l ls set op)
     demand = record {
-      row = operands.holds_below cx (op.row (label_heads (l ∷ ls))) (label_heads (l ∷ ls)) (set_in (p.s.f ∷ p.s.fs)) set l p.s.f p.s.agree.own.0 op.form p.pushed laws ((lawful k op p.is).row (label_heads (l ∷ ls))) p.s.agree.head p.s.agree.live p.s.agree.own.1 p.s.agree.own.2 p.s.within p.holds;
-      targets = reaches_targets (is_row op.form) refl;
-      clauses = reaches_clauses (is_row op.form) refl;
+      row = operands.holds_below cx (op.row (label_heads (l ∷ ls))) (label_heads (l ∷ ls)) (locals_set (p.s.f ∷ p.s.fs)) set l p.s.f p.s.agree.operands.0 op.form p.pushed laws ((lawful k op p.is).row (label_heads (l ∷ ls))) p.s.agree.head p.s.agree.live p.s.agree.operands.1 p.s.agree.operands.2 p.s.within p.holds;
+      targets = reaches_targets (is_instruction op.form) refl;
+      clauses = reaches_clauses (is_instruction op.form) refl;
       no_else = balances;
     }
 
     -- ---- each outcome
-    agree_popped : Agree cx code ty (record l { own = rest (takes (op.row (label_heads (l ∷ ls))).operands) l.own }) (popped (op.row (label_heads (l ∷ ls))) p.s.f) p.s.fs
+    agree_popped : Agree cx code ty (record l { operands = drop (operands_wanted (op.row (label_heads (l ∷ ls))).type) l.operands }) (frame_below (op.row (label_heads (l ∷ ls))) p.s.f) p.s.fs
     agree_popped =
         let a = p.s.agree in
-        let n = takes (op.row (label_heads (l ∷ ls))).operands in
+        let n = operands_wanted (op.row (label_heads (l ∷ ls))).type in
         record {
           head = a.head;
           live = a.live;
-          own = (rest n a.own.0, below_top_known n p.s.f a.own.0 a.own.1, rest_below cx n l.own a.own.0 a.own.2);
+          operands = (drop n a.operands.0, below_top_known n p.s.f a.operands.0 a.operands.1, rest_below cx n l.operands a.operands.0 a.operands.2);
           outside = a.outside;
         }
 
-    goes_on : (lower us : List ValType) → op.form ≡ Flat → (op.row (label_heads (l ∷ ls))).dead ≡ false → pushes cx op (label_heads (l ∷ ls)) set (frame_of l) ≡ Some (map Known lower) → AllBelow cx us lower → Standing cx code ty (suc k) (record l { own = onto us (rest (takes (op.row (label_heads (l ∷ ls))).operands) l.own) }) ls (set_after (op.row (label_heads (l ∷ ls))).sets set)
-    goes_on lower us e live h below =
+    keeps_going : (lower us : List ValType) → op.form ≡ Flat → (op.row (label_heads (l ∷ ls))).ends_live ≡ false → pushed_types cx op (label_heads (l ∷ ls)) set (live_frame l) ≡ Some (map Known lower) → AllBelow cx us lower → Standing cx code ty (suc k) (record l { operands = onto us (drop (operands_wanted (op.row (label_heads (l ∷ ls))).type) l.operands) }) ls (set_after (op.row (label_heads (l ∷ ls))).sets set)
+    keeps_going lower us e live h below =
         let r = op.row (label_heads (l ∷ ls)) in
-        let st = set_in (p.s.f ∷ p.s.fs) in
-        let n = takes r.operands in
-        let a = passes_here (ap is_row e) in
+        let st = locals_set (p.s.f ∷ p.s.fs) in
+        let n = operands_wanted r.type in
+        let a = passes_here (ap is_instruction e) in
         let i = agree_popped in
-        let q = by_row cx r (label_heads (l ∷ ls)) set (frame_of l) op.form _ (ap is_row e) h in
-        let same = known-injective lower a.falls.lower (some_injective _ _ (sym q ∙ a.holds)) in
-        let upper = a.falls.below us (subst (λ ts. AllBelow cx us ts) same below) in
+        let q = by_row cx r (label_heads (l ∷ ls)) set (live_frame l) op.form _ (ap is_instruction e) h in
+        let same = known-injective lower a.monotone.lower (some_injective _ _ (sym q ∙ a.holds)) in
+        let upper = a.monotone.below us (subst (λ ts. AllBelow cx us ts) same below) in
         record {
           f = frame_after cx r st p.pushed p.s.f;
           fs = p.s.fs;
           at = p.next ∙ ap (λ x. Some (after cx r st p.s.f p.s.fs x p.pushed)) e;
           agree = record {
             head = i.head;
-            live = ap (λ b. b || r.dead) i.live ∙ live;
-            own = (
-              onto a.falls.upper i.own.0,
-              ap (λ b. own_after b (below_top n p.s.f) p.pushed) live ∙ ap (onto p.pushed) i.own.1 ∙ ap (λ x. onto x (map Known i.own.0)) a.falls.known ∙ onto-known a.falls.upper i.own.0,
-              below-onto cx us a.falls.upper (rest n l.own) i.own.0 upper i.own.2,
+            live = ap (λ b. b || r.ends_live) i.live ∙ live;
+            operands = (
+              onto a.monotone.upper i.operands.0,
+              ap (λ b. operands_after b (operands_below n p.s.f) p.pushed) live ∙ ap (onto p.pushed) i.operands.1 ∙ ap (λ x. onto x (map Known i.operands.0)) a.monotone.known ∙ onto-known a.monotone.upper i.operands.0,
+              below-onto cx us a.monotone.upper (drop n l.operands) i.operands.0 upper i.operands.2,
             );
             outside = i.outside;
           };
           stack = p.s.stack;
-          within = set_within cx st r.sets p.s.f.first_set (set_in p.s.fs) set p.s.within;
+          within = set_within cx st r.sets p.s.f.first_set (locals_set p.s.fs) set p.s.within;
         }
 
-    exit_opened : (h : Head) → op.form ≡ Opens h → Exit cx code ty k h (popped (op.row (label_heads (l ∷ ls))) p.s.f ∷ p.s.fs)
+    exit_opened : (h : Head) → op.form ≡ Opens h → Exit cx code ty k h (frame_below (op.row (label_heads (l ∷ ls))) p.s.f ∷ p.s.fs)
     exit_opened h e =
-        let fs' = popped (op.row (label_heads (l ∷ ls))) p.s.f ∷ p.s.fs in
-        let fit = subst (λ hs. clauses_fit cx hs (op.row hs).clauses ≡ true) p.same (passes_here (ap is_row e)).clauses in
+        let fs' = frame_below (op.row (label_heads (l ∷ ls))) p.s.f ∷ p.s.fs in
+        let fit = subst (λ hs. clauses_fit cx hs (op.row hs).clauses ≡ true) p.same (passes_here (ap is_instruction e)).clauses in
         record {
-          marks_follow = mark_after cx code (start ty) accepted k h (params cx h) fs' (inside h e);
+          delimiters_follow = after_delimiter cx code (start ty) accepted k h (params cx h) fs' (inside h e);
           again = λ i. inside h e;
           clauses = λ i opener at j c g.
               let d : op ≡ opener = some_injective _ _ (sym p.is ∙ at) in
               operands.each_clause cx (heads fs') (opener.row (heads fs')).clauses (subst (λ (o : Operator). clauses_fit cx (heads fs') (o.row (heads fs')).clauses ≡ true) d fit) j c g;
         }
 
-    enters : (h : Head) (us : List ValType) → op.form ≡ Opens h → AllBelow cx us (params cx h) → Standing cx code ty (suc k) (record { began = k; head = h; own = onto us [] }) (record l { own = rest (takes (op.row (label_heads (l ∷ ls))).operands) l.own } ∷ ls) set
-    enters h us e below =
+    keeps_entering : (h : Head) (us : List ValType) → op.form ≡ Opens h → AllBelow cx us (params cx h) → Standing cx code ty (suc k) (record { began = k; head = h; operands = onto us [] }) (record l { operands = drop (operands_wanted (op.row (label_heads (l ∷ ls))).type) l.operands } ∷ ls) set
+    keeps_entering h us e below =
         record {
-          f = opened h (params cx h);
-          fs = popped (op.row (label_heads (l ∷ ls))) p.s.f ∷ p.s.fs;
+          f = opened_frame h (params cx h);
+          fs = frame_below (op.row (label_heads (l ∷ ls))) p.s.f ∷ p.s.fs;
           at = inside h e;
-          agree = record { head = refl; live = refl; own = own_opened cx us (params cx h) below; outside = exit_opened h e };
+          agree = record { head = refl; live = refl; operands = own_opened cx us (params cx h) below; outside = exit_opened h e };
           stack = (agree_popped, p.s.stack);
           within = p.s.within;
         }
 
-    enters_else : (h : Head) (c : ℕ) (us : List ValType) → op.form ≡ Opens h → IsMark code k c BeginsElse → AllBelow cx us (params cx h) → Standing cx code ty (suc c) (record { began = c; head = of_kind Else h; own = onto us [] }) (record l { own = rest (takes (op.row (label_heads (l ∷ ls))).operands) l.own } ∷ ls) set
-    enters_else h c us e m below =
-        let fs' = popped (op.row (label_heads (l ∷ ls))) p.s.f ∷ p.s.fs in
-        let b = (exit_opened h e).marks_follow m.0 (mark c BeginsElse) m.1 in
+    keeps_entering_else : (h : Head) (c : ℕ) (us : List ValType) → op.form ≡ Opens h → IsDelimiter code k c BeginsElse → AllBelow cx us (params cx h) → Standing cx code ty (suc c) (record { began = c; head = of_kind Else h; operands = onto us [] }) (record l { operands = drop (operands_wanted (op.row (label_heads (l ∷ ls))).type) l.operands } ∷ ls) set
+    keeps_entering_else h c us e m below =
+        let fs' = frame_below (op.row (label_heads (l ∷ ls))) p.s.f ∷ p.s.fs in
+        let b = (exit_opened h e).delimiters_follow m.0 (delimiter c BeginsElse) m.1 in
         record {
-          f = opened (of_kind Else h) (params cx h);
+          f = opened_frame (of_kind Else h) (params cx h);
           fs = fs';
           at = b;
           agree = record {
             head = refl;
             live = refl;
-            own = own_opened cx us (params cx h) below;
+            operands = own_opened cx us (params cx h) below;
             outside = record {
-              marks_follow = mark_after cx code (start ty) accepted c (of_kind Else h) (params cx h) fs' b;
+              delimiters_follow = after_delimiter cx code (start ty) accepted c (of_kind Else h) (params cx h) fs' b;
               again = λ i. absurd cc;
               clauses = λ i opener at j d g. absurd cc;
             };
@@ -323,25 +325,25 @@ module _ (cx : Context) (laws : IsLawful cx.of_module) (code : List Operator) (t
           within = p.s.within;
         }
 
-    skips_if : (h : Head) (c : ℕ) (us : List ValType) → op.form ≡ Opens h → IsCloser code k c → AllBelow cx us (results cx h) → Standing cx code ty (suc c) (record l { own = onto us (rest (takes (op.row (label_heads (l ∷ ls))).operands) l.own) }) ls set
-    skips_if h c us e m below =
+    keeps_skipping : (h : Head) (c : ℕ) (us : List ValType) → op.form ≡ Opens h → IsCloser code k c → AllBelow cx us (results cx h) → Standing cx code ty (suc c) (record l { operands = onto us (drop (operands_wanted (op.row (label_heads (l ∷ ls))).type) l.operands) }) ls set
+    keeps_skipping h c us e m below =
         let r = op.row (label_heads (l ∷ ls)) in
-        gives_out cx code ty (suc c) h us (record l { own = rest (takes r.operands) l.own }) ls (popped r p.s.f) p.s.fs set
-        (closer_follows cx code ty k c h (popped r p.s.f ∷ p.s.fs) (exit_opened h e) m) below (agree_popped, p.s.stack) p.s.within
+        gives_out cx code ty (suc c) h us (record l { operands = drop (operands_wanted r.type) l.operands }) ls (frame_below r p.s.f) p.s.fs set
+        (closer_follows cx code ty k c h (frame_below r p.s.f ∷ p.s.fs) (exit_opened h e) m) below (agree_popped, p.s.stack) p.s.within
 
-    jumps : (j : ℕ) (t : Target) (next : Machine) → slice_get (op.row (label_heads (l ∷ ls))).targets j ≡ Some t → Branches cx code (drop t.depth (l ∷ ls)) set (t.carried (top (takes (op.row (label_heads (l ∷ ls))).operands) l.own)) next → Keeps cx code ty next
-    jumps j t next e b =
+    keeps_jumping : (j : ℕ) (t : Target) (next : Machine) → slice_get (op.row (label_heads (l ∷ ls))).targets j ≡ Some t → Branches cx code (drop t.depth (l ∷ ls)) set (t.carried (types_on_top (operands_wanted (op.row (label_heads (l ∷ ls))).type) l.operands)) next → Keeps cx code ty next
+    keeps_jumping j t next e b =
         branches cx code ty (drop t.depth (l ∷ ls)) (drop t.depth (p.s.f ∷ p.s.fs)) _ set next laws
         (stack_drop cx code ty t.depth (l ∷ ls) (p.s.f ∷ p.s.fs) (p.s.agree, p.s.stack))
         (within_drop cx code ty t.depth (p.s.f ∷ p.s.fs) set p.s.within)
-        (reaches_targets (is_row op.form) refl j t e) b
+        (reaches_targets (is_instruction op.form) refl j t e) b
 
     -- what follows the place k, where a frame that isn't the outermost one is closed
     abbrev AfterInner : ℕ → Head → List Frame → Type 0
     AfterInner c h [] = Unit {0}
     AfterInner c h (g ∷ gs) = before cx code (start ty) c ≡ Some (given (results cx h) (g ∷ gs))
 
-    closes_to : (c b : ℕ) (h : Head) (us : List ValType) (outer : List Label) (fs : List Frame) → Outside cx code ty b h fs → AfterInner c h fs → AllBelow cx us (results cx h) → Stack cx code ty outer fs → IsWithin (set_in fs) set → Keeps cx code ty (given_out c us outer set)
+    closes_to : (c b : ℕ) (h : Head) (us : List ValType) (outer : List Label) (fs : List Frame) → Outside cx code ty b h fs → AfterInner c h fs → AllBelow cx us (results cx h) → Stack cx code ty outer fs → IsWithin (locals_set fs) set → Keeps cx code ty (machine_after_exit c us outer set)
     closes_to c b h us [] [] x a below s w = subst (λ (k : Head). AllBelow cx us (results cx k)) x below
     closes_to c b h us (o ∷ outer) (g ∷ gs) x a below s w = gives_out cx code ty c h us o outer g gs set a below s w
     closes_to c b h us [] (g ∷ gs) x a below s w = elim s [ ]
@@ -355,111 +357,111 @@ module _ (cx : Context) (laws : IsLawful cx.of_module) (code : List Operator) (t
     after_part c b h [] x m = tt
     after_part c b h (g ∷ gs) x m = closer_follows cx code ty b c h (g ∷ gs) x m
 
-    closes_here : (c : ℕ) (us : List ValType) → AfterInner c p.s.f.head p.s.fs → AllBelow cx us (results cx l.head) → Keeps cx code ty (given_out c us ls set)
+    closes_here : (c : ℕ) (us : List ValType) → AfterInner c p.s.f.head p.s.fs → AllBelow cx us (results cx l.head) → Keeps cx code ty (machine_after_exit c us ls set)
     closes_here c us a below =
         closes_to c l.began p.s.f.head us ls p.s.fs p.s.agree.outside a (subst (λ (h : Head). AllBelow cx us (results cx h)) p.s.agree.head below) p.s.stack
-        (within_right p.s.f.first_set (set_in p.s.fs) set p.s.within)
+        (within_right p.s.f.first_set (locals_set p.s.fs) set p.s.within)
 
-    catches_from : (label : Label) (outer : List Label) (F : List Frame) (opener : Operator) (j : ℕ) (c : Clause) (next : Machine) → Stack cx code ty (label ∷ outer) F → IsWithin (set_in F) set → is_try_table label.head.kind ≡ true → slice_get code label.began ≡ Some opener → slice_get (opener.row (label_heads outer)).clauses j ≡ Some c → Branches cx code (drop c.depth outer) set c.types next → Keeps cx code ty next
-    catches_from label [] (g ∷ []) opener j c next s w i o e b = let d : [] ≡ b.label ∷ b.outer = sym (drop_none c.depth) ∙ b.is in absurd cc
-    catches_from label (o' ∷ outer) (g ∷ g' ∷ gs) opener j c next s w i o e b =
+    keeps_catching : (label : Label) (outer : List Label) (F : List Frame) (opener : Operator) (j : ℕ) (c : Clause) (next : Machine) → Stack cx code ty (label ∷ outer) F → IsWithin (locals_set F) set → is_try_table label.head.kind ≡ true → slice_get code label.began ≡ Some opener → slice_get (opener.row (label_heads outer)).clauses j ≡ Some c → Branches cx code (drop c.depth outer) set c.types next → Keeps cx code ty next
+    keeps_catching label [] (g ∷ []) opener j c next s w i o e b = let d : [] ≡ b.label ∷ b.outer = sym (drop_none c.depth) ∙ b.is in absurd cc
+    keeps_catching label (o' ∷ outer) (g ∷ g' ∷ gs) opener j c next s w i o e b =
         let same = heads_agree cx code ty (o' ∷ outer) (g' ∷ gs) s.1 in
         let e' = subst (λ hs. slice_get (opener.row hs).clauses j ≡ Some c) same e in
         let h = s.0.outside.clauses (ap (λ (k : Head). is_try_table k.kind) (sym s.0.head) ∙ i) opener o j c e' in
-        let r = reaches_of_heads cx code ty c.depth (o' ∷ outer) c.types (subst (λ hs. HeadReaches cx (drop c.depth hs) c.types) (sym same) h) in
+        let r = reaches_of_heads cx code ty c.depth (o' ∷ outer) c.types (subst (λ hs. HeadAccepts cx (drop c.depth hs) c.types) (sym same) h) in
         branches cx code ty (drop c.depth (o' ∷ outer)) (drop c.depth (g' ∷ gs)) c.types set next laws
         (stack_drop cx code ty c.depth (o' ∷ outer) (g' ∷ gs) s.1)
-        (within_drop cx code ty c.depth (g' ∷ gs) set (within_right g.first_set (set_in (g' ∷ gs)) set w)) r b
-    catches_from label outer [] opener j c next s w i o e b = elim s [ ]
-    catches_from label [] (g ∷ g' ∷ gs) opener j c next s w i o e b = elim s.1 [ ]
-    catches_from label (o' ∷ outer) (g ∷ []) opener j c next s w i o e b = elim s.1 [ ]
+        (within_drop cx code ty c.depth (g' ∷ gs) set (within_right g.first_set (locals_set (g' ∷ gs)) set w)) r b
+    keeps_catching label outer [] opener j c next s w i o e b = elim s [ ]
+    keeps_catching label [] (g ∷ g' ∷ gs) opener j c next s w i o e b = elim s.1 [ ]
+    keeps_catching label (o' ∷ outer) (g ∷ []) opener j c next s w i o e b = elim s.1 [ ]
 
-    catches_legacy : (label : Label) (outer : List Label) (F : List Frame) (c : ℕ) (all : Bool) (types us : List ValType) → Stack cx code ty (label ∷ outer) F → IsWithin (set_in F) set → is_try label.head.kind ≡ true → IsMark code label.began c (BeginsCatch all types) → AllBelow cx us types → Standing cx code ty (suc c) (record { began = c; head = of_kind (catch_kind all) label.head; own = onto us [] }) outer set
-    catches_legacy label [] (g ∷ []) c all types us s w i m below =
+    keeps_catching_legacy : (label : Label) (outer : List Label) (F : List Frame) (c : ℕ) (all : Bool) (types us : List ValType) → Stack cx code ty (label ∷ outer) F → IsWithin (locals_set F) set → is_try label.head.kind ≡ true → IsDelimiter code label.began c (BeginsCatch all types) → AllBelow cx us types → Standing cx code ty (suc c) (record { began = c; head = of_kind (catch_kind all) label.head; operands = onto us [] }) outer set
+    keeps_catching_legacy label [] (g ∷ []) c all types us s w i m below =
         let d : true ≡ false = sym i ∙ ap (λ (k : Head). is_try k.kind) (s.0.head ∙ s.0.outside) in
         absurd cc
-    catches_legacy label (o ∷ outer) (g ∷ g' ∷ gs) c all types us s w i m below =
+    keeps_catching_legacy label (o ∷ outer) (g ∷ g' ∷ gs) c all types us s w i m below =
         let h = g.head in
-        let b = s.0.outside.marks_follow m.0 (mark c (BeginsCatch all types)) m.1 in
+        let b = s.0.outside.delimiters_follow m.0 (delimiter c (BeginsCatch all types)) m.1 in
         record {
-          f = opened (of_kind (catch_kind all) h) types;
+          f = opened_frame (of_kind (catch_kind all) h) types;
           fs = g' ∷ gs;
           at = b;
           agree = record {
             head = ap (of_kind (catch_kind all)) s.0.head;
             live = refl;
-            own = own_opened cx us types below;
+            operands = own_opened cx us types below;
             outside = record {
-              marks_follow = mark_after cx code (start ty) accepted c (of_kind (catch_kind all) h) types (g' ∷ gs) b;
+              delimiters_follow = after_delimiter cx code (start ty) accepted c (of_kind (catch_kind all) h) types (g' ∷ gs) b;
               again = λ q. absurd (not_both (is_loop (catch_kind all)) q (no_loop all));
               clauses = λ q opener at j d e. absurd (not_both (is_try_table (catch_kind all)) q (no_try_table all));
             };
           };
           stack = s.1;
-          within = within_right g.first_set (set_in (g' ∷ gs)) set w;
+          within = within_right g.first_set (locals_set (g' ∷ gs)) set w;
         }
-    catches_legacy label outer [] c all types us s w i m below = elim s [ ]
-    catches_legacy label [] (g ∷ g' ∷ gs) c all types us s w i m below = elim s.1 [ ]
-    catches_legacy label (o ∷ outer) (g ∷ []) c all types us s w i m below = elim s.1 [ ]
+    keeps_catching_legacy label outer [] c all types us s w i m below = elim s [ ]
+    keeps_catching_legacy label [] (g ∷ g' ∷ gs) c all types us s w i m below = elim s.1 [ ]
+    keeps_catching_legacy label (o ∷ outer) (g ∷ []) c all types us s w i m below = elim s.1 [ ]
 
-    keeps : (next : Machine) → Outcome cx code k l ls set op next → Keeps cx code ty next
-    keeps next (GoesOn lower us e live h below is) = subst (Keeps cx code ty) (sym is) (goes_on lower us e live h below)
-    keeps next (Enters h us e below is) = subst (Keeps cx code ty) (sym is) (enters h us e below)
-    keeps next (EntersElse h c us e i m below is) = subst (Keeps cx code ty) (sym is) (enters_else h c us e m below)
-    keeps next (SkipsIf h c us e i w m below is) = subst (Keeps cx code ty) (sym is) (skips_if h c us e m below)
-    keeps next (Jumps j t e g b) = jumps j t next g b
-    keeps next (Closes us i below is) =
-        subst (Keeps cx code ty) (sym is)
-        (closes_here (suc k) us (after_inner (suc k) p.s.f.head p.s.fs (p.next ∙ ap Some (after_closing cx (op.row (label_heads (l ∷ ls))) (set_in (p.s.f ∷ p.s.fs)) p.s.f p.s.fs op.form p.pushed i))) below)
-    keeps next (Passes c us i m below is) =
-        subst (Keeps cx code ty) (sym is) (closes_here (suc c) us (after_part c l.began p.s.f.head p.s.fs p.s.agree.outside m) below)
-    keeps next (Catches i label outer opener j c d t o e b) =
-        catches_from label outer (drop i (p.s.f ∷ p.s.fs)) opener j c next
-        (subst (λ x. Stack cx code ty x (drop i (p.s.f ∷ p.s.fs))) d (stack_drop cx code ty i (l ∷ ls) (p.s.f ∷ p.s.fs) (p.s.agree, p.s.stack)))
-        (within_drop cx code ty i (p.s.f ∷ p.s.fs) set p.s.within) t o e b
-    keeps next (CatchesLegacy i label outer c all types us d t m below is) =
-        subst (Keeps cx code ty) (sym is)
-        (catches_legacy label outer (drop i (p.s.f ∷ p.s.fs)) c all types us
-        (subst (λ x. Stack cx code ty x (drop i (p.s.f ∷ p.s.fs))) d (stack_drop cx code ty i (l ∷ ls) (p.s.f ∷ p.s.fs) (p.s.agree, p.s.stack)))
-        (within_drop cx code ty i (p.s.f ∷ p.s.fs) set p.s.within) t m below)
-    keeps next (Traps is) = subst (Keeps cx code ty) (sym is) tt
-    keeps next (Raises is) = subst (Keeps cx code ty) (sym is) tt
-    keeps next (Suspends is) = subst (Keeps cx code ty) (sym is) tt
+    keeps : (next : Machine) → Outcome cx code (configuration k l ls set op) next → Keeps cx code ty next
+    keeps next (goes_on o) = subst (Keeps cx code ty) (sym o.is) (keeps_going o.pushed o.types o.flat o.live o.pushes o.below)
+    keeps next (enters o) = subst (Keeps cx code ty) (sym o.is) (keeps_entering o.head o.types o.opens o.below)
+    keeps next (enters_else o) = subst (Keeps cx code ty) (sym o.is) (keeps_entering_else o.head o.place o.types o.opens o.is_its_else o.below)
+    keeps next (skips_if o) = subst (Keeps cx code ty) (sym o.is) (keeps_skipping o.head o.closer o.types o.opens o.is_its_closer o.below)
+    keeps next (jumps o) = keeps_jumping o.index o.target next o.is_its_target o.branches
+    keeps next (closes o) =
+        subst (Keeps cx code ty) (sym o.is)
+        (closes_here (suc k) o.types (after_inner (suc k) p.s.f.head p.s.fs (p.next ∙ ap Some (after_closing cx (op.row (label_heads (l ∷ ls))) (locals_set (p.s.f ∷ p.s.fs)) p.s.f p.s.fs op.form p.pushed o.closes))) o.below)
+    keeps next (ends_part o) =
+        subst (Keeps cx code ty) (sym o.exits.2) (closes_here (suc o.exits.0) o.types (after_part o.exits.0 l.began p.s.f.head p.s.fs p.s.agree.outside o.exits.1) o.below)
+    keeps next (catches o) =
+        keeps_catching o.label o.outer (drop o.depth (p.s.f ∷ p.s.fs)) o.opener o.index o.clause next
+        (subst (λ x. Stack cx code ty x (drop o.depth (p.s.f ∷ p.s.fs))) o.is_open (stack_drop cx code ty o.depth (l ∷ ls) (p.s.f ∷ p.s.fs) (p.s.agree, p.s.stack)))
+        (within_drop cx code ty o.depth (p.s.f ∷ p.s.fs) set p.s.within) o.kind_is_try_table o.is_its_opener o.is_its_clause o.branches
+    keeps next (catches_legacy o) =
+        subst (Keeps cx code ty) (sym o.is)
+        (keeps_catching_legacy o.label o.outer (drop o.depth (p.s.f ∷ p.s.fs)) o.place o.all o.caught o.types
+        (subst (λ x. Stack cx code ty x (drop o.depth (p.s.f ∷ p.s.fs))) o.is_open (stack_drop cx code ty o.depth (l ∷ ls) (p.s.f ∷ p.s.fs) (p.s.agree, p.s.stack)))
+        (within_drop cx code ty o.depth (p.s.f ∷ p.s.fs) set p.s.within) o.kind_is_try o.is_its_catch o.below)
+    keeps next (traps is) = subst (Keeps cx code ty) (sym is) tt
+    keeps next (raises is) = subst (Keeps cx code ty) (sym is) tt
+    keeps next (suspends is) = subst (Keeps cx code ty) (sym is) tt
 
   -- ---- runs
   step_keeps : (m next : Machine) → Keeps cx code ty m → Step cx code m next → Keeps cx code ty next
   step_keeps (At k (l ∷ ls) set) next s st =
       let o = place_of k l ls set s in
       let d : o.0 ≡ st.0 = some_injective _ _ (sym o.1.is ∙ st.1) in
-      keeps k l ls set o.0 o.1 next (subst (λ op. Outcome cx code k l ls set op next) (sym d) st.3)
+      keeps k l ls set o.0 o.1 next (subst (λ o'. Outcome cx code (configuration k l ls set o') next) (sym d) st.3)
   step_keeps _ next s st = elim st [ ]
 
-  started : Keeps cx code ty (first ty)
+  started : Keeps cx code ty (initial_machine ty)
   started = record {
-    f = opened (body_head ty) [];
+    f = opened_frame (body_head ty) [];
     fs = [];
     at = refl;
-    agree = record { head = refl; live = refl; own = ([], refl, tt); outside = refl };
+    agree = record { head = refl; live = refl; operands = ([], refl, tt); outside = refl };
     stack = tt;
     within = λ i h. h;
   }
 
-  run_keeps : (n : ℕ) (m : Machine) → Run cx code n (first ty) m → Keeps cx code ty m
+  run_keeps : (n : ℕ) (m : Machine) → Run cx code n (initial_machine ty) m → Keeps cx code ty m
   run_keeps zero m r = subst (Keeps cx code ty) r started
   run_keeps (suc n) m r = step_keeps r.0 m (run_keeps n r.0 r.1) r.2
 
-  demands_met : (m : Machine) → Keeps cx code ty m → Demands cx code m
+  demands_met : (m : Machine) → Keeps cx code ty m → IsNotStuck cx code m
   demands_met (At k [] set) s = elim s [ ]
   demands_met (At k (l ∷ ls) set) s = let o = place_of k l ls set s in (o.0, o.1.is, demand k l ls set o.0 o.1)
   demands_met _ s = tt
 
   labels_below : (ls : List Label) (fs : List Frame) → Stack cx code ty ls fs → LabelsBelow cx ls fs
   labels_below [] [] s = tt
-  labels_below (l ∷ ls) (f ∷ fs) s = (s.0.head, s.0.live, s.0.own, labels_below ls fs s.1)
+  labels_below (l ∷ ls) (f ∷ fs) s = (record { head = s.0.head; live = s.0.live; operands = s.0.operands }, labels_below ls fs s.1)
   labels_below [] (f ∷ fs) s = elim s [ ]
   labels_below (l ∷ ls) [] s = elim s [ ]
 
-  safe : (m : Machine) → Keeps cx code ty m → IsSafe cx code ty m
+  safe : (m : Machine) → Keeps cx code ty m → IsAsValidated cx code ty m
   safe (At k [] set) s = elim s [ ]
   safe (At k (l ∷ ls) set) s = (s.f ∷ s.fs, s.at, labels_below (l ∷ ls) (s.f ∷ s.fs) (s.agree, s.stack))
   safe (Returned types) s = s

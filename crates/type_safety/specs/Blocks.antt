@@ -1,20 +1,35 @@
 -- What a whole block leaves of the locals that are set (WebAssembly core specification, "Validation:
--- Instructions": what a block initializes isn't part of its type).
-use Rattle.std.specs.Prelude.{◌≡◌, ℕ, suc, List, ◌∷◌, Some, slice_get}
+-- Instruction Sequences": what a block initializes isn't part of its type).
+use Rattle.std.specs.Prelude.{◌≡◌, ℕ, suc, List, Some, slice_get}
 use Rattle.validation_rules.specs.Context.{BlockType, Context}
 use Rattle.validation_rules.specs.Rows.{Head, Opens, Operator}
-use Rattle.validation_rules.specs.Static.{Frame, framed, heads, set_in, start, before, IsAccepted}
+use Rattle.validation_rules.specs.Static.{State, heads, locals_set, start, before}
 use Rattle.type_safety.specs.Machine.{IsCloser}
 
--- the state before place k: the same frames are open as in these, and the same locals are set
-pub record IsAsBefore (cx : Context) (code : List Operator) (ty : BlockType) (k : ℕ) (fs : List Frame) : Type 0 where
-  pub frames : List Frame
-  pub is_before : before cx code (start ty) k ≡ Some (framed frames)
-  pub same_heads : heads frames ≡ heads fs
-  pub same_locals : set_in frames ≡ set_in fs
+-- a block of the list: its opener at place k, and its closer at place c
+pub record IsBlock (code : List Operator) (k c : ℕ) : Type 0 where
+  pub opener : Operator
+  pub is_opener : slice_get code k ≡ Some opener
+  pub head : Head
+  pub opens : opener.form ≡ Opens head
+  pub closes : IsCloser code k c
 
--- In an accepted list, what an opener at place k opens is closed at place c with the frames that were
--- open before k, and with the locals set that were set before k.
+-- all rows before place n hold; the list may go on as it likes
+abbrev pub RowsHoldBefore : Context → List Operator → BlockType → ℕ → Type 0
+RowsHoldBefore cx code ty n = (s : State) × (before cx code (start ty) n ≡ Some s)
+
+-- before place n the same frames are open as before place k, and the same locals are set
+pub record IsAsBefore (cx : Context) (code : List Operator) (ty : BlockType) (k n : ℕ) : Type 0 where
+  pub opening : State
+  pub is_before : before cx code (start ty) k ≡ Some opening
+  pub closed : State
+  pub is_after : before cx code (start ty) n ≡ Some closed
+  pub same_heads : heads closed.frames ≡ heads opening.frames
+  pub same_locals : locals_set closed.frames ≡ locals_set opening.frames
+
+-- Where all rows hold up to the closer of a block, it leaves the frames that were open before its
+-- opener, and the locals set that were set there.
 abbrev pub BlocksKeepLocals : Context → Type 0
 BlocksKeepLocals cx =
-    (code : List Operator) (ty : BlockType) → IsAccepted cx code (start ty) → (k : ℕ) (f : Frame) (fs : List Frame) → before cx code (start ty) k ≡ Some (framed (f ∷ fs)) → (op : Operator) → slice_get code k ≡ Some op → (h : Head) → op.form ≡ Opens h → (c : ℕ) → IsCloser code k c → IsAsBefore cx code ty (suc c) (f ∷ fs)
+    (code : List Operator) (ty : BlockType) (k c : ℕ) →
+    IsBlock code k c → RowsHoldBefore cx code ty (suc c) → IsAsBefore cx code ty k (suc c)

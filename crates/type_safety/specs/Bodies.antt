@@ -4,36 +4,41 @@ use Rattle.validate_resources.specs.Context.{ModuleContext}
 use Rattle.validate_visit.specs.declared.op.Op.{Op}
 use Rattle.validation_rules.specs.Context.{BlockType, Context}
 use Rattle.validation_rules.specs.Rows.{Operator}
-use Rattle.validation_rules.specs.Static.{State, start, before, IsAccepted, operand_count, frame_count}
+use Rattle.validation_rules.specs.Static.{Frame, State, start, before, IsAccepted, operand_count, frame_count}
 use Rattle.validation_rules.specs.Table.{body}
-use Rattle.type_safety.specs.Machine.{Label, At, Run, first}
+use Rattle.type_safety.specs.Machine.{Label, At, Run, initial_machine}
 use Rattle.type_safety.specs.Theorem.{IsTypeSafe}
 
 -- Type safety of bodies: in every context over the module (any features, mark, locals, and locals set
 -- at entry), every list of operators whose rows all hold up to the outermost `end` is type safe.
 abbrev pub BodySafety : ModuleContext → Type 0
 BodySafety md =
-    (cx : Context) (ops : List Op) (ty : BlockType) → cx.of_module ≡ md → IsAccepted cx (body cx ops) (start ty) → IsTypeSafe cx (body cx ops) ty
+    (cx : Context) (ops : List Op) (ty : BlockType) →
+    cx.of_module ≡ md → IsAccepted cx (body cx ops) (start ty) → IsTypeSafe cx (body cx ops) ty
 
--- how many operands the labels hold
+-- how many operands the labels hold, all together
 abbrev pub operands_held : List Label → ℕ
 operands_held [] = 0
-operands_held (l ∷ ls) = length l.own + operands_held ls
+operands_held (l ∷ ls) = length l.operands + operands_held ls
 
--- The labels and operands of a run at place k, counted: they are the heights before operator k, and
--- each label holds as many operands as its frame.
-pub record AreHeights (cx : Context) (code : List Operator) (ty : BlockType) (k : ℕ) (labels : List Label) : Type 0 where
+-- These labels have the heights that the validator has before operator k: as many labels as frames, as
+-- many operands in all, and as many in each label as in its frame.
+pub record HasHeightsAt
+    (cx : Context) (code : List Operator) (ty : BlockType) (k : ℕ) (labels : List Label) : Type 0 where
   pub state : State
   pub is_before : before cx code (start ty) k ≡ Some state
   pub frames : length labels ≡ frame_count state
   pub operands : operands_held labels ≡ operand_count state
-  pub each : map (λ l. length l.own) labels ≡ map (λ f. length f.own) state.frames
+  pub each :
+      map (λ (l : Label). length l.operands) labels ≡ map (λ (f : Frame). length f.operands) state.frames
 
 -- wherever a run of the body stands, it has the validator's heights there
 abbrev pub HasHeights : Context → List Operator → BlockType → Type 0
 HasHeights cx code ty =
-    (n : ℕ) (k : ℕ) (labels : List Label) (set : List ℕ) → Run cx code n (first ty) (At k labels set) → AreHeights cx code ty k labels
+    (n k : ℕ) (labels : List Label) (set : List ℕ) →
+    Run cx code n (initial_machine ty) (At k labels set) → HasHeightsAt cx code ty k labels
 
 abbrev pub BodyHeights : ModuleContext → Type 0
 BodyHeights md =
-    (cx : Context) (ops : List Op) (ty : BlockType) → cx.of_module ≡ md → IsAccepted cx (body cx ops) (start ty) → HasHeights cx (body cx ops) ty
+    (cx : Context) (ops : List Op) (ty : BlockType) →
+    cx.of_module ≡ md → IsAccepted cx (body cx ops) (start ty) → HasHeights cx (body cx ops) ty

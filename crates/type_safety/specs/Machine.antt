@@ -1,20 +1,27 @@
 -- Execution on types alone: a machine that knows its values by their types, in one body (WebAssembly
--- core specification, "Execution: Instructions"; parts of a legacy `try` are those of the legacy
+-- core specification, "Execution: Instructions"; the parts of a legacy `try` are those of the legacy
 -- exceptions). It over-approximates the standard's reduction: values, callees, handlers and other
 -- continuations are free choices, and each value that comes has any type below the stated one.
-use Rattle.std.specs.Prelude.{◌≡◌, ℕ, zero, suc, Bool, true, false, List, [], ◌∷◌, Option, Some, None, length, map, take, drop, slice_get}
+use Rattle.std.specs.Bool.{MatchBool}
+use Rattle.std.specs.Prelude.{◌≡◌, ℕ, zero, suc, Bool, true, false, not, ◌&&◌, IsTrue, IsFalse}
+use Rattle.std.specs.Prelude.{List, [], ◌∷◌, length, map, take, drop, slice_get, Option, Some, None}
 use Rattle.validation_rules.specs.Context.{ValType, BlockType, Context, AllBelow}
 use Rattle.validation_rules.specs.Fits.{MaybeType, Known}
-use Rattle.validation_rules.specs.Rows.{Head, params, results, body_head, is_loop, is_if, is_try, is_try_table, Else, Form, Flat, Opens, BeginsElse, BeginsCatch, Ends, Delegates, Target, Clause, Operator, label_types, takes, catch_kind}
-use Rattle.validation_rules.specs.Static.{Frame, onto, of_kind, pushes}
+use Rattle.validation_rules.specs.Rows.{Head, params, results, label_types, body_head}
+use Rattle.validation_rules.specs.Rows.{is_loop, is_if, is_try, is_try_table, Else, catch_kind}
+use Rattle.validation_rules.specs.Rows.{Form, Flat, Opens, BeginsElse, BeginsCatch, Ends, Delegates}
+use Rattle.validation_rules.specs.Rows.{Operator, Row, operands_wanted, Target, Clause}
+use Rattle.validation_rules.specs.Static.{Frame, onto, of_kind, pushed_types}
+
+-- ---- states
 
 -- A label (Specification, "Runtime Structure: Labels"), with the place that began its present part:
--- that of its opener, `else`, `catch` or `catch_all` (of no meaning for the outermost one), and its own
--- operands, the top first.
+-- that of its opener, `else`, `catch` or `catch_all` (of no meaning for the outermost one), and its
+-- own operands, the top first.
 pub record Label : Type 0 where
   pub began : ℕ
   pub head : Head
-  pub own : List ValType
+  pub operands : List ValType
 
 -- A place with the open labels, the innermost first, and the locals that have been set since the body
 -- began, which only grow (Specification, "Runtime Structure: Frames"); or an end. There are no unknown
@@ -26,186 +33,356 @@ pub data Machine : Type 0 where
   LeftByException : Machine
   LeftBySuspension : Machine
 
--- ---- closers and parts, a property of the whole list (Specification, "Control Instructions": what the
--- grammar nests is found here by counting)
+-- a label that begins at place b, with these types as its operands
+abbrev pub opened_label : ℕ → Head → List ValType → Label
+opened_label b h types = record { began = b; head = h; operands = onto types [] }
 
--- the place of an operator that begins a part, or closes
-pub record Mark : Type 0 where
+-- a label with these types on top of its operands
+abbrev pub label_with : List ValType → Label → Label
+label_with types l = record l { operands = onto types l.operands }
+
+-- place 0, one empty label, and no local set but those that are when the body begins
+-- (Specification, "Execution: Invocation")
+abbrev pub initial_machine : BlockType → Machine
+initial_machine ty = At 0 (opened_label 0 (body_head ty) [] ∷ []) []
+
+-- ---- the delimiters of a block: what separates its parts (`else`, `catch`, `catch_all`), and its closer
+-- (`end`, `delegate`). The grammar nests them; here they are found by counting (Specification,
+-- "Structure: Control Instructions").
+
+-- where a delimiter stands, and what it does
+pub record Delimiter : Type 0 where
   pub place : ℕ
   pub form : Form
 
-abbrev pub mark : ℕ → Form → Mark
-mark k form = record { place = k; form = form }
+abbrev pub delimiter : ℕ → Form → Delimiter
+delimiter k form = record { place = k; form = form }
 
--- below n openers that aren't closed yet
-abbrev pub mark_step : Form → ℕ → ℕ → (ℕ → List Mark) → List Mark
-mark_step Flat n k next = next n
-mark_step (Opens h) n k next = next (suc n)
-mark_step BeginsElse zero k next = mark k BeginsElse ∷ next zero
-mark_step BeginsElse (suc n) k next = next (suc n)
-mark_step (BeginsCatch all types) zero k next = mark k (BeginsCatch all types) ∷ next zero
-mark_step (BeginsCatch all types) (suc n) k next = next (suc n)
-mark_step Ends zero k next = mark k Ends ∷ []
-mark_step Ends (suc n) k next = next n
-mark_step Delegates zero k next = mark k Delegates ∷ []
-mark_step Delegates (suc n) k next = next n
-
-abbrev pub marks_from : ℕ → ℕ → List Operator → List Mark
-marks_from n k [] = []
-marks_from n k (op ∷ ops) = mark_step op.form n k (λ m. marks_from m (suc k) ops)
-
--- the inner `else`, `catch` and `catch_all` of what began at place b, and then its closer
-abbrev pub marks : List Operator → ℕ → List Mark
-marks code b = marks_from 0 (suc b) (drop (suc b) code)
-
--- c is the place of a mark of this form, of what began at place b
-abbrev pub IsMark : List Operator → ℕ → ℕ → Form → Type 0
-IsMark code b c form = (j : ℕ) × (slice_get (marks code b) j ≡ Some (mark c form))
-
--- an operator that closes a frame
-abbrev pub is_closing : Form → Bool
-is_closing Ends = true
-is_closing Delegates = true
-is_closing _ = false
+abbrev pub is_closer : Form → Bool
+is_closer Ends = true
+is_closer Delegates = true
+is_closer _ = false
 
 abbrev pub is_else : Form → Bool
 is_else BeginsElse = true
 is_else _ = false
 
--- a closing operator that begins another part
-abbrev pub is_part : Form → Bool
-is_part BeginsElse = true
-is_part (BeginsCatch all types) = true
-is_part _ = false
+abbrev pub is_separator : Form → Bool
+is_separator BeginsElse = true
+is_separator (BeginsCatch all types) = true
+is_separator _ = false
 
--- c is the place of the closer
+-- the delimiters of a block among the forms that follow from place k on, where so many blocks stand
+-- open inside it: its separators, and then its closer
+abbrev pub delimiters_from : ℕ → ℕ → List Form → List Delimiter
+delimiters_from depth k [] = []
+delimiters_from depth k (Flat ∷ forms) = delimiters_from depth (suc k) forms
+delimiters_from depth k (Opens h ∷ forms) = delimiters_from (suc depth) (suc k) forms
+delimiters_from zero k (BeginsElse ∷ forms) = delimiter k BeginsElse ∷ delimiters_from zero (suc k) forms
+delimiters_from zero k (BeginsCatch all types ∷ forms) =
+    delimiter k (BeginsCatch all types) ∷ delimiters_from zero (suc k) forms
+delimiters_from zero k (Ends ∷ forms) = delimiter k Ends ∷ []
+delimiters_from zero k (Delegates ∷ forms) = delimiter k Delegates ∷ []
+delimiters_from (suc depth) k (BeginsElse ∷ forms) = delimiters_from (suc depth) (suc k) forms
+delimiters_from (suc depth) k (BeginsCatch all types ∷ forms) = delimiters_from (suc depth) (suc k) forms
+delimiters_from (suc depth) k (Ends ∷ forms) = delimiters_from depth (suc k) forms
+delimiters_from (suc depth) k (Delegates ∷ forms) = delimiters_from depth (suc k) forms
+
+abbrev pub forms_of : List Operator → List Form
+forms_of code = map (λ (op : Operator). op.form) code
+
+-- the delimiters of what began at place b, an opener or a separator, from there on
+abbrev pub delimiters : List Operator → ℕ → List Delimiter
+delimiters code b = delimiters_from 0 (suc b) (forms_of (drop (suc b) code))
+
+-- at place c stands a delimiter of this form, of what began at place b
+abbrev pub IsDelimiter : List Operator → ℕ → ℕ → Form → Type 0
+IsDelimiter code b c form = (j : ℕ) × (slice_get (delimiters code b) j ≡ Some (delimiter c form))
+
+-- at place c stands the closer of what began at place b
 abbrev pub IsCloser : List Operator → ℕ → ℕ → Type 0
-IsCloser code b c = (form : Form) × IsMark code b c form × (is_closing form ≡ true)
+IsCloser code b c = (form : Form) × IsDelimiter code b c form × IsTrue (is_closer form)
 
-abbrev pub without_else_at : Bool → Bool → Bool
-without_else_at true more = false
-without_else_at false more = more
+abbrev pub has_no_else : List Delimiter → Bool
+has_no_else [] = true
+has_no_else (d ∷ ds) = not (is_else d.form) && has_no_else ds
 
--- no `else` is among the marks
-abbrev pub without_else : List Mark → Bool
-without_else [] = true
-without_else (m ∷ ms) = without_else_at (is_else m.form) (without_else ms)
+-- what began at place b, an `if`, has no `else`
+abbrev pub HasNoElse : List Operator → ℕ → Type 0
+HasNoElse code b = IsTrue (has_no_else (delimiters code b))
 
--- ---- what an operator demands before it can run (Specification, "Execution: Instructions": what is
--- asserted there "due to validation")
+-- ---- where the machine stands
+
+-- an operator and its place, the innermost label, those outside it, and the set locals
+-- (Specification, "Runtime Structure: Configurations")
+pub record Configuration : Type 0 where
+  pub place : ℕ
+  pub label : Label
+  pub outer : List Label
+  pub set : List ℕ
+  pub op : Operator
+
+abbrev pub configuration : ℕ → Label → List Label → List ℕ → Operator → Configuration
+configuration k l outer set op = record { place = k; label = l; outer = outer; set = set; op = op }
 
 abbrev pub label_heads : List Label → List Head
-label_heads ls = map (λ l. l.head) ls
+label_heads ls = map (λ (l : Label). l.head) ls
 
--- the label read as a live frame, all of whose operands are known
-abbrev pub frame_of : Label → Frame
-frame_of l = record { head = l.head; own = map Known l.own; dead = false; first_set = [] }
+abbrev pub labels_at : Configuration → List Label
+labels_at here = here.label ∷ here.outer
 
--- the n operands on top, turned as a row writes its lists: the last on top
-abbrev pub top : ℕ → List ValType → List ValType
-top n own = onto (take n own) []
+-- the row of an operator where these labels are open
+abbrev pub row_in : List Label → Operator → Row
+row_in labels op = op.row (label_heads labels)
 
--- and those below them
-abbrev pub rest : ℕ → List ValType → List ValType
-rest n own = drop n own
+abbrev pub row_at : Configuration → Row
+row_at here = row_in (labels_at here) here.op
 
--- the first of these labels exists, and the types are below its own
-abbrev pub Reaches : Context → List Label → List ValType → Type 0
-Reaches cx [] types = ⊥
-Reaches cx (l ∷ ls) types = AllBelow cx types (label_types cx l.head)
+-- the n operands on top, as a row writes its lists: the last on top
+abbrev pub types_on_top : ℕ → List ValType → List ValType
+types_on_top n own = onto (take n own) []
 
--- the demand of the operator at place k, in the innermost label l
-pub record Demand (cx : Context) (code : List Operator) (k : ℕ) (l : Label) (ls : List Label) (set : List ℕ) (op : Operator) : Type 0 where
-  -- its row holds
-  pub row : (pushed : List MaybeType) × (pushes cx op (label_heads (l ∷ ls)) set (frame_of l) ≡ Some pushed)
-  -- each label that it may reach exists, and what it would carry there is below the label's types
-  pub targets : (j : ℕ) (t : Target) → slice_get (op.row (label_heads (l ∷ ls))).targets j ≡ Some t → Reaches cx (drop t.depth (l ∷ ls)) (t.carried (top (takes (op.row (label_heads (l ∷ ls))).operands) l.own))
-  pub clauses : (j : ℕ) (c : Clause) → slice_get (op.row (label_heads (l ∷ ls))).clauses j ≡ Some c → Reaches cx (drop c.depth (l ∷ ls)) c.types
-  -- an `if` without `else` gives the operands taken for its parameters as its results
-  pub no_else : (h : Head) → op.form ≡ Opens h → is_if h.kind ≡ true → without_else (marks code k) ≡ true → AllBelow cx (take (length (params cx h)) (top (takes (op.row (label_heads (l ∷ ls))).operands) l.own)) (results cx h)
+abbrev pub operands_taken : Configuration → List ValType
+operands_taken here = types_on_top (operands_wanted (row_at here).type) here.label.operands
 
--- The demand at the machine's place; an end demands nothing. A run is stuck where it is false: an
--- operand, a label, a set local or the operator itself is missing, or a type is wrong. It isn't read
--- from an absence of steps, so an exception that could be caught hides nothing (the crate's own).
-abbrev pub Demands : Context → List Operator → Machine → Type 0
-Demands cx code (At k [] set) = ⊥
-Demands cx code (At k (l ∷ ls) set) = (op : Operator) × (slice_get code k ≡ Some op) × Demand cx code k l ls set op
-Demands cx code (Returned types) = Unit {0}
-Demands cx code Trapped = Unit {0}
-Demands cx code LeftByException = Unit {0}
-Demands cx code LeftBySuspension = Unit {0}
+-- the label without the operands that the operator takes
+abbrev pub label_below : Configuration → Label
+label_below here =
+    record here.label { operands = drop (operands_wanted (row_at here).type) here.label.operands }
 
--- ---- steps
+-- the labels once the operator has taken its operands and left these types in their place
+abbrev pub labels_with : List ValType → Configuration → List Label
+labels_with types here = label_with types (label_below here) ∷ here.outer
+
+-- the labels once the operator has taken its operands and opened this label
+abbrev pub labels_inside : Label → Configuration → List Label
+labels_inside l here = l ∷ label_below here ∷ here.outer
+
+-- the label read as a frame of the validator: live, and all its operands known
+abbrev pub live_frame : Label → Frame
+live_frame l = record { head = l.head; operands = map Known l.operands; dead = false; first_set = [] }
+
+-- what the operator pushes by the rules of validation, read over the label's operands
+abbrev pub pushed_types_at : Context → Configuration → Option (List MaybeType)
+pushed_types_at cx here =
+    pushed_types cx here.op (label_heads (labels_at here)) here.set (live_frame here.label)
+
+-- ---- what a step comes to
 
 -- a local that is set stays so, whatever closes (Specification, "local.set")
 abbrev pub set_after : Option ℕ → List ℕ → List ℕ
 set_after None set = set
 set_after (Some i) set = i ∷ set
 
--- these types, given to the next outer label or returned, and on at this place
-abbrev pub given_out : ℕ → List ValType → List Label → List ℕ → Machine
-given_out k types [] set = Returned types
-given_out k types (l ∷ ls) set = At k (record l { own = onto types l.own } ∷ ls) set
+-- On at this place, in the first of these labels, with these types given to it; or a return of them,
+-- where none is left open (Specification, "Execution: Blocks": exiting).
+abbrev pub machine_after_exit : ℕ → List ValType → List Label → List ℕ → Machine
+machine_after_exit k types [] set = Returned types
+machine_after_exit k types (l ∷ outer) set = At k (label_with types l ∷ outer) set
 
--- a branch to a label with others outside it, by whether it is a loop
-abbrev pub ArrivesBy : List Operator → Bool → Label → List Label → List ℕ → List ValType → Machine → Type 0
-ArrivesBy code true l outer set types next = next ≡ At (suc l.began) (record l { own = onto types [] } ∷ outer) set
-ArrivesBy code false l outer set types next = (c : ℕ) × IsCloser code l.began c × (next ≡ given_out (suc c) types outer set)
+-- at the place after what began the label, in it anew, with these types
+abbrev pub restart : Label → List Label → List ℕ → List ValType → Machine
+restart l outer set types = At (suc l.began) (opened_label l.began l.head types ∷ outer) set
 
--- What a branch to the label l, with these labels outside it, comes to with these types: for a
--- loop the place after its opener, in its label, for another the place after its closer, outside
--- it, and from the outermost label a return (Specification, "br", "return").
-abbrev pub Arrives : List Operator → Label → List Label → List ℕ → List ValType → Machine → Type 0
-Arrives code l [] set types next = next ≡ Returned types
-Arrives code l (o ∷ outer) set types next = ArrivesBy code (is_loop l.head.kind) l (o ∷ outer) set types next
+-- the first of these labels exists, and takes these types
+abbrev pub LabelAccepts : Context → List Label → List ValType → Type 0
+LabelAccepts cx [] types = ⊥
+LabelAccepts cx (l ∷ outer) types = AllBelow cx types (label_types cx l.head)
 
--- A branch to the first of these labels, with any types below those that are carried: inner labels
--- and the other operands go.
-pub record Branches (cx : Context) (code : List Operator) (labels : List Label) (set : List ℕ) (carried : List ValType) (next : Machine) : Type 0 where
-  pub label : Label
-  pub outer : List Label
-  pub is : labels ≡ label ∷ outer
-  pub types : List ValType
-  pub below : AllBelow cx types carried
-  pub arrives : Arrives code label outer set types next
+module _ (cx : Context) (code : List Operator) where
+  -- ---- what an operator demands before it can run (Specification, "Execution: Instructions": what is
+  -- asserted there "due to validation")
 
--- The outcomes of an operator whose demand holds. Any that applies may come: this over-approximates
--- which way a test goes, what is thrown where, and what traps.
-pub data Outcome (cx : Context) (code : List Operator) (k : ℕ) (l : Label) (ls : List Label) (set : List ℕ) (op : Operator) (next : Machine) : Type 0 where
-  -- go on, with any types below those that are pushed
-  GoesOn : (pushed us : List ValType) → op.form ≡ Flat → (op.row (label_heads (l ∷ ls))).dead ≡ false → pushes cx op (label_heads (l ∷ ls)) set (frame_of l) ≡ Some (map Known pushed) → AllBelow cx us pushed → next ≡ At (suc k) (record l { own = onto us (rest (takes (op.row (label_heads (l ∷ ls))).operands) l.own) } ∷ ls) (set_after (op.row (label_heads (l ∷ ls))).sets set) → Outcome cx code k l ls set op next
-  -- into what an opener opens, with any types below its parameters; of an `if`, into the first part,
-  -- into the part after `else`, or, without one, behind the closer
-  Enters : (h : Head) (us : List ValType) → op.form ≡ Opens h → AllBelow cx us (params cx h) → next ≡ At (suc k) (record { began = k; head = h; own = onto us [] } ∷ record l { own = rest (takes (op.row (label_heads (l ∷ ls))).operands) l.own } ∷ ls) set → Outcome cx code k l ls set op next
-  EntersElse : (h : Head) (c : ℕ) (us : List ValType) → op.form ≡ Opens h → is_if h.kind ≡ true → IsMark code k c BeginsElse → AllBelow cx us (params cx h) → next ≡ At (suc c) (record { began = c; head = of_kind Else h; own = onto us [] } ∷ record l { own = rest (takes (op.row (label_heads (l ∷ ls))).operands) l.own } ∷ ls) set → Outcome cx code k l ls set op next
-  SkipsIf : (h : Head) (c : ℕ) (us : List ValType) → op.form ≡ Opens h → is_if h.kind ≡ true → without_else (marks code k) ≡ true → IsCloser code k c → AllBelow cx us (results cx h) → next ≡ At (suc c) (record l { own = onto us (rest (takes (op.row (label_heads (l ∷ ls))).operands) l.own) } ∷ ls) set → Outcome cx code k l ls set op next
-  -- a branch to any label that the row names: a return too, or a handler of a resumed continuation
-  Jumps : (j : ℕ) (t : Target) → op.form ≡ Flat → slice_get (op.row (label_heads (l ∷ ls))).targets j ≡ Some t → Branches cx code (drop t.depth (l ∷ ls)) set (t.carried (top (takes (op.row (label_heads (l ∷ ls))).operands) l.own)) next → Outcome cx code k l ls set op next
-  -- the end of a frame, and of a part that another one follows: behind the closer, with any types
-  -- below the results
-  Closes : (us : List ValType) → is_closing op.form ≡ true → AllBelow cx us (results cx l.head) → next ≡ given_out (suc k) us ls set → Outcome cx code k l ls set op next
-  Passes : (c : ℕ) (us : List ValType) → is_part op.form ≡ true → IsCloser code l.began c → AllBelow cx us (results cx l.head) → next ≡ given_out (suc c) us ls set → Outcome cx code k l ls set op next
-  -- an exception, raised at any operator and caught by any clause of any open `try_table`: a branch to
-  -- its label, counted outside the `try_table`
-  Catches : (i : ℕ) (label : Label) (outer : List Label) (opener : Operator) (j : ℕ) (c : Clause) → drop i (l ∷ ls) ≡ label ∷ outer → is_try_table label.head.kind ≡ true → slice_get code label.began ≡ Some opener → slice_get (opener.row (label_heads outer)).clauses j ≡ Some c → Branches cx code (drop c.depth outer) set c.types next → Outcome cx code k l ls set op next
-  -- or by any `catch` or `catch_all` of a label in its `try` part, which begins with any types below
-  -- the tag's parameters (`delegate` and `rethrow` are among these choices)
-  CatchesLegacy : (i : ℕ) (label : Label) (outer : List Label) (c : ℕ) (all : Bool) (types us : List ValType) → drop i (l ∷ ls) ≡ label ∷ outer → is_try label.head.kind ≡ true → IsMark code label.began c (BeginsCatch all types) → AllBelow cx us types → next ≡ At (suc c) (record { began = c; head = of_kind (catch_kind all) label.head; own = onto us [] } ∷ outer) set → Outcome cx code k l ls set op next
-  -- at any operator
-  Traps : next ≡ Trapped → Outcome cx code k l ls set op next
-  Raises : next ≡ LeftByException → Outcome cx code k l ls set op next
-  Suspends : next ≡ LeftBySuspension → Outcome cx code k l ls set op next
+  pub record Demand (here : Configuration) : Type 0 where
+    -- its row holds: the operands are there and fit, and the local that it reads is set
+    pub row : (pushed : List MaybeType) × (pushed_types_at cx here ≡ Some pushed)
+    -- each label that it may branch to exists, and takes what the branch carries there
+    pub targets :
+        (j : ℕ) (t : Target) → slice_get (row_at here).targets j ≡ Some t →
+        LabelAccepts cx (drop t.depth (labels_at here)) (t.carried (operands_taken here))
+    -- and so does the label of each clause of a `try_table`
+    pub clauses :
+        (j : ℕ) (c : Clause) → slice_get (row_at here).clauses j ≡ Some c →
+        LabelAccepts cx (drop c.depth (labels_at here)) c.types
+    -- an `if` without `else` gives the operands taken for its parameters as its results
+    pub no_else :
+        (h : Head) → here.op.form ≡ Opens h → IsTrue (is_if h.kind) → HasNoElse code here.place →
+        AllBelow cx (take (length (params cx h)) (operands_taken here)) (results cx h)
 
--- one step: an outcome of the operator at the state's place, where its demand holds
-abbrev pub Step : Context → List Operator → Machine → Machine → Type 0
-Step cx code (At k (l ∷ ls) set) next = (op : Operator) × (slice_get code k ≡ Some op) × Demand cx code k l ls set op × Outcome cx code k l ls set op next
-Step cx code _ next = ⊥
+  -- The machine is at an end, or the demand at its place holds. A run is stuck where this is false: an
+  -- operand, a label, a set local or the operator itself is missing, or a type is wrong. It isn't read
+  -- from an absence of steps, so an exception that could be caught hides nothing (the crate's own).
+  abbrev pub IsNotStuck : Machine → Type 0
+  IsNotStuck (At k [] set) = ⊥
+  IsNotStuck (At k (l ∷ outer) set) =
+      (op : Operator) × (slice_get code k ≡ Some op) × Demand (configuration k l outer set op)
+  IsNotStuck (Returned types) = Unit {0}
+  IsNotStuck Trapped = Unit {0}
+  IsNotStuck LeftByException = Unit {0}
+  IsNotStuck LeftBySuspension = Unit {0}
 
--- n steps
-abbrev pub Run : Context → List Operator → ℕ → Machine → Machine → Type 0
-Run cx code zero m next = m ≡ next
-Run cx code (suc n) m next = (mid : Machine) × Run cx code n m mid × Step cx code mid next
+  -- ---- branches
 
--- place 0, one empty label, and no local set but those that are when the body begins
-abbrev pub first : BlockType → Machine
-first ty = At 0 (record { began = 0; head = body_head ty; own = [] } ∷ []) []
+  -- out of the label l, to the place after its closer, with these types
+  abbrev pub Exits : Label → List Label → List ℕ → List ValType → Machine → Type 0
+  Exits l outer set types next =
+      (c : ℕ) × IsCloser code l.began c × (next ≡ machine_after_exit (suc c) types outer set)
+
+  -- What a branch to the label l, with these labels outside it, comes to with these types: a loop
+  -- begins again, another block is left, and from the outermost label the body returns
+  -- (Specification, "Execution: Control Instructions", br, return).
+  abbrev pub Arrives : Label → List Label → List ℕ → List ValType → Machine → Type 0
+  Arrives l [] set types next = next ≡ Returned types
+  Arrives l (o ∷ outer) set types next =
+      MatchBool (is_loop l.head.kind)
+      (next ≡ restart l (o ∷ outer) set types)
+      (Exits l (o ∷ outer) set types next)
+
+  -- A branch to the first of these labels, with any types below those that are carried: the labels
+  -- inside it and the other operands go.
+  pub record Branches
+      (labels : List Label) (set : List ℕ) (carried : List ValType) (next : Machine) : Type 0 where
+    pub label : Label
+    pub outer : List Label
+    pub is : labels ≡ label ∷ outer
+    pub types : List ValType
+    pub below : AllBelow cx types carried
+    pub arrives : Arrives label outer set types next
+
+  -- ---- the outcomes of an operator whose demand holds: what each needs, and the state `next` to which
+  -- it comes
+
+  -- On at the next place: the operands that it takes go, and any types below those that it pushes come
+  -- (Specification, "Execution: Instructions", each instruction that neither begins, ends nor leaves
+  -- a block).
+  pub record GoesOn (here : Configuration) (next : Machine) : Type 0 where
+    pub flat : here.op.form ≡ Flat
+    pub live : IsFalse (row_at here).ends_live
+    pub pushed : List ValType
+    pub pushes : pushed_types_at cx here ≡ Some (map Known pushed)
+    pub types : List ValType
+    pub below : AllBelow cx types pushed
+    pub is : next ≡ At (suc here.place) (labels_with types here) (set_after (row_at here).sets here.set)
+
+  -- Into what it opens, of an `if` into its first part, with any types below the parameters
+  -- (Specification, "Execution: Control Instructions", block, loop, if, try_table; "Blocks": entering).
+  pub record Enters (here : Configuration) (next : Machine) : Type 0 where
+    pub head : Head
+    pub opens : here.op.form ≡ Opens head
+    pub types : List ValType
+    pub below : AllBelow cx types (params cx head)
+    pub is : next ≡ At (suc here.place) (labels_inside (opened_label here.place head types) here) here.set
+
+  -- of an `if`, into the part after its `else` (Specification, "if")
+  pub record EntersElse (here : Configuration) (next : Machine) : Type 0 where
+    pub head : Head
+    pub opens : here.op.form ≡ Opens head
+    pub kind_is_if : IsTrue (is_if head.kind)
+    pub place : ℕ
+    pub is_its_else : IsDelimiter code here.place place BeginsElse
+    pub types : List ValType
+    pub below : AllBelow cx types (params cx head)
+    pub is :
+        next ≡ At (suc place) (labels_inside (opened_label place (of_kind Else head) types) here) here.set
+
+  -- of an `if` without `else`, to the place after its closer, with any types below its results: the
+  -- absent part is an empty one (Specification, "if")
+  pub record SkipsIf (here : Configuration) (next : Machine) : Type 0 where
+    pub head : Head
+    pub opens : here.op.form ≡ Opens head
+    pub kind_is_if : IsTrue (is_if head.kind)
+    pub no_else : HasNoElse code here.place
+    pub closer : ℕ
+    pub is_its_closer : IsCloser code here.place closer
+    pub types : List ValType
+    pub below : AllBelow cx types (results cx head)
+    pub is : next ≡ At (suc closer) (labels_with types here) here.set
+
+  -- A branch to any label that its row names, with what the row carries there: a return too, or a
+  -- handler of a resumed continuation (Specification, "br", "br_if", "br_table", "return").
+  pub record Jumps (here : Configuration) (next : Machine) : Type 0 where
+    pub flat : here.op.form ≡ Flat
+    pub index : ℕ
+    pub target : Target
+    pub is_its_target : slice_get (row_at here).targets index ≡ Some target
+    pub branches :
+        Branches (drop target.depth (labels_at here)) here.set (target.carried (operands_taken here)) next
+
+  -- the end of a block: on after it, with any types below its results (Specification, "Execution:
+  -- Blocks": exiting)
+  pub record Closes (here : Configuration) (next : Machine) : Type 0 where
+    pub closes : IsTrue (is_closer here.op.form)
+    pub types : List ValType
+    pub below : AllBelow cx types (results cx here.label.head)
+    pub is : next ≡ machine_after_exit (suc here.place) types here.outer here.set
+
+  -- the end of a part that another part follows: on after the closer of the block, with such types
+  pub record EndsPart (here : Configuration) (next : Machine) : Type 0 where
+    pub separates : IsTrue (is_separator here.op.form)
+    pub types : List ValType
+    pub below : AllBelow cx types (results cx here.label.head)
+    pub exits : Exits here.label here.outer here.set types next
+
+  -- An exception, raised at any operator and caught by any clause of any open `try_table`: a branch to
+  -- the clause's label, counted outside the `try_table` (Specification, "throw_ref").
+  pub record Catches (here : Configuration) (next : Machine) : Type 0 where
+    pub depth : ℕ
+    pub label : Label
+    pub outer : List Label
+    pub is_open : drop depth (labels_at here) ≡ label ∷ outer
+    pub kind_is_try_table : IsTrue (is_try_table label.head.kind)
+    pub opener : Operator
+    pub is_its_opener : slice_get code label.began ≡ Some opener
+    pub index : ℕ
+    pub clause : Clause
+    pub is_its_clause : slice_get (row_in outer opener).clauses index ≡ Some clause
+    pub branches : Branches (drop clause.depth outer) here.set clause.types next
+
+  -- An exception, caught by any `catch` or `catch_all` of a label in its `try` part: into that part,
+  -- with any types below the tag's parameters (legacy exceptions; `delegate` and `rethrow` are among
+  -- these choices).
+  pub record CatchesLegacy (here : Configuration) (next : Machine) : Type 0 where
+    pub depth : ℕ
+    pub label : Label
+    pub outer : List Label
+    pub is_open : drop depth (labels_at here) ≡ label ∷ outer
+    pub kind_is_try : IsTrue (is_try label.head.kind)
+    pub place : ℕ
+    pub all : Bool
+    pub caught : List ValType
+    pub is_its_catch : IsDelimiter code label.began place (BeginsCatch all caught)
+    pub types : List ValType
+    pub below : AllBelow cx types caught
+    pub is :
+        next
+        ≡ At (suc place) (opened_label place (of_kind (catch_kind all) label.head) types ∷ outer) here.set
+
+  -- Any outcome that applies may come: this over-approximates which way a test goes, what is thrown
+  -- where, and what traps. The last five may come at any operator.
+  pub data Outcome (here : Configuration) (next : Machine) : Type 0 where
+    goes_on : GoesOn here next → Outcome here next
+    enters : Enters here next → Outcome here next
+    enters_else : EntersElse here next → Outcome here next
+    skips_if : SkipsIf here next → Outcome here next
+    jumps : Jumps here next → Outcome here next
+    closes : Closes here next → Outcome here next
+    ends_part : EndsPart here next → Outcome here next
+    catches : Catches here next → Outcome here next
+    catches_legacy : CatchesLegacy here next → Outcome here next
+    traps : next ≡ Trapped → Outcome here next
+    raises : next ≡ LeftByException → Outcome here next
+    suspends : next ≡ LeftBySuspension → Outcome here next
+
+  -- ---- steps and runs
+
+  -- an outcome of the operator at the machine's place, where its demand holds; an end takes no step
+  abbrev pub Step : Machine → Machine → Type 0
+  Step (At k (l ∷ outer) set) next =
+      (op : Operator) × (slice_get code k ≡ Some op) × Demand (configuration k l outer set op)
+      × Outcome (configuration k l outer set op) next
+  Step _ next = ⊥
+
+  -- n steps
+  abbrev pub Run : ℕ → Machine → Machine → Type 0
+  Run zero m next = m ≡ next
+  Run (suc n) m next = (mid : Machine) × Run n m mid × Step mid next

@@ -2,7 +2,7 @@
 
 ghost use Rattle.std.specs.Prelude.{◌≡◌, ◌+◌, ◌<◌, ◌≤◌, ◌↔◌, [], ◌∷◌, ◌++◌, true, length, take, drop, replicate, not, IsTrue, IfOk, OnOk, OnErr, IsOk, MatchOption};
 ghost use Rattle.validate_types.specs.Types.{is_defaultable};
-ghost use Rattle.validate_locals.specs.Inits.{is_set, order_with, AreFresh};
+ghost use Rattle.validate_locals.specs.Inits.{is_recorded_set, order_with, AreFresh};
 
 use std::alloc::Global;
 use std::marker::Model;
@@ -18,13 +18,13 @@ pub struct LocalInits {
 
 impl Model for LocalInits {
     ghost use Rattle.std.specs.Vec.{vec_capacity};
-    ghost use Rattle.validate_locals.specs.Inits.{Inits, cleared, IsMarked};
+    ghost use Rattle.validate_locals.specs.Inits.{Inits, marks_without, IsMarked};
 
     ghost Value = { Inits };
 
-    ghost view = { λ a. record { base = cleared a.inits.items a.local_inits.items; order = a.inits.items; room = vec_capacity a.inits; declared_room = vec_capacity a.local_inits } };
+    ghost view = { λ a. record { base = marks_without a.inits.items a.local_inits.items; order = a.inits.items; room = vec_capacity a.inits; declared_room = vec_capacity a.local_inits } };
 
-    ghost invariant = { λ a. IsMarked (cleared a.inits.items a.local_inits.items) a.inits.items a.local_inits.items };
+    ghost invariant = { λ a. IsMarked (marks_without a.inits.items a.local_inits.items) a.inits.items a.local_inits.items };
 }
 
 impl LocalInits {
@@ -93,7 +93,8 @@ impl LocalInits {
     /// Declares `count` more locals of this type: they are set from the start where it has a default
     /// value. Want of memory changes nothing, and there is none where there is room.
     pub fn define_locals(&mut self, count: u32, ty: ValType) -> Result<(), OutOfMemory>
-        ensures declared { OnOk result (self.new.base ≡ self.old.base ++ replicate count (is_defaultable ty)) }
+        ensures declared { OnOk result (self.new.base ≡ self.old.base ++ replicate count
+            (is_defaultable ty)) }
         ensures order { self.new.order ≡ self.old.order }
         ensures room { self.new.room ≡ self.old.room }
         ensures declared_room { self.old.declared_room ≤ self.new.declared_room }
@@ -139,7 +140,7 @@ impl LocalInits {
     /// Whether the local at this index isn't set.
     pub fn is_uninit(&self, index: u32) -> bool
         requires { index < length self.now.base }
-        ensures { result ≡ not (is_set self.now index) }
+        ensures { result ≡ not (is_recorded_set self.now index) }
     {
         !self.local_inits[index as usize]
     }
@@ -153,7 +154,7 @@ impl LocalInits {
         ensures room { self.old.room ≤ self.new.room }
         ensures declared_room { self.new.declared_room ≡ self.old.declared_room }
         ensures succeeds { length self.old.order < self.old.room → IsOk result }
-        ensures already { is_set self.old index ≡ true → IsOk result }
+        ensures already { is_recorded_set self.old index ≡ true → IsOk result }
         ensures err { OnErr result (self.new ≡ self.old) }
     {
         if self.local_inits[index as usize] {
@@ -167,7 +168,8 @@ impl LocalInits {
 
     /// Unsets the local that was set last, and answers it.
     fn pop_one(&mut self) -> Option<u32>
-        ensures order { MatchOption result ((self.old.order ≡ []) × (self.new.order ≡ [])) (λ i. self.old.order ≡ self.new.order ++ i ∷ []) }
+        ensures order { MatchOption result ((self.old.order ≡ []) × (self.new.order ≡ []))
+            (λ i. self.old.order ≡ self.new.order ++ i ∷ []) }
         ensures base { self.new.base ≡ self.old.base }
         ensures room { self.new.room ≡ self.old.room }
         ensures declared_room { self.new.declared_room ≡ self.old.declared_room }
@@ -212,5 +214,18 @@ impl LocalInits {
         let reset = Vec::from_slice(self.allocator(), self.set_since(height))?;
         self.drop_ctrl(height);
         Ok(reset)
+    }
+
+    /// Sets again what was unset, in order, within the room. It takes no memory.
+    pub fn put_back(&mut self, reset: &[u32])
+        requires fresh { AreFresh self.old.base (self.old.order ++ reset.now) }
+        requires room { length (self.old.order ++ reset.now) ≤ self.old.room }
+        ensures order { self.new.order ≡ self.old.order ++ reset.now }
+        ensures base { self.new.base ≡ self.old.base }
+        ensures room { self.old.room ≤ self.new.room }
+    {
+        for index in reset {
+            self.set_init(*index).unwrap();
+        }
     }
 }

@@ -1,8 +1,9 @@
 -- What a validator knows of a module: its meaning, and the laws of the order on types
 -- (WebAssembly core specification, "Types" and "Validation: Matching").
-use Rattle.std.specs.Prelude.{◌≡◌, ℕ, Bool, true, false, Option, Some, is_some}
+use Rattle.std.specs.Prelude.{◌≡◌, ℕ, Bool, List, true, false, ◌&&◌, Option, Some, is_some}
 use Rattle.std.specs.List.{AllByRecursion}
-use Rattle.validate_types.specs.Refs.{reference, fits_reference, non_null, with_null}
+use Rattle.validate_types.specs.Heap.{is_small}
+use Rattle.validate_types.specs.Refs.{fits_reference, non_null, with_null}
 use Rattle.validate_types.specs.Types.{Signature, index_type, table_index_type}
 use Rattle.validate_types.specs.declared.features.WasmFeatures.{WasmFeatures}
 use Rattle.validate_types.specs.declared.heap.CoreTypeId.{CoreTypeId}
@@ -46,26 +47,30 @@ pub record ModuleContext : Type 0 where
   pub canonical_ref : RefType → Option RefType
   pub canonical_heap : HeapType → Option HeapType
 
--- ---- types that are valid and canonical: each index in them is an id that the lookup knows
+-- ---- types that are valid and canonical: each index in them is the id of a type
 
-abbrev pub valid_index : ModuleContext → UnpackedIndex → Bool
-valid_index cx (Module i) = false
-valid_index cx (Id id) = is_some (cx.type_of_id id)
+-- an id that the lookup knows, and to which a reference can be made
+abbrev pub is_valid_index : ModuleContext → UnpackedIndex → Bool
+is_valid_index md (Module i) = false
+is_valid_index md (Id id) = is_some (md.type_of_id id) && is_small (Id id)
 
-abbrev pub valid_heap : ModuleContext → HeapType → Bool
-valid_heap cx (Abstract shared ty) = true
-valid_heap cx (Concrete i) = valid_index cx i
+abbrev pub is_valid_heap : ModuleContext → HeapType → Bool
+is_valid_heap md (Abstract shared ty) = true
+is_valid_heap md (Concrete i) = is_valid_index md i
 
 -- a number or vector type has no index
-abbrev pub valid : ModuleContext → ValType → Bool
-valid cx (Ref r) = valid_heap cx r.heap_type
-valid cx _ = true
+abbrev pub is_valid : ModuleContext → ValType → Bool
+is_valid md (Ref r) = is_valid_heap md r.heap_type
+is_valid md _ = true
 
 abbrev pub Valid : ModuleContext → ValType → Type 0
-Valid cx t = valid cx t ≡ true
+Valid md t = is_valid md t ≡ true
 
-abbrev pub IsBelow : ModuleContext → ValType → ValType → Type 0
-IsBelow cx t u = cx.below t u ≡ true
+abbrev pub AllValid : ModuleContext → List ValType → Type 0
+AllValid md ts = AllByRecursion (Valid md) ts
+
+abbrev pub IsTypeBelow : ModuleContext → ValType → ValType → Type 0
+IsTypeBelow md t u = md.below t u ≡ true
 
 -- a number or vector type
 abbrev pub is_number : ValType → Bool
@@ -73,13 +78,13 @@ is_number (Ref r) = false
 is_number _ = true
 
 -- twice the same number or vector type
-abbrev pub same_number : ValType → ValType → Bool
-same_number I32 I32 = true
-same_number I64 I64 = true
-same_number F32 F32 = true
-same_number F64 F64 = true
-same_number V128 V128 = true
-same_number _ _ = false
+abbrev pub is_same_number : ValType → ValType → Bool
+is_same_number I32 I32 = true
+is_same_number I64 I64 = true
+is_same_number F32 F32 = true
+is_same_number F64 F64 = true
+is_same_number V128 V128 = true
+is_same_number _ _ = false
 
 -- a type of addresses
 abbrev pub is_index_type : ValType → Bool
@@ -97,40 +102,56 @@ signature_of s = inner_signature s.composite_type.inner
 -- ---- the laws of a lookup
 
 -- a type below a reference: a reference of the same sharedness, without null where that has none
-pub record IsBelowReference (cx : ModuleContext) (t : ValType) (r : RefType) : Type 0 where
+pub record IsBelowReference (md : ModuleContext) (t : ValType) (r : RefType) : Type 0 where
   pub lower : RefType
   pub is : t ≡ Ref lower
-  pub same_sharedness : cx.is_shared lower ≡ cx.is_shared r
+  pub same_sharedness : md.is_shared lower ≡ md.is_shared r
   pub without_null : r.nullable ≡ false → lower.nullable ≡ false
 
--- a heap type that a reference can be made to, and that is valid and canonical
-pub record IsCanonicalHeap (cx : ModuleContext) (h : HeapType) : Type 0 where
-  pub is_valid : valid_heap cx h ≡ true
+-- the supertype that a type declares, if it declares one, is valid and canonical
+abbrev pub SupertypeIsValid : ModuleContext → SubType → Type 0
+SupertypeIsValid md s = (u : UnpackedIndex) → s.supertype_idx ≡ Some u → is_valid_index md u ≡ true
+
+-- a heap type that is valid and canonical, and so one that a reference can be made to
+pub record IsCanonicalHeap (md : ModuleContext) (h : HeapType) : Type 0 where
+  pub is_valid : is_valid_heap md h ≡ true
   pub fits : fits_reference h ≡ true
 
-pub record IsLawful (cx : ModuleContext) : Type 0 where
+pub record IsLawful (md : ModuleContext) : Type 0 where
   -- the order is one of valid and canonical types, reflexive and transitive
-  pub valid : (t u : ValType) → IsBelow cx t u → Valid cx t × Valid cx u
-  pub reflexive : (t : ValType) → Valid cx t → IsBelow cx t t
-  pub transitive : (t u v : ValType) → IsBelow cx t u → IsBelow cx u v → IsBelow cx t v
+  pub valid : (t u : ValType) → IsTypeBelow md t u → Valid md t × Valid md u
+  pub reflexive : (t : ValType) → Valid md t → IsTypeBelow md t t
+  pub transitive : (t u v : ValType) → IsTypeBelow md t u → IsTypeBelow md u v → IsTypeBelow md t v
   -- a number or vector type has only itself below it
-  pub number : (t u : ValType) → IsBelow cx t u → is_number u ≡ true → t ≡ u
-  pub below_reference : (t : ValType) (r : RefType) → IsBelow cx t (Ref r) → IsBelowReference cx t r
+  pub number : (t u : ValType) → IsTypeBelow md t u → is_number u ≡ true → t ≡ u
+  pub below_reference : (t : ValType) (r : RefType) → IsTypeBelow md t (Ref r) → IsBelowReference md t r
   -- taking null away keeps the order and goes down, adding it goes up
-  pub non_null_keeps : (r s : RefType) → IsBelow cx (Ref r) (Ref s) → IsBelow cx (Ref (non_null r)) (Ref (non_null s))
-  pub non_null_below : (r : RefType) → Valid cx (Ref r) → IsBelow cx (Ref (non_null r)) (Ref r)
-  pub below_with_null : (r : RefType) → Valid cx (Ref r) → IsBelow cx (Ref r) (Ref (with_null r))
-  -- whatever a look-up hands out is valid and canonical, and a reference can be made to each id
-  pub params : (i : ℕ) (s : SubType) → cx.type_at i ≡ Some s → AllByRecursion (Valid cx) (signature_of s).params
-  pub results : (i : ℕ) (s : SubType) → cx.type_at i ≡ Some s → AllByRecursion (Valid cx) (signature_of s).results
-  pub functions : (f : ℕ) (id : CoreTypeId) → cx.type_id_of f ≡ Some id → IsCanonicalHeap cx (Concrete (Id id))
-  pub tables : (i : ℕ) (t : TableType) → cx.table_at i ≡ Some t → Valid cx (Ref t.element_type)
-  pub globals : (i : ℕ) (g : GlobalType) → cx.global_at i ≡ Some g → Valid cx g.content_type
-  pub elements : (i : ℕ) (r : RefType) → cx.element_at i ≡ Some r → Valid cx (Ref r)
+  pub non_null_keeps : (r s : RefType) → IsTypeBelow md (Ref r) (Ref s)
+      → IsTypeBelow md (Ref (non_null r)) (Ref (non_null s))
+  pub non_null_below : (r : RefType) → Valid md (Ref r) → IsTypeBelow md (Ref (non_null r)) (Ref r)
+  pub below_with_null : (r : RefType) → Valid md (Ref r) → IsTypeBelow md (Ref r) (Ref (with_null r))
+  -- whatever a look-up hands out is valid and canonical: what a declared type is made of, by its index
+  pub params : (i : ℕ) (s : SubType) → md.type_at i ≡ Some s → AllValid md (signature_of s).params
+  pub results : (i : ℕ) (s : SubType) → md.type_at i ≡ Some s → AllValid md (signature_of s).results
+  pub supertype : (i : ℕ) (s : SubType) → md.type_at i ≡ Some s → SupertypeIsValid md s
+  -- or by its id,
+  pub params_of_id : (id : CoreTypeId) (s : SubType) → md.type_of_id id ≡ Some s
+      → AllValid md (signature_of s).params
+  pub results_of_id : (id : CoreTypeId) (s : SubType) → md.type_of_id id ≡ Some s
+      → AllValid md (signature_of s).results
+  pub supertype_of_id : (id : CoreTypeId) (s : SubType) → md.type_of_id id ≡ Some s → SupertypeIsValid md s
+  -- and the types of functions, tables, globals and element segments
+  pub functions : (f : ℕ) (id : CoreTypeId) → md.type_id_of f ≡ Some id
+      → IsCanonicalHeap md (Concrete (Id id))
+  pub tables : (i : ℕ) (t : TableType) → md.table_at i ≡ Some t → Valid md (Ref t.element_type)
+  pub globals : (i : ℕ) (g : GlobalType) → md.global_at i ≡ Some g → Valid md g.content_type
+  pub elements : (i : ℕ) (r : RefType) → md.element_at i ≡ Some r → Valid md (Ref r)
   -- addresses of a memory or a table have 32 or 64 bits
-  pub memory_index : (i : ℕ) (m : MemoryType) → cx.memory_at i ≡ Some m → is_index_type (index_type m) ≡ true
-  pub table_index : (i : ℕ) (t : TableType) → cx.table_at i ≡ Some t → is_index_type (table_index_type t) ≡ true
+  pub memory_index : (i : ℕ) (m : MemoryType) → md.memory_at i ≡ Some m
+      → is_index_type (index_type m) ≡ true
+  pub table_index : (i : ℕ) (t : TableType) → md.table_at i ≡ Some t
+      → is_index_type (table_index_type t) ≡ true
   -- where a check passes, it writes a valid and canonical form
-  pub checked : (features : WasmFeatures) (t u : ValType) → cx.canonical features t ≡ Some u → Valid cx u
-  pub checked_ref : (r s : RefType) → cx.canonical_ref r ≡ Some s → Valid cx (Ref s)
-  pub checked_heap : (h k : HeapType) → cx.canonical_heap h ≡ Some k → IsCanonicalHeap cx k
+  pub checked : (features : WasmFeatures) (t u : ValType) → md.canonical features t ≡ Some u → Valid md u
+  pub checked_ref : (r s : RefType) → md.canonical_ref r ≡ Some s → Valid md (Ref s)
+  pub checked_heap : (h k : HeapType) → md.canonical_heap h ≡ Some k → IsCanonicalHeap md k

@@ -1,7 +1,8 @@
 -- The indices in types, and the canonical forms of types: an id for each index
 -- (WebAssembly core specification, "Types", and "Validation: Types" for the indices that are valid;
 -- an id stands for its "Defined Types").
-use Rattle.std.specs.Prelude.{ℕ, Bool, List, true, false, ◌&&◌, map, nat_lt, Option, Some, None, option_map, ◌++◌, codes, decimal, if◌then◌else◌}
+use Rattle.std.specs.Prelude.{ℕ, Bool, List, true, false, ◌&&◌, map, nat_lt, Option, Some, None, option_map}
+use Rattle.std.specs.Prelude.{◌++◌, codes, decimal, if◌then◌else◌}
 use Rattle.std.specs.List.{list_all}
 use Rattle.validate_types.specs.Heap.{number_of}
 use Rattle.validate_types.specs.Refs.{reference}
@@ -93,7 +94,10 @@ abbrev pub inner_form : CompositeInnerType → CompositeInnerType
 inner_form (Func f) = Func (signature_form f)
 
 abbrev pub sub_form : SubType → SubType
-sub_form s = record s { supertype_idx = option_map index_form s.supertype_idx; composite_type = record s.composite_type { inner = inner_form s.composite_type.inner } }
+sub_form s = record s {
+  supertype_idx = option_map index_form s.supertype_idx;
+  composite_type = record s.composite_type { inner = inner_form s.composite_type.inner };
+}
 
 -- ---- the canonical form of a type of a module of so many types, where it has one
 

@@ -1,7 +1,9 @@
 -- What a lookup over lists keeps.
 use Rattle.validate_resources.specs.declared.lists.ModuleLists.{ModuleLists}
-use Rattle.validate_resources.specs.Lists.{Declared}
+use Rattle.validate_resources.specs.Lists.{Declared, declared_by}
 
 -- what is declared by the lists that it keeps
-abbrev pub declared : ModuleLists → Declared
-declared m = record { types = m.types.items; functions = m.functions.items; tables = m.tables.items; memories = m.memories.items; globals = m.globals.items; elements = m.elements.items; data_count = m.data_count }
+abbrev pub declared_lists : ModuleLists → Declared
+declared_lists m =
+    declared_by m.types.items m.functions.items m.tables.items m.memories.items
+    m.globals.items m.elements.items m.data_count

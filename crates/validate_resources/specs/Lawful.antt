@@ -1,6 +1,10 @@
--- Lists of a module keep the laws.
-use Rattle.std.specs.Prelude.{◌≡◌, ℕ, ◌≤◌, Bool, true, false, ◌&&◌, ◌||◌, not, nat_le, length, slice_get, option_map, Option, Some, None, refl, if◌then◌else◌}
-use Rattle.std.specs.List.{list_all, AllByRecursion}
+-- Proofs, which need no belief: lists of a module keep the laws.
+pub mod Chains
+pub mod Matching
+pub mod Forms
+use Rattle.std.specs.Prelude.{◌≡◌, ℕ, ◌≤◌, Bool, true, false, ◌&&◌, ◌||◌, not, nat_le, length, slice_get}
+use Rattle.std.specs.Prelude.{option_map, Option, Some, None, refl, if◌then◌else◌}
+use Rattle.std.specs.List.{list_all}
 use Rattle.std.proofs.Common.{sym, ◌∙◌, subst, leb-true}
 use Rattle.std.proofs.lemmas.Bool.{and_parts, and_from, or_right}
 use Rattle.std.proofs.lemmas.Option.{cond_some}
@@ -14,12 +18,19 @@ use Rattle.validate_types.specs.declared.types.SubType.{SubType}
 use Rattle.validate_types.specs.declared.types.ValType.{ValType}
 use Rattle.validate_types.specs.declared.types.ValType.TheVariants.{I32, I64, Ref}
 use Rattle.validate_resources.specs.declared.lists.FuncDecl.{FuncDecl}
-use Rattle.validate_resources.specs.Context.{IsLawful, IsBelowReference, IsCanonicalHeap, Valid, is_index_type, signature_of}
-use Rattle.validate_resources.specs.Indices.{is_id, is_known, heap_test, ref_test, type_test, table_test, global_test, sub_test, heap_form, ref_form, type_form, supertype_test}
-use Rattle.validate_resources.specs.Order.{heap_below, supertypes_fit, type_below}
-use Rattle.validate_resources.specs.Lists.{Declared, is_module, indices_test, functions_typed, context_of, valid_below, canonical_under, type_id}
-use Rattle.validate_resources.specs.Matching.{passes-at, heap-shared, ref-reflexive, type-reflexive, type-transitive, number-below, below-ref}
-use Rattle.validate_resources.specs.Forms.{heap-valid, type-valid, inner-valid, heap-canonical, heap-ids, type-ids}
+use Rattle.validate_resources.specs.declared.lists.TheConstants.{MAX_TYPES}
+use Rattle.validate_resources.specs.Context.{ModuleContext, IsLawful, IsBelowReference, IsCanonicalHeap}
+use Rattle.validate_resources.specs.Context.{SupertypeIsValid, Valid, AllValid, is_index_type, signature_of}
+use Rattle.validate_resources.specs.Indices.{is_id, is_known, heap_test, ref_test, type_test, table_test}
+use Rattle.validate_resources.specs.Indices.{global_test, sub_test, heap_form, ref_form, type_form}
+use Rattle.validate_resources.specs.Indices.{supertype_test}
+use Rattle.validate_resources.specs.Order.{heap_below, have_fitting_supertypes, type_below}
+use Rattle.validate_resources.specs.Lists.{Declared, is_module, indices_test, have_known_types, context_of}
+use Rattle.validate_resources.specs.Lists.{valid_below, canonical_under, type_id}
+use Rattle.validate_resources.specs.Lawful.Matching.{passes-at, heap-shared, ref-reflexive, type-reflexive}
+use Rattle.validate_resources.specs.Lawful.Matching.{type-transitive, number-below, below-ref}
+use Rattle.validate_resources.specs.Lawful.Forms.{heap-valid, type-valid, inner-valid, supertype-valid}
+use Rattle.validate_resources.specs.Lawful.Forms.{heap-canonical, heap-ids, type-ids}
 
 index-type-of : (b : Bool) → is_index_type (if b then I64 else I32) ≡ true
 index-type-of true = refl
@@ -40,21 +51,27 @@ parts d t u h =
 from : (d : Declared) (t u : ValType) → type_test (is_id (length d.types)) t ≡ true → type_test (is_id (length d.types)) u ≡ true → type_below d.types t u ≡ true → valid_below d.types t u ≡ true
 from d t u h k e = and_from _ _ (and_from _ _ h k) e
 
+-- what a declared type is made of
+record TypeIsValid (md : ModuleContext) (s : SubType) : Type 0 where
+  params : AllValid md (signature_of s).params
+  results : AllValid md (signature_of s).results
+  supertype : SupertypeIsValid md s
+
 -- what a list that is a module says
 record Facts (d : Declared) : Type 0 where
-  small : length d.types ≤ 1000000
+  small : length d.types ≤ MAX_TYPES
   types : list_all (sub_test (is_id (length d.types))) d.types ≡ true
   tables : list_all (table_test (is_id (length d.types))) d.tables ≡ true
   globals : list_all (global_test (is_id (length d.types))) d.globals ≡ true
   elements : list_all (ref_test (is_id (length d.types))) d.elements ≡ true
-  functions : functions_typed d ≡ true
-  supertypes : supertypes_fit d.types ≡ true
+  functions : have_known_types d ≡ true
+  supertypes : have_fitting_supertypes d.types ≡ true
 
 facts : (d : Declared) → is_module is_id d ≡ true → Facts d
 facts d h =
-    let (a, supertypes) = and_parts (nat_le (length d.types) 1000000 && indices_test (is_id (length d.types)) d.types d.tables d.globals d.elements && functions_typed d) _ h in
-    let (b, functions) = and_parts (nat_le (length d.types) 1000000 && indices_test (is_id (length d.types)) d.types d.tables d.globals d.elements) _ a in
-    let (small, e) = and_parts (nat_le (length d.types) 1000000) _ b in
+    let (a, supertypes) = and_parts (nat_le (length d.types) MAX_TYPES && indices_test (is_id (length d.types)) d.types d.tables d.globals d.elements && have_known_types d) _ h in
+    let (b, functions) = and_parts (nat_le (length d.types) MAX_TYPES && indices_test (is_id (length d.types)) d.types d.tables d.globals d.elements) _ a in
+    let (small, e) = and_parts (nat_le (length d.types) MAX_TYPES) _ b in
     let p = list_all (sub_test (is_id (length d.types))) d.types in
     let q = list_all (table_test (is_id (length d.types))) d.tables in
     let r = list_all (global_test (is_id (length d.types))) d.globals in
@@ -63,10 +80,11 @@ facts d h =
     let (types, tables) = and_parts p _ g in
     record { small = leb-true _ _ small; types = types; tables = tables; globals = globals; elements = elements; functions = functions; supertypes = supertypes }
 
-signature_valid : (d : Declared) → Facts d → (i : ℕ) (s : SubType) → slice_get d.types i ≡ Some s → AllByRecursion (Valid (context_of d)) (signature_of s).params × AllByRecursion (Valid (context_of d)) (signature_of s).results
-signature_valid d m i s h =
-    let e = passes-at (sub_test (is_id (length d.types))) i d.types s m.types h in
-    inner-valid d s.composite_type.inner (and_parts (supertype_test (is_id (length d.types)) s.supertype_idx) _ e).1
+type_valid : (d : Declared) → Facts d → (i : ℕ) (s : SubType) → slice_get d.types i ≡ Some s → TypeIsValid (context_of d) s
+type_valid d m i s h =
+    let p = and_parts (supertype_test (is_id (length d.types)) s.supertype_idx) _ (passes-at (sub_test (is_id (length d.types))) i d.types s m.types h) in
+    let q = inner-valid d m.small s.composite_type.inner p.1 in
+    record { params = q.0; results = q.1; supertype = supertype-valid d m.small s p.0 }
 
 below_parts : (d : Declared) → Facts d → (t : ValType) (r : RefType) → Below d t (Ref r) → IsBelowReference (context_of d) t r
 below_parts d m t r b =
@@ -84,8 +102,8 @@ marked : (d : Declared) (r s : RefType) → Below d (Ref r) (Ref s) → (n m : B
     → valid_below d.types (Ref (record r { nullable = n })) (Ref (record s { nullable = m })) ≡ true
 marked d r s b n m e = from d (Ref (record r { nullable = n })) (Ref (record s { nullable = m })) b.low b.high (and_from _ _ (and_parts (heap_below d.types r.heap_type s.heap_type) _ b.order).0 e)
 
-itself : (d : Declared) (r : RefType) → Valid (context_of d) (Ref r) → Below d (Ref r) (Ref r)
-itself d r h = let v = sym (heap-valid d r.heap_type) ∙ h in record { low = v; high = v; order = ref-reflexive d.types r }
+itself : (d : Declared) → Facts d → (r : RefType) → Valid (context_of d) (Ref r) → Below d (Ref r) (Ref r)
+itself d m r h = let v = sym (heap-valid d m.small r.heap_type) ∙ h in record { low = v; high = v; order = ref-reflexive d.types r }
 
 function_of : (d : Declared) → Facts d → (f : ℕ) (id : CoreTypeId) (o : Option FuncDecl) → slice_get d.functions f ≡ o → option_map (λ (f : FuncDecl). type_id f.type_index) o ≡ Some id → IsCanonicalHeap (context_of d) (Concrete (Id id))
 function_of d m f id None is h = cc
@@ -94,36 +112,44 @@ function_of d m f id (Some decl) is h =
     subst (λ i. IsCanonicalHeap (context_of d) (Concrete (Id i))) e
     (heap-canonical d (Concrete (Id (type_id decl.type_index))) m.small (passes-at _ f d.functions decl m.functions is))
 
-checked_type : (d : Declared) (features : WasmFeatures) (t u : ValType) → canonical_under (length d.types) features t ≡ Some u → Valid (context_of d) u
-checked_type d features t u h =
+checked_type : (d : Declared) → Facts d → (features : WasmFeatures) (t u : ValType) → canonical_under (length d.types) features t ≡ Some u → Valid (context_of d) u
+checked_type d m features t u h =
     let p = cond_some (type_gate features t && type_test (is_known (length d.types)) t) (type_form t) u h in
-    subst (Valid (context_of d)) p.1 (type-valid d (type_form t) ∙ type-ids (length d.types) t ∙ (and_parts (type_gate features t) _ p.0).1)
+    subst (Valid (context_of d)) p.1 (type-valid d m.small (type_form t) ∙ type-ids (length d.types) t ∙ (and_parts (type_gate features t) _ p.0).1)
 
 pub lawful_lists : (d : Declared) → is_module is_id d ≡ true → IsLawful (context_of d)
 lawful_lists d h =
     let m = facts d h in
     record {
-      valid = λ t u e. let b = parts d t u e in (type-valid d t ∙ b.low, type-valid d u ∙ b.high);
-      reflexive = λ t e. let v = sym (type-valid d t) ∙ e in from d t t v v (type-reflexive d.types t);
+      valid = λ t u e. let b = parts d t u e in (type-valid d m.small t ∙ b.low, type-valid d m.small u ∙ b.high);
+      reflexive = λ t e. let v = sym (type-valid d m.small t) ∙ e in from d t t v v (type-reflexive d.types t);
       transitive = λ t u v e f. let a = parts d t u e in let b = parts d u v f in from d t v a.low b.high (type-transitive d.types m.supertypes t u v a.order b.order);
       number = λ t u e k. number-below d.types t u (parts d t u e).order k;
       below_reference = λ t r e. below_parts d m t r (parts d t (Ref r) e);
       non_null_keeps = λ r s e. marked d r s (parts d (Ref r) (Ref s) e) false false refl;
-      non_null_below = λ r e. marked d r r (itself d r e) false r.nullable (or_right r.nullable true refl);
-      below_with_null = λ r e. marked d r r (itself d r e) r.nullable true refl;
-      params = λ i s e. (signature_valid d m i s e).0;
-      results = λ i s e. (signature_valid d m i s e).1;
+      non_null_below = λ r e. marked d r r (itself d m r e) false r.nullable (or_right r.nullable true refl);
+      below_with_null = λ r e. marked d r r (itself d m r e) r.nullable true refl;
+      params = λ i s e. (type_valid d m i s e).params;
+      results = λ i s e. (type_valid d m i s e).results;
+      supertype = λ i s e. (type_valid d m i s e).supertype;
+      params_of_id = λ id s e. (type_valid d m id.index s e).params;
+      results_of_id = λ id s e. (type_valid d m id.index s e).results;
+      supertype_of_id = λ id s e. (type_valid d m id.index s e).supertype;
       functions = λ f id e. function_of d m f id (slice_get d.functions f) refl e;
-      tables = λ i t e. heap-valid d t.element_type.heap_type ∙ passes-at (table_test (is_id (length d.types))) i d.tables t m.tables e;
-      globals = λ i g e. type-valid d g.content_type ∙ passes-at (global_test (is_id (length d.types))) i d.globals g m.globals e;
-      elements = λ i r e. heap-valid d r.heap_type ∙ passes-at (ref_test (is_id (length d.types))) i d.elements r m.elements e;
+      tables = λ i t e. heap-valid d m.small t.element_type.heap_type ∙ passes-at (table_test (is_id (length d.types))) i d.tables t m.tables e;
+      globals = λ i g e. type-valid d m.small g.content_type ∙ passes-at (global_test (is_id (length d.types))) i d.globals g m.globals e;
+      elements = λ i r e. heap-valid d m.small r.heap_type ∙ passes-at (ref_test (is_id (length d.types))) i d.elements r m.elements e;
       memory_index = λ i t e. index-type-of t.memory64;
       table_index = λ i t e. index-type-of t.table64;
-      checked = checked_type d;
+      checked = checked_type d m;
       checked_ref = λ r s e.
           let p = cond_some (ref_test (is_known (length d.types)) r) (ref_form r) s e in
-          subst (λ x. Valid (context_of d) (Ref x)) p.1 (heap-valid d (heap_form r.heap_type) ∙ heap-ids (length d.types) r.heap_type ∙ p.0);
+          subst (λ x. Valid (context_of d) (Ref x)) p.1 (heap-valid d m.small (heap_form r.heap_type) ∙ heap-ids (length d.types) r.heap_type ∙ p.0);
       checked_heap = λ k l e.
           let p = cond_some (heap_test (is_known (length d.types)) k) (heap_form k) l e in
           subst (IsCanonicalHeap (context_of d)) p.1 (heap-canonical d (heap_form k) m.small (heap-ids (length d.types) k ∙ p.0));
     }
+
+-- there are no more types than a lookup over lists holds
+pub few_types : (d : Declared) → is_module is_id d ≡ true → length d.types ≤ MAX_TYPES
+few_types d h = (facts d h).small

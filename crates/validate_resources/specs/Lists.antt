@@ -1,6 +1,7 @@
 -- What a module declares, as lists, and its context (WebAssembly core specification, "Modules", and
 -- "Conventions" of validation: contexts).
-use Rattle.std.specs.Prelude.{ℕ, Bool, List, false, ◌&&◌, map, nat_le, nat_lt, length, Option, Some, None, slice_get, option_map, unwrap_or, if◌then◌else◌}
+use Rattle.std.specs.Prelude.{ℕ, Bool, List, false, ◌&&◌, map, nat_le, nat_lt, length, Option, Some, None}
+use Rattle.std.specs.Prelude.{slice_get, option_map, unwrap_or, if◌then◌else◌}
 use Rattle.std.specs.List.{list_all}
 use Rattle.validate_types.specs.Features.{type_gate}
 use Rattle.validate_types.specs.declared.features.WasmFeatures.{WasmFeatures}
@@ -13,9 +14,12 @@ use Rattle.validate_types.specs.declared.types.SubType.{SubType}
 use Rattle.validate_types.specs.declared.types.TableType.{TableType}
 use Rattle.validate_types.specs.declared.types.ValType.{ValType}
 use Rattle.validate_resources.specs.declared.lists.FuncDecl.{FuncDecl}
+use Rattle.validate_resources.specs.declared.lists.TheConstants.{MAX_TYPES}
 use Rattle.validate_resources.specs.Context.{ModuleContext}
-use Rattle.validate_resources.specs.Indices.{is_known, is_id, ref_test, type_test, table_test, global_test, sub_test, ref_form, table_form, global_form, sub_form, type_form, canonical_heap, canonical_ref}
-use Rattle.validate_resources.specs.Order.{heap_shared, supertypes_fit, type_below}
+use Rattle.validate_resources.specs.Indices.{is_known, is_id, ref_test, type_test, table_test, global_test}
+use Rattle.validate_resources.specs.Indices.{sub_test, ref_form, table_form, global_form, sub_form}
+use Rattle.validate_resources.specs.Indices.{type_form, canonical_heap, canonical_ref}
+use Rattle.validate_resources.specs.Order.{is_heap_shared, have_fitting_supertypes, type_below}
 
 -- what a module declares
 pub record Declared : Type 0 where
@@ -27,28 +31,52 @@ pub record Declared : Type 0 where
   pub elements : List RefType
   pub data_count : Option ℕ
 
+-- what these lists declare
+abbrev pub declared_by : List SubType → List FuncDecl → List TableType → List MemoryType
+    → List GlobalType → List RefType → Option ℕ → Declared
+declared_by types functions tables memories globals elements data_count = record {
+  types = types;
+  functions = functions;
+  tables = tables;
+  memories = memories;
+  globals = globals;
+  elements = elements;
+  data_count = data_count;
+}
+
 -- ---- the causes of a refusal (Specification, "Validation: Modules")
 
-abbrev pub max_types : ℕ
-max_types = 1000000
-
 -- a test of each index in the lists
-abbrev pub indices_test : (UnpackedIndex → Bool) → List SubType → List TableType → List GlobalType → List RefType → Bool
-indices_test p types tables globals elements = list_all (sub_test p) types && list_all (table_test p) tables && list_all (global_test p) globals && list_all (ref_test p) elements
+abbrev pub indices_test : (UnpackedIndex → Bool)
+    → List SubType → List TableType → List GlobalType → List RefType → Bool
+indices_test p types tables globals elements =
+    list_all (sub_test p) types
+    && list_all (table_test p) tables
+    && list_all (global_test p) globals
+    && list_all (ref_test p) elements
 
 -- each function is of one of the types
-abbrev pub functions_typed : Declared → Bool
-functions_typed d = list_all (λ (f : FuncDecl). nat_lt f.type_index (length d.types)) d.functions
+abbrev pub have_known_types : Declared → Bool
+have_known_types d = list_all (λ (f : FuncDecl). nat_lt f.type_index (length d.types)) d.functions
 
 -- at most 1,000,000 types; each index passes the test, at their number; each function is of one of
 -- them; each supertype is an earlier type of the same sharedness
 abbrev pub is_module : (ℕ → UnpackedIndex → Bool) → Declared → Bool
-is_module p d = nat_le (length d.types) max_types && indices_test (p (length d.types)) d.types d.tables d.globals d.elements && functions_typed d && supertypes_fit d.types
+is_module p d =
+    nat_le (length d.types) MAX_TYPES
+    && indices_test (p (length d.types)) d.types d.tables d.globals d.elements
+    && have_known_types d
+    && have_fitting_supertypes d.types
 
 -- ---- the canonical lists
 
 abbrev pub canonical_lists : Declared → Declared
-canonical_lists d = record d { types = map sub_form d.types; tables = map table_form d.tables; globals = map global_form d.globals; elements = map ref_form d.elements }
+canonical_lists d = record d {
+  types = map sub_form d.types;
+  tables = map table_form d.tables;
+  globals = map global_form d.globals;
+  elements = map ref_form d.elements;
+}
 
 -- the canonical lists of what is declared, where no cause of a refusal stands
 abbrev pub module_of : Declared → Option Declared
@@ -58,11 +86,13 @@ module_of d = if is_module is_known d then Some (canonical_lists d) else None
 
 -- the gate of the type is open, and each index in it known
 abbrev pub canonical_under : ℕ → WasmFeatures → ValType → Option ValType
-canonical_under n features t = if type_gate features t && type_test (is_known n) t then Some (type_form t) else None
+canonical_under n features t =
+    if type_gate features t && type_test (is_known n) t then Some (type_form t) else None
 
 -- both types are valid and canonical, and the one below the other
 abbrev pub valid_below : List SubType → ValType → ValType → Bool
-valid_below types t u = type_test (is_id (length types)) t && type_test (is_id (length types)) u && type_below types t u
+valid_below types t u =
+    type_test (is_id (length types)) t && type_test (is_id (length types)) u && type_below types t u
 
 -- type i has id i
 abbrev pub type_id : ℕ → CoreTypeId
@@ -75,14 +105,15 @@ context_of d = record {
   type_of_id = λ id. slice_get d.types id.index;
   type_index_of = λ i. option_map (λ (f : FuncDecl). f.type_index) (slice_get d.functions i);
   type_id_of = λ i. option_map (λ (f : FuncDecl). type_id f.type_index) (slice_get d.functions i);
-  is_referenced = λ i. unwrap_or (option_map (λ (f : FuncDecl). f.referenced) (slice_get d.functions i)) false;
+  is_referenced =
+      λ i. unwrap_or (option_map (λ (f : FuncDecl). f.referenced) (slice_get d.functions i)) false;
   table_at = slice_get d.tables;
   memory_at = slice_get d.memories;
   global_at = slice_get d.globals;
   element_at = slice_get d.elements;
   data_count = d.data_count;
   below = valid_below d.types;
-  is_shared = λ r. heap_shared d.types r.heap_type;
+  is_shared = λ r. is_heap_shared d.types r.heap_type;
   canonical = canonical_under (length d.types);
   canonical_ref = canonical_ref (length d.types);
   canonical_heap = canonical_heap (length d.types);

@@ -80,14 +80,16 @@ pub trait WasmModuleResources {
     /// in, where an index in it is unknown, or for want of memory.
     fn check_heap_type(&self, ty: &mut HeapType, offset: u64) -> Result<(), Error>
         ensures canonical { OnOk result ((context self.now).canonical_heap ty.old ≡ Some ty.new) }
-        ensures refused { IfErr result (λ e. e.memory ≡ false → (context self.now).canonical_heap ty.old ≡ None) }
+        ensures refused { IfErr result (λ e. e.memory ≡ false → (context self.now).canonical_heap ty.old
+            ≡ None) }
         ensures offset { IfErr result (λ e. e.offset ≡ offset) };
 
     /// Checks a reference type of a module and writes its canonical form. It refuses, at the offset
     /// handed in, where an index in it is unknown, or for want of memory.
     fn check_ref_type(&self, ty: &mut RefType, offset: u64) -> Result<(), Error>
         ensures canonical { OnOk result ((context self.now).canonical_ref ty.old ≡ Some ty.new) }
-        ensures refused { IfErr result (λ e. e.memory ≡ false → (context self.now).canonical_ref ty.old ≡ None) }
+        ensures refused { IfErr result (λ e. e.memory ≡ false → (context self.now).canonical_ref ty.old
+            ≡ None) }
         ensures offset { IfErr result (λ e. e.offset ≡ offset) };
 
     /// Checks a value type of a module and writes its canonical form. It refuses, at the offset
@@ -100,7 +102,8 @@ pub trait WasmModuleResources {
         offset: u64,
     ) -> Result<(), Error>
         ensures canonical { OnOk result ((context self.now).canonical features.now ty.old ≡ Some ty.new) }
-        ensures refused { IfErr result (λ e. e.memory ≡ false → (context self.now).canonical features.now ty.old ≡ None) }
+        ensures refused { IfErr result (λ e. e.memory ≡ false
+            → (context self.now).canonical features.now ty.old ≡ None) }
         ensures offset { IfErr result (λ e. e.offset ≡ offset) };
 
     /// The laws of a lookup.

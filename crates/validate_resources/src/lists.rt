@@ -6,7 +6,7 @@ mod order;
 ghost use Rattle.std.specs.Prelude.{◌≡◌, ◌<◌, length, codes, Some, None, Ok, true, false, nat_lt, is_ok, IfOk, OnOk, OnErr, IfErr};
 ghost use Rattle.std.specs.List.{list_all};
 ghost use Rattle.validate_resources.specs.Indices.{is_id, unknown_text};
-ghost use Rattle.validate_resources.specs.Lists.{max_types, is_module, module_of};
+ghost use Rattle.validate_resources.specs.Lists.{declared_by, is_module, module_of};
 
 use crate::WasmModuleResources;
 use crate::lists::canonical::{
@@ -44,16 +44,17 @@ pub struct ModuleLists {
     globals: Vec<GlobalType>,
     elements: Vec<RefType>,
     data_count: Option<u32>,
-    ghost module: { is_module is_id (record { types = types.items; functions = functions.items; tables = tables.items; memories = memories.items; globals = globals.items; elements = elements.items; data_count = data_count }) ≡ true },
+    ghost module: { is_module is_id (declared_by types.items functions.items tables.items
+        memories.items globals.items elements.items data_count) ≡ true },
 }
 
 impl ModuleLists {
-    ghost use Rattle.validate_resources.specs.Kept.{declared};
+    ghost use Rattle.validate_resources.specs.Kept.{declared_lists};
 
     /// Keeps the lists in their canonical form, with an id for each index, and the number of data
     /// segments where the module says it.
     ///
-    /// It refuses at offset 0: `too many types` for more than 1,000,000; else `unknown type` where
+    /// It refuses at offset 0: `too many types` for more than [`MAX_TYPES`]; else `unknown type` where
     /// there is no type for an index; else `invalid supertype` where a supertype isn't an earlier
     /// type or is of another sharedness. It takes memory for the canonical lists, and refuses where
     /// there is none.
@@ -67,9 +68,13 @@ impl ModuleLists {
         elements: Vec<RefType>,
         data_count: Option<u32>,
     ) -> Result<ModuleLists, Error>
-        ensures kept { IfOk result (λ m. module_of (record { types = types.items; functions = functions.items; tables = tables.items; memories = memories.items; globals = globals.items; elements = elements.items; data_count = data_count }) ≡ Some (declared m)) }
-        ensures refused { IfErr result (λ e. e.memory ≡ false → module_of (record { types = types.items; functions = functions.items; tables = tables.items; memories = memories.items; globals = globals.items; elements = elements.items; data_count = data_count }) ≡ None) }
-        ensures too_many { max_types < length types.items → IfErr result (λ e. e ≡ record { offset = 0; text = codes "too many types"; memory = false }) }
+        ensures kept { IfOk result (λ m. module_of (declared_by types.items functions.items tables.items
+            memories.items globals.items elements.items data_count) ≡ Some (declared_lists m)) }
+        ensures refused { IfErr result (λ e. e.memory ≡ false
+            → module_of (declared_by types.items functions.items tables.items
+            memories.items globals.items elements.items data_count) ≡ None) }
+        ensures too_many { MAX_TYPES < length types.items
+            → IfErr result (λ e. e ≡ record { offset = 0; text = codes "too many types"; memory = false }) }
         ensures offset { IfErr result (λ e. e.offset ≡ 0) }
     {
         if types.len() > MAX_TYPES {
@@ -82,13 +87,29 @@ impl ModuleLists {
         if !supertypes_fit(&types) {
             return Err(Error::new("invalid supertype", 0));
         }
+        Ok(ModuleLists::from_forms(alloc, forms, functions, memories, data_count))
+    }
+
+    /// Keeps the canonical forms with the other lists. It takes no memory.
+    fn from_forms(
+        alloc: Global,
+        forms: Forms,
+        functions: Vec<FuncDecl>,
+        memories: Vec<MemoryType>,
+        data_count: Option<u32>,
+    ) -> ModuleLists
+        requires { is_module is_id (declared_by forms.types.items functions.items forms.tables.items
+            memories.items forms.globals.items forms.elements.items data_count) ≡ true }
+        ensures { declared_lists result ≡ declared_by forms.types.items functions.items forms.tables.items
+            memories.items forms.globals.items forms.elements.items data_count }
+    {
         let Forms {
             types,
             tables,
             globals,
             elements,
         } = forms;
-        Ok(ModuleLists {
+        ModuleLists {
             alloc,
             types,
             functions,
@@ -97,7 +118,7 @@ impl ModuleLists {
             globals,
             elements,
             data_count,
-        })
+        }
     }
 }
 
@@ -136,13 +157,13 @@ fn write_form<T: Copy>(
 }
 
 impl WasmModuleResources for ModuleLists {
-    ghost use Rattle.validate_resources.specs.Kept.{declared};
+    ghost use Rattle.validate_resources.specs.Kept.{declared_lists};
     ghost use Rattle.validate_resources.specs.Lists.{context_of};
     ghost use Rattle.validate_resources.specs.Lawful.{lawful_lists};
 
-    ghost context = { λ m. context_of (declared m) };
+    ghost context = { λ m. context_of (declared_lists m) };
 
-    ghost lawful = { λ m. lawful_lists (declared m) m.module };
+    ghost lawful = { λ m. lawful_lists (declared_lists m) m.module };
 
     fn table_at(&self, table_index: u32) -> Option<TableType> {
         self.tables.get(table_index as usize).copied()

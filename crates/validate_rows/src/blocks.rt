@@ -4,7 +4,7 @@ ghost use Rattle.std.specs.Prelude.{◌≡◌, true, false, None, Some, ◌&&◌
 ghost use Rattle.std.specs.List.{AllByRecursion};
 ghost use Rattle.validate_resources.specs.Context.{Valid};
 ghost use Rattle.validate_types.specs.Features.{has, multi_value};
-ghost use Rattle.validation_rules.specs.Table.{opener, opens, checked_block, may_name};
+ghost use Rattle.validation_rules.specs.Table.{opener, opening_operator, checked_block, may_name};
 ghost use Rattle.validation_rules.specs.Valid.{BlockIsValid};
 ghost use Rattle.validate_stacks.specs.State.{context};
 ghost use Rattle.validate_stacks.specs.Visits.{MayVisit, Meets};
@@ -26,8 +26,13 @@ fn check_function_type<R: WasmModuleResources>(
     offset: u64,
     type_index: u32,
 ) -> Result<(), Error>
-    ensures accepted { OnOk result ((has stacks.now.features multi_value && may_name (context (R.context resources.now) stacks.now) ((R.context resources.now).type_at type_index)) ≡ true) }
-    ensures refused { IfErr result (λ e. e.memory ≡ false → (has stacks.now.features multi_value && may_name (context (R.context resources.now) stacks.now) ((R.context resources.now).type_at type_index)) ≡ false) }
+    ensures accepted { OnOk result ((has stacks.now.body.features multi_value && may_name
+        (context (R.context resources.now) stacks.now.body)
+        ((R.context resources.now).type_at type_index)) ≡ true) }
+    ensures refused { IfErr result (λ e. e.memory ≡ false
+        → (has stacks.now.body.features multi_value && may_name
+        (context (R.context resources.now) stacks.now.body)
+        ((R.context resources.now).type_at type_index)) ≡ false) }
     ensures offset { IfErr result (λ e. e.offset ≡ offset) }
 {
     if !stacks.features().multi_value() {
@@ -51,8 +56,10 @@ fn check_block_type<R: WasmModuleResources>(
     offset: u64,
     block_type: BlockType,
 ) -> Result<BlockType, Error>
-    ensures checked { IfOk result (λ bt. checked_block (context (R.context resources.now) stacks.now) block_type ≡ Some bt) }
-    ensures refused { IfErr result (λ e. e.memory ≡ false → checked_block (context (R.context resources.now) stacks.now) block_type ≡ None) }
+    ensures checked { IfOk result (λ bt. checked_block
+        (context (R.context resources.now) stacks.now.body) block_type ≡ Some bt) }
+    ensures refused { IfErr result (λ e. e.memory ≡ false
+        → checked_block (context (R.context resources.now) stacks.now.body) block_type ≡ None) }
     ensures offset { IfErr result (λ e. e.offset ≡ offset) }
 {
     match block_type {
@@ -81,8 +88,9 @@ fn open_frame<R: WasmModuleResources>(
 ) -> Result<(), Error>
     requires visit { MayVisit (R.context resources.now) stacks.old }
     requires above { AllByRecursion (Valid (R.context resources.now)) above.now }
-    requires block { BlockIsValid (R.context resources.now) stacks.old.shared block_type }
-    ensures { Meets (R.context resources.now) (λ cx. opens cx kind above.now true block_type) offset stacks.old result stacks.new }
+    requires block { BlockIsValid (R.context resources.now) stacks.old.body.shared block_type }
+    ensures { Meets (R.context resources.now) (λ cx. opening_operator cx kind above.now true block_type)
+        offset stacks.old.body result stacks.new.body }
 {
     stacks.pop_types(resources, offset, above)?;
     stacks.pop_types(resources, offset, params(resources, &block_type))?;
@@ -101,7 +109,8 @@ pub fn check_opener<R: WasmModuleResources>(
 ) -> Result<(), Error>
     requires visit { MayVisit (R.context resources.now) stacks.old }
     requires above { AllByRecursion (Valid (R.context resources.now)) above.now }
-    ensures { Meets (R.context resources.now) (λ cx. opener cx kind above.now block_type (checked_block cx block_type)) offset stacks.old result stacks.new }
+    ensures { Meets (R.context resources.now) (λ cx. opener cx kind above.now block_type
+        (checked_block cx block_type)) offset stacks.old.body result stacks.new.body }
 {
     let checked = check_block_type(stacks, resources, offset, block_type)?;
     open_frame(stacks, resources, offset, kind, above, checked)

@@ -2,7 +2,8 @@
 
 ghost use Rattle.std.specs.Prelude.{◌≡◌, None, Some, true, false, length, IfOk, OnOk, OnErr, IfErr};
 ghost use Rattle.validation_rules.specs.Branches.{br_row, br_if_row, br_table_row, return_row};
-ghost use Rattle.validation_rules.specs.Table.{flat};
+ghost use Rattle.validation_rules.specs.Table.{flat_operator};
+ghost use Rattle.validate_stacks.specs.Pops.{IsKept};
 ghost use Rattle.validate_stacks.specs.State.{IsValid, context};
 ghost use Rattle.validate_stacks.specs.Steps.{label_of};
 ghost use Rattle.validate_stacks.specs.Visits.{step_body, MayVisit, Meets};
@@ -20,8 +21,8 @@ pub(crate) fn label(
     offset: u64,
     relative_depth: u32,
 ) -> Result<(BlockType, FrameKind), Error>
-    ensures found { IfOk result (λ found. label_of stacks.now relative_depth ≡ Some found) }
-    ensures missing { OnErr result (label_of stacks.now relative_depth ≡ None) }
+    ensures found { IfOk result (λ found. label_of stacks.now.body relative_depth ≡ Some found) }
+    ensures missing { OnErr result (label_of stacks.now.body relative_depth ≡ None) }
     ensures offset { IfErr result (λ e. e.offset ≡ offset) }
     ensures memory { IfErr result (λ e. e.memory ≡ false) }
 {
@@ -40,13 +41,16 @@ pub fn check_br<R: WasmModuleResources>(
     relative_depth: u32,
 ) -> Result<(), Error>
     requires { MayVisit (R.context resources.now) stacks.old }
-    ensures visit { Meets (R.context resources.now) (λ cx. flat (λ hs. br_row cx hs relative_depth)) offset stacks.old result stacks.new }
-    ensures memory { OnErr result (step_body (R.context resources.now) (λ cx. flat (λ hs. br_row cx hs relative_depth)) stacks.old ≡ None) }
+    ensures visit { Meets (R.context resources.now)
+        (λ cx. flat_operator (λ hs. br_row cx hs relative_depth)) offset stacks.old.body result
+        stacks.new.body }
+    ensures memory { stacks.old.body.undone ≡ None
+        → OnErr result (step_body (R.context resources.now)
+        (λ cx. flat_operator (λ hs. br_row cx hs relative_depth)) stacks.old.body ≡ None) }
 {
     let (block_type, kind) = label(stacks, offset, relative_depth)?;
     stacks.pop_types(resources, offset, label_types(resources, &block_type, kind))?;
-    stacks.unreachable();
-    Ok(())
+    stacks.end_live_part(offset)
 }
 
 /// `br_if`: `[t i32] -> [t]`, with the types t of the label.
@@ -57,7 +61,9 @@ pub fn check_br_if<R: WasmModuleResources>(
     relative_depth: u32,
 ) -> Result<(), Error>
     requires { MayVisit (R.context resources.now) stacks.old }
-    ensures { Meets (R.context resources.now) (λ cx. flat (λ hs. br_if_row cx hs relative_depth)) offset stacks.old result stacks.new }
+    ensures { Meets (R.context resources.now)
+        (λ cx. flat_operator (λ hs. br_if_row cx hs relative_depth)) offset stacks.old.body result
+        stacks.new.body }
 {
     stacks.pop_types(resources, offset, &[ValType::I32])?;
     let (block_type, kind) = label(stacks, offset, relative_depth)?;
@@ -74,8 +80,11 @@ pub fn check_return<R: WasmModuleResources>(
     offset: u64,
 ) -> Result<(), Error>
     requires { MayVisit (R.context resources.now) stacks.old }
-    ensures visit { Meets (R.context resources.now) (λ cx. flat (λ hs. return_row cx hs)) offset stacks.old result stacks.new }
-    ensures memory { OnErr result (step_body (R.context resources.now) (λ cx. flat (λ hs. return_row cx hs)) stacks.old ≡ None) }
+    ensures visit { Meets (R.context resources.now) (λ cx. flat_operator (λ hs. return_row cx hs))
+        offset stacks.old.body result stacks.new.body }
+    ensures memory { stacks.old.body.undone ≡ None
+        → OnErr result (step_body (R.context resources.now)
+        (λ cx. flat_operator (λ hs. return_row cx hs)) stacks.old.body ≡ None) }
 {
     let outermost = stacks.control_stack_height() - 1;
     let Some(frame) = stacks.get_frame(outermost) else {
@@ -84,23 +93,31 @@ pub fn check_return<R: WasmModuleResources>(
     let frame = *frame;
     let results = label_types(resources, &frame.block_type, frame.kind);
     stacks.pop_types(resources, offset, results)?;
-    stacks.unreachable();
-    Ok(())
+    stacks.end_live_part(offset)
 }
 
 /// A target of `br_table`: its label, which has to have as many types as the default one, and the
-/// operands in place have to fit them.
+/// operands in place have to fit them. Where they don't, those down to the one that doesn't fit are
+/// popped.
 fn check_target<R: WasmModuleResources>(
-    stacks: &Stacks,
+    stacks: &mut Stacks,
     resources: &R,
     offset: u64,
     relative_depth: u32,
     count: usize,
 ) -> Result<(), Error>
-    requires { IsValid (R.context resources.now) stacks.now }
-    ensures fits { OnOk result (is_target (R.context resources.now) stacks.now count relative_depth ≡ true) }
-    ensures refused { OnErr result (is_target (R.context resources.now) stacks.now count relative_depth ≡ false) }
+    requires { IsValid (R.context resources.now) stacks.old.body }
+    ensures fits { OnOk result (is_target (R.context resources.now) stacks.old.body count relative_depth
+        ≡ true) }
+    ensures same { OnOk result (stacks.new ≡ stacks.old) }
+    ensures refused { IfErr result (λ e. e.memory ≡ false
+        → is_target (R.context resources.now) stacks.old.body count relative_depth ≡ false) }
+    ensures idle { stacks.old.body.undone ≡ None
+        → OnErr result (is_target (R.context resources.now) stacks.old.body count relative_depth
+        ≡ false) }
     ensures offset { IfErr result (λ e. e.offset ≡ offset) }
+    ensures valid { IsValid (R.context resources.now) stacks.new.body }
+    ensures kept { IsKept stacks.old.body stacks.new.body }
 {
     let (block_type, kind) = label(stacks, offset, relative_depth)?;
     let types = label_types(resources, &block_type, kind);
@@ -115,16 +132,25 @@ fn check_target<R: WasmModuleResources>(
 
 /// Every target of `br_table`, up to the end of the table, which has to be complete.
 fn check_targets<R: WasmModuleResources>(
-    stacks: &Stacks,
+    stacks: &mut Stacks,
     resources: &R,
     offset: u64,
     table: BrTable,
     count: usize,
 ) -> Result<(), Error>
-    requires { IsValid (R.context resources.now) stacks.now }
-    ensures fits { OnOk result (are_targets (R.context resources.now) stacks.now count table.entry.complete table.entry.targets.now ≡ true) }
-    ensures refused { OnErr result (are_targets (R.context resources.now) stacks.now count table.entry.complete table.entry.targets.now ≡ false) }
+    requires { IsValid (R.context resources.now) stacks.old.body }
+    ensures fits { OnOk result (are_targets (R.context resources.now) stacks.old.body count
+        table.entry.complete table.entry.targets.now ≡ true) }
+    ensures same { OnOk result (stacks.new ≡ stacks.old) }
+    ensures refused { IfErr result (λ e. e.memory ≡ false
+        → are_targets (R.context resources.now) stacks.old.body count table.entry.complete
+        table.entry.targets.now ≡ false) }
+    ensures idle { stacks.old.body.undone ≡ None → OnErr result
+        (are_targets (R.context resources.now) stacks.old.body count table.entry.complete
+        table.entry.targets.now ≡ false) }
     ensures offset { IfErr result (λ e. e.offset ≡ offset) }
+    ensures valid { IsValid (R.context resources.now) stacks.new.body }
+    ensures kept { IsKept stacks.old.body stacks.new.body }
 {
     for target in table.targets() {
         match target {
@@ -145,14 +171,18 @@ pub fn check_br_table<R: WasmModuleResources>(
     table: BrTable,
 ) -> Result<(), Error>
     requires { MayVisit (R.context resources.now) stacks.old }
-    ensures visit { Meets (R.context resources.now) (λ cx. flat (λ hs. br_table_row cx hs table.entry.complete table.entry.targets.now table.entry.default)) offset stacks.old result stacks.new }
-    ensures memory { OnErr result (step_body (R.context resources.now) (λ cx. flat (λ hs. br_table_row cx hs table.entry.complete table.entry.targets.now table.entry.default)) stacks.old ≡ None) }
+    ensures visit { Meets (R.context resources.now)
+        (λ cx. flat_operator (λ hs. br_table_row cx hs table.entry.complete table.entry.targets.now
+        table.entry.default)) offset stacks.old.body result stacks.new.body }
+    ensures memory { stacks.old.body.undone ≡ None
+        → OnErr result (step_body (R.context resources.now)
+        (λ cx. flat_operator (λ hs. br_table_row cx hs table.entry.complete table.entry.targets.now
+        table.entry.default)) stacks.old.body ≡ None) }
 {
     stacks.pop_types(resources, offset, &[ValType::I32])?;
     let (block_type, kind) = label(stacks, offset, table.default())?;
     let types = label_types(resources, &block_type, kind);
     check_targets(stacks, resources, offset, table, types.len())?;
     stacks.pop_types(resources, offset, types)?;
-    stacks.unreachable();
-    Ok(())
+    stacks.end_live_part(offset)
 }

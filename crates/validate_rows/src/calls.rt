@@ -4,12 +4,12 @@ ghost use Rattle.std.specs.Prelude.{◌≡◌, true, false, None, Some, ◌&&◌
 ghost use Rattle.std.specs.List.{AllByRecursion};
 ghost use Rattle.validate_types.specs.declared.gate.Gate.TheVariants.{TailCall};
 ghost use Rattle.validate_resources.specs.Context.{Valid, signature_of};
-ghost use Rattle.validation_rules.specs.Calls.{callee as called, call_row, returns, tail_call, return_call_row};
+ghost use Rattle.validation_rules.specs.Calls.{callee as called, call_row, may_return, tail_call_row, return_call_row};
 ghost use Rattle.validation_rules.specs.Indirect.{typed_callee};
 ghost use Rattle.validation_rules.specs.Context.{Context};
 ghost use Rattle.validation_rules.specs.Fits.{Known, all_fit};
 ghost use Rattle.validation_rules.specs.Static.{heads};
-ghost use Rattle.validation_rules.specs.Table.{alike, flat, gated};
+ghost use Rattle.validation_rules.specs.Table.{row_operator, flat_operator, gated_row};
 ghost use Rattle.validate_stacks.specs.State.{context};
 ghost use Rattle.validate_stacks.specs.Visits.{MayVisit, Meets};
 
@@ -28,10 +28,12 @@ fn type_of_function<'a, R: WasmModuleResources>(
     offset: u64,
     function_index: u32,
 ) -> Result<&'a FuncType, Error>
-    ensures found { IfOk result (λ f. called (context (R.context resources.now) stacks.now) function_index ≡ Some f.now) }
+    ensures found { IfOk result (λ f. called (context (R.context resources.now) stacks.now.body)
+        function_index ≡ Some f.now) }
     ensures params { IfOk result (λ f. AllByRecursion (Valid (R.context resources.now)) f.now.params) }
     ensures results { IfOk result (λ f. AllByRecursion (Valid (R.context resources.now)) f.now.results) }
-    ensures refused { OnErr result (called (context (R.context resources.now) stacks.now) function_index ≡ None) }
+    ensures refused { OnErr result (called (context (R.context resources.now) stacks.now.body)
+        function_index ≡ None) }
     ensures offset { IfErr result (λ e. e.offset ≡ offset) }
 {
     let Some(type_index) = resources.type_index_of_function(function_index) else {
@@ -48,10 +50,12 @@ pub(crate) fn func_type_at<'a, R: WasmModuleResources>(
     offset: u64,
     type_index: u32,
 ) -> Result<&'a FuncType, Error>
-    ensures found { IfOk result (λ f. typed_callee (context (R.context resources.now) stacks.now) type_index ≡ Some f.now) }
+    ensures found { IfOk result (λ f. typed_callee (context (R.context resources.now) stacks.now.body)
+        type_index ≡ Some f.now) }
     ensures params { IfOk result (λ f. AllByRecursion (Valid (R.context resources.now)) f.now.params) }
     ensures results { IfOk result (λ f. AllByRecursion (Valid (R.context resources.now)) f.now.results) }
-    ensures refused { OnErr result (typed_callee (context (R.context resources.now) stacks.now) type_index ≡ None) }
+    ensures refused { OnErr result (typed_callee (context (R.context resources.now) stacks.now.body)
+        type_index ≡ None) }
     ensures offset { IfErr result (λ e. e.offset ≡ offset) }
 {
     let Some(sub_type) = resources.sub_type_at(type_index) else {
@@ -89,7 +93,8 @@ pub fn check_call<R: WasmModuleResources>(
     function_index: u32,
 ) -> Result<(), Error>
     requires { MayVisit (R.context resources.now) stacks.old }
-    ensures { Meets (R.context resources.now) (λ cx. alike (call_row cx function_index)) offset stacks.old result stacks.new }
+    ensures { Meets (R.context resources.now) (λ cx. row_operator (call_row cx function_index)) offset
+        stacks.old.body result stacks.new.body }
 {
     let func_type = type_of_function(stacks, resources, offset, function_index)?;
     let (params, results) = (func_type.params(), func_type.results());
@@ -100,7 +105,8 @@ pub fn check_call<R: WasmModuleResources>(
 fn are_below<R: WasmModuleResources>(resources: &R, types: &[ValType], above: &[ValType]) -> bool
     requires types { AllByRecursion (Valid (R.context resources.now)) types.now }
     requires above { AllByRecursion (Valid (R.context resources.now)) above.now }
-    ensures { (cx : Context) → cx.of_module ≡ R.context resources.now → result ≡ all_fit cx (map Known types.now) above.now }
+    ensures { (cx : Context) → cx.of_module ≡ R.context resources.now → result
+        ≡ all_fit cx (map Known types.now) above.now }
 {
     if types.len() != above.len() {
         return false;
@@ -123,8 +129,10 @@ fn check_func_type_same_results<R: WasmModuleResources>(
 ) -> Result<(), Error>
     requires visit { MayVisit (R.context resources.now) stacks.now }
     requires results { AllByRecursion (Valid (R.context resources.now)) results.now }
-    ensures below { OnOk result (returns (context (R.context resources.now) stacks.now) (heads stacks.now.present.frames) results.now ≡ true) }
-    ensures other { OnErr result (returns (context (R.context resources.now) stacks.now) (heads stacks.now.present.frames) results.now ≡ false) }
+    ensures below { OnOk result (may_return (context (R.context resources.now) stacks.now.body)
+        (heads stacks.now.body.present.frames) results.now ≡ true) }
+    ensures other { OnErr result (may_return (context (R.context resources.now) stacks.now.body)
+        (heads stacks.now.body.present.frames) results.now ≡ false) }
     ensures offset { IfErr result (λ e. e.offset ≡ offset) }
 {
     let outermost = stacks.control_stack_height() - 1;
@@ -182,12 +190,13 @@ pub(crate) fn check_return_call_ty<R: WasmModuleResources>(
     requires visit { MayVisit (R.context resources.now) stacks.old }
     requires params { AllByRecursion (Valid (R.context resources.now)) func_type.now.params }
     requires results { AllByRecursion (Valid (R.context resources.now)) func_type.now.results }
-    ensures { Meets (R.context resources.now) (λ cx. flat (λ hs. tail_call cx hs func_type.now.params func_type.now.results)) offset stacks.old result stacks.new }
+    ensures { Meets (R.context resources.now)
+        (λ cx. flat_operator (λ hs. tail_call_row cx hs func_type.now.params func_type.now.results))
+        offset stacks.old.body result stacks.new.body }
 {
     check_func_type_same_results(stacks, resources, offset, func_type.results())?;
     stacks.pop_types(resources, offset, func_type.params())?;
-    stacks.unreachable();
-    Ok(())
+    stacks.end_live_part(offset)
 }
 
 /// `return_call`: what the function takes. The body returns its results, and the live part of the frame
@@ -199,7 +208,9 @@ pub fn check_return_call<R: WasmModuleResources>(
     function_index: u32,
 ) -> Result<(), Error>
     requires { MayVisit (R.context resources.now) stacks.old }
-    ensures { Meets (R.context resources.now) (λ cx. flat (λ hs. gated cx TailCall (return_call_row cx hs function_index))) offset stacks.old result stacks.new }
+    ensures { Meets (R.context resources.now)
+        (λ cx. flat_operator (λ hs. gated_row cx TailCall (return_call_row cx hs function_index)))
+        offset stacks.old.body result stacks.new.body }
 {
     check_enabled(stacks, offset, Gate::TailCall)?;
     let func_type = type_of_function(stacks, resources, offset, function_index)?;

@@ -1,12 +1,13 @@
 //! Operators that begin and end parts (WebAssembly core specification, "Control Instructions").
 
-ghost use Rattle.std.specs.Prelude.{◌≡◌, true, false, [], IsOk, OnOk, OnErr, IfErr};
+ghost use Rattle.std.specs.Prelude.{◌≡◌, true, false, None, [], IsOk, OnOk, OnErr, IfErr};
 ghost use Rattle.validation_rules.specs.Rows.{BeginsElse, Ends, is_if};
-ghost use Rattle.validation_rules.specs.Table.{plain, ends_live, alike, closing};
+ghost use Rattle.validation_rules.specs.Table.{plain_row, ending_row, row_operator, delimiter_operator};
 ghost use Rattle.validation_rules.specs.Valid.{BlockIsValid};
+ghost use Rattle.validate_stacks.specs.Attempts.{may_frame};
 ghost use Rattle.validate_stacks.specs.Pops.{IsKept};
 ghost use Rattle.validate_stacks.specs.State.{IsValid};
-ghost use Rattle.validate_stacks.specs.Blocks.{closes_as_if};
+ghost use Rattle.validate_stacks.specs.Blocks.{may_close_as_if};
 ghost use Rattle.validate_stacks.specs.Visits.{MayVisit, Meets};
 
 use validate_resources::WasmModuleResources;
@@ -22,9 +23,11 @@ pub fn check_nop<R: WasmModuleResources>(
     offset: u64,
 ) -> Result<(), Error>
     requires { MayVisit (R.context resources.now) stacks.old }
-    ensures visit { Meets (R.context resources.now) (λ cx. alike (plain true [] [])) offset stacks.old result stacks.new }
+    ensures visit { Meets (R.context resources.now) (λ cx. row_operator (plain_row true [] [])) offset
+        stacks.old.body result stacks.new.body }
     ensures memory { IsOk result }
 {
+    // The contract alone reads these.
     let _resources = resources;
     let _stacks = stacks;
     let _offset = offset;
@@ -38,13 +41,13 @@ pub fn check_unreachable<R: WasmModuleResources>(
     offset: u64,
 ) -> Result<(), Error>
     requires { MayVisit (R.context resources.now) stacks.old }
-    ensures visit { Meets (R.context resources.now) (λ cx. alike (ends_live true [])) offset stacks.old result stacks.new }
-    ensures memory { IsOk result }
+    ensures visit { Meets (R.context resources.now) (λ cx. row_operator (ending_row true [])) offset
+        stacks.old.body result stacks.new.body }
+    ensures memory { stacks.old.body.undone ≡ None → IsOk result }
 {
+    // The contract alone reads it.
     let _resources = resources;
-    let _offset = offset;
-    stacks.unreachable();
-    Ok(())
+    stacks.end_live_part(offset)
 }
 
 /// `else`: closes the first part of an `if`, which has to have exactly its results, and begins the
@@ -55,7 +58,8 @@ pub fn check_else<R: WasmModuleResources>(
     offset: u64,
 ) -> Result<(), Error>
     requires { MayVisit (R.context resources.now) stacks.old }
-    ensures { Meets (R.context resources.now) (λ cx. closing BeginsElse true) offset stacks.old result stacks.new }
+    ensures { Meets (R.context resources.now) (λ cx. delimiter_operator BeginsElse true) offset
+        stacks.old.body result stacks.new.body }
 {
     let frame = stacks.pop_ctrl(resources, offset)?;
     if !is_if_part(frame.kind) {
@@ -72,7 +76,8 @@ pub fn check_end<R: WasmModuleResources>(
     offset: u64,
 ) -> Result<(), Error>
     requires { MayVisit (R.context resources.now) stacks.old }
-    ensures { Meets (R.context resources.now) (λ cx. closing Ends true) offset stacks.old result stacks.new }
+    ensures { Meets (R.context resources.now) (λ cx. delimiter_operator Ends true) offset
+        stacks.old.body result stacks.new.body }
 {
     let frame = stacks.pop_ctrl(resources, offset)?;
     check_empty_else(stacks, resources, offset, frame)?;
@@ -93,14 +98,16 @@ fn check_empty_else<R: WasmModuleResources>(
     offset: u64,
     frame: Frame,
 ) -> Result<(), Error>
-    requires state { IsValid (R.context resources.now) stacks.old }
-    requires block { BlockIsValid (R.context resources.now) stacks.old.shared frame.block_type }
-    ensures fits { OnOk result (closes_as_if (R.context resources.now) frame stacks.old ≡ true) }
-    ensures same { OnOk result (stacks.new ≡ stacks.old) }
-    ensures refused { IfErr result (λ e. e.memory ≡ false → closes_as_if (R.context resources.now) frame stacks.old ≡ false) }
+    requires state { IsValid (R.context resources.now) stacks.old.body }
+    requires block { BlockIsValid (R.context resources.now) stacks.old.body.shared frame.block_type }
+    requires frames { may_frame stacks.old ≡ true }
+    ensures fits { OnOk result (may_close_as_if (R.context resources.now) frame stacks.old.body ≡ true) }
+    ensures same { OnOk result (stacks.new.body ≡ stacks.old.body) }
+    ensures refused { IfErr result (λ e. e.memory ≡ false
+        → may_close_as_if (R.context resources.now) frame stacks.old.body ≡ false) }
     ensures offset { IfErr result (λ e. e.offset ≡ offset) }
-    ensures valid { IsValid (R.context resources.now) stacks.new }
-    ensures kept { IsKept stacks.old stacks.new }
+    ensures valid { IsValid (R.context resources.now) stacks.new.body }
+    ensures kept { IsKept stacks.old.body stacks.new.body }
 {
     if !is_if_part(frame.kind) {
         return Ok(());

@@ -2,8 +2,8 @@
 
 ghost use Rattle.std.specs.Prelude.{◌≡◌, false, None, Some, IfOk, OnErr, IfErr};
 ghost use Rattle.validate_resources.specs.Context.{Valid};
-ghost use Rattle.validation_rules.specs.Calls.{global_type, global_get, global_set};
-ghost use Rattle.validation_rules.specs.Table.{alike};
+ghost use Rattle.validation_rules.specs.Calls.{global_type, global_get_row, global_set_row};
+ghost use Rattle.validation_rules.specs.Table.{row_operator};
 ghost use Rattle.validate_stacks.specs.State.{context};
 ghost use Rattle.validate_stacks.specs.Visits.{MayVisit, Meets};
 
@@ -21,9 +21,11 @@ fn global_type_at<R: WasmModuleResources>(
     offset: u64,
     global_index: u32,
 ) -> Result<GlobalType, Error>
-    ensures found { IfOk result (λ g. global_type (context (R.context resources.now) stacks.now) global_index ≡ Some g) }
+    ensures found { IfOk result (λ g. global_type (context (R.context resources.now) stacks.now.body)
+        global_index ≡ Some g) }
     ensures valid { IfOk result (λ g. Valid (R.context resources.now) g.content_type) }
-    ensures refused { OnErr result (global_type (context (R.context resources.now) stacks.now) global_index ≡ None) }
+    ensures refused { OnErr result (global_type (context (R.context resources.now) stacks.now.body)
+        global_index ≡ None) }
     ensures offset { IfErr result (λ e. e.offset ≡ offset) }
     ensures memory { IfErr result (λ e. e.memory ≡ false) }
 {
@@ -45,7 +47,8 @@ pub fn check_global_get<R: WasmModuleResources>(
     global_index: u32,
 ) -> Result<(), Error>
     requires { MayVisit (R.context resources.now) stacks.old }
-    ensures { Meets (R.context resources.now) (λ cx. alike (global_get cx global_index)) offset stacks.old result stacks.new }
+    ensures { Meets (R.context resources.now) (λ cx. row_operator (global_get_row cx global_index))
+        offset stacks.old.body result stacks.new.body }
 {
     let global = global_type_at(stacks, resources, offset, global_index)?;
     check_plain(
@@ -66,7 +69,8 @@ pub fn check_global_set<R: WasmModuleResources>(
     global_index: u32,
 ) -> Result<(), Error>
     requires { MayVisit (R.context resources.now) stacks.old }
-    ensures { Meets (R.context resources.now) (λ cx. alike (global_set cx global_index)) offset stacks.old result stacks.new }
+    ensures { Meets (R.context resources.now) (λ cx. row_operator (global_set_row cx global_index))
+        offset stacks.old.body result stacks.new.body }
 {
     let global = global_type_at(stacks, resources, offset, global_index)?;
     if !global.mutable {

@@ -4,8 +4,8 @@
 ghost use Rattle.std.specs.Prelude.{◌≡◌, false, None, Some, IfOk, OnErr, IfErr};
 ghost use Rattle.validate_types.specs.declared.gate.Gate.TheVariants.{TailCall, FunctionReferences};
 ghost use Rattle.validate_resources.specs.Context.{Valid};
-ghost use Rattle.validation_rules.specs.Indirect.{function_place as place_of_function, function_reference as reference_to_function, call_by, return_call_by, call_indirect_row, return_call_indirect_row, call_ref_row, return_call_ref_row};
-ghost use Rattle.validation_rules.specs.Table.{alike, flat, gated};
+ghost use Rattle.validation_rules.specs.Indirect.{function_place as place_of_function, function_reference as reference_to_function, call_operand_row, return_call_operand_row, call_indirect_row, return_call_indirect_row, call_ref_row, return_call_ref_row};
+ghost use Rattle.validation_rules.specs.Table.{row_operator, flat_operator, gated_row};
 ghost use Rattle.validate_stacks.specs.State.{context};
 ghost use Rattle.validate_stacks.specs.Visits.{MayVisit, Meets};
 
@@ -24,9 +24,11 @@ fn function_place<R: WasmModuleResources>(
     offset: u64,
     table_index: u32,
 ) -> Result<ValType, Error>
-    ensures found { IfOk result (λ t. place_of_function (context (R.context resources.now) stacks.now) table_index ≡ Some t) }
+    ensures found { IfOk result (λ t. place_of_function
+        (context (R.context resources.now) stacks.now.body) table_index ≡ Some t) }
     ensures valid { IfOk result (λ t. Valid (R.context resources.now) t) }
-    ensures refused { OnErr result (place_of_function (context (R.context resources.now) stacks.now) table_index ≡ None) }
+    ensures refused { OnErr result (place_of_function
+        (context (R.context resources.now) stacks.now.body) table_index ≡ None) }
     ensures offset { IfErr result (λ e. e.offset ≡ offset) }
 {
     let table = table_type_at(stacks, resources, offset, table_index)?;
@@ -46,12 +48,15 @@ fn function_reference<R: WasmModuleResources>(
     offset: u64,
     type_index: u32,
 ) -> Result<ValType, Error>
-    ensures found { IfOk result (λ t. reference_to_function (context (R.context resources.now) stacks.now) type_index ≡ Some t) }
+    ensures found { IfOk result (λ t. reference_to_function
+        (context (R.context resources.now) stacks.now.body) type_index ≡ Some t) }
     ensures valid { IfOk result (λ t. Valid (R.context resources.now) t) }
-    ensures refused { IfErr result (λ e. e.memory ≡ false → reference_to_function (context (R.context resources.now) stacks.now) type_index ≡ None) }
+    ensures refused { IfErr result (λ e. e.memory ≡ false
+        → reference_to_function (context (R.context resources.now) stacks.now.body) type_index ≡ None) }
     ensures offset { IfErr result (λ e. e.offset ≡ offset) }
 {
     laws(resources);
+    // The contract alone reads it.
     let _stacks = stacks;
     let mut heap_type = HeapType::Concrete(UnpackedIndex::Module(type_index));
     resources.check_heap_type(&mut heap_type, offset)?;
@@ -72,7 +77,9 @@ fn check_call_by<R: WasmModuleResources>(
 ) -> Result<(), Error>
     requires visit { MayVisit (R.context resources.now) stacks.old }
     requires names { Valid (R.context resources.now) names }
-    ensures { Meets (R.context resources.now) (λ cx. alike (call_by cx (Some names) type_index)) offset stacks.old result stacks.new }
+    ensures { Meets (R.context resources.now)
+        (λ cx. row_operator (call_operand_row cx (Some names) type_index)) offset stacks.old.body result
+        stacks.new.body }
 {
     stacks.pop_types(resources, offset, &[names])?;
     let func_type = func_type_at(stacks, resources, offset, type_index)?;
@@ -90,7 +97,9 @@ fn check_return_call_by<R: WasmModuleResources>(
 ) -> Result<(), Error>
     requires visit { MayVisit (R.context resources.now) stacks.old }
     requires names { Valid (R.context resources.now) names }
-    ensures { Meets (R.context resources.now) (λ cx. flat (λ hs. return_call_by cx hs (Some names) type_index)) offset stacks.old result stacks.new }
+    ensures { Meets (R.context resources.now) (λ cx. flat_operator
+        (λ hs. return_call_operand_row cx hs (Some names) type_index)) offset stacks.old.body result
+        stacks.new.body }
 {
     stacks.pop_types(resources, offset, &[names])?;
     let func_type = func_type_at(stacks, resources, offset, type_index)?;
@@ -107,7 +116,9 @@ pub fn check_call_indirect<R: WasmModuleResources>(
     table_index: u32,
 ) -> Result<(), Error>
     requires { MayVisit (R.context resources.now) stacks.old }
-    ensures { Meets (R.context resources.now) (λ cx. alike (call_indirect_row cx type_index table_index)) offset stacks.old result stacks.new }
+    ensures { Meets (R.context resources.now)
+        (λ cx. row_operator (call_indirect_row cx type_index table_index)) offset stacks.old.body result
+        stacks.new.body }
 {
     let place = function_place(stacks, resources, offset, table_index)?;
     check_call_by(stacks, resources, offset, type_index, place)
@@ -123,7 +134,10 @@ pub fn check_return_call_indirect<R: WasmModuleResources>(
     table_index: u32,
 ) -> Result<(), Error>
     requires { MayVisit (R.context resources.now) stacks.old }
-    ensures { Meets (R.context resources.now) (λ cx. flat (λ hs. gated cx TailCall (return_call_indirect_row cx hs type_index table_index))) offset stacks.old result stacks.new }
+    ensures { Meets (R.context resources.now)
+        (λ cx. flat_operator (λ hs. gated_row cx TailCall
+        (return_call_indirect_row cx hs type_index table_index))) offset stacks.old.body result
+        stacks.new.body }
 {
     check_enabled(stacks, offset, Gate::TailCall)?;
     let place = function_place(stacks, resources, offset, table_index)?;
@@ -139,7 +153,9 @@ pub fn check_call_ref<R: WasmModuleResources>(
     type_index: u32,
 ) -> Result<(), Error>
     requires { MayVisit (R.context resources.now) stacks.old }
-    ensures { Meets (R.context resources.now) (λ cx. alike (gated cx FunctionReferences (call_ref_row cx type_index))) offset stacks.old result stacks.new }
+    ensures { Meets (R.context resources.now)
+        (λ cx. row_operator (gated_row cx FunctionReferences (call_ref_row cx type_index))) offset
+        stacks.old.body result stacks.new.body }
 {
     check_enabled(stacks, offset, Gate::FunctionReferences)?;
     let reference = function_reference(stacks, resources, offset, type_index)?;
@@ -155,7 +171,9 @@ pub fn check_return_call_ref<R: WasmModuleResources>(
     type_index: u32,
 ) -> Result<(), Error>
     requires { MayVisit (R.context resources.now) stacks.old }
-    ensures { Meets (R.context resources.now) (λ cx. flat (λ hs. gated cx FunctionReferences (return_call_ref_row cx hs type_index))) offset stacks.old result stacks.new }
+    ensures { Meets (R.context resources.now)
+        (λ cx. flat_operator (λ hs. gated_row cx FunctionReferences
+        (return_call_ref_row cx hs type_index))) offset stacks.old.body result stacks.new.body }
 {
     check_enabled(stacks, offset, Gate::FunctionReferences)?;
     let reference = function_reference(stacks, resources, offset, type_index)?;

@@ -2,17 +2,74 @@
 
 ghost use Rattle.std.specs.Prelude.{◌≡◌, true, false, None, Some, IfOk, OnOk, OnErr, IfErr, [], ◌∷◌};
 ghost use Rattle.std.specs.List.{AllByRecursion};
-ghost use Rattle.validate_resources.specs.Context.{Valid, is_index_type, is_number};
-ghost use Rattle.validation_rules.specs.Access.{memory_index as index_of_memory, address, access, load, store, narrower, memory_size, memory_grow, memory_fill, memory_discard, memory_copy, is_segment, memory_init, data_drop};
+ghost use Rattle.validate_resources.specs.Context.{Valid, is_index_type};
+ghost use Rattle.validation_rules.specs.Access.{memory_address_type as index_of_memory, address_type, access_row, narrower_type, memory_size_row, memory_grow_row, memory_fill_row, memory_discard_row, memory_copy_row, is_segment, memory_init_row, data_drop_row};
 ghost use Rattle.validate_types.specs.declared.gate.Gate.TheVariants.{BulkMemory, BulkMemoryOpt, MemoryControl};
-ghost use Rattle.validation_rules.specs.Table.{alike, gated};
+ghost use Rattle.validate_visit.specs.declared.op.Op.{Op};
+ghost use Rattle.validation_rules.specs.Table.{operator, row_operator, gated_row};
 ghost use Rattle.validate_stacks.specs.Visits.{MayVisit, Meets};
 
+use crate::numbers::{number, packed};
 use crate::plain::{check_enabled, check_plain};
 use validate_resources::WasmModuleResources;
 use validate_stacks::Stacks;
 use validate_types::{Error, Gate, ValType};
-use validate_visit::{MemArg, MemArgTarget};
+use validate_visit::{MemArg, MemArgTarget, MemoryOp};
+
+/// An operator on memories, by its row.
+pub fn check_memory<R: WasmModuleResources>(
+    stacks: &mut Stacks,
+    resources: &R,
+    offset: u64,
+    op: MemoryOp,
+) -> Result<(), Error>
+    requires { MayVisit (R.context resources.now) stacks.old }
+    ensures { Meets (R.context resources.now) (λ cx. operator cx (Op.Memory op)) offset stacks.old.body
+        result stacks.new.body }
+{
+    let gate = op.gate();
+    match op {
+        MemoryOp::Load(ty, memarg) => {
+            check_access(stacks, resources, offset, gate, memarg, &[], &[number(ty)])
+        }
+        MemoryOp::LoadPacked(part, _, memarg) => {
+            check_access(
+                stacks,
+                resources,
+                offset,
+                gate,
+                memarg,
+                &[],
+                &[packed(part)],
+            )
+        }
+        MemoryOp::Store(ty, memarg) => {
+            check_access(stacks, resources, offset, gate, memarg, &[number(ty)], &[])
+        }
+        MemoryOp::StorePacked(part, memarg) => {
+            check_access(
+                stacks,
+                resources,
+                offset,
+                gate,
+                memarg,
+                &[packed(part)],
+                &[],
+            )
+        }
+        MemoryOp::MemorySize(index) => check_memory_size(stacks, resources, offset, index),
+        MemoryOp::MemoryGrow(index) => check_memory_grow(stacks, resources, offset, index),
+        MemoryOp::MemoryInit { data_index, mem } => check_memory_init(
+            stacks, resources, offset, data_index, mem,
+        ),
+        MemoryOp::DataDrop(index) => check_data_drop(stacks, resources, offset, index),
+        MemoryOp::MemoryCopy { dst_mem, src_mem } => check_memory_copy(
+            stacks, resources, offset, dst_mem, src_mem,
+        ),
+        MemoryOp::MemoryFill(index) => check_memory_fill(stacks, resources, offset, index),
+        MemoryOp::MemoryDiscard(index) => check_memory_discard(stacks, resources, offset, index),
+    }
+}
 
 /// The type of the addresses of a memory, or the refusal of an index past the end (wasmparser's
 /// `check_memory_index`).
@@ -50,9 +107,9 @@ pub(crate) fn check_memarg<R: WasmModuleResources>(
     offset: u64,
     memarg: MemArg,
 ) -> Result<ValType, Error>
-    ensures found { IfOk result (λ it. address (R.context resources.now) memarg ≡ Some it) }
+    ensures found { IfOk result (λ it. address_type (R.context resources.now) memarg ≡ Some it) }
     ensures index { IfOk result (λ it. is_index_type it ≡ true) }
-    ensures refused { OnErr result (address (R.context resources.now) memarg ≡ None) }
+    ensures refused { OnErr result (address_type (R.context resources.now) memarg ≡ None) }
     ensures offset { IfErr result (λ e. e.offset ≡ offset) }
 {
     if memarg.align > memarg.max_align {
@@ -82,7 +139,10 @@ pub(crate) fn check_access<R: WasmModuleResources>(
     requires visit { MayVisit (R.context resources.now) stacks.old }
     requires above { AllByRecursion (Valid (R.context resources.now)) above.now }
     requires pushed { AllByRecursion (Valid (R.context resources.now)) pushed.now }
-    ensures { Meets (R.context resources.now) (λ cx. alike (gated cx gate (access (address cx.of_module memarg) above.now pushed.now))) offset stacks.old result stacks.new }
+    ensures { Meets (R.context resources.now)
+        (λ cx. row_operator (gated_row cx gate
+        (access_row (address_type cx.of_module memarg) above.now pushed.now))) offset stacks.old.body
+        result stacks.new.body }
 {
     check_enabled(stacks, offset, gate)?;
     let address = check_memarg(stacks, resources, offset, memarg)?;
@@ -91,61 +151,31 @@ pub(crate) fn check_access<R: WasmModuleResources>(
     stacks.push_types(offset, pushed)
 }
 
-/// A load: `[it] -> [ty]`.
-pub fn check_load<R: WasmModuleResources>(
-    stacks: &mut Stacks,
-    resources: &R,
-    offset: u64,
-    gate: Gate,
-    memarg: MemArg,
-    ty: ValType,
-) -> Result<(), Error>
-    requires visit { MayVisit (R.context resources.now) stacks.old }
-    requires number { is_number ty ≡ true }
-    ensures { Meets (R.context resources.now) (λ cx. alike (gated cx gate (load cx memarg ty))) offset stacks.old result stacks.new }
-{
-    check_access(stacks, resources, offset, gate, memarg, &[], &[ty])
-}
-
-/// A store: `[it ty] -> []`.
-pub fn check_store<R: WasmModuleResources>(
-    stacks: &mut Stacks,
-    resources: &R,
-    offset: u64,
-    gate: Gate,
-    memarg: MemArg,
-    ty: ValType,
-) -> Result<(), Error>
-    requires visit { MayVisit (R.context resources.now) stacks.old }
-    requires number { is_number ty ≡ true }
-    ensures { Meets (R.context resources.now) (λ cx. alike (gated cx gate (store cx memarg ty))) offset stacks.old result stacks.new }
-{
-    check_access(stacks, resources, offset, gate, memarg, &[ty], &[])
-}
-
 /// `memory.size`: `[] -> [it]`.
-pub fn check_memory_size<R: WasmModuleResources>(
+fn check_memory_size<R: WasmModuleResources>(
     stacks: &mut Stacks,
     resources: &R,
     offset: u64,
     memory_index: u32,
 ) -> Result<(), Error>
     requires { MayVisit (R.context resources.now) stacks.old }
-    ensures { Meets (R.context resources.now) (λ cx. alike (memory_size cx memory_index)) offset stacks.old result stacks.new }
+    ensures { Meets (R.context resources.now) (λ cx. row_operator (memory_size_row cx memory_index))
+        offset stacks.old.body result stacks.new.body }
 {
     let index_type = check_memory_index(stacks, resources, offset, memory_index)?;
     check_plain(stacks, resources, offset, Gate::Mvp, &[], &[index_type])
 }
 
 /// `memory.grow`: `[it] -> [it]`.
-pub fn check_memory_grow<R: WasmModuleResources>(
+fn check_memory_grow<R: WasmModuleResources>(
     stacks: &mut Stacks,
     resources: &R,
     offset: u64,
     memory_index: u32,
 ) -> Result<(), Error>
     requires { MayVisit (R.context resources.now) stacks.old }
-    ensures { Meets (R.context resources.now) (λ cx. alike (memory_grow cx memory_index)) offset stacks.old result stacks.new }
+    ensures { Meets (R.context resources.now) (λ cx. row_operator (memory_grow_row cx memory_index))
+        offset stacks.old.body result stacks.new.body }
 {
     let index_type = check_memory_index(stacks, resources, offset, memory_index)?;
     check_plain(
@@ -159,14 +189,16 @@ pub fn check_memory_grow<R: WasmModuleResources>(
 }
 
 /// `memory.fill`: `[it i32 it] -> []`. Its gate is `bulk_memory_opt`.
-pub fn check_memory_fill<R: WasmModuleResources>(
+fn check_memory_fill<R: WasmModuleResources>(
     stacks: &mut Stacks,
     resources: &R,
     offset: u64,
     memory_index: u32,
 ) -> Result<(), Error>
     requires { MayVisit (R.context resources.now) stacks.old }
-    ensures { Meets (R.context resources.now) (λ cx. alike (gated cx BulkMemoryOpt (memory_fill cx memory_index))) offset stacks.old result stacks.new }
+    ensures { Meets (R.context resources.now)
+        (λ cx. row_operator (gated_row cx BulkMemoryOpt (memory_fill_row cx memory_index))) offset
+        stacks.old.body result stacks.new.body }
 {
     check_enabled(stacks, offset, Gate::BulkMemoryOpt)?;
     let index_type = check_memory_index(stacks, resources, offset, memory_index)?;
@@ -181,14 +213,16 @@ pub fn check_memory_fill<R: WasmModuleResources>(
 }
 
 /// `memory.discard`: `[it it] -> []`. Its gate is `memory_control`.
-pub fn check_memory_discard<R: WasmModuleResources>(
+fn check_memory_discard<R: WasmModuleResources>(
     stacks: &mut Stacks,
     resources: &R,
     offset: u64,
     memory_index: u32,
 ) -> Result<(), Error>
     requires { MayVisit (R.context resources.now) stacks.old }
-    ensures { Meets (R.context resources.now) (λ cx. alike (gated cx MemoryControl (memory_discard cx memory_index))) offset stacks.old result stacks.new }
+    ensures { Meets (R.context resources.now)
+        (λ cx. row_operator (gated_row cx MemoryControl (memory_discard_row cx memory_index))) offset
+        stacks.old.body result stacks.new.body }
 {
     check_enabled(stacks, offset, Gate::MemoryControl)?;
     let index_type = check_memory_index(stacks, resources, offset, memory_index)?;
@@ -204,7 +238,7 @@ pub fn check_memory_discard<R: WasmModuleResources>(
 
 /// `memory.copy`: `[it(dst) it(src) it] -> []`, the last of 32 bits where one of the others is. Its
 /// gate is `bulk_memory_opt`.
-pub fn check_memory_copy<R: WasmModuleResources>(
+fn check_memory_copy<R: WasmModuleResources>(
     stacks: &mut Stacks,
     resources: &R,
     offset: u64,
@@ -212,7 +246,9 @@ pub fn check_memory_copy<R: WasmModuleResources>(
     src_mem: u32,
 ) -> Result<(), Error>
     requires { MayVisit (R.context resources.now) stacks.old }
-    ensures { Meets (R.context resources.now) (λ cx. alike (gated cx BulkMemoryOpt (memory_copy cx dst_mem src_mem))) offset stacks.old result stacks.new }
+    ensures { Meets (R.context resources.now)
+        (λ cx. row_operator (gated_row cx BulkMemoryOpt (memory_copy_row cx dst_mem src_mem))) offset
+        stacks.old.body result stacks.new.body }
 {
     check_enabled(stacks, offset, Gate::BulkMemoryOpt)?;
     let dst = check_memory_index(stacks, resources, offset, dst_mem)?;
@@ -232,7 +268,7 @@ pub fn check_memory_copy<R: WasmModuleResources>(
 pub(crate) fn narrower_of(dst: ValType, src: ValType) -> ValType
     requires dst { is_index_type dst ≡ true }
     requires src { is_index_type src ≡ true }
-    ensures narrower { result ≡ narrower dst src }
+    ensures narrower { result ≡ narrower_type dst src }
     ensures index { is_index_type result ≡ true }
 {
     match src {
@@ -275,7 +311,7 @@ fn unknown_data_segment(stacks: &Stacks, offset: u64, data_index: u32) -> Error
 }
 
 /// `memory.init`: `[it i32 i32] -> []` of a data segment that is there. Its gate is `bulk_memory`.
-pub fn check_memory_init<R: WasmModuleResources>(
+fn check_memory_init<R: WasmModuleResources>(
     stacks: &mut Stacks,
     resources: &R,
     offset: u64,
@@ -283,7 +319,9 @@ pub fn check_memory_init<R: WasmModuleResources>(
     memory_index: u32,
 ) -> Result<(), Error>
     requires { MayVisit (R.context resources.now) stacks.old }
-    ensures { Meets (R.context resources.now) (λ cx. alike (gated cx BulkMemory (memory_init cx data_index memory_index))) offset stacks.old result stacks.new }
+    ensures { Meets (R.context resources.now)
+        (λ cx. row_operator (gated_row cx BulkMemory (memory_init_row cx data_index memory_index)))
+        offset stacks.old.body result stacks.new.body }
 {
     check_enabled(stacks, offset, Gate::BulkMemory)?;
     let index_type = check_memory_index(stacks, resources, offset, memory_index)?;
@@ -293,14 +331,16 @@ pub fn check_memory_init<R: WasmModuleResources>(
 }
 
 /// `data.drop`: `[] -> []` of a data segment that is there. Its gate is `bulk_memory`.
-pub fn check_data_drop<R: WasmModuleResources>(
+fn check_data_drop<R: WasmModuleResources>(
     stacks: &mut Stacks,
     resources: &R,
     offset: u64,
     data_index: u32,
 ) -> Result<(), Error>
     requires { MayVisit (R.context resources.now) stacks.old }
-    ensures { Meets (R.context resources.now) (λ cx. alike (gated cx BulkMemory (data_drop cx data_index))) offset stacks.old result stacks.new }
+    ensures { Meets (R.context resources.now)
+        (λ cx. row_operator (gated_row cx BulkMemory (data_drop_row cx data_index))) offset
+        stacks.old.body result stacks.new.body }
 {
     check_enabled(stacks, offset, Gate::BulkMemory)?;
     check_data_segment(stacks, resources, offset, data_index)?;

@@ -1,138 +1,173 @@
-//! Numeric operators, by shape (WebAssembly core specification, "Numeric Instructions").
+//! Operators on numbers, by shape (WebAssembly core specification, "Numeric Instructions").
 
-ghost use Rattle.std.specs.Prelude.{◌≡◌, true};
-ghost use Rattle.validate_resources.specs.Context.{is_number};
-ghost use Rattle.validation_rules.specs.Table.{alike, gated, constant, test, unary, binary, comparison, conversion, binary_wide, multiply_wide};
+ghost use Rattle.validate_visit.specs.declared.op.Op.{Op};
+ghost use Rattle.validation_rules.specs.Table.{operator};
 ghost use Rattle.validate_stacks.specs.Visits.{MayVisit, Meets};
 
+use crate::numbers::{float, integer, number, packed};
 use crate::plain::check_plain;
 use validate_resources::WasmModuleResources;
 use validate_stacks::Stacks;
-use validate_types::{Error, Gate, ValType};
+use validate_types::{Error, ValType};
+use validate_visit::{ConvertOp, NumericOp};
 
-/// A constant: `[] -> [ty]`.
-pub fn check_const<R: WasmModuleResources>(
+/// An operator on numbers of one type, or a constant.
+pub fn check_numeric<R: WasmModuleResources>(
     stacks: &mut Stacks,
     resources: &R,
     offset: u64,
-    gate: Gate,
-    ty: ValType,
-) -> Result<(), Error>
-    requires visit { MayVisit (R.context resources.now) stacks.old }
-    requires number { is_number ty ≡ true }
-    ensures { Meets (R.context resources.now) (λ cx. alike (gated cx gate (constant ty))) offset stacks.old result stacks.new }
-{
-    check_plain(stacks, resources, offset, gate, &[], &[ty])
-}
-
-/// A test: `[ty] -> [i32]`.
-pub fn check_test_op<R: WasmModuleResources>(
-    stacks: &mut Stacks,
-    resources: &R,
-    offset: u64,
-    gate: Gate,
-    ty: ValType,
-) -> Result<(), Error>
-    requires visit { MayVisit (R.context resources.now) stacks.old }
-    requires number { is_number ty ≡ true }
-    ensures { Meets (R.context resources.now) (λ cx. alike (gated cx gate (test ty))) offset stacks.old result stacks.new }
-{
-    check_plain(stacks, resources, offset, gate, &[ty], &[ValType::I32])
-}
-
-/// A binary operator: `[ty ty] -> [ty]` (wasmparser's `check_binary_op`).
-pub fn check_binary_op<R: WasmModuleResources>(
-    stacks: &mut Stacks,
-    resources: &R,
-    offset: u64,
-    gate: Gate,
-    ty: ValType,
-) -> Result<(), Error>
-    requires visit { MayVisit (R.context resources.now) stacks.old }
-    requires number { is_number ty ≡ true }
-    ensures { Meets (R.context resources.now) (λ cx. alike (gated cx gate (binary ty))) offset stacks.old result stacks.new }
-{
-    check_plain(stacks, resources, offset, gate, &[ty, ty], &[ty])
-}
-
-/// A unary operator: `[ty] -> [ty]` (wasmparser's `check_unary_op`).
-pub fn check_unary_op<R: WasmModuleResources>(
-    stacks: &mut Stacks,
-    resources: &R,
-    offset: u64,
-    gate: Gate,
-    ty: ValType,
-) -> Result<(), Error>
-    requires visit { MayVisit (R.context resources.now) stacks.old }
-    requires number { is_number ty ≡ true }
-    ensures { Meets (R.context resources.now) (λ cx. alike (gated cx gate (unary ty))) offset stacks.old result stacks.new }
-{
-    check_plain(stacks, resources, offset, gate, &[ty], &[ty])
-}
-
-/// A comparison: `[ty ty] -> [i32]` (wasmparser's `check_cmp_op`).
-pub fn check_cmp_op<R: WasmModuleResources>(
-    stacks: &mut Stacks,
-    resources: &R,
-    offset: u64,
-    gate: Gate,
-    ty: ValType,
-) -> Result<(), Error>
-    requires visit { MayVisit (R.context resources.now) stacks.old }
-    requires number { is_number ty ≡ true }
-    ensures { Meets (R.context resources.now) (λ cx. alike (gated cx gate (comparison ty))) offset stacks.old result stacks.new }
-{
-    check_plain(stacks, resources, offset, gate, &[ty, ty], &[ValType::I32])
-}
-
-/// A conversion: `[from] -> [into]` (wasmparser's `check_conversion_op`).
-pub fn check_conversion_op<R: WasmModuleResources>(
-    stacks: &mut Stacks,
-    resources: &R,
-    offset: u64,
-    gate: Gate,
-    into: ValType,
-    from: ValType,
-) -> Result<(), Error>
-    requires visit { MayVisit (R.context resources.now) stacks.old }
-    requires into { is_number into ≡ true }
-    requires from { is_number from ≡ true }
-    ensures { Meets (R.context resources.now) (λ cx. alike (gated cx gate (conversion into from))) offset stacks.old result stacks.new }
-{
-    check_plain(stacks, resources, offset, gate, &[from], &[into])
-}
-
-/// `i64.add128` and `i64.sub128`: `[i64 i64 i64 i64] -> [i64 i64]` (wasmparser's `check_binop128`).
-pub fn check_binop128<R: WasmModuleResources>(
-    stacks: &mut Stacks,
-    resources: &R,
-    offset: u64,
-    gate: Gate,
+    op: NumericOp,
 ) -> Result<(), Error>
     requires { MayVisit (R.context resources.now) stacks.old }
-    ensures { Meets (R.context resources.now) (λ cx. alike (gated cx gate binary_wide)) offset stacks.old result stacks.new }
+    ensures { Meets (R.context resources.now) (λ cx. operator cx (Op.Numeric op)) offset stacks.old.body
+        result stacks.new.body }
 {
-    let ty = ValType::I64;
-    check_plain(
-        stacks,
-        resources,
-        offset,
-        gate,
-        &[ty, ty, ty, ty],
-        &[ty, ty],
-    )
+    let gate = op.gate();
+    match op {
+        NumericOp::I32Const(_) => {
+            check_plain(stacks, resources, offset, gate, &[], &[ValType::I32])
+        }
+        NumericOp::I64Const(_) => {
+            check_plain(stacks, resources, offset, gate, &[], &[ValType::I64])
+        }
+        NumericOp::F32Const(_) => {
+            check_plain(stacks, resources, offset, gate, &[], &[ValType::F32])
+        }
+        NumericOp::F64Const(_) => {
+            check_plain(stacks, resources, offset, gate, &[], &[ValType::F64])
+        }
+        NumericOp::Eqz(ty) => {
+            check_plain(
+                stacks,
+                resources,
+                offset,
+                gate,
+                &[integer(ty)],
+                &[ValType::I32],
+            )
+        }
+        NumericOp::IntegerUnary(ty, _) => {
+            let ty = integer(ty);
+            check_plain(stacks, resources, offset, gate, &[ty], &[ty])
+        }
+        NumericOp::IntegerBinary(ty, _) => {
+            let ty = integer(ty);
+            check_plain(stacks, resources, offset, gate, &[ty, ty], &[ty])
+        }
+        NumericOp::IntegerComparison(ty, _) => {
+            let ty = integer(ty);
+            check_plain(stacks, resources, offset, gate, &[ty, ty], &[ValType::I32])
+        }
+        NumericOp::FloatUnary(ty, _) => {
+            let ty = float(ty);
+            check_plain(stacks, resources, offset, gate, &[ty], &[ty])
+        }
+        NumericOp::FloatBinary(ty, _) => {
+            let ty = float(ty);
+            check_plain(stacks, resources, offset, gate, &[ty, ty], &[ty])
+        }
+        NumericOp::FloatComparison(ty, _) => {
+            let ty = float(ty);
+            check_plain(stacks, resources, offset, gate, &[ty, ty], &[ValType::I32])
+        }
+        NumericOp::Add128 | NumericOp::Sub128 => {
+            let ty = ValType::I64;
+            check_plain(
+                stacks,
+                resources,
+                offset,
+                gate,
+                &[ty, ty, ty, ty],
+                &[ty, ty],
+            )
+        }
+        NumericOp::MulWide(_) => {
+            let ty = ValType::I64;
+            check_plain(stacks, resources, offset, gate, &[ty, ty], &[ty, ty])
+        }
+    }
 }
 
-/// `i64.mul_wide_s` and `i64.mul_wide_u`: `[i64 i64] -> [i64 i64]` (wasmparser's `check_i64_mul_wide`).
-pub fn check_i64_mul_wide<R: WasmModuleResources>(
+/// A conversion, or an extension of a sign.
+pub fn check_convert<R: WasmModuleResources>(
     stacks: &mut Stacks,
     resources: &R,
     offset: u64,
-    gate: Gate,
+    op: ConvertOp,
 ) -> Result<(), Error>
     requires { MayVisit (R.context resources.now) stacks.old }
-    ensures { Meets (R.context resources.now) (λ cx. alike (gated cx gate multiply_wide)) offset stacks.old result stacks.new }
+    ensures { Meets (R.context resources.now) (λ cx. operator cx (Op.Convert op)) offset stacks.old.body
+        result stacks.new.body }
 {
-    let ty = ValType::I64;
-    check_plain(stacks, resources, offset, gate, &[ty, ty], &[ty, ty])
+    let gate = op.gate();
+    match op {
+        ConvertOp::Wrap => {
+            check_plain(
+                stacks,
+                resources,
+                offset,
+                gate,
+                &[ValType::I64],
+                &[ValType::I32],
+            )
+        }
+        ConvertOp::Extend(_) => {
+            check_plain(
+                stacks,
+                resources,
+                offset,
+                gate,
+                &[ValType::I32],
+                &[ValType::I64],
+            )
+        }
+        ConvertOp::ExtendPacked(part) => {
+            let ty = packed(part);
+            check_plain(stacks, resources, offset, gate, &[ty], &[ty])
+        }
+        ConvertOp::Trunc(into, from, _) | ConvertOp::TruncSat(into, from, _) => {
+            check_plain(
+                stacks,
+                resources,
+                offset,
+                gate,
+                &[float(from)],
+                &[integer(into)],
+            )
+        }
+        ConvertOp::Convert(into, from, _) => {
+            check_plain(
+                stacks,
+                resources,
+                offset,
+                gate,
+                &[integer(from)],
+                &[float(into)],
+            )
+        }
+        ConvertOp::Demote => {
+            check_plain(
+                stacks,
+                resources,
+                offset,
+                gate,
+                &[ValType::F64],
+                &[ValType::F32],
+            )
+        }
+        ConvertOp::Promote => {
+            check_plain(
+                stacks,
+                resources,
+                offset,
+                gate,
+                &[ValType::F32],
+                &[ValType::F64],
+            )
+        }
+        ConvertOp::Reinterpret(into) => {
+            let from = number(into.reinterpreted());
+            check_plain(stacks, resources, offset, gate, &[from], &[number(into)])
+        }
+    }
 }

@@ -2,7 +2,8 @@
 
 ghost use Rattle.std.specs.Prelude.{◌≡◌, true, false, [], None, Some, IfOk, OnErr, IfErr};
 ghost use Rattle.validate_types.specs.Gates.{is_open};
-ghost use Rattle.validation_rules.specs.Table.{plain, looking, drops, is_selectable, selected, selects, typed_select, alike};
+ghost use Rattle.validation_rules.specs.Table.{plain_row, looking_row, drop_pushes, is_selectable, select_result, select_pushes, typed_select_row, row_operator, gated_row};
+ghost use Rattle.validate_types.specs.declared.gate.Gate.TheVariants.{ReferenceTypes};
 ghost use Rattle.validate_stacks.specs.Visits.{step_body, MayVisit, Meets};
 
 use crate::plain::{check_enabled, check_plain};
@@ -17,8 +18,12 @@ pub fn check_drop<R: WasmModuleResources>(
     offset: u64,
 ) -> Result<(), Error>
     requires { MayVisit (R.context resources.now) stacks.old }
-    ensures visit { Meets (R.context resources.now) (λ cx. alike (looking true 1 drops)) offset stacks.old result stacks.new }
-    ensures memory { OnErr result (step_body (R.context resources.now) (λ cx. alike (looking true 1 drops)) stacks.old ≡ None) }
+    ensures visit { Meets (R.context resources.now)
+        (λ cx. row_operator (looking_row true 1 drop_pushes)) offset stacks.old.body result
+        stacks.new.body }
+    ensures memory { stacks.old.body.undone ≡ None
+        → OnErr result (step_body (R.context resources.now)
+        (λ cx. row_operator (looking_row true 1 drop_pushes)) stacks.old.body ≡ None) }
 {
     match stacks.pop_operand(resources, offset, None) {
         Ok(_) => Ok(()),
@@ -40,8 +45,8 @@ fn can_select(operand: MaybeType) -> bool
 /// What `select` gives for its two operands: an unknown one gives way to the other, and known ones
 /// have to be of one type.
 fn select_type(lower: MaybeType, upper: MaybeType, offset: u64) -> Result<MaybeType, Error>
-    ensures given { IfOk result (λ t. selected lower upper ≡ Some t) }
-    ensures refused { OnErr result (selected lower upper ≡ None) }
+    ensures given { IfOk result (λ t. select_result lower upper ≡ Some t) }
+    ensures refused { OnErr result (select_result lower upper ≡ None) }
     ensures offset { IfErr result (λ e. e.offset ≡ offset) }
     ensures memory { IfErr result (λ e. e.memory ≡ false) }
 {
@@ -66,7 +71,9 @@ pub fn check_select<R: WasmModuleResources>(
     offset: u64,
 ) -> Result<(), Error>
     requires { MayVisit (R.context resources.now) stacks.old }
-    ensures { Meets (R.context resources.now) (λ cx. alike (looking true 3 (selects cx))) offset stacks.old result stacks.new }
+    ensures { Meets (R.context resources.now)
+        (λ cx. row_operator (looking_row true 3 (select_pushes cx))) offset stacks.old.body result
+        stacks.new.body }
 {
     stacks.pop_operand(resources, offset, Some(ValType::I32))?;
     let upper = stacks.pop_operand(resources, offset, None)?;
@@ -86,7 +93,9 @@ pub fn check_typed_select<R: WasmModuleResources>(
     ty: ValType,
 ) -> Result<(), Error>
     requires { MayVisit (R.context resources.now) stacks.old }
-    ensures { Meets (R.context resources.now) (λ cx. alike (typed_select cx ty)) offset stacks.old result stacks.new }
+    ensures { Meets (R.context resources.now)
+        (λ cx. row_operator (gated_row cx ReferenceTypes (typed_select_row cx ty))) offset
+        stacks.old.body result stacks.new.body }
 {
     check_enabled(stacks, offset, Gate::ReferenceTypes)?;
     let mut checked = ty;
@@ -102,9 +111,12 @@ pub fn check_typed_select_multi<R: WasmModuleResources>(
     offset: u64,
 ) -> Result<(), Error>
     requires { MayVisit (R.context resources.now) stacks.old }
-    ensures visit { Meets (R.context resources.now) (λ cx. alike (plain false [] [])) offset stacks.old result stacks.new }
+    ensures visit { Meets (R.context resources.now)
+        (λ cx. row_operator (gated_row cx ReferenceTypes (plain_row false [] []))) offset
+        stacks.old.body result stacks.new.body }
     ensures memory { IfErr result (λ e. e.memory ≡ false) }
 {
+    // The contract alone reads it.
     let _resources = resources;
     check_enabled(stacks, offset, Gate::ReferenceTypes)?;
     Err(Error::new("invalid result arity", offset))

@@ -4,13 +4,14 @@
 ghost use Rattle.std.specs.Prelude.{◌≡◌, true, false, [], ◌∷◌, None, Some, IfOk, OnOk, OnErr, IfErr};
 ghost use Rattle.validate_types.specs.declared.gate.Gate.TheVariants.{ReferenceTypes, FunctionReferences};
 ghost use Rattle.validate_resources.specs.Context.{ModuleContext};
-ghost use Rattle.validation_rules.specs.References.{null_gate, ref_null, ref_func, without_null, is_null, non_null_above, br_on_null, last_reference as ending, br_on_non_null};
+ghost use Rattle.validation_rules.specs.References.{is_null_gate_open, ref_null_row, ref_func_row, without_null, null_test_pushes, non_null_pushes, br_on_null_row, last_reference as ending, br_on_non_null_row};
 ghost use Rattle.validation_rules.specs.Static.{bind};
-ghost use Rattle.validation_rules.specs.Table.{looking, alike, flat, gated};
+ghost use Rattle.validation_rules.specs.Table.{looking_row, row_operator, flat_operator, gated_row};
 ghost use Rattle.validation_rules.specs.Valid.{OperandIsValid};
+ghost use Rattle.validate_stacks.specs.Attempts.{phase_moved};
 ghost use Rattle.validate_stacks.specs.Pops.{IsKept};
 ghost use Rattle.validate_stacks.specs.State.{IsValid, context};
-ghost use Rattle.validate_stacks.specs.Steps.{found as top, popped, pushed};
+ghost use Rattle.validate_stacks.specs.Steps.{found_in_body as top, body_popped, body_pushed};
 ghost use Rattle.validate_stacks.specs.Visits.{MayVisit, Meets};
 
 use crate::branches::label;
@@ -25,8 +26,10 @@ use validate_types::{Error, Gate, HeapType, MaybeType, RefType, UnpackedIndex, V
 /// The gate of the type of null. A type index of 2^20 or more, to which no reference can be made, has none:
 /// a lookup of at most 1,000,000 types refuses it later on.
 fn check_null_gate(stacks: &Stacks, offset: u64, heap_type: HeapType) -> Result<(), Error>
-    ensures open { OnOk result ((md : ModuleContext) → null_gate (context md stacks.now) heap_type ≡ true) }
-    ensures closed { OnErr result ((md : ModuleContext) → null_gate (context md stacks.now) heap_type ≡ false) }
+    ensures open { OnOk result ((md : ModuleContext)
+        → is_null_gate_open (context md stacks.now.body) heap_type ≡ true) }
+    ensures closed { OnErr result ((md : ModuleContext)
+        → is_null_gate_open (context md stacks.now.body) heap_type ≡ false) }
     ensures offset { IfErr result (λ e. e.offset ≡ offset) }
     ensures memory { IfErr result (λ e. e.memory ≡ false) }
 {
@@ -48,7 +51,9 @@ pub fn check_ref_null<R: WasmModuleResources>(
     heap_type: HeapType,
 ) -> Result<(), Error>
     requires { MayVisit (R.context resources.now) stacks.old }
-    ensures { Meets (R.context resources.now) (λ cx. alike (gated cx ReferenceTypes (ref_null cx heap_type))) offset stacks.old result stacks.new }
+    ensures { Meets (R.context resources.now)
+        (λ cx. row_operator (gated_row cx ReferenceTypes (ref_null_row cx heap_type))) offset
+        stacks.old.body result stacks.new.body }
 {
     laws(resources);
     check_enabled(stacks, offset, Gate::ReferenceTypes)?;
@@ -77,7 +82,9 @@ pub fn check_ref_func<R: WasmModuleResources>(
     function_index: u32,
 ) -> Result<(), Error>
     requires { MayVisit (R.context resources.now) stacks.old }
-    ensures { Meets (R.context resources.now) (λ cx. alike (gated cx ReferenceTypes (ref_func cx function_index))) offset stacks.old result stacks.new }
+    ensures { Meets (R.context resources.now)
+        (λ cx. row_operator (gated_row cx ReferenceTypes (ref_func_row cx function_index))) offset
+        stacks.old.body result stacks.new.body }
 {
     laws(resources);
     check_enabled(stacks, offset, Gate::ReferenceTypes)?;
@@ -135,13 +142,14 @@ fn pop_non_null_ref<R: WasmModuleResources>(
     resources: &R,
     offset: u64,
 ) -> Result<MaybeType, Error>
-    requires { IsValid (R.context resources.now) stacks.old }
-    ensures given { IfOk result (λ t. bind (top stacks.old) without_null ≡ Some t) }
+    requires { IsValid (R.context resources.now) stacks.old.body }
+    ensures given { IfOk result (λ t. bind (top stacks.old.body) without_null ≡ Some t) }
     ensures operand { IfOk result (λ t. OperandIsValid (R.context resources.now) t) }
-    ensures popped { OnOk result (stacks.new ≡ popped stacks.old) }
-    ensures refused { OnErr result (bind (top stacks.old) without_null ≡ None) }
-    ensures valid { IsValid (R.context resources.now) stacks.new }
-    ensures kept { IsKept stacks.old stacks.new }
+    ensures popped { OnOk result (stacks.new.body ≡ body_popped stacks.old.body) }
+    ensures refused { IfErr result (λ e. e.memory ≡ false → bind (top stacks.old.body) without_null ≡ None) }
+    ensures phase { phase_moved stacks.new.phase ≡ phase_moved stacks.old.phase }
+    ensures valid { IsValid (R.context resources.now) stacks.new.body }
+    ensures kept { IsKept stacks.old.body stacks.new.body }
     ensures offset { IfErr result (λ e. e.offset ≡ offset) }
 {
     let found = stacks.pop_operand(resources, offset, None)?;
@@ -155,7 +163,9 @@ pub fn check_ref_is_null<R: WasmModuleResources>(
     offset: u64,
 ) -> Result<(), Error>
     requires { MayVisit (R.context resources.now) stacks.old }
-    ensures { Meets (R.context resources.now) (λ cx. alike (gated cx ReferenceTypes (looking true 1 is_null))) offset stacks.old result stacks.new }
+    ensures { Meets (R.context resources.now)
+        (λ cx. row_operator (gated_row cx ReferenceTypes (looking_row true 1 null_test_pushes))) offset
+        stacks.old.body result stacks.new.body }
 {
     check_enabled(stacks, offset, Gate::ReferenceTypes)?;
     pop_non_null_ref(stacks, resources, offset)?;
@@ -164,11 +174,12 @@ pub fn check_ref_is_null<R: WasmModuleResources>(
 
 /// Pushes what was found.
 fn push_found(stacks: &mut Stacks, offset: u64, found: MaybeType) -> Result<(), Error>
-    ensures pushed { OnOk result (stacks.new ≡ pushed found stacks.old) }
+    ensures pushed { OnOk result (stacks.new.body ≡ body_pushed found stacks.old.body) }
     ensures memory { IfErr result (λ e. e.memory ≡ true) }
     ensures offset { IfErr result (λ e. e.offset ≡ offset) }
-    ensures valid { (md : ModuleContext) → OperandIsValid md found → IsValid md stacks.old → IsValid md stacks.new }
-    ensures kept { IsKept stacks.old stacks.new }
+    ensures valid { (md : ModuleContext) → OperandIsValid md found → IsValid md stacks.old.body
+        → IsValid md stacks.new.body }
+    ensures kept { IsKept stacks.old.body stacks.new.body }
 {
     match stacks.push_operand(found) {
         Ok(()) => Ok(()),
@@ -184,7 +195,9 @@ pub fn check_ref_as_non_null<R: WasmModuleResources>(
     offset: u64,
 ) -> Result<(), Error>
     requires { MayVisit (R.context resources.now) stacks.old }
-    ensures { Meets (R.context resources.now) (λ cx. alike (gated cx FunctionReferences (looking true 1 (non_null_above cx [])))) offset stacks.old result stacks.new }
+    ensures { Meets (R.context resources.now)
+        (λ cx. row_operator (gated_row cx FunctionReferences
+        (looking_row true 1 (non_null_pushes cx [])))) offset stacks.old.body result stacks.new.body }
 {
     check_enabled(stacks, offset, Gate::FunctionReferences)?;
     let reference = pop_non_null_ref(stacks, resources, offset)?;
@@ -200,7 +213,9 @@ pub fn check_br_on_null<R: WasmModuleResources>(
     relative_depth: u32,
 ) -> Result<(), Error>
     requires { MayVisit (R.context resources.now) stacks.old }
-    ensures { Meets (R.context resources.now) (λ cx. flat (λ hs. gated cx FunctionReferences (br_on_null cx hs relative_depth))) offset stacks.old result stacks.new }
+    ensures { Meets (R.context resources.now)
+        (λ cx. flat_operator (λ hs. gated_row cx FunctionReferences
+        (br_on_null_row cx hs relative_depth))) offset stacks.old.body result stacks.new.body }
 {
     check_enabled(stacks, offset, Gate::FunctionReferences)?;
     let reference = pop_non_null_ref(stacks, resources, offset)?;
@@ -242,7 +257,9 @@ pub fn check_br_on_non_null<R: WasmModuleResources>(
     relative_depth: u32,
 ) -> Result<(), Error>
     requires { MayVisit (R.context resources.now) stacks.old }
-    ensures { Meets (R.context resources.now) (λ cx. flat (λ hs. gated cx FunctionReferences (br_on_non_null cx hs relative_depth))) offset stacks.old result stacks.new }
+    ensures { Meets (R.context resources.now)
+        (λ cx. flat_operator (λ hs. gated_row cx FunctionReferences
+        (br_on_non_null_row cx hs relative_depth))) offset stacks.old.body result stacks.new.body }
 {
     check_enabled(stacks, offset, Gate::FunctionReferences)?;
     let (block_type, kind) = label(stacks, offset, relative_depth)?;

@@ -4,8 +4,8 @@ ghost use Rattle.std.specs.Prelude.{◌≡◌, true, false, None, Some, IfOk, On
 ghost use Rattle.validate_resources.specs.Context.{Valid, is_index_type};
 ghost use Rattle.validate_types.specs.Types.{table_index_type};
 ghost use Rattle.validate_types.specs.declared.gate.Gate.TheVariants.{ReferenceTypes, BulkMemory};
-ghost use Rattle.validation_rules.specs.Table.{alike, gated};
-ghost use Rattle.validation_rules.specs.Tables.{table_type, table_get, table_set, table_grow, table_size, table_fill, table_init, elem_drop, table_copy};
+ghost use Rattle.validation_rules.specs.Table.{row_operator, gated_row};
+ghost use Rattle.validation_rules.specs.Tables.{table_type, table_get_row, table_set_row, table_grow_row, table_size_row, table_fill_row, table_init_row, elem_drop_row, table_copy_row};
 ghost use Rattle.validate_stacks.specs.State.{context};
 ghost use Rattle.validate_stacks.specs.Visits.{MayVisit, Meets};
 
@@ -24,10 +24,12 @@ pub(crate) fn table_type_at<R: WasmModuleResources>(
     offset: u64,
     table: u32,
 ) -> Result<TableType, Error>
-    ensures found { IfOk result (λ t. table_type (context (R.context resources.now) stacks.now) table ≡ Some t) }
+    ensures found { IfOk result (λ t. table_type (context (R.context resources.now) stacks.now.body)
+        table ≡ Some t) }
     ensures element { IfOk result (λ t. Valid (R.context resources.now) (ValType.Ref t.element_type)) }
     ensures index { IfOk result (λ t. is_index_type (table_index_type t) ≡ true) }
-    ensures refused { OnErr result (table_type (context (R.context resources.now) stacks.now) table ≡ None) }
+    ensures refused { OnErr result (table_type (context (R.context resources.now) stacks.now.body) table
+        ≡ None) }
     ensures offset { IfErr result (λ e. e.offset ≡ offset) }
 {
     laws(resources);
@@ -90,7 +92,8 @@ fn check_elements<R: WasmModuleResources>(
     requires from { Valid (R.context resources.now) (ValType.Ref from) }
     requires to { Valid (R.context resources.now) (ValType.Ref to) }
     ensures below { OnOk result ((R.context resources.now).below (ValType.Ref from) (ValType.Ref to) ≡ true) }
-    ensures refused { OnErr result ((R.context resources.now).below (ValType.Ref from) (ValType.Ref to) ≡ false) }
+    ensures refused { OnErr result ((R.context resources.now).below (ValType.Ref from) (ValType.Ref to)
+        ≡ false) }
     ensures offset { IfErr result (λ e. e.offset ≡ offset) }
     ensures memory { IfErr result (λ e. e.memory ≡ false) }
 {
@@ -109,7 +112,9 @@ pub fn check_table_get<R: WasmModuleResources>(
     table: u32,
 ) -> Result<(), Error>
     requires { MayVisit (R.context resources.now) stacks.old }
-    ensures { Meets (R.context resources.now) (λ cx. alike (gated cx ReferenceTypes (table_get cx table))) offset stacks.old result stacks.new }
+    ensures { Meets (R.context resources.now)
+        (λ cx. row_operator (gated_row cx ReferenceTypes (table_get_row cx table))) offset
+        stacks.old.body result stacks.new.body }
 {
     check_enabled(stacks, offset, Gate::ReferenceTypes)?;
     let ty = table_type_at(stacks, resources, offset, table)?;
@@ -125,7 +130,9 @@ pub fn check_table_set<R: WasmModuleResources>(
     table: u32,
 ) -> Result<(), Error>
     requires { MayVisit (R.context resources.now) stacks.old }
-    ensures { Meets (R.context resources.now) (λ cx. alike (gated cx ReferenceTypes (table_set cx table))) offset stacks.old result stacks.new }
+    ensures { Meets (R.context resources.now)
+        (λ cx. row_operator (gated_row cx ReferenceTypes (table_set_row cx table))) offset
+        stacks.old.body result stacks.new.body }
 {
     check_enabled(stacks, offset, Gate::ReferenceTypes)?;
     let ty = table_type_at(stacks, resources, offset, table)?;
@@ -141,7 +148,9 @@ pub fn check_table_grow<R: WasmModuleResources>(
     table: u32,
 ) -> Result<(), Error>
     requires { MayVisit (R.context resources.now) stacks.old }
-    ensures { Meets (R.context resources.now) (λ cx. alike (gated cx ReferenceTypes (table_grow cx table))) offset stacks.old result stacks.new }
+    ensures { Meets (R.context resources.now)
+        (λ cx. row_operator (gated_row cx ReferenceTypes (table_grow_row cx table))) offset
+        stacks.old.body result stacks.new.body }
 {
     check_enabled(stacks, offset, Gate::ReferenceTypes)?;
     let ty = table_type_at(stacks, resources, offset, table)?;
@@ -164,7 +173,9 @@ pub fn check_table_size<R: WasmModuleResources>(
     table: u32,
 ) -> Result<(), Error>
     requires { MayVisit (R.context resources.now) stacks.old }
-    ensures { Meets (R.context resources.now) (λ cx. alike (gated cx ReferenceTypes (table_size cx table))) offset stacks.old result stacks.new }
+    ensures { Meets (R.context resources.now)
+        (λ cx. row_operator (gated_row cx ReferenceTypes (table_size_row cx table))) offset
+        stacks.old.body result stacks.new.body }
 {
     check_enabled(stacks, offset, Gate::ReferenceTypes)?;
     let ty = table_type_at(stacks, resources, offset, table)?;
@@ -186,7 +197,9 @@ pub fn check_table_fill<R: WasmModuleResources>(
     table: u32,
 ) -> Result<(), Error>
     requires { MayVisit (R.context resources.now) stacks.old }
-    ensures { Meets (R.context resources.now) (λ cx. alike (gated cx ReferenceTypes (table_fill cx table))) offset stacks.old result stacks.new }
+    ensures { Meets (R.context resources.now)
+        (λ cx. row_operator (gated_row cx ReferenceTypes (table_fill_row cx table))) offset
+        stacks.old.body result stacks.new.body }
 {
     check_enabled(stacks, offset, Gate::ReferenceTypes)?;
     let ty = table_type_at(stacks, resources, offset, table)?;
@@ -211,7 +224,9 @@ pub fn check_table_init<R: WasmModuleResources>(
     table: u32,
 ) -> Result<(), Error>
     requires { MayVisit (R.context resources.now) stacks.old }
-    ensures { Meets (R.context resources.now) (λ cx. alike (gated cx BulkMemory (table_init cx elem_index table))) offset stacks.old result stacks.new }
+    ensures { Meets (R.context resources.now)
+        (λ cx. row_operator (gated_row cx BulkMemory (table_init_row cx elem_index table))) offset
+        stacks.old.body result stacks.new.body }
 {
     check_enabled(stacks, offset, Gate::BulkMemory)?;
     let ty = table_type_at(stacks, resources, offset, table)?;
@@ -229,7 +244,9 @@ pub fn check_elem_drop<R: WasmModuleResources>(
     elem_index: u32,
 ) -> Result<(), Error>
     requires { MayVisit (R.context resources.now) stacks.old }
-    ensures { Meets (R.context resources.now) (λ cx. alike (gated cx BulkMemory (elem_drop cx elem_index))) offset stacks.old result stacks.new }
+    ensures { Meets (R.context resources.now)
+        (λ cx. row_operator (gated_row cx BulkMemory (elem_drop_row cx elem_index))) offset
+        stacks.old.body result stacks.new.body }
 {
     check_enabled(stacks, offset, Gate::BulkMemory)?;
     element_type_at(stacks, resources, offset, elem_index)?;
@@ -246,7 +263,9 @@ pub fn check_table_copy<R: WasmModuleResources>(
     src_table: u32,
 ) -> Result<(), Error>
     requires { MayVisit (R.context resources.now) stacks.old }
-    ensures { Meets (R.context resources.now) (λ cx. alike (gated cx BulkMemory (table_copy cx dst_table src_table))) offset stacks.old result stacks.new }
+    ensures { Meets (R.context resources.now)
+        (λ cx. row_operator (gated_row cx BulkMemory (table_copy_row cx dst_table src_table))) offset
+        stacks.old.body result stacks.new.body }
 {
     check_enabled(stacks, offset, Gate::BulkMemory)?;
     let src = table_type_at(stacks, resources, offset, src_table)?;

@@ -2,10 +2,11 @@
 
 ghost use Rattle.std.specs.Prelude.{◌≡◌, ◌<◌, true, false, None, Some, IfOk, OnOk, IfErr, length, slice_get};
 ghost use Rattle.validate_resources.specs.Context.{ModuleContext};
-ghost use Rattle.validation_rules.specs.Table.{alike, local_get, local_set, local_tee};
+ghost use Rattle.validation_rules.specs.Table.{row_operator, local_get_row, local_set_row, local_tee_row};
+ghost use Rattle.validate_stacks.specs.Attempts.{may_set};
 ghost use Rattle.validate_stacks.specs.Pops.{IsKept};
 ghost use Rattle.validate_stacks.specs.State.{IsValid};
-ghost use Rattle.validate_stacks.specs.Steps.{local_set as with_local_set};
+ghost use Rattle.validate_stacks.specs.Steps.{body_with_local_set};
 ghost use Rattle.validate_stacks.specs.Visits.{MayVisit, Meets};
 
 use validate_resources::WasmModuleResources;
@@ -14,9 +15,9 @@ use validate_types::{Error, ValType};
 
 /// The declared type of a local, or the refusal of an index past the end.
 fn local(stacks: &Stacks, offset: u64, local_index: u32) -> Result<ValType, Error>
-    ensures found { IfOk result (λ ty. slice_get stacks.now.locals local_index ≡ Some ty) }
-    ensures within { OnOk result (local_index < length stacks.now.locals) }
-    ensures missing { IfErr result (λ _. slice_get stacks.now.locals local_index ≡ None) }
+    ensures found { IfOk result (λ ty. slice_get stacks.now.body.locals local_index ≡ Some ty) }
+    ensures within { OnOk result (local_index < length stacks.now.body.locals) }
+    ensures missing { IfErr result (λ _. slice_get stacks.now.body.locals local_index ≡ None) }
     ensures offset { IfErr result (λ e. e.offset ≡ offset) }
 {
     match stacks.locals().get(local_index) {
@@ -45,12 +46,13 @@ fn uninitialized_local(stacks: &Stacks, offset: u64, local_index: u32) -> Error
 
 /// Sets a local, with the offset in the refusal.
 fn set_init(stacks: &mut Stacks, offset: u64, local_index: u32) -> Result<(), Error>
-    requires { local_index < length stacks.old.locals }
-    ensures set { OnOk result (stacks.new ≡ with_local_set local_index stacks.old) }
+    requires declared { local_index < length stacks.old.body.locals }
+    requires set { may_set stacks.old ≡ true }
+    ensures set { OnOk result (stacks.new.body ≡ body_with_local_set local_index stacks.old.body) }
     ensures memory { IfErr result (λ e. e.memory ≡ true) }
     ensures offset { IfErr result (λ e. e.offset ≡ offset) }
-    ensures valid { (md : ModuleContext) → IsValid md stacks.old → IsValid md stacks.new }
-    ensures kept { IsKept stacks.old stacks.new }
+    ensures valid { (md : ModuleContext) → IsValid md stacks.old.body → IsValid md stacks.new.body }
+    ensures kept { IsKept stacks.old.body stacks.new.body }
 {
     match stacks.set_init(local_index) {
         Ok(()) => Ok(()),
@@ -66,8 +68,10 @@ pub fn check_local_get<R: WasmModuleResources>(
     local_index: u32,
 ) -> Result<(), Error>
     requires { MayVisit (R.context resources.now) stacks.old }
-    ensures { Meets (R.context resources.now) (λ cx. alike (local_get cx local_index)) offset stacks.old result stacks.new }
+    ensures { Meets (R.context resources.now) (λ cx. row_operator (local_get_row cx local_index)) offset
+        stacks.old.body result stacks.new.body }
 {
+    // The contract alone reads it.
     let _resources = resources;
     let ty = local(stacks, offset, local_index)?;
     if stacks.is_uninit(local_index) {
@@ -84,7 +88,8 @@ pub fn check_local_set<R: WasmModuleResources>(
     local_index: u32,
 ) -> Result<(), Error>
     requires { MayVisit (R.context resources.now) stacks.old }
-    ensures { Meets (R.context resources.now) (λ cx. alike (local_set cx local_index)) offset stacks.old result stacks.new }
+    ensures { Meets (R.context resources.now) (λ cx. row_operator (local_set_row cx local_index)) offset
+        stacks.old.body result stacks.new.body }
 {
     let ty = local(stacks, offset, local_index)?;
     stacks.pop_types(resources, offset, &[ty])?;
@@ -99,7 +104,8 @@ pub fn check_local_tee<R: WasmModuleResources>(
     local_index: u32,
 ) -> Result<(), Error>
     requires { MayVisit (R.context resources.now) stacks.old }
-    ensures { Meets (R.context resources.now) (λ cx. alike (local_tee cx local_index)) offset stacks.old result stacks.new }
+    ensures { Meets (R.context resources.now) (λ cx. row_operator (local_tee_row cx local_index)) offset
+        stacks.old.body result stacks.new.body }
 {
     let ty = local(stacks, offset, local_index)?;
     stacks.pop_types(resources, offset, &[ty])?;

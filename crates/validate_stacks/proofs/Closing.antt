@@ -9,15 +9,16 @@ use Rattle.validate_visit.specs.declared.frame.FrameKind.{FrameKind}
 use Rattle.validation_rules.specs.Context.{block_signature}
 use Rattle.validation_rules.specs.Fits.{MaybeType, all_fit}
 use Rattle.validation_rules.specs.Rows.{results, guard}
-use Rattle.validation_rules.specs.Static.{Frame, found, below_top, closes, opened as opened_frame}
+use Rattle.validation_rules.specs.Static.{Frame, operands_found, operands_below, may_close, opened_frame}
 use Rattle.validation_rules.specs.Valid.{BlockIsValid}
 use Rattle.validation_rules.proofs.Pops.{and_false, is_empty, closes_whole}
 use Rattle.validation_rules.proofs.Valid.{params_valid, results_valid}
-use Rattle.validate_stacks.specs.Blocks.{close_in, close_frame, head_of, entered}
+use Rattle.validate_stacks.specs.Attempts.{innermost_first_set}
+use Rattle.validate_stacks.specs.Blocks.{closed_body_in, closed_body, head_of, body_with_block}
 use Rattle.validate_stacks.specs.Flat.{with_heights}
-use Rattle.validate_stacks.specs.Pops.{popped_each, pushed_each}
+use Rattle.validate_stacks.specs.Pops.{body_popped_each, body_pushed_each}
 use Rattle.validate_stacks.specs.State.{BodyState, context, IsValid}
-use Rattle.validate_stacks.specs.Steps.{own_of, new_frame, opened, closed, frame_at}
+use Rattle.validate_stacks.specs.Steps.{innermost_operands, empty_frame, body_with_frame, body_without_frame, frame_at}
 use Rattle.validate_stacks.proofs.Whole.{with_frame, popped_whole, pushed_whole}
 
 -- an open frame is found
@@ -31,12 +32,12 @@ some_frame v o h = by v.present.frames refl
         cc
 
 -- the innermost frame, and what is found of it
-pub record Innermost (v : BodyState) (found : FlatFrame) : Type 0 where
+pub record Innermost (v : BodyState) (operands_found : FlatFrame) : Type 0 where
   pub frame : Frame
   pub outer : List Frame
   pub is : v.present.frames ≡ frame ∷ outer
-  pub kind : frame.head.kind ≡ found.kind
-  pub block_type : frame.head.block_type ≡ found.block_type
+  pub kind : frame.head.kind ≡ operands_found.kind
+  pub block_type : frame.head.block_type ≡ operands_found.block_type
 
 pub innermost : (v : BodyState) (r : FlatFrame) → frame_at v 0 ≡ Some r → Innermost v r
 innermost v r h = by v.present.frames refl
@@ -79,55 +80,61 @@ module _ (md : ModuleContext) (v : BodyState) (r : FlatFrame) (rs : List ValType
   results_are : rs ≡ results (context md v) inner.frame.head
   results_are = e ∙ ap (λ bt. (block_signature md bt).results) (sym inner.block_type)
 
-  close_is : close_frame md v ≡ guard (closes (context md v) inner.frame) (Some (record v { present = record { frames = inner.outer; left = v.present.left } }))
-  close_is = ap (close_in (context md v) v) inner.is
+  close_is : closed_body md v ≡ guard (may_close (context md v) inner.frame) (Some (record v { present = record { frames = inner.outer; left = v.present.left } }))
+  close_is = ap (closed_body_in (context md v) v) inner.is
 
-  popped_is : popped_each md (reverse rs) v ≡ guard (all_fit (context md v) (found (length rs) inner.frame) rs) (Some (with_frame v (record inner.frame { own = below_top (length rs) inner.frame }) inner.outer))
+  popped_is : body_popped_each md (reverse rs) v ≡ guard (all_fit (context md v) (operands_found (length rs) inner.frame) rs) (Some (with_frame v (record inner.frame { operands = operands_below (length rs) inner.frame }) inner.outer))
   popped_is = popped_whole md v inner.frame inner.outer rs inner.is
 
-  closes_is : closes (context md v) inner.frame ≡ is_empty (below_top (length rs) inner.frame) && all_fit (context md v) (found (length rs) inner.frame) rs
+  closes_is : may_close (context md v) inner.frame ≡ is_empty (operands_below (length rs) inner.frame) && all_fit (context md v) (operands_found (length rs) inner.frame) rs
   closes_is =
       closes_whole (context md v) inner.frame
-      ∙ ap (λ (ts : List ValType). is_empty (below_top (length ts) inner.frame) && all_fit (context md v) (found (length ts) inner.frame) ts) (sym results_are)
+      ∙ ap (λ (ts : List ValType). is_empty (operands_below (length ts) inner.frame) && all_fit (context md v) (operands_found (length ts) inner.frame) ts) (sym results_are)
 
   -- its results were popped, and nothing is left
-  pub closed_passes : (u : BodyState) → popped_each md (reverse rs) v ≡ Some u → own_of u.present.frames ≡ [] → close_frame md v ≡ Some (closed u)
+  pub closed_passes : (u : BodyState) → body_popped_each md (reverse rs) v ≡ Some u → innermost_operands u.present.frames ≡ [] → closed_body md v ≡ Some (body_without_frame u)
   closed_passes u p n =
       let s = guarded_some _ _ u (sym popped_is ∙ p) in
-      let none : below_top (length rs) inner.frame ≡ [] = ap (λ (w : BodyState). own_of w.present.frames) s.1 ∙ n in
+      let none : operands_below (length rs) inner.frame ≡ [] = ap (λ (w : BodyState). innermost_operands w.present.frames) s.1 ∙ n in
       close_is
       ∙ ap (λ b. guard b (Some (record v { present = record { frames = inner.outer; left = v.present.left } })))
-      (closes_is ∙ ap (λ l. is_empty l && all_fit (context md v) (found (length rs) inner.frame) rs) none ∙ s.0)
-      ∙ ap (λ (w : BodyState). Some (closed w)) s.1
+      (closes_is ∙ ap (λ l. is_empty l && all_fit (context md v) (operands_found (length rs) inner.frame) rs) none ∙ s.0)
+      ∙ ap (λ (w : BodyState). Some (body_without_frame w)) s.1
+
+  -- its results were popped: the locals that were first set in it stay
+  pub same_first_set : (u : BodyState) → body_popped_each md (reverse rs) v ≡ Some u → innermost_first_set u.present.frames ≡ innermost_first_set v.present.frames
+  same_first_set u p =
+      let s = guarded_some _ _ u (sym popped_is ∙ p) in
+      sym (ap (λ (w : BodyState). innermost_first_set w.present.frames) s.1) ∙ sym (ap innermost_first_set inner.is)
 
   -- one of its results was not there
-  pub closed_refused : popped_each md (reverse rs) v ≡ None → close_frame md v ≡ None
+  pub closed_refused : body_popped_each md (reverse rs) v ≡ None → closed_body md v ≡ None
   closed_refused p =
       close_is
       ∙ ap (λ b. guard b (Some (record v { present = record { frames = inner.outer; left = v.present.left } })))
-      (closes_is ∙ ap (λ b. is_empty (below_top (length rs) inner.frame) && b) (guarded_none _ _ (sym popped_is ∙ p)) ∙ and_false (is_empty (below_top (length rs) inner.frame)))
+      (closes_is ∙ ap (λ b. is_empty (operands_below (length rs) inner.frame) && b) (guarded_none _ _ (sym popped_is ∙ p)) ∙ and_false (is_empty (operands_below (length rs) inner.frame)))
 
   -- something was left
-  pub closed_left_over : (u : BodyState) → popped_each md (reverse rs) v ≡ Some u → 0 < length (own_of u.present.frames) → close_frame md v ≡ None
+  pub closed_left_over : (u : BodyState) → body_popped_each md (reverse rs) v ≡ Some u → 0 < length (innermost_operands u.present.frames) → closed_body md v ≡ None
   closed_left_over u p n =
       let s = guarded_some _ _ u (sym popped_is ∙ p) in
-      let some : 0 < length (below_top (length rs) inner.frame) = subst (λ (w : BodyState). 0 < length (own_of w.present.frames)) (sym s.1) n in
+      let some : 0 < length (operands_below (length rs) inner.frame) = subst (λ (w : BodyState). 0 < length (innermost_operands w.present.frames)) (sym s.1) n in
       close_is
       ∙ ap (λ b. guard b (Some (record v { present = record { frames = inner.outer; left = v.present.left } })))
-      (closes_is ∙ ap (λ b. b && all_fit (context md v) (found (length rs) inner.frame) rs) (empty_own _ some))
+      (closes_is ∙ ap (λ b. b && all_fit (context md v) (operands_found (length rs) inner.frame) rs) (empty_own _ some))
 
 -- ---- opening
 
 -- its parameters pushed in the frame that was opened
-pub entered_is : (md : ModuleContext) (kind : FrameKind) (bt : BlockType) (v u : BodyState) (ps : List ValType) → ps ≡ (block_signature md bt).params → u ≡ opened kind bt v → pushed_each ps u ≡ entered md kind bt v
+pub entered_is : (md : ModuleContext) (kind : FrameKind) (bt : BlockType) (v u : BodyState) (ps : List ValType) → ps ≡ (block_signature md bt).params → u ≡ body_with_frame kind bt v → body_pushed_each ps u ≡ body_with_block md kind bt v
 entered_is md kind bt v u ps e o =
-    ap (λ (w : BodyState). pushed_each ps w) o
-    ∙ pushed_whole ps (opened kind bt v) (new_frame kind bt) v.present.frames refl
+    ap (λ (w : BodyState). body_pushed_each ps w) o
+    ∙ pushed_whole ps (body_with_frame kind bt v) (empty_frame kind bt) v.present.frames refl
     ∙ ap (λ (ts : List ValType). record v { present = record { frames = opened_frame (head_of kind bt) ts ∷ v.present.frames; left = v.present.left } }) e
 
-pub opened_valid : (md : ModuleContext) (kind : FrameKind) (bt : BlockType) (v u : BodyState) → u ≡ opened kind bt v → BlockIsValid md v.shared bt → IsValid md v → IsValid md u
+pub opened_valid : (md : ModuleContext) (kind : FrameKind) (bt : BlockType) (v u : BodyState) → u ≡ body_with_frame kind bt v → BlockIsValid md v.shared bt → IsValid md v → IsValid md u
 opened_valid md kind bt v u o b w =
-    let opens : IsValid md (opened kind bt v) = record { locals_valid = w.locals_valid; frames = (record { block = b; own = tt }, w.frames); left = w.left } in
+    let opens : IsValid md (body_with_frame kind bt v) = record { locals_valid = w.locals_valid; frames = (record { block = b; operands = tt }, w.frames); left = w.left } in
     subst (IsValid md) (sym o) opens
 
 -- its parameters are valid

@@ -1,8 +1,10 @@
-mod Tops
 mod Cuts
+mod Undoing
+pub mod Phases
 mod Marks
 pub mod Looks
 pub mod Matching
 pub mod Validity
 pub mod Whole
 pub mod Closing
+mod Rising

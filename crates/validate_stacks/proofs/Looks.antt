@@ -1,5 +1,5 @@
 -- What is found without a pop, the label of a frame, and the end of the live part.
-use Rattle.std.proofs.Common.{◌≡◌, ℕ, zero, suc, ◌-◌, ◌<◌, ◌≤◌, List, [], ◌∷◌, Bool, true, false, cond, Option, Some, None, length, take, drop, slice_get, refl, sym, ◌∙◌, ap, subst, arith, length-drop}
+use Rattle.std.proofs.Common.{◌≡◌, ℕ, zero, suc, ◌-◌, ◌<◌, ◌≤◌, List, [], ◌∷◌, Bool, true, false, cond, Option, Some, None, length, take, drop, slice_get, refl, sym, ◌∙◌, ap, subst, arith}
 use Rattle.std.specs.Option.{option_map}
 use Rattle.std.proofs.lemmas.List.{length-take-le, drop_all}
 use Rattle.validate_types.specs.declared.features.WasmFeatures.{WasmFeatures}
@@ -7,14 +7,16 @@ use Rattle.validate_types.specs.declared.types.ValType.{ValType}
 use Rattle.validate_visit.specs.declared.frame.Frame.{Frame as FlatFrame}
 use Rattle.validation_rules.specs.Fits.{MaybeType, Bottom}
 use Rattle.validation_rules.specs.Static.{Frame, State, heads}
-use Rattle.validate_stacks.specs.Flat.{cut, HasShape, with_heights}
-use Rattle.validate_stacks.specs.Steps.{top_of, label_by, found_below_in, ended}
+use Rattle.validate_stacks.specs.Flat.{flat_state, with_heights}
+use Rattle.validation_rules.specs.Pops.{operand_on_top}
+use Rattle.validate_stacks.specs.Steps.{type_and_kind, found_below_in_frames, innermost_operands, body_without_first, frames_owning, body_popped, frames_marked, body_marked, frames_unreachable, body_unreachable}
+use Rattle.validate_stacks.specs.State.{BodyState}
 use Rattle.validate_stacks.proofs.Cuts.{state_of}
 
 -- ---- labels
 
 -- the frames with their heights have the labels of the frames
-pub label_found : (fs : List Frame) (n d : ℕ) → option_map (λ (r : FlatFrame). (r.block_type, r.kind)) (slice_get (with_heights fs n) d) ≡ option_map label_by (slice_get (heads fs) d)
+pub label_found : (fs : List Frame) (n d : ℕ) → option_map (λ (r : FlatFrame). (r.block_type, r.kind)) (slice_get (with_heights fs n) d) ≡ option_map type_and_kind (slice_get (heads fs) d)
 label_found [] n zero = refl
 label_found [] n (suc d) = refl
 label_found (f ∷ fs) n zero = refl
@@ -22,53 +24,69 @@ label_found (f ∷ fs) n (suc d) = label_found fs n d
 
 -- ---- what is found after some others
 
-pub none_found : (fs : List FlatFrame) (ops : List MaybeType) (is : List ℕ) (d : ℕ) → slice_get fs 0 ≡ None → None ≡ found_below_in d (cut fs ops is).frames
+pub none_found : (fs : List FlatFrame) (ops : List MaybeType) (is : List ℕ) (d : ℕ) → slice_get fs 0 ≡ None → None ≡ found_below_in_frames d (flat_state fs ops is).frames
 none_found [] ops is d h = refl
 none_found (g ∷ gs) ops is d h = cc
 
-top_get : (d n : ℕ) (ops : List MaybeType) (dead : Bool) → d < n → n ≤ length ops → slice_get ops d ≡ top_of (drop d (take n ops)) dead
+top_get : (d n : ℕ) (ops : List MaybeType) (dead : Bool) → d < n → n ≤ length ops → slice_get ops d ≡ operand_on_top dead (drop d (take n ops))
 top_get d zero ops dead h k = absurd (omega (arith, h))
 top_get d (suc n) [] dead h k = absurd (omega (arith, k))
 top_get zero (suc n) (x ∷ ops) dead h k = refl
 top_get (suc d) (suc n) (x ∷ ops) dead h k = top_get d n ops dead (omega (arith, h)) (omega (arith, k))
 
 -- an own operand
-pub own_found : (fs : List FlatFrame) (f : FlatFrame) (ops : List MaybeType) (is : List ℕ) (d : ℕ) → slice_get fs 0 ≡ Some f → d < length ops - f.height → slice_get ops d ≡ found_below_in d (cut fs ops is).frames
+pub own_found : (fs : List FlatFrame) (f : FlatFrame) (ops : List MaybeType) (is : List ℕ) (d : ℕ) → slice_get fs 0 ≡ Some f → d < length ops - f.height → slice_get ops d ≡ found_below_in_frames d (flat_state fs ops is).frames
 own_found [] f ops is d h k = cc
 own_found (g ∷ gs) f ops is d h k =
     let same : g ≡ f = cc in
     let within : d < length ops - g.height = subst (λ (q : FlatFrame). d < length ops - q.height) (sym same) k in
     top_get d (length ops - g.height) ops g.unreachable within (omega arith)
 
-top_none : (dead : Bool) → top_of [] dead ≡ cond dead (Some Bottom) None
+top_none : (dead : Bool) → operand_on_top dead [] ≡ cond dead (Some Bottom) None
 top_none true = refl
 top_none false = refl
 
 -- below the own operands
-pub below_found : (fs : List FlatFrame) (f : FlatFrame) (ops : List MaybeType) (is : List ℕ) (d : ℕ) → slice_get fs 0 ≡ Some f → length ops - f.height ≤ d → cond f.unreachable (Some Bottom) None ≡ found_below_in d (cut fs ops is).frames
+pub below_found : (fs : List FlatFrame) (f : FlatFrame) (ops : List MaybeType) (is : List ℕ) (d : ℕ) → slice_get fs 0 ≡ Some f → length ops - f.height ≤ d → cond f.unreachable (Some Bottom) None ≡ found_below_in_frames d (flat_state fs ops is).frames
 below_found [] f ops is d h k = cc
 below_found (g ∷ gs) f ops is d h k =
     let same : g ≡ f = cc in
     let past : length ops - g.height ≤ d = subst (λ (q : FlatFrame). length ops - q.height ≤ d) (sym same) k in
     let count = length-take-le (length ops - g.height) ops (omega arith) in
     let none : drop d (take (length ops - g.height) ops) ≡ [] = drop_all d (take (length ops - g.height) ops) (omega (arith, count, past)) in
-    sym (ap (λ l. top_of l g.unreachable) none ∙ (top_none g.unreachable ∙ ap (λ (q : FlatFrame). cond q.unreachable (Some Bottom) None) same))
+    sym (ap (λ l. operand_on_top g.unreachable l) none ∙ (top_none g.unreachable ∙ ap (λ (q : FlatFrame). cond q.unreachable (Some Bottom) None) same))
+
+-- ---- the mark
+
+pub mark_none : (fs : List FlatFrame) (ops : List MaybeType) (is : List ℕ) (s : Bool) (n : WasmFeatures) (ls : List ValType) (en : List Bool) (un : Option State) → slice_get fs 0 ≡ None → state_of fs ops is s n ls en un ≡ body_marked (state_of fs ops is s n ls en un)
+mark_none [] ops is s n ls en un h = refl
+mark_none (g ∷ gs) ops is s n ls en un h = cc
+
+pub mark_dead : (fs : List FlatFrame) (f : FlatFrame) (ops : List MaybeType) (is : List ℕ) (s : Bool) (n : WasmFeatures) (ls : List ValType) (en : List Bool) (un : Option State) → slice_get fs 0 ≡ Some f → f.unreachable ≡ true → state_of fs ops is s n ls en un ≡ body_marked (state_of fs ops is s n ls en un)
+mark_dead [] f ops is s n ls en un h d = cc
+mark_dead (g ∷ gs) f ops is s n ls en un h d =
+    let e : g.unreachable ≡ true = ap (λ (q : FlatFrame). q.unreachable) (let same : g ≡ f = cc in same) ∙ d in
+    rw e refl
 
 -- ---- the end of the live part
 
-pub none_ended : (fs : List FlatFrame) (ops : List MaybeType) (is : List ℕ) (s : Bool) (n : WasmFeatures) (ls : List ValType) (en : List Bool) (un : Option State) → slice_get fs 0 ≡ None → state_of fs ops is s n ls en un ≡ ended (state_of fs ops is s n ls en un)
-none_ended [] ops is s n ls en un h = refl
-none_ended (g ∷ gs) ops is s n ls en un h = cc
+-- a pop leaves what it comes to
+ended_popped_in : (own : List MaybeType) (fs : List Frame) (v : BodyState) → v.present.frames ≡ fs → innermost_operands fs ≡ own → body_unreachable (body_without_first own v) ≡ body_unreachable v
+ended_popped_in [] fs v e h = refl
+ended_popped_in (t ∷ ts) [] v e h = absurd cc
+ended_popped_in (t ∷ ts) (f ∷ fs) v e h = ap (λ gs. record v { present = record { frames = frames_unreachable (frames_owning ts gs); left = v.present.left } }) e ∙ sym (ap (λ gs. record v { present = record { frames = frames_unreachable gs; left = v.present.left } }) e)
 
--- the innermost frame marked, and the operands cut to its height
-pub ended_is : (fs new : List FlatFrame) (f : FlatFrame) (ops : List MaybeType) (is : List ℕ) (s : Bool) (n : WasmFeatures) (ls : List ValType) (en : List Bool) (un : Option State) → slice_get fs 0 ≡ Some f → HasShape fs (length ops) (length is) → new ≡ record f { unreachable = true } ∷ drop 1 fs → HasShape new (length (drop (length ops - f.height) ops)) (length is) × (state_of new (drop (length ops - f.height) ops) is s n ls en un ≡ ended (state_of fs ops is s n ls en un))
-ended_is [] new f ops is s n ls en un h w k = cc
-ended_is (g ∷ gs) new f ops is s n ls en un h w k =
-    let same : g ≡ f = cc in
-    let cutting : new ≡ record g { unreachable = true } ∷ gs = k ∙ ap (λ (q : FlatFrame). record q { unreachable = true } ∷ gs) (sym same) in
-    let rest = drop (length ops - g.height) ops in
-    let height : length rest ≡ g.height = omega (arith, length-drop (length ops - g.height) ops, w.0) in
-    let none : length rest - g.height ≡ 0 = omega (arith, height) in
-    let shape : HasShape (record g { unreachable = true } ∷ gs) (length rest) (length is) = (omega (arith, height), w.1, w.2) in
-    subst (λ (q : FlatFrame). HasShape new (length (drop (length ops - q.height) ops)) (length is) × (state_of new (drop (length ops - q.height) ops) is s n ls en un ≡ ended (state_of (g ∷ gs) ops is s n ls en un))) same
-    (subst (λ l. HasShape l (length rest) (length is)) (sym cutting) shape, ap (λ l. state_of l rest is s n ls en un) cutting ∙ rw none refl)
+pub ended_popped : (v : BodyState) → body_unreachable (body_popped v) ≡ body_unreachable v
+ended_popped v = ended_popped_in (innermost_operands v.present.frames) v.present.frames v refl refl
+
+none_in : (l : List MaybeType) → length l ≤ 0 → l ≡ []
+none_in [] h = refl
+none_in (x ∷ l) h = absurd (omega (arith, h))
+
+fewer_in : (own : List MaybeType) (fs : List Frame) (v : BodyState) → v.present.frames ≡ fs → innermost_operands fs ≡ own → 0 < length own → length (innermost_operands (body_without_first own v).present.frames) < length own
+fewer_in [] fs v e h k = absurd (omega (arith, k))
+fewer_in (t ∷ ts) [] v e h k = absurd cc
+fewer_in (t ∷ ts) (f ∷ fs) v e h k = rw e (omega arith)
+
+pub fewer : (v : BodyState) → 0 < length (innermost_operands v.present.frames) → length (innermost_operands (body_popped v).present.frames) < length (innermost_operands v.present.frames)
+fewer v h = fewer_in (innermost_operands v.present.frames) v.present.frames v refl refl h

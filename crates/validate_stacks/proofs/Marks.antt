@@ -1,42 +1,41 @@
 -- The marks of the locals: what is set, and what is declared.
-use Rattle.std.proofs.Common.{◌≡◌, ℕ, ◌+◌, ◌<◌, ◌≤◌, List, [], ◌∷◌, ◌++◌, Bool, true, false, Option, Result, Ok, Err, OnOk, OnErr, MatchResult, MatchBool, length, map, replicate, slice_index_or, ◌||◌, if◌then◌else◌, refl, sym, ◌∙◌, ap, ap₂, subst, arith, length-append}
+use Rattle.std.proofs.Common.{◌≡◌, ℕ, ◌+◌, ◌<◌, ◌≤◌, List, [], ◌∷◌, ◌++◌, Bool, true, false, Option, MatchBool, length, map, replicate, slice_index_or, ◌||◌, if◌then◌else◌, refl, sym, ◌∙◌, ap, ap₂, arith, length-append}
 use Rattle.std.proofs.lemmas.List.{drop-append-le, take-append-le}
-use Rattle.validate_locals.specs.Inits.{Inits, is_set, order_with}
-use Rattle.validate_types.specs.declared.error.OutOfMemory.{OutOfMemory}
+use Rattle.validate_locals.specs.Inits.{Inits, is_recorded_set, order_with}
 use Rattle.validate_types.specs.declared.features.WasmFeatures.{WasmFeatures}
 use Rattle.validate_types.specs.declared.types.ValType.{ValType}
 use Rattle.validate_visit.specs.declared.frame.Frame.{Frame as FlatFrame}
 use Rattle.validation_rules.specs.Fits.{MaybeType}
 use Rattle.validation_rules.specs.Static.{State}
-use Rattle.validate_stacks.specs.Flat.{cut, HasShape, IsSound}
+use Rattle.validate_stacks.specs.Flat.{flat_state, HasShape}
 use Rattle.validate_stacks.specs.State.{BodyState}
-use Rattle.validate_stacks.specs.Steps.{is_set_in, with_set, local_set, with_params}
+use Rattle.validate_stacks.specs.Steps.{is_set_in, frames_setting, body_with_local_set, body_with_params}
 use Rattle.validate_stacks.proofs.Cuts.{state_of, set-cut}
 
 -- a local has a mark exactly where it is set in the body
-pub set_is : (fs : List FlatFrame) (ops : List MaybeType) (v : Inits) (s : Bool) (n : WasmFeatures) (ls : List ValType) (un : Option State) (i : ℕ) → HasShape fs (length ops) (length v.order) → is_set v i ≡ is_set_in (state_of fs ops v.order s n ls v.base un) i
+pub set_is : (fs : List FlatFrame) (ops : List MaybeType) (v : Inits) (s : Bool) (n : WasmFeatures) (ls : List ValType) (un : Option State) (i : ℕ) → HasShape fs (length ops) (length v.order) → is_recorded_set v i ≡ is_set_in (state_of fs ops v.order s n ls v.base un) i
 set_is fs ops v s n ls un i h = ap (λ b. b || slice_index_or v.base i false) (sym (set-cut fs ops v.order i h))
 
 -- ---- setting
 
 -- the order grows in the innermost frame
-grown : (f : FlatFrame) (fs : List FlatFrame) (ops : List MaybeType) (is : List ℕ) (i m : ℕ) (b : Bool) → HasShape (f ∷ fs) m (length is) → (cut (f ∷ fs) ops (if b then is else is ++ i ∷ [])).frames ≡ with_set b i (cut (f ∷ fs) ops is).frames
+grown : (f : FlatFrame) (fs : List FlatFrame) (ops : List MaybeType) (is : List ℕ) (i m : ℕ) (b : Bool) → HasShape (f ∷ fs) m (length is) → (flat_state (f ∷ fs) ops (if b then is else is ++ i ∷ [])).frames ≡ frames_setting b i (flat_state (f ∷ fs) ops is).frames
 grown f fs ops is i m true h = refl
 grown f fs ops is i m false h = rw (drop-append-le f.init_height is (i ∷ []) h.1, take-append-le f.init_height is (i ∷ []) h.1) refl
 
-left-same : (f : FlatFrame) (fs : List FlatFrame) (ops : List MaybeType) (is : List ℕ) (i m : ℕ) (b : Bool) → HasShape (f ∷ fs) m (length is) → (cut (f ∷ fs) ops (if b then is else is ++ i ∷ [])).left ≡ (cut (f ∷ fs) ops is).left
+left-same : (f : FlatFrame) (fs : List FlatFrame) (ops : List MaybeType) (is : List ℕ) (i m : ℕ) (b : Bool) → HasShape (f ∷ fs) m (length is) → (flat_state (f ∷ fs) ops (if b then is else is ++ i ∷ [])).left ≡ (flat_state (f ∷ fs) ops is).left
 left-same f fs ops is i m true h = refl
 left-same f fs ops is i m false h = rw (take-append-le f.init_height is (i ∷ []) h.1) refl
 
 -- setting is the step, where a frame is open
-pub set_state : (fs : List FlatFrame) (ops : List MaybeType) (v : Inits) (new : List ℕ) (s : Bool) (n : WasmFeatures) (ls : List ValType) (un : Option State) (i : ℕ) → 0 < length fs → HasShape fs (length ops) (length v.order) → new ≡ order_with v i → state_of fs ops new s n ls v.base un ≡ local_set i (state_of fs ops v.order s n ls v.base un)
+pub set_state : (fs : List FlatFrame) (ops : List MaybeType) (v : Inits) (new : List ℕ) (s : Bool) (n : WasmFeatures) (ls : List ValType) (un : Option State) (i : ℕ) → 0 < length fs → HasShape fs (length ops) (length v.order) → new ≡ order_with v i → state_of fs ops new s n ls v.base un ≡ body_with_local_set i (state_of fs ops v.order s n ls v.base un)
 set_state [] ops v new s n ls un i o h e = absurd (omega (arith, o))
 set_state (f ∷ fs) ops v new s n ls un i o h e =
     let there = set_is (f ∷ fs) ops v s n ls un i h in
     ap (λ is. state_of (f ∷ fs) ops is s n ls v.base un) e
     ∙ ap₂ (λ gs left. record { present = record { frames = gs; left = left }; shared = s; features = n; locals = ls; entry = v.base; undone = un })
-    (grown f fs ops v.order i (length ops) (is_set v i) h ∙ ap (λ b. with_set b i (cut (f ∷ fs) ops v.order).frames) there)
-    (left-same f fs ops v.order i (length ops) (is_set v i) h)
+    (grown f fs ops v.order i (length ops) (is_recorded_set v i) h ∙ ap (λ b. frames_setting b i (flat_state (f ∷ fs) ops v.order).frames) there)
+    (left-same f fs ops v.order i (length ops) (is_recorded_set v i) h)
 
 shape_more : (fs : List FlatFrame) (n m k : ℕ) → 0 < length fs → m ≤ k → HasShape fs n m → HasShape fs n k
 shape_more [] n m k o h w = absurd (omega (arith, o))
@@ -47,18 +46,7 @@ not_shorter true is i = omega arith
 not_shorter false is i = omega (arith, length-append is (i ∷ []))
 
 pub shape_set : (fs : List FlatFrame) (n : ℕ) (v : Inits) (new : List ℕ) (i : ℕ) → 0 < length fs → HasShape fs n (length v.order) → new ≡ order_with v i → HasShape fs n (length new)
-shape_set fs n v new i o h e = shape_more fs n (length v.order) (length new) o (rw e (not_shorter (is_set v i) v.order i)) h
-
--- what setting leaves is sound
-pub sound_set : (r : Result (Unit {0}) OutOfMemory) (fs : List FlatFrame) (ops : List MaybeType) (v new : Inits) (ls : List ValType) (i : ℕ) → 0 < length fs → IsSound fs ops v ls → OnOk r (new.order ≡ order_with v i) → new.base ≡ v.base → OnErr r (new ≡ v) → IsSound fs ops new ls
-sound_set (Ok u) fs ops v new ls i o w e b k = record { shape = shape_set fs (length ops) v new.order i o w.shape e; marks = ap length b ∙ w.marks }
-sound_set (Err u) fs ops v new ls i o w e b k = subst (λ (q : Inits). IsSound fs ops q ls) (sym k) w
-
--- it is the step, and want of memory changes nothing
-pub set_exact : (r : Result (Unit {0}) OutOfMemory) (fs : List FlatFrame) (ops : List MaybeType) (v new : Inits) (s : Bool) (n : WasmFeatures) (ls : List ValType) (un : Option State) (i : ℕ) (w : BodyState) → 0 < length fs → HasShape fs (length ops) (length v.order) → OnOk r (new.order ≡ order_with v i) → new.base ≡ v.base → OnErr r (new ≡ v) → state_of fs ops v.order s n ls v.base un ≡ w → MatchResult r (λ _. state_of fs ops new.order s n ls new.base un ≡ local_set i w) (λ _. state_of fs ops new.order s n ls new.base un ≡ w)
-set_exact (Ok u) fs ops v new s n ls un i w o h e b k is =
-    ap (λ en. state_of fs ops new.order s n ls en un) b ∙ set_state fs ops v new.order s n ls un i o h e ∙ ap (local_set i) is
-set_exact (Err u) fs ops v new s n ls un i w o h e b k is = ap (λ (q : Inits). state_of fs ops q.order s n ls q.base un) k ∙ is
+shape_set fs n v new i o h e = shape_more fs n (length v.order) (length new) o (rw e (not_shorter (is_recorded_set v i) v.order i)) h
 
 -- ---- declaring
 
@@ -73,8 +61,8 @@ all_declared true old new ps d w h = d
 all_declared false old new ps d w h = absurd (omega (arith, w, h))
 
 -- declaring parameters is the step
-pub params_state : (fs : List FlatFrame) (ops : List MaybeType) (v new : Inits) (s : Bool) (n : WasmFeatures) (old ls ps : List ValType) (un : Option State) (w : BodyState) → new.order ≡ v.order → new.base ≡ v.base ++ replicate (length ps) true → ls ≡ old ++ ps → state_of fs ops v.order s n old v.base un ≡ w → state_of fs ops new.order s n ls new.base un ≡ with_params ps w
+pub params_state : (fs : List FlatFrame) (ops : List MaybeType) (v new : Inits) (s : Bool) (n : WasmFeatures) (old ls ps : List ValType) (un : Option State) (w : BodyState) → new.order ≡ v.order → new.base ≡ v.base ++ replicate (length ps) true → ls ≡ old ++ ps → state_of fs ops v.order s n old v.base un ≡ w → state_of fs ops new.order s n ls new.base un ≡ body_with_params ps w
 params_state fs ops v new s n old ls ps un w o b l is =
     ap (λ order. state_of fs ops order s n ls new.base un) o
     ∙ ap₂ (λ types en. state_of fs ops v.order s n types en un) l (b ∙ ap (λ marks. v.base ++ marks) (sym (all_set ps)))
-    ∙ ap (with_params ps) is
+    ∙ ap (body_with_params ps) is

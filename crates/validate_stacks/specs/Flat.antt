@@ -1,22 +1,34 @@
 -- The frames' own parts of the flat lists: where heights stand for lists.
-use Rattle.std.specs.Prelude.{◌≡◌, ℕ, ◌+◌, ◌-◌, ◌≤◌, List, [], ◌∷◌, length, take, drop}
-use Rattle.validate_locals.specs.Inits.{Inits}
+use Rattle.std.specs.Prelude.{◌≡◌, ℕ, ◌+◌, ◌-◌, ◌≤◌, List, [], ◌∷◌, ◌++◌, Bool, true, false, Option, Some}
+use Rattle.std.specs.Prelude.{None, length, take, drop, nat_lt}
+use Rattle.validate_locals.specs.Inits.{AreFresh}
+use Rattle.validate_transaction.specs.Log.{Log}
+use Rattle.validate_transaction.specs.TakeBack.{is_empty, items_taken_back, CanTakeBack}
+use Rattle.validate_transaction.specs.declared.log.Transaction.{Transaction}
+use Rattle.validate_transaction.specs.declared.log.Transaction.TheVariants.{Active, Inactive}
+use Rattle.validate_types.specs.declared.features.WasmFeatures.{WasmFeatures}
 use Rattle.validate_types.specs.declared.types.ValType.{ValType}
 use Rattle.validate_visit.specs.declared.frame.Frame.{Frame as FlatFrame}
 use Rattle.validation_rules.specs.Fits.{MaybeType}
-use Rattle.validation_rules.specs.Static.{Frame, State, operands_in, set_in}
+use Rattle.validation_rules.specs.Static.{Frame, State, operand_count_in, locals_set}
+use Rattle.validate_stacks.specs.Attempts.{Phase, Clean, Moved, Set, Framed, Unset, Marked, Stacked}
 
-abbrev pub enclosed : Frame → State → State
-enclosed f s = record { frames = f ∷ s.frames; left = s.left }
+abbrev pub state_with_frame : Frame → State → State
+state_with_frame f s = record { frames = f ∷ s.frames; left = s.left }
 
 -- the frames with their own parts of the flat lists: all operands, the top first, and the locals that
 -- were set, in order
-abbrev pub cut : List FlatFrame → List MaybeType → List ℕ → State
-cut [] ops order = record { frames = []; left = ops }
-cut (f ∷ fs) ops order =
-    enclosed
-    (record { head = record { kind = f.kind; block_type = f.block_type }; own = take (length ops - f.height) ops; dead = f.unreachable; first_set = drop f.init_height order })
-    (cut fs (drop (length ops - f.height) ops) (take f.init_height order))
+abbrev pub flat_state : List FlatFrame → List MaybeType → List ℕ → State
+flat_state [] ops order = record { frames = []; left = ops }
+flat_state (f ∷ fs) ops order =
+    state_with_frame
+    (record {
+      head = record { kind = f.kind; block_type = f.block_type };
+      operands = take (length ops - f.height) ops;
+      dead = f.unreachable;
+      first_set = drop f.init_height order;
+    })
+    (flat_state fs (drop (length ops - f.height) ops) (take f.init_height order))
 
 -- Heights don't fall from outer to inner, and don't pass the number of operands or of locals that were
 -- set. Outside all frames no local is set.
@@ -24,12 +36,110 @@ abbrev pub HasShape : List FlatFrame → ℕ → ℕ → Type 0
 HasShape [] n m = m ≡ 0
 HasShape (f ∷ fs) n m = (f.height ≤ n) × (f.init_height ≤ m) × HasShape fs f.height f.init_height
 
--- the heights fit the lists, and each local has its mark
-pub record IsSound (frames : List FlatFrame) (ops : List MaybeType) (inits : Inits) (locals : List ValType) : Type 0 where
-  pub shape : HasShape frames (length ops) (length inits.order)
-  pub marks : length inits.base ≡ length locals
+-- ---- what is pending, taken back
+
+-- the innermost frame without its mark
+abbrev pub frames_unmarked : Bool → List FlatFrame → List FlatFrame
+frames_unmarked true (f ∷ fs) = record f { unreachable = false } ∷ fs
+frames_unmarked _ fs = fs
+
+abbrev pub undone_frames : List FlatFrame → Log → List FlatFrame
+undone_frames fs log = items_taken_back (frames_unmarked log.unreachable fs) log.frames
+
+-- the locals that are set once the frames are taken back
+abbrev pub inits_in_frames : List FlatFrame → List ℕ → List (Option FlatFrame) → List ℕ
+inits_in_frames fs order [] = order
+inits_in_frames fs order (Some f ∷ trace) = inits_in_frames (f ∷ fs) order trace
+inits_in_frames (f ∷ fs) order (None ∷ trace) = inits_in_frames fs (take f.init_height order) trace
+inits_in_frames [] order (None ∷ trace) = inits_in_frames [] order trace
+
+abbrev pub undone_inits : List FlatFrame → List ℕ → Log → List ℕ
+undone_inits fs order log =
+    take log.init_height
+    (inits_in_frames (frames_unmarked log.unreachable fs) order log.frames ++ log.inits)
+
+-- the state once all that the log records is taken back
+abbrev pub undone_state : List FlatFrame → List MaybeType → List ℕ → Log → State
+undone_state fs ops order log =
+    flat_state (undone_frames fs log) (items_taken_back ops log.operands) (undone_inits fs order log)
+
+abbrev pub undone_pending : List FlatFrame → List MaybeType → List ℕ → Transaction → Option State
+undone_pending fs ops order (Active log) = Some (undone_state fs ops order log)
+undone_pending fs ops order (Inactive allocs) = None
+
+-- by what the log tells: a frame was marked, none was opened or closed, no local was unset, one was set, no
+-- operand moved
+abbrev pub phase_by : (marked no_frames none_unset some_set no_operands : Bool) → Phase
+phase_by true no_frames none_unset some_set no_operands = Marked
+phase_by false no_frames false some_set no_operands = Unset
+phase_by false false true some_set no_operands = Framed
+phase_by false true true true no_operands = Set
+phase_by false true true false true = Clean
+phase_by false true true false false = Moved
+
+-- where so many locals were first set since the body began
+abbrev pub phase_of : ℕ → Transaction → Phase
+phase_of n (Active log) =
+    phase_by log.unreachable (is_empty log.frames) (is_empty log.inits) (nat_lt log.init_height n)
+    (is_empty log.operands)
+phase_of n (Inactive allocs) = Clean
+
+-- the log can be taken back, within the room that is there
+pub record CanUndo
+    (fr : ℕ) (fs : List FlatFrame) (or : ℕ) (ops : List MaybeType) (ir : ℕ) (base : List Bool)
+    (order : List ℕ) (log : Log) : Type 0 where
+  pub shape :
+      HasShape (undone_frames fs log) (length (items_taken_back ops log.operands))
+      (length (undone_inits fs order log))
+  pub frames : CanTakeBack fr (frames_unmarked log.unreachable fs) log.frames
+  pub operands : CanTakeBack or ops log.operands
+  pub room : length (order ++ log.inits) ≤ ir
+  -- what is set and what was unset was unset when it was declared, each once
+  pub fresh : AreFresh base (order ++ log.inits)
+  -- no frame that goes was opened before a local that is set was set
+  pub still : inits_in_frames (frames_unmarked log.unreachable fs) order log.frames ≡ order
+  pub full : log.init_height ≤ length (order ++ log.inits)
+
+abbrev pub CanUndoAny :
+    ℕ → List FlatFrame → ℕ → List MaybeType → ℕ → List Bool → List ℕ → Transaction → Type 0
+CanUndoAny fr fs or ops ir base order (Active log) = CanUndo fr fs or ops ir base order log
+CanUndoAny fr fs or ops ir base order (Inactive allocs) = Unit {0}
+
+-- the heights fit the lists, each local has its mark, and a pending attempt can be taken back
+pub record IsSound
+    (fr : ℕ) (frames : List FlatFrame) (or : ℕ) (ops : List MaybeType) (ir : ℕ) (base : List Bool)
+    (order : List ℕ) (t : Transaction) (locals : List ValType) : Type 0 where
+  pub shape : HasShape frames (length ops) (length order)
+  pub marks : length base ≡ length locals
+  pub undo : CanUndoAny fr frames or ops ir base order t
+
+-- what the flat lists and the log stand for
+abbrev pub stacked_of :
+    List FlatFrame → List MaybeType → List ℕ → Transaction → Bool → WasmFeatures → List ValType → List Bool →
+    Stacked
+stacked_of fs ops order t shared features locals entry =
+    record {
+      body =
+          record {
+            present = flat_state fs ops order;
+            shared = shared;
+            features = features;
+            locals = locals;
+            entry = entry;
+            undone = undone_pending fs ops order t;
+          };
+      phase = phase_of (length order) t;
+    }
 
 -- the frames with heights, over so many types that lie below all frames
 abbrev pub with_heights : List Frame → ℕ → List FlatFrame
 with_heights [] n = []
-with_heights (f ∷ fs) n = record { kind = f.head.kind; block_type = f.head.block_type; height = operands_in fs + n; unreachable = f.dead; init_height = length (set_in fs) } ∷ with_heights fs n
+with_heights (f ∷ fs) n =
+    record {
+      kind = f.head.kind;
+      block_type = f.head.block_type;
+      height = operand_count_in fs + n;
+      unreachable = f.dead;
+      init_height = length (locals_set fs);
+    }
+    ∷ with_heights fs n

@@ -1,9 +1,10 @@
-pub mod Piled
 pub mod State
+pub mod Attempts
 pub mod Flat
 pub mod Steps
 pub mod Pops
 pub mod Names
 pub mod Either
 pub mod Blocks
+pub mod Rising
 pub mod Visits

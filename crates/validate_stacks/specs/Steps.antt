@@ -1,5 +1,6 @@
 -- The steps of the stacks on what they stand for.
-use Rattle.std.specs.Prelude.{ℕ, List, [], ◌∷◌, ◌++◌, Bool, true, false, Option, Some, None, length, drop, slice_get, slice_index_or, replicate, map, ◌||◌}
+use Rattle.std.specs.Prelude.{ℕ, List, [], ◌∷◌, ◌++◌, Bool, true, false, Option, Some, None, length, drop}
+use Rattle.std.specs.Prelude.{slice_get, slice_index_or, replicate, map, ◌||◌, if◌then◌else◌}
 use Rattle.std.specs.Option.{option_map}
 use Rattle.validate_types.specs.declared.features.WasmFeatures.{WasmFeatures}
 use Rattle.validate_types.specs.Types.{is_defaultable}
@@ -8,140 +9,163 @@ use Rattle.validate_visit.specs.declared.frame.BlockType.{BlockType}
 use Rattle.validate_visit.specs.declared.frame.Frame.{Frame as FlatFrame}
 use Rattle.validate_visit.specs.declared.frame.FrameKind.{FrameKind}
 use Rattle.validation_rules.specs.Fits.{MaybeType, Bottom, UnknownRef, Known}
+use Rattle.validation_rules.specs.Pops.{operand_on_top}
 use Rattle.validation_rules.specs.Rows.{Head}
-use Rattle.validation_rules.specs.Static.{Frame, State, heads, has, set_in, joined}
+use Rattle.validation_rules.specs.Static.{Frame, State, state_with, open_state, heads, is_among, locals_set}
 use Rattle.validate_stacks.specs.Flat.{with_heights}
-use Rattle.validate_stacks.specs.State.{BodyState}
+use Rattle.validate_stacks.specs.State.{BodyState, body_with_frames}
 
 -- ---- what is there
 
 -- no frame, no operand and no local
-abbrev pub empty : WasmFeatures → BodyState
-empty features = record { present = record { frames = []; left = [] }; shared = false; features = features; locals = []; entry = []; undone = None }
+abbrev pub empty_body : WasmFeatures → BodyState
+empty_body features =
+    record {
+      present = open_state [];
+      shared = false;
+      features = features;
+      locals = [];
+      entry = [];
+      undone = None;
+    }
 
 -- the own operands of the innermost frame, the top first
-abbrev pub own_of : List Frame → List MaybeType
-own_of [] = []
-own_of (f ∷ fs) = f.own
+abbrev pub innermost_operands : List Frame → List MaybeType
+innermost_operands [] = []
+innermost_operands (f ∷ fs) = f.operands
 
--- what a pop finds: the top, or anything at all below the operands of a dead frame
-abbrev pub top_of : List MaybeType → Bool → Option MaybeType
-top_of (t ∷ ts) dead = Some t
-top_of [] true = Some Bottom
-top_of [] false = None
+abbrev pub found_in_frames : List Frame → Option MaybeType
+found_in_frames [] = None
+found_in_frames (f ∷ fs) = operand_on_top f.dead f.operands
 
-abbrev pub found_in : List Frame → Option MaybeType
-found_in [] = None
-found_in (f ∷ fs) = top_of f.own f.dead
-
-abbrev pub found : BodyState → Option MaybeType
-found v = found_in v.present.frames
+abbrev pub found_in_body : BodyState → Option MaybeType
+found_in_body v = found_in_frames v.present.frames
 
 -- all operands, the top first
-abbrev pub all_in : List Frame → List MaybeType → List MaybeType
-all_in [] left = left
-all_in (f ∷ fs) left = f.own ++ all_in fs left
+abbrev pub all_operands : List Frame → List MaybeType → List MaybeType
+all_operands [] left = left
+all_operands (f ∷ fs) left = f.operands ++ all_operands fs left
 
 -- the type of an operand, where it is known
-abbrev pub known_of : MaybeType → Option ValType
-known_of (Known t) = Some t
-known_of Bottom = None
-known_of (UnknownRef a) = None
+abbrev pub known_type : MaybeType → Option ValType
+known_type (Known t) = Some t
+known_type Bottom = None
+known_type (UnknownRef a) = None
 
 -- the type of the operand at this depth, where it is known; None past the end
-abbrev pub peeked : BodyState → ℕ → Option (Option ValType)
-peeked v depth = option_map known_of (slice_get (all_in v.present.frames v.present.left) depth)
+abbrev pub type_at_depth : BodyState → ℕ → Option (Option ValType)
+type_at_depth v depth = option_map known_type (slice_get (all_operands v.present.frames v.present.left) depth)
 
 -- the frame at this depth, with its height
 abbrev pub frame_at : BodyState → ℕ → Option FlatFrame
 frame_at v depth = slice_get (with_heights v.present.frames (length v.present.left)) depth
 
 -- the block type and the kind of a frame
-abbrev pub label_by : Head → BlockType × FrameKind
-label_by h = (h.block_type, h.kind)
+abbrev pub type_and_kind : Head → BlockType × FrameKind
+type_and_kind h = (h.block_type, h.kind)
 
 -- those of the frame at this depth
 abbrev pub label_of : BodyState → ℕ → Option (BlockType × FrameKind)
-label_of v depth = option_map label_by (slice_get (heads v.present.frames) depth)
+label_of v depth = option_map type_and_kind (slice_get (heads v.present.frames) depth)
 
 -- what a pop finds in the innermost frame, after so many others
-abbrev pub found_below_in : ℕ → List Frame → Option MaybeType
-found_below_in n [] = None
-found_below_in n (f ∷ fs) = top_of (drop n f.own) f.dead
+abbrev pub found_below_in_frames : ℕ → List Frame → Option MaybeType
+found_below_in_frames n [] = None
+found_below_in_frames n (f ∷ fs) = operand_on_top f.dead (drop n f.operands)
 
-abbrev pub found_below : ℕ → BodyState → Option MaybeType
-found_below n v = found_below_in n v.present.frames
+abbrev pub found_below_in_body : ℕ → BodyState → Option MaybeType
+found_below_in_body n v = found_below_in_frames n v.present.frames
 
 -- ---- operands
 
-abbrev pub put_on : MaybeType → List Frame → List MaybeType → State
-put_on t [] left = record { frames = []; left = t ∷ left }
-put_on t (f ∷ fs) left = record { frames = record f { own = t ∷ f.own } ∷ fs; left = left }
+abbrev pub state_with_operand : MaybeType → List Frame → List MaybeType → State
+state_with_operand t [] left = state_with (t ∷ left) []
+state_with_operand t (f ∷ fs) left = state_with left (record f { operands = t ∷ f.operands } ∷ fs)
 
 -- with one more operand on the innermost frame
-abbrev pub pushed : MaybeType → BodyState → BodyState
-pushed t v = record v { present = put_on t v.present.frames v.present.left }
+abbrev pub body_pushed : MaybeType → BodyState → BodyState
+body_pushed t v = record v { present = state_with_operand t v.present.frames v.present.left }
 
-abbrev pub with_own : List MaybeType → List Frame → List Frame
-with_own own [] = []
-with_own own (f ∷ fs) = record f { own = own } ∷ fs
+abbrev pub frames_owning : List MaybeType → List Frame → List Frame
+frames_owning own [] = []
+frames_owning own (f ∷ fs) = record f { operands = own } ∷ fs
 
-abbrev pub without_first : List MaybeType → BodyState → BodyState
-without_first [] v = v
-without_first (t ∷ ts) v = record v { present = record { frames = with_own ts v.present.frames; left = v.present.left } }
+abbrev pub body_without_first : List MaybeType → BodyState → BodyState
+body_without_first [] v = v
+body_without_first (t ∷ ts) v = body_with_frames (frames_owning ts v.present.frames) v
 
 -- without the top own operand of the innermost frame, if it has one
-abbrev pub popped : BodyState → BodyState
-popped v = without_first (own_of v.present.frames) v
+abbrev pub body_popped : BodyState → BodyState
+body_popped v = body_without_first (innermost_operands v.present.frames) v
 
 -- ---- frames
 
-abbrev pub new_frame : FrameKind → BlockType → Frame
-new_frame kind block_type = record { head = record { kind = kind; block_type = block_type }; own = []; dead = false; first_set = [] }
+abbrev pub empty_frame : FrameKind → BlockType → Frame
+empty_frame kind block_type =
+    record {
+      head = record { kind = kind; block_type = block_type };
+      operands = [];
+      dead = false;
+      first_set = [];
+    }
 
 -- with one more frame, live and without operands
-abbrev pub opened : FrameKind → BlockType → BodyState → BodyState
-opened kind block_type v = record v { present = record { frames = new_frame kind block_type ∷ v.present.frames; left = v.present.left } }
+abbrev pub body_with_frame : FrameKind → BlockType → BodyState → BodyState
+body_with_frame kind block_type v = body_with_frames (empty_frame kind block_type ∷ v.present.frames) v
 
-abbrev pub ended_in : List Frame → List Frame
-ended_in [] = []
-ended_in (f ∷ fs) = record f { own = []; dead = true } ∷ fs
+abbrev pub frames_unreachable : List Frame → List Frame
+frames_unreachable [] = []
+frames_unreachable (f ∷ fs) = record f { operands = []; dead = true } ∷ fs
 
 -- with the innermost frame dead, and without operands of its own
-abbrev pub ended : BodyState → BodyState
-ended v = record v { present = record { frames = ended_in v.present.frames; left = v.present.left } }
+abbrev pub body_unreachable : BodyState → BodyState
+body_unreachable v = body_with_frames (frames_unreachable v.present.frames) v
 
-abbrev pub outer_of : List Frame → List Frame
-outer_of [] = []
-outer_of (f ∷ fs) = fs
+abbrev pub frames_marked : List Frame → List Frame
+frames_marked [] = []
+frames_marked (f ∷ fs) = record f { dead = true } ∷ fs
+
+-- with the innermost frame dead
+abbrev pub body_marked : BodyState → BodyState
+body_marked v = body_with_frames (frames_marked v.present.frames) v
+
+abbrev pub outer_frames : List Frame → List Frame
+outer_frames [] = []
+outer_frames (f ∷ fs) = fs
 
 -- without the innermost frame
-abbrev pub closed : BodyState → BodyState
-closed v = record v { present = record { frames = outer_of v.present.frames; left = v.present.left } }
+abbrev pub body_without_frame : BodyState → BodyState
+body_without_frame v = body_with_frames (outer_frames v.present.frames) v
 
 -- ---- locals
 
 -- the local is set, when the body begins or since
 abbrev pub is_set_in : BodyState → ℕ → Bool
-is_set_in v i = has (set_in v.present.frames) i || slice_index_or v.entry i false
+is_set_in v i = is_among (locals_set v.present.frames) i || slice_index_or v.entry i false
 
-abbrev pub with_set : Bool → ℕ → List Frame → List Frame
-with_set set i [] = []
-with_set set i (f ∷ fs) = record f { first_set = joined set f.first_set i } ∷ fs
+abbrev pub frames_setting : Bool → ℕ → List Frame → List Frame
+frames_setting set i [] = []
+frames_setting set i (f ∷ fs) =
+    record f { first_set = if set then f.first_set else f.first_set ++ i ∷ [] } ∷ fs
 
 -- with the local set: where it wasn't, it joins those first set in the innermost frame
-abbrev pub local_set : ℕ → BodyState → BodyState
-local_set i v = record v { present = record { frames = with_set (is_set_in v i) i v.present.frames; left = v.present.left } }
+abbrev pub body_with_local_set : ℕ → BodyState → BodyState
+body_with_local_set i v = body_with_frames (frames_setting (is_set_in v i) i v.present.frames) v
 
 -- the locals that were first set in a frame that is still open, in order
-abbrev pub order_in : List Frame → List ℕ
-order_in [] = []
-order_in (f ∷ fs) = order_in fs ++ f.first_set
+abbrev pub setting_order : List Frame → List ℕ
+setting_order [] = []
+setting_order (f ∷ fs) = setting_order fs ++ f.first_set
 
 -- with so many more locals of a type, set when the body begins where it has a default value
-abbrev pub with_locals : ℕ → ValType → BodyState → BodyState
-with_locals count ty v = record v { locals = v.locals ++ replicate count ty; entry = v.entry ++ replicate count (is_defaultable ty) }
+abbrev pub body_with_locals : ℕ → ValType → BodyState → BodyState
+body_with_locals count ty v =
+    record v {
+      locals = v.locals ++ replicate count ty;
+      entry = v.entry ++ replicate count (is_defaultable ty);
+    }
 
 -- with these parameters as locals, all of them set when the body begins
-abbrev pub with_params : List ValType → BodyState → BodyState
-with_params params v = record v { locals = v.locals ++ params; entry = v.entry ++ map (λ _. true) params }
+abbrev pub body_with_params : List ValType → BodyState → BodyState
+body_with_params params v =
+    record v { locals = v.locals ++ params; entry = v.entry ++ map (λ _. true) params }

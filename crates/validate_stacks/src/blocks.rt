@@ -1,6 +1,6 @@
 //! The types of a block, and the opening and closing of its frame.
 
-ghost use Rattle.std.specs.Prelude.{◌≡◌, true, false, None, Some, OnOk, OnErr, IfOk, IfErr};
+ghost use Rattle.std.specs.Prelude.{◌≡◌, ◌≢◌, [], true, false, None, Some, OnOk, OnErr, IfOk, IfErr};
 ghost use Rattle.validate_resources.specs.Context.{Valid};
 ghost use Rattle.validation_rules.specs.Context.{Context, block_signature};
 ghost use Rattle.validation_rules.specs.Rows.{label_types};
@@ -8,8 +8,8 @@ ghost use Rattle.validation_rules.specs.Valid.{BlockIsValid};
 ghost use Rattle.validate_stacks.specs.State.{IsValid};
 ghost use Rattle.validate_stacks.specs.Steps.{frame_at};
 ghost use Rattle.validate_stacks.specs.Pops.{IsKept};
-ghost use Rattle.validate_stacks.specs.Blocks.{close_frame, entered, head_of};
-ghost use Rattle.validate_stacks.specs.Visits.{MayVisit};
+ghost use Rattle.validate_stacks.specs.Blocks.{closed_body, body_with_block, head_of};
+ghost use Rattle.validate_stacks.specs.Attempts.{may_frame, may_unset};
 
 use crate::stacks::Stacks;
 use std::slice;
@@ -60,7 +60,8 @@ pub fn label_types<'a, R: WasmModuleResources>(
     block_type: &'a BlockType,
     kind: FrameKind,
 ) -> &'a [ValType]
-    ensures { (cx : Context) → cx.of_module ≡ R.context resources.now → result.now ≡ label_types cx (head_of kind block_type.now) }
+    ensures { (cx : Context) → cx.of_module ≡ R.context resources.now → result.now
+        ≡ label_types cx (head_of kind block_type.now) }
 {
     match kind {
         FrameKind::Loop => params(resources, block_type),
@@ -78,13 +79,16 @@ impl Stacks {
         kind: FrameKind,
         block_type: BlockType,
     ) -> Result<(), Error>
-        requires state { IsValid (R.context resources.now) self.old }
-        requires block { BlockIsValid (R.context resources.now) self.old.shared block_type }
-        ensures entered { OnOk result (self.new ≡ entered (R.context resources.now) kind block_type self.old) }
+        requires state { IsValid (R.context resources.now) self.old.body }
+        requires block { BlockIsValid (R.context resources.now) self.old.body.shared block_type }
+        requires frames { may_frame self.old ≡ true }
+        ensures entered { OnOk result (self.new.body ≡ body_with_block (R.context resources.now) kind
+            block_type self.old.body) }
         ensures memory { IfErr result (λ e. e.memory ≡ true) }
         ensures offset { IfErr result (λ e. e.offset ≡ offset) }
-        ensures valid { IsValid (R.context resources.now) self.new }
-        ensures kept { IsKept self.old self.new }
+        ensures valid { IsValid (R.context resources.now) self.new.body }
+        ensures kept { IsKept self.old.body self.new.body }
+        ensures frames { may_frame self.new ≡ true }
     {
         match self.push_bare_ctrl(kind, block_type) {
             Ok(()) => self.push_types(offset, params(resources, &block_type)),
@@ -94,19 +98,27 @@ impl Stacks {
 
     /// Closes the innermost frame, which has to have exactly its results (wasmparser's `pop_ctrl`).
     /// It gives back the frame, or refuses where an operand is missing or of another type, or where one
-    /// is left over. Memory is wanted for the text of a refusal alone.
+    /// is left over. Memory is wanted for the text of a refusal and the log of an attempt alone.
     pub fn pop_ctrl<R: WasmModuleResources>(
         &mut self,
         resources: &R,
         offset: u64,
     ) -> Result<Frame, Error>
-        requires { MayVisit (R.context resources.now) self.old }
-        ensures closed { OnOk result (close_frame (R.context resources.now) self.old ≡ Some self.new) }
-        ensures frame { IfOk result (λ f. frame_at self.old 0 ≡ Some f) }
-        ensures refused { OnErr result (close_frame (R.context resources.now) self.old ≡ None) }
+        requires open { self.old.body.present.frames ≢ [] }
+        requires state { IsValid (R.context resources.now) self.old.body }
+        requires frames { may_frame self.old ≡ true }
+        requires unsets { may_unset self.old ≡ true }
+        ensures closed { OnOk result (closed_body (R.context resources.now) self.old.body
+            ≡ Some self.new.body) }
+        ensures frame { IfOk result (λ f. frame_at self.old.body 0 ≡ Some f) }
+        ensures refused { IfErr result (λ e. e.memory ≡ false
+            → closed_body (R.context resources.now) self.old.body ≡ None) }
         ensures offset { IfErr result (λ e. e.offset ≡ offset) }
-        ensures valid { IsValid (R.context resources.now) self.new }
-        ensures kept { IsKept self.old self.new }
+        ensures valid { IsValid (R.context resources.now) self.new.body }
+        ensures kept { IsKept self.old.body self.new.body }
+        ensures frames { OnOk result (may_frame self.new ≡ true) }
+        ensures idle { self.old.body.undone ≡ None → OnErr result
+            (closed_body (R.context resources.now) self.old.body ≡ None) }
     {
         let Some(innermost) = self.get_frame(0) else {
             unreachable!()
@@ -119,7 +131,9 @@ impl Stacks {
                 offset,
             ));
         }
-        self.pop_bare_ctrl();
-        Ok(frame)
+        match self.pop_bare_ctrl() {
+            Ok(()) => Ok(frame),
+            Err(_) => Err(Error::out_of_memory(offset)),
+        }
     }
 }

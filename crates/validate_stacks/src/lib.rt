@@ -5,13 +5,14 @@
 pub mod allocations;
 pub mod blocks;
 pub mod either;
+pub mod laws;
 pub mod lists;
-pub mod pile;
 pub mod pops;
 pub mod stacks;
 
 pub use crate::allocations::OperatorValidatorAllocations;
 pub use crate::either::Either;
-pub use crate::pile::Pile;
+pub use crate::laws::shape_law;
 pub use crate::pops::ty_to_str;
 pub use crate::stacks::Stacks;
+pub use validate_transaction::Pile;

@@ -1,10 +1,12 @@
-//! Pops and pushes of lists of types, and the closing of a frame.
+//! Pops and pushes of lists of types, and the end of the live part of a frame.
 
-ghost use Rattle.std.specs.Prelude.{◌≡◌, ◌≢◌, ◌⊎◌, [], true, false, None, Some, OnOk, OnErr, IfErr, reverse};
+ghost use Rattle.std.specs.Prelude.{◌≡◌, ◌≢◌, ◌⊎◌, [], true, false, None, Some, OnOk, OnErr, IfErr, IsOk, reverse};
 ghost use Rattle.std.specs.List.{AllByRecursion};
 ghost use Rattle.validate_resources.specs.Context.{ModuleContext, Valid};
+ghost use Rattle.validate_stacks.specs.Attempts.{phase_moved};
 ghost use Rattle.validate_stacks.specs.State.{IsValid, context};
-ghost use Rattle.validate_stacks.specs.Pops.{popped_each, pushed_each, tops_fit, IsKept};
+ghost use Rattle.validate_stacks.specs.Steps.{body_unreachable};
+ghost use Rattle.validate_stacks.specs.Pops.{body_popped_each, body_pushed_each, has_operands_fitting, IsKept};
 
 use crate::stacks::Stacks;
 use validate_resources::WasmModuleResources;
@@ -12,7 +14,7 @@ use validate_types::{Error, MaybeType, ValType};
 
 impl Stacks {
     /// Pops one operand for each of these types, the last of the list first. Memory is wanted for the
-    /// text of a refusal alone.
+    /// text of a refusal and the log of an attempt alone.
     pub fn pop_types<R: WasmModuleResources>(
         &mut self,
         resources: &R,
@@ -20,12 +22,18 @@ impl Stacks {
         wanted: &[ValType],
     ) -> Result<(), Error>
         requires types { AllByRecursion (Valid (R.context resources.now)) wanted.now }
-        requires state { IsValid (R.context resources.now) self.old }
-        ensures passed { OnOk result (popped_each (R.context resources.now) (reverse wanted.now) self.old ≡ Some self.new) }
-        ensures refused { OnErr result (popped_each (R.context resources.now) (reverse wanted.now) self.old ≡ None) }
+        requires state { IsValid (R.context resources.now) self.old.body }
+        ensures passed { OnOk result (body_popped_each (R.context resources.now) (reverse wanted.now)
+            self.old.body ≡ Some self.new.body) }
+        ensures refused { IfErr result (λ e. e.memory ≡ false
+            → body_popped_each (R.context resources.now) (reverse wanted.now) self.old.body ≡ None) }
+        ensures idle { self.old.body.undone ≡ None
+            → OnErr result (body_popped_each (R.context resources.now) (reverse wanted.now)
+            self.old.body ≡ None) }
+        ensures phase { phase_moved self.new.phase ≡ phase_moved self.old.phase }
         ensures offset { IfErr result (λ e. e.offset ≡ offset) }
-        ensures valid { IsValid (R.context resources.now) self.new }
-        ensures kept { IsKept self.old self.new }
+        ensures valid { IsValid (R.context resources.now) self.new.body }
+        ensures kept { IsKept self.old.body self.new.body }
     {
         let mut left = wanted.len();
         while left > 0 {
@@ -35,25 +43,42 @@ impl Stacks {
         Ok(())
     }
 
-    /// Whether pops of these types would pass, the last of the list first: the operands stay in place
-    /// (wasmparser's `match_stack_operands`, which pops and pushes them). It refuses as the pops would.
+    /// Checks that pops of these types would pass, the last of the list first, and leaves the operands in
+    /// place (wasmparser's `match_stack_operands`, which pops and pushes them). Where they would not, it
+    /// makes them, so that it refuses as they do, and the operands are popped up to the one that doesn't
+    /// fit. Memory is wanted as by [`Stacks::pop_types`].
     pub fn match_operands<R: WasmModuleResources>(
-        &self,
+        &mut self,
         resources: &R,
         offset: u64,
         wanted: &[ValType],
     ) -> Result<(), Error>
         requires types { AllByRecursion (Valid (R.context resources.now)) wanted.now }
-        requires state { IsValid (R.context resources.now) self.now }
-        ensures passed { OnOk result (tops_fit (context (R.context resources.now) self.now) wanted.now self.now ≡ true) }
-        ensures refused { OnErr result (tops_fit (context (R.context resources.now) self.now) wanted.now self.now ≡ false) }
+        requires state { IsValid (R.context resources.now) self.old.body }
+        ensures passed { OnOk result (has_operands_fitting
+            (context (R.context resources.now) self.old.body) wanted.now self.old.body ≡ true) }
+        ensures same { OnOk result (self.new ≡ self.old) }
+        ensures refused { IfErr result (λ e. e.memory ≡ false
+            → has_operands_fitting (context (R.context resources.now) self.old.body) wanted.now
+            self.old.body ≡ false) }
+        ensures idle { self.old.body.undone ≡ None
+            → OnErr result (has_operands_fitting (context (R.context resources.now) self.old.body)
+            wanted.now self.old.body ≡ false) }
+        ensures phase { phase_moved self.new.phase ≡ phase_moved self.old.phase }
         ensures offset { IfErr result (λ e. e.offset ≡ offset) }
+        ensures valid { IsValid (R.context resources.now) self.new.body }
+        ensures kept { IsKept self.old.body self.new.body }
     {
         let mut left = wanted.len();
         while left > 0 {
             left -= 1;
             let found = self.found_at(wanted.len() - 1 - left);
-            self.check_found(resources, offset, found, Some(wanted[left]))?;
+            if self
+                .check_found(resources, offset, found, Some(wanted[left]))
+                .is_err()
+            {
+                return self.pop_types(resources, offset, wanted);
+            }
         }
         Ok(())
     }
@@ -61,11 +86,13 @@ impl Stacks {
     /// Pushes an operand of each of these types, the first of the list first. It refuses for want of
     /// memory alone.
     pub fn push_types(&mut self, offset: u64, types: &[ValType]) -> Result<(), Error>
-        ensures pushed { OnOk result (self.new ≡ pushed_each types.now self.old) }
+        ensures pushed { OnOk result (self.new.body ≡ body_pushed_each types.now self.old.body) }
         ensures memory { IfErr result (λ e. e.memory ≡ true) }
         ensures offset { IfErr result (λ e. e.offset ≡ offset) }
-        ensures valid { (md : ModuleContext) → AllByRecursion (Valid md) types.now → IsValid md self.old → IsValid md self.new }
-        ensures kept { IsKept self.old self.new }
+        ensures valid { (md : ModuleContext) → AllByRecursion (Valid md) types.now
+            → IsValid md self.old.body → IsValid md self.new.body }
+        ensures kept { IsKept self.old.body self.new.body }
+        ensures phase { phase_moved self.new.phase ≡ phase_moved self.old.phase }
     {
         for ty in types {
             match self.push_operand(MaybeType::Known(*ty)) {
@@ -74,5 +101,21 @@ impl Stacks {
             }
         }
         Ok(())
+    }
+
+    /// Ends the live part of the innermost frame, with the offset in the refusal. It takes no memory
+    /// where no attempt is pending.
+    pub fn end_live_part(&mut self, offset: u64) -> Result<(), Error>
+        ensures ended { OnOk result (self.new.body ≡ body_unreachable self.old.body) }
+        ensures memory { IfErr result (λ e. e.memory ≡ true) }
+        ensures offset { IfErr result (λ e. e.offset ≡ offset) }
+        ensures valid { (md : ModuleContext) → IsValid md self.old.body → IsValid md self.new.body }
+        ensures kept { IsKept self.old.body self.new.body }
+        ensures idle { self.old.body.undone ≡ None → IsOk result }
+    {
+        match self.unreachable() {
+            Ok(()) => Ok(()),
+            Err(_) => Err(Error::out_of_memory(offset)),
+        }
     }
 }

@@ -5,10 +5,11 @@ ghost use Rattle.std.specs.Option.{ForSome};
 ghost use Rattle.validate_resources.specs.Context.{Valid};
 ghost use Rattle.validation_rules.specs.Fits.{UnknownRef, fits};
 ghost use Rattle.validation_rules.specs.Valid.{OperandIsValid};
+ghost use Rattle.validate_stacks.specs.Attempts.{phase_moved};
 ghost use Rattle.validate_stacks.specs.State.{IsValid, context};
 ghost use Rattle.validate_stacks.specs.Names.{type_name};
-ghost use Rattle.validate_stacks.specs.Pops.{passes};
-ghost use Rattle.validate_stacks.specs.Steps.{found, popped};
+ghost use Rattle.validate_stacks.specs.Pops.{may_pop};
+ghost use Rattle.validate_stacks.specs.Steps.{found_in_body, body_popped};
 
 use crate::stacks::Stacks;
 use std::alloc::Global;
@@ -73,7 +74,7 @@ fn reference_found(alloc: Global, expected: ValType, offset: u64) -> Error
 impl Stacks {
     /// Pops an operand that fits what is wanted, if anything is. It refuses, at the offset handed in,
     /// where nothing is found or where what is found doesn't fit (and is popped). Memory is wanted for
-    /// the text of a refusal alone.
+    /// the text of a refusal and the log of an attempt alone.
     pub fn pop_operand<R: WasmModuleResources>(
         &mut self,
         resources: &R,
@@ -81,19 +82,31 @@ impl Stacks {
         expected: Option<ValType>,
     ) -> Result<MaybeType, Error>
         requires wanted { ForSome expected (Valid (R.context resources.now)) }
-        requires state { IsValid (R.context resources.now) self.old }
-        ensures value { IfOk result (λ t. found self.old ≡ Some t) }
-        ensures passed { OnOk result (passes (context (R.context resources.now) self.old) (found self.old) expected ≡ true) }
-        ensures popped { OnOk result (self.new ≡ popped self.old) }
-        ensures refused { OnErr result (passes (context (R.context resources.now) self.old) (found self.old) expected ≡ false) }
-        ensures left { OnErr result ((self.new ≡ self.old) ⊎ (self.new ≡ popped self.old)) }
+        requires state { IsValid (R.context resources.now) self.old.body }
+        ensures value { IfOk result (λ t. found_in_body self.old.body ≡ Some t) }
+        ensures passed { OnOk result (may_pop (context (R.context resources.now) self.old.body)
+            (found_in_body self.old.body) expected ≡ true) }
+        ensures popped { OnOk result (self.new.body ≡ body_popped self.old.body) }
+        ensures refused { IfErr result (λ e. e.memory ≡ false
+            → may_pop (context (R.context resources.now) self.old.body) (found_in_body self.old.body)
+            expected ≡ false) }
+        ensures left { OnErr result ((self.new.body ≡ self.old.body)
+            ⊎ (self.new.body ≡ body_popped self.old.body)) }
+        ensures phase { phase_moved self.new.phase ≡ phase_moved self.old.phase }
         ensures offset { IfErr result (λ e. e.offset ≡ offset) }
 
-        // A pop of any type takes no memory.
-        ensures memory { expected ≡ None → IfErr result (λ e. e.memory ≡ false) }
+        // Where no attempt is pending it is refused only where nothing fits, and a pop of any type
+        // takes no memory.
+        ensures idle { self.old.body.undone ≡ None
+            → OnErr result (may_pop (context (R.context resources.now) self.old.body)
+            (found_in_body self.old.body) expected ≡ false) }
+        ensures memory { self.old.body.undone ≡ None → expected ≡ None
+            → IfErr result (λ e. e.memory ≡ false) }
     {
-        let found = self.pop_any();
-        self.check_found(resources, offset, found, expected)
+        match self.pop_any() {
+            Ok(found) => self.check_found(resources, offset, found, expected),
+            Err(_) => Err(Error::out_of_memory(offset)),
+        }
     }
 
     /// The operand that was found, where it fits what is wanted, if anything is.
@@ -107,8 +120,10 @@ impl Stacks {
         requires wanted { ForSome expected (Valid (R.context resources.now)) }
         requires found { ForSome found (OperandIsValid (R.context resources.now)) }
         ensures value { IfOk result (λ t. found ≡ Some t) }
-        ensures passed { OnOk result (passes (context (R.context resources.now) self.now) found expected ≡ true) }
-        ensures refused { OnErr result (passes (context (R.context resources.now) self.now) found expected ≡ false) }
+        ensures passed { OnOk result (may_pop (context (R.context resources.now) self.now.body) found
+            expected ≡ true) }
+        ensures refused { OnErr result (may_pop (context (R.context resources.now) self.now.body) found
+            expected ≡ false) }
         ensures offset { IfErr result (λ e. e.offset ≡ offset) }
         ensures memory { expected ≡ None → IfErr result (λ e. e.memory ≡ false) }
     {
@@ -141,8 +156,10 @@ impl Stacks {
         wanted: ValType,
     ) -> Result<(), Error>
         requires { Valid (R.context resources.now) wanted }
-        ensures passed { OnOk result (fits (context (R.context resources.now) self.now) (UnknownRef found) wanted ≡ true) }
-        ensures refused { OnErr result (fits (context (R.context resources.now) self.now) (UnknownRef found) wanted ≡ false) }
+        ensures passed { OnOk result (fits (context (R.context resources.now) self.now.body)
+            (UnknownRef found) wanted ≡ true) }
+        ensures refused { OnErr result (fits (context (R.context resources.now) self.now.body)
+            (UnknownRef found) wanted ≡ false) }
         ensures offset { IfErr result (λ e. e.offset ≡ offset) }
     {
         let ValType::Ref(reference) = wanted else {

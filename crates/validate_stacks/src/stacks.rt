@@ -1,15 +1,23 @@
 //! The operands, the open frames and the locals.
 
-ghost use Rattle.std.specs.Prelude.{◌≡◌, ◌≢◌, ◌+◌, ◌<◌, ◌≤◌, [], length, IfOk, OnErr, MatchBool, MatchResult, IsTrue, not};
+ghost use Rattle.std.specs.Prelude.{◌≡◌, ◌≢◌, ◌+◌, ◌<◌, ◌≤◌, true, None, [], length, is_some, IfOk, OnOk, OnErr, IsOk, IsSome, MatchBool, MatchResult, IsTrue, not};
 ghost use Rattle.std.specs.Option.{option_copied};
+ghost use Rattle.validate_locals.specs.Limit.{max_locals};
+ghost use Rattle.validate_resources.specs.Context.{ModuleContext};
+ghost use Rattle.validate_transaction.specs.TakeBack.{items_taken_back, CanTakeBack};
 ghost use Rattle.validation_rules.specs.Static.{operand_count, frame_count};
-ghost use Rattle.validate_stacks.specs.Steps.{empty, own_of, found, known_of, peeked, frame_at, label_of, found_below, ended, pushed, popped, opened, closed, is_set_in, local_set, order_in, with_locals, with_params};
+ghost use Rattle.validate_stacks.specs.Attempts.{phase_moved, may_attempt, may_frame, may_set, may_unset, stacks_begun, stacks_committed, stacks_rolled_back};
+ghost use Rattle.validate_stacks.specs.Flat.{frames_unmarked, inits_in_frames};
+ghost use Rattle.validate_stacks.specs.Pops.{IsKept};
+ghost use Rattle.validate_stacks.specs.State.{IsValid};
+ghost use Rattle.validate_stacks.specs.Steps.{empty_body, innermost_operands, found_in_body, known_type, type_at_depth, frame_at, label_of, found_below_in_body, body_marked, body_unreachable, body_pushed, body_popped, body_with_frame, body_without_frame, is_set_in, body_with_local_set, setting_order, body_with_locals, body_with_params};
 
 use crate::allocations::OperatorValidatorAllocations;
-use crate::pile::Pile;
 use std::alloc::Global;
 use std::marker::Model;
 use validate_locals::{LocalInits, Locals};
+use validate_transaction::pile::take_back;
+use validate_transaction::{Pile, RollbackLogAllocations, Transaction};
 use validate_types::{MaybeType, OutOfMemory, ValType, WasmFeatures};
 use validate_visit::{BlockType, Frame, FrameKind};
 
@@ -21,28 +29,28 @@ pub struct Stacks {
     control: Pile<Frame>,
     locals: Locals,
     inits: LocalInits,
+    transaction: Transaction,
     shared: bool,
     features: WasmFeatures,
     alloc: Global,
 }
 
 impl Model for Stacks {
-    ghost use Rattle.std.specs.Prelude.{None};
-    ghost use Rattle.validate_stacks.specs.State.{BodyState};
+    ghost use Rattle.validate_stacks.specs.Attempts.{Stacked};
 
-    ghost Value = { BodyState };
+    ghost Value = { Stacked };
 
-    ghost use Rattle.validate_stacks.specs.Flat.{cut, IsSound};
+    ghost use Rattle.validate_stacks.specs.Flat.{stacked_of, IsSound};
 
-    ghost view = { λ s. record { present = cut s.control.items s.operands.items s.inits.order; shared = s.shared; features = s.features; locals = s.locals; entry = s.inits.base; undone = None } };
+    ghost view = { λ s. stacked_of s.control.items s.operands.items s.inits.order s.transaction s.shared s.features s.locals s.inits.base };
 
-    ghost invariant = { λ s. IsSound s.control.items s.operands.items s.inits s.locals };
+    ghost invariant = { λ s. IsSound s.control.room s.control.items s.operands.room s.operands.items s.inits.room s.inits.base s.inits.order s.transaction s.locals };
 }
 
 impl Stacks {
     /// No frame, no operand and no local, in these buffers. It takes no memory.
     pub fn new(features: WasmFeatures, allocs: OperatorValidatorAllocations) -> Stacks
-        ensures { result ≡ empty features }
+        ensures { result.body ≡ empty_body features }
     {
         let alloc = allocs.allocator();
         Stacks {
@@ -50,6 +58,7 @@ impl Stacks {
             control: Pile::new(alloc),
             locals: Locals::new(alloc),
             inits: LocalInits::new(alloc),
+            transaction: Transaction::new(RollbackLogAllocations::new(alloc)),
             shared: false,
             features,
             alloc,
@@ -68,38 +77,39 @@ impl Stacks {
 
     /// Marks the function as shared or not.
     pub fn set_shared(&mut self, shared: bool)
-        ensures { self.new ≡ record self.old { shared = shared } }
+        ensures { self.new ≡ record self.old { body = record self.old.body { shared = shared } } }
     {
         self.shared = shared;
     }
 
     /// Whether the function is shared.
     pub fn is_shared(&self) -> bool
-        ensures { result ≡ self.now.shared }
+        ensures { result ≡ self.now.body.shared }
     {
         self.shared
     }
 
     /// The proposals that are on.
     pub fn features(&self) -> WasmFeatures
-        ensures { result ≡ self.now.features }
+        ensures { result ≡ self.now.body.features }
     {
         self.features
     }
 
     /// The declared locals.
     pub fn locals(&self) -> &Locals
-        ensures { result.now ≡ self.now.locals }
+        ensures { result.now ≡ self.now.body.locals }
     {
         &self.locals
     }
 
     /// Which locals are set: those that were first set, in order, and those set when the body begins.
     pub fn inits(&self) -> &LocalInits
-        ensures order { result.now.order ≡ order_in self.now.present.frames }
-        ensures base { result.now.base ≡ self.now.entry }
-        ensures marks { length self.now.entry ≡ length self.now.locals }
+        ensures order { result.now.order ≡ setting_order self.now.body.present.frames }
+        ensures base { result.now.base ≡ self.now.body.entry }
+        ensures marks { length self.now.body.entry ≡ length self.now.body.locals }
     {
+        // The proof takes the invariant of the stacks from this read.
         let _frames = self.control.len();
         &self.inits
     }
@@ -107,8 +117,12 @@ impl Stacks {
     /// Declares the parameters, each as a local that is set, whatever its type. False, with nothing
     /// changed, where there would be more than 50,000 locals then; want of memory changes nothing either.
     pub fn define_params(&mut self, params: &[ValType]) -> Result<bool, OutOfMemory>
-        ensures defined { IfOk result (λ done. MatchBool done (self.new ≡ with_params params.now self.old) (self.new ≡ self.old)) }
-        ensures within { IfOk result (λ done. MatchBool done (length self.old.locals + length params.now ≤ 50000) (50000 < length self.old.locals + length params.now)) }
+        requires { self.old.body.undone ≡ None }
+        ensures defined { IfOk result (λ done. MatchBool done
+            (self.new.body ≡ body_with_params params.now self.old.body) (self.new ≡ self.old)) }
+        ensures within { IfOk result (λ done. MatchBool done
+            (length self.old.body.locals + length params.now ≤ max_locals)
+            (max_locals < length self.old.body.locals + length params.now)) }
         ensures err { OnErr result (self.new ≡ self.old) }
     {
         if !self.locals.may_define(params.len()) {
@@ -123,8 +137,12 @@ impl Stacks {
     /// Declares `count` more locals of this type, which are set where it has a default value. False, with
     /// nothing changed, where there would be more than 50,000 then; want of memory changes nothing either.
     pub fn define_locals(&mut self, count: u32, ty: ValType) -> Result<bool, OutOfMemory>
-        ensures defined { IfOk result (λ done. MatchBool done (self.new ≡ with_locals count ty self.old) (self.new ≡ self.old)) }
-        ensures within { IfOk result (λ done. MatchBool done (length self.old.locals + count ≤ 50000) (50000 < length self.old.locals + count)) }
+        requires { self.old.body.undone ≡ None }
+        ensures defined { IfOk result (λ done. MatchBool done
+            (self.new.body ≡ body_with_locals count ty self.old.body) (self.new ≡ self.old)) }
+        ensures within { IfOk result (λ done. MatchBool done
+            (length self.old.body.locals + count ≤ max_locals)
+            (max_locals < length self.old.body.locals + count)) }
         ensures err { OnErr result (self.new ≡ self.old) }
     {
         if !self.locals.may_define(count as usize) {
@@ -138,9 +156,10 @@ impl Stacks {
 
     /// Whether the local at this index isn't set (wasmparser's `is_uninit`).
     pub fn is_uninit(&self, local_index: u32) -> bool
-        requires { local_index < length self.now.locals }
-        ensures { result ≡ not (is_set_in self.now local_index) }
+        requires { local_index < length self.now.body.locals }
+        ensures { result ≡ not (is_set_in self.now.body local_index) }
     {
+        // The proof takes the invariant of the stacks from this read.
         let _frames = self.control.len();
         self.inits.is_uninit(local_index)
     }
@@ -148,26 +167,31 @@ impl Stacks {
     /// Sets the local at this index: where it wasn't set, it joins those first set in the innermost
     /// frame. Want of memory changes nothing.
     pub fn set_init(&mut self, local_index: u32) -> Result<(), OutOfMemory>
-        requires { local_index < length self.old.locals }
-        ensures exact { MatchResult result (λ _. self.new ≡ local_set local_index self.old) (λ _. self.new ≡ self.old) }
+        requires declared { local_index < length self.old.body.locals }
+        requires set { may_set self.old ≡ true }
+        ensures exact { MatchResult result (λ _. self.new.body
+            ≡ body_with_local_set local_index self.old.body) (λ _. self.new ≡ self.old) }
     {
         // Where no frame is open, there is none that it would join.
         if self.control.len() == 0 {
             return Ok(());
         }
-        self.inits.set_init(local_index)
+        self.inits.set_init(local_index)?;
+        // The proof takes the invariant of the stacks from this read.
+        let _height = self.inits.height();
+        Ok(())
     }
 
     /// How many operands there are, in all frames.
     pub fn operand_stack_height(&self) -> usize
-        ensures { result ≡ operand_count self.now.present }
+        ensures { result ≡ operand_count self.now.body.present }
     {
         self.operands.len()
     }
 
     /// How many frames are open.
     pub fn control_stack_height(&self) -> usize
-        ensures { result ≡ frame_count self.now.present }
+        ensures { result ≡ frame_count self.now.body.present }
     {
         self.control.len()
     }
@@ -175,7 +199,7 @@ impl Stacks {
     /// The type of the operand at this depth, the top at 0: None past the end, and `Some(None)` for
     /// an operand whose type isn't known.
     pub fn peek_operand_at(&self, depth: usize) -> Option<Option<ValType>>
-        ensures { result ≡ peeked self.now depth }
+        ensures { result ≡ type_at_depth self.now.body depth }
     {
         let ty = self.operands.get(depth)?;
         Some(known_type(*ty))
@@ -183,15 +207,16 @@ impl Stacks {
 
     /// The frame at this depth, the innermost at 0, or None past the end.
     pub fn get_frame(&self, depth: usize) -> Option<&Frame>
-        ensures { option_copied result ≡ frame_at self.now depth }
+        ensures { option_copied result ≡ frame_at self.now.body depth }
     {
+        // The proof takes the invariant of the stacks from this read.
         let _height = self.operands.len();
         self.control.get(depth)
     }
 
     /// The block type and the kind of the frame at this depth, the innermost at 0, or None past the end.
     pub fn jump(&self, depth: u32) -> Option<(BlockType, FrameKind)>
-        ensures { result ≡ label_of self.now depth }
+        ensures { result ≡ label_of self.now.body depth }
     {
         let frame = self.get_frame(depth as usize)?;
         Some((frame.block_type, frame.kind))
@@ -199,35 +224,47 @@ impl Stacks {
 
     /// Pushes an operand onto the innermost frame. Want of memory changes nothing.
     pub fn push_operand(&mut self, ty: MaybeType) -> Result<(), OutOfMemory>
-        ensures exact { MatchResult result (λ _. self.new ≡ pushed ty self.old) (λ _. self.new ≡ self.old) }
+        ensures exact { MatchResult result (λ _. self.new.body ≡ body_pushed ty self.old.body)
+            (λ _. self.new ≡ self.old) }
+        ensures phase { phase_moved self.new.phase ≡ phase_moved self.old.phase }
     {
         self.operands.take_room()?;
+        self.transaction.record_push()?;
         self.operands.put(ty);
         Ok(())
     }
 
     /// Takes the top own operand of the innermost frame. Below those of a dead frame lie unknown
-    /// ones, which are found and stay; None where nothing is found.
-    pub(crate) fn pop_any(&mut self) -> Option<MaybeType>
-        ensures value { result ≡ found self.old }
-        ensures after { self.new ≡ popped self.old }
+    /// ones, which are found and stay; None where nothing is found. Want of memory changes nothing, and
+    /// there is none where no attempt is pending.
+    pub(crate) fn pop_any(&mut self) -> Result<Option<MaybeType>, OutOfMemory>
+        ensures exact { MatchResult result (λ t. (t ≡ found_in_body self.old.body)
+            × (self.new.body ≡ body_popped self.old.body)) (λ _. self.new ≡ self.old) }
+        ensures phase { phase_moved self.new.phase ≡ phase_moved self.old.phase }
+        ensures idle { self.old.body.undone ≡ None → IsOk result }
     {
         let Some(frame) = self.control.get(0) else {
-            return None;
+            return Ok(None);
         };
         if self.operands.len() <= frame.height {
-            return if frame.unreachable {
+            return Ok(if frame.unreachable {
                 Some(MaybeType::Bottom)
             } else {
                 None
-            };
+            });
         }
-        self.operands.pop()
+        let Some(top) = self.operands.get(0) else {
+            return Ok(None);
+        };
+        let ty = *top;
+        self.transaction.record_pop(ty)?;
+        let _ = self.operands.pop();
+        Ok(Some(ty))
     }
 
     /// What a pop would find below so many others, in the innermost frame.
     pub(crate) fn found_at(&self, depth: usize) -> Option<MaybeType>
-        ensures { result ≡ found_below depth self.now }
+        ensures { result ≡ found_below_in_body depth self.now.body }
     {
         let frame = self.control.get(0)?;
         if depth < self.operands.len() - frame.height {
@@ -240,23 +277,42 @@ impl Stacks {
         }
     }
 
-    /// Ends the live part of the innermost frame (wasmparser's `unreachable`): it is dead from here on,
-    /// and its own operands go, in place. It takes no memory.
-    pub fn unreachable(&mut self)
-        ensures { self.new ≡ ended self.old }
+    /// Marks the innermost frame as dead.
+    fn mark(&mut self)
+        ensures { self.new.body ≡ body_marked self.old.body }
     {
         let Some(innermost) = self.control.get(0) else {
             return;
         };
-        let mut frame = *innermost;
-        frame.unreachable = true;
-        self.operands.truncate(frame.height);
-        self.control.replace_top(frame);
+        if innermost.unreachable {
+            return;
+        }
+        let dead = Frame {
+            unreachable: true,
+            ..*innermost
+        };
+        self.transaction.set_unreachable();
+        self.control.replace_top(dead);
+    }
+
+    /// Ends the live part of the innermost frame (wasmparser's `unreachable`): it is dead from here on,
+    /// and its own operands go. It takes no memory where no attempt is pending.
+    pub fn unreachable(&mut self) -> Result<(), OutOfMemory>
+        ensures ended { OnOk result (self.new.body ≡ body_unreachable self.old.body) }
+        ensures valid { (md : ModuleContext) → IsValid md self.old.body → IsValid md self.new.body }
+        ensures kept { IsKept self.old.body self.new.body }
+        ensures idle { self.old.body.undone ≡ None → IsOk result }
+    {
+        while self.own_len() > 0 {
+            let _ = self.pop_any()?;
+        }
+        self.mark();
+        Ok(())
     }
 
     /// How many own operands the innermost frame has.
     pub fn own_len(&self) -> usize
-        ensures { result ≡ length (own_of self.now.present.frames) }
+        ensures { result ≡ length (innermost_operands self.now.body.present.frames) }
     {
         match self.control.get(0) {
             Some(frame) => self.operands.len() - frame.height,
@@ -270,9 +326,13 @@ impl Stacks {
         kind: FrameKind,
         block_type: BlockType,
     ) -> Result<(), OutOfMemory>
-        ensures exact { MatchResult result (λ _. self.new ≡ opened kind block_type self.old) (λ _. self.new ≡ self.old) }
+        requires { may_frame self.old ≡ true }
+        ensures exact { MatchResult result (λ _. self.new.body
+            ≡ body_with_frame kind block_type self.old.body) (λ _. self.new ≡ self.old) }
+        ensures frames { may_frame self.new ≡ true }
     {
         self.control.take_room()?;
+        self.transaction.push_ctrl()?;
         let height = self.operands.len();
         let init_height = self.inits.height();
         self.control.put(Frame {
@@ -286,22 +346,118 @@ impl Stacks {
     }
 
     /// Closes the innermost frame, which has no operands of its own: the locals that were first set in it
-    /// aren't set any more. It takes no memory.
-    pub fn pop_bare_ctrl(&mut self)
-        requires { own_of self.old.present.frames ≡ [] }
-        ensures { self.new ≡ closed self.old }
+    /// aren't set any more. Want of memory changes nothing, and there is none where no attempt is
+    /// pending.
+    pub fn pop_bare_ctrl(&mut self) -> Result<(), OutOfMemory>
+        requires own { innermost_operands self.old.body.present.frames ≡ [] }
+        requires frames { may_frame self.old ≡ true }
+        requires unsets { may_unset self.old ≡ true }
+        ensures exact { MatchResult result (λ _. self.new.body ≡ body_without_frame self.old.body)
+            (λ _. self.new ≡ self.old) }
+        ensures frames { may_frame self.new ≡ true }
+        ensures idle { self.old.body.undone ≡ None → IsOk result }
     {
-        let _height = self.operands.len();
-        let Some(frame) = self.control.pop() else {
-            return;
+        let Some(innermost) = self.control.get(0) else {
+            return Ok(());
         };
+        let frame = *innermost;
+        // The proof takes the invariant of the stacks from this read.
+        let _count = self.control.len();
+        self.transaction
+            .pop_ctrl(frame, self.inits.set_since(frame.init_height))?;
+        let _ = self.control.pop();
         self.inits.drop_ctrl(frame.init_height);
+        Ok(())
+    }
+
+    /// Whether an attempt is pending.
+    pub fn is_pending(&self) -> bool
+        ensures { result ≡ is_some self.now.body.undone }
+    {
+        self.transaction.is_active()
+    }
+
+    /// Whether an operator may be visited: no attempt is pending, or the pending one has nothing to undo.
+    pub fn can_attempt(&self) -> bool
+        ensures { result ≡ may_attempt self.now }
+    {
+        !self.transaction.has_changes(self.inits.height())
+    }
+
+    /// Begins an attempt. It takes no memory.
+    pub fn begin_try_op(&mut self)
+        requires { self.old.body.undone ≡ None }
+        ensures { self.new ≡ stacks_begun self.old }
+    {
+        let height = self.inits.height();
+        self.transaction.begin(height);
+    }
+
+    /// Ends the attempt, and keeps what it did. It takes no memory.
+    pub fn commit(&mut self)
+        requires { IsSome self.old.body.undone }
+        ensures { self.new ≡ stacks_committed self.old }
+    {
+        self.transaction.end();
+    }
+
+    /// Takes the attempt back. It takes no memory.
+    pub fn rollback(&mut self)
+        requires { IsSome self.old.body.undone }
+        ensures { self.new ≡ stacks_rolled_back self.old }
+    {
+        let mut log = self.transaction.take();
+        unmark(&mut self.control, log.unreachable);
+        take_back(&mut self.operands, &mut log.operands);
+        take_back_frames(&mut self.control, &mut self.inits, &mut log.frames);
+        self.inits.put_back(&log.inits);
+        self.inits.drop_ctrl(log.init_height);
+        self.transaction.keep(log);
+    }
+}
+
+/// Takes the mark of the innermost frame away, where it was made.
+fn unmark(control: &mut Pile<Frame>, marked: bool)
+    ensures items { control.new.items ≡ frames_unmarked marked control.old.items }
+    ensures room { control.new.room ≡ control.old.room }
+{
+    if marked && let Some(frame) = control.get(0) {
+        let live = Frame {
+            unreachable: false,
+            ..*frame
+        };
+        control.replace_top(live);
+    }
+}
+
+/// Takes back the frames that the trace recorded, and the initialisations of each that goes.
+fn take_back_frames(
+    control: &mut Pile<Frame>,
+    inits: &mut LocalInits,
+    trace: &mut Pile<Option<Frame>>,
+)
+    requires { CanTakeBack control.old.room control.old.items trace.old.items }
+    ensures frames { control.new.items ≡ items_taken_back control.old.items trace.old.items }
+    ensures order { inits.new.order ≡ inits_in_frames control.old.items inits.old.order trace.old.items }
+    ensures base { inits.new.base ≡ inits.old.base }
+    ensures room { control.old.room ≤ control.new.room }
+    ensures inits_room { inits.new.room ≡ inits.old.room }
+{
+    while let Some(entry) = trace.pop() {
+        match entry {
+            Some(frame) => control.put(frame),
+            None => {
+                if let Some(frame) = control.pop() {
+                    inits.drop_ctrl(frame.init_height);
+                }
+            }
+        }
     }
 }
 
 /// The type of an operand, where it is known.
 fn known_type(ty: MaybeType) -> Option<ValType>
-    ensures { result ≡ known_of ty }
+    ensures { result ≡ known_type ty }
 {
     match ty {
         MaybeType::Known(ty) => Some(ty),

@@ -2,7 +2,10 @@
 -- "Matching: Heap Types"; exceptions and continuations are those of their proposals).
 use Rattle.std.specs.Prelude.{ℕ, Bool, true, false, List, codes}
 use Rattle.validate_types.specs.declared.heap.AbstractHeapType.{AbstractHeapType}
-use Rattle.validate_types.specs.declared.heap.AbstractHeapType.TheVariants.{Func, Extern, Any, None, NoExtern, NoFunc, Eq, Struct, Array, I31, Exn, NoExn, Cont, NoCont}
+use Rattle.validate_types.specs.declared.heap.AbstractHeapType.TheVariants.{Func, Extern, Any, None}
+use Rattle.validate_types.specs.declared.heap.AbstractHeapType.TheVariants.{NoExtern, NoFunc, Eq, Struct}
+use Rattle.validate_types.specs.declared.heap.AbstractHeapType.TheVariants.{Array, I31, Exn, NoExn, Cont}
+use Rattle.validate_types.specs.declared.heap.AbstractHeapType.TheVariants.{NoCont}
 
 -- The types below each, itself included:
 --   any: eq, i31, struct, array, none     eq: i31, struct, array, none

@@ -3,7 +3,8 @@ use Rattle.std.specs.Prelude.{ℕ, Bool, true, false, ◌==◌, ◌&&◌, ◌||�
 use Rattle.std.specs.Int.RustNames.{bit_and}
 use Rattle.validate_types.specs.declared.features.WasmFeatures.{WasmFeatures}
 use Rattle.validate_types.specs.declared.heap.AbstractHeapType.{AbstractHeapType}
-use Rattle.validate_types.specs.declared.heap.AbstractHeapType.TheVariants.{Func, Extern, Exn, NoExn, Cont, NoCont}
+use Rattle.validate_types.specs.declared.heap.AbstractHeapType.TheVariants.{Func, Extern, Exn, NoExn, Cont}
+use Rattle.validate_types.specs.declared.heap.AbstractHeapType.TheVariants.{NoCont}
 use Rattle.validate_types.specs.declared.heap.HeapType.{HeapType}
 use Rattle.validate_types.specs.declared.heap.HeapType.TheVariants.{Abstract, Concrete}
 use Rattle.validate_types.specs.declared.refs.RefType.{RefType}
@@ -95,7 +96,8 @@ shared_gate features true = has features shared_everything_threads
 shared_gate features false = true
 
 abbrev pub heap_gate : WasmFeatures → Bool → HeapType → Bool
-heap_gate features nullable (Abstract shared ty) = shared_gate features shared && abstract_gate features nullable ty
+heap_gate features nullable (Abstract shared ty) =
+    shared_gate features shared && abstract_gate features nullable ty
 heap_gate features nullable (Concrete i) = has features function_references || has features gc
 
 -- the gate of a reference type is open

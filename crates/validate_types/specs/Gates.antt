@@ -1,10 +1,17 @@
 -- The gates of operators: the proposal that each needs (WebAssembly core specification, "Change
 -- History"; the flags are the crate's own).
 use Rattle.std.specs.Prelude.{Bool, true}
-use Rattle.validate_types.specs.Features.{has, floats, reference_types, bulk_memory, bulk_memory_opt, sign_extension, saturating_float_to_int, threads, tail_call, function_references, memory_control, wide_arithmetic, acquire_release_atomics}
+use Rattle.validate_types.specs.Features.{has, floats, reference_types, bulk_memory, bulk_memory_opt}
+use Rattle.validate_types.specs.Features.{sign_extension, saturating_float_to_int, threads, tail_call}
+use Rattle.validate_types.specs.Features.{function_references, memory_control, wide_arithmetic}
+use Rattle.validate_types.specs.Features.{acquire_release_atomics}
 use Rattle.validate_types.specs.declared.features.WasmFeatures.{WasmFeatures}
 use Rattle.validate_types.specs.declared.gate.Gate.{Gate}
-use Rattle.validate_types.specs.declared.gate.Gate.TheVariants.{Mvp, Floats, ReferenceTypes, BulkMemory, BulkMemoryOpt, SignExtension, SaturatingFloatToInt, Threads, TailCall, FunctionReferences, MemoryControl, WideArithmetic, AcquireReleaseAtomics}
+use Rattle.validate_types.specs.declared.gate.Gate.TheVariants.{Mvp, Floats, ReferenceTypes, BulkMemory}
+use Rattle.validate_types.specs.declared.gate.Gate.TheVariants.{BulkMemoryOpt, SignExtension}
+use Rattle.validate_types.specs.declared.gate.Gate.TheVariants.{SaturatingFloatToInt, Threads, TailCall}
+use Rattle.validate_types.specs.declared.gate.Gate.TheVariants.{FunctionReferences, MemoryControl}
+use Rattle.validate_types.specs.declared.gate.Gate.TheVariants.{WideArithmetic, AcquireReleaseAtomics}
 
 abbrev pub is_open : WasmFeatures → Gate → Bool
 is_open features Mvp = true

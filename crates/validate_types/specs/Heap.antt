@@ -1,6 +1,7 @@
 -- Abstract heap types and the indices of types (WebAssembly core specification, "Heap Types",
 -- "Matching: Heap Types").
-use Rattle.std.specs.Prelude.{ℕ, Bool, true, false, Option, Some, None, nat_lt, if◌then◌else◌}
+use Rattle.std.specs.Prelude.{ℕ, Bool, Option, Some, None, nat_lt, if◌then◌else◌}
+use Rattle.validate_types.specs.declared.heap.TheConstants.PackedIndex.{LIMIT}
 use Rattle.validate_types.specs.declared.heap.CoreTypeId.{CoreTypeId}
 use Rattle.validate_types.specs.declared.heap.HeapType.{HeapType}
 use Rattle.validate_types.specs.declared.heap.HeapType.TheVariants.{Abstract, Concrete}
@@ -22,10 +23,10 @@ id_of (Id id) = Some id
 
 -- a reference packs it
 abbrev pub is_small : UnpackedIndex → Bool
-is_small i = nat_lt (number_of i) 1048576
+is_small i = nat_lt (number_of i) LIMIT
 
-abbrev pub packed : UnpackedIndex → Option UnpackedIndex
-packed i = if is_small i then Some i else None
+abbrev pub packed_index : UnpackedIndex → Option UnpackedIndex
+packed_index i = if is_small i then Some i else None
 
 -- the index in a heap type, if it has one
 abbrev pub index_in : HeapType → Option UnpackedIndex

@@ -1,6 +1,7 @@
 -- Reference types (WebAssembly core specification, "Reference Types").
 use Rattle.validate_types.specs.declared.refs.RefType.{RefType}
 use Rattle.std.specs.Prelude.{ℕ, Bool, true, false, List, ◌++◌, codes, Option, Some, None, if◌then◌else◌}
+use Rattle.validate_types.specs.declared.heap.AbstractHeapType.TheVariants.{None as Bottom}
 use Rattle.validate_types.specs.declared.heap.HeapType.{HeapType}
 use Rattle.validate_types.specs.declared.heap.HeapType.TheVariants.{Abstract, Concrete}
 use Rattle.validate_types.specs.Abstract.{plain_name, heap_name}
@@ -9,7 +10,15 @@ use Rattle.validate_types.specs.Heap.{is_small}
 abbrev pub reference : Bool → HeapType → RefType
 reference n h = record { nullable = n; heap_type = h }
 
--- a type index of it, if it has one, is below 2^20
+-- the references to a heap type, and null
+abbrev pub nullable_reference : HeapType → RefType
+nullable_reference h = reference true h
+
+-- the references to it, without null
+abbrev pub non_null_reference : HeapType → RefType
+non_null_reference h = reference false h
+
+-- a reference packs the type index in it, if it has one
 abbrev pub fits_reference : HeapType → Bool
 fits_reference (Abstract shared ty) = true
 fits_reference (Concrete i) = is_small i
@@ -26,9 +35,18 @@ non_null r = record r { nullable = false }
 abbrev pub with_null : RefType → RefType
 with_null r = record r { nullable = true }
 
+-- what is left of the one without the values of the other (Specification, `br_on_cast`: t₁ ∖ t₂)
+abbrev pub difference : RefType → RefType → RefType
+difference a b = if b.nullable then non_null a else a
+
 abbrev pub is_concrete : HeapType → Bool
 is_concrete (Abstract shared ty) = false
 is_concrete (Concrete i) = true
+
+-- `none` or its shared copy
+abbrev pub is_none : HeapType → Bool
+is_none (Abstract shared Bottom) = true
+is_none _ = false
 
 -- the reference to the shared copy of an abstract type
 abbrev pub shared_of : Bool → HeapType → Option RefType

@@ -3,12 +3,9 @@
 ghost use Rattle.std.specs.Prelude.{◌≡◌, true, false};
 ghost use Rattle.validate_types.specs.declared.heap.AbstractHeapType.{AbstractHeapType};
 ghost use Rattle.validate_types.specs.Abstract.{abstract_below, heap_name};
-ghost use Rattle.validate_types.specs.Heap.{module_index, id_of, packed};
+ghost use Rattle.validate_types.specs.Heap.{module_index, id_of, packed_index};
 
 use std::marker::Model;
-
-/// A type index of a reference stays below this, 2^20: `RefType` packs no other.
-pub const MAX_PACKED_INDEX: u32 = 1 << 20;
 
 /// An abstract heap type (wasmparser's `AbstractHeapType`).
 #[derive(Clone, Copy, Debug, PartialEq, Eq)]
@@ -164,15 +161,15 @@ pub enum UnpackedIndex {
 }
 
 impl UnpackedIndex {
-    /// The index in the form that a reference packs, or None where it is 2^20 or more.
+    /// The index in the form that a reference packs, or None where it is [`PackedIndex::LIMIT`] or more.
     pub fn pack(self) -> Option<PackedIndex>
-        ensures { result ≡ packed self }
+        ensures { result ≡ packed_index self }
     {
         let number = match self {
             UnpackedIndex::Module(index) => index,
             UnpackedIndex::Id(id) => id.index(),
         };
-        if number < MAX_PACKED_INDEX {
+        if number < PackedIndex::LIMIT {
             Some(PackedIndex { index: self })
         } else {
             None
@@ -200,7 +197,8 @@ impl UnpackedIndex {
     }
 }
 
-/// An index that a reference packs, below 2^20 (wasmparser's `PackedIndex`). Contracts see the index.
+/// An index that a reference packs, below [`PackedIndex::LIMIT`] (wasmparser's `PackedIndex`). Contracts
+/// see the index.
 #[derive(Clone, Copy, Debug, PartialEq, Eq)]
 pub struct PackedIndex {
     index: UnpackedIndex,
@@ -217,6 +215,9 @@ impl Model for PackedIndex {
 }
 
 impl PackedIndex {
+    /// The limit of the indices that a reference packs, 2^20: each is below it.
+    pub const LIMIT: u32 = 1 << 20;
+
     /// The index.
     pub fn unpack(self) -> UnpackedIndex
         ensures { result ≡ self }

@@ -8,6 +8,9 @@ pub mod features;
 pub mod gate;
 pub mod heap;
 pub mod refs;
+pub mod signature;
+#[cfg(test)]
+mod tests;
 pub mod types;
 
 pub use crate::error::{Error, OutOfMemory};
@@ -15,6 +18,7 @@ pub use crate::features::WasmFeatures;
 pub use crate::gate::Gate;
 pub use crate::heap::{AbstractHeapType, CoreTypeId, HeapType, PackedIndex, UnpackedIndex};
 pub use crate::refs::RefType;
+pub use crate::signature::func_signature_matches;
 pub use crate::types::{
     CompositeInnerType, CompositeType, FuncType, GlobalType, MaybeType, MemoryType, SubType,
     TableType, ValType,

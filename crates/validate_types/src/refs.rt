@@ -1,14 +1,14 @@
 //! Reference types (WebAssembly core specification, "Reference Types").
 
 ghost use Rattle.std.specs.Prelude.{◌≡◌, true, false};
-ghost use Rattle.validate_types.specs.Refs.{reference, reference_to, non_null, with_null, is_concrete, shared_of, wat, wat_of};
+ghost use Rattle.validate_types.specs.Refs.{reference, reference_to, non_null, with_null, difference, is_concrete, is_none, shared_of, wat, wat_of};
 ghost use Rattle.validate_types.specs.Heap.{index_in};
 ghost use Rattle.validate_types.specs.declared.heap.HeapType.{HeapType};
 
 use crate::heap::{AbstractHeapType, HeapType, PackedIndex, UnpackedIndex};
 
-/// A reference type (wasmparser's `RefType`). One that [`RefType::new`] makes has no type index of 2^20
-/// or more.
+/// A reference type (wasmparser's `RefType`). One that [`RefType::new`] makes has no type index of
+/// [`PackedIndex::LIMIT`] or more.
 #[derive(Clone, Copy, Debug, PartialEq, Eq)]
 pub struct RefType {
     /// Whether null is one of its values.
@@ -72,7 +72,8 @@ impl RefType {
         },
     };
 
-    /// The reference to a heap type, or None where a type index in it is 2^20 or more.
+    /// The reference to a heap type, or None where a type index in it is [`PackedIndex::LIMIT`]
+    /// or more.
     pub fn new(nullable: bool, heap_type: HeapType) -> Option<RefType>
         ensures { result ≡ reference_to nullable heap_type }
     {
@@ -118,6 +119,14 @@ impl RefType {
         }
     }
 
+    /// What is left of `a` without the values of `b`, as where a cast to `b` failed: `a` without null
+    /// where null is a value of `b`, else `a`.
+    pub fn difference(a: RefType, b: RefType) -> RefType
+        ensures { result ≡ difference a b }
+    {
+        if b.is_nullable() { a.as_non_null() } else { a }
+    }
+
     /// The reference to the shared copy of the abstract type, or None where the type is one of the
     /// module.
     pub fn shared(self) -> Option<RefType>
@@ -151,6 +160,19 @@ impl RefType {
         ensures { result ≡ is_concrete self.heap_type }
     {
         matches!(&self.heap_type, HeapType::Concrete(_))
+    }
+
+    /// Whether it points to `none`, shared or not.
+    pub fn is_none_ref(self) -> bool
+        ensures { result ≡ is_none self.heap_type }
+    {
+        matches!(
+            &self.heap_type,
+            HeapType::Abstract {
+                ty: AbstractHeapType::None,
+                ..
+            }
+        )
     }
 
     /// The index of the type of the module that it points to, if it is one.

@@ -5,7 +5,7 @@ use Rattle.validate_visit.specs.declared.frame.FrameKind.TheVariants.{If, Else}
 use Rattle.validate_visit.specs.declared.op.Op.{Op}
 use Rattle.validate_visit.specs.declared.op.Op.TheVariants.{Control}
 use Rattle.validate_visit.specs.declared.op.ControlOp.TheVariants.{Else as ElseOp}
-use Rattle.validate_visit.specs.Order.{Nesting, Flat, Opens, BeginsElse, BeginsCatch, Ends, Delegates, nesting, is_opening, is_closing, is_if, catch_kind, part_begun, is_well_ordered_list}
+use Rattle.validate_visit.specs.Order.{Nesting, Flat, Opens, BeginsElse, BeginsCatch, Ends, Delegates, nesting, is_opening, is_closer, is_if, catch_kind, part_begun, is_well_ordered_list}
 use Rattle.validate_visit.proofs.Reading.{operators, nestings, outermost, after, stands, parts, parts-more, follows}
 
 -- whether the part under d others is the first part of an `if`
@@ -26,14 +26,14 @@ else_stands : (ks : List FrameKind) → stands ks BeginsElse ≡ is_if_under 0 k
 else_stands [] = refl
 else_stands (k ∷ ks) = refl
 
-back-closed : (d : ℕ) (ks : List FrameKind) (n : Nesting) → is_closing n ≡ true → is_if_under d (after ks n) ≡ is_if_under (suc d) ks
+back-closed : (d : ℕ) (ks : List FrameKind) (n : Nesting) → is_closer n ≡ true → is_if_under d (after ks n) ≡ is_if_under (suc d) ks
 back-closed d [] Ends h = refl
 back-closed d (k ∷ ks) Ends h = refl
 back-closed d [] Delegates h = refl
 back-closed d (k ∷ ks) Delegates h = refl
 back-closed d ks _ h = absurd cc
 
-back-begun : (ks : List FrameKind) (n : Nesting) (k : FrameKind) → part_begun n ≡ Some k → is_closing n ≡ false → is_if_under 0 (after ks n) ≡ is_if k
+back-begun : (ks : List FrameKind) (n : Nesting) (k : FrameKind) → part_begun n ≡ Some k → is_closer n ≡ false → is_if_under 0 (after ks n) ≡ is_if k
 back-begun ks (Opens j) k e h = let eq : j ≡ k = cc in ap is_if eq
 back-begun [] BeginsElse k e h = let eq : Else ≡ k = cc in ap is_if eq
 back-begun (j ∷ ks) BeginsElse k e h = let eq : Else ≡ k = cc in ap is_if eq
@@ -42,7 +42,7 @@ back-begun [] (BeginsCatch false) k e h = let eq : catch_kind false ≡ k = cc i
 back-begun (j ∷ ks) (BeginsCatch all) k e h = let eq : catch_kind all ≡ k = cc in ap is_if eq
 back-begun ks _ k e h = absurd cc
 
-back-past : (d : ℕ) (ks : List FrameKind) (n : Nesting) → part_begun n ≡ None → is_closing n ≡ false → is_if_under d (after ks n) ≡ is_if_under d ks
+back-past : (d : ℕ) (ks : List FrameKind) (n : Nesting) → part_begun n ≡ None → is_closer n ≡ false → is_if_under d (after ks n) ≡ is_if_under d ks
 back-past d ks Flat e h = refl
 back-past d ks _ e h = absurd cc
 
@@ -51,7 +51,7 @@ back-opened zero ks n some h = absurd (some refl)
 back-opened (suc d) ks (Opens j) some h = ap (λ i. is_if_under i ks) (sym (omega arith))
 back-opened (suc d) ks _ some h = absurd cc
 
-back-turned : (d : ℕ) (ks : List FrameKind) (n : Nesting) → d ≢ 0 → is_opening n ≡ false → is_closing n ≡ false → is_if_under d (after ks n) ≡ is_if_under d ks
+back-turned : (d : ℕ) (ks : List FrameKind) (n : Nesting) → d ≢ 0 → is_opening n ≡ false → is_closer n ≡ false → is_if_under d (after ks n) ≡ is_if_under d ks
 back-turned zero ks n some g h = absurd (some refl)
 back-turned (suc d) ks Flat some g h = refl
 back-turned (suc d) [] BeginsElse some g h = refl
@@ -84,17 +84,17 @@ module _ (ps : List (Op × ℕ)) (i closed : ℕ) (d : Op × ℕ) (some : 0 < i)
       let e : i ≡ (i - 1) + 1 = omega arith in
       ap (λ j. is_if_under n (parts outermost (nestings (take j ps)))) e ∙ ap (is_if_under n) (parts-more ps (i - 1) d h)
 
-  pub past-closer : is_closing here ≡ true → is_if_under closed (parts outermost (nestings (take i ps))) ≡ is_if_under (closed + 1) left
+  pub past-closer : is_closer here ≡ true → is_if_under closed (parts outermost (nestings (take i ps))) ≡ is_if_under (closed + 1) left
   past-closer h = one_back closed ∙ back-closed closed left here h ∙ ap (λ n. is_if_under n left) (sym (omega arith))
 
   pub past-opener : closed ≢ 0 → is_opening here ≡ true → is_if_under closed (parts outermost (nestings (take i ps))) ≡ is_if_under (closed - 1) left
   past-opener under h = one_back closed ∙ back-opened closed left here under h
 
-  pub past-turn : closed ≢ 0 → is_opening here ≡ false → is_closing here ≡ false → is_if_under closed (parts outermost (nestings (take i ps))) ≡ is_if_under closed left
+  pub past-turn : closed ≢ 0 → is_opening here ≡ false → is_closer here ≡ false → is_if_under closed (parts outermost (nestings (take i ps))) ≡ is_if_under closed left
   past-turn under g h = one_back closed ∙ back-turned closed left here under g h
 
-  pub past-flat : part_begun here ≡ None → is_closing here ≡ false → is_if_under closed (parts outermost (nestings (take i ps))) ≡ is_if_under closed left
+  pub past-flat : part_begun here ≡ None → is_closer here ≡ false → is_if_under closed (parts outermost (nestings (take i ps))) ≡ is_if_under closed left
   past-flat e h = one_back closed ∙ back-past closed left here e h
 
-  pub found : (k : FrameKind) → closed ≡ 0 → part_begun here ≡ Some k → is_closing here ≡ false → is_if_under closed (parts outermost (nestings (take i ps))) ≡ is_if k
+  pub found : (k : FrameKind) → closed ≡ 0 → part_begun here ≡ Some k → is_closer here ≡ false → is_if_under closed (parts outermost (nestings (take i ps))) ≡ is_if k
   found k e b h = ap (λ n. is_if_under n (parts outermost (nestings (take i ps)))) e ∙ one_back 0 ∙ back-begun left here k b h

@@ -8,7 +8,7 @@ use Rattle.validate_visit.specs.declared.frame.FrameKind.TheVariants.{Block, Els
 use Rattle.validate_visit.specs.declared.op.Op.{Op}
 use Rattle.validate_visit.specs.declared.op.Op.TheVariants.{Control, Numeric, Convert, Memory, Atomic, Reference, Table}
 use Rattle.validate_visit.specs.declared.op.ControlOp.TheVariants.{Nop, Block as BlockOp, Loop as LoopOp, If as IfOp, Else as ElseOp}
-use Rattle.validate_visit.specs.Order.{Nesting, Flat, Opens, BeginsElse, BeginsCatch, Ends, Delegates, nesting, is_opening, is_closing, begins_else, is_if, is_try, may_catch, catch_kind, is_ordered_from, is_well_ordered_list}
+use Rattle.validate_visit.specs.Order.{Nesting, Flat, Opens, BeginsElse, BeginsCatch, Ends, Delegates, nesting, is_opening, is_closer, begins_else, is_if, is_try, may_catch, catch_kind, is_ordered_from, is_well_ordered_list}
 
 -- the operators of a list with offsets, and what they do to the open parts
 abbrev pub operators : List (Op × ℕ) → List Op
@@ -84,7 +84,7 @@ length-turned j [] = refl
 length-turned j (k ∷ ks) = refl
 
 -- so many parts are open after it
-counted : (ks : List FrameKind) (n : Nesting) (c m : ℕ) → c ≡ length ks → (is_opening n ≡ true → m ≡ c + 1) → (is_closing n ≡ true → m + 1 ≡ c) → (is_opening n ≡ false → is_closing n ≡ false → m ≡ c) → m ≡ length (after ks n)
+counted : (ks : List FrameKind) (n : Nesting) (c m : ℕ) → c ≡ length ks → (is_opening n ≡ true → m ≡ c + 1) → (is_closer n ≡ true → m + 1 ≡ c) → (is_opening n ≡ false → is_closer n ≡ false → m ≡ c) → m ≡ length (after ks n)
 counted ks Flat c m e opens closes stays = stays refl refl ∙ e
 counted ks (Opens kind) c m e opens closes stays = let h = opens refl in omega (arith, e, h)
 counted ks BeginsElse c m e opens closes stays = stays refl refl ∙ e ∙ length-turned Else ks
@@ -180,7 +180,7 @@ module _ (ps : List (Op × ℕ)) (i : ℕ) (d : Op × ℕ) (h : i < length ps) (
       nestings-further : nestings (take (i + 1) ps) ≡ map nesting (operators (take i ps) ++ next ∷ [])
       nestings-further = nestings-more ps i d h ∙ sym (map-append nesting (operators (take i ps)) (next ∷ []))
 
-  pub parts-further : (open_parts m : ℕ) → open_parts ≡ length now → (is_opening (nesting next) ≡ true → m ≡ open_parts + 1) → (is_closing (nesting next) ≡ true → m + 1 ≡ open_parts) → (is_opening (nesting next) ≡ false → is_closing (nesting next) ≡ false → m ≡ open_parts) → m ≡ length (parts outermost (nestings (take (i + 1) ps)))
+  pub parts-further : (open_parts m : ℕ) → open_parts ≡ length now → (is_opening (nesting next) ≡ true → m ≡ open_parts + 1) → (is_closer (nesting next) ≡ true → m + 1 ≡ open_parts) → (is_opening (nesting next) ≡ false → is_closer (nesting next) ≡ false → m ≡ open_parts) → m ≡ length (parts outermost (nestings (take (i + 1) ps)))
   parts-further n m e opens closes stays =
       counted now (nesting next) n m e opens closes stays ∙ ap length (sym (parts-more ps i d h))
 

@@ -4,7 +4,6 @@ use Rattle.std.specs.Prelude.{ℕ, ℤ, pos, negsuc, Bool, true, false, ◌&&◌
 use Rattle.std.specs.List.{list_all}
 use Rattle.validate_types.specs.declared.heap.HeapType.{HeapType}
 use Rattle.validate_types.specs.declared.heap.HeapType.TheVariants.{Abstract, Concrete}
-use Rattle.validate_types.specs.declared.heap.UnpackedIndex.{UnpackedIndex}
 use Rattle.validate_types.specs.declared.heap.UnpackedIndex.TheVariants.{Module, Id}
 use Rattle.validate_types.specs.declared.types.ValType.{ValType}
 use Rattle.validate_types.specs.declared.types.ValType.TheVariants.{Ref}
@@ -12,21 +11,35 @@ use Rattle.validate_visit.specs.declared.br_table.BrTable.{BrTable}
 use Rattle.validate_visit.specs.declared.frame.BlockType.{BlockType}
 use Rattle.validate_visit.specs.declared.frame.BlockType.TheVariants.{Empty, Val, FuncType}
 use Rattle.validate_visit.specs.declared.op.Op.{Op}
-use Rattle.validate_visit.specs.declared.op.Op.TheVariants.{Control, Numeric, Convert, Memory, Atomic, Reference, Table}
+use Rattle.validate_visit.specs.declared.op.Op.TheVariants.{Control, Numeric, Convert, Memory, Atomic}
+use Rattle.validate_visit.specs.declared.op.Op.TheVariants.{Reference, Table}
 use Rattle.validate_visit.specs.declared.op.ControlOp.{ControlOp}
-use Rattle.validate_visit.specs.declared.op.ControlOp.TheVariants.{Unreachable, Nop, Block, Loop, If, Else, End, Br, BrIf, BrTable as BrTableOp, Return, Call, ReturnCall, CallIndirect, ReturnCallIndirect, CallRef, ReturnCallRef, Drop, Select, TypedSelect, TypedSelectMulti, LocalGet, LocalSet, LocalTee, GlobalGet, GlobalSet}
+use Rattle.validate_visit.specs.declared.op.ControlOp.TheVariants.{Unreachable, Nop, Block, Loop, If, Else}
+use Rattle.validate_visit.specs.declared.op.ControlOp.TheVariants.{End, Br, BrIf, BrTable as BrTableOp}
+use Rattle.validate_visit.specs.declared.op.ControlOp.TheVariants.{Return, Call, ReturnCall, CallIndirect}
+use Rattle.validate_visit.specs.declared.op.ControlOp.TheVariants.{ReturnCallIndirect, CallRef}
+use Rattle.validate_visit.specs.declared.op.ControlOp.TheVariants.{ReturnCallRef, Drop, Select, TypedSelect}
+use Rattle.validate_visit.specs.declared.op.ControlOp.TheVariants.{TypedSelectMulti, LocalGet, LocalSet}
+use Rattle.validate_visit.specs.declared.op.ControlOp.TheVariants.{LocalTee, GlobalGet, GlobalSet}
 use Rattle.validate_visit.specs.declared.memory.MemArg.{MemArg}
 use Rattle.validate_visit.specs.declared.memory.MemArgTarget.{MemArgTarget}
 use Rattle.validate_visit.specs.declared.memory.MemArgTarget.TheVariants.{Memory as InMemory}
 use Rattle.validate_visit.specs.declared.op.AtomicOp.{AtomicOp}
-use Rattle.validate_visit.specs.declared.op.AtomicOp.TheVariants.{AtomicFence, Pause, MemoryAtomicNotify, MemoryAtomicWait32, MemoryAtomicWait64, I32AtomicLoad, I64AtomicLoad, I32AtomicLoad8U, I32AtomicLoad16U, I64AtomicLoad8U, I64AtomicLoad16U, I64AtomicLoad32U, I32AtomicStore, I64AtomicStore, I32AtomicStore8, I32AtomicStore16, I64AtomicStore8, I64AtomicStore16, I64AtomicStore32, I32AtomicRmwAdd, I64AtomicRmwAdd, I32AtomicRmw8AddU, I32AtomicRmw16AddU, I64AtomicRmw8AddU, I64AtomicRmw16AddU, I64AtomicRmw32AddU, I32AtomicRmwSub, I64AtomicRmwSub, I32AtomicRmw8SubU, I32AtomicRmw16SubU, I64AtomicRmw8SubU, I64AtomicRmw16SubU, I64AtomicRmw32SubU, I32AtomicRmwAnd, I64AtomicRmwAnd, I32AtomicRmw8AndU, I32AtomicRmw16AndU, I64AtomicRmw8AndU, I64AtomicRmw16AndU, I64AtomicRmw32AndU, I32AtomicRmwOr, I64AtomicRmwOr, I32AtomicRmw8OrU, I32AtomicRmw16OrU, I64AtomicRmw8OrU, I64AtomicRmw16OrU, I64AtomicRmw32OrU, I32AtomicRmwXor, I64AtomicRmwXor, I32AtomicRmw8XorU, I32AtomicRmw16XorU, I64AtomicRmw8XorU, I64AtomicRmw16XorU, I64AtomicRmw32XorU, I32AtomicRmwXchg, I64AtomicRmwXchg, I32AtomicRmw8XchgU, I32AtomicRmw16XchgU, I64AtomicRmw8XchgU, I64AtomicRmw16XchgU, I64AtomicRmw32XchgU, I32AtomicRmwCmpxchg, I64AtomicRmwCmpxchg, I32AtomicRmw8CmpxchgU, I32AtomicRmw16CmpxchgU, I64AtomicRmw8CmpxchgU, I64AtomicRmw16CmpxchgU, I64AtomicRmw32CmpxchgU}
+use Rattle.validate_visit.specs.declared.op.AtomicOp.TheVariants.{AtomicNotify, AtomicWait, AtomicFence}
+use Rattle.validate_visit.specs.declared.op.AtomicOp.TheVariants.{AtomicLoad, AtomicStore, AtomicRmw}
+use Rattle.validate_visit.specs.declared.op.AtomicOp.TheVariants.{AtomicCmpxchg, Pause}
 use Rattle.validate_visit.specs.declared.op.MemoryOp.{MemoryOp}
-use Rattle.validate_visit.specs.declared.op.MemoryOp.TheVariants.{I32Load, I64Load, F32Load, F64Load, I32Load8S, I32Load8U, I32Load16S, I32Load16U, I64Load8S, I64Load8U, I64Load16S, I64Load16U, I64Load32S, I64Load32U, I32Store, I64Store, F32Store, F64Store, I32Store8, I32Store16, I64Store8, I64Store16, I64Store32, MemorySize, MemoryGrow, MemoryInit, DataDrop, MemoryCopy, MemoryFill, MemoryDiscard}
+use Rattle.validate_visit.specs.declared.op.MemoryOp.TheVariants.{Load, LoadPacked, Store, StorePacked}
+use Rattle.validate_visit.specs.declared.op.MemoryOp.TheVariants.{MemorySize, MemoryGrow, MemoryInit}
+use Rattle.validate_visit.specs.declared.op.MemoryOp.TheVariants.{DataDrop, MemoryCopy, MemoryFill}
+use Rattle.validate_visit.specs.declared.op.MemoryOp.TheVariants.{MemoryDiscard}
 use Rattle.validate_visit.specs.declared.op.NumericOp.{NumericOp}
 use Rattle.validate_visit.specs.declared.op.ReferenceOp.{ReferenceOp}
-use Rattle.validate_visit.specs.declared.op.ReferenceOp.TheVariants.{RefNull, RefIsNull, RefFunc, RefAsNonNull, BrOnNull, BrOnNonNull}
+use Rattle.validate_visit.specs.declared.op.ReferenceOp.TheVariants.{RefNull, RefIsNull, RefFunc}
+use Rattle.validate_visit.specs.declared.op.ReferenceOp.TheVariants.{RefAsNonNull, BrOnNull, BrOnNonNull}
 use Rattle.validate_visit.specs.declared.op.TableOp.{TableOp}
-use Rattle.validate_visit.specs.declared.op.TableOp.TheVariants.{TableGet, TableSet, TableGrow, TableSize, TableFill, TableInit, ElemDrop, TableCopy}
+use Rattle.validate_visit.specs.declared.op.TableOp.TheVariants.{TableGet, TableSet, TableGrow, TableSize}
+use Rattle.validate_visit.specs.declared.op.TableOp.TheVariants.{TableFill, TableInit, ElemDrop, TableCopy}
 use Rattle.validate_visit.specs.declared.op.NumericOp.TheVariants.{I32Const, I64Const, F32Const, F64Const}
 
 -- an index
@@ -99,7 +112,9 @@ target_immediates (InMemory i) = is_index i
 
 -- two exponents of 2, what is added to an address, and what is accessed
 abbrev pub access_immediates : MemArg → Bool
-access_immediates arg = nat_lt arg.align (2 ^ 8) && (nat_lt arg.max_align (2 ^ 8) && (nat_lt arg.offset (2 ^ 64) && target_immediates arg.target))
+access_immediates arg =
+    nat_lt arg.align (2 ^ 8)
+    && (nat_lt arg.max_align (2 ^ 8) && (nat_lt arg.offset (2 ^ 64) && target_immediates arg.target))
 
 abbrev pub memory_immediates : MemoryOp → Bool
 memory_immediates (MemorySize i) = is_index i
@@ -109,99 +124,20 @@ memory_immediates (DataDrop i) = is_index i
 memory_immediates (MemoryCopy i j) = is_index i && is_index j
 memory_immediates (MemoryFill i) = is_index i
 memory_immediates (MemoryDiscard i) = is_index i
-memory_immediates (I32Load arg) = access_immediates arg
-memory_immediates (I64Load arg) = access_immediates arg
-memory_immediates (F32Load arg) = access_immediates arg
-memory_immediates (F64Load arg) = access_immediates arg
-memory_immediates (I32Load8S arg) = access_immediates arg
-memory_immediates (I32Load8U arg) = access_immediates arg
-memory_immediates (I32Load16S arg) = access_immediates arg
-memory_immediates (I32Load16U arg) = access_immediates arg
-memory_immediates (I64Load8S arg) = access_immediates arg
-memory_immediates (I64Load8U arg) = access_immediates arg
-memory_immediates (I64Load16S arg) = access_immediates arg
-memory_immediates (I64Load16U arg) = access_immediates arg
-memory_immediates (I64Load32S arg) = access_immediates arg
-memory_immediates (I64Load32U arg) = access_immediates arg
-memory_immediates (I32Store arg) = access_immediates arg
-memory_immediates (I64Store arg) = access_immediates arg
-memory_immediates (F32Store arg) = access_immediates arg
-memory_immediates (F64Store arg) = access_immediates arg
-memory_immediates (I32Store8 arg) = access_immediates arg
-memory_immediates (I32Store16 arg) = access_immediates arg
-memory_immediates (I64Store8 arg) = access_immediates arg
-memory_immediates (I64Store16 arg) = access_immediates arg
-memory_immediates (I64Store32 arg) = access_immediates arg
+memory_immediates (Load t arg) = access_immediates arg
+memory_immediates (LoadPacked packed sign arg) = access_immediates arg
+memory_immediates (Store t arg) = access_immediates arg
+memory_immediates (StorePacked packed arg) = access_immediates arg
 
 abbrev pub atomic_immediates : AtomicOp → Bool
 atomic_immediates (AtomicFence ordering) = true
 atomic_immediates Pause = true
-atomic_immediates (MemoryAtomicNotify arg) = access_immediates arg
-atomic_immediates (MemoryAtomicWait32 arg) = access_immediates arg
-atomic_immediates (MemoryAtomicWait64 arg) = access_immediates arg
-atomic_immediates (I32AtomicLoad arg) = access_immediates arg
-atomic_immediates (I64AtomicLoad arg) = access_immediates arg
-atomic_immediates (I32AtomicLoad8U arg) = access_immediates arg
-atomic_immediates (I32AtomicLoad16U arg) = access_immediates arg
-atomic_immediates (I64AtomicLoad8U arg) = access_immediates arg
-atomic_immediates (I64AtomicLoad16U arg) = access_immediates arg
-atomic_immediates (I64AtomicLoad32U arg) = access_immediates arg
-atomic_immediates (I32AtomicStore arg) = access_immediates arg
-atomic_immediates (I64AtomicStore arg) = access_immediates arg
-atomic_immediates (I32AtomicStore8 arg) = access_immediates arg
-atomic_immediates (I32AtomicStore16 arg) = access_immediates arg
-atomic_immediates (I64AtomicStore8 arg) = access_immediates arg
-atomic_immediates (I64AtomicStore16 arg) = access_immediates arg
-atomic_immediates (I64AtomicStore32 arg) = access_immediates arg
-atomic_immediates (I32AtomicRmwAdd arg) = access_immediates arg
-atomic_immediates (I64AtomicRmwAdd arg) = access_immediates arg
-atomic_immediates (I32AtomicRmw8AddU arg) = access_immediates arg
-atomic_immediates (I32AtomicRmw16AddU arg) = access_immediates arg
-atomic_immediates (I64AtomicRmw8AddU arg) = access_immediates arg
-atomic_immediates (I64AtomicRmw16AddU arg) = access_immediates arg
-atomic_immediates (I64AtomicRmw32AddU arg) = access_immediates arg
-atomic_immediates (I32AtomicRmwSub arg) = access_immediates arg
-atomic_immediates (I64AtomicRmwSub arg) = access_immediates arg
-atomic_immediates (I32AtomicRmw8SubU arg) = access_immediates arg
-atomic_immediates (I32AtomicRmw16SubU arg) = access_immediates arg
-atomic_immediates (I64AtomicRmw8SubU arg) = access_immediates arg
-atomic_immediates (I64AtomicRmw16SubU arg) = access_immediates arg
-atomic_immediates (I64AtomicRmw32SubU arg) = access_immediates arg
-atomic_immediates (I32AtomicRmwAnd arg) = access_immediates arg
-atomic_immediates (I64AtomicRmwAnd arg) = access_immediates arg
-atomic_immediates (I32AtomicRmw8AndU arg) = access_immediates arg
-atomic_immediates (I32AtomicRmw16AndU arg) = access_immediates arg
-atomic_immediates (I64AtomicRmw8AndU arg) = access_immediates arg
-atomic_immediates (I64AtomicRmw16AndU arg) = access_immediates arg
-atomic_immediates (I64AtomicRmw32AndU arg) = access_immediates arg
-atomic_immediates (I32AtomicRmwOr arg) = access_immediates arg
-atomic_immediates (I64AtomicRmwOr arg) = access_immediates arg
-atomic_immediates (I32AtomicRmw8OrU arg) = access_immediates arg
-atomic_immediates (I32AtomicRmw16OrU arg) = access_immediates arg
-atomic_immediates (I64AtomicRmw8OrU arg) = access_immediates arg
-atomic_immediates (I64AtomicRmw16OrU arg) = access_immediates arg
-atomic_immediates (I64AtomicRmw32OrU arg) = access_immediates arg
-atomic_immediates (I32AtomicRmwXor arg) = access_immediates arg
-atomic_immediates (I64AtomicRmwXor arg) = access_immediates arg
-atomic_immediates (I32AtomicRmw8XorU arg) = access_immediates arg
-atomic_immediates (I32AtomicRmw16XorU arg) = access_immediates arg
-atomic_immediates (I64AtomicRmw8XorU arg) = access_immediates arg
-atomic_immediates (I64AtomicRmw16XorU arg) = access_immediates arg
-atomic_immediates (I64AtomicRmw32XorU arg) = access_immediates arg
-atomic_immediates (I32AtomicRmwXchg arg) = access_immediates arg
-atomic_immediates (I64AtomicRmwXchg arg) = access_immediates arg
-atomic_immediates (I32AtomicRmw8XchgU arg) = access_immediates arg
-atomic_immediates (I32AtomicRmw16XchgU arg) = access_immediates arg
-atomic_immediates (I64AtomicRmw8XchgU arg) = access_immediates arg
-atomic_immediates (I64AtomicRmw16XchgU arg) = access_immediates arg
-atomic_immediates (I64AtomicRmw32XchgU arg) = access_immediates arg
-atomic_immediates (I32AtomicRmwCmpxchg arg) = access_immediates arg
-atomic_immediates (I64AtomicRmwCmpxchg arg) = access_immediates arg
-atomic_immediates (I32AtomicRmw8CmpxchgU arg) = access_immediates arg
-atomic_immediates (I32AtomicRmw16CmpxchgU arg) = access_immediates arg
-atomic_immediates (I64AtomicRmw8CmpxchgU arg) = access_immediates arg
-atomic_immediates (I64AtomicRmw16CmpxchgU arg) = access_immediates arg
-atomic_immediates (I64AtomicRmw32CmpxchgU arg) = access_immediates arg
+atomic_immediates (AtomicNotify arg) = access_immediates arg
+atomic_immediates (AtomicWait t arg) = access_immediates arg
+atomic_immediates (AtomicLoad access arg) = access_immediates arg
+atomic_immediates (AtomicStore access arg) = access_immediates arg
+atomic_immediates (AtomicRmw access op arg) = access_immediates arg
+atomic_immediates (AtomicCmpxchg access arg) = access_immediates arg
 
 abbrev pub reference_immediates : ReferenceOp → Bool
 reference_immediates (RefNull h) = heap_immediates h

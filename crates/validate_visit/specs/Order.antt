@@ -3,11 +3,14 @@
 -- what each operator does to the open parts.
 use Rattle.std.specs.Prelude.{Bool, true, false, ◌&&◌, Option, Some, None, List, [], ◌∷◌, map}
 use Rattle.validate_visit.specs.declared.frame.FrameKind.{FrameKind}
-use Rattle.validate_visit.specs.declared.frame.FrameKind.TheVariants.{Block, Loop, If, Else, LegacyTry, LegacyCatch, LegacyCatchAll}
+use Rattle.validate_visit.specs.declared.frame.FrameKind.TheVariants.{Block, Loop, If, Else, LegacyTry}
+use Rattle.validate_visit.specs.declared.frame.FrameKind.TheVariants.{LegacyCatch, LegacyCatchAll}
 use Rattle.validate_visit.specs.declared.op.Op.{Op}
-use Rattle.validate_visit.specs.declared.op.Op.TheVariants.{Control, Numeric, Convert, Memory, Atomic, Reference, Table}
+use Rattle.validate_visit.specs.declared.op.Op.TheVariants.{Control, Numeric, Convert, Memory, Atomic}
+use Rattle.validate_visit.specs.declared.op.Op.TheVariants.{Reference, Table}
 use Rattle.validate_visit.specs.declared.op.ControlOp.{ControlOp}
-use Rattle.validate_visit.specs.declared.op.ControlOp.TheVariants.{Block as BlockOp, Loop as LoopOp, If as IfOp, Else as ElseOp, End}
+use Rattle.validate_visit.specs.declared.op.ControlOp.TheVariants.{Block as BlockOp, Loop as LoopOp}
+use Rattle.validate_visit.specs.declared.op.ControlOp.TheVariants.{If as IfOp, Else as ElseOp, End}
 
 -- What an operator does to the open parts. A `catch` begins another part, a `catch_all` too (`all`).
 pub data Nesting : Type 0 where
@@ -24,10 +27,10 @@ is_opening (Opens kind) = true
 is_opening _ = false
 
 -- an operator that closes the innermost part
-abbrev pub is_closing : Nesting → Bool
-is_closing Ends = true
-is_closing Delegates = true
-is_closing _ = false
+abbrev pub is_closer : Nesting → Bool
+is_closer Ends = true
+is_closer Delegates = true
+is_closer _ = false
 
 -- an operator that begins an `else` part
 abbrev pub begins_else : Nesting → Bool

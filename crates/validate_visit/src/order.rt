@@ -1,7 +1,7 @@
 //! Which lists of operators are well ordered.
 
 ghost use Rattle.std.specs.Prelude.{◌≡◌, ◌+◌, ◌<◌, ◌≤◌, ◌^◌, ◌++◌, [], ◌∷◌, true, false, map};
-ghost use Rattle.validate_visit.specs.Order.{is_well_ordered_list, is_opening, is_closing, begins_else, part_begun, nesting};
+ghost use Rattle.validate_visit.specs.Order.{is_well_ordered_list, is_opening, is_closer, begins_else, part_begun, nesting};
 ghost use Rattle.validate_visit.specs.declared.op.Op.{Op};
 ghost use Rattle.validate_visit.specs.declared.op.ControlOp.{ControlOp};
 
@@ -31,7 +31,8 @@ pub fn is_well_ordered(ops: &[(Op<'_>, u64)]) -> bool
 
 /// Whether the operator may follow these, which a `nop` may follow.
 fn may_follow(op: Op<'_>, before: &[(Op<'_>, u64)]) -> bool
-    requires { is_well_ordered_list (map (λ (p : _). p.0) before.now ++ (Op.Control ControlOp.Nop) ∷ []) ≡ true }
+    requires { is_well_ordered_list (map (λ (p : _). p.0) before.now ++ (Op.Control ControlOp.Nop) ∷ [])
+        ≡ true }
     ensures { result ≡ is_well_ordered_list (map (λ (p : _). p.0) before.now ++ op.entry ∷ []) }
 {
     !is_else(op) || may_else_follow(before)
@@ -41,7 +42,8 @@ fn may_follow(op: Op<'_>, before: &[(Op<'_>, u64)]) -> bool
 /// open, over the parts that they have closed.
 fn may_else_follow(before: &[(Op<'_>, u64)]) -> bool
     requires { is_well_ordered_list (map (λ (p : _). p.0) before.now) ≡ true }
-    ensures { result ≡ is_well_ordered_list (map (λ (p : _). p.0) before.now ++ (Op.Control ControlOp.Else) ∷ []) }
+    ensures { result ≡ is_well_ordered_list
+        (map (λ (p : _). p.0) before.now ++ (Op.Control ControlOp.Else) ∷ []) }
 {
     let mut closed: usize = 0;
     for index in (0..before.len()).rev() {
@@ -64,9 +66,10 @@ fn open_after(op: Op<'_>, parts: usize) -> usize
     requires some { 0 < parts }
     requires few { parts < 2 ^ 63 }
     ensures opened { is_opening (nesting op.entry) ≡ true → result ≡ parts + 1 }
-    ensures closed { is_closing (nesting op.entry) ≡ true → result + 1 ≡ parts }
+    ensures closed { is_closer (nesting op.entry) ≡ true → result + 1 ≡ parts }
     ensures at_most { result ≤ parts + 1 }
-    ensures same { is_opening (nesting op.entry) ≡ false → is_closing (nesting op.entry) ≡ false → result ≡ parts }
+    ensures same { is_opening (nesting op.entry) ≡ false → is_closer (nesting op.entry) ≡ false → result
+        ≡ parts }
 {
     if opens(op) {
         parts + 1
@@ -102,7 +105,7 @@ fn opens(op: Op<'_>) -> bool
 
 /// Whether the operator closes the innermost part.
 fn closes(op: Op<'_>) -> bool
-    ensures { result ≡ is_closing (nesting op.entry) }
+    ensures { result ≡ is_closer (nesting op.entry) }
 {
     matches!(op, Op::Control(ControlOp::End))
 }

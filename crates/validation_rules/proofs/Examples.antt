@@ -1,18 +1,20 @@
 -- Small bodies, computed: good ones are accepted and bad ones refused. What is expected is what the
 -- standard's rules say of them.
 use Rattle.std.proofs.Common.{◌≡◌, ℕ, pos, Bool, true, false, List, [], ◌∷◌, ◌++◌, length, Option, Some, None, refl, slice_get}
-use Rattle.validate_resources.specs.Context.{same_number}
+use Rattle.validate_resources.specs.Context.{is_same_number}
 use Rattle.validate_resources.specs.Lists.{Declared, context_of}
 use Rattle.validate_types.specs.declared.types.CompositeInnerType.TheVariants.{Func}
+use Rattle.validate_visit.specs.declared.numbers.IntegerType.TheVariants.{I32 as IntegerI32, I64 as IntegerI64}
+use Rattle.validate_visit.specs.declared.numeric.IntegerBinaryOp.TheVariants.{Add}
 use Rattle.validate_visit.specs.declared.op.Op.{Op}
 use Rattle.validate_visit.specs.declared.op.Op.TheVariants.{Control, Numeric}
 use Rattle.validate_visit.specs.declared.op.ControlOp.TheVariants.{Nop, End, Drop, LocalGet, LocalSet, LocalTee}
-use Rattle.validate_visit.specs.declared.op.NumericOp.TheVariants.{I32Const, I64Const, I32Eqz, I32Add, I64Add}
+use Rattle.validate_visit.specs.declared.op.NumericOp.TheVariants.{Eqz, IntegerBinary, I32Const, I64Const}
 use Rattle.validation_rules.specs.Context.{SubType, WasmFeatures, ValType, I32, I64, BlockType, Empty, Val, FuncType, Context}
 use Rattle.validation_rules.specs.Fits.{MaybeType, Bottom, Known}
 use Rattle.validation_rules.specs.Rows.{FrameKind, Block, Else, Loop, TryTable, LegacyCatch, LegacyCatchAll, Operator}
-use Rattle.validation_rules.specs.Static.{Frame, State, before, start, frame_count, operand_count, found}
-use Rattle.validation_rules.specs.Pops.{pops}
+use Rattle.validation_rules.specs.Static.{Frame, State, before, start, frame_count, operand_count, operands_found}
+use Rattle.validation_rules.specs.Pops.{frame_after_pops}
 use Rattle.validation_rules.specs.Table.{body}
 use Rattle.validation_rules.proofs.Handmade.{unreachable, a_block, a_loop, an_if, an_else, br, br_if, br_table, a_return, a_try_table, throw, a_try, a_catch, a_catch_all, delegate, rethrow}
 
@@ -57,13 +59,13 @@ module _ (features : WasmFeatures) where
   i64_const = table_op (Numeric (I64Const (pos 0)))
 
   abbrev i32_eqz : List Operator
-  i32_eqz = table_op (Numeric I32Eqz)
+  i32_eqz = table_op (Numeric (Eqz IntegerI32))
 
   abbrev i32_add : List Operator
-  i32_add = table_op (Numeric I32Add)
+  i32_add = table_op (Numeric (IntegerBinary IntegerI32 Add))
 
   abbrev i64_add : List Operator
-  i64_add = table_op (Numeric I64Add)
+  i64_add = table_op (Numeric (IntegerBinary IntegerI64 Add))
 
   abbrev local_get : ℕ → List Operator
   local_get i = table_op (Control (LocalGet i))
@@ -100,7 +102,7 @@ module _ (features : WasmFeatures) where
   Done ty code left = after_all ty code ≡ Some (record { frames = []; left = left })
 
   abbrev frame : FrameKind → BlockType → List MaybeType → Bool → Frame
-  frame kind ty own dead = record { head = record { kind = kind; block_type = ty }; own = own; dead = dead; first_set = [] }
+  frame kind ty own dead = record { head = record { kind = kind; block_type = ty }; operands = own; dead = dead; first_set = [] }
 
   -- accepted so far, with these frames open
   abbrev Open : BlockType → List Operator → List Frame → Type 0
@@ -110,7 +112,7 @@ module _ (features : WasmFeatures) where
 
   -- the body of a function from i32 to i32 that adds, place by place
   abbrev adding : List Operator
-  adding = body cx (Control (LocalGet 0) ∷ Numeric (I32Const (pos 1)) ∷ Numeric I32Add ∷ Control End ∷ [])
+  adding = body cx (Control (LocalGet 0) ∷ Numeric (I32Const (pos 1)) ∷ Numeric (IntegerBinary IntegerI32 Add) ∷ Control End ∷ [])
 
   abbrev body_frame : List MaybeType → Frame
   body_frame own = frame Block one_to_one own false
@@ -360,19 +362,19 @@ module _ (features : WasmFeatures) where
   abbrev dead_frame : Frame
   dead_frame = frame Block Empty (Known I32 ∷ []) true
 
-  pops_in_dead : pops cx (I32 ∷ I64 ∷ I64 ∷ []) dead_frame ≡ Some (frame Block Empty [] true)
+  pops_in_dead : frame_after_pops cx (I32 ∷ I64 ∷ I64 ∷ []) dead_frame ≡ Some (frame Block Empty [] true)
   pops_in_dead = refl
 
-  pops_in_live : pops cx (I32 ∷ I64 ∷ []) (frame Block Empty (Known I32 ∷ []) false) ≡ None
+  pops_in_live : frame_after_pops cx (I32 ∷ I64 ∷ []) (frame Block Empty (Known I32 ∷ []) false) ≡ None
   pops_in_live = refl
 
-  pops_none : pops cx [] dead_frame ≡ Some dead_frame
+  pops_none : frame_after_pops cx [] dead_frame ≡ Some dead_frame
   pops_none = refl
 
-  found_in_dead : found 3 dead_frame ≡ Bottom ∷ Bottom ∷ Known I32 ∷ []
+  found_in_dead : operands_found 3 dead_frame ≡ Bottom ∷ Bottom ∷ Known I32 ∷ []
   found_in_dead = refl
 
-  found_in_live : found 3 (frame Block Empty (Known I32 ∷ []) false) ≡ Known I32 ∷ []
+  found_in_live : operands_found 3 (frame Block Empty (Known I32 ∷ []) false) ≡ Known I32 ∷ []
   found_in_live = refl
 
   -- ---- branches
@@ -571,7 +573,7 @@ module _ (features : WasmFeatures) where
 
 abbrev tilted : ValType → ValType → Bool
 tilted I32 I64 = true
-tilted t u = same_number t u
+tilted t u = is_same_number t u
 
 module _ (features : WasmFeatures) where
   abbrev tilted_context : Context
@@ -593,10 +595,10 @@ module _ (features : WasmFeatures) where
   tilted_ops ops = body tilted_context ops
 
   -- what is found lies below what is wanted, and what is pushed is the row's type
-  found_below : TiltedDone (Val I64) (tilted_ops (Numeric (I32Const (pos 0)) ∷ Numeric (I64Const (pos 0)) ∷ Numeric I64Add ∷ Control End ∷ [])) (Known I64 ∷ [])
+  found_below : TiltedDone (Val I64) (tilted_ops (Numeric (I32Const (pos 0)) ∷ Numeric (I64Const (pos 0)) ∷ Numeric (IntegerBinary IntegerI64 Add) ∷ Control End ∷ [])) (Known I64 ∷ [])
   found_below = refl
 
-  found_above : TiltedRefused (Val I32) (tilted_ops (Numeric (I64Const (pos 0)) ∷ Numeric I32Eqz ∷ []))
+  found_above : TiltedRefused (Val I32) (tilted_ops (Numeric (I64Const (pos 0)) ∷ Numeric (Eqz IntegerI32) ∷ []))
   found_above = refl
 
   -- results lie below those of the frame, which gives its own
@@ -614,7 +616,7 @@ module _ (features : WasmFeatures) where
   if_above = refl
 
   -- what a clause carries lies below the types of its label
-  clause_below : before tilted_context (a_try_table tilted_context Empty (record { depth = 0; types = I32 ∷ [] } ∷ []) ∷ []) (start (Val I64)) 1 ≡ Some (record { frames = record { head = record { kind = TryTable; block_type = Empty }; own = []; dead = false; first_set = [] } ∷ record { head = record { kind = Block; block_type = Val I64 }; own = []; dead = false; first_set = [] } ∷ []; left = [] })
+  clause_below : before tilted_context (a_try_table tilted_context Empty (record { depth = 0; types = I32 ∷ [] } ∷ []) ∷ []) (start (Val I64)) 1 ≡ Some (record { frames = record { head = record { kind = TryTable; block_type = Empty }; operands = []; dead = false; first_set = [] } ∷ record { head = record { kind = Block; block_type = Val I64 }; operands = []; dead = false; first_set = [] } ∷ []; left = [] })
   clause_below = refl
 
   clause_above : TiltedRefused (Val I32) (a_try_table tilted_context Empty (record { depth = 0; types = I64 ∷ [] } ∷ []) ∷ [])

@@ -1,18 +1,22 @@
 -- Small bodies of the table's branches, blocks and `select`, also in dead code, computed. What is
 -- expected is what the standard's rules say of them.
-use Rattle.std.proofs.Common.{◌≡◌, ℕ, ◌+◌, pos, Bool, true, false, List, [], ◌∷◌, length, Option, Some, None, refl, ap}
+use Rattle.std.proofs.Common.{◌≡◌, ◌&&◌, ℕ, ◌+◌, pos, Bool, true, false, List, [], ◌∷◌, length, Option, Some, None, refl, ap}
 use Rattle.validate_resources.specs.Lists.{Declared, context_of}
 use Rattle.validate_types.specs.Features.{multi_value, floats, reference_types}
+use Rattle.validate_types.specs.Gates.{is_open}
+use Rattle.validate_types.specs.declared.gate.Gate.TheVariants.{ReferenceTypes}
 use Rattle.validate_types.specs.declared.types.CompositeInnerType.TheVariants.{Func}
+use Rattle.validate_visit.specs.declared.numbers.IntegerType.TheVariants.{I32 as IntegerI32}
+use Rattle.validate_visit.specs.declared.numeric.IntegerBinaryOp.TheVariants.{Add}
 use Rattle.validate_visit.specs.declared.op.Op.{Op}
 use Rattle.validate_visit.specs.declared.op.Op.TheVariants.{Control, Numeric}
 use Rattle.validate_visit.specs.declared.op.ControlOp.TheVariants.{Unreachable, Block as BlockOp, Loop as LoopOp, If as IfOp, Else as ElseOp, End, Br, BrIf, BrTable, Return, Drop, Select, TypedSelect, TypedSelectMulti}
-use Rattle.validate_visit.specs.declared.op.NumericOp.TheVariants.{I32Const, I64Const, I32Eqz, I32Add}
+use Rattle.validate_visit.specs.declared.op.NumericOp.TheVariants.{Eqz, IntegerBinary, I32Const, I64Const}
 use Rattle.validation_rules.specs.Context.{SubType, ValType, I32, I64, F32, F64, BlockType, Empty, Val, FuncType, Context}
 use Rattle.validation_rules.specs.Fits.{MaybeType, Bottom, Known}
 use Rattle.validation_rules.specs.Rows.{FrameKind, Block, If, Else, Loop}
-use Rattle.validation_rules.specs.Static.{Frame, State, framed, before, start, step, step_in}
-use Rattle.validation_rules.specs.Table.{checked_block, opener, operator, body}
+use Rattle.validation_rules.specs.Static.{Frame, State, open_state, before, start, step, step_in}
+use Rattle.validation_rules.specs.Table.{plain_row, row_operator, checked_block, opener, operator, body}
 use Rattle.validation_rules.proofs.Handmade as hand
 
 -- ---- a module of three types, and a function without locals
@@ -52,10 +56,10 @@ abbrev i64_const : Op
 i64_const = Numeric (I64Const (pos 0))
 
 abbrev i32_eqz : Op
-i32_eqz = Numeric I32Eqz
+i32_eqz = Numeric (Eqz IntegerI32)
 
 abbrev i32_add : Op
-i32_add = Numeric I32Add
+i32_add = Numeric (IntegerBinary IntegerI32 Add)
 
 abbrev unreachable : Op
 unreachable = Control Unreachable
@@ -119,11 +123,11 @@ abbrev Done : BlockType → List Op → List MaybeType → Type 0
 Done ty ops left = after_all cx ty ops ≡ Some (record { frames = []; left = left })
 
 abbrev frame : FrameKind → BlockType → List MaybeType → Bool → Frame
-frame kind ty own dead = record { head = record { kind = kind; block_type = ty }; own = own; dead = dead; first_set = [] }
+frame kind ty own dead = record { head = record { kind = kind; block_type = ty }; operands = own; dead = dead; first_set = [] }
 
 -- accepted so far, with these frames open
 abbrev OpenUnder : Context → BlockType → List Op → List Frame → Type 0
-OpenUnder c ty ops frames = after_all c ty ops ≡ Some (framed frames)
+OpenUnder c ty ops frames = after_all c ty ops ≡ Some (open_state frames)
 
 abbrev Open : BlockType → List Op → List Frame → Type 0
 Open ty ops frames = OpenUnder cx ty ops frames
@@ -181,7 +185,7 @@ select_of_one_known : Leaves (unreachable ∷ i64_const ∷ i32_const ∷ select
 select_of_one_known = refl
 
 -- also where it is the other one
-select_of_one_below : step cx (operator cx select) (framed (frame Block to_nothing (Known I32 ∷ Bottom ∷ Known I64 ∷ []) true ∷ [])) ≡ Some (framed (frame Block to_nothing (Known I64 ∷ []) true ∷ []))
+select_of_one_below : step cx (operator cx select) (open_state (frame Block to_nothing (Known I32 ∷ Bottom ∷ Known I64 ∷ []) true ∷ [])) ≡ Some (open_state (frame Block to_nothing (Known I64 ∷ []) true ∷ []))
 select_of_one_below = refl
 
 -- two known ones agree in dead code too
@@ -261,7 +265,12 @@ typed_select_floats = refl
 -- of a list of types it never holds, however many they are
 typed_select_multi_refused : (c : Context) (ts : List ValType) (fs : List Frame) (left : List MaybeType) → step_in c (operator c (typed_select_multi ts)) fs left ≡ None
 typed_select_multi_refused c ts [] left = refl
-typed_select_multi_refused c ts (f ∷ fs) left = refl
+typed_select_multi_refused c ts (f ∷ fs) left =
+    ap (λ b. step_in c (row_operator (record (plain_row false [] []) { premise = b })) (f ∷ fs) left) (never (is_open c.features ReferenceTypes))
+  where
+    never : (b : Bool) → (b && false) ≡ false
+    never true = refl
+    never false = refl
 
 -- ---- labels
 

@@ -8,19 +8,27 @@ use Rattle.validate_types.specs.declared.types.MemoryType.{MemoryType}
 use Rattle.validate_visit.specs.declared.memory.MemArg.{MemArg}
 use Rattle.validate_visit.specs.declared.memory.MemArgTarget.TheVariants.{Memory as InMemory}
 use Rattle.validate_visit.specs.declared.memory.Ordering.TheVariants.{SeqCst, AcqRel}
+use Rattle.validate_visit.specs.declared.memory.AtomicAccess.{AtomicAccess}
+use Rattle.validate_visit.specs.declared.memory.AtomicAccess.TheVariants.{Whole, Packed}
+use Rattle.validate_visit.specs.declared.memory.AtomicRmwOp.{AtomicRmwOp}
+use Rattle.validate_visit.specs.declared.memory.AtomicRmwOp.TheVariants.{Add}
+use Rattle.validate_visit.specs.declared.numbers.IntegerType.TheVariants.{I32 as IntegerI32, I64 as IntegerI64}
+use Rattle.validate_visit.specs.declared.numbers.NumberType.TheVariants.{I32 as NumberI32, I64 as NumberI64, F32 as NumberF32, F64 as NumberF64}
+use Rattle.validate_visit.specs.declared.numbers.PackedInteger.TheVariants.{I32Bits8, I32Bits16, I64Bits8, I64Bits16, I64Bits32}
+use Rattle.validate_visit.specs.declared.numbers.Sign.{Sign}
 use Rattle.validate_visit.specs.declared.op.AtomicOp.{AtomicOp}
-use Rattle.validate_visit.specs.declared.op.AtomicOp.TheVariants.{MemoryAtomicNotify, MemoryAtomicWait32, MemoryAtomicWait64, AtomicFence, I32AtomicLoad, I64AtomicLoad, I32AtomicLoad8U, I32AtomicLoad16U, I64AtomicLoad8U, I64AtomicLoad16U, I64AtomicLoad32U, I32AtomicStore, I64AtomicStore, I32AtomicStore8, I32AtomicStore16, I64AtomicStore8, I64AtomicStore16, I64AtomicStore32, I32AtomicRmwAdd, I64AtomicRmwAdd, I32AtomicRmw8AddU, I32AtomicRmw16AddU, I64AtomicRmw8AddU, I64AtomicRmw16AddU, I64AtomicRmw32AddU, I32AtomicRmwSub, I64AtomicRmwSub, I32AtomicRmw8SubU, I32AtomicRmw16SubU, I64AtomicRmw8SubU, I64AtomicRmw16SubU, I64AtomicRmw32SubU, I32AtomicRmwAnd, I64AtomicRmwAnd, I32AtomicRmw8AndU, I32AtomicRmw16AndU, I64AtomicRmw8AndU, I64AtomicRmw16AndU, I64AtomicRmw32AndU, I32AtomicRmwOr, I64AtomicRmwOr, I32AtomicRmw8OrU, I32AtomicRmw16OrU, I64AtomicRmw8OrU, I64AtomicRmw16OrU, I64AtomicRmw32OrU, I32AtomicRmwXor, I64AtomicRmwXor, I32AtomicRmw8XorU, I32AtomicRmw16XorU, I64AtomicRmw8XorU, I64AtomicRmw16XorU, I64AtomicRmw32XorU, I32AtomicRmwXchg, I64AtomicRmwXchg, I32AtomicRmw8XchgU, I32AtomicRmw16XchgU, I64AtomicRmw8XchgU, I64AtomicRmw16XchgU, I64AtomicRmw32XchgU, I32AtomicRmwCmpxchg, I64AtomicRmwCmpxchg, I32AtomicRmw8CmpxchgU, I32AtomicRmw16CmpxchgU, I64AtomicRmw8CmpxchgU, I64AtomicRmw16CmpxchgU, I64AtomicRmw32CmpxchgU, Pause}
+use Rattle.validate_visit.specs.declared.op.AtomicOp.TheVariants.{AtomicCmpxchg, AtomicLoad, AtomicNotify, AtomicRmw, AtomicStore, AtomicWait, AtomicFence, Pause}
 use Rattle.validate_visit.specs.declared.op.ControlOp.TheVariants.{Unreachable, End}
 use Rattle.validate_visit.specs.declared.op.MemoryOp.{MemoryOp}
-use Rattle.validate_visit.specs.declared.op.MemoryOp.TheVariants.{I32Load, I64Load, F32Load, F64Load, I32Load8S, I32Load8U, I32Load16S, I32Load16U, I64Load8S, I64Load8U, I64Load16S, I64Load16U, I64Load32S, I64Load32U, I32Store, I64Store, F32Store, F64Store, I32Store8, I32Store16, I64Store8, I64Store16, I64Store32, MemorySize, MemoryGrow, MemoryInit, DataDrop, MemoryCopy, MemoryFill, MemoryDiscard}
+use Rattle.validate_visit.specs.declared.op.MemoryOp.TheVariants.{Load, LoadPacked, Store, StorePacked, MemorySize, MemoryGrow, MemoryInit, DataDrop, MemoryCopy, MemoryFill, MemoryDiscard}
 use Rattle.validate_visit.specs.declared.op.NumericOp.TheVariants.{I32Const, I64Const}
 use Rattle.validate_visit.specs.declared.op.Op.{Op}
 use Rattle.validate_visit.specs.declared.op.Op.TheVariants.{Control, Numeric, Memory, Atomic}
 use Rattle.validation_rules.specs.Context.{ValType, I32, I64, F32, F64, V128, BlockType, Empty, Val, Context}
 use Rattle.validation_rules.specs.Fits.{MaybeType, Known}
 use Rattle.validation_rules.specs.Rows.{Block}
-use Rattle.validation_rules.specs.Static.{State, framed, before, start}
-use Rattle.validation_rules.specs.Table.{alike, plain, operator, body}
+use Rattle.validation_rules.specs.Static.{State, open_state, before, start}
+use Rattle.validation_rules.specs.Table.{row_operator, plain_row, operator, body}
 
 -- ---- a module of two memories and two data segments: memory 0, which is shared, has addresses of 32
 -- bits, and memory 1 of 64; whether it is shared is nothing to any of these operators
@@ -84,7 +92,7 @@ NoneHolds ops = map (premise cx) ops ≡ map (λ op. false) ops
 -- else; without them, and with all others, no row holds, unless it needs none.
 abbrev Says : List Op → List ValType → List ValType → ℕ → Type 0
 Says ops wanted pushed needs =
-    (map (operator (under needs)) ops ≡ map (λ op. alike (plain true wanted pushed)) ops) × (map (premise (under (every - needs))) ops ≡ map (λ op. nat_eq needs 0) ops)
+    (map (operator (under needs)) ops ≡ map (λ op. row_operator (plain_row true wanted pushed)) ops) × (map (premise (under (every - needs))) ops ≡ map (λ op. nat_eq needs 0) ops)
 
 -- Operators of an access that may be aligned less: over an address of either type, these above it and
 -- pushed, and never aligned more, nor to a memory that isn't there.
@@ -94,74 +102,81 @@ Access group above pushed needs =
     Says (ops (natural 0)) (I32 ∷ above) pushed needs × Says (ops (smaller 1)) (I64 ∷ above) pushed needs × AllHold (ops (smaller 0)) × NoneHolds (ops (greater 0)) × NoneHolds (ops (greater 1)) × NoneHolds (ops (natural 2))
 
 -- and of one whose alignment is the natural one
-abbrev AtomicAccess : (MemArg → List AtomicOp) → List ValType → List ValType → Type 0
-AtomicAccess group above pushed =
+abbrev AtomicAccesses : (MemArg → List AtomicOp) → List ValType → List ValType → Type 0
+AtomicAccesses group above pushed =
     let ops = λ (arg : MemArg). map (λ op. Atomic op) (group arg) in
     Says (ops (natural 0)) (I32 ∷ above) pushed threads × Says (ops (natural 1)) (I64 ∷ above) pushed threads × NoneHolds (ops (smaller 0)) × NoneHolds (ops (smaller 1)) × NoneHolds (ops (greater 0)) × NoneHolds (ops (natural 2))
 
 -- ---- loads and stores
 
-loads_of_i32 : Access (λ arg. I32Load arg ∷ I32Load8S arg ∷ I32Load8U arg ∷ I32Load16S arg ∷ I32Load16U arg ∷ []) [] (I32 ∷ []) 0
-loads_of_i32 = ((refl, refl), (refl, refl), refl, refl, refl, refl)
+loads_of_i32 : (sign : Sign) → Access (λ arg. Load NumberI32 arg ∷ LoadPacked I32Bits8 sign arg ∷ LoadPacked I32Bits16 sign arg ∷ []) [] (I32 ∷ []) 0
+loads_of_i32 sign = ((refl, refl), (refl, refl), refl, refl, refl, refl)
 
-loads_of_i64 : Access (λ arg. I64Load arg ∷ I64Load8S arg ∷ I64Load8U arg ∷ I64Load16S arg ∷ I64Load16U arg ∷ I64Load32S arg ∷ I64Load32U arg ∷ []) [] (I64 ∷ []) 0
-loads_of_i64 = ((refl, refl), (refl, refl), refl, refl, refl, refl)
+loads_of_i64 : (sign : Sign) → Access (λ arg. Load NumberI64 arg ∷ LoadPacked I64Bits8 sign arg ∷ LoadPacked I64Bits16 sign arg ∷ LoadPacked I64Bits32 sign arg ∷ []) [] (I64 ∷ []) 0
+loads_of_i64 sign = ((refl, refl), (refl, refl), refl, refl, refl, refl)
 
-load_of_f32 : Access (λ arg. F32Load arg ∷ []) [] (F32 ∷ []) floats
+load_of_f32 : Access (λ arg. Load NumberF32 arg ∷ []) [] (F32 ∷ []) floats
 load_of_f32 = ((refl, refl), (refl, refl), refl, refl, refl, refl)
 
-load_of_f64 : Access (λ arg. F64Load arg ∷ []) [] (F64 ∷ []) floats
+load_of_f64 : Access (λ arg. Load NumberF64 arg ∷ []) [] (F64 ∷ []) floats
 load_of_f64 = ((refl, refl), (refl, refl), refl, refl, refl, refl)
 
-stores_of_i32 : Access (λ arg. I32Store arg ∷ I32Store8 arg ∷ I32Store16 arg ∷ []) (I32 ∷ []) [] 0
+stores_of_i32 : Access (λ arg. Store NumberI32 arg ∷ StorePacked I32Bits8 arg ∷ StorePacked I32Bits16 arg ∷ []) (I32 ∷ []) [] 0
 stores_of_i32 = ((refl, refl), (refl, refl), refl, refl, refl, refl)
 
-stores_of_i64 : Access (λ arg. I64Store arg ∷ I64Store8 arg ∷ I64Store16 arg ∷ I64Store32 arg ∷ []) (I64 ∷ []) [] 0
+stores_of_i64 : Access (λ arg. Store NumberI64 arg ∷ StorePacked I64Bits8 arg ∷ StorePacked I64Bits16 arg ∷ StorePacked I64Bits32 arg ∷ []) (I64 ∷ []) [] 0
 stores_of_i64 = ((refl, refl), (refl, refl), refl, refl, refl, refl)
 
-store_of_f32 : Access (λ arg. F32Store arg ∷ []) (F32 ∷ []) [] floats
+store_of_f32 : Access (λ arg. Store NumberF32 arg ∷ []) (F32 ∷ []) [] floats
 store_of_f32 = ((refl, refl), (refl, refl), refl, refl, refl, refl)
 
-store_of_f64 : Access (λ arg. F64Store arg ∷ []) (F64 ∷ []) [] floats
+store_of_f64 : Access (λ arg. Store NumberF64 arg ∷ []) (F64 ∷ []) [] floats
 store_of_f64 = ((refl, refl), (refl, refl), refl, refl, refl, refl)
 
 -- ---- atomic accesses
 
-atomic_loads_of_i32 : AtomicAccess (λ arg. I32AtomicLoad arg ∷ I32AtomicLoad8U arg ∷ I32AtomicLoad16U arg ∷ []) [] (I32 ∷ [])
+-- of a whole integer, and of fewer bits
+abbrev i32_accesses : List AtomicAccess
+i32_accesses = Whole IntegerI32 ∷ Packed I32Bits8 ∷ Packed I32Bits16 ∷ []
+
+abbrev i64_accesses : List AtomicAccess
+i64_accesses = Whole IntegerI64 ∷ Packed I64Bits8 ∷ Packed I64Bits16 ∷ Packed I64Bits32 ∷ []
+
+atomic_loads_of_i32 : AtomicAccesses (λ arg. map (λ access. AtomicLoad access arg) i32_accesses) [] (I32 ∷ [])
 atomic_loads_of_i32 = ((refl, refl), (refl, refl), refl, refl, refl, refl)
 
-atomic_loads_of_i64 : AtomicAccess (λ arg. I64AtomicLoad arg ∷ I64AtomicLoad8U arg ∷ I64AtomicLoad16U arg ∷ I64AtomicLoad32U arg ∷ []) [] (I64 ∷ [])
+atomic_loads_of_i64 : AtomicAccesses (λ arg. map (λ access. AtomicLoad access arg) i64_accesses) [] (I64 ∷ [])
 atomic_loads_of_i64 = ((refl, refl), (refl, refl), refl, refl, refl, refl)
 
-atomic_stores_of_i32 : AtomicAccess (λ arg. I32AtomicStore arg ∷ I32AtomicStore8 arg ∷ I32AtomicStore16 arg ∷ []) (I32 ∷ []) []
+atomic_stores_of_i32 : AtomicAccesses (λ arg. map (λ access. AtomicStore access arg) i32_accesses) (I32 ∷ []) []
 atomic_stores_of_i32 = ((refl, refl), (refl, refl), refl, refl, refl, refl)
 
-atomic_stores_of_i64 : AtomicAccess (λ arg. I64AtomicStore arg ∷ I64AtomicStore8 arg ∷ I64AtomicStore16 arg ∷ I64AtomicStore32 arg ∷ []) (I64 ∷ []) []
+atomic_stores_of_i64 : AtomicAccesses (λ arg. map (λ access. AtomicStore access arg) i64_accesses) (I64 ∷ []) []
 atomic_stores_of_i64 = ((refl, refl), (refl, refl), refl, refl, refl, refl)
 
 -- `add`, `sub`, `and`, `or`, `xor` and `xchg`: an operand, and what was there
-rmw_of_i32 : AtomicAccess (λ arg. I32AtomicRmwAdd arg ∷ I32AtomicRmw8AddU arg ∷ I32AtomicRmw16AddU arg ∷ I32AtomicRmwSub arg ∷ I32AtomicRmw8SubU arg ∷ I32AtomicRmw16SubU arg ∷ I32AtomicRmwAnd arg ∷ I32AtomicRmw8AndU arg ∷ I32AtomicRmw16AndU arg ∷ I32AtomicRmwOr arg ∷ I32AtomicRmw8OrU arg ∷ I32AtomicRmw16OrU arg ∷ I32AtomicRmwXor arg ∷ I32AtomicRmw8XorU arg ∷ I32AtomicRmw16XorU arg ∷ I32AtomicRmwXchg arg ∷ I32AtomicRmw8XchgU arg ∷ I32AtomicRmw16XchgU arg ∷ []) (I32 ∷ []) (I32 ∷ [])
-rmw_of_i32 = ((refl, refl), (refl, refl), refl, refl, refl, refl)
+rmw_of_i32 : (op : AtomicRmwOp) → AtomicAccesses (λ arg. map (λ access. AtomicRmw access op arg) i32_accesses) (I32 ∷ []) (I32 ∷ [])
+rmw_of_i32 op = ((refl, refl), (refl, refl), refl, refl, refl, refl)
 
-rmw_of_i64 : AtomicAccess (λ arg. I64AtomicRmwAdd arg ∷ I64AtomicRmw8AddU arg ∷ I64AtomicRmw16AddU arg ∷ I64AtomicRmw32AddU arg ∷ I64AtomicRmwSub arg ∷ I64AtomicRmw8SubU arg ∷ I64AtomicRmw16SubU arg ∷ I64AtomicRmw32SubU arg ∷ I64AtomicRmwAnd arg ∷ I64AtomicRmw8AndU arg ∷ I64AtomicRmw16AndU arg ∷ I64AtomicRmw32AndU arg ∷ I64AtomicRmwOr arg ∷ I64AtomicRmw8OrU arg ∷ I64AtomicRmw16OrU arg ∷ I64AtomicRmw32OrU arg ∷ I64AtomicRmwXor arg ∷ I64AtomicRmw8XorU arg ∷ I64AtomicRmw16XorU arg ∷ I64AtomicRmw32XorU arg ∷ I64AtomicRmwXchg arg ∷ I64AtomicRmw8XchgU arg ∷ I64AtomicRmw16XchgU arg ∷ I64AtomicRmw32XchgU arg ∷ []) (I64 ∷ []) (I64 ∷ [])
-rmw_of_i64 = ((refl, refl), (refl, refl), refl, refl, refl, refl)
+rmw_of_i64 : (op : AtomicRmwOp) → AtomicAccesses (λ arg. map (λ access. AtomicRmw access op arg) i64_accesses) (I64 ∷ []) (I64 ∷ [])
+rmw_of_i64 op = ((refl, refl), (refl, refl), refl, refl, refl, refl)
 
 -- what is expected, what replaces it, and what was there
-cmpxchg_of_i32 : AtomicAccess (λ arg. I32AtomicRmwCmpxchg arg ∷ I32AtomicRmw8CmpxchgU arg ∷ I32AtomicRmw16CmpxchgU arg ∷ []) (I32 ∷ I32 ∷ []) (I32 ∷ [])
+cmpxchg_of_i32 : AtomicAccesses (λ arg. map (λ access. AtomicCmpxchg access arg) i32_accesses) (I32 ∷ I32 ∷ []) (I32 ∷ [])
 cmpxchg_of_i32 = ((refl, refl), (refl, refl), refl, refl, refl, refl)
 
-cmpxchg_of_i64 : AtomicAccess (λ arg. I64AtomicRmwCmpxchg arg ∷ I64AtomicRmw8CmpxchgU arg ∷ I64AtomicRmw16CmpxchgU arg ∷ I64AtomicRmw32CmpxchgU arg ∷ []) (I64 ∷ I64 ∷ []) (I64 ∷ [])
+cmpxchg_of_i64 : AtomicAccesses (λ arg. map (λ access. AtomicCmpxchg access arg) i64_accesses) (I64 ∷ I64 ∷ []) (I64 ∷ [])
 cmpxchg_of_i64 = ((refl, refl), (refl, refl), refl, refl, refl, refl)
 
 -- how many to wake, and how many were
-notify : AtomicAccess (λ arg. MemoryAtomicNotify arg ∷ []) (I32 ∷ []) (I32 ∷ [])
+notify : AtomicAccesses (λ arg. AtomicNotify arg ∷ []) (I32 ∷ []) (I32 ∷ [])
 notify = ((refl, refl), (refl, refl), refl, refl, refl, refl)
 
 -- what is expected, how long to wait, and how the waiting ended
-wait_of_i32 : AtomicAccess (λ arg. MemoryAtomicWait32 arg ∷ []) (I32 ∷ I64 ∷ []) (I32 ∷ [])
+wait_of_i32 : AtomicAccesses (λ arg. AtomicWait IntegerI32 arg ∷ []) (I32 ∷ I64 ∷ []) (I32 ∷ [])
 wait_of_i32 = ((refl, refl), (refl, refl), refl, refl, refl, refl)
 
-wait_of_i64 : AtomicAccess (λ arg. MemoryAtomicWait64 arg ∷ []) (I64 ∷ I64 ∷ []) (I32 ∷ [])
+wait_of_i64 : AtomicAccesses (λ arg. AtomicWait IntegerI64 arg ∷ []) (I64 ∷ I64 ∷ []) (I32 ∷ [])
 wait_of_i64 = ((refl, refl), (refl, refl), refl, refl, refl, refl)
 
 -- ---- fences
@@ -255,11 +270,11 @@ count_of_none = refl
 
 -- one operator of each shape
 abbrev plain_accesses : MemArg → List Op
-plain_accesses arg = Memory (I32Load arg) ∷ Memory (F64Store arg) ∷ []
+plain_accesses arg = Memory (Load NumberI32 arg) ∷ Memory (Store NumberF64 arg) ∷ []
 
 abbrev atomic_accesses : MemArg → List Op
 atomic_accesses arg =
-    Atomic (I64AtomicLoad arg) ∷ Atomic (I32AtomicStore arg) ∷ Atomic (I32AtomicRmwAdd arg) ∷ Atomic (I64AtomicRmwCmpxchg arg) ∷ Atomic (MemoryAtomicNotify arg) ∷ Atomic (MemoryAtomicWait32 arg) ∷ []
+    Atomic (AtomicLoad (Whole IntegerI64) arg) ∷ Atomic (AtomicStore (Whole IntegerI32) arg) ∷ Atomic (AtomicRmw (Whole IntegerI32) Add arg) ∷ Atomic (AtomicCmpxchg (Whole IntegerI64) arg) ∷ Atomic (AtomicNotify arg) ∷ Atomic (AtomicWait IntegerI32 arg) ∷ []
 
 abbrev accesses : MemArg → List Op
 accesses arg = plain_accesses arg ++ atomic_accesses arg
@@ -310,10 +325,10 @@ abbrev end : Op
 end = Control End
 
 abbrev i32_load : MemArg → Op
-i32_load arg = Memory (I32Load arg)
+i32_load arg = Memory (Load NumberI32 arg)
 
 abbrev i64_store : MemArg → Op
-i64_store arg = Memory (I64Store arg)
+i64_store arg = Memory (Store NumberI64 arg)
 
 abbrev after_all : BlockType → List Op → Option State
 after_all ty ops = before cx (body cx ops) (start ty) (length ops)
@@ -323,7 +338,7 @@ Refused ops = after_all Empty ops ≡ None
 
 -- accepted so far, with these operands in the outermost frame, the top first
 abbrev Stands : List Op → List MaybeType → Bool → Type 0
-Stands ops own dead = after_all Empty ops ≡ Some (framed (record { head = record { kind = Block; block_type = Empty }; own = own; dead = dead; first_set = [] } ∷ []))
+Stands ops own dead = after_all Empty ops ≡ Some (open_state (record { head = record { kind = Block; block_type = Empty }; operands = own; dead = dead; first_set = [] } ∷ []))
 
 -- the address goes, and what lies below it stays
 load_in_32 : Stands (i64_const ∷ i32_const ∷ i32_load (natural 0) ∷ []) (Known I32 ∷ Known I64 ∷ []) false
@@ -366,10 +381,10 @@ store_without_address : Refused (i64_const ∷ i64_store (natural 1) ∷ [])
 store_without_address = refl
 
 -- the expected value and then the time to wait, above the address
-wait_for_i32 : Stands (i32_const ∷ i32_const ∷ i64_const ∷ Atomic (MemoryAtomicWait32 (natural 0)) ∷ []) (Known I32 ∷ []) false
+wait_for_i32 : Stands (i32_const ∷ i32_const ∷ i64_const ∷ Atomic (AtomicWait IntegerI32 (natural 0)) ∷ []) (Known I32 ∷ []) false
 wait_for_i32 = refl
 
-wait_turned : Refused (i32_const ∷ i64_const ∷ i32_const ∷ Atomic (MemoryAtomicWait32 (natural 0)) ∷ [])
+wait_turned : Refused (i32_const ∷ i64_const ∷ i32_const ∷ Atomic (AtomicWait IntegerI32 (natural 0)) ∷ [])
 wait_turned = refl
 
 -- to memory 1 from memory 0, and not the other way round

@@ -10,16 +10,17 @@ use Rattle.validate_types.specs.declared.heap.HeapType.{HeapType}
 use Rattle.validate_types.specs.declared.heap.HeapType.TheVariants.{Abstract, Concrete}
 use Rattle.validate_types.specs.declared.heap.UnpackedIndex.TheVariants.{Module, Id}
 use Rattle.validate_types.specs.declared.types.CompositeInnerType.TheVariants.{Func as FuncInner}
+use Rattle.validate_visit.specs.declared.numbers.IntegerType.TheVariants.{I32 as IntegerI32}
 use Rattle.validate_visit.specs.declared.op.ControlOp.TheVariants.{Unreachable, Block as BlockOp, Loop as LoopOp, End, Drop}
-use Rattle.validate_visit.specs.declared.op.NumericOp.TheVariants.{I32Const, I64Const, I32Eqz}
+use Rattle.validate_visit.specs.declared.op.NumericOp.TheVariants.{Eqz, I32Const, I64Const}
 use Rattle.validate_visit.specs.declared.op.Op.{Op}
 use Rattle.validate_visit.specs.declared.op.Op.TheVariants.{Control, Numeric, Reference}
 use Rattle.validate_visit.specs.declared.op.ReferenceOp.TheVariants.{RefNull, RefIsNull, RefFunc, RefAsNonNull, BrOnNull, BrOnNonNull}
 use Rattle.validation_rules.specs.Context.{SubType, ValType, I32, I64, Ref, BlockType, Empty, Val, FuncType, Context}
 use Rattle.validation_rules.specs.Fits.{MaybeType, UnknownRef, Known}
-use Rattle.validation_rules.specs.Rows.{Head, FrameKind, Block, Loop, body_head, takes}
-use Rattle.validation_rules.specs.Static.{Frame, State, framed, before, start}
-use Rattle.validation_rules.specs.Table.{alike, plain, operator, body}
+use Rattle.validation_rules.specs.Rows.{Head, FrameKind, Block, Loop, body_head, operands_wanted}
+use Rattle.validation_rules.specs.Static.{Frame, State, open_state, before, start}
+use Rattle.validation_rules.specs.Table.{row_operator, plain_row, operator, body}
 
 abbrev func : HeapType
 func = Abstract false Func
@@ -89,7 +90,7 @@ abbrev i64_const : Op
 i64_const = Numeric (I64Const (pos 0))
 
 abbrev i32_eqz : Op
-i32_eqz = Numeric I32Eqz
+i32_eqz = Numeric (Eqz IntegerI32)
 
 abbrev unreachable : Op
 unreachable = Control Unreachable
@@ -143,16 +144,16 @@ abbrev Done : BlockType → List Op → List MaybeType → Type 0
 Done ty ops left = after_all cx ty ops ≡ Some (record { frames = []; left = left })
 
 abbrev frame : FrameKind → BlockType → List MaybeType → Bool → Frame
-frame kind ty own dead = record { head = record { kind = kind; block_type = ty }; own = own; dead = dead; first_set = [] }
+frame kind ty own dead = record { head = record { kind = kind; block_type = ty }; operands = own; dead = dead; first_set = [] }
 
 -- accepted so far, with these operands in the body's frame, the top first
 abbrev Leaves : List Op → List MaybeType → Bool → Type 0
-Leaves ops own dead = after_all cx to_nothing ops ≡ Some (framed (frame Block to_nothing own dead ∷ []))
+Leaves ops own dead = after_all cx to_nothing ops ≡ Some (open_state (frame Block to_nothing own dead ∷ []))
 
 -- in a block of this type, that the body begins with
 abbrev InBlock : BlockType → List Op → List MaybeType → Bool → Type 0
 InBlock bt ops own dead =
-    after_all cx to_nothing (block bt ∷ ops) ≡ Some (framed (frame Block bt own dead ∷ frame Block to_nothing [] false ∷ []))
+    after_all cx to_nothing (block bt ∷ ops) ≡ Some (open_state (frame Block bt own dead ∷ frame Block to_nothing [] false ∷ []))
 
 -- each of these alone, in such a block
 abbrev AllRefusedInBlock : BlockType → List (List Op) → Type 0
@@ -167,7 +168,7 @@ carried hs op found = map (λ t. (t.depth, t.carried found)) ((operator cx op).r
 
 -- ---- `ref.null`
 
-null_of_func : operator (under reference_types) (ref_null func) ≡ alike (plain true [] (null func ∷ []))
+null_of_func : operator (under reference_types) (ref_null func) ≡ row_operator (plain_row true [] (null func ∷ []))
 null_of_func = refl
 
 -- the index of the module becomes the id
@@ -195,7 +196,7 @@ nulls_closed = refl
 -- ---- `ref.func`
 
 -- a reference without null, to the type of the function and not that of its index
-func_of_each : map (operator (under reference_types)) (ref_func 0 ∷ ref_func 1 ∷ []) ≡ map (λ i. alike (plain true [] (no_null (concrete i) ∷ []))) (0 ∷ 3 ∷ [])
+func_of_each : map (operator (under reference_types)) (ref_func 0 ∷ ref_func 1 ∷ []) ≡ map (λ i. row_operator (plain_row true [] (no_null (concrete i) ∷ []))) (0 ∷ 3 ∷ [])
 func_of_each = refl
 
 func_given : Done (Val (no_null func)) (ref_func 1 ∷ end ∷ []) (Known (no_null func) ∷ [])
@@ -267,7 +268,7 @@ null_carries : map (λ d. carried outer (br_on_null d) (I32 ∷ no_null (concret
 null_carries = refl
 
 -- it takes one operand more
-null_takes : map (λ d. takes ((operator cx (br_on_null d)).row outer).operands) (0 ∷ 1 ∷ 2 ∷ 3 ∷ []) ≡ 2 ∷ 2 ∷ 3 ∷ 1 ∷ []
+null_takes : map (λ d. operands_wanted ((operator cx (br_on_null d)).row outer).type) (0 ∷ 1 ∷ 2 ∷ 3 ∷ []) ≡ 2 ∷ 2 ∷ 3 ∷ 1 ∷ []
 null_takes = refl
 
 -- a body whose results it may give
@@ -275,7 +276,7 @@ null_leaves : Done (Val I32) (i32_const ∷ ref_null func ∷ br_on_null 0 ∷ d
 null_leaves = refl
 
 -- of a loop the parameters
-null_to_loop : after_all cx to_nothing (i32_const ∷ loop (FuncType 1) ∷ ref_null func ∷ br_on_null 0 ∷ []) ≡ Some (framed (frame Loop (FuncType 1) (Known (no_null func) ∷ Known I32 ∷ []) false ∷ frame Block to_nothing [] false ∷ []))
+null_to_loop : after_all cx to_nothing (i32_const ∷ loop (FuncType 1) ∷ ref_null func ∷ br_on_null 0 ∷ []) ≡ Some (open_state (frame Loop (FuncType 1) (Known (no_null func) ∷ Known I32 ∷ []) false ∷ frame Block to_nothing [] false ∷ []))
 null_to_loop = refl
 
 -- without the reference, and with a number for it
@@ -333,11 +334,11 @@ null_below_carried : carried (record { kind = Block; block_type = to_two_funcref
 null_below_carried = (refl, refl)
 
 -- it wants the label's types, the last with null, and pushes those before it
-non_null_wants : map (λ bt. record ((operator (under function_references) (br_on_non_null 0)).row (record { kind = Block; block_type = bt } ∷ [])) { targets = [] }) (to_i32_and_funcref ∷ to_i32_and_func ∷ Val (no_null (concrete 0)) ∷ []) ≡ plain true (I32 ∷ null func ∷ []) (I32 ∷ []) ∷ plain true (I32 ∷ null func ∷ []) (I32 ∷ []) ∷ plain true (null (concrete 0) ∷ []) [] ∷ []
+non_null_wants : map (λ bt. record ((operator (under function_references) (br_on_non_null 0)).row (record { kind = Block; block_type = bt } ∷ [])) { targets = [] }) (to_i32_and_funcref ∷ to_i32_and_func ∷ Val (no_null (concrete 0)) ∷ []) ≡ plain_row true (I32 ∷ null func ∷ []) (I32 ∷ []) ∷ plain_row true (I32 ∷ null func ∷ []) (I32 ∷ []) ∷ plain_row true (null (concrete 0) ∷ []) [] ∷ []
 non_null_wants = refl
 
 -- of a loop the parameters
-non_null_to_loop : after_all cx to_nothing (i64_const ∷ ref_null func ∷ loop (FuncType 6) ∷ br_on_non_null 0 ∷ []) ≡ Some (framed (frame Loop (FuncType 6) (Known I64 ∷ []) false ∷ frame Block to_nothing [] false ∷ []))
+non_null_to_loop : after_all cx to_nothing (i64_const ∷ ref_null func ∷ loop (FuncType 6) ∷ br_on_non_null 0 ∷ []) ≡ Some (open_state (frame Loop (FuncType 6) (Known I64 ∷ []) false ∷ frame Block to_nothing [] false ∷ []))
 non_null_to_loop = refl
 
 -- a label without types, one whose last is a number, and one that isn't there; also in dead code

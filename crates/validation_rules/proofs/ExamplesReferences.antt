@@ -18,7 +18,7 @@ use Rattle.validate_visit.specs.declared.op.Op.TheVariants.{Control, Numeric}
 use Rattle.validation_rules.specs.Context.{SubType, ValType, I32, I64, Ref, BlockType, Empty, Val, Context}
 use Rattle.validation_rules.specs.Fits.{MaybeType, Bottom, UnknownRef, Known, fits}
 use Rattle.validation_rules.specs.Static.{before, start}
-use Rattle.validation_rules.specs.Table.{selected, body}
+use Rattle.validation_rules.specs.Table.{select_result, body}
 
 -- ---- a module of four function types: 1 is declared below 0, 2 below 1, and 3 is shared
 
@@ -113,10 +113,10 @@ some_eq = refl
 
 -- ---- `select` takes no reference
 
-selected_numbers : selected Bottom (Known I64) ≡ Some (Known I64)
+selected_numbers : select_result Bottom (Known I64) ≡ Some (Known I64)
 selected_numbers = refl
 
-no_references : map (λ (p : MaybeType × MaybeType). selected p.0 p.1) ((Known (null (heap Func)), Known (null (heap Func))) ∷ (Bottom, Known (null (heap Func))) ∷ (Known (null (heap Func)), Bottom) ∷ (UnknownRef None, Bottom) ∷ (Bottom, UnknownRef None) ∷ (Known I32, UnknownRef None) ∷ []) ≡ None ∷ None ∷ None ∷ None ∷ None ∷ None ∷ []
+no_references : map (λ (p : MaybeType × MaybeType). select_result p.0 p.1) ((Known (null (heap Func)), Known (null (heap Func))) ∷ (Bottom, Known (null (heap Func))) ∷ (Known (null (heap Func)), Bottom) ∷ (UnknownRef None, Bottom) ∷ (Bottom, UnknownRef None) ∷ (Known I32, UnknownRef None) ∷ []) ≡ None ∷ None ∷ None ∷ None ∷ None ∷ None ∷ []
 no_references = refl
 
 -- ---- bodies

@@ -5,7 +5,7 @@ use Rattle.std.specs.Prelude.{ℕ, suc, Bool, true, false, List, [], ◌∷◌, 
 use Rattle.validation_rules.specs.Branches.{has_label, br_row, br_if_row, br_table_row, return_row}
 use Rattle.validation_rules.specs.Context.{ValType, I32, BlockType, Context, block_signature}
 use Rattle.validation_rules.specs.Rows.{FrameKind, Block, If, Loop, TryTable, LegacyTry, LegacyCatch, LegacyCatchAll, Head, Opens, BeginsElse, BeginsCatch, Ends, Delegates, Clause, Operator}
-use Rattle.validation_rules.specs.Table.{plain, ends_live, flat, alike, closing, opens}
+use Rattle.validation_rules.specs.Table.{plain_row, ending_row, flat_operator, row_operator, delimiter_operator, opening_operator}
 
 -- ---- rows
 
@@ -14,7 +14,7 @@ abbrev pub opening : Context → FrameKind → BlockType → List Clause → Ope
 opening cx kind bt clauses =
     record {
       form = Opens (record { kind = kind; block_type = bt });
-      row = λ hs. record (plain true (block_signature cx.of_module bt).params []) { clauses = clauses };
+      row = λ hs. record (plain_row true (block_signature cx.of_module bt).params []) { clauses = clauses };
     }
 
 abbrev pub is_catch_part : FrameKind → Bool
@@ -29,54 +29,54 @@ catch_label (h ∷ hs) = is_catch_part h.kind
 -- ---- operators
 
 abbrev pub unreachable : Operator
-unreachable = alike (ends_live true [])
+unreachable = row_operator (ending_row true [])
 
 abbrev pub a_block : Context → BlockType → Operator
-a_block cx bt = opens cx Block [] true bt
+a_block cx bt = opening_operator cx Block [] true bt
 
 abbrev pub a_loop : Context → BlockType → Operator
-a_loop cx bt = opens cx Loop [] true bt
+a_loop cx bt = opening_operator cx Loop [] true bt
 
 abbrev pub an_if : Context → BlockType → Operator
-an_if cx bt = opens cx If (I32 ∷ []) true bt
+an_if cx bt = opening_operator cx If (I32 ∷ []) true bt
 
 abbrev pub an_else : Operator
-an_else = closing BeginsElse true
+an_else = delimiter_operator BeginsElse true
 
 abbrev pub an_end : Operator
-an_end = closing Ends true
+an_end = delimiter_operator Ends true
 
 abbrev pub br : Context → ℕ → Operator
-br cx d = flat (λ hs. br_row cx hs d)
+br cx d = flat_operator (λ hs. br_row cx hs d)
 
 abbrev pub br_if : Context → ℕ → Operator
-br_if cx d = flat (λ hs. br_if_row cx hs d)
+br_if cx d = flat_operator (λ hs. br_if_row cx hs d)
 
 abbrev pub br_table : Context → List ℕ → ℕ → Operator
-br_table cx ds d = flat (λ hs. br_table_row cx hs true ds d)
+br_table cx ds d = flat_operator (λ hs. br_table_row cx hs true ds d)
 
 abbrev pub a_return : Context → Operator
-a_return cx = flat (λ hs. return_row cx hs)
+a_return cx = flat_operator (λ hs. return_row cx hs)
 
 abbrev pub a_try_table : Context → BlockType → List Clause → Operator
 a_try_table cx bt clauses = opening cx TryTable bt clauses
 
 -- of a tag with these parameters
 abbrev pub throw : List ValType → Operator
-throw types = alike (ends_live true types)
+throw types = row_operator (ending_row true types)
 
 abbrev pub a_try : Context → BlockType → Operator
 a_try cx bt = opening cx LegacyTry bt []
 
 abbrev pub a_catch : List ValType → Operator
-a_catch types = closing (BeginsCatch false types) true
+a_catch types = delimiter_operator (BeginsCatch false types) true
 
 abbrev pub a_catch_all : Operator
-a_catch_all = closing (BeginsCatch true []) true
+a_catch_all = delimiter_operator (BeginsCatch true []) true
 
 -- the label is counted outside the frame that it closes
 abbrev pub delegate : ℕ → Operator
-delegate d = record { form = Delegates; row = λ hs. plain (has_label hs (suc d)) [] [] }
+delegate d = record { form = Delegates; row = λ hs. plain_row (has_label hs (suc d)) [] [] }
 
 abbrev pub rethrow : ℕ → Operator
-rethrow d = flat (λ hs. ends_live (catch_label (drop d hs)) [])
+rethrow d = flat_operator (λ hs. ending_row (catch_label (drop d hs)) [])

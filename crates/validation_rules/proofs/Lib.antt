@@ -3,6 +3,7 @@ pub mod Steps
 pub mod Pops
 pub mod Rows
 pub mod Order
+pub mod Keeping
 pub mod Valid
 pub mod Handmade
 mod Examples

@@ -3,13 +3,13 @@
 use Rattle.std.proofs.Common.{◌≡◌, ℕ, Bool, true, List, [], ◌∷◌, length, map, Option, Some, None, refl, sym, ap, ◌∙◌, subst}
 use Rattle.validate_visit.specs.Order.{Nesting, is_ordered_from, nesting, reads_on, control_nesting}
 use Rattle.validate_visit.specs.declared.op.Op.{Op}
-use Rattle.validate_visit.specs.declared.op.Op.TheVariants.{Control, Numeric, Convert, Memory, Atomic, Reference, Table}
+use Rattle.validate_visit.specs.declared.op.Op.TheVariants.{Control}
 use Rattle.validate_visit.specs.declared.op.ControlOp.{ControlOp}
 use Rattle.validate_visit.specs.declared.op.ControlOp.TheVariants.{Block as BlockOp, Loop as LoopOp, If as IfOp, Else as ElseOp, End}
 use Rattle.validation_rules.specs.Context.{ValType, I32, BlockType, Context}
 use Rattle.validation_rules.specs.Fits.{MaybeType}
 use Rattle.validation_rules.specs.Rows.{FrameKind, Block, If, Loop, Head, results, is_if, is_try, may_catch, Form, Flat, Opens, BeginsElse, BeginsCatch, Ends, Delegates, Row, Operator}
-use Rattle.validation_rules.specs.Static.{Frame, State, heads, set_in, pushes_at, given_over, after_over, step_in, before, start}
+use Rattle.validation_rules.specs.Static.{Frame, State, heads, locals_set, pushed_by_form, state_after_exit, state_after, step_in, before, start}
 use Rattle.validation_rules.specs.Order.{nesting_of, RowsHold, RowsAreOrdered, BodiesAreOrdered}
 use Rattle.validation_rules.specs.Table.{checked_block, opener, operator, control_operator, body}
 use Rattle.validation_rules.proofs.Below.{and_true, true_and}
@@ -18,11 +18,11 @@ use Rattle.validation_rules.proofs.Steps.{guard_some, bind_some, stepped}
 abbrev kinds : List Frame → List FrameKind
 kinds fs = map (λ (f : Frame). f.head.kind) fs
 
-given_kinds : (left : List MaybeType) (types : List ValType) (fs : List Frame) → kinds (given_over left types fs).frames ≡ kinds fs
+given_kinds : (left : List MaybeType) (types : List ValType) (fs : List Frame) → kinds (state_after_exit left types fs).frames ≡ kinds fs
 given_kinds left types [] = refl
 given_kinds left types (f ∷ fs) = refl
 
-order_by : (left : List MaybeType) (cx : Context) (row : Row) (hs : List Head) (set : List ℕ) (f : Frame) (fs : List Frame) (form : Form) (pushed : List MaybeType) (next : List FrameKind → Bool) → pushes_at cx row hs set f form ≡ Some pushed → next (kinds (after_over left cx row set f fs form pushed).frames) ≡ true → reads_on f.head.kind (kinds fs) (nesting_of form) next ≡ true
+order_by : (left : List MaybeType) (cx : Context) (row : Row) (hs : List Head) (set : List ℕ) (f : Frame) (fs : List Frame) (form : Form) (pushed : List MaybeType) (next : List FrameKind → Bool) → pushed_by_form cx row hs set f form ≡ Some pushed → next (kinds (state_after left cx row set f fs form pushed).frames) ≡ true → reads_on f.head.kind (kinds fs) (nesting_of form) next ≡ true
 order_by left cx row hs set f fs Flat pushed next p h = h
 order_by left cx row hs set f fs (Opens o) pushed next p h = h
 order_by left cx row hs set f fs BeginsElse pushed next p h =
@@ -43,7 +43,7 @@ ordered cx (op ∷ code) [] left h = absurd cc
 ordered cx (op ∷ code) (f ∷ fs) left h =
     let m = bind_some (step_in cx op (f ∷ fs) left) (λ v. before cx code v (length code)) _ h.1 in
     let st = stepped cx op f fs left m.0 m.1 in
-    order_by left cx (op.row (heads (f ∷ fs))) (heads (f ∷ fs)) (set_in (f ∷ fs)) f fs op.form st.pushed (λ js. is_ordered_from js (nestings code)) st.holds
+    order_by left cx (op.row (heads (f ∷ fs))) (heads (f ∷ fs)) (locals_set (f ∷ fs)) f fs op.form st.pushed (λ js. is_ordered_from js (nestings code)) st.holds
     (subst (λ (v : State). is_ordered_from (kinds v.frames) (nestings code) ≡ true) st.leaves (ordered cx code m.0.frames m.0.left (h.0, m.2)))
 
 pub rows_are_ordered : (cx : Context) → RowsAreOrdered cx
@@ -66,12 +66,7 @@ control_nests cx _ = refl
 -- an operator's form says of the open parts what the operator does to them
 pub operator_nests : (cx : Context) (op : Op) → nesting_of (operator cx op).form ≡ nesting op
 operator_nests cx (Control op) = control_nests cx op
-operator_nests cx (Numeric op) = refl
-operator_nests cx (Convert op) = refl
-operator_nests cx (Memory op) = refl
-operator_nests cx (Atomic op) = refl
-operator_nests cx (Reference op) = refl
-operator_nests cx (Table op) = refl
+operator_nests cx _ = refl
 
 body_nests : (cx : Context) (ops : List Op) → nestings (body cx ops) ≡ map nesting ops
 body_nests cx [] = refl

@@ -5,8 +5,8 @@ use Rattle.std.proofs.Math.Dec.{leb-zero, leb-suc-zero, leb-suc-suc}
 use Rattle.validation_rules.specs.Context.{ValType, Context}
 use Rattle.validation_rules.specs.Fits.{MaybeType, Bottom, fits, all_fit}
 use Rattle.validation_rules.specs.Rows.{Head, results, guard}
-use Rattle.validation_rules.specs.Static.{Frame, onto, on_top, found, below_top, closes, bind}
-use Rattle.validation_rules.specs.Pops.{top_of, pops, PopsAreWhole}
+use Rattle.validation_rules.specs.Static.{Frame, onto, operands_on_top, operands_found, operands_below, may_close, bind}
+use Rattle.validation_rules.specs.Pops.{operand_on_top, frame_after_pops, PopsAreWhole}
 
 -- ---- lists turned
 
@@ -42,26 +42,6 @@ onto-turned xs = onto-reverse (reverse xs) [] ∙ append-nil (reverse (reverse x
 
 -- ---- what is found on top
 
--- what one pop finds is the first of what is found, and the rest is found below it
-pub on_top_next : (n : ℕ) (dead : Bool) (own : List MaybeType) (x : MaybeType) → top_of dead own ≡ Some x → on_top (suc n) dead own ≡ x ∷ on_top n dead (drop 1 own)
-on_top_next n true [] x h = ap (λ o. bottom_or o ∷ on_top n true []) h
-  where
-    bottom_or : Option MaybeType → MaybeType
-    bottom_or None = Bottom
-    bottom_or (Some y) = y
-on_top_next n false [] x h = absurd cc
-on_top_next n dead (y ∷ own) x h = let e : y ≡ x = cc in ap (λ z. z ∷ on_top n dead own) e
-
--- where a pop finds nothing, nothing is found
-pub on_top_nothing : (n : ℕ) (dead : Bool) (own : List MaybeType) → top_of dead own ≡ None → on_top n dead own ≡ []
-on_top_nothing n true [] h = absurd cc
-on_top_nothing zero false [] h = refl
-on_top_nothing (suc n) false [] h = refl
-on_top_nothing n dead (y ∷ own) h = absurd cc
-
-pub found_nothing : (n : ℕ) (f : Frame) → top_of f.dead f.own ≡ None → found n f ≡ []
-found_nothing n f h = ap (λ l. onto l []) (on_top_nothing n f.dead f.own h)
-
 module _ (cx : Context) where
   -- lists of different length don't fit
   pub no_fit : (xs : List MaybeType) (ws : List ValType) → length xs ≢ length ws → all_fit cx xs ws ≡ false
@@ -92,50 +72,26 @@ module _ (cx : Context) where
 
   -- a frame by its parts
   abbrev at : Head → List MaybeType → Bool → List ℕ → Frame
-  at h own dead set = record { head = h; own = own; dead = dead; first_set = set }
+  at h own dead set = record { head = h; operands = own; dead = dead; first_set = set }
 
-  pops_in : (ws : List ValType) (h : Head) (own : List MaybeType) (dead : Bool) (set : List ℕ) → pops cx ws (at h own dead set) ≡ guard (all_fit cx (on_top (length ws) dead own) ws) (Some (at h (drop (length ws) own) dead set))
+  pops_in : (ws : List ValType) (h : Head) (own : List MaybeType) (dead : Bool) (set : List ℕ) → frame_after_pops cx ws (at h own dead set) ≡ guard (all_fit cx (operands_on_top (length ws) dead own) ws) (Some (at h (drop (length ws) own) dead set))
   pops_in [] h own dead set = refl
   pops_in (w ∷ ws) h (x ∷ own) dead set =
-      together (fits cx x w) (all_fit cx (on_top (length ws) dead own) ws) (at h own dead set) (at h (drop (length ws) own) dead set) (pops cx ws) (pops_in ws h own dead set)
+      together (fits cx x w) (all_fit cx (operands_on_top (length ws) dead own) ws) (at h own dead set) (at h (drop (length ws) own) dead set) (frame_after_pops cx ws) (pops_in ws h own dead set)
   pops_in (w ∷ ws) h [] true set =
-      pops_in ws h [] true set ∙ ap (λ o. guard (all_fit cx (on_top (length ws) true []) ws) (Some (at h o true set))) (drop_none (length ws))
+      pops_in ws h [] true set ∙ ap (λ o. guard (all_fit cx (operands_on_top (length ws) true []) ws) (Some (at h o true set))) (drop_none (length ws))
   pops_in (w ∷ ws) h [] false set = refl
 
   -- a list with the top first
-  pub pops_from_top : (ws : List ValType) (f : Frame) → pops cx ws f ≡ guard (all_fit cx (on_top (length ws) f.dead f.own) ws) (Some (record f { own = below_top (length ws) f }))
-  pops_from_top ws f = pops_in ws f.head f.own f.dead f.first_set
+  pub pops_from_top : (ws : List ValType) (f : Frame) → frame_after_pops cx ws f ≡ guard (all_fit cx (operands_on_top (length ws) f.dead f.operands) ws) (Some (record f { operands = operands_below (length ws) f }))
+  pops_from_top ws f = pops_in ws f.head f.operands f.dead f.first_set
 
   -- a row's wanted list, whose last lies on top and is popped first
   pub pops_whole : PopsAreWhole cx
   pops_whole wanted f =
       pops_from_top (reverse wanted) f
-      ∙ ap (λ n. guard (all_fit cx (on_top n f.dead f.own) (reverse wanted)) (Some (record f { own = below_top n f }))) (length-reverse wanted)
-      ∙ ap (λ b. guard b (Some (record f { own = below_top (length wanted) f }))) (sym (fit_turned (on_top (length wanted) f.dead f.own) wanted))
-
-  guard_is_some : {A : Type 0} (b : Bool) (x y : A) → guard b (Some x) ≡ Some y → (b ≡ true) × (y ≡ x)
-  guard_is_some true x y h = (refl, cc)
-  guard_is_some false x y h = absurd cc
-
-  guard_is_none : {A : Type 0} (b : Bool) (x : A) → guard b (Some x) ≡ None → b ≡ false
-  guard_is_none true x h = absurd cc
-  guard_is_none false x h = refl
-
-  -- what is found fits: the pops pass
-  pub pops_pass : (wanted : List ValType) (f : Frame) → all_fit cx (found (length wanted) f) wanted ≡ true → pops cx (reverse wanted) f ≡ Some (record f { own = below_top (length wanted) f })
-  pops_pass wanted f h = pops_whole wanted f ∙ ap (λ b. guard b (Some (record f { own = below_top (length wanted) f }))) h
-
-  -- it doesn't: one of them is refused
-  pub pops_refused : (wanted : List ValType) (f : Frame) → all_fit cx (found (length wanted) f) wanted ≡ false → pops cx (reverse wanted) f ≡ None
-  pops_refused wanted f h = pops_whole wanted f ∙ ap (λ b. guard b (Some (record f { own = below_top (length wanted) f }))) h
-
-  -- the pops passed: what was found fits, and the frame is the one below it
-  pub fit_of_pops : (wanted : List ValType) (f g : Frame) → pops cx (reverse wanted) f ≡ Some g → (all_fit cx (found (length wanted) f) wanted ≡ true) × (g ≡ record f { own = below_top (length wanted) f })
-  fit_of_pops wanted f g h = guard_is_some (all_fit cx (found (length wanted) f) wanted) _ g (sym (pops_whole wanted f) ∙ h)
-
-  -- one of them was refused: what was found doesn't fit
-  pub no_fit_of_pops : (wanted : List ValType) (f : Frame) → pops cx (reverse wanted) f ≡ None → all_fit cx (found (length wanted) f) wanted ≡ false
-  no_fit_of_pops wanted f h = guard_is_none (all_fit cx (found (length wanted) f) wanted) _ (sym (pops_whole wanted f) ∙ h)
+      ∙ ap (λ n. guard (all_fit cx (operands_on_top n f.dead f.operands) (reverse wanted)) (Some (record f { operands = operands_below n f }))) (length-reverse wanted)
+      ∙ ap (λ b. guard b (Some (record f { operands = operands_below (length wanted) f }))) (sym (fit_turned (operands_on_top (length wanted) f.dead f.operands) wanted))
 
 -- ---- nothing left below
 
@@ -149,6 +105,6 @@ few_left (x ∷ xs) zero = leb-suc-zero (length xs)
 few_left (x ∷ xs) (suc n) = leb-suc-suc (length xs) n ∙ few_left xs n
 
 -- a frame closes where its results are found and nothing is left below them
-pub closes_whole : (cx : Context) (f : Frame) → closes cx f ≡ is_empty (below_top (length (results cx f.head)) f) && all_fit cx (found (length (results cx f.head)) f) (results cx f.head)
+pub closes_whole : (cx : Context) (f : Frame) → may_close cx f ≡ is_empty (operands_below (length (results cx f.head)) f) && all_fit cx (operands_found (length (results cx f.head)) f) (results cx f.head)
 closes_whole cx f =
-    ap (λ b. b && all_fit cx (found (length (results cx f.head)) f) (results cx f.head)) (few_left f.own (length (results cx f.head)))
+    ap (λ b. b && all_fit cx (operands_found (length (results cx f.head)) f) (results cx f.head)) (few_left f.operands (length (results cx f.head)))

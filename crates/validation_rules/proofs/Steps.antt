@@ -1,10 +1,32 @@
 -- What a step that is taken pushed and left, and the state before a place that follows another.
-use Rattle.std.proofs.Common.{◌≡◌, ◌≤◌, ℕ, zero, suc, Bool, true, false, List, [], ◌∷◌, ◌++◌, length, drop, Option, Some, None, refl, sym, ap, arith, ◌∙◌, slice_get}
+use Rattle.std.proofs.Common.{◌≡◌, ◌≤◌, ℕ, zero, suc, Bool, true, false, List, [], ◌∷◌, ◌++◌, length, drop, map, Option, Some, None, refl, sym, ap, arith, ◌∙◌, slice_get}
 use Rattle.std.specs.Option.{option_map}
-use Rattle.validation_rules.specs.Context.{Context}
-use Rattle.validation_rules.specs.Fits.{MaybeType}
-use Rattle.validation_rules.specs.Rows.{Form, Row, Operator, guard}
-use Rattle.validation_rules.specs.Static.{Frame, State, heads, set_in, pushes, after_over, then_after, bind, step, step_in, before}
+use Rattle.std.specs.Prelude.{if◌then◌else◌}
+use Rattle.validation_rules.specs.Context.{ValType, Context}
+use Rattle.validation_rules.specs.Fits.{MaybeType, Known, all_fit}
+use Rattle.validation_rules.specs.Rows.{Head, params, results, Form, Row, Operator, guard}
+use Rattle.validation_rules.specs.Static.{Frame, State, heads, locals_set, pushed_types, state_after_exit, state_after, state_if_pushed, bind, step, step_in, before}
+
+-- ---- what an operator of a body leaves, of which nothing is left yet
+
+abbrev pub given : List ValType → List Frame → State
+given types fs = state_after_exit [] types fs
+
+abbrev pub after : Context → Row → List ℕ → Frame → List Frame → Form → List MaybeType → State
+after cx r set f fs form pushed = state_after [] cx r set f fs form pushed
+
+-- ---- what the rules choose by a test, by its value
+
+abbrev pub label_by : Context → Bool → Head → List ValType
+label_by cx loops h = if loops then params cx h else results cx h
+
+abbrev pub if_fits : Context → Bool → Head → Bool
+if_fits cx ifs h = if ifs then all_fit cx (map Known (params cx h)) (results cx h) else true
+
+abbrev pub joined : Bool → List ℕ → ℕ → List ℕ
+joined set first_set i = if set then first_set else first_set ++ i ∷ []
+
+-- ---- options and lists
 
 pub some_injective : {A : Type 0} → (x y : A) → Some x ≡ Some y → x ≡ y
 some_injective x y h = cc
@@ -36,16 +58,16 @@ drop_next (x ∷ code) (suc k) op ops h = drop_next code k op ops h
 -- what a step that is taken pushed, and what it left
 pub record Stepped (cx : Context) (op : Operator) (f : Frame) (fs : List Frame) (left : List MaybeType) (u : State) : Type 0 where
   pub pushed : List MaybeType
-  pub holds : pushes cx op (heads (f ∷ fs)) (set_in (f ∷ fs)) f ≡ Some pushed
-  pub leaves : u ≡ after_over left cx (op.row (heads (f ∷ fs))) (set_in (f ∷ fs)) f fs op.form pushed
+  pub holds : pushed_types cx op (heads (f ∷ fs)) (locals_set (f ∷ fs)) f ≡ Some pushed
+  pub leaves : u ≡ state_after left cx (op.row (heads (f ∷ fs))) (locals_set (f ∷ fs)) f fs op.form pushed
 
-then_after_some : (left : List MaybeType) (cx : Context) (r : Row) (set : List ℕ) (f : Frame) (fs : List Frame) (form : Form) (o : Option (List MaybeType)) (u : State) → then_after left cx r set f fs form o ≡ Some u → (pushed : List MaybeType) × (o ≡ Some pushed) × (u ≡ after_over left cx r set f fs form pushed)
+then_after_some : (left : List MaybeType) (cx : Context) (r : Row) (set : List ℕ) (f : Frame) (fs : List Frame) (form : Form) (o : Option (List MaybeType)) (u : State) → state_if_pushed left cx r set f fs form o ≡ Some u → (pushed : List MaybeType) × (o ≡ Some pushed) × (u ≡ state_after left cx r set f fs form pushed)
 then_after_some left cx r set f fs form None u h = absurd cc
 then_after_some left cx r set f fs form (Some pushed) u h = (pushed, refl, cc)
 
 pub stepped : (cx : Context) (op : Operator) (f : Frame) (fs : List Frame) (left : List MaybeType) (u : State) → step_in cx op (f ∷ fs) left ≡ Some u → Stepped cx op f fs left u
 stepped cx op f fs left u h =
-    let e = then_after_some left cx (op.row (heads (f ∷ fs))) (set_in (f ∷ fs)) f fs op.form (pushes cx op (heads (f ∷ fs)) (set_in (f ∷ fs)) f) u h in
+    let e = then_after_some left cx (op.row (heads (f ∷ fs))) (locals_set (f ∷ fs)) f fs op.form (pushed_types cx op (heads (f ∷ fs)) (locals_set (f ∷ fs)) f) u h in
     record { pushed = e.0; holds = e.1; leaves = e.2 }
 
 pub before_next : (cx : Context) (code : List Operator) (s : State) (k : ℕ) (op : Operator) (t u : State) → before cx code s k ≡ Some t → slice_get code k ≡ Some op → step cx op t ≡ Some u → before cx code s (suc k) ≡ Some u

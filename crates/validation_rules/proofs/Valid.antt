@@ -11,38 +11,50 @@ use Rattle.validate_types.specs.declared.types.MemoryType.{MemoryType}
 use Rattle.validate_types.specs.declared.types.TableType.{TableType}
 use Rattle.validate_types.specs.declared.refs.RefType.{RefType}
 use Rattle.validate_types.specs.declared.heap.HeapType.{HeapType}
-use Rattle.validate_types.specs.declared.gate.Gate.TheVariants.{Mvp, Floats, ReferenceTypes, BulkMemory, BulkMemoryOpt, Threads, TailCall, FunctionReferences, MemoryControl}
 use Rattle.validate_resources.specs.Context.{IsLawful, Valid, is_index_type, is_number}
+use Rattle.validate_visit.specs.Gates.{gate_of}
+use Rattle.validate_visit.specs.Numbers.{number_type, integer_type, float_type, packed_type, access_type}
+use Rattle.validate_visit.specs.declared.memory.AtomicAccess.{AtomicAccess}
+use Rattle.validate_visit.specs.declared.memory.AtomicAccess.TheVariants.{Whole, Packed}
+use Rattle.validate_visit.specs.declared.numbers.FloatType.{FloatType}
+use Rattle.validate_visit.specs.declared.numbers.FloatType.TheVariants.{F32 as FloatF32, F64 as FloatF64}
+use Rattle.validate_visit.specs.declared.numbers.IntegerType.{IntegerType}
+use Rattle.validate_visit.specs.declared.numbers.IntegerType.TheVariants.{I32 as IntegerI32, I64 as IntegerI64}
+use Rattle.validate_visit.specs.declared.numbers.NumberType.{NumberType}
+use Rattle.validate_visit.specs.declared.numbers.NumberType.TheVariants.{I32 as NumberI32, I64 as NumberI64, F32 as NumberF32, F64 as NumberF64}
+use Rattle.validate_visit.specs.declared.numbers.PackedInteger.{PackedInteger}
+use Rattle.validate_visit.specs.declared.numbers.PackedInteger.TheVariants.{I32Bits8, I32Bits16, I64Bits8, I64Bits16, I64Bits32}
 use Rattle.validate_visit.specs.declared.op.Op.{Op}
 use Rattle.validate_visit.specs.declared.op.Op.TheVariants.{Control, Numeric, Convert, Memory, Atomic, Reference, Table}
 use Rattle.validate_visit.specs.declared.op.ControlOp.{ControlOp}
 use Rattle.validate_visit.specs.declared.op.ControlOp.TheVariants.{Unreachable, Nop, Block as BlockOp, Loop as LoopOp, If as IfOp, Else as ElseOp, End, Br, BrIf, BrTable, Return, Call, ReturnCall, CallIndirect, ReturnCallIndirect, CallRef, ReturnCallRef, Drop, Select, TypedSelect, TypedSelectMulti, LocalGet, LocalSet, LocalTee, GlobalGet, GlobalSet}
 use Rattle.validate_visit.specs.declared.op.NumericOp.{NumericOp}
-use Rattle.validate_visit.specs.declared.op.NumericOp.TheVariants.{I32Const, I64Const, F32Const, F64Const, I64Add128, I64Sub128, I64MulWideS, I64MulWideU}
+use Rattle.validate_visit.specs.declared.op.NumericOp.TheVariants.{IntegerUnary, IntegerBinary, FloatUnary, FloatBinary}
 use Rattle.validate_visit.specs.declared.op.ConvertOp.{ConvertOp}
-use Rattle.validate_visit.specs.declared.op.ConvertOp.TheVariants.{I32WrapI64}
+use Rattle.validate_visit.specs.declared.op.ConvertOp.TheVariants.{ExtendPacked, Trunc, TruncSat, Convert as ConvertInteger, Reinterpret}
 use Rattle.validate_visit.specs.declared.op.MemoryOp.{MemoryOp}
-use Rattle.validate_visit.specs.declared.op.MemoryOp.TheVariants.{F32Load, F64Load, F32Store, F64Store, MemorySize, MemoryGrow, MemoryInit, DataDrop, MemoryCopy, MemoryFill, MemoryDiscard}
+use Rattle.validate_visit.specs.declared.op.MemoryOp.TheVariants.{Load, LoadPacked, Store, StorePacked, MemorySize, MemoryGrow, MemoryInit, DataDrop, MemoryCopy, MemoryFill, MemoryDiscard}
 use Rattle.validate_visit.specs.declared.op.AtomicOp.{AtomicOp}
-use Rattle.validate_visit.specs.declared.op.AtomicOp.TheVariants.{AtomicFence, Pause}
+use Rattle.validate_visit.specs.declared.op.AtomicOp.TheVariants.{AtomicNotify, AtomicWait, AtomicFence, AtomicLoad, AtomicStore, AtomicRmw, AtomicCmpxchg, Pause}
 use Rattle.validate_visit.specs.declared.op.ReferenceOp.{ReferenceOp}
 use Rattle.validate_visit.specs.declared.op.ReferenceOp.TheVariants.{RefNull, RefIsNull, RefFunc, RefAsNonNull, BrOnNull, BrOnNonNull}
 use Rattle.validate_visit.specs.declared.op.TableOp.{TableOp}
-use Rattle.validate_visit.specs.declared.op.TableOp.TheVariants.{TableGet, TableGrow, TableSize, TableInit, ElemDrop, TableCopy}
-use Rattle.validation_rules.specs.Access.{memory_index, copies}
+use Rattle.validate_visit.specs.declared.op.TableOp.TheVariants.{TableGet, TableSet, TableGrow, TableSize, TableFill, TableInit, ElemDrop, TableCopy}
+use Rattle.validation_rules.specs.Access.{memory_address_type, address_type, atomic_address_type, access_row, memory_copy_row_for}
 use Rattle.validation_rules.specs.Context.{ModuleContext, Signature, SubType, ValType, I32, I64, F32, F64, V128, Ref, BlockType, Empty, Val, FuncType, Context, block_signature, declared_signature}
-use Rattle.validation_rules.specs.Branches.{types_of, label_at}
-use Rattle.validation_rules.specs.Calls.{may_access, accessed, global_type, called, callee, tail_call}
+use Rattle.validation_rules.specs.Branches.{first_label_types, label_types_at}
+use Rattle.validation_rules.specs.Calls.{may_access, accessible_global, global_type, accessible_signature, callee, tail_call_row}
 use Rattle.validation_rules.specs.Indirect.{function_place, function_reference, typed_callee}
-use Rattle.validation_rules.specs.References.{without_null, is_null, non_null_above, br_on_null, last_reference, on_non_null, br_on_non_null, null_heap, null_gate, reference_row}
-use Rattle.validation_rules.specs.Tables.{accessed_table, table_type, inits, table_copies, table_row}
+use Rattle.validation_rules.specs.References.{without_null, null_test_pushes, non_null_pushes, br_on_null_row, last_reference, br_on_non_null_row_for, br_on_non_null_row, null_heap, is_null_gate_open, reference_row}
+use Rattle.validation_rules.specs.Tables.{accessible_table, table_type, table_init_row_for, table_copy_row_for, table_row}
 use Rattle.validation_rules.specs.Fits.{MaybeType, Bottom, UnknownRef, Known, fits}
-use Rattle.validation_rules.specs.Rows.{FrameKind, Block, If, Loop, is_loop, Head, params, results, label_by, Form, Flat, Opens, BeginsElse, BeginsCatch, Ends, Delegates, Plain, Row, Operator, gives, takes, guard}
-use Rattle.validation_rules.specs.Static.{Frame, State, bind, heads, set_in, onto, on_top, found, below_top, pushes_at, pushes_by, own_after, given_over, after_over, step, step_in, before, start}
-use Rattle.validation_rules.specs.Table.{plain, may_name, checked_block, opener, flat, alike, closing, looking, drops, selected, selects, by_lookup, gated, control_operator, numeric_row, convert_row, memory_row, atomic_row, operator, body}
-use Rattle.validation_rules.specs.Valid.{OperandIsValid, Resolves, BlockIsValid, FrameIsValid, HeadIsValid, PushesValid, StateIsValid, StepsKeepValid, TableKeepsValid}
+use Rattle.validation_rules.specs.Rows.{FrameKind, Block, If, Loop, is_loop, Head, params, results, Form, Flat, Opens, BeginsElse, BeginsCatch, Ends, Delegates, Plain, Row, Operator, pushed_for, operands_wanted, guard}
+use Rattle.validation_rules.specs.Static.{Frame, State, bind, heads, locals_set, onto, operands_on_top, operands_found, operands_below, pushed_by_form, pushed_by_row, operands_after, state_after_exit, state_after, step, step_in, before, start}
+use Rattle.validation_rules.specs.Table.{plain_row, may_name, checked_block, opener, flat_operator, row_operator, delimiter_operator, looking_row, drop_pushes, select_result, select_pushes, lookup_row, gated_operator, control_operator, numeric_row, convert_row, memory_row, atomic_row, ungated, operator, body}
+use Rattle.validation_rules.specs.Valid.{OperandIsValid, Resolves, BlockIsValid, FrameIsValid, StateIsValid, TableKeepsValid}
+use Rattle.validation_rules.proofs.Keeping.{HeadIsValid, PushesValid, StepsKeepValid}
 use Rattle.validation_rules.proofs.Below.{and_true}
-use Rattle.validation_rules.proofs.Steps.{some_injective, guard_some, bind_some, mapped_some, stepped}
+use Rattle.validation_rules.proofs.Steps.{label_by, some_injective, guard_some, bind_some, mapped_some, stepped}
 
 -- ---- lists
 
@@ -60,15 +72,15 @@ module _ (md : ModuleContext) where
   all_known [] h = tt
   all_known (t ∷ ts) h = (h.0, all_known ts h.1)
 
-  on_top_valid : (n : ℕ) (dead : Bool) (own : List MaybeType) → AllByRecursion (OperandIsValid md) own → AllByRecursion (OperandIsValid md) (on_top n dead own)
+  on_top_valid : (n : ℕ) (dead : Bool) (own : List MaybeType) → AllByRecursion (OperandIsValid md) own → AllByRecursion (OperandIsValid md) (operands_on_top n dead own)
   on_top_valid zero dead own h = tt
   on_top_valid (suc n) dead (x ∷ own) h = (h.0, on_top_valid n dead own h.1)
   on_top_valid (suc n) true [] h = (tt, on_top_valid n true [] tt)
   on_top_valid (suc n) false [] h = tt
 
   -- what is found in a frame of valid operands is valid
-  pub found_valid : (n : ℕ) (f : Frame) → AllByRecursion (OperandIsValid md) f.own → AllByRecursion (OperandIsValid md) (found n f)
-  found_valid n f h = all_onto (OperandIsValid md) (on_top n f.dead f.own) [] (on_top_valid n f.dead f.own h) tt
+  pub found_valid : (n : ℕ) (f : Frame) → AllByRecursion (OperandIsValid md) f.operands → AllByRecursion (OperandIsValid md) (operands_found n f)
+  found_valid n f h = all_onto (OperandIsValid md) (operands_on_top n f.dead f.operands) [] (on_top_valid n f.dead f.operands h) tt
 
   declared_params : IsLawful md → (i : ℕ) (o : Option SubType) → md.type_at i ≡ o → AllByRecursion (Valid md) (declared_signature o).params
   declared_params laws i None e = tt
@@ -104,12 +116,12 @@ module _ (cx : Context) (laws : IsLawful cx.of_module) where
   abbrev Both : State → Type 0
   Both s = Frames s.frames × Operands s.left
 
-  given_valid : (left : List MaybeType) (types : List ValType) (fs : List Frame) → AllByRecursion (Valid cx.of_module) types → Frames fs → Operands left → Both (given_over left types fs)
+  given_valid : (left : List MaybeType) (types : List ValType) (fs : List Frame) → AllByRecursion (Valid cx.of_module) types → Frames fs → Operands left → Both (state_after_exit left types fs)
   given_valid left types [] t h k = (tt, all_onto (OperandIsValid cx.of_module) (map Known types) left (all_known cx.of_module types t) k)
   given_valid left types (f ∷ fs) t h k =
-      ((record { block = h.0.block; own = all_onto (OperandIsValid cx.of_module) (map Known types) f.own (all_known cx.of_module types t) h.0.own }, h.1), k)
+      ((record { block = h.0.block; operands = all_onto (OperandIsValid cx.of_module) (map Known types) f.operands (all_known cx.of_module types t) h.0.operands }, h.1), k)
 
-  own_valid : (dead : Bool) (below pushed : List MaybeType) → Operands below → Operands pushed → Operands (own_after dead below pushed)
+  own_valid : (dead : Bool) (below pushed : List MaybeType) → Operands below → Operands pushed → Operands (operands_after dead below pushed)
   own_valid true below pushed b p = tt
   own_valid false below pushed b p = all_onto (OperandIsValid cx.of_module) pushed below p b
 
@@ -117,30 +129,30 @@ module _ (cx : Context) (laws : IsLawful cx.of_module) where
   opened_valid types t = all_onto (OperandIsValid cx.of_module) (map Known types) [] (all_known cx.of_module types t) tt
 
   -- what a row that holds gave: its premise, and its operands
-  by_premise : (r : Row) (hs : List Head) (set : List ℕ) (f : Frame) (pushed : List MaybeType) → pushes_by cx r hs set f ≡ Some pushed → (r.premise ≡ true) × (gives cx r.operands (found (takes r.operands) f) ≡ Some pushed)
+  by_premise : (r : Row) (hs : List Head) (set : List ℕ) (f : Frame) (pushed : List MaybeType) → pushed_by_row cx r hs set f ≡ Some pushed → (r.premise ≡ true) × (pushed_for cx r.type (operands_found (operands_wanted r.type) f) ≡ Some pushed)
   by_premise r hs set f pushed p = let g = guard_some _ _ _ p in ((and_true r.premise _ g.0).0, g.1)
 
   closing_premise : (premise rest : Bool) (pushed : List MaybeType) → guard (premise && rest) (Some []) ≡ Some pushed → premise ≡ true
   closing_premise premise rest pushed p = (and_true premise rest (guard_some _ _ _ p).0).0
 
-  after_valid : (op : Operator) → PushesValid cx op → (left : List MaybeType) (f : Frame) (fs : List Frame) (form : Form) → op.form ≡ form → (pushed : List MaybeType) → Frames (f ∷ fs) → Operands left → pushes_at cx (op.row (heads (f ∷ fs))) (heads (f ∷ fs)) (set_in (f ∷ fs)) f form ≡ Some pushed → Both (after_over left cx (op.row (heads (f ∷ fs))) (set_in (f ∷ fs)) f fs form pushed)
+  after_valid : (op : Operator) → PushesValid cx op → (left : List MaybeType) (f : Frame) (fs : List Frame) (form : Form) → op.form ≡ form → (pushed : List MaybeType) → Frames (f ∷ fs) → Operands left → pushed_by_form cx (op.row (heads (f ∷ fs))) (heads (f ∷ fs)) (locals_set (f ∷ fs)) f form ≡ Some pushed → Both (state_after left cx (op.row (heads (f ∷ fs))) (locals_set (f ∷ fs)) f fs form pushed)
   after_valid op v left f fs Flat e pushed h k p =
       let r = op.row (heads (f ∷ fs)) in
-      let g = by_premise r (heads (f ∷ fs)) (set_in (f ∷ fs)) f pushed p in
-      let n = takes r.operands in
-      let q = v.pushed (heads (f ∷ fs)) (found n f) pushed g.0 (heads_valid (f ∷ fs) h) (found_valid cx.of_module n f h.0.own) g.1 in
-      ((record { block = h.0.block; own = own_valid r.dead (below_top n f) pushed (all_drop (OperandIsValid cx.of_module) n f.own h.0.own) q }, h.1), k)
+      let g = by_premise r (heads (f ∷ fs)) (locals_set (f ∷ fs)) f pushed p in
+      let n = operands_wanted r.type in
+      let q = v.pushed (heads (f ∷ fs)) (operands_found n f) pushed g.0 (heads_valid (f ∷ fs) h) (found_valid cx.of_module n f h.0.operands) g.1 in
+      ((record { block = h.0.block; operands = own_valid r.ends_live (operands_below n f) pushed (all_drop (OperandIsValid cx.of_module) n f.operands h.0.operands) q }, h.1), k)
   after_valid op v left f fs (Opens o) e pushed h k p =
       let r = op.row (heads (f ∷ fs)) in
-      let g = by_premise r (heads (f ∷ fs)) (set_in (f ∷ fs)) f pushed p in
-      let n = takes r.operands in
+      let g = by_premise r (heads (f ∷ fs)) (locals_set (f ∷ fs)) f pushed p in
+      let n = operands_wanted r.type in
       let b = v.opened (heads (f ∷ fs)) o g.0 e in
-      ((record { block = b; own = opened_valid (params cx o) (params_valid cx.of_module laws cx.shared o.block_type b) }, (record { block = h.0.block; own = all_drop (OperandIsValid cx.of_module) n f.own h.0.own }, h.1)), k)
+      ((record { block = b; operands = opened_valid (params cx o) (params_valid cx.of_module laws cx.shared o.block_type b) }, (record { block = h.0.block; operands = all_drop (OperandIsValid cx.of_module) n f.operands h.0.operands }, h.1)), k)
   after_valid op v left f fs BeginsElse e pushed h k p =
-      ((record { block = h.0.block; own = opened_valid (params cx f.head) (params_valid cx.of_module laws cx.shared f.head.block_type h.0.block) }, h.1), k)
+      ((record { block = h.0.block; operands = opened_valid (params cx f.head) (params_valid cx.of_module laws cx.shared f.head.block_type h.0.block) }, h.1), k)
   after_valid op v left f fs (BeginsCatch all types) e pushed h k p =
       let t = v.begun (heads (f ∷ fs)) all types (closing_premise (op.row (heads (f ∷ fs))).premise _ pushed p) e in
-      ((record { block = h.0.block; own = opened_valid types t }, h.1), k)
+      ((record { block = h.0.block; operands = opened_valid types t }, h.1), k)
   after_valid op v left f fs Ends e pushed h k p =
       given_valid left (results cx f.head) fs (results_valid cx.of_module laws cx.shared f.head.block_type h.0.block) h.1 k
   after_valid op v left f fs Delegates e pushed h k p =
@@ -160,7 +172,7 @@ module _ (cx : Context) (laws : IsLawful cx.of_module) where
   -- ---- the operators of the table
 
   -- an operator with a plain row whose pushed types are valid where its premise holds
-  pub plain_valid : (premise : Bool) (reads sets : Option ℕ) (wanted push : List ValType) (dead : Bool) → (premise ≡ true → AllByRecursion (Valid cx.of_module) push) → PushesValid cx (alike (record { premise = premise; reads = reads; operands = Plain wanted [] push; sets = sets; targets = []; clauses = []; dead = dead }))
+  pub plain_valid : (premise : Bool) (reads sets : Option ℕ) (wanted push : List ValType) (dead : Bool) → (premise ≡ true → AllByRecursion (Valid cx.of_module) push) → PushesValid cx (row_operator (record { premise = premise; reads = reads; type = Plain wanted [] push; sets = sets; targets = []; clauses = []; ends_live = dead }))
   plain_valid premise reads sets wanted push dead h =
       record {
         pushed = λ hs xs pushed p v f g.
@@ -169,7 +181,7 @@ module _ (cx : Context) (laws : IsLawful cx.of_module) where
         begun = λ hs all types p e. absurd cc;
       }
 
-  drops_valid : (xs pushed : List MaybeType) → Operands xs → drops xs ≡ Some pushed → Operands pushed
+  drops_valid : (xs pushed : List MaybeType) → Operands xs → drop_pushes xs ≡ Some pushed → Operands pushed
   drops_valid (x ∷ []) pushed v e = subst Operands (some_injective _ _ e) tt
   drops_valid [] pushed v e = absurd cc
   drops_valid (x ∷ y ∷ xs) pushed v e = absurd cc
@@ -177,7 +189,7 @@ module _ (cx : Context) (laws : IsLawful cx.of_module) where
   nothing_pushed : (pushed : List MaybeType) (b : Bool) → guard b (Some []) ≡ Some pushed → Operands pushed
   nothing_pushed pushed b g = subst Operands (some_injective _ _ (guard_some _ _ _ g).1) tt
 
-  else_valid : PushesValid cx (closing BeginsElse true)
+  else_valid : PushesValid cx (delimiter_operator BeginsElse true)
   else_valid =
       record {
         pushed = λ hs xs pushed p v f g. nothing_pushed pushed _ g;
@@ -185,7 +197,7 @@ module _ (cx : Context) (laws : IsLawful cx.of_module) where
         begun = λ hs all types p e. absurd cc;
       }
 
-  end_valid : PushesValid cx (closing Ends true)
+  end_valid : PushesValid cx (delimiter_operator Ends true)
   end_valid =
       record {
         pushed = λ hs xs pushed p v f g. nothing_pushed pushed _ g;
@@ -194,15 +206,15 @@ module _ (cx : Context) (laws : IsLawful cx.of_module) where
       }
 
   -- an operator that looks at valid operands
-  looks_valid : (premise : Bool) (n : ℕ) (gives : List MaybeType → Option (List MaybeType)) → ((xs pushed : List MaybeType) → Operands xs → gives xs ≡ Some pushed → Operands pushed) → PushesValid cx (alike (looking premise n gives))
-  looks_valid premise n gives h =
+  looks_valid : (premise : Bool) (n : ℕ) (pushed_for : List MaybeType → Option (List MaybeType)) → ((xs pushed : List MaybeType) → Operands xs → pushed_for xs ≡ Some pushed → Operands pushed) → PushesValid cx (row_operator (looking_row premise n pushed_for))
+  looks_valid premise n pushed_for h =
       record {
         pushed = λ hs xs pushed p v f g. h xs pushed f g;
         opened = λ hs k p e. absurd cc;
         begun = λ hs all types p e. absurd cc;
       }
 
-  selected_valid : (a b : MaybeType) (o : Option MaybeType) (ys : List MaybeType) → OperandIsValid cx.of_module a → OperandIsValid cx.of_module b → selected a b ≡ o → option_map (λ (x : MaybeType). x ∷ []) o ≡ Some ys → Operands ys
+  selected_valid : (a b : MaybeType) (o : Option MaybeType) (ys : List MaybeType) → OperandIsValid cx.of_module a → OperandIsValid cx.of_module b → select_result a b ≡ o → option_map (λ (x : MaybeType). x ∷ []) o ≡ Some ys → Operands ys
   selected_valid a b None ys v w e h = absurd cc
   selected_valid (UnknownRef a) b (Some x) ys v w e h = absurd cc
   selected_valid (Known t) (UnknownRef b) (Some x) ys v w e h = absurd cc
@@ -210,19 +222,19 @@ module _ (cx : Context) (laws : IsLawful cx.of_module) where
   selected_valid (Known t) Bottom (Some x) ys v w e h = subst Operands (some_injective _ _ h) (subst (OperandIsValid cx.of_module) (some_injective _ _ (guard_some _ _ _ e).1) v, tt)
   selected_valid (Known t) (Known u) (Some x) ys v w e h = subst Operands (some_injective _ _ h) (subst (OperandIsValid cx.of_module) (some_injective _ _ (guard_some _ _ _ e).1) v, tt)
 
-  selects_valid : (xs pushed : List MaybeType) → Operands xs → selects cx xs ≡ Some pushed → Operands pushed
-  selects_valid (a ∷ b ∷ c ∷ []) pushed v h = selected_valid a b (selected a b) pushed v.0 v.1.0 refl (guard_some _ _ _ h).1
+  selects_valid : (xs pushed : List MaybeType) → Operands xs → select_pushes cx xs ≡ Some pushed → Operands pushed
+  selects_valid (a ∷ b ∷ c ∷ []) pushed v h = selected_valid a b (select_result a b) pushed v.0 v.1.0 refl (guard_some _ _ _ h).1
   selects_valid [] pushed v h = absurd cc
   selects_valid (a ∷ []) pushed v h = absurd cc
   selects_valid (a ∷ b ∷ []) pushed v h = absurd cc
   selects_valid (a ∷ b ∷ c ∷ d ∷ xs) pushed v h = absurd cc
 
   -- an operator whose row is plain and depends on the open frames, where what it pushes is valid
-  flat_valid : (row : List Head → Row) (wanted push : List Head → List ValType) (also : List Head → List (List ValType)) → ((hs : List Head) → (row hs).operands ≡ Plain (wanted hs) (also hs) (push hs)) → ((hs : List Head) → AllByRecursion (HeadIsValid cx) hs → AllByRecursion (Valid cx.of_module) (push hs)) → PushesValid cx (flat row)
+  flat_valid : (row : List Head → Row) (wanted push : List Head → List ValType) (also : List Head → List (List ValType)) → ((hs : List Head) → (row hs).type ≡ Plain (wanted hs) (also hs) (push hs)) → ((hs : List Head) → AllByRecursion (HeadIsValid cx) hs → AllByRecursion (Valid cx.of_module) (push hs)) → PushesValid cx (flat_operator row)
   flat_valid row wanted push also is h =
       record {
         pushed = λ hs xs pushed p v f g.
-            let k : gives cx (Plain (wanted hs) (also hs) (push hs)) xs ≡ Some pushed = ap (λ o. gives cx o xs) (sym (is hs)) ∙ g in
+            let k : pushed_for cx (Plain (wanted hs) (also hs) (push hs)) xs ≡ Some pushed = ap (λ o. pushed_for cx o xs) (sym (is hs)) ∙ g in
             subst Operands (some_injective _ _ (guard_some _ _ _ k).1) (all_known cx.of_module (push hs) (h hs v));
         opened = λ hs k p e. absurd cc;
         begun = λ hs all types p e. absurd cc;
@@ -232,12 +244,12 @@ module _ (cx : Context) (laws : IsLawful cx.of_module) where
   label_valid true h v = params_valid cx.of_module laws cx.shared h.block_type v
   label_valid false h v = results_valid cx.of_module laws cx.shared h.block_type v
 
-  types_of_valid : (hs : List Head) → AllByRecursion (HeadIsValid cx) hs → AllByRecursion (Valid cx.of_module) (types_of cx hs)
+  types_of_valid : (hs : List Head) → AllByRecursion (HeadIsValid cx) hs → AllByRecursion (Valid cx.of_module) (first_label_types cx hs)
   types_of_valid [] v = tt
   types_of_valid (h ∷ hs) v = label_valid (is_loop h.kind) h v.0
 
   -- the types of a label are valid
-  pub label_at_valid : (hs : List Head) (d : ℕ) → AllByRecursion (HeadIsValid cx) hs → AllByRecursion (Valid cx.of_module) (label_at cx hs d)
+  pub label_at_valid : (hs : List Head) (d : ℕ) → AllByRecursion (HeadIsValid cx) hs → AllByRecursion (Valid cx.of_module) (label_types_at cx hs d)
   label_at_valid hs d v = types_of_valid (drop d hs) (all_drop (HeadIsValid cx) d hs v)
 
   get_valid : (locals : List ValType) (i : ℕ) (t : ValType) → AllByRecursion (Valid cx.of_module) locals → slice_get locals i ≡ Some t → Valid cx.of_module t
@@ -246,7 +258,7 @@ module _ (cx : Context) (laws : IsLawful cx.of_module) where
   get_valid (u ∷ locals) zero t h e = subst (Valid cx.of_module) (some_injective u t e) h.0
   get_valid (u ∷ locals) (suc i) t h e = get_valid locals i t h.1 e
 
-  typed_valid : (premise : Bool) (o : Option ValType) (reads sets : Option ℕ) (wanted push : ValType → List ValType) → ((t : ValType) → o ≡ Some t → AllByRecursion (Valid cx.of_module) (push t)) → PushesValid cx (alike (by_lookup o (λ t. record { premise = premise; reads = reads; operands = Plain (wanted t) [] (push t); sets = sets; targets = []; clauses = []; dead = false })))
+  typed_valid : (premise : Bool) (o : Option ValType) (reads sets : Option ℕ) (wanted push : ValType → List ValType) → ((t : ValType) → o ≡ Some t → AllByRecursion (Valid cx.of_module) (push t)) → PushesValid cx (row_operator (lookup_row o (λ t. record { premise = premise; reads = reads; type = Plain (wanted t) [] (push t); sets = sets; targets = []; clauses = []; ends_live = false })))
   typed_valid premise None reads sets wanted push h = plain_valid false None None [] [] false (λ p. tt)
   typed_valid premise (Some t) reads sets wanted push h = plain_valid premise reads sets (wanted t) (push t) false (λ p. h t refl)
 
@@ -290,30 +302,30 @@ module _ (cx : Context) (laws : IsLawful cx.of_module) where
 
   global_valid : (i : ℕ) (g : GlobalType) → global_type cx i ≡ Some g → Valid cx.of_module g.content_type
   global_valid i g e =
-      let b = bind_some (cx.of_module.global_at i) (accessed cx) g e in
+      let b = bind_some (cx.of_module.global_at i) (accessible_global cx) g e in
       let k = guard_some (may_access cx b.0.shared) _ _ b.2 in
       subst (λ (h : GlobalType). Valid cx.of_module h.content_type) (some_injective _ _ k.1) (laws.globals i b.0 b.1)
 
   signature_valid : (f : ℕ) (s : Signature) → callee cx f ≡ Some s → AllByRecursion (Valid cx.of_module) s.results
   signature_valid f s e =
-      let b = bind_some (bind (cx.of_module.type_index_of f) cx.of_module.type_at) (called cx) s e in
+      let b = bind_some (bind (cx.of_module.type_index_of f) cx.of_module.type_at) (accessible_signature cx) s e in
       let i = bind_some (cx.of_module.type_index_of f) cx.of_module.type_at b.0 b.1 in
       let k = guard_some (may_access cx b.0.composite_type.shared) _ _ b.2 in
       subst (λ (t : Signature). AllByRecursion (Valid cx.of_module) t.results) (some_injective _ _ k.1) (laws.results i.0 b.0 i.2)
 
-  global_get_valid : (i : ℕ) (o : Option GlobalType) → global_type cx i ≡ o → PushesValid cx (alike (by_lookup o (λ g. plain true [] (g.content_type ∷ []))))
+  global_get_valid : (i : ℕ) (o : Option GlobalType) → global_type cx i ≡ o → PushesValid cx (row_operator (lookup_row o (λ g. plain_row true [] (g.content_type ∷ []))))
   global_get_valid i None e = plain_valid _ _ _ _ _ _ (λ p. tt)
   global_get_valid i (Some g) e = plain_valid _ _ _ _ _ _ (λ p. (global_valid i g e, tt))
 
-  global_set_valid : (o : Option GlobalType) → PushesValid cx (alike (by_lookup o (λ g. plain g.mutable (g.content_type ∷ []) [])))
+  global_set_valid : (o : Option GlobalType) → PushesValid cx (row_operator (lookup_row o (λ g. plain_row g.mutable (g.content_type ∷ []) [])))
   global_set_valid None = plain_valid _ _ _ _ [] _ (λ p. tt)
   global_set_valid (Some g) = plain_valid _ _ _ _ [] _ (λ p. tt)
 
-  call_valid : (f : ℕ) (o : Option Signature) → callee cx f ≡ o → PushesValid cx (alike (by_lookup o (λ s. plain true s.params s.results)))
+  call_valid : (f : ℕ) (o : Option Signature) → callee cx f ≡ o → PushesValid cx (row_operator (lookup_row o (λ s. plain_row true s.params s.results)))
   call_valid f None e = plain_valid _ _ _ _ [] _ (λ p. tt)
   call_valid f (Some s) e = plain_valid _ _ _ _ s.results _ (λ p. signature_valid f s e)
 
-  return_call_valid : (o : Option Signature) → PushesValid cx (flat (λ hs. gated cx TailCall (by_lookup o (λ s. tail_call cx hs s.params s.results))))
+  return_call_valid : (o : Option Signature) → PushesValid cx (flat_operator (λ hs. lookup_row o (λ s. tail_call_row cx hs s.params s.results)))
   return_call_valid None = flat_valid _ (λ hs. []) (λ hs. []) (λ hs. []) (λ hs. refl) (λ hs v. tt)
   return_call_valid (Some s) = flat_valid _ (λ hs. s.params) (λ hs. []) (λ hs. []) (λ hs. refl) (λ hs v. tt)
 
@@ -321,19 +333,19 @@ module _ (cx : Context) (laws : IsLawful cx.of_module) where
 
   typed_signature_valid : (i : ℕ) (s : Signature) → typed_callee cx i ≡ Some s → AllByRecursion (Valid cx.of_module) s.results
   typed_signature_valid i s e =
-      let b = bind_some (cx.of_module.type_at i) (called cx) s e in
+      let b = bind_some (cx.of_module.type_at i) (accessible_signature cx) s e in
       let k = guard_some (may_access cx b.0.composite_type.shared) _ _ b.2 in
       subst (λ (t : Signature). AllByRecursion (Valid cx.of_module) t.results) (some_injective _ _ k.1) (laws.results i b.0 b.1)
 
-  call_by_valid : (gate : Gate) (names : Option ValType) (i : ℕ) (o : Option Signature) → typed_callee cx i ≡ o → PushesValid cx (alike (gated cx gate (by_lookup names (λ t. by_lookup o (λ s. plain true (s.params ++ t ∷ []) s.results)))))
-  call_by_valid gate None i o e = plain_valid _ None None [] [] false (λ p. tt)
-  call_by_valid gate (Some t) i None e = plain_valid _ None None [] [] false (λ p. tt)
-  call_by_valid gate (Some t) i (Some s) e = plain_valid _ None None _ s.results false (λ p. typed_signature_valid i s e)
+  call_by_valid : (names : Option ValType) (i : ℕ) (o : Option Signature) → typed_callee cx i ≡ o → PushesValid cx (row_operator (lookup_row names (λ t. lookup_row o (λ s. plain_row true (s.params ++ t ∷ []) s.results))))
+  call_by_valid None i o e = plain_valid _ None None [] [] false (λ p. tt)
+  call_by_valid (Some t) i None e = plain_valid _ None None [] [] false (λ p. tt)
+  call_by_valid (Some t) i (Some s) e = plain_valid _ None None _ s.results false (λ p. typed_signature_valid i s e)
 
-  return_call_by_valid : (gate : Gate) (names : Option ValType) (o : Option Signature) → PushesValid cx (flat (λ hs. gated cx gate (by_lookup names (λ t. by_lookup o (λ s. tail_call cx hs (s.params ++ t ∷ []) s.results)))))
-  return_call_by_valid gate None o = flat_valid _ (λ hs. []) (λ hs. []) (λ hs. []) (λ hs. refl) (λ hs v. tt)
-  return_call_by_valid gate (Some t) None = flat_valid _ (λ hs. []) (λ hs. []) (λ hs. []) (λ hs. refl) (λ hs v. tt)
-  return_call_by_valid gate (Some t) (Some s) = flat_valid _ (λ hs. s.params ++ t ∷ []) (λ hs. []) (λ hs. []) (λ hs. refl) (λ hs v. tt)
+  return_call_by_valid : (names : Option ValType) (o : Option Signature) → PushesValid cx (flat_operator (λ hs. lookup_row names (λ t. lookup_row o (λ s. tail_call_row cx hs (s.params ++ t ∷ []) s.results))))
+  return_call_by_valid None o = flat_valid _ (λ hs. []) (λ hs. []) (λ hs. []) (λ hs. refl) (λ hs v. tt)
+  return_call_by_valid (Some t) None = flat_valid _ (λ hs. []) (λ hs. []) (λ hs. []) (λ hs. refl) (λ hs v. tt)
+  return_call_by_valid (Some t) (Some s) = flat_valid _ (λ hs. s.params ++ t ∷ []) (λ hs. []) (λ hs. []) (λ hs. refl) (λ hs v. tt)
 
   control_valid : (op : ControlOp) → AllByRecursion (Valid cx.of_module) cx.locals → PushesValid cx (control_operator cx op)
   control_valid Unreachable l = plain_valid _ _ _ _ [] _ (λ p. tt)
@@ -343,21 +355,21 @@ module _ (cx : Context) (laws : IsLawful cx.of_module) where
   control_valid (IfOp bt) l = opener_valid If (I32 ∷ []) bt (checked_block cx bt) refl
   control_valid ElseOp l = else_valid
   control_valid End l = end_valid
-  control_valid (Br d) l = flat_valid _ (λ hs. label_at cx hs d) (λ hs. []) (λ hs. []) (λ hs. refl) (λ hs v. tt)
-  control_valid (BrIf d) l = flat_valid _ (λ hs. label_at cx hs d ++ I32 ∷ []) (λ hs. label_at cx hs d) (λ hs. []) (λ hs. refl) (λ hs v. label_at_valid hs d v)
+  control_valid (Br d) l = flat_valid _ (λ hs. label_types_at cx hs d) (λ hs. []) (λ hs. []) (λ hs. refl) (λ hs v. tt)
+  control_valid (BrIf d) l = flat_valid _ (λ hs. label_types_at cx hs d ++ I32 ∷ []) (λ hs. label_types_at cx hs d) (λ hs. []) (λ hs. refl) (λ hs v. label_at_valid hs d v)
   control_valid (BrTable table) l =
-      flat_valid _ (λ hs. label_at cx hs table.default ++ I32 ∷ []) (λ hs. []) (λ hs. map (λ e. label_at cx hs e ++ I32 ∷ []) table.targets.now) (λ hs. refl) (λ hs v. tt)
-  control_valid Return l = flat_valid _ (λ hs. label_at cx hs (pred (length hs))) (λ hs. []) (λ hs. []) (λ hs. refl) (λ hs v. tt)
+      flat_valid _ (λ hs. label_types_at cx hs table.default ++ I32 ∷ []) (λ hs. []) (λ hs. map (λ e. label_types_at cx hs e ++ I32 ∷ []) table.targets.now) (λ hs. refl) (λ hs v. tt)
+  control_valid Return l = flat_valid _ (λ hs. label_types_at cx hs (pred (length hs))) (λ hs. []) (λ hs. []) (λ hs. refl) (λ hs v. tt)
   control_valid (Call f) l = call_valid f (callee cx f) refl
   control_valid (ReturnCall f) l = return_call_valid (callee cx f)
-  control_valid (CallIndirect type table) l = call_by_valid Mvp (function_place cx table) type (typed_callee cx type) refl
-  control_valid (ReturnCallIndirect type table) l = return_call_by_valid TailCall (function_place cx table) (typed_callee cx type)
-  control_valid (CallRef type) l = call_by_valid FunctionReferences (function_reference cx type) type (typed_callee cx type) refl
-  control_valid (ReturnCallRef type) l = return_call_by_valid FunctionReferences (function_reference cx type) (typed_callee cx type)
-  control_valid Drop l = looks_valid true 1 drops drops_valid
-  control_valid Select l = looks_valid true 3 (selects cx) selects_valid
+  control_valid (CallIndirect type table) l = call_by_valid (function_place cx table) type (typed_callee cx type) refl
+  control_valid (ReturnCallIndirect type table) l = return_call_by_valid (function_place cx table) (typed_callee cx type)
+  control_valid (CallRef type) l = call_by_valid (function_reference cx type) type (typed_callee cx type) refl
+  control_valid (ReturnCallRef type) l = return_call_by_valid (function_reference cx type) (typed_callee cx type)
+  control_valid Drop l = looks_valid true 1 drop_pushes drops_valid
+  control_valid Select l = looks_valid true 3 (select_pushes cx) selects_valid
   control_valid (TypedSelect t) l =
-      typed_valid (is_open cx.features ReferenceTypes) (cx.of_module.canonical cx.features t) None None (λ u. u ∷ u ∷ I32 ∷ []) (λ u. u ∷ []) (λ u e. (laws.checked cx.features t u e, tt))
+      typed_valid true (cx.of_module.canonical cx.features t) None None (λ u. u ∷ u ∷ I32 ∷ []) (λ u. u ∷ []) (λ u e. (laws.checked cx.features t u e, tt))
   control_valid (TypedSelectMulti ts) l = plain_valid _ _ _ _ [] _ (λ p. tt)
   control_valid (LocalGet i) l = typed_valid true (slice_get cx.locals i) (Some i) None (λ t. []) (λ t. t ∷ []) (λ t e. (get_valid cx.locals i t l e, tt))
   control_valid (LocalSet i) l = typed_valid true (slice_get cx.locals i) None (Some i) (λ t. t ∷ []) (λ t. []) (λ t e. tt)
@@ -381,7 +393,7 @@ module _ (cx : Context) (laws : IsLawful cx.of_module) where
       let a = and_true (is_number t) _ h in
       (number_valid t a.0, numbers_valid ts a.1)
 
-  numbers_pushed : (premise : Bool) (reads sets : Option ℕ) (wanted push : List ValType) (dead : Bool) → list_all is_number push ≡ true → PushesValid cx (alike (record { premise = premise; reads = reads; operands = Plain wanted [] push; sets = sets; targets = []; clauses = []; dead = dead }))
+  numbers_pushed : (premise : Bool) (reads sets : Option ℕ) (wanted push : List ValType) (dead : Bool) → list_all is_number push ≡ true → PushesValid cx (row_operator (record { premise = premise; reads = reads; type = Plain wanted [] push; sets = sets; targets = []; clauses = []; ends_live = dead }))
   numbers_pushed premise reads sets wanted push dead h = plain_valid premise reads sets wanted push dead (λ p. numbers_valid push h)
 
   index_is_number : (t : ValType) → is_index_type t ≡ true → is_number t ≡ true
@@ -389,53 +401,87 @@ module _ (cx : Context) (laws : IsLawful cx.of_module) where
   index_is_number I64 h = refl
   index_is_number _ h = absurd cc
 
-  -- every row of the group pushes one number, or two
-  numeric_valid : (op : NumericOp) → PushesValid cx (alike (numeric_row cx op))
-  numeric_valid (I32Const x) = plain_valid _ _ _ _ _ _ (λ p. (refl, tt))
-  numeric_valid (I64Const x) = plain_valid _ _ _ _ _ _ (λ p. (refl, tt))
-  numeric_valid (F32Const x) = plain_valid _ _ _ _ _ _ (λ p. (refl, tt))
-  numeric_valid (F64Const x) = plain_valid _ _ _ _ _ _ (λ p. (refl, tt))
-  numeric_valid I64Add128 = plain_valid _ _ _ _ _ _ (λ p. (refl, (refl, tt)))
-  numeric_valid I64Sub128 = plain_valid _ _ _ _ _ _ (λ p. (refl, (refl, tt)))
-  numeric_valid I64MulWideS = plain_valid _ _ _ _ _ _ (λ p. (refl, (refl, tt)))
-  numeric_valid I64MulWideU = plain_valid _ _ _ _ _ _ (λ p. (refl, (refl, tt)))
-  numeric_valid _ = plain_valid _ _ _ _ _ _ (λ p. (refl, tt))
+  number_is_valid : (t : NumberType) → Valid cx.of_module (number_type t)
+  number_is_valid NumberI32 = refl
+  number_is_valid NumberI64 = refl
+  number_is_valid NumberF32 = refl
+  number_is_valid NumberF64 = refl
 
-  convert_valid : (op : ConvertOp) → PushesValid cx (alike (convert_row cx op))
-  convert_valid I32WrapI64 = plain_valid _ _ _ _ _ _ (λ p. (refl, tt))
-  convert_valid _ = plain_valid _ _ _ _ _ _ (λ p. (refl, tt))
+  integer_is_valid : (t : IntegerType) → Valid cx.of_module (integer_type t)
+  integer_is_valid IntegerI32 = refl
+  integer_is_valid IntegerI64 = refl
+
+  float_is_valid : (t : FloatType) → Valid cx.of_module (float_type t)
+  float_is_valid FloatF32 = refl
+  float_is_valid FloatF64 = refl
+
+  packed_is_valid : (packed : PackedInteger) → Valid cx.of_module (packed_type packed)
+  packed_is_valid I32Bits8 = refl
+  packed_is_valid I32Bits16 = refl
+  packed_is_valid I64Bits8 = refl
+  packed_is_valid I64Bits16 = refl
+  packed_is_valid I64Bits32 = refl
+
+  access_is_valid : (access : AtomicAccess) → Valid cx.of_module (access_type access)
+  access_is_valid (Whole t) = integer_is_valid t
+  access_is_valid (Packed packed) = packed_is_valid packed
+
+  -- every row of the group pushes one number, or two
+  numeric_valid : (op : NumericOp) → PushesValid cx (row_operator (numeric_row op))
+  numeric_valid (IntegerUnary t op) = plain_valid _ _ _ _ _ _ (λ p. (integer_is_valid t, tt))
+  numeric_valid (IntegerBinary t op) = plain_valid _ _ _ _ _ _ (λ p. (integer_is_valid t, tt))
+  numeric_valid (FloatUnary t op) = plain_valid _ _ _ _ _ _ (λ p. (float_is_valid t, tt))
+  numeric_valid (FloatBinary t op) = plain_valid _ _ _ _ _ _ (λ p. (float_is_valid t, tt))
+  numeric_valid _ = numbers_pushed _ _ _ _ _ _ refl
+
+  convert_valid : (op : ConvertOp) → PushesValid cx (row_operator (convert_row op))
+  convert_valid (ExtendPacked packed) = plain_valid _ _ _ _ _ _ (λ p. (packed_is_valid packed, tt))
+  convert_valid (Trunc into from sign) = plain_valid _ _ _ _ _ _ (λ p. (integer_is_valid into, tt))
+  convert_valid (TruncSat into from sign) = plain_valid _ _ _ _ _ _ (λ p. (integer_is_valid into, tt))
+  convert_valid (ConvertInteger into from sign) = plain_valid _ _ _ _ _ _ (λ p. (float_is_valid into, tt))
+  convert_valid (Reinterpret into) = plain_valid _ _ _ _ _ _ (λ p. (number_is_valid into, tt))
+  convert_valid _ = numbers_pushed _ _ _ _ _ _ refl
 
   -- a row for an address, or for what else was found, is one for the type of it
-  by_lookup_valid : {A : Type 0} (gate : Gate) (o : Option A) (row : A → Row) → ((t : A) → o ≡ Some t → PushesValid cx (alike (gated cx gate (row t)))) → PushesValid cx (alike (gated cx gate (by_lookup o row)))
-  by_lookup_valid gate None row h = plain_valid _ None None [] [] false (λ p. tt)
-  by_lookup_valid gate (Some t) row h = h t refl
+  by_lookup_valid : {A : Type 0} (o : Option A) (row : A → Row) → ((t : A) → o ≡ Some t → PushesValid cx (row_operator (row t))) → PushesValid cx (row_operator (lookup_row o row))
+  by_lookup_valid None row h = plain_valid _ None None [] [] false (λ p. tt)
+  by_lookup_valid (Some t) row h = h t refl
 
   -- the types of addresses are numbers
-  index_valid : (m : ℕ) (t : ValType) → memory_index cx.of_module m ≡ Some t → Valid cx.of_module t
+  index_valid : (m : ℕ) (t : ValType) → memory_address_type cx.of_module m ≡ Some t → Valid cx.of_module t
   index_valid m t e = by (cx.of_module.memory_at m) refl e
     where
       by : (o : Option MemoryType) → cx.of_module.memory_at m ≡ o → option_map index_type o ≡ Some t → Valid cx.of_module t
       by None k h = absurd cc
       by (Some ty) k h = subst (Valid cx.of_module) (some_injective _ _ h) (number_valid (index_type ty) (index_is_number (index_type ty) (laws.memory_index m ty k)))
 
-  memory_valid : (op : MemoryOp) → PushesValid cx (alike (memory_row cx op))
-  memory_valid (F32Load arg) = by_lookup_valid Floats _ _ (λ t e. numbers_pushed _ _ _ _ _ _ refl)
-  memory_valid (F64Load arg) = by_lookup_valid Floats _ _ (λ t e. numbers_pushed _ _ _ _ _ _ refl)
-  memory_valid (F32Store arg) = by_lookup_valid Floats _ _ (λ t e. numbers_pushed _ _ _ _ _ _ refl)
-  memory_valid (F64Store arg) = by_lookup_valid Floats _ _ (λ t e. numbers_pushed _ _ _ _ _ _ refl)
-  memory_valid (MemorySize m) = by_lookup_valid Mvp _ _ (λ t e. plain_valid _ _ _ _ _ _ (λ p. (index_valid m t e, tt)))
-  memory_valid (MemoryGrow m) = by_lookup_valid Mvp _ _ (λ t e. plain_valid _ _ _ _ _ _ (λ p. (index_valid m t e, tt)))
-  memory_valid (MemoryInit segment m) = by_lookup_valid BulkMemory _ _ (λ t e. numbers_pushed _ _ _ _ _ _ refl)
-  memory_valid (DataDrop segment) = numbers_pushed _ _ _ _ _ _ refl
-  memory_valid (MemoryCopy dst src) = by_lookup_valid BulkMemoryOpt _ (λ t. by_lookup (memory_index cx.of_module src) (copies t)) (λ t e. by_lookup_valid BulkMemoryOpt _ (copies t) (λ u k. numbers_pushed _ _ _ _ _ _ refl))
-  memory_valid (MemoryFill m) = by_lookup_valid BulkMemoryOpt _ _ (λ t e. numbers_pushed _ _ _ _ _ _ refl)
-  memory_valid (MemoryDiscard m) = by_lookup_valid MemoryControl _ _ (λ t e. numbers_pushed _ _ _ _ _ _ refl)
-  memory_valid _ = by_lookup_valid Mvp _ _ (λ t e. numbers_pushed _ _ _ _ _ _ refl)
+  -- accesses push what they read, if anything
+  access_valid : (o : Option ValType) (above push : List ValType) → AllByRecursion (Valid cx.of_module) push → PushesValid cx (row_operator (access_row o above push))
+  access_valid None above push h = plain_valid _ None None [] [] false (λ p. tt)
+  access_valid (Some it) above push h = plain_valid _ None None (it ∷ above) push false (λ p. h)
 
-  atomic_valid : (op : AtomicOp) → PushesValid cx (alike (atomic_row cx op))
+  memory_valid : (op : MemoryOp) → PushesValid cx (row_operator (memory_row cx op))
+  memory_valid (Load t arg) = access_valid (address_type cx.of_module arg) [] (number_type t ∷ []) (number_is_valid t, tt)
+  memory_valid (LoadPacked packed sign arg) = access_valid (address_type cx.of_module arg) [] (packed_type packed ∷ []) (packed_is_valid packed, tt)
+  memory_valid (Store t arg) = access_valid (address_type cx.of_module arg) (number_type t ∷ []) [] tt
+  memory_valid (StorePacked packed arg) = access_valid (address_type cx.of_module arg) (packed_type packed ∷ []) [] tt
+  memory_valid (MemorySize m) = by_lookup_valid (memory_address_type cx.of_module m) _ (λ t e. plain_valid _ _ _ _ _ _ (λ p. (index_valid m t e, tt)))
+  memory_valid (MemoryGrow m) = by_lookup_valid (memory_address_type cx.of_module m) _ (λ t e. plain_valid _ _ _ _ _ _ (λ p. (index_valid m t e, tt)))
+  memory_valid (MemoryInit segment m) = by_lookup_valid (memory_address_type cx.of_module m) _ (λ t e. numbers_pushed _ _ _ _ _ _ refl)
+  memory_valid (DataDrop segment) = numbers_pushed _ _ _ _ _ _ refl
+  memory_valid (MemoryCopy dst src) = by_lookup_valid (memory_address_type cx.of_module dst) (λ t. lookup_row (memory_address_type cx.of_module src) (memory_copy_row_for t)) (λ t e. by_lookup_valid _ (memory_copy_row_for t) (λ u k. numbers_pushed _ _ _ _ _ _ refl))
+  memory_valid (MemoryFill m) = by_lookup_valid (memory_address_type cx.of_module m) _ (λ t e. numbers_pushed _ _ _ _ _ _ refl)
+  memory_valid (MemoryDiscard m) = by_lookup_valid (memory_address_type cx.of_module m) _ (λ t e. numbers_pushed _ _ _ _ _ _ refl)
+
+  atomic_valid : (op : AtomicOp) → PushesValid cx (row_operator (atomic_row cx op))
+  atomic_valid (AtomicNotify arg) = access_valid (atomic_address_type cx.of_module arg) (I32 ∷ []) (I32 ∷ []) (refl, tt)
+  atomic_valid (AtomicWait t arg) = access_valid (atomic_address_type cx.of_module arg) (integer_type t ∷ I64 ∷ []) (I32 ∷ []) (refl, tt)
   atomic_valid (AtomicFence ordering) = numbers_pushed _ _ _ _ _ _ refl
+  atomic_valid (AtomicLoad access arg) = access_valid (atomic_address_type cx.of_module arg) [] (access_type access ∷ []) (access_is_valid access, tt)
+  atomic_valid (AtomicStore access arg) = access_valid (atomic_address_type cx.of_module arg) (access_type access ∷ []) [] tt
+  atomic_valid (AtomicRmw access op arg) = access_valid (atomic_address_type cx.of_module arg) (access_type access ∷ []) (access_type access ∷ []) (access_is_valid access, tt)
+  atomic_valid (AtomicCmpxchg access arg) = access_valid (atomic_address_type cx.of_module arg) (access_type access ∷ access_type access ∷ []) (access_type access ∷ []) (access_is_valid access, tt)
   atomic_valid Pause = numbers_pushed _ _ _ _ _ _ refl
-  atomic_valid _ = by_lookup_valid Threads _ _ (λ t e. numbers_pushed _ _ _ _ _ _ refl)
 
   -- ---- references
 
@@ -445,12 +491,12 @@ module _ (cx : Context) (laws : IsLawful cx.of_module) where
   without_null_valid (Known (Ref r)) y v e = subst (OperandIsValid cx.of_module) (some_injective _ _ e) v
   without_null_valid (Known _) y v e = absurd cc
 
-  is_null_valid : (xs pushed : List MaybeType) → Operands xs → is_null xs ≡ Some pushed → Operands pushed
+  is_null_valid : (xs pushed : List MaybeType) → Operands xs → null_test_pushes xs ≡ Some pushed → Operands pushed
   is_null_valid (x ∷ []) pushed v e = subst Operands (mapped_some _ (without_null x) pushed e).2 (refl, tt)
   is_null_valid [] pushed v e = absurd cc
   is_null_valid (x ∷ y ∷ xs) pushed v e = absurd cc
 
-  non_null_above_valid : (ts : List ValType) → AllByRecursion (Valid cx.of_module) ts → (xs pushed : List MaybeType) → Operands xs → non_null_above cx ts xs ≡ Some pushed → Operands pushed
+  non_null_above_valid : (ts : List ValType) → AllByRecursion (Valid cx.of_module) ts → (xs pushed : List MaybeType) → Operands xs → non_null_pushes cx ts xs ≡ Some pushed → Operands pushed
   non_null_above_valid [] h (x ∷ []) pushed v e =
       let m = mapped_some _ (without_null x) pushed e in
       subst Operands m.2 (without_null_valid x m.0 v.0 m.1, tt)
@@ -458,7 +504,7 @@ module _ (cx : Context) (laws : IsLawful cx.of_module) where
   non_null_above_valid [] h (x ∷ y ∷ xs) pushed v e = absurd cc
   non_null_above_valid (t ∷ ts) h [] pushed v e = absurd cc
   non_null_above_valid (t ∷ ts) h (x ∷ xs) pushed v e =
-      let m = mapped_some _ (non_null_above cx ts xs) pushed (guard_some (fits cx x t) _ _ e).1 in
+      let m = mapped_some _ (non_null_pushes cx ts xs) pushed (guard_some (fits cx x t) _ _ e).1 in
       subst Operands m.2 (h.0, non_null_above_valid ts h.1 xs m.0 v.1 m.1)
 
   -- the types before the last, which is a reference
@@ -478,37 +524,37 @@ module _ (cx : Context) (laws : IsLawful cx.of_module) where
       subst (λ (q : List ValType × RefType). Valid cx.of_module (Ref q.1)) m.2 (last_valid (u ∷ ts) m.0 h.1 m.1)
   last_valid (t ∷ []) p h e = absurd cc
 
-  br_on_null_valid : (d : ℕ) → PushesValid cx (flat (λ hs. gated cx FunctionReferences (br_on_null cx hs d)))
+  br_on_null_valid : (d : ℕ) → PushesValid cx (flat_operator (λ hs. br_on_null_row cx hs d))
   br_on_null_valid d =
       record {
-        pushed = λ hs xs pushed p v f g. non_null_above_valid (label_at cx hs d) (label_at_valid hs d v) xs pushed f g;
+        pushed = λ hs xs pushed p v f g. non_null_above_valid (label_types_at cx hs d) (label_at_valid hs d v) xs pushed f g;
         opened = λ hs k p e. absurd cc;
         begun = λ hs all types p e. absurd cc;
       }
 
-  br_on_non_null_valid : (d : ℕ) → PushesValid cx (flat (λ hs. gated cx FunctionReferences (br_on_non_null cx hs d)))
+  br_on_non_null_valid : (d : ℕ) → PushesValid cx (flat_operator (λ hs. br_on_non_null_row cx hs d))
   br_on_non_null_valid d =
       record {
-        pushed = λ hs xs pushed p v f g. by hs xs pushed (label_at_valid hs d v) (last_reference (label_at cx hs d)) refl g;
+        pushed = λ hs xs pushed p v f g. by hs xs pushed (label_at_valid hs d v) (last_reference (label_types_at cx hs d)) refl g;
         opened = λ hs k p e. absurd cc;
         begun = λ hs all types p e. absurd cc;
       }
     where
-      by : (hs : List Head) (xs pushed : List MaybeType) → AllByRecursion (Valid cx.of_module) (label_at cx hs d) → (o : Option (List ValType × RefType)) → last_reference (label_at cx hs d) ≡ o → gives cx (by_lookup o (on_non_null cx hs d)).operands xs ≡ Some pushed → Operands pushed
+      by : (hs : List Head) (xs pushed : List MaybeType) → AllByRecursion (Valid cx.of_module) (label_types_at cx hs d) → (o : Option (List ValType × RefType)) → last_reference (label_types_at cx hs d) ≡ o → pushed_for cx (lookup_row o (br_on_non_null_row_for cx hs d)).type xs ≡ Some pushed → Operands pushed
       by hs xs pushed v None k g = nothing_pushed pushed _ g
       by hs xs pushed v (Some p) k g =
-          subst Operands (some_injective _ _ (guard_some _ _ _ g).1) (all_known cx.of_module p.0 (before_last_valid (label_at cx hs d) p v k))
+          subst Operands (some_injective _ _ (guard_some _ _ _ g).1) (all_known cx.of_module p.0 (before_last_valid (label_types_at cx hs d) p v k))
 
-  null_valid : (h : HeapType) → PushesValid cx (flat (λ hs. reference_row cx hs (RefNull h)))
+  null_valid : (h : HeapType) → PushesValid cx (flat_operator (λ hs. reference_row cx hs (RefNull h)))
   null_valid h =
-      by_lookup_valid ReferenceTypes (null_heap cx h) _
-      (λ k e. plain_valid _ _ _ _ _ _ (λ p. ((laws.checked_heap h k (guard_some (null_gate cx h) _ _ e).1).is_valid, tt)))
+      by_lookup_valid (null_heap cx h) _
+      (λ k e. plain_valid _ _ _ _ _ _ (λ p. ((laws.checked_heap h k (guard_some (is_null_gate_open cx h) _ _ e).1).is_valid, tt)))
 
-  reference_valid : (op : ReferenceOp) → PushesValid cx (flat (λ hs. reference_row cx hs op))
+  reference_valid : (op : ReferenceOp) → PushesValid cx (flat_operator (λ hs. reference_row cx hs op))
   reference_valid (RefNull h) = null_valid h
-  reference_valid RefIsNull = looks_valid _ 1 is_null is_null_valid
-  reference_valid (RefFunc f) = by_lookup_valid ReferenceTypes (cx.of_module.type_id_of f) _ (λ id e. plain_valid _ _ _ _ _ _ (λ p. ((laws.functions f id e).is_valid, tt)))
-  reference_valid RefAsNonNull = looks_valid _ 1 (non_null_above cx []) (non_null_above_valid [] tt)
+  reference_valid RefIsNull = looks_valid _ 1 null_test_pushes is_null_valid
+  reference_valid (RefFunc f) = by_lookup_valid (cx.of_module.type_id_of f) _ (λ id e. plain_valid _ _ _ _ _ _ (λ p. ((laws.functions f id e).is_valid, tt)))
+  reference_valid RefAsNonNull = looks_valid _ 1 (non_null_pushes cx []) (non_null_above_valid [] tt)
   reference_valid (BrOnNull d) = br_on_null_valid d
   reference_valid (BrOnNonNull d) = br_on_non_null_valid d
 
@@ -516,30 +562,43 @@ module _ (cx : Context) (laws : IsLawful cx.of_module) where
 
   table_found : (i : ℕ) (t : TableType) → table_type cx i ≡ Some t → cx.of_module.table_at i ≡ Some t
   table_found i t e =
-      let b = bind_some (cx.of_module.table_at i) (accessed_table cx) t e in
+      let b = bind_some (cx.of_module.table_at i) (accessible_table cx) t e in
       let k = guard_some (may_access cx b.0.shared) _ _ b.2 in
       subst (λ u. cx.of_module.table_at i ≡ Some u) (some_injective _ _ k.1) b.1
 
   place_valid : (i : ℕ) (t : TableType) → table_type cx i ≡ Some t → Valid cx.of_module (table_index_type t)
   place_valid i t e = number_valid _ (index_is_number _ (laws.table_index i t (table_found i t e)))
 
-  table_valid : (op : TableOp) → PushesValid cx (alike (table_row cx op))
-  table_valid (TableGet i) = by_lookup_valid ReferenceTypes (table_type cx i) _ (λ t e. plain_valid _ _ _ _ _ _ (λ p. (laws.tables i t (table_found i t e), tt)))
-  table_valid (TableGrow i) = by_lookup_valid ReferenceTypes (table_type cx i) _ (λ t e. plain_valid _ _ _ _ _ _ (λ p. (place_valid i t e, tt)))
-  table_valid (TableSize i) = by_lookup_valid ReferenceTypes (table_type cx i) _ (λ t e. plain_valid _ _ _ _ _ _ (λ p. (place_valid i t e, tt)))
-  table_valid (TableInit segment i) = by_lookup_valid BulkMemory (table_type cx i) (λ t. by_lookup (cx.of_module.element_at segment) (inits cx t)) (λ t e. by_lookup_valid BulkMemory _ (inits cx t) (λ r k. numbers_pushed _ _ _ _ _ _ refl))
-  table_valid (ElemDrop segment) = by_lookup_valid BulkMemory (cx.of_module.element_at segment) _ (λ r e. numbers_pushed _ _ _ _ _ _ refl)
-  table_valid (TableCopy dst src) = by_lookup_valid BulkMemory (table_type cx src) (λ from. by_lookup (table_type cx dst) (table_copies cx from)) (λ from e. by_lookup_valid BulkMemory _ (table_copies cx from) (λ to k. numbers_pushed _ _ _ _ _ _ refl))
-  table_valid _ = by_lookup_valid ReferenceTypes _ _ (λ t e. numbers_pushed _ _ _ _ _ _ refl)
+  table_valid : (op : TableOp) → PushesValid cx (row_operator (table_row cx op))
+  table_valid (TableGet i) = by_lookup_valid (table_type cx i) _ (λ t e. plain_valid _ _ _ _ _ _ (λ p. (laws.tables i t (table_found i t e), tt)))
+  table_valid (TableGrow i) = by_lookup_valid (table_type cx i) _ (λ t e. plain_valid _ _ _ _ _ _ (λ p. (place_valid i t e, tt)))
+  table_valid (TableSize i) = by_lookup_valid (table_type cx i) _ (λ t e. plain_valid _ _ _ _ _ _ (λ p. (place_valid i t e, tt)))
+  table_valid (TableInit segment i) = by_lookup_valid (table_type cx i) (λ t. lookup_row (cx.of_module.element_at segment) (table_init_row_for cx t)) (λ t e. by_lookup_valid _ (table_init_row_for cx t) (λ r k. numbers_pushed _ _ _ _ _ _ refl))
+  table_valid (ElemDrop segment) = by_lookup_valid (cx.of_module.element_at segment) _ (λ r e. numbers_pushed _ _ _ _ _ _ refl)
+  table_valid (TableCopy dst src) = by_lookup_valid (table_type cx src) (λ from. lookup_row (table_type cx dst) (table_copy_row_for cx from)) (λ from e. by_lookup_valid _ (table_copy_row_for cx from) (λ to k. numbers_pushed _ _ _ _ _ _ refl))
+  table_valid (TableSet i) = by_lookup_valid (table_type cx i) _ (λ t e. numbers_pushed _ _ _ _ _ _ refl)
+  table_valid (TableFill i) = by_lookup_valid (table_type cx i) _ (λ t e. numbers_pushed _ _ _ _ _ _ refl)
+
+  ungated_valid : (op : Op) → AllByRecursion (Valid cx.of_module) cx.locals → PushesValid cx (ungated cx op)
+  ungated_valid (Control op) l = control_valid op l
+  ungated_valid (Numeric op) l = numeric_valid op
+  ungated_valid (Convert op) l = convert_valid op
+  ungated_valid (Memory op) l = memory_valid op
+  ungated_valid (Atomic op) l = atomic_valid op
+  ungated_valid (Reference op) l = reference_valid op
+  ungated_valid (Table op) l = table_valid op
+
+  -- a gate takes nothing away from that
+  behind_valid : (gate : Gate) (op : Operator) → PushesValid cx op → PushesValid cx (gated_operator cx gate op)
+  behind_valid gate op v =
+      record {
+        pushed = λ hs xs pushed p h f g. v.pushed hs xs pushed (and_true (is_open cx.features gate) _ p).1 h f g;
+        opened = λ hs h p e. v.opened hs h (and_true (is_open cx.features gate) _ p).1 e;
+        begun = λ hs all types p e. v.begun hs all types (and_true (is_open cx.features gate) _ p).1 e;
+      }
 
   pub operator_valid : (op : Op) → AllByRecursion (Valid cx.of_module) cx.locals → PushesValid cx (operator cx op)
-  operator_valid (Control op) l = control_valid op l
-  operator_valid (Numeric op) l = numeric_valid op
-  operator_valid (Convert op) l = convert_valid op
-  operator_valid (Memory op) l = memory_valid op
-  operator_valid (Atomic op) l = atomic_valid op
-  operator_valid (Reference op) l = reference_valid op
-  operator_valid (Table op) l = table_valid op
+  operator_valid op l = behind_valid (gate_of op) (ungated cx op) (ungated_valid op l)
 
 pub table_keeps_valid : (md : ModuleContext) → IsLawful md → TableKeepsValid md
 table_keeps_valid md laws cx op s u same h e =
@@ -549,10 +608,6 @@ table_keeps_valid md laws cx op s u same h e =
 -- ---- whole lists
 
 module _ (cx : Context) (laws : IsLawful cx.of_module) where
-  -- the state that a body starts in
-  pub start_valid : (ty : BlockType) → BlockIsValid cx.of_module cx.shared ty → AllByRecursion (Valid cx.of_module) cx.locals → StateIsValid cx (start ty)
-  start_valid ty b l = record { locals_valid = l; frames = (record { block = b; own = tt }, tt); left = tt }
-
   -- the state before each place of a list
   pub before_valid : (code : List Operator) (s : State) (k : ℕ) (t : State) → ((j : ℕ) (op : Operator) → slice_get code j ≡ Some op → PushesValid cx op) → StateIsValid cx s → before cx code s k ≡ Some t → StateIsValid cx t
   before_valid code s zero t each h e = subst (λ (v : State). StateIsValid cx v) (some_injective s t e) h
@@ -565,7 +620,3 @@ module _ (cx : Context) (laws : IsLawful cx.of_module) where
   body_each [] l j op e = absurd cc
   body_each (x ∷ ops) l zero op e = subst (PushesValid cx) (some_injective _ _ e) (operator_valid cx laws x l)
   body_each (x ∷ ops) l (suc j) op e = body_each ops l j op e
-
-  -- of a body of the table
-  pub body_before_valid : (ops : List Op) (s : State) (k : ℕ) (t : State) → StateIsValid cx s → before cx (body cx ops) s k ≡ Some t → StateIsValid cx t
-  body_before_valid ops s k t h e = before_valid (body cx ops) s k t (body_each ops h.locals_valid) h e

@@ -1,80 +1,24 @@
 -- The rows of atomic operators on memories (the threads proposal, "Validation"; `pause` and the weaker
 -- fence are those of the shared-everything-threads proposal).
 use Rattle.std.specs.Prelude.{true, []}
-use Rattle.validate_types.specs.declared.gate.Gate.TheVariants.{Threads, AcquireReleaseAtomics}
+use Rattle.validate_visit.specs.Numbers.{integer_type, access_type}
 use Rattle.validate_visit.specs.declared.op.AtomicOp.{AtomicOp}
-use Rattle.validate_visit.specs.declared.op.AtomicOp.TheVariants.{MemoryAtomicNotify, MemoryAtomicWait32, MemoryAtomicWait64, AtomicFence, I32AtomicLoad, I64AtomicLoad, I32AtomicLoad8U, I32AtomicLoad16U, I64AtomicLoad8U, I64AtomicLoad16U, I64AtomicLoad32U, I32AtomicStore, I64AtomicStore, I32AtomicStore8, I32AtomicStore16, I64AtomicStore8, I64AtomicStore16, I64AtomicStore32, I32AtomicRmwAdd, I64AtomicRmwAdd, I32AtomicRmw8AddU, I32AtomicRmw16AddU, I64AtomicRmw8AddU, I64AtomicRmw16AddU, I64AtomicRmw32AddU, I32AtomicRmwSub, I64AtomicRmwSub, I32AtomicRmw8SubU, I32AtomicRmw16SubU, I64AtomicRmw8SubU, I64AtomicRmw16SubU, I64AtomicRmw32SubU, I32AtomicRmwAnd, I64AtomicRmwAnd, I32AtomicRmw8AndU, I32AtomicRmw16AndU, I64AtomicRmw8AndU, I64AtomicRmw16AndU, I64AtomicRmw32AndU, I32AtomicRmwOr, I64AtomicRmwOr, I32AtomicRmw8OrU, I32AtomicRmw16OrU, I64AtomicRmw8OrU, I64AtomicRmw16OrU, I64AtomicRmw32OrU, I32AtomicRmwXor, I64AtomicRmwXor, I32AtomicRmw8XorU, I32AtomicRmw16XorU, I64AtomicRmw8XorU, I64AtomicRmw16XorU, I64AtomicRmw32XorU, I32AtomicRmwXchg, I64AtomicRmwXchg, I32AtomicRmw8XchgU, I32AtomicRmw16XchgU, I64AtomicRmw8XchgU, I64AtomicRmw16XchgU, I64AtomicRmw32XchgU, I32AtomicRmwCmpxchg, I64AtomicRmwCmpxchg, I32AtomicRmw8CmpxchgU, I32AtomicRmw16CmpxchgU, I64AtomicRmw8CmpxchgU, I64AtomicRmw16CmpxchgU, I64AtomicRmw32CmpxchgU, Pause}
-use Rattle.validation_rules.specs.Access.{atomic_load, atomic_store, atomic_rmw, atomic_cmpxchg, atomic_wait, atomic_notify, atomic_fence}
-use Rattle.validation_rules.specs.Context.{I32, I64, Context}
+use Rattle.validate_visit.specs.declared.op.AtomicOp.TheVariants.{AtomicNotify, AtomicWait, AtomicFence}
+use Rattle.validate_visit.specs.declared.op.AtomicOp.TheVariants.{AtomicLoad, AtomicStore, AtomicRmw}
+use Rattle.validate_visit.specs.declared.op.AtomicOp.TheVariants.{AtomicCmpxchg, Pause}
+use Rattle.validation_rules.specs.Access.{atomic_load_row, atomic_store_row, atomic_rmw_row}
+use Rattle.validation_rules.specs.Access.{atomic_cmpxchg_row, atomic_wait_row, atomic_notify_row}
+use Rattle.validation_rules.specs.Access.{atomic_fence_row}
+use Rattle.validation_rules.specs.Context.{Context}
 use Rattle.validation_rules.specs.Rows.{Row}
-use Rattle.validation_rules.specs.Shapes.{plain, gated}
+use Rattle.validation_rules.specs.Shapes.{plain_row}
 
 abbrev pub atomic_row : Context → AtomicOp → Row
-atomic_row cx (MemoryAtomicNotify arg) = gated cx Threads (atomic_notify cx arg)
-atomic_row cx (MemoryAtomicWait32 arg) = gated cx Threads (atomic_wait cx arg I32)
-atomic_row cx (MemoryAtomicWait64 arg) = gated cx Threads (atomic_wait cx arg I64)
-atomic_row cx (AtomicFence ordering) = gated cx Threads (atomic_fence cx ordering)
-atomic_row cx (I32AtomicLoad arg) = gated cx Threads (atomic_load cx arg I32)
-atomic_row cx (I64AtomicLoad arg) = gated cx Threads (atomic_load cx arg I64)
-atomic_row cx (I32AtomicLoad8U arg) = gated cx Threads (atomic_load cx arg I32)
-atomic_row cx (I32AtomicLoad16U arg) = gated cx Threads (atomic_load cx arg I32)
-atomic_row cx (I64AtomicLoad8U arg) = gated cx Threads (atomic_load cx arg I64)
-atomic_row cx (I64AtomicLoad16U arg) = gated cx Threads (atomic_load cx arg I64)
-atomic_row cx (I64AtomicLoad32U arg) = gated cx Threads (atomic_load cx arg I64)
-atomic_row cx (I32AtomicStore arg) = gated cx Threads (atomic_store cx arg I32)
-atomic_row cx (I64AtomicStore arg) = gated cx Threads (atomic_store cx arg I64)
-atomic_row cx (I32AtomicStore8 arg) = gated cx Threads (atomic_store cx arg I32)
-atomic_row cx (I32AtomicStore16 arg) = gated cx Threads (atomic_store cx arg I32)
-atomic_row cx (I64AtomicStore8 arg) = gated cx Threads (atomic_store cx arg I64)
-atomic_row cx (I64AtomicStore16 arg) = gated cx Threads (atomic_store cx arg I64)
-atomic_row cx (I64AtomicStore32 arg) = gated cx Threads (atomic_store cx arg I64)
-atomic_row cx (I32AtomicRmwAdd arg) = gated cx Threads (atomic_rmw cx arg I32)
-atomic_row cx (I64AtomicRmwAdd arg) = gated cx Threads (atomic_rmw cx arg I64)
-atomic_row cx (I32AtomicRmw8AddU arg) = gated cx Threads (atomic_rmw cx arg I32)
-atomic_row cx (I32AtomicRmw16AddU arg) = gated cx Threads (atomic_rmw cx arg I32)
-atomic_row cx (I64AtomicRmw8AddU arg) = gated cx Threads (atomic_rmw cx arg I64)
-atomic_row cx (I64AtomicRmw16AddU arg) = gated cx Threads (atomic_rmw cx arg I64)
-atomic_row cx (I64AtomicRmw32AddU arg) = gated cx Threads (atomic_rmw cx arg I64)
-atomic_row cx (I32AtomicRmwSub arg) = gated cx Threads (atomic_rmw cx arg I32)
-atomic_row cx (I64AtomicRmwSub arg) = gated cx Threads (atomic_rmw cx arg I64)
-atomic_row cx (I32AtomicRmw8SubU arg) = gated cx Threads (atomic_rmw cx arg I32)
-atomic_row cx (I32AtomicRmw16SubU arg) = gated cx Threads (atomic_rmw cx arg I32)
-atomic_row cx (I64AtomicRmw8SubU arg) = gated cx Threads (atomic_rmw cx arg I64)
-atomic_row cx (I64AtomicRmw16SubU arg) = gated cx Threads (atomic_rmw cx arg I64)
-atomic_row cx (I64AtomicRmw32SubU arg) = gated cx Threads (atomic_rmw cx arg I64)
-atomic_row cx (I32AtomicRmwAnd arg) = gated cx Threads (atomic_rmw cx arg I32)
-atomic_row cx (I64AtomicRmwAnd arg) = gated cx Threads (atomic_rmw cx arg I64)
-atomic_row cx (I32AtomicRmw8AndU arg) = gated cx Threads (atomic_rmw cx arg I32)
-atomic_row cx (I32AtomicRmw16AndU arg) = gated cx Threads (atomic_rmw cx arg I32)
-atomic_row cx (I64AtomicRmw8AndU arg) = gated cx Threads (atomic_rmw cx arg I64)
-atomic_row cx (I64AtomicRmw16AndU arg) = gated cx Threads (atomic_rmw cx arg I64)
-atomic_row cx (I64AtomicRmw32AndU arg) = gated cx Threads (atomic_rmw cx arg I64)
-atomic_row cx (I32AtomicRmwOr arg) = gated cx Threads (atomic_rmw cx arg I32)
-atomic_row cx (I64AtomicRmwOr arg) = gated cx Threads (atomic_rmw cx arg I64)
-atomic_row cx (I32AtomicRmw8OrU arg) = gated cx Threads (atomic_rmw cx arg I32)
-atomic_row cx (I32AtomicRmw16OrU arg) = gated cx Threads (atomic_rmw cx arg I32)
-atomic_row cx (I64AtomicRmw8OrU arg) = gated cx Threads (atomic_rmw cx arg I64)
-atomic_row cx (I64AtomicRmw16OrU arg) = gated cx Threads (atomic_rmw cx arg I64)
-atomic_row cx (I64AtomicRmw32OrU arg) = gated cx Threads (atomic_rmw cx arg I64)
-atomic_row cx (I32AtomicRmwXor arg) = gated cx Threads (atomic_rmw cx arg I32)
-atomic_row cx (I64AtomicRmwXor arg) = gated cx Threads (atomic_rmw cx arg I64)
-atomic_row cx (I32AtomicRmw8XorU arg) = gated cx Threads (atomic_rmw cx arg I32)
-atomic_row cx (I32AtomicRmw16XorU arg) = gated cx Threads (atomic_rmw cx arg I32)
-atomic_row cx (I64AtomicRmw8XorU arg) = gated cx Threads (atomic_rmw cx arg I64)
-atomic_row cx (I64AtomicRmw16XorU arg) = gated cx Threads (atomic_rmw cx arg I64)
-atomic_row cx (I64AtomicRmw32XorU arg) = gated cx Threads (atomic_rmw cx arg I64)
-atomic_row cx (I32AtomicRmwXchg arg) = gated cx Threads (atomic_rmw cx arg I32)
-atomic_row cx (I64AtomicRmwXchg arg) = gated cx Threads (atomic_rmw cx arg I64)
-atomic_row cx (I32AtomicRmw8XchgU arg) = gated cx Threads (atomic_rmw cx arg I32)
-atomic_row cx (I32AtomicRmw16XchgU arg) = gated cx Threads (atomic_rmw cx arg I32)
-atomic_row cx (I64AtomicRmw8XchgU arg) = gated cx Threads (atomic_rmw cx arg I64)
-atomic_row cx (I64AtomicRmw16XchgU arg) = gated cx Threads (atomic_rmw cx arg I64)
-atomic_row cx (I64AtomicRmw32XchgU arg) = gated cx Threads (atomic_rmw cx arg I64)
-atomic_row cx (I32AtomicRmwCmpxchg arg) = gated cx Threads (atomic_cmpxchg cx arg I32)
-atomic_row cx (I64AtomicRmwCmpxchg arg) = gated cx Threads (atomic_cmpxchg cx arg I64)
-atomic_row cx (I32AtomicRmw8CmpxchgU arg) = gated cx Threads (atomic_cmpxchg cx arg I32)
-atomic_row cx (I32AtomicRmw16CmpxchgU arg) = gated cx Threads (atomic_cmpxchg cx arg I32)
-atomic_row cx (I64AtomicRmw8CmpxchgU arg) = gated cx Threads (atomic_cmpxchg cx arg I64)
-atomic_row cx (I64AtomicRmw16CmpxchgU arg) = gated cx Threads (atomic_cmpxchg cx arg I64)
-atomic_row cx (I64AtomicRmw32CmpxchgU arg) = gated cx Threads (atomic_cmpxchg cx arg I64)
-atomic_row cx Pause = gated cx AcquireReleaseAtomics (plain true [] [])
+atomic_row cx (AtomicNotify arg) = atomic_notify_row cx arg
+atomic_row cx (AtomicWait t arg) = atomic_wait_row cx arg (integer_type t)
+atomic_row cx (AtomicFence ordering) = atomic_fence_row cx ordering
+atomic_row cx (AtomicLoad access arg) = atomic_load_row cx arg (access_type access)
+atomic_row cx (AtomicStore access arg) = atomic_store_row cx arg (access_type access)
+atomic_row cx (AtomicRmw access op arg) = atomic_rmw_row cx arg (access_type access)
+atomic_row cx (AtomicCmpxchg access arg) = atomic_cmpxchg_row cx arg (access_type access)
+atomic_row cx Pause = plain_row true [] []

@@ -9,7 +9,7 @@ pub use Rattle.validate_types.specs.declared.types.ValType.TheVariants.{I32, I64
 pub use Rattle.validate_visit.specs.declared.frame.BlockType.{BlockType}
 pub use Rattle.validate_visit.specs.declared.frame.BlockType.TheVariants.{Empty, Val, FuncType}
 use Rattle.std.specs.Prelude.{◌≡◌, ℕ, Bool, true, false, List, [], ◌∷◌, Option, Some, None, slice_index_or}
-use Rattle.validate_resources.specs.Context.{signature_of}
+use Rattle.validate_resources.specs.Context.{signature_of, IsTypeBelow}
 
 pub record Context : Type 0 where
   -- the module's look-ups, and the order on its types: false where either side isn't valid
@@ -25,7 +25,7 @@ pub record Context : Type 0 where
 
 -- one type below another (Specification, "Validation: Matching")
 abbrev pub IsBelow : Context → ValType → ValType → Type 0
-IsBelow cx t u = cx.of_module.below t u ≡ true
+IsBelow cx t u = IsTypeBelow cx.of_module t u
 
 -- as many, and each below its place (Specification, "Matching: Result Types")
 abbrev pub AllBelow : Context → List ValType → List ValType → Type 0

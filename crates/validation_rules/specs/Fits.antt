@@ -1,7 +1,7 @@
 -- What is found on the operand stack, and when it fits what is wanted (WebAssembly core
 -- specification, appendix "Validation Algorithm"; unknown types are those of its dead code).
 pub use Rattle.validate_types.specs.declared.types.MaybeType.TheVariants.{Bottom, UnknownRef, Known}
-use Rattle.validate_types.specs.Refs.{reference}
+use Rattle.validate_types.specs.Refs.{non_null_reference}
 use Rattle.validate_types.specs.declared.heap.AbstractHeapType.{AbstractHeapType}
 use Rattle.validate_types.specs.declared.heap.HeapType.TheVariants.{Abstract}
 use Rattle.validate_types.specs.declared.refs.RefType.{RefType}
@@ -17,7 +17,9 @@ MaybeType = Maybe ValType
 -- an unknown reference fits a wanted one: with the sharedness that is wanted
 abbrev pub unknown_fits : Context → Option AbstractHeapType → RefType → Bool
 unknown_fits cx None r = true
-unknown_fits cx (Some a) r = cx.of_module.below (Ref (reference false (Abstract (cx.of_module.is_shared r) a))) (Ref r)
+unknown_fits cx (Some a) r =
+    let known = non_null_reference (Abstract (cx.of_module.is_shared r) a) in
+    cx.of_module.below (Ref known) (Ref r)
 
 -- a found type fits a wanted one
 abbrev pub fits : Context → MaybeType → ValType → Bool

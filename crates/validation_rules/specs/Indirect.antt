@@ -2,56 +2,61 @@
 -- (WebAssembly core specification, "Validation: Control Instructions").
 use Rattle.std.specs.Prelude.{ℕ, true, false, List, [], ◌∷◌, ◌++◌, Option, Some}
 use Rattle.std.specs.Option.{option_map}
-use Rattle.validate_types.specs.Refs.{reference}
+use Rattle.validate_types.specs.Refs.{nullable_reference}
 use Rattle.validate_types.specs.Types.{table_index_type}
 use Rattle.validate_types.specs.declared.heap.AbstractHeapType.TheVariants.{Func}
 use Rattle.validate_types.specs.declared.heap.HeapType.TheVariants.{Abstract, Concrete}
 use Rattle.validate_types.specs.declared.heap.UnpackedIndex.TheVariants.{Module}
 use Rattle.validate_types.specs.declared.types.TableType.{TableType}
-use Rattle.validation_rules.specs.Calls.{called, tail_call}
+use Rattle.validation_rules.specs.Calls.{accessible_signature, tail_call_row}
 use Rattle.validation_rules.specs.Context.{Signature, ValType, Ref, Context}
 use Rattle.validation_rules.specs.Rows.{Head, Row, guard}
-use Rattle.validation_rules.specs.Shapes.{plain, by_lookup}
+use Rattle.validation_rules.specs.Shapes.{plain_row, lookup_row}
 use Rattle.validation_rules.specs.Static.{bind}
-use Rattle.validation_rules.specs.Tables.{table_type, element}
+use Rattle.validation_rules.specs.Tables.{table_type, element_type}
 
 -- ---- the operand that names the function
 
 abbrev pub funcref : ValType
-funcref = Ref (reference true (Abstract false Func))
+funcref = Ref (nullable_reference (Abstract false Func))
 
 -- where the table holds functions, a place in it
-abbrev pub place_in : Context → TableType → Option ValType
-place_in cx t = guard (cx.of_module.below (element t) funcref) (Some (table_index_type t))
+abbrev pub place_type_of : Context → TableType → Option ValType
+place_type_of cx t = guard (cx.of_module.below (element_type t) funcref) (Some (table_index_type t))
 
 -- a place in a table of functions that the function may access
 abbrev pub function_place : Context → ℕ → Option ValType
-function_place cx i = bind (table_type cx i) (place_in cx)
+function_place cx i = bind (table_type cx i) (place_type_of cx)
 
 -- a reference, perhaps null, to the type at this index
 abbrev pub function_reference : Context → ℕ → Option ValType
-function_reference cx i = option_map (λ h. Ref (reference true h)) (cx.of_module.canonical_heap (Concrete (Module i)))
+function_reference cx i =
+    option_map (λ h. Ref (nullable_reference h)) (cx.of_module.canonical_heap (Concrete (Module i)))
 
 -- what a function of the type at this index takes and gives
 abbrev pub typed_callee : Context → ℕ → Option Signature
-typed_callee cx i = bind (cx.of_module.type_at i) (called cx)
+typed_callee cx i = bind (cx.of_module.type_at i) (accessible_signature cx)
 
 -- ---- rows: what the function takes, and above it the operand that names it
 
-abbrev pub call_by : Context → Option ValType → ℕ → Row
-call_by cx names i = by_lookup names (λ t. by_lookup (typed_callee cx i) (λ s. plain true (s.params ++ t ∷ []) s.results))
+abbrev pub call_operand_row : Context → Option ValType → ℕ → Row
+call_operand_row cx names i =
+    lookup_row names
+    (λ t. lookup_row (typed_callee cx i) (λ s. plain_row true (s.params ++ t ∷ []) s.results))
 
-abbrev pub return_call_by : Context → List Head → Option ValType → ℕ → Row
-return_call_by cx hs names i = by_lookup names (λ t. by_lookup (typed_callee cx i) (λ s. tail_call cx hs (s.params ++ t ∷ []) s.results))
+abbrev pub return_call_operand_row : Context → List Head → Option ValType → ℕ → Row
+return_call_operand_row cx hs names i =
+    lookup_row names
+    (λ t. lookup_row (typed_callee cx i) (λ s. tail_call_row cx hs (s.params ++ t ∷ []) s.results))
 
 abbrev pub call_indirect_row : Context → ℕ → ℕ → Row
-call_indirect_row cx type table = call_by cx (function_place cx table) type
+call_indirect_row cx type table = call_operand_row cx (function_place cx table) type
 
 abbrev pub return_call_indirect_row : Context → List Head → ℕ → ℕ → Row
-return_call_indirect_row cx hs type table = return_call_by cx hs (function_place cx table) type
+return_call_indirect_row cx hs type table = return_call_operand_row cx hs (function_place cx table) type
 
 abbrev pub call_ref_row : Context → ℕ → Row
-call_ref_row cx type = call_by cx (function_reference cx type) type
+call_ref_row cx type = call_operand_row cx (function_reference cx type) type
 
 abbrev pub return_call_ref_row : Context → List Head → ℕ → Row
-return_call_ref_row cx hs type = return_call_by cx hs (function_reference cx type) type
+return_call_ref_row cx hs type = return_call_operand_row cx hs (function_reference cx type) type

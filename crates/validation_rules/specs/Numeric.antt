@@ -1,115 +1,28 @@
 -- The rows of operators on numbers (WebAssembly core specification, "Validation: Numeric Instructions").
-use Rattle.validate_types.specs.declared.gate.Gate.TheVariants.{Floats, WideArithmetic}
+use Rattle.validate_visit.specs.Numbers.{integer_type, float_type}
 use Rattle.validate_visit.specs.declared.op.NumericOp.{NumericOp}
-use Rattle.validate_visit.specs.declared.op.NumericOp.TheVariants.{I32Const, I64Const, F32Const, F64Const, I32Eqz, I32Eq, I32Ne, I32LtS, I32LtU, I32GtS, I32GtU, I32LeS, I32LeU, I32GeS, I32GeU, I64Eqz, I64Eq, I64Ne, I64LtS, I64LtU, I64GtS, I64GtU, I64LeS, I64LeU, I64GeS, I64GeU, F32Eq, F32Ne, F32Lt, F32Gt, F32Le, F32Ge, F64Eq, F64Ne, F64Lt, F64Gt, F64Le, F64Ge, I32Clz, I32Ctz, I32Popcnt, I32Add, I32Sub, I32Mul, I32DivS, I32DivU, I32RemS, I32RemU, I32And, I32Or, I32Xor, I32Shl, I32ShrS, I32ShrU, I32Rotl, I32Rotr, I64Clz, I64Ctz, I64Popcnt, I64Add, I64Sub, I64Mul, I64DivS, I64DivU, I64RemS, I64RemU, I64And, I64Or, I64Xor, I64Shl, I64ShrS, I64ShrU, I64Rotl, I64Rotr, F32Abs, F32Neg, F32Ceil, F32Floor, F32Trunc, F32Nearest, F32Sqrt, F32Add, F32Sub, F32Mul, F32Div, F32Min, F32Max, F32Copysign, F64Abs, F64Neg, F64Ceil, F64Floor, F64Trunc, F64Nearest, F64Sqrt, F64Add, F64Sub, F64Mul, F64Div, F64Min, F64Max, F64Copysign, I64Add128, I64Sub128, I64MulWideS, I64MulWideU}
-use Rattle.validation_rules.specs.Context.{I32, I64, F32, F64, Context}
+use Rattle.validate_visit.specs.declared.op.NumericOp.TheVariants.{I32Const, I64Const, F32Const, F64Const}
+use Rattle.validate_visit.specs.declared.op.NumericOp.TheVariants.{Eqz, IntegerUnary, IntegerBinary}
+use Rattle.validate_visit.specs.declared.op.NumericOp.TheVariants.{IntegerComparison, FloatUnary}
+use Rattle.validate_visit.specs.declared.op.NumericOp.TheVariants.{FloatBinary, FloatComparison, Add128}
+use Rattle.validate_visit.specs.declared.op.NumericOp.TheVariants.{Sub128, MulWide}
+use Rattle.validation_rules.specs.Context.{I32, I64, F32, F64}
 use Rattle.validation_rules.specs.Rows.{Row}
-use Rattle.validation_rules.specs.Shapes.{gated, binary, binary_wide, comparison, constant, multiply_wide, test, unary}
+use Rattle.validation_rules.specs.Shapes.{binary_row, wide_binary_row, comparison_row, constant_row}
+use Rattle.validation_rules.specs.Shapes.{wide_multiply_row, test_row, unary_row}
 
-abbrev pub numeric_row : Context → NumericOp → Row
-numeric_row cx (I32Const x) = constant I32
-numeric_row cx (I64Const x) = constant I64
-numeric_row cx (F32Const x) = gated cx Floats (constant F32)
-numeric_row cx (F64Const x) = gated cx Floats (constant F64)
-numeric_row cx I32Eqz = test I32
-numeric_row cx I32Eq = comparison I32
-numeric_row cx I32Ne = comparison I32
-numeric_row cx I32LtS = comparison I32
-numeric_row cx I32LtU = comparison I32
-numeric_row cx I32GtS = comparison I32
-numeric_row cx I32GtU = comparison I32
-numeric_row cx I32LeS = comparison I32
-numeric_row cx I32LeU = comparison I32
-numeric_row cx I32GeS = comparison I32
-numeric_row cx I32GeU = comparison I32
-numeric_row cx I64Eqz = test I64
-numeric_row cx I64Eq = comparison I64
-numeric_row cx I64Ne = comparison I64
-numeric_row cx I64LtS = comparison I64
-numeric_row cx I64LtU = comparison I64
-numeric_row cx I64GtS = comparison I64
-numeric_row cx I64GtU = comparison I64
-numeric_row cx I64LeS = comparison I64
-numeric_row cx I64LeU = comparison I64
-numeric_row cx I64GeS = comparison I64
-numeric_row cx I64GeU = comparison I64
-numeric_row cx F32Eq = gated cx Floats (comparison F32)
-numeric_row cx F32Ne = gated cx Floats (comparison F32)
-numeric_row cx F32Lt = gated cx Floats (comparison F32)
-numeric_row cx F32Gt = gated cx Floats (comparison F32)
-numeric_row cx F32Le = gated cx Floats (comparison F32)
-numeric_row cx F32Ge = gated cx Floats (comparison F32)
-numeric_row cx F64Eq = gated cx Floats (comparison F64)
-numeric_row cx F64Ne = gated cx Floats (comparison F64)
-numeric_row cx F64Lt = gated cx Floats (comparison F64)
-numeric_row cx F64Gt = gated cx Floats (comparison F64)
-numeric_row cx F64Le = gated cx Floats (comparison F64)
-numeric_row cx F64Ge = gated cx Floats (comparison F64)
-numeric_row cx I32Clz = unary I32
-numeric_row cx I32Ctz = unary I32
-numeric_row cx I32Popcnt = unary I32
-numeric_row cx I32Add = binary I32
-numeric_row cx I32Sub = binary I32
-numeric_row cx I32Mul = binary I32
-numeric_row cx I32DivS = binary I32
-numeric_row cx I32DivU = binary I32
-numeric_row cx I32RemS = binary I32
-numeric_row cx I32RemU = binary I32
-numeric_row cx I32And = binary I32
-numeric_row cx I32Or = binary I32
-numeric_row cx I32Xor = binary I32
-numeric_row cx I32Shl = binary I32
-numeric_row cx I32ShrS = binary I32
-numeric_row cx I32ShrU = binary I32
-numeric_row cx I32Rotl = binary I32
-numeric_row cx I32Rotr = binary I32
-numeric_row cx I64Clz = unary I64
-numeric_row cx I64Ctz = unary I64
-numeric_row cx I64Popcnt = unary I64
-numeric_row cx I64Add = binary I64
-numeric_row cx I64Sub = binary I64
-numeric_row cx I64Mul = binary I64
-numeric_row cx I64DivS = binary I64
-numeric_row cx I64DivU = binary I64
-numeric_row cx I64RemS = binary I64
-numeric_row cx I64RemU = binary I64
-numeric_row cx I64And = binary I64
-numeric_row cx I64Or = binary I64
-numeric_row cx I64Xor = binary I64
-numeric_row cx I64Shl = binary I64
-numeric_row cx I64ShrS = binary I64
-numeric_row cx I64ShrU = binary I64
-numeric_row cx I64Rotl = binary I64
-numeric_row cx I64Rotr = binary I64
-numeric_row cx F32Abs = gated cx Floats (unary F32)
-numeric_row cx F32Neg = gated cx Floats (unary F32)
-numeric_row cx F32Ceil = gated cx Floats (unary F32)
-numeric_row cx F32Floor = gated cx Floats (unary F32)
-numeric_row cx F32Trunc = gated cx Floats (unary F32)
-numeric_row cx F32Nearest = gated cx Floats (unary F32)
-numeric_row cx F32Sqrt = gated cx Floats (unary F32)
-numeric_row cx F32Add = gated cx Floats (binary F32)
-numeric_row cx F32Sub = gated cx Floats (binary F32)
-numeric_row cx F32Mul = gated cx Floats (binary F32)
-numeric_row cx F32Div = gated cx Floats (binary F32)
-numeric_row cx F32Min = gated cx Floats (binary F32)
-numeric_row cx F32Max = gated cx Floats (binary F32)
-numeric_row cx F32Copysign = gated cx Floats (binary F32)
-numeric_row cx F64Abs = gated cx Floats (unary F64)
-numeric_row cx F64Neg = gated cx Floats (unary F64)
-numeric_row cx F64Ceil = gated cx Floats (unary F64)
-numeric_row cx F64Floor = gated cx Floats (unary F64)
-numeric_row cx F64Trunc = gated cx Floats (unary F64)
-numeric_row cx F64Nearest = gated cx Floats (unary F64)
-numeric_row cx F64Sqrt = gated cx Floats (unary F64)
-numeric_row cx F64Add = gated cx Floats (binary F64)
-numeric_row cx F64Sub = gated cx Floats (binary F64)
-numeric_row cx F64Mul = gated cx Floats (binary F64)
-numeric_row cx F64Div = gated cx Floats (binary F64)
-numeric_row cx F64Min = gated cx Floats (binary F64)
-numeric_row cx F64Max = gated cx Floats (binary F64)
-numeric_row cx F64Copysign = gated cx Floats (binary F64)
-numeric_row cx I64Add128 = gated cx WideArithmetic binary_wide
-numeric_row cx I64Sub128 = gated cx WideArithmetic binary_wide
-numeric_row cx I64MulWideS = gated cx WideArithmetic multiply_wide
-numeric_row cx I64MulWideU = gated cx WideArithmetic multiply_wide
+abbrev pub numeric_row : NumericOp → Row
+numeric_row (I32Const x) = constant_row I32
+numeric_row (I64Const x) = constant_row I64
+numeric_row (F32Const x) = constant_row F32
+numeric_row (F64Const x) = constant_row F64
+numeric_row (Eqz t) = test_row (integer_type t)
+numeric_row (IntegerUnary t op) = unary_row (integer_type t)
+numeric_row (IntegerBinary t op) = binary_row (integer_type t)
+numeric_row (IntegerComparison t op) = comparison_row (integer_type t)
+numeric_row (FloatUnary t op) = unary_row (float_type t)
+numeric_row (FloatBinary t op) = binary_row (float_type t)
+numeric_row (FloatComparison t op) = comparison_row (float_type t)
+numeric_row Add128 = wide_binary_row
+numeric_row Sub128 = wide_binary_row
+numeric_row (MulWide sign) = wide_multiply_row

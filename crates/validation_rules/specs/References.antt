@@ -1,39 +1,42 @@
 -- The rows of operators on references, and of branches that look whether one is null (WebAssembly core
 -- specification, "Validation: Reference Instructions" and "Control Instructions").
-use Rattle.std.specs.Prelude.{ℕ, suc, Bool, true, false, not, ◌||◌, List, [], ◌∷◌, ◌++◌, Option, Some, None, length}
+use Rattle.std.specs.Prelude.{ℕ, suc, Bool, true, false, not, ◌||◌, List, [], ◌∷◌, ◌++◌, Option, Some, None}
+use Rattle.std.specs.Prelude.{length}
 use Rattle.std.specs.Option.{option_map}
 use Rattle.validate_types.specs.Features.{ref_gate}
-use Rattle.validate_types.specs.Refs.{reference, fits_reference, non_null, with_null}
-use Rattle.validate_types.specs.declared.gate.Gate.TheVariants.{ReferenceTypes, FunctionReferences}
+use Rattle.validate_types.specs.Refs.{fits_reference, non_null, with_null, nullable_reference, non_null_reference}
 use Rattle.validate_types.specs.declared.heap.HeapType.{HeapType}
 use Rattle.validate_types.specs.declared.heap.HeapType.TheVariants.{Concrete}
 use Rattle.validate_types.specs.declared.heap.UnpackedIndex.TheVariants.{Id}
 use Rattle.validate_types.specs.declared.refs.RefType.{RefType}
 use Rattle.validate_visit.specs.declared.op.ReferenceOp.{ReferenceOp}
-use Rattle.validate_visit.specs.declared.op.ReferenceOp.TheVariants.{RefNull, RefIsNull, RefFunc, RefAsNonNull, BrOnNull, BrOnNonNull}
-use Rattle.validation_rules.specs.Branches.{has_label, label_at, target}
+use Rattle.validate_visit.specs.declared.op.ReferenceOp.TheVariants.{RefNull, RefIsNull, RefFunc}
+use Rattle.validate_visit.specs.declared.op.ReferenceOp.TheVariants.{RefAsNonNull, BrOnNull, BrOnNonNull}
+use Rattle.validation_rules.specs.Branches.{has_label, label_types_at, target}
 use Rattle.validation_rules.specs.Context.{ValType, I32, Ref, Context}
 use Rattle.validation_rules.specs.Fits.{MaybeType, Bottom, UnknownRef, Known, fits}
 use Rattle.validation_rules.specs.Rows.{Head, Row, guard}
-use Rattle.validation_rules.specs.Shapes.{plain, by_lookup, looking, gated}
+use Rattle.validation_rules.specs.Shapes.{plain_row, lookup_row, looking_row}
 
 -- ---- null, and references to functions
 
 -- The gate of the type of null is open. To a type index of 2^20 or more no reference can be made, so
 -- that it has no gate; of at most 1,000,000 types none has such an index.
-abbrev pub null_gate : Context → HeapType → Bool
-null_gate cx h = not (fits_reference h) || ref_gate cx.features (reference true h)
+abbrev pub is_null_gate_open : Context → HeapType → Bool
+is_null_gate_open cx h = not (fits_reference h) || ref_gate cx.features (nullable_reference h)
 
 -- what null refers to, in canonical form
 abbrev pub null_heap : Context → HeapType → Option HeapType
-null_heap cx h = guard (null_gate cx h) (cx.of_module.canonical_heap h)
+null_heap cx h = guard (is_null_gate_open cx h) (cx.of_module.canonical_heap h)
 
-abbrev pub ref_null : Context → HeapType → Row
-ref_null cx h = by_lookup (null_heap cx h) (λ k. plain true [] (Ref (reference true k) ∷ []))
+abbrev pub ref_null_row : Context → HeapType → Row
+ref_null_row cx h = lookup_row (null_heap cx h) (λ k. plain_row true [] (Ref (nullable_reference k) ∷ []))
 
 -- a function that the module lets be referred to, by its type
-abbrev pub ref_func : Context → ℕ → Row
-ref_func cx f = by_lookup (cx.of_module.type_id_of f) (λ id. plain (cx.of_module.is_referenced f) [] (Ref (reference false (Concrete (Id id))) ∷ []))
+abbrev pub ref_func_row : Context → ℕ → Row
+ref_func_row cx f =
+    lookup_row (cx.of_module.type_id_of f)
+    (λ id. plain_row (cx.of_module.is_referenced f) [] (Ref (non_null_reference (Concrete (Id id))) ∷ []))
 
 -- ---- what is found of a reference
 
@@ -44,31 +47,35 @@ without_null (UnknownRef a) = Some (UnknownRef a)
 without_null (Known (Ref r)) = Some (Known (Ref (non_null r)))
 without_null (Known _) = None
 
-abbrev pub is_null : List MaybeType → Option (List MaybeType)
-is_null (x ∷ []) = option_map (λ y. Known I32 ∷ []) (without_null x)
-is_null _ = None
+abbrev pub null_test_pushes : List MaybeType → Option (List MaybeType)
+null_test_pushes (x ∷ []) = option_map (λ y. Known I32 ∷ []) (without_null x)
+null_test_pushes _ = None
 
 -- Operands that fit these types, and above them a reference, which goes on without its null. With no
 -- types it is what `ref.as_non_null` does.
-abbrev pub non_null_above : Context → List ValType → List MaybeType → Option (List MaybeType)
-non_null_above cx [] (x ∷ []) = option_map (λ y. y ∷ []) (without_null x)
-non_null_above cx (t ∷ ts) (x ∷ xs) = guard (fits cx x t) (option_map (λ ys. Known t ∷ ys) (non_null_above cx ts xs))
-non_null_above cx _ _ = None
+abbrev pub non_null_pushes : Context → List ValType → List MaybeType → Option (List MaybeType)
+non_null_pushes cx [] (x ∷ []) = option_map (λ y. y ∷ []) (without_null x)
+non_null_pushes cx (t ∷ ts) (x ∷ xs) =
+    guard (fits cx x t) (option_map (λ ys. Known t ∷ ys) (non_null_pushes cx ts xs))
+non_null_pushes cx _ _ = None
 
 -- ---- branches
 
 -- where the reference is null, to a label of the types below it
-abbrev pub br_on_null : Context → List Head → ℕ → Row
-br_on_null cx hs d =
-    let ts = label_at cx hs d in
-    record (looking (has_label hs d) (suc (length ts)) (non_null_above cx ts)) { targets = target cx hs d ∷ [] }
+abbrev pub br_on_null_row : Context → List Head → ℕ → Row
+br_on_null_row cx hs d =
+    let ts = label_types_at cx hs d in
+    record (looking_row (has_label hs d) (suc (length ts)) (non_null_pushes cx ts)) {
+      targets = target cx hs d ∷ [];
+    }
 
 -- types whose last is a reference: those before it, and the reference
 abbrev pub last_reference : List ValType → Option (List ValType × RefType)
 last_reference [] = None
 last_reference (Ref r ∷ []) = Some ([], r)
 last_reference (t ∷ []) = None
-last_reference (t ∷ u ∷ ts) = option_map (λ (p : List ValType × RefType). (t ∷ p.0, p.1)) (last_reference (u ∷ ts))
+last_reference (t ∷ u ∷ ts) =
+    option_map (λ (p : List ValType × RefType). (t ∷ p.0, p.1)) (last_reference (u ∷ ts))
 
 -- a reference without its null
 abbrev pub without_null_known : ValType → ValType
@@ -82,21 +89,24 @@ last_without_null (t ∷ []) = without_null_known t ∷ []
 last_without_null (t ∷ u ∷ ts) = t ∷ last_without_null (u ∷ ts)
 
 -- to label d, whose types are these
-abbrev pub on_non_null : Context → List Head → ℕ → (List ValType × RefType) → Row
-on_non_null cx hs d p =
-    record (plain (has_label hs d) (p.0 ++ Ref (with_null p.1) ∷ []) p.0) { targets = record { depth = d; carried = last_without_null } ∷ [] }
+abbrev pub br_on_non_null_row_for : Context → List Head → ℕ → (List ValType × RefType) → Row
+br_on_non_null_row_for cx hs d p =
+    record (plain_row (has_label hs d) (p.0 ++ Ref (with_null p.1) ∷ []) p.0) {
+      targets = record { depth = d; carried = last_without_null } ∷ [];
+    }
 
 -- Where the reference isn't null, to a label whose last type is that of the reference. Below it lie
 -- operands of the other types, which stay where it is null.
-abbrev pub br_on_non_null : Context → List Head → ℕ → Row
-br_on_non_null cx hs d = by_lookup (last_reference (label_at cx hs d)) (on_non_null cx hs d)
+abbrev pub br_on_non_null_row : Context → List Head → ℕ → Row
+br_on_non_null_row cx hs d =
+    lookup_row (last_reference (label_types_at cx hs d)) (br_on_non_null_row_for cx hs d)
 
 -- ---- the group
 
 abbrev pub reference_row : Context → List Head → ReferenceOp → Row
-reference_row cx hs (RefNull h) = gated cx ReferenceTypes (ref_null cx h)
-reference_row cx hs RefIsNull = gated cx ReferenceTypes (looking true 1 is_null)
-reference_row cx hs (RefFunc f) = gated cx ReferenceTypes (ref_func cx f)
-reference_row cx hs RefAsNonNull = gated cx FunctionReferences (looking true 1 (non_null_above cx []))
-reference_row cx hs (BrOnNull d) = gated cx FunctionReferences (br_on_null cx hs d)
-reference_row cx hs (BrOnNonNull d) = gated cx FunctionReferences (br_on_non_null cx hs d)
+reference_row cx hs (RefNull h) = ref_null_row cx h
+reference_row cx hs RefIsNull = looking_row true 1 null_test_pushes
+reference_row cx hs (RefFunc f) = ref_func_row cx f
+reference_row cx hs RefAsNonNull = looking_row true 1 (non_null_pushes cx [])
+reference_row cx hs (BrOnNull d) = br_on_null_row cx hs d
+reference_row cx hs (BrOnNonNull d) = br_on_non_null_row cx hs d

@@ -3,9 +3,12 @@
 -- those of the WebAssembly core specification, "Control Instructions", and of the legacy
 -- exceptions; rows as data are the crate's own.)
 pub use Rattle.validate_visit.specs.declared.frame.FrameKind.{FrameKind}
-pub use Rattle.validate_visit.specs.declared.frame.FrameKind.TheVariants.{Block, If, Else, Loop, TryTable, LegacyTry, LegacyCatch, LegacyCatchAll}
+pub use Rattle.validate_visit.specs.declared.frame.FrameKind.TheVariants.{Block, If, Else, Loop, TryTable}
+pub use Rattle.validate_visit.specs.declared.frame.FrameKind.TheVariants.{LegacyTry, LegacyCatch}
+pub use Rattle.validate_visit.specs.declared.frame.FrameKind.TheVariants.{LegacyCatchAll}
 pub use Rattle.validate_visit.specs.Order.{is_if, is_try, may_catch, catch_kind}
 use Rattle.std.specs.Prelude.{ℕ, Bool, true, false, ◌&&◌, List, [], ◌∷◌, Option, Some, None, length, map}
+use Rattle.std.specs.Prelude.{if◌then◌else◌}
 use Rattle.validation_rules.specs.Context.{ValType, BlockType, Context, block_signature}
 use Rattle.validation_rules.specs.Fits.{MaybeType, Known, all_fit}
 
@@ -34,17 +37,13 @@ abbrev pub is_try_table : FrameKind → Bool
 is_try_table TryTable = true
 is_try_table _ = false
 
-abbrev pub label_by : Context → Bool → Head → List ValType
-label_by cx true h = params cx h
-label_by cx false h = results cx h
-
 -- the types that a branch to the label carries: the parameters for a loop, else the results
 -- (Specification, appendix "Validation Algorithm": label_types)
 abbrev pub label_types : Context → Head → List ValType
-label_types cx h = label_by cx (is_loop h.kind) h
+label_types cx h = if is_loop h.kind then params cx h else results cx h
 
--- What an operator does to the open frames. A `catch` or `catch_all` has the types that the part
--- which it begins starts with.
+-- What an operator does to the open frames: nothing, opens one, begins its next part, or closes it.
+-- A `catch` or `catch_all` has the types that the part which it begins starts with.
 pub data Form : Type 0 where
   Flat : Form
   Opens : (head : Head) → Form
@@ -53,12 +52,13 @@ pub data Form : Type 0 where
   Ends : Form
   Delegates : Form
 
--- What an operator wants and pushes. A plain row has the wanted types, the last on top, more lists
--- that the same operands have to fit (`br_table`), and the pushed types. A looking row takes so
--- many operands, and says which pass and what is pushed for them.
-pub data Operands : Type 0 where
-  Plain : (wanted : List ValType) (also : List (List ValType)) (pushed : List ValType) → Operands
-  Looks : (takes : ℕ) (gives : List MaybeType → Option (List MaybeType)) → Operands
+-- What an operator wants and pushes (Specification, "Validation: Types", instruction types). A plain
+-- row has the wanted types, the last on top, more lists that the same operands have to fit
+-- (`br_table`), and the pushed types. A looking row takes so many operands, and says which pass and
+-- what is pushed for them.
+pub data InstructionType : Type 0 where
+  Plain : (wanted : List ValType) (also : List (List ValType)) (pushed : List ValType) → InstructionType
+  Looks : (count : ℕ) (gives : List MaybeType → Option (List MaybeType)) → InstructionType
 
 -- a label that the operator may branch to, counted from the innermost, and the types that the
 -- branch carries there, from the operands that the operator took
@@ -78,13 +78,13 @@ pub record Row : Type 0 where
   pub premise : Bool
   -- a local that has to be set
   pub reads : Option ℕ
-  pub operands : Operands
+  pub type : InstructionType
   -- a local that is set
   pub sets : Option ℕ
   pub targets : List Target
   pub clauses : List Clause
   -- the operator ends the live part of its frame
-  pub dead : Bool
+  pub ends_live : Bool
 
 pub record Operator : Type 0 where
   pub form : Form
@@ -92,9 +92,9 @@ pub record Operator : Type 0 where
   pub row : List Head → Row
 
 -- how many operands it takes
-abbrev pub takes : Operands → ℕ
-takes (Plain wanted also pushed) = length wanted
-takes (Looks n gives) = n
+abbrev pub operands_wanted : InstructionType → ℕ
+operands_wanted (Plain wanted also pushed) = length wanted
+operands_wanted (Looks n gives) = n
 
 -- the found operands, taken whole, fit each of the lists
 abbrev pub all_fit_each : Context → List MaybeType → List (List ValType) → Bool
@@ -107,12 +107,14 @@ guard true x = x
 guard false x = None
 
 -- what is pushed for the found operands, if they pass
-abbrev pub gives : Context → Operands → List MaybeType → Option (List MaybeType)
-gives cx (Plain wanted also pushed) found = guard (all_fit_each cx found (wanted ∷ also)) (Some (map Known pushed))
-gives cx (Looks n f) found = f found
+abbrev pub pushed_for : Context → InstructionType → List MaybeType → Option (List MaybeType)
+pushed_for cx (Plain wanted also pushed) found =
+    guard (all_fit_each cx found (wanted ∷ also)) (Some (map Known pushed))
+pushed_for cx (Looks n looked) found = looked found
 
--- an operator that isn't a closing one
-abbrev pub is_row : Form → Bool
-is_row Flat = true
-is_row (Opens h) = true
-is_row _ = false
+-- an instruction, and not one of the pseudo-instructions that delimit a block (Specification,
+-- "Structure: Control Instructions")
+abbrev pub is_instruction : Form → Bool
+is_instruction Flat = true
+is_instruction (Opens h) = true
+is_instruction _ = false

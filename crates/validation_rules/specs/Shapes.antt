@@ -8,61 +8,73 @@ use Rattle.validation_rules.specs.Fits.{MaybeType}
 use Rattle.validation_rules.specs.Rows.{Head, Form, Flat, Plain, Looks, Row, Operator}
 
 -- wanted and pushed types; it neither reaches a label nor ends the live part
-abbrev pub plain : Bool → List ValType → List ValType → Row
-plain premise wanted pushed =
-    record { premise = premise; reads = None; operands = Plain wanted [] pushed; sets = None; targets = []; clauses = []; dead = false }
+abbrev pub plain_row : Bool → List ValType → List ValType → Row
+plain_row premise wanted pushed =
+    record {
+      premise = premise;
+      reads = None;
+      type = Plain wanted [] pushed;
+      sets = None;
+      targets = [];
+      clauses = [];
+      ends_live = false;
+    }
 
 -- the row for what a look-up found; where it found nothing, one that never holds
-abbrev pub by_lookup : {A : Type 0} → Option A → (A → Row) → Row
-by_lookup None row = plain false [] []
-by_lookup (Some x) row = row x
+abbrev pub lookup_row : {A : Type 0} → Option A → (A → Row) → Row
+lookup_row None row = plain_row false [] []
+lookup_row (Some x) row = row x
 
 -- it ends the live part of its frame
-abbrev pub ends_live : Bool → List ValType → Row
-ends_live premise wanted = record (plain premise wanted []) { dead = true }
+abbrev pub ending_row : Bool → List ValType → Row
+ending_row premise wanted = record (plain_row premise wanted []) { ends_live = true }
 
 -- so many operands, and what is pushed for those found
-abbrev pub looking : Bool → ℕ → (List MaybeType → Option (List MaybeType)) → Row
-looking premise takes gives = record (plain premise [] []) { operands = Looks takes gives }
+abbrev pub looking_row : Bool → ℕ → (List MaybeType → Option (List MaybeType)) → Row
+looking_row premise takes gives = record (plain_row premise [] []) { type = Looks takes gives }
 
 -- a row that depends on the open frames
-abbrev pub flat : (List Head → Row) → Operator
-flat row = record { form = Flat; row = row }
+abbrev pub flat_operator : (List Head → Row) → Operator
+flat_operator row = record { form = Flat; row = row }
 
 -- a row that doesn't
-abbrev pub alike : Row → Operator
-alike r = flat (λ hs. r)
+abbrev pub row_operator : Row → Operator
+row_operator r = flat_operator (λ hs. r)
 
 -- an operator that closes a frame or a part of it
-abbrev pub closing : Form → Bool → Operator
-closing form premise = record { form = form; row = λ hs. plain premise [] [] }
+abbrev pub delimiter_operator : Form → Bool → Operator
+delimiter_operator form premise = record { form = form; row = λ hs. plain_row premise [] [] }
 
-abbrev pub constant : ValType → Row
-constant t = plain true [] (t ∷ [])
+abbrev pub constant_row : ValType → Row
+constant_row t = plain_row true [] (t ∷ [])
 
-abbrev pub test : ValType → Row
-test t = plain true (t ∷ []) (I32 ∷ [])
+abbrev pub test_row : ValType → Row
+test_row t = plain_row true (t ∷ []) (I32 ∷ [])
 
-abbrev pub unary : ValType → Row
-unary t = plain true (t ∷ []) (t ∷ [])
+abbrev pub unary_row : ValType → Row
+unary_row t = plain_row true (t ∷ []) (t ∷ [])
 
-abbrev pub binary : ValType → Row
-binary t = plain true (t ∷ t ∷ []) (t ∷ [])
+abbrev pub binary_row : ValType → Row
+binary_row t = plain_row true (t ∷ t ∷ []) (t ∷ [])
 
-abbrev pub comparison : ValType → Row
-comparison t = plain true (t ∷ t ∷ []) (I32 ∷ [])
+abbrev pub comparison_row : ValType → Row
+comparison_row t = plain_row true (t ∷ t ∷ []) (I32 ∷ [])
 
-abbrev pub conversion : ValType → ValType → Row
-conversion into from = plain true (from ∷ []) (into ∷ [])
+abbrev pub conversion_row : ValType → ValType → Row
+conversion_row into from = plain_row true (from ∷ []) (into ∷ [])
 
 -- on numbers of 128 bits, each in two of 64
-abbrev pub binary_wide : Row
-binary_wide = plain true (I64 ∷ I64 ∷ I64 ∷ I64 ∷ []) (I64 ∷ I64 ∷ [])
+abbrev pub wide_binary_row : Row
+wide_binary_row = plain_row true (I64 ∷ I64 ∷ I64 ∷ I64 ∷ []) (I64 ∷ I64 ∷ [])
 
 -- two numbers of 64 bits to one of 128
-abbrev pub multiply_wide : Row
-multiply_wide = plain true (I64 ∷ I64 ∷ []) (I64 ∷ I64 ∷ [])
+abbrev pub wide_multiply_row : Row
+wide_multiply_row = plain_row true (I64 ∷ I64 ∷ []) (I64 ∷ I64 ∷ [])
 
 -- the row holds where the gate is open too
-abbrev pub gated : Context → Gate → Row → Row
-gated cx gate r = record r { premise = is_open cx.features gate && r.premise }
+abbrev pub gated_row : Context → Gate → Row → Row
+gated_row cx gate r = record r { premise = is_open cx.features gate && r.premise }
+
+-- the operator, where the gate is open too
+abbrev pub gated_operator : Context → Gate → Operator → Operator
+gated_operator cx gate op = record { form = op.form; row = λ hs. gated_row cx gate (op.row hs) }

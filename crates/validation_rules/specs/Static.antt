@@ -1,16 +1,24 @@
 -- Validation: the static state, one operator, and the state before each place of a list (WebAssembly
 -- core specification, appendix "Validation Algorithm", where a control frame has its own operands
 -- instead of a height). Dead code over-approximates: below its own operands a dead frame has any.
-use Rattle.std.specs.Prelude.{◌≡◌, ℕ, ◌+◌, zero, suc, Bool, true, false, ◌&&◌, ◌||◌, List, [], ◌∷◌, ◌++◌, Option, Some, None, length, map, drop, nat_le, nat_eq}
+use Rattle.std.specs.Prelude.{◌≡◌, ℕ, ◌+◌, zero, suc, nat_le, nat_eq, Bool, true, false, ◌&&◌, ◌||◌}
+use Rattle.std.specs.Prelude.{if◌then◌else◌}
+use Rattle.std.specs.Prelude.{List, [], ◌∷◌, ◌++◌, length, map, drop, Option, Some, None}
 use Rattle.validation_rules.specs.Context.{ValType, BlockType, Context, is_set_at_entry}
 use Rattle.validation_rules.specs.Fits.{MaybeType, Bottom, Known, all_fit}
-use Rattle.validation_rules.specs.Rows.{FrameKind, Else, Head, params, results, body_head, is_if, is_try, may_catch, catch_kind, Form, Flat, Opens, BeginsElse, BeginsCatch, Ends, Delegates, Clause, Row, Operator, label_types, takes, gives, guard}
+use Rattle.validation_rules.specs.Rows.{Head, params, results, label_types, body_head}
+use Rattle.validation_rules.specs.Rows.{FrameKind, Else, is_if, is_try, may_catch, catch_kind}
+use Rattle.validation_rules.specs.Rows.{Form, Flat, Opens, BeginsElse, BeginsCatch, Ends, Delegates}
+use Rattle.validation_rules.specs.Rows.{Operator, Row, Clause, operands_wanted, pushed_for, guard}
+
+-- ---- states
 
 -- an open frame (ctrl_frame of the algorithm)
 pub record Frame : Type 0 where
   pub head : Head
   -- the frame's own operands, the top first
-  pub own : List MaybeType
+  pub operands : List MaybeType
+  -- the code is unreachable
   pub dead : Bool
   -- the locals that were first set in it, in order
   pub first_set : List ℕ
@@ -20,159 +28,177 @@ pub record State : Type 0 where
   pub frames : List Frame
   pub left : List MaybeType
 
-abbrev pub heads : List Frame → List Head
-heads fs = map (λ f. f.head) fs
+abbrev pub state_with : List MaybeType → List Frame → State
+state_with left fs = record { frames = fs; left = left }
 
-abbrev pub has : List ℕ → ℕ → Bool
-has [] i = false
-has (j ∷ js) i = nat_eq i j || has js i
+-- a state of a body in which frames are open, so that nothing is left yet
+abbrev pub open_state : List Frame → State
+open_state fs = state_with [] fs
+
+abbrev pub heads : List Frame → List Head
+heads fs = map (λ (f : Frame). f.head) fs
+
+-- ---- locals
+
+abbrev pub is_among : List ℕ → ℕ → Bool
+is_among [] i = false
+is_among (j ∷ js) i = nat_eq i j || is_among js i
 
 -- The locals that were first set in a frame that is still open (the algorithm's inits). Closing a
 -- frame, or beginning its next part, so unsets what was first set in it.
-abbrev pub set_in : List Frame → List ℕ
-set_in [] = []
-set_in (f ∷ fs) = f.first_set ++ set_in fs
+abbrev pub locals_set : List Frame → List ℕ
+locals_set [] = []
+locals_set (f ∷ fs) = f.first_set ++ locals_set fs
 
 -- the local is set: when the body began, or since
 abbrev pub is_set : Context → List ℕ → ℕ → Bool
-is_set cx set i = has set i || is_set_at_entry cx i
+is_set cx set i = is_among set i || is_set_at_entry cx i
 
 -- the local that the operator reads, if it reads one, is set (Specification, "local.get")
 abbrev pub reads_set : Context → List ℕ → Option ℕ → Bool
 reads_set cx set None = true
 reads_set cx set (Some i) = is_set cx set i
 
--- a row's list put on operands, from its first: its last comes to lie on top
+-- the local that the operator sets, if it sets one, joins the frame's list unless it is set (set_local of
+-- the algorithm)
+abbrev pub first_set_after : Context → List ℕ → Option ℕ → List ℕ → List ℕ
+first_set_after cx set None first_set = first_set
+first_set_after cx set (Some i) first_set = if is_set cx set i then first_set else first_set ++ i ∷ []
+
+-- ---- operands
+
+-- a row's list put on operands, from its first: its last comes to lie on top (push_vals of the algorithm)
 abbrev pub onto : {A : Type 0} → List A → List A → List A
 onto [] below = below
 onto (x ∷ xs) below = onto xs (x ∷ below)
 
 -- The n operands on top, the top first; below those of a dead frame lie unknown ones (pop_val of the
 -- algorithm). Operands below the frame are never among them.
-abbrev pub on_top : ℕ → Bool → List MaybeType → List MaybeType
-on_top zero dead own = []
-on_top (suc n) dead (x ∷ own) = x ∷ on_top n dead own
-on_top (suc n) true [] = Bottom ∷ on_top n true []
-on_top (suc n) false [] = []
+abbrev pub operands_on_top : ℕ → Bool → List MaybeType → List MaybeType
+operands_on_top zero dead own = []
+operands_on_top (suc n) dead (x ∷ own) = x ∷ operands_on_top n dead own
+operands_on_top (suc n) true [] = Bottom ∷ operands_on_top n true []
+operands_on_top (suc n) false [] = []
 
--- the n operands on top, turned as a row writes its lists: the last on top
-abbrev pub found : ℕ → Frame → List MaybeType
-found n f = onto (on_top n f.dead f.own) []
+-- what n pops find, turned as a row writes its lists: the last on top (pop_vals of the algorithm)
+abbrev pub operands_found : ℕ → Frame → List MaybeType
+operands_found n f = onto (operands_on_top n f.dead f.operands) []
 
--- the own operands below the n on top, or none
-abbrev pub below_top : ℕ → Frame → List MaybeType
-below_top n f = drop n f.own
+-- what n pops leave of the frame's own operands
+abbrev pub operands_below : ℕ → Frame → List MaybeType
+operands_below n f = drop n f.operands
 
--- the frame's operands are its results, and nothing is left below them (pop_ctrl of the algorithm)
-abbrev pub closes : Context → Frame → Bool
-closes cx f = nat_le (length f.own) (length (results cx f.head)) && all_fit cx (found (length (results cx f.head)) f) (results cx f.head)
+-- ---- frames
 
--- the first of these labels exists, and the types are below its own
-abbrev pub reaches : Context → List Head → List ValType → Bool
-reaches cx [] types = false
-reaches cx (h ∷ hs) types = all_fit cx (map Known types) (label_types cx h)
+-- a frame that has just been opened, or a part that has just begun (push_ctrl of the algorithm)
+abbrev pub opened_frame : Head → List ValType → Frame
+opened_frame h types = record { head = h; operands = onto (map Known types) []; dead = false; first_set = [] }
 
--- a clause's label exists, and what it carries is below the label's types
-abbrev pub clause_fits : Context → List Head → Clause → Bool
-clause_fits cx hs c = reaches cx (drop c.depth hs) c.types
-
-abbrev pub clauses_fit : Context → List Head → List Clause → Bool
-clauses_fit cx hs [] = true
-clauses_fit cx hs (c ∷ cs) = clause_fits cx hs c && clauses_fit cx hs cs
-
--- an operator that isn't a closing one: its gate and premises, the local that it reads, and its operands
-abbrev pub pushes_by : Context → Row → List Head → List ℕ → Frame → Option (List MaybeType)
-pushes_by cx r hs set f =
-    guard (r.premise && (clauses_fit cx hs r.clauses && reads_set cx set r.reads)) (gives cx r.operands (found (takes r.operands) f))
-
--- An `if` without `else` gives its parameters as its results: an absent second part is an empty one
--- (Specification, "if").
-abbrev pub if_fits : Context → Bool → Head → Bool
-if_fits cx false h = true
-if_fits cx true h = all_fit cx (map Known (params cx h)) (results cx h)
-
--- What the operator pushes, or None where its row doesn't hold, in the innermost frame f and with
--- these locals set. A closing operator pushes nothing.
-abbrev pub pushes_at : Context → Row → List Head → List ℕ → Frame → Form → Option (List MaybeType)
-pushes_at cx r hs set f Flat = pushes_by cx r hs set f
-pushes_at cx r hs set f (Opens h) = pushes_by cx r hs set f
-pushes_at cx r hs set f BeginsElse = guard (r.premise && (is_if f.head.kind && closes cx f)) (Some [])
-pushes_at cx r hs set f (BeginsCatch all types) = guard (r.premise && (may_catch f.head.kind && closes cx f)) (Some [])
-pushes_at cx r hs set f Ends = guard (r.premise && (if_fits cx (is_if f.head.kind) f.head && closes cx f)) (Some [])
-pushes_at cx r hs set f Delegates = guard (r.premise && (is_try f.head.kind && closes cx f)) (Some [])
-
-abbrev pub pushes : Context → Operator → List Head → List ℕ → Frame → Option (List MaybeType)
-pushes cx op hs set f = pushes_at cx (op.row hs) hs set f op.form
-
--- a frame that has just been opened, or a part that has just begun
-abbrev pub opened : Head → List ValType → Frame
-opened h types = record { head = h; own = onto (map Known types) []; dead = false; first_set = [] }
-
--- the next part of the same block
+-- the same block, in its next part
 abbrev pub of_kind : FrameKind → Head → Head
 of_kind kind h = record h { kind = kind }
 
+-- the frame with a row's list on its operands
+abbrev pub frame_with : List MaybeType → Frame → Frame
+frame_with types f = record f { operands = onto types f.operands }
+
+-- the frame without the operands that the operator takes
+abbrev pub frame_below : Row → Frame → Frame
+frame_below r f = record f { operands = operands_below (operands_wanted r.type) f }
+
 -- an operator that ends the live part leaves no operand (unreachable of the algorithm)
-abbrev pub own_after : Bool → List MaybeType → List MaybeType → List MaybeType
-own_after true below pushed = []
-own_after false below pushed = onto pushed below
-
--- a local joins the frame's list if it isn't set (set_local of the algorithm)
-abbrev pub joined : Bool → List ℕ → ℕ → List ℕ
-joined true first_set i = first_set
-joined false first_set i = first_set ++ i ∷ []
-
-abbrev pub first_set_after : Context → List ℕ → Option ℕ → List ℕ → List ℕ
-first_set_after cx set None first_set = first_set
-first_set_after cx set (Some i) first_set = joined (is_set cx set i) first_set i
-
--- the innermost frame without the operands that the operator takes
-abbrev pub popped : Row → Frame → Frame
-popped r f = record f { own = below_top (takes r.operands) f }
+abbrev pub operands_after : Bool → List MaybeType → List MaybeType → List MaybeType
+operands_after ends_live below pushed = if ends_live then [] else onto pushed below
 
 -- the innermost frame after an operator that neither opens nor closes one
 abbrev pub frame_after : Context → Row → List ℕ → List MaybeType → Frame → Frame
 frame_after cx r set pushed f =
     record {
       head = f.head;
-      own = own_after r.dead (below_top (takes r.operands) f) pushed;
-      dead = f.dead || r.dead;
+      operands = operands_after r.ends_live (operands_below (operands_wanted r.type) f) pushed;
+      dead = f.dead || r.ends_live;
       first_set = first_set_after cx set r.sets f.first_set;
     }
 
--- a row's list put on the frame's operands
-abbrev pub with_own : List MaybeType → Frame → Frame
-with_own types f = record f { own = onto types f.own }
+-- ---- what an operator pushes, or None where its row doesn't hold
 
--- types given to the next outer frame, or left where none is open
-abbrev pub given_over : List MaybeType → List ValType → List Frame → State
-given_over left types [] = record { frames = []; left = onto (map Known types) left }
-given_over left types (f ∷ fs) = record { frames = with_own (map Known types) f ∷ fs; left = left }
+-- the first of these labels exists, and takes these types
+abbrev pub label_accepts : Context → List Head → List ValType → Bool
+label_accepts cx [] types = false
+label_accepts cx (h ∷ hs) types = all_fit cx (map Known types) (label_types cx h)
 
--- What the operator leaves, which pushes these types in the innermost frame f. A frame that is opened,
--- or a part that begins, is live and owns its first types; a closed frame gives its results outward
--- (push_ctrl and pop_ctrl of the algorithm).
-abbrev pub after_over : List MaybeType → Context → Row → List ℕ → Frame → List Frame → Form → List MaybeType → State
-after_over left cx r set f fs Flat pushed = record { frames = frame_after cx r set pushed f ∷ fs; left = left }
-after_over left cx r set f fs (Opens h) pushed = record { frames = opened h (params cx h) ∷ popped r f ∷ fs; left = left }
-after_over left cx r set f fs BeginsElse pushed = record { frames = opened (of_kind Else f.head) (params cx f.head) ∷ fs; left = left }
-after_over left cx r set f fs (BeginsCatch all types) pushed = record { frames = opened (of_kind (catch_kind all) f.head) types ∷ fs; left = left }
-after_over left cx r set f fs Ends pushed = given_over left (results cx f.head) fs
-after_over left cx r set f fs Delegates pushed = given_over left (results cx f.head) fs
+-- a clause's label exists, and takes what the clause carries
+abbrev pub clause_fits : Context → List Head → Clause → Bool
+clause_fits cx hs c = label_accepts cx (drop c.depth hs) c.types
 
-abbrev pub then_after : List MaybeType → Context → Row → List ℕ → Frame → List Frame → Form → Option (List MaybeType) → Option State
-then_after left cx r set f fs form None = None
-then_after left cx r set f fs form (Some pushed) = Some (after_over left cx r set f fs form pushed)
+abbrev pub clauses_fit : Context → List Head → List Clause → Bool
+clauses_fit cx hs [] = true
+clauses_fit cx hs (c ∷ cs) = clause_fits cx hs c && clauses_fit cx hs cs
 
--- of a body, with nothing left while a frame is open
-abbrev pub framed : List Frame → State
-framed fs = record { frames = fs; left = [] }
+-- an instruction: its premises, its clauses and the local that it reads hold, and its operands pass
+abbrev pub pushed_by_row : Context → Row → List Head → List ℕ → Frame → Option (List MaybeType)
+pushed_by_row cx r hs set f =
+    guard (r.premise && (clauses_fit cx hs r.clauses && reads_set cx set r.reads))
+    (pushed_for cx r.type (operands_found (operands_wanted r.type) f))
 
-abbrev pub given : List ValType → List Frame → State
-given types fs = given_over [] types fs
+-- the frame's operands are its results, and nothing is left below them (pop_ctrl of the algorithm)
+abbrev pub may_close : Context → Frame → Bool
+may_close cx f =
+    let n = length (results cx f.head) in
+    nat_le (length f.operands) n && all_fit cx (operands_found n f) (results cx f.head)
 
-abbrev pub after : Context → Row → List ℕ → Frame → List Frame → Form → List MaybeType → State
-after cx r set f fs form pushed = after_over [] cx r set f fs form pushed
+-- An `if` without `else` gives its parameters as its results: an absent second part is an empty one
+-- (Specification, "if").
+abbrev pub missing_else_fits : Context → Head → Bool
+missing_else_fits cx h = if is_if h.kind then all_fit cx (map Known (params cx h)) (results cx h) else true
+
+-- a delimiter pushes nothing, where it fits the frame, and the frame may close
+abbrev pub pushed_by_delimiter : Context → Row → Frame → Bool → Option (List MaybeType)
+pushed_by_delimiter cx r f fits_frame = guard (r.premise && (fits_frame && may_close cx f)) (Some [])
+
+abbrev pub pushed_by_form : Context → Row → List Head → List ℕ → Frame → Form → Option (List MaybeType)
+pushed_by_form cx r hs set f Flat = pushed_by_row cx r hs set f
+pushed_by_form cx r hs set f (Opens h) = pushed_by_row cx r hs set f
+pushed_by_form cx r hs set f BeginsElse = pushed_by_delimiter cx r f (is_if f.head.kind)
+pushed_by_form cx r hs set f (BeginsCatch all types) = pushed_by_delimiter cx r f (may_catch f.head.kind)
+pushed_by_form cx r hs set f Ends = pushed_by_delimiter cx r f (missing_else_fits cx f.head)
+pushed_by_form cx r hs set f Delegates = pushed_by_delimiter cx r f (is_try f.head.kind)
+
+-- of an operator over the open frames with these heads, of which f is the innermost, and where these
+-- locals are set
+abbrev pub pushed_types : Context → Operator → List Head → List ℕ → Frame → Option (List MaybeType)
+pushed_types cx op hs set f = pushed_by_form cx (op.row hs) hs set f op.form
+
+-- ---- what an operator leaves
+
+-- a closed frame gives its results to the next outer one, or leaves them where none is open (pop_ctrl of
+-- the algorithm, and the push after it)
+abbrev pub state_after_exit : List MaybeType → List ValType → List Frame → State
+state_after_exit left types [] = state_with (onto (map Known types) left) []
+state_after_exit left types (f ∷ fs) = state_with left (frame_with (map Known types) f ∷ fs)
+
+-- What an operator leaves that pushes these types in the innermost frame f. A frame that is opened, or
+-- a part that begins, is live and owns its first types.
+abbrev pub state_after :
+    List MaybeType → Context → Row → List ℕ → Frame → List Frame → Form → List MaybeType → State
+state_after left cx r set f fs Flat pushed = state_with left (frame_after cx r set pushed f ∷ fs)
+state_after left cx r set f fs (Opens h) pushed =
+    state_with left (opened_frame h (params cx h) ∷ frame_below r f ∷ fs)
+state_after left cx r set f fs BeginsElse pushed =
+    state_with left (opened_frame (of_kind Else f.head) (params cx f.head) ∷ fs)
+state_after left cx r set f fs (BeginsCatch all types) pushed =
+    state_with left (opened_frame (of_kind (catch_kind all) f.head) types ∷ fs)
+state_after left cx r set f fs Ends pushed = state_after_exit left (results cx f.head) fs
+state_after left cx r set f fs Delegates pushed = state_after_exit left (results cx f.head) fs
+
+-- that, of an operator whose row holds
+abbrev pub state_if_pushed :
+    List MaybeType → Context → Row → List ℕ → Frame → List Frame → Form → Option (List MaybeType) →
+    Option State
+state_if_pushed left cx r set f fs form None = None
+state_if_pushed left cx r set f fs form (Some pushed) = Some (state_after left cx r set f fs form pushed)
+
+-- ---- steps
 
 abbrev pub bind : {A B : Type 0} → Option A → (A → Option B) → Option B
 bind None f = None
@@ -182,8 +208,8 @@ abbrev pub step_in : Context → Operator → List Frame → List MaybeType → 
 step_in cx op [] left = None
 step_in cx op (f ∷ fs) left =
     let hs = heads (f ∷ fs) in
-    let set = set_in (f ∷ fs) in
-    then_after left cx (op.row hs) set f fs op.form (pushes cx op hs set f)
+    let set = locals_set (f ∷ fs) in
+    state_if_pushed left cx (op.row hs) set f fs op.form (pushed_types cx op hs set f)
 
 -- one operator: None where its row doesn't hold
 abbrev pub step : Context → Operator → State → Option State
@@ -197,21 +223,21 @@ before cx (op ∷ code) s (suc k) = bind (step cx op s) (λ s'. before cx code s
 
 -- the state that a body of this type starts in (Specification, "Functions", "Expressions")
 abbrev pub start : BlockType → State
-start ty = framed (opened (body_head ty) [] ∷ [])
+start ty = open_state (opened_frame (body_head ty) [] ∷ [])
 
 -- all rows hold, and no frame is left open
 abbrev pub IsAccepted : Context → List Operator → State → Type 0
-IsAccepted cx code s = (left : List MaybeType) × (before cx code s (length code) ≡ Some (record { frames = []; left = left }))
+IsAccepted cx code s = (left : List MaybeType) × (before cx code s (length code) ≡ Some (state_with left []))
 
 -- ---- heights
 
 -- how many operands there are
-abbrev pub operands_in : List Frame → ℕ
-operands_in [] = 0
-operands_in (f ∷ fs) = length f.own + operands_in fs
+abbrev pub operand_count_in : List Frame → ℕ
+operand_count_in [] = 0
+operand_count_in (f ∷ fs) = length f.operands + operand_count_in fs
 
 abbrev pub operand_count : State → ℕ
-operand_count s = operands_in s.frames + length s.left
+operand_count s = operand_count_in s.frames + length s.left
 
 -- how many frames are open
 abbrev pub frame_count : State → ℕ

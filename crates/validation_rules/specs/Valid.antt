@@ -4,9 +4,9 @@ use Rattle.std.specs.Prelude.{◌≡◌, ℕ, Bool, true, List, Some}
 use Rattle.std.specs.List.{AllByRecursion}
 use Rattle.validate_resources.specs.Context.{Valid}
 use Rattle.validate_visit.specs.declared.op.Op.{Op}
-use Rattle.validation_rules.specs.Context.{ModuleContext, SubType, ValType, BlockType, Empty, Val, FuncType, Context}
+use Rattle.validation_rules.specs.Context.{ModuleContext, SubType, ValType, BlockType, Empty, Val, FuncType}
+use Rattle.validation_rules.specs.Context.{Context}
 use Rattle.validation_rules.specs.Fits.{MaybeType, Bottom, UnknownRef, Known}
-use Rattle.validation_rules.specs.Rows.{Head, Opens, BeginsCatch, Operator, gives}
 use Rattle.validation_rules.specs.Static.{Frame, State, step}
 use Rattle.validation_rules.specs.Table.{operator}
 
@@ -29,36 +29,21 @@ BlockIsValid md shared (FuncType i) = Resolves md shared i
 
 pub record FrameIsValid (md : ModuleContext) (shared : Bool) (f : Frame) : Type 0 where
   pub block : BlockIsValid md shared f.head.block_type
-  pub own : AllByRecursion (OperandIsValid md) f.own
+  pub operands : AllByRecursion (OperandIsValid md) f.operands
 
 -- the open frames' block types resolve, and the locals, the operands and what is left are valid
-pub record IsValidState (md : ModuleContext) (shared : Bool) (locals : List ValType) (s : State) : Type 0 where
+pub record IsValidState
+    (md : ModuleContext) (shared : Bool) (locals : List ValType) (s : State) : Type 0 where
   pub locals_valid : AllByRecursion (Valid md) locals
   pub frames : AllByRecursion (FrameIsValid md shared) s.frames
   pub left : AllByRecursion (OperandIsValid md) s.left
-
--- ---- what keeps it
-
-abbrev pub HeadIsValid : Context → Head → Type 0
-HeadIsValid cx h = BlockIsValid cx.of_module cx.shared h.block_type
-
--- What is asked of an operator for that: where its premise holds, in valid frames and over valid
--- operands, what it pushes is valid, a block type that it opens resolves, and a part that it begins
--- starts with valid types.
-pub record PushesValid (cx : Context) (op : Operator) : Type 0 where
-  pub pushed : (hs : List Head) (found pushed : List MaybeType) → (op.row hs).premise ≡ true → AllByRecursion (HeadIsValid cx) hs → AllByRecursion (OperandIsValid cx.of_module) found → gives cx (op.row hs).operands found ≡ Some pushed → AllByRecursion (OperandIsValid cx.of_module) pushed
-  pub opened : (hs : List Head) (h : Head) → (op.row hs).premise ≡ true → op.form ≡ Opens h → HeadIsValid cx h
-  pub begun : (hs : List Head) (all : Bool) (types : List ValType) → (op.row hs).premise ≡ true → op.form ≡ BeginsCatch all types → AllByRecursion (Valid cx.of_module) types
 
 -- a state of a body in this context
 abbrev pub StateIsValid : Context → State → Type 0
 StateIsValid cx s = IsValidState cx.of_module cx.shared cx.locals s
 
--- every step by such an operator keeps a valid state
-abbrev pub StepsKeepValid : Context → Type 0
-StepsKeepValid cx = (op : Operator) (s u : State) → PushesValid cx op → StateIsValid cx s → step cx op s ≡ Some u → StateIsValid cx u
-
 -- In every context over the module, each step by an operator of the table keeps a valid state.
 abbrev pub TableKeepsValid : ModuleContext → Type 0
 TableKeepsValid md =
-    (cx : Context) (op : Op) (s u : State) → cx.of_module ≡ md → StateIsValid cx s → step cx (operator cx op) s ≡ Some u → StateIsValid cx u
+    (cx : Context) (op : Op) (s u : State) → cx.of_module ≡ md → StateIsValid cx s →
+    step cx (operator cx op) s ≡ Some u → StateIsValid cx u

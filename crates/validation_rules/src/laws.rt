@@ -4,7 +4,7 @@ ghost use Rattle.std.specs.Prelude.{◌≡◌};
 ghost use Rattle.validation_rules.specs.Context.{Context};
 ghost use Rattle.validation_rules.specs.Order.{RowsAreOrdered, BodiesAreOrdered};
 ghost use Rattle.validation_rules.specs.Pops.{PopsAreWhole};
-ghost use Rattle.validation_rules.specs.Valid.{StepsKeepValid, TableKeepsValid};
+ghost use Rattle.validation_rules.specs.Valid.{TableKeepsValid};
 
 use validate_resources::WasmModuleResources;
 
@@ -22,9 +22,7 @@ pub fn order_law()
     ensures bodies { (cx : Context) → BodiesAreOrdered cx }
 {}
 
-/// Validity is kept: each step by an operator that pushes valid types keeps the state valid, and each
-/// operator of the table is one.
+/// Validity is kept: each step by an operator of the table keeps the state valid.
 pub fn validity_law<R: WasmModuleResources>(resources: &R)
-    ensures steps { (cx : Context) → cx.of_module ≡ R.context resources.now → StepsKeepValid cx }
-    ensures table { TableKeepsValid (R.context resources.now) }
+    ensures { TableKeepsValid (R.context resources.now) }
 {}

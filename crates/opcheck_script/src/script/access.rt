@@ -5,13 +5,14 @@ ghost use Rattle.std.specs.Option.{SomeIff, option_copied};
 ghost use Rattle.opcheck_script.specs.Access.{IsAccess, access_of, following};
 
 use crate::script::numbers::{read_index, read_u8, read_u64};
-use wasmparser_validate::visit::{MemArg, MemArgTarget};
+use validate_visit::{MemArg, MemArgTarget};
 
 /// The immediates that these words write, if they do: `offset=N`, `align=N` and `mem=N`, in any order
 /// and each at most once. Without them the offset is 0, the alignment the natural one, and the memory
 /// the first.
 pub fn read_access(words: &[&str], natural: u8) -> Option<MemArg>
-    ensures { let texts = map (λ word. word.now) words.now in SomeIff result (IsAccess texts) (access_of texts natural) }
+    ensures { let texts = map (λ word. word.now) words.now in SomeIff result (IsAccess texts)
+        (access_of texts natural) }
 {
     let offset = following(words, "offset=");
     let align = following(words, "align=");

@@ -1,7 +1,7 @@
 //! The proposals that a script names.
 
 use bitflags::Flags;
-use wasmparser_validate::types::WasmFeatures;
+use validate_types::WasmFeatures;
 
 /// The proposals that the word of a `feature` line names: the one of that name, or none.
 pub fn read_feature(word: &str) -> Option<WasmFeatures> {

@@ -4,7 +4,7 @@ ghost use Rattle.std.specs.Prelude.{◌≡◌, ◌≢◌, IfNone, IfSome, map};
 ghost use Rattle.validate_resources.specs.declared.lists.FuncDecl.{FuncDecl};
 ghost use Rattle.opcheck_script.specs.Functions.{function_marks};
 
-use wasmparser_validate::resources::FuncDecl;
+use validate_resources::FuncDecl;
 
 /// A function of this type with these marks, if they are those of one.
 pub fn read_function(type_index: u32, marks: &[&str]) -> Option<FuncDecl>

@@ -4,7 +4,7 @@ ghost use Rattle.std.specs.Prelude.{◌≡◌, ◌≢◌, IfNone, IfSome, map};
 ghost use Rattle.validate_types.specs.declared.types.GlobalType.{GlobalType};
 ghost use Rattle.opcheck_script.specs.Globals.{global_marks};
 
-use wasmparser_validate::types::{GlobalType, ValType};
+use validate_types::{GlobalType, ValType};
 
 /// The type of a global that holds such a value, with these marks, if they are those of one.
 pub fn read_global_type(content_type: ValType, marks: &[&str]) -> Option<GlobalType>

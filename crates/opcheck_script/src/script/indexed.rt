@@ -2,7 +2,7 @@
 
 use crate::script::names::named_in;
 use crate::script::numbers::read_index;
-use wasmparser_validate::visit::{ControlOp, Op, ReferenceOp};
+use validate_visit::{ControlOp, Op, ReferenceOp};
 
 /// The operators on control, on variables and on functions with one index: that of a label, a function, a
 /// type, a local or a global.

@@ -7,16 +7,14 @@ use crate::script::functions::read_function;
 use crate::script::globals::read_global_type;
 use crate::script::memory::read_memory_type;
 use crate::script::numbers::read_index;
-use crate::script::operators::{read_br_table, read_operator, read_typed_select_multi};
-use crate::script::owned::OwnedOp;
+use crate::script::operators::read_owned_operator;
 use crate::script::references::read_reference;
 use crate::script::tables::read_table_type;
 use crate::script::types::{read_type, read_value_type};
+use crate::script::written::{WrittenOp, read_attempt};
 use std::alloc::Global;
-use wasmparser_validate::resources::FuncDecl;
-use wasmparser_validate::types::{
-    GlobalType, MemoryType, RefType, SubType, TableType, ValType, WasmFeatures,
-};
+use validate_resources::FuncDecl;
+use validate_types::{GlobalType, MemoryType, RefType, SubType, TableType, ValType, WasmFeatures};
 
 /// What a line says that is neither blank nor a comment.
 #[derive(Drop)]
@@ -41,23 +39,26 @@ pub enum Line {
     Body(Body),
     /// `local N T`: the body has this many more locals of this type.
     Locals(u32, ValType),
-    /// An operator of the body.
-    Operator(OwnedOp),
+    /// An operator of the body, or `try` and one.
+    Operator(WrittenOp),
 }
 
 /// Reads the words of a line, of which there is one at least.
 pub fn read_line(alloc: Global, words: &[&str]) -> Result<Line, LineError> {
     match words.split_first() {
         Some((&"type", rest)) => Ok(Line::SubType(read_type(alloc, rest)?)),
-        Some((&"br_table", labels)) => Ok(Line::Operator(read_br_table(alloc, labels)?)),
-        Some((&"select_multi", types)) => {
-            Ok(Line::Operator(read_typed_select_multi(alloc, types)?))
-        }
-        _ => read_flat_line(words).ok_or(LineError::Bad),
+        Some((&"try", rest)) => Ok(Line::Operator(read_attempt(alloc, rest)?)),
+        _ => match read_flat_line(words) {
+            Some(line) => Ok(line),
+            None => {
+                let op = read_owned_operator(alloc, words)?;
+                Ok(Line::Operator(WrittenOp::plain(op)))
+            }
+        },
     }
 }
 
-/// Reads the words of a line that takes no memory.
+/// Reads the words of a line that takes no memory and is no operator.
 fn read_flat_line(words: &[&str]) -> Option<Line> {
     match *words {
         ["feature", name] => Some(Line::Feature(read_feature(name)?)),
@@ -79,6 +80,6 @@ fn read_flat_line(words: &[&str]) -> Option<Line> {
         ["func", type_index] => Some(Line::Body(Body::Function(read_index(type_index)?))),
         ["expr", ty] => Some(Line::Body(Body::Expression(read_value_type(ty)?))),
         ["local", count, ty] => Some(Line::Locals(read_index(count)?, read_value_type(ty)?)),
-        _ => Some(Line::Operator(OwnedOp::Flat(read_operator(words)?))),
+        _ => None,
     }
 }

@@ -6,9 +6,11 @@ ghost use Rattle.validate_types.specs.declared.types.MemoryType.{MemoryType};
 ghost use Rattle.opcheck_script.specs.Memory.{indices_of, marks_of};
 
 use crate::script::access::read_access;
+use crate::script::names::named_in;
 use crate::script::numbers::read_index;
-use wasmparser_validate::types::MemoryType;
-use wasmparser_validate::visit::{MemoryOp, Op};
+use crate::script::numeric::SIGNS;
+use validate_types::MemoryType;
+use validate_visit::{MemoryOp, NumberType, Op, PackedInteger};
 
 /// The type of a memory with these marks, if they are those of one.
 pub fn read_memory_type(marks: &[&str]) -> Option<MemoryType>
@@ -36,7 +38,8 @@ pub fn read_memory_operator(words: &[&str]) -> Option<Op<'static>> {
 
 /// The operator on whole memories or on data segments, whose immediates are indices alone.
 fn read_bulk_operator(words: &[&str]) -> Option<MemoryOp>
-    ensures { IfSome result (λ op. map (λ word. digits_value 10 word.now) (drop 1 words.now) ≡ indices_of op) }
+    ensures { IfSome result (λ op. map (λ word. digits_value 10 word.now) (drop 1 words.now)
+        ≡ indices_of op) }
 {
     Some(match *words {
         ["memory.size", mem] => MemoryOp::MemorySize(read_index(mem)?),
@@ -58,39 +61,44 @@ fn read_bulk_operator(words: &[&str]) -> Option<MemoryOp>
 
 /// The load of this name, with these words after it.
 fn read_load(name: &str, immediates: &[&str]) -> Option<MemoryOp> {
-    let access = |natural| read_access(immediates, natural);
-    Some(match name {
-        "i32.load" => MemoryOp::I32Load(access(2)?),
-        "i64.load" => MemoryOp::I64Load(access(3)?),
-        "f32.load" => MemoryOp::F32Load(access(2)?),
-        "f64.load" => MemoryOp::F64Load(access(3)?),
-        "i32.load8_s" => MemoryOp::I32Load8S(access(0)?),
-        "i32.load8_u" => MemoryOp::I32Load8U(access(0)?),
-        "i32.load16_s" => MemoryOp::I32Load16S(access(1)?),
-        "i32.load16_u" => MemoryOp::I32Load16U(access(1)?),
-        "i64.load8_s" => MemoryOp::I64Load8S(access(0)?),
-        "i64.load8_u" => MemoryOp::I64Load8U(access(0)?),
-        "i64.load16_s" => MemoryOp::I64Load16S(access(1)?),
-        "i64.load16_u" => MemoryOp::I64Load16U(access(1)?),
-        "i64.load32_s" => MemoryOp::I64Load32S(access(2)?),
-        "i64.load32_u" => MemoryOp::I64Load32U(access(2)?),
-        _ => return None,
-    })
+    let (ty, word) = name.split_once('.')?;
+    if word == "load" {
+        let (ty, natural) = named_in(NUMBERS, ty)?;
+        return Some(MemoryOp::Load(ty, read_access(immediates, natural)?));
+    }
+    let (width, sign) = word.strip_prefix("load")?.split_once('_')?;
+    let (part, natural) = packed_integer(ty, width)?;
+    let sign = named_in(SIGNS, sign)?;
+    Some(MemoryOp::LoadPacked(part, sign, read_access(immediates, natural)?))
 }
 
 /// The store of this name, with these words after it.
 fn read_store(name: &str, immediates: &[&str]) -> Option<MemoryOp> {
-    let access = |natural| read_access(immediates, natural);
-    Some(match name {
-        "i32.store" => MemoryOp::I32Store(access(2)?),
-        "i64.store" => MemoryOp::I64Store(access(3)?),
-        "f32.store" => MemoryOp::F32Store(access(2)?),
-        "f64.store" => MemoryOp::F64Store(access(3)?),
-        "i32.store8" => MemoryOp::I32Store8(access(0)?),
-        "i32.store16" => MemoryOp::I32Store16(access(1)?),
-        "i64.store8" => MemoryOp::I64Store8(access(0)?),
-        "i64.store16" => MemoryOp::I64Store16(access(1)?),
-        "i64.store32" => MemoryOp::I64Store32(access(2)?),
-        _ => return None,
-    })
+    let (ty, word) = name.split_once('.')?;
+    if word == "store" {
+        let (ty, natural) = named_in(NUMBERS, ty)?;
+        return Some(MemoryOp::Store(ty, read_access(immediates, natural)?));
+    }
+    let (part, natural) = packed_integer(ty, word.strip_prefix("store")?)?;
+    Some(MemoryOp::StorePacked(part, read_access(immediates, natural)?))
+}
+
+/// The types of numbers, and the exponents of 2 of their bytes.
+const NUMBERS: &[(&str, (NumberType, u8))] = &[
+    ("i32", (NumberType::I32, 2)),
+    ("i64", (NumberType::I64, 3)),
+    ("f32", (NumberType::F32, 2)),
+    ("f64", (NumberType::F64, 3)),
+];
+
+/// So many bits of an integer of this type, and the exponent of 2 of their bytes.
+pub fn packed_integer(ty: &str, width: &str) -> Option<(PackedInteger, u8)> {
+    match (ty, width) {
+        ("i32", "8") => Some((PackedInteger::I32Bits8, 0)),
+        ("i32", "16") => Some((PackedInteger::I32Bits16, 1)),
+        ("i64", "8") => Some((PackedInteger::I64Bits8, 0)),
+        ("i64", "16") => Some((PackedInteger::I64Bits16, 1)),
+        ("i64", "32") => Some((PackedInteger::I64Bits32, 2)),
+        _ => None,
+    }
 }

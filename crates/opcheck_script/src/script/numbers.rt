@@ -12,7 +12,8 @@ use std::alloc::Global;
 
 /// The token, if it has no `+` in front, which std's readers of numbers would allow.
 fn without_plus(token: &str) -> Option<&str>
-    ensures { MatchOption result (slice_index token.now 0 ≡ 43) (λ same. (same.now ≡ token.now) × (slice_index token.now 0 ≢ 43)) }
+    ensures { MatchOption result (slice_index token.now 0 ≡ 43)
+        (λ same. (same.now ≡ token.now) × (slice_index token.now 0 ≢ 43)) }
 {
     if token.starts_with('+') {
         None
@@ -30,7 +31,8 @@ pub fn read_index(token: &str) -> Option<u32>
 
 /// The indices that these tokens write, if each of them does.
 pub fn read_indices(alloc: Global, tokens: &[&str]) -> Result<Vec<u32>, LineError>
-    ensures read { IfOk result (λ indices. indices.items ≡ map (λ token. digits_value 10 token.now) tokens.now) }
+    ensures read { IfOk result (λ indices. indices.items
+        ≡ map (λ token. digits_value 10 token.now) tokens.now) }
     ensures good { OnOk result (All (λ token. IsIndex token.now) tokens.now) }
     ensures bad { IsErrOf result LineError.Bad → ¬ (All (λ token. IsIndex token.now) tokens.now) }
 {

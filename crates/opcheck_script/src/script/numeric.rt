@@ -1,187 +1,200 @@
-//! Operators on numbers by their names.
+//! Operators on numbers by their names: a type, a dot, and a word.
 
-use wasmparser_validate::visit::{ConvertOp, NumericOp, Op};
+use crate::script::names::named_in;
+use validate_visit::{
+    ConvertOp, FloatBinaryOp, FloatComparisonOp, FloatType, FloatUnaryOp, IntegerBinaryOp,
+    IntegerComparisonOp, IntegerType, IntegerUnaryOp, NumberType, NumericOp, Op, PackedInteger,
+    Sign,
+};
 
-/// The operators on numbers of one type, without the constants.
-pub const NUMERIC: &[(&str, Op<'static>)] = &[
-    ("i32.eqz", Op::Numeric(NumericOp::I32Eqz)),
-    ("i32.eq", Op::Numeric(NumericOp::I32Eq)),
-    ("i32.ne", Op::Numeric(NumericOp::I32Ne)),
-    ("i32.lt_s", Op::Numeric(NumericOp::I32LtS)),
-    ("i32.lt_u", Op::Numeric(NumericOp::I32LtU)),
-    ("i32.gt_s", Op::Numeric(NumericOp::I32GtS)),
-    ("i32.gt_u", Op::Numeric(NumericOp::I32GtU)),
-    ("i32.le_s", Op::Numeric(NumericOp::I32LeS)),
-    ("i32.le_u", Op::Numeric(NumericOp::I32LeU)),
-    ("i32.ge_s", Op::Numeric(NumericOp::I32GeS)),
-    ("i32.ge_u", Op::Numeric(NumericOp::I32GeU)),
-    ("i64.eqz", Op::Numeric(NumericOp::I64Eqz)),
-    ("i64.eq", Op::Numeric(NumericOp::I64Eq)),
-    ("i64.ne", Op::Numeric(NumericOp::I64Ne)),
-    ("i64.lt_s", Op::Numeric(NumericOp::I64LtS)),
-    ("i64.lt_u", Op::Numeric(NumericOp::I64LtU)),
-    ("i64.gt_s", Op::Numeric(NumericOp::I64GtS)),
-    ("i64.gt_u", Op::Numeric(NumericOp::I64GtU)),
-    ("i64.le_s", Op::Numeric(NumericOp::I64LeS)),
-    ("i64.le_u", Op::Numeric(NumericOp::I64LeU)),
-    ("i64.ge_s", Op::Numeric(NumericOp::I64GeS)),
-    ("i64.ge_u", Op::Numeric(NumericOp::I64GeU)),
-    ("f32.eq", Op::Numeric(NumericOp::F32Eq)),
-    ("f32.ne", Op::Numeric(NumericOp::F32Ne)),
-    ("f32.lt", Op::Numeric(NumericOp::F32Lt)),
-    ("f32.gt", Op::Numeric(NumericOp::F32Gt)),
-    ("f32.le", Op::Numeric(NumericOp::F32Le)),
-    ("f32.ge", Op::Numeric(NumericOp::F32Ge)),
-    ("f64.eq", Op::Numeric(NumericOp::F64Eq)),
-    ("f64.ne", Op::Numeric(NumericOp::F64Ne)),
-    ("f64.lt", Op::Numeric(NumericOp::F64Lt)),
-    ("f64.gt", Op::Numeric(NumericOp::F64Gt)),
-    ("f64.le", Op::Numeric(NumericOp::F64Le)),
-    ("f64.ge", Op::Numeric(NumericOp::F64Ge)),
-    ("i32.clz", Op::Numeric(NumericOp::I32Clz)),
-    ("i32.ctz", Op::Numeric(NumericOp::I32Ctz)),
-    ("i32.popcnt", Op::Numeric(NumericOp::I32Popcnt)),
-    ("i32.add", Op::Numeric(NumericOp::I32Add)),
-    ("i32.sub", Op::Numeric(NumericOp::I32Sub)),
-    ("i32.mul", Op::Numeric(NumericOp::I32Mul)),
-    ("i32.div_s", Op::Numeric(NumericOp::I32DivS)),
-    ("i32.div_u", Op::Numeric(NumericOp::I32DivU)),
-    ("i32.rem_s", Op::Numeric(NumericOp::I32RemS)),
-    ("i32.rem_u", Op::Numeric(NumericOp::I32RemU)),
-    ("i32.and", Op::Numeric(NumericOp::I32And)),
-    ("i32.or", Op::Numeric(NumericOp::I32Or)),
-    ("i32.xor", Op::Numeric(NumericOp::I32Xor)),
-    ("i32.shl", Op::Numeric(NumericOp::I32Shl)),
-    ("i32.shr_s", Op::Numeric(NumericOp::I32ShrS)),
-    ("i32.shr_u", Op::Numeric(NumericOp::I32ShrU)),
-    ("i32.rotl", Op::Numeric(NumericOp::I32Rotl)),
-    ("i32.rotr", Op::Numeric(NumericOp::I32Rotr)),
-    ("i64.clz", Op::Numeric(NumericOp::I64Clz)),
-    ("i64.ctz", Op::Numeric(NumericOp::I64Ctz)),
-    ("i64.popcnt", Op::Numeric(NumericOp::I64Popcnt)),
-    ("i64.add", Op::Numeric(NumericOp::I64Add)),
-    ("i64.sub", Op::Numeric(NumericOp::I64Sub)),
-    ("i64.mul", Op::Numeric(NumericOp::I64Mul)),
-    ("i64.div_s", Op::Numeric(NumericOp::I64DivS)),
-    ("i64.div_u", Op::Numeric(NumericOp::I64DivU)),
-    ("i64.rem_s", Op::Numeric(NumericOp::I64RemS)),
-    ("i64.rem_u", Op::Numeric(NumericOp::I64RemU)),
-    ("i64.and", Op::Numeric(NumericOp::I64And)),
-    ("i64.or", Op::Numeric(NumericOp::I64Or)),
-    ("i64.xor", Op::Numeric(NumericOp::I64Xor)),
-    ("i64.shl", Op::Numeric(NumericOp::I64Shl)),
-    ("i64.shr_s", Op::Numeric(NumericOp::I64ShrS)),
-    ("i64.shr_u", Op::Numeric(NumericOp::I64ShrU)),
-    ("i64.rotl", Op::Numeric(NumericOp::I64Rotl)),
-    ("i64.rotr", Op::Numeric(NumericOp::I64Rotr)),
-    ("f32.abs", Op::Numeric(NumericOp::F32Abs)),
-    ("f32.neg", Op::Numeric(NumericOp::F32Neg)),
-    ("f32.ceil", Op::Numeric(NumericOp::F32Ceil)),
-    ("f32.floor", Op::Numeric(NumericOp::F32Floor)),
-    ("f32.trunc", Op::Numeric(NumericOp::F32Trunc)),
-    ("f32.nearest", Op::Numeric(NumericOp::F32Nearest)),
-    ("f32.sqrt", Op::Numeric(NumericOp::F32Sqrt)),
-    ("f32.add", Op::Numeric(NumericOp::F32Add)),
-    ("f32.sub", Op::Numeric(NumericOp::F32Sub)),
-    ("f32.mul", Op::Numeric(NumericOp::F32Mul)),
-    ("f32.div", Op::Numeric(NumericOp::F32Div)),
-    ("f32.min", Op::Numeric(NumericOp::F32Min)),
-    ("f32.max", Op::Numeric(NumericOp::F32Max)),
-    ("f32.copysign", Op::Numeric(NumericOp::F32Copysign)),
-    ("f64.abs", Op::Numeric(NumericOp::F64Abs)),
-    ("f64.neg", Op::Numeric(NumericOp::F64Neg)),
-    ("f64.ceil", Op::Numeric(NumericOp::F64Ceil)),
-    ("f64.floor", Op::Numeric(NumericOp::F64Floor)),
-    ("f64.trunc", Op::Numeric(NumericOp::F64Trunc)),
-    ("f64.nearest", Op::Numeric(NumericOp::F64Nearest)),
-    ("f64.sqrt", Op::Numeric(NumericOp::F64Sqrt)),
-    ("f64.add", Op::Numeric(NumericOp::F64Add)),
-    ("f64.sub", Op::Numeric(NumericOp::F64Sub)),
-    ("f64.mul", Op::Numeric(NumericOp::F64Mul)),
-    ("f64.div", Op::Numeric(NumericOp::F64Div)),
-    ("f64.min", Op::Numeric(NumericOp::F64Min)),
-    ("f64.max", Op::Numeric(NumericOp::F64Max)),
-    ("f64.copysign", Op::Numeric(NumericOp::F64Copysign)),
-    ("i64.add128", Op::Numeric(NumericOp::I64Add128)),
-    ("i64.sub128", Op::Numeric(NumericOp::I64Sub128)),
-    ("i64.mul_wide_s", Op::Numeric(NumericOp::I64MulWideS)),
-    ("i64.mul_wide_u", Op::Numeric(NumericOp::I64MulWideU)),
+/// Operators on one integer.
+const INTEGER_UNARY: &[(&str, IntegerUnaryOp)] = &[
+    ("clz", IntegerUnaryOp::Clz),
+    ("ctz", IntegerUnaryOp::Ctz),
+    ("popcnt", IntegerUnaryOp::Popcnt),
 ];
 
-/// The conversions.
-pub const CONVERT: &[(&str, Op<'static>)] = &[
-    ("i32.wrap_i64", Op::Convert(ConvertOp::I32WrapI64)),
-    ("i32.trunc_f32_s", Op::Convert(ConvertOp::I32TruncF32S)),
-    ("i32.trunc_f32_u", Op::Convert(ConvertOp::I32TruncF32U)),
-    ("i32.trunc_f64_s", Op::Convert(ConvertOp::I32TruncF64S)),
-    ("i32.trunc_f64_u", Op::Convert(ConvertOp::I32TruncF64U)),
-    ("i64.extend_i32_s", Op::Convert(ConvertOp::I64ExtendI32S)),
-    ("i64.extend_i32_u", Op::Convert(ConvertOp::I64ExtendI32U)),
-    ("i64.trunc_f32_s", Op::Convert(ConvertOp::I64TruncF32S)),
-    ("i64.trunc_f32_u", Op::Convert(ConvertOp::I64TruncF32U)),
-    ("i64.trunc_f64_s", Op::Convert(ConvertOp::I64TruncF64S)),
-    ("i64.trunc_f64_u", Op::Convert(ConvertOp::I64TruncF64U)),
-    ("f32.convert_i32_s", Op::Convert(ConvertOp::F32ConvertI32S)),
-    ("f32.convert_i32_u", Op::Convert(ConvertOp::F32ConvertI32U)),
-    ("f32.convert_i64_s", Op::Convert(ConvertOp::F32ConvertI64S)),
-    ("f32.convert_i64_u", Op::Convert(ConvertOp::F32ConvertI64U)),
-    ("f32.demote_f64", Op::Convert(ConvertOp::F32DemoteF64)),
-    ("f64.convert_i32_s", Op::Convert(ConvertOp::F64ConvertI32S)),
-    ("f64.convert_i32_u", Op::Convert(ConvertOp::F64ConvertI32U)),
-    ("f64.convert_i64_s", Op::Convert(ConvertOp::F64ConvertI64S)),
-    ("f64.convert_i64_u", Op::Convert(ConvertOp::F64ConvertI64U)),
-    ("f64.promote_f32", Op::Convert(ConvertOp::F64PromoteF32)),
+/// Operators on two integers.
+const INTEGER_BINARY: &[(&str, IntegerBinaryOp)] = &[
+    ("add", IntegerBinaryOp::Add),
+    ("sub", IntegerBinaryOp::Sub),
+    ("mul", IntegerBinaryOp::Mul),
+    ("div_s", IntegerBinaryOp::Div(Sign::Signed)),
+    ("div_u", IntegerBinaryOp::Div(Sign::Unsigned)),
+    ("rem_s", IntegerBinaryOp::Rem(Sign::Signed)),
+    ("rem_u", IntegerBinaryOp::Rem(Sign::Unsigned)),
+    ("and", IntegerBinaryOp::And),
+    ("or", IntegerBinaryOp::Or),
+    ("xor", IntegerBinaryOp::Xor),
+    ("shl", IntegerBinaryOp::Shl),
+    ("shr_s", IntegerBinaryOp::Shr(Sign::Signed)),
+    ("shr_u", IntegerBinaryOp::Shr(Sign::Unsigned)),
+    ("rotl", IntegerBinaryOp::Rotl),
+    ("rotr", IntegerBinaryOp::Rotr),
+];
+
+/// Comparisons of two integers.
+const INTEGER_COMPARISON: &[(&str, IntegerComparisonOp)] = &[
+    ("eq", IntegerComparisonOp::Eq),
+    ("ne", IntegerComparisonOp::Ne),
+    ("lt_s", IntegerComparisonOp::Lt(Sign::Signed)),
+    ("lt_u", IntegerComparisonOp::Lt(Sign::Unsigned)),
+    ("gt_s", IntegerComparisonOp::Gt(Sign::Signed)),
+    ("gt_u", IntegerComparisonOp::Gt(Sign::Unsigned)),
+    ("le_s", IntegerComparisonOp::Le(Sign::Signed)),
+    ("le_u", IntegerComparisonOp::Le(Sign::Unsigned)),
+    ("ge_s", IntegerComparisonOp::Ge(Sign::Signed)),
+    ("ge_u", IntegerComparisonOp::Ge(Sign::Unsigned)),
+];
+
+/// Operators on one float.
+const FLOAT_UNARY: &[(&str, FloatUnaryOp)] = &[
+    ("abs", FloatUnaryOp::Abs),
+    ("neg", FloatUnaryOp::Neg),
+    ("ceil", FloatUnaryOp::Ceil),
+    ("floor", FloatUnaryOp::Floor),
+    ("trunc", FloatUnaryOp::Trunc),
+    ("nearest", FloatUnaryOp::Nearest),
+    ("sqrt", FloatUnaryOp::Sqrt),
+];
+
+/// Operators on two floats.
+const FLOAT_BINARY: &[(&str, FloatBinaryOp)] = &[
+    ("add", FloatBinaryOp::Add),
+    ("sub", FloatBinaryOp::Sub),
+    ("mul", FloatBinaryOp::Mul),
+    ("div", FloatBinaryOp::Div),
+    ("min", FloatBinaryOp::Min),
+    ("max", FloatBinaryOp::Max),
+    ("copysign", FloatBinaryOp::Copysign),
+];
+
+/// Comparisons of two floats.
+const FLOAT_COMPARISON: &[(&str, FloatComparisonOp)] = &[
+    ("eq", FloatComparisonOp::Eq),
+    ("ne", FloatComparisonOp::Ne),
+    ("lt", FloatComparisonOp::Lt),
+    ("gt", FloatComparisonOp::Gt),
+    ("le", FloatComparisonOp::Le),
+    ("ge", FloatComparisonOp::Ge),
+];
+
+/// Operators on integers of 128 bits, each in two of 64.
+const WIDE: &[(&str, NumericOp)] = &[
+    ("add128", NumericOp::Add128),
+    ("sub128", NumericOp::Sub128),
+    ("mul_wide_s", NumericOp::MulWide(Sign::Signed)),
+    ("mul_wide_u", NumericOp::MulWide(Sign::Unsigned)),
+];
+
+/// Conversions of one pair of types, and extensions of signs.
+const CONVERT: &[(&str, ConvertOp)] = &[
+    ("i32.wrap_i64", ConvertOp::Wrap),
+    ("i64.extend_i32_s", ConvertOp::Extend(Sign::Signed)),
+    ("i64.extend_i32_u", ConvertOp::Extend(Sign::Unsigned)),
+    (
+        "i32.extend8_s",
+        ConvertOp::ExtendPacked(PackedInteger::I32Bits8),
+    ),
+    (
+        "i32.extend16_s",
+        ConvertOp::ExtendPacked(PackedInteger::I32Bits16),
+    ),
+    (
+        "i64.extend8_s",
+        ConvertOp::ExtendPacked(PackedInteger::I64Bits8),
+    ),
+    (
+        "i64.extend16_s",
+        ConvertOp::ExtendPacked(PackedInteger::I64Bits16),
+    ),
+    (
+        "i64.extend32_s",
+        ConvertOp::ExtendPacked(PackedInteger::I64Bits32),
+    ),
+    ("f32.demote_f64", ConvertOp::Demote),
+    ("f64.promote_f32", ConvertOp::Promote),
     (
         "i32.reinterpret_f32",
-        Op::Convert(ConvertOp::I32ReinterpretF32),
+        ConvertOp::Reinterpret(NumberType::I32),
     ),
     (
         "i64.reinterpret_f64",
-        Op::Convert(ConvertOp::I64ReinterpretF64),
+        ConvertOp::Reinterpret(NumberType::I64),
     ),
     (
         "f32.reinterpret_i32",
-        Op::Convert(ConvertOp::F32ReinterpretI32),
+        ConvertOp::Reinterpret(NumberType::F32),
     ),
     (
         "f64.reinterpret_i64",
-        Op::Convert(ConvertOp::F64ReinterpretI64),
-    ),
-    ("i32.extend8_s", Op::Convert(ConvertOp::I32Extend8S)),
-    ("i32.extend16_s", Op::Convert(ConvertOp::I32Extend16S)),
-    ("i64.extend8_s", Op::Convert(ConvertOp::I64Extend8S)),
-    ("i64.extend16_s", Op::Convert(ConvertOp::I64Extend16S)),
-    ("i64.extend32_s", Op::Convert(ConvertOp::I64Extend32S)),
-    (
-        "i32.trunc_sat_f32_s",
-        Op::Convert(ConvertOp::I32TruncSatF32S),
-    ),
-    (
-        "i32.trunc_sat_f32_u",
-        Op::Convert(ConvertOp::I32TruncSatF32U),
-    ),
-    (
-        "i32.trunc_sat_f64_s",
-        Op::Convert(ConvertOp::I32TruncSatF64S),
-    ),
-    (
-        "i32.trunc_sat_f64_u",
-        Op::Convert(ConvertOp::I32TruncSatF64U),
-    ),
-    (
-        "i64.trunc_sat_f32_s",
-        Op::Convert(ConvertOp::I64TruncSatF32S),
-    ),
-    (
-        "i64.trunc_sat_f32_u",
-        Op::Convert(ConvertOp::I64TruncSatF32U),
-    ),
-    (
-        "i64.trunc_sat_f64_s",
-        Op::Convert(ConvertOp::I64TruncSatF64S),
-    ),
-    (
-        "i64.trunc_sat_f64_u",
-        Op::Convert(ConvertOp::I64TruncSatF64U),
+        ConvertOp::Reinterpret(NumberType::F64),
     ),
 ];
+
+const INTEGERS: &[(&str, IntegerType)] = &[("i32", IntegerType::I32), ("i64", IntegerType::I64)];
+
+const FLOATS: &[(&str, FloatType)] = &[("f32", FloatType::F32), ("f64", FloatType::F64)];
+
+/// The signs of integers.
+pub const SIGNS: &[(&str, Sign)] = &[("s", Sign::Signed), ("u", Sign::Unsigned)];
+
+/// The conversion of this name between integers and floats: a type, a dot, a word, the other type and a sign.
+fn conversion(name: &str) -> Option<ConvertOp> {
+    let (into, word) = name.split_once('.')?;
+    let (word, sign) = word.rsplit_once('_')?;
+    let (word, from) = word.rsplit_once('_')?;
+    let sign = named_in(SIGNS, sign)?;
+    match word {
+        "trunc" => Some(ConvertOp::Trunc(named_in(INTEGERS, into)?, named_in(FLOATS, from)?, sign)),
+        "trunc_sat" => Some(ConvertOp::TruncSat(
+            named_in(INTEGERS, into)?,
+            named_in(FLOATS, from)?,
+            sign,
+        )),
+        "convert" => Some(ConvertOp::Convert(
+            named_in(FLOATS, into)?,
+            named_in(INTEGERS, from)?,
+            sign,
+        )),
+        _ => None,
+    }
+}
+
+/// The operator on numbers of this name, if there is one without immediates.
+pub fn numeric_operator(name: &str) -> Option<Op<'static>> {
+    match named_in(CONVERT, name).or_else(|| conversion(name)) {
+        Some(op) => Some(Op::Convert(op)),
+        None => Some(Op::Numeric(typed_operator(name)?)),
+    }
+}
+
+fn typed_operator(name: &str) -> Option<NumericOp> {
+    let (ty, word) = name.split_once('.')?;
+    match ty {
+        "i32" => integer_operator(IntegerType::I32, word),
+        "i64" => integer_operator(IntegerType::I64, word).or_else(|| named_in(WIDE, word)),
+        "f32" => float_operator(FloatType::F32, word),
+        "f64" => float_operator(FloatType::F64, word),
+        _ => None,
+    }
+}
+
+fn integer_operator(ty: IntegerType, word: &str) -> Option<NumericOp> {
+    if word == "eqz" {
+        return Some(NumericOp::Eqz(ty));
+    }
+    named_in(INTEGER_UNARY, word)
+        .map(|op| NumericOp::IntegerUnary(ty, op))
+        .or_else(|| named_in(INTEGER_BINARY, word).map(|op| NumericOp::IntegerBinary(ty, op)))
+        .or_else(|| {
+            named_in(INTEGER_COMPARISON, word).map(|op| NumericOp::IntegerComparison(ty, op))
+        })
+}
+
+fn float_operator(ty: FloatType, word: &str) -> Option<NumericOp> {
+    named_in(FLOAT_UNARY, word)
+        .map(|op| NumericOp::FloatUnary(ty, op))
+        .or_else(|| named_in(FLOAT_BINARY, word).map(|op| NumericOp::FloatBinary(ty, op)))
+        .or_else(|| named_in(FLOAT_COMPARISON, word).map(|op| NumericOp::FloatComparison(ty, op)))
+}

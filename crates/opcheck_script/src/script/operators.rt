@@ -12,15 +12,13 @@ use crate::script::indexed::{indexed_operator, indirect_call};
 use crate::script::memory::read_memory_operator;
 use crate::script::names::named_in;
 use crate::script::numbers::{read_i32, read_i64, read_index, read_indices, read_u64};
-use crate::script::numeric::{CONVERT, NUMERIC};
+use crate::script::numeric::numeric_operator;
 use crate::script::owned::OwnedOp;
 use crate::script::references::read_heap_type;
 use crate::script::tables::read_table_operator;
 use crate::script::types::{read_value_type, read_value_types};
 use std::alloc::Global;
-use wasmparser_validate::visit::{
-    AtomicOp, BlockType, ControlOp, Ieee32, Ieee64, NumericOp, Op, ReferenceOp,
-};
+use validate_visit::{AtomicOp, BlockType, ControlOp, Ieee32, Ieee64, NumericOp, Op, ReferenceOp};
 
 /// The operators without immediates but those of numbers, by their names.
 const PLAIN: &[(&str, Op<'static>)] = &[
@@ -39,9 +37,18 @@ const PLAIN: &[(&str, Op<'static>)] = &[
     ("pause", Op::Atomic(AtomicOp::Pause)),
 ];
 
+/// The operator that a line's words write: its name, and its immediates after it.
+pub fn read_owned_operator(alloc: Global, words: &[&str]) -> Result<OwnedOp, LineError> {
+    match words.split_first() {
+        Some((&"br_table", labels)) => read_br_table(alloc, labels),
+        Some((&"select_multi", types)) => read_typed_select_multi(alloc, types),
+        _ => Ok(OwnedOp::Flat(read_operator(words).ok_or(LineError::Bad)?)),
+    }
+}
+
 /// The operator that a line's words write, if they do, where it has no list: its name, and its
 /// immediates after it.
-pub fn read_operator(words: &[&str]) -> Option<Op<'static>> {
+fn read_operator(words: &[&str]) -> Option<Op<'static>> {
     operator_without_memory(words)
         .or_else(|| read_memory_operator(words))
         .or_else(|| read_atomic_operator(words))
@@ -64,9 +71,7 @@ fn operator_without_memory(words: &[&str]) -> Option<Op<'static>> {
 
 /// The operator without immediates of this name.
 fn plain_operator(name: &str) -> Option<Op<'static>> {
-    named_in(PLAIN, name)
-        .or_else(|| named_in(NUMERIC, name))
-        .or_else(|| named_in(CONVERT, name))
+    named_in(PLAIN, name).or_else(|| numeric_operator(name))
 }
 
 /// The constant of this type and value.
@@ -102,10 +107,11 @@ fn read_block_type(word: &str) -> Option<BlockType> {
 }
 
 /// A `br_table` to these labels, of which the last is the default.
-pub fn read_br_table(alloc: Global, labels: &[&str]) -> Result<OwnedOp, LineError>
+fn read_br_table(alloc: Global, labels: &[&str]) -> Result<OwnedOp, LineError>
     ensures labels { IfOk result (λ op. labels_of op ≡ map (λ label. digits_value 10 label.now) labels.now) }
     ensures good { OnOk result (All (λ label. IsIndex label.now) labels.now) }
-    ensures bad { IsErrOf result LineError.Bad → labels.now ≢ [] → ¬ (All (λ label. IsIndex label.now) labels.now) }
+    ensures bad { IsErrOf result LineError.Bad → labels.now ≢ []
+        → ¬ (All (λ label. IsIndex label.now) labels.now) }
 {
     let (default, targets) = labels.split_last().ok_or(LineError::Bad)?;
     let default = read_index(default).ok_or(LineError::Bad)?;
@@ -116,6 +122,6 @@ pub fn read_br_table(alloc: Global, labels: &[&str]) -> Result<OwnedOp, LineErro
 }
 
 /// A `select` of several values, of these types.
-pub fn read_typed_select_multi(alloc: Global, types: &[&str]) -> Result<OwnedOp, LineError> {
+fn read_typed_select_multi(alloc: Global, types: &[&str]) -> Result<OwnedOp, LineError> {
     Ok(OwnedOp::TypedSelectMulti(read_value_types(alloc, types)?))
 }

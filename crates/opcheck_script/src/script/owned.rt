@@ -1,11 +1,13 @@
 //! Operators that own their lists.
 
 ghost use Rattle.std.specs.Prelude.{◌≡◌, IfOk};
-ghost use Rattle.opcheck_script.specs.Owned.{op_value, owned_value, op_values, owned_values};
+ghost use Rattle.opcheck_script.specs.Owned.{op_value, owned_value, op_values};
+ghost use Rattle.opcheck_script.specs.Written.{written_values};
 
+use crate::script::written::WrittenOp;
 use std::alloc::{AllocError, Global};
-use wasmparser_validate::types::ValType;
-use wasmparser_validate::visit::{BrTable, ControlOp, Op};
+use validate_types::ValType;
+use validate_visit::{BrTable, ControlOp, Op};
 
 /// An operator with its immediates, of which it owns the lists.
 #[derive(Drop)]
@@ -43,12 +45,12 @@ impl OwnedOp {
 /// The operators with their offsets, which borrow the lists of these.
 pub fn borrowed_ops(
     alloc: Global,
-    operators: &[(OwnedOp, u64)],
+    operators: &[(WrittenOp, u64)],
 ) -> Result<Vec<(Op<'_>, u64)>, AllocError>
-    ensures { IfOk result (λ ops. op_values ops.items ≡ owned_values operators.now) }
+    ensures { IfOk result (λ ops. op_values ops.items ≡ written_values operators.now) }
 {
     operators
         .iter()
-        .map(|(op, offset)| (op.as_op(), *offset))
+        .map(|(written, offset)| (written.op.as_op(), *offset))
         .collect(alloc)
 }

@@ -6,7 +6,7 @@ ghost use Rattle.validate_types.specs.declared.heap.AbstractHeapType.{AbstractHe
 ghost use Rattle.opcheck_script.specs.References.{IsHeapName, IsReferenceName};
 
 use crate::script::numbers::read_index;
-use wasmparser_validate::types::{AbstractHeapType, HeapType, RefType, UnpackedIndex};
+use validate_types::{AbstractHeapType, HeapType, RefType, UnpackedIndex};
 
 /// The reference type that a word names, if it does: by its short name, or as `ref:H` or `refnull:H`.
 pub fn read_reference(word: &str) -> Option<RefType>

@@ -7,8 +7,8 @@ ghost use Rattle.opcheck_script.specs.Tables.{table_indices, table_marks};
 
 use crate::script::names::named_in;
 use crate::script::numbers::read_index;
-use wasmparser_validate::types::{RefType, TableType};
-use wasmparser_validate::visit::{Op, TableOp};
+use validate_types::{RefType, TableType};
+use validate_visit::{Op, TableOp};
 
 /// The operators on one table or element segment, whose index is the word after the name.
 const INDEXED: &[(&str, TableOp)] = &[
@@ -47,7 +47,8 @@ pub fn read_table_operator(words: &[&str]) -> Option<Op<'static>> {
 }
 
 fn read_table_op(words: &[&str]) -> Option<TableOp>
-    ensures { IfSome result (λ op. map (λ word. digits_value 10 word.now) (drop 1 words.now) ≡ table_indices op) }
+    ensures { IfSome result (λ op. map (λ word. digits_value 10 word.now) (drop 1 words.now)
+        ≡ table_indices op) }
 {
     match *words {
         [name, index] => with_index(named_in(INDEXED, name)?, read_index(index)?),

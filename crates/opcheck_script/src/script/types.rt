@@ -9,7 +9,7 @@ use crate::script::names::named_in;
 use crate::script::numbers::read_index;
 use crate::script::references::read_reference;
 use std::alloc::Global;
-use wasmparser_validate::types::{
+use validate_types::{
     CompositeInnerType, CompositeType, FuncType, PackedIndex, SubType, UnpackedIndex, ValType,
 };
 
@@ -30,8 +30,10 @@ pub fn read_value_type(word: &str) -> Option<ValType> {
 /// The type that a `type` line declares, from the words after `type`: the marks, the kind, and the
 /// signature.
 pub fn read_type(alloc: Global, words: &[&str]) -> Result<SubType, LineError>
-    ensures shared { IfOk result (λ ty. ty.composite_type.shared ≡ is_marked_shared (type_marks (map (λ word. word.now) words.now))) }
-    ensures supertype { IfOk result (λ ty. ty.supertype_idx ≡ supertype_in (type_marks (map (λ word. word.now) words.now))) }
+    ensures shared { IfOk result (λ ty. ty.composite_type.shared
+        ≡ is_marked_shared (type_marks (map (λ word. word.now) words.now))) }
+    ensures supertype { IfOk result (λ ty. ty.supertype_idx
+        ≡ supertype_in (type_marks (map (λ word. word.now) words.now))) }
 {
     let kind = words
         .iter()
@@ -59,8 +61,10 @@ struct Marks {
 /// What these marks of a type say, if they are those of one: `shared`, and `sub=N` at most once, in any
 /// order.
 fn read_marks(marks: &[&str]) -> Option<Marks>
-    ensures shared { IfSome result (λ said. said.shared ≡ is_marked_shared (map (λ mark. mark.now) marks.now)) }
-    ensures supertype { IfSome result (λ said. said.supertype_idx ≡ supertype_in (map (λ mark. mark.now) marks.now)) }
+    ensures shared { IfSome result (λ said. said.shared
+        ≡ is_marked_shared (map (λ mark. mark.now) marks.now)) }
+    ensures supertype { IfSome result (λ said. said.supertype_idx
+        ≡ supertype_in (map (λ mark. mark.now) marks.now)) }
 {
     let supertype = following(marks, "sub=");
     let others = marks.iter().filter(|mark| **mark != "shared").count();

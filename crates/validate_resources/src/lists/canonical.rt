@@ -4,7 +4,8 @@ ghost use Rattle.std.specs.Prelude.{◌≡◌, ◌≤◌, ℕ, Bool, true, false
 ghost use Rattle.std.specs.List.{list_all};
 ghost use Rattle.validate_types.specs.Heap.{number_of};
 ghost use Rattle.validate_resources.specs.Indices.{is_known, type_test, ref_test, table_test, global_test, sub_test, inner_test, signature_test, supertype_test, type_form, ref_form, table_form, global_form, sub_form, inner_form, signature_form, index_form, canonical_index, canonical_heap, canonical_ref, canonical_type, heap_number, type_number};
-ghost use Rattle.validate_resources.specs.Lists.{max_types, indices_test};
+ghost use Rattle.validate_resources.specs.Lists.{indices_test};
+ghost use Rattle.validate_resources.specs.declared.lists.TheConstants.{MAX_TYPES};
 
 use std::alloc::Global;
 use validate_types::{
@@ -74,7 +75,7 @@ fn canonical_supertype(
     supertype: Option<PackedIndex>,
     count: usize,
 ) -> Result<Option<PackedIndex>, u32>
-    requires { count ≤ max_types }
+    requires { count ≤ MAX_TYPES }
     ensures known { OnOk result (supertype_test (is_known count) supertype ≡ true) }
     ensures form { IfOk result (λ x. x ≡ option_map index_form supertype) }
     ensures refused { OnErr result (supertype_test (is_known count) supertype ≡ false) }
@@ -102,7 +103,7 @@ pub trait Canonical: Drop {
     /// The canonical form. It refuses at offset 0, by `unknown type`, where there is no type for an
     /// index in it, or for want of memory.
     fn canonical(&self, alloc: Global, count: usize) -> Result<Self, Error>
-        requires { count ≤ max_types }
+        requires { count ≤ MAX_TYPES }
         ensures known { OnOk result (known count self.now ≡ true) }
         ensures form { IfOk result (λ x. x ≡ form self.now) }
         ensures refused { IfErr result (λ e. e.memory ≡ false → known count self.now ≡ false) }
@@ -231,7 +232,7 @@ pub fn canonical_all<T: Canonical>(
     items: &[T],
     count: usize,
 ) -> Result<Vec<T>, Error>
-    requires { count ≤ max_types }
+    requires { count ≤ MAX_TYPES }
     ensures known { OnOk result (list_all (T.known count) items.now ≡ true) }
     ensures form { IfOk result (λ v. v.items ≡ map T.form items.now) }
     ensures refused { IfErr result (λ e. e.memory ≡ false → list_all (T.known count) items.now ≡ false) }
@@ -270,13 +271,16 @@ pub fn canonical_lists(
     globals: &[GlobalType],
     elements: &[RefType],
 ) -> Result<Forms, Error>
-    requires { length types.now ≤ max_types }
-    ensures known { OnOk result (indices_test (is_known (length types.now)) types.now tables.now globals.now elements.now ≡ true) }
+    requires { length types.now ≤ MAX_TYPES }
+    ensures known { OnOk result (indices_test (is_known (length types.now)) types.now tables.now
+        globals.now elements.now ≡ true) }
     ensures types { IfOk result (λ f. f.types.items ≡ map sub_form types.now) }
     ensures tables { IfOk result (λ f. f.tables.items ≡ map table_form tables.now) }
     ensures globals { IfOk result (λ f. f.globals.items ≡ map global_form globals.now) }
     ensures elements { IfOk result (λ f. f.elements.items ≡ map ref_form elements.now) }
-    ensures refused { IfErr result (λ e. e.memory ≡ false → indices_test (is_known (length types.now)) types.now tables.now globals.now elements.now ≡ false) }
+    ensures refused { IfErr result (λ e. e.memory ≡ false
+        → indices_test (is_known (length types.now)) types.now tables.now globals.now elements.now
+        ≡ false) }
     ensures offset { IfErr result (λ e. e.offset ≡ 0) }
 {
     let count = types.len();

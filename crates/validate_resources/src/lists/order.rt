@@ -1,7 +1,7 @@
 //! The order on the types of a module.
 
 ghost use Rattle.std.specs.Prelude.{◌≡◌, true, false, slice_get};
-ghost use Rattle.validate_resources.specs.Order.{shared_at, heap_shared, supertype_fits, supertypes_fit, supertype_of, index_below, heap_below, ref_below, type_below};
+ghost use Rattle.validate_resources.specs.Order.{is_shared_at, is_heap_shared, has_fitting_supertype, have_fitting_supertypes, supertype_of, index_below, heap_below, ref_below, type_below};
 
 use crate::lists::canonical::number;
 use validate_types::{
@@ -10,7 +10,7 @@ use validate_types::{
 
 /// Whether the type at this index is marked as shared; false where there is none.
 fn is_shared_at(types: &[SubType], index: u32) -> bool
-    ensures { result ≡ shared_at types.now index }
+    ensures { result ≡ is_shared_at types.now index }
 {
     match types.get(index as usize) {
         Some(ty) => ty.composite_type.shared,
@@ -20,7 +20,7 @@ fn is_shared_at(types: &[SubType], index: u32) -> bool
 
 /// Whether the reference to the heap type is to something shared.
 pub fn is_heap_shared(types: &[SubType], ty: HeapType) -> bool
-    ensures { result ≡ heap_shared types.now ty }
+    ensures { result ≡ is_heap_shared types.now ty }
 {
     match ty {
         HeapType::Abstract { shared, .. } => shared,
@@ -36,7 +36,7 @@ fn supertype_fits(
     shared: bool,
     supertype: Option<PackedIndex>,
 ) -> bool
-    ensures { result ≡ supertype_fits types.now index shared supertype }
+    ensures { result ≡ has_fitting_supertype types.now index shared supertype }
 {
     match supertype {
         None => true,
@@ -49,7 +49,7 @@ fn supertype_fits(
 
 /// Whether each declared supertype is an earlier type of the same sharedness.
 pub fn supertypes_fit(types: &[SubType]) -> bool
-    ensures { result ≡ supertypes_fit types.now }
+    ensures { result ≡ have_fitting_supertypes types.now }
 {
     types.iter().enumerate().all(|(index, ty)| {
         supertype_fits(types, index, ty.composite_type.shared, ty.supertype_idx)

@@ -1,27 +1,28 @@
-use Rattle.std.proofs.Common.{rules, ◌≡◌, None, refl, sym, ap, ◌∙◌}
+use Rattle.std.proofs.Common.{rules, ◌≡◌, None, reverse, refl, sym, ap, ◌∙◌}
 use Rattle.validation_rules.specs.Branches.{br_table_row}
-use Rattle.validation_rules.specs.Table.{flat}
-use Rattle.validate_stacks.specs.Steps.{label_of}
+use Rattle.validation_rules.specs.Table.{flat_operator}
+use Rattle.validate_stacks.specs.Pops.{body_popped_each}
+use Rattle.validate_stacks.specs.Steps.{label_of, body_unreachable}
 use Rattle.validate_stacks.specs.Visits.{step_body}
 use Rattle.validate_stacks.specs.State.{context}
 use Rattle.validate_stacks.proofs.Validity.{kept_on}
-use Rattle.validate_rows.proofs.Branching.{label_valid, ended_valid, ended_kept}
+use Rattle.validate_rows.proofs.Branching.{label_valid}
 use Rattle.validate_rows.proofs.BranchTables.{table_untested, table_none, types_table, table_refused, table_other_targets, table_passes}
-use Rattle.validate_rows.proofs.Meeting.{meets_none, meets_done}
+use Rattle.validate_rows.proofs.Meeting.{meets_none, meets_refused, meets_last}
 use Rattle.validate_rows.proofs.branches.check_br_table.Goals as goal
 
 pub returns-in_err-pop_types-clause-visit : goal.returns-in_err-pop_types-clause-visit
 returns-in_err-pop_types-clause-visit g c =
     let md = g.R.WasmModuleResources.context c.args.resources.now in
-    let v = c.args.stacks.now in
+    let v = c.args.stacks.now.body in
     let t = c.args.table in
     let none = table_untested md v c.requires.open_frame t.complete t.targets.now t.default in
-    meets_none md _ c.args.offset v c.pop_types.new.self _ (search rules) (search (rules, none)) (search rules) c.pop_types.ensures.valid c.pop_types.ensures.kept
+    meets_refused md _ c.args.offset v c.pop_types.new.self.body _ (search rules) (search (rules, none)) (search rules) c.pop_types.ensures.valid c.pop_types.ensures.kept
 
 pub returns-in_err-pop_types-clause-memory : goal.returns-in_err-pop_types-clause-memory
 returns-in_err-pop_types-clause-memory g c =
     let md = g.R.WasmModuleResources.context c.args.resources.now in
-    let v = c.args.stacks.now in
+    let v = c.args.stacks.now.body in
     let t = c.args.table in
     let none = table_untested md v c.requires.open_frame t.complete t.targets.now t.default in
     search (rules, none)
@@ -29,76 +30,81 @@ returns-in_err-pop_types-clause-memory g c =
 pub returns-in_err-block_type-clause-visit : goal.returns-in_err-block_type-clause-visit
 returns-in_err-block_type-clause-visit g c =
     let md = g.R.WasmModuleResources.context c.args.resources.now in
-    let v = c.args.stacks.now in
-    let u = c.pop_types.new.self in
+    let v = c.args.stacks.now.body in
+    let u = c.pop_types.new.self.body in
     let t = c.args.table in
-    let none : label_of u c.default.result ≡ None → step_body md (λ cx. flat (λ hs. br_table_row cx hs t.complete t.targets.now t.default)) v ≡ None =
+    let none : label_of u c.default.result ≡ None → step_body md (λ cx. flat_operator (λ hs. br_table_row cx hs t.complete t.targets.now t.default)) v ≡ None =
     λ n. table_none md v c.requires.open_frame t.complete t.targets.now t.default u c.in_ok-pop_types.ensures.passed (ap (label_of u) (sym c.default.ensures) ∙ n) in
     meets_none md _ c.args.offset v u _ (search rules) (search (rules, none)) (search rules) c.pop_types.ensures.valid c.pop_types.ensures.kept
 
 pub returns-in_err-block_type-clause-memory : goal.returns-in_err-block_type-clause-memory
 returns-in_err-block_type-clause-memory g c =
     let md = g.R.WasmModuleResources.context c.args.resources.now in
-    let v = c.args.stacks.now in
-    let u = c.pop_types.new.self in
+    let v = c.args.stacks.now.body in
+    let u = c.pop_types.new.self.body in
     let t = c.args.table in
-    let none : label_of u c.default.result ≡ None → step_body md (λ cx. flat (λ hs. br_table_row cx hs t.complete t.targets.now t.default)) v ≡ None =
+    let none : label_of u c.default.result ≡ None → step_body md (λ cx. flat_operator (λ hs. br_table_row cx hs t.complete t.targets.now t.default)) v ≡ None =
     λ n. table_none md v c.requires.open_frame t.complete t.targets.now t.default u c.in_ok-pop_types.ensures.passed (ap (label_of u) (sym c.default.ensures) ∙ n) in
     search (rules, none)
 
 pub returns-in_err-check_targets-clause-visit : goal.returns-in_err-check_targets-clause-visit
 returns-in_err-check_targets-clause-visit g c =
     let md = g.R.WasmModuleResources.context c.args.resources.now in
-    let v = c.args.stacks.now in
-    let u = c.pop_types.new.self in
+    let v = c.args.stacks.now.body in
+    let u = c.pop_types.new.self.body in
     let t = c.args.table in
-    let none = table_other_targets md v c.requires.open_frame t.complete t.targets.now t.default c.pop_types.new.self c.in_ok-pop_types.ensures.passed c.in_ok-block_type.block_type c.in_ok-block_type.kind c.label_types-types.result.now (ap (label_of u) (sym c.default.ensures) ∙ c.in_ok-block_type.ensures.found) (c.label_types-types.ensures (context md v) refl) in
-    meets_none md _ c.args.offset v u _ (search rules) (search (rules, none)) (search rules) c.pop_types.ensures.valid c.pop_types.ensures.kept
+    let none = table_other_targets md v c.requires.open_frame t.complete t.targets.now t.default c.pop_types.new.self.body c.in_ok-pop_types.ensures.passed c.in_ok-block_type.block_type c.in_ok-block_type.kind c.label_types-types.result.now (ap (label_of u) (sym c.default.ensures) ∙ c.in_ok-block_type.ensures.found) (c.label_types-types.ensures (context md v) refl) in
+    let s = c.check_targets.new.stacks.body in
+    meets_refused md _ c.args.offset v s _ (search rules) (search (rules, none)) (search rules) c.check_targets.ensures.valid (kept_on v u s c.pop_types.ensures.kept c.check_targets.ensures.kept)
 
 pub returns-in_err-check_targets-clause-memory : goal.returns-in_err-check_targets-clause-memory
 returns-in_err-check_targets-clause-memory g c =
     let md = g.R.WasmModuleResources.context c.args.resources.now in
-    let v = c.args.stacks.now in
-    let u = c.pop_types.new.self in
+    let v = c.args.stacks.now.body in
+    let u = c.pop_types.new.self.body in
     let t = c.args.table in
-    let none = table_other_targets md v c.requires.open_frame t.complete t.targets.now t.default c.pop_types.new.self c.in_ok-pop_types.ensures.passed c.in_ok-block_type.block_type c.in_ok-block_type.kind c.label_types-types.result.now (ap (label_of u) (sym c.default.ensures) ∙ c.in_ok-block_type.ensures.found) (c.label_types-types.ensures (context md v) refl) in
+    let none = table_other_targets md v c.requires.open_frame t.complete t.targets.now t.default c.pop_types.new.self.body c.in_ok-pop_types.ensures.passed c.in_ok-block_type.block_type c.in_ok-block_type.kind c.label_types-types.result.now (ap (label_of u) (sym c.default.ensures) ∙ c.in_ok-block_type.ensures.found) (c.label_types-types.ensures (context md v) refl) in
     search (rules, none)
 
 pub pop_types-requires-2-clause-types : goal.pop_types-requires-2-clause-types
 pop_types-requires-2-clause-types g c =
     let md = g.R.WasmModuleResources.context c.args.resources.now in
-    let v = c.args.stacks.now in
-    let u = c.pop_types.new.self in
+    let v = c.args.stacks.now.body in
+    let u = c.pop_types.new.self.body in
     let t = c.args.table in
     let laws = g.met.R.WasmModuleResources.lawful c.args.resources.now in
-    label_valid md v t.default c.label_types-types.result.now laws c.requires.valid (types_table md v c.requires.open_frame t.complete t.targets.now t.default c.pop_types.new.self c.in_ok-pop_types.ensures.passed c.in_ok-block_type.block_type c.in_ok-block_type.kind c.label_types-types.result.now (ap (label_of u) (sym c.default.ensures) ∙ c.in_ok-block_type.ensures.found) (c.label_types-types.ensures (context md v) refl))
+    label_valid md v t.default c.label_types-types.result.now laws c.requires.valid (types_table md v c.requires.open_frame t.complete t.targets.now t.default c.pop_types.new.self.body c.in_ok-pop_types.ensures.passed c.in_ok-block_type.block_type c.in_ok-block_type.kind c.label_types-types.result.now (ap (label_of u) (sym c.default.ensures) ∙ c.in_ok-block_type.ensures.found) (c.label_types-types.ensures (context md v) refl))
 
 pub returns-in_err-pop_types-2-clause-visit : goal.returns-in_err-pop_types-2-clause-visit
 returns-in_err-pop_types-2-clause-visit g c =
     let md = g.R.WasmModuleResources.context c.args.resources.now in
-    let v = c.args.stacks.now in
-    let u = c.pop_types.new.self in
+    let v = c.args.stacks.now.body in
+    let u = c.pop_types.new.self.body in
     let t = c.args.table in
-    let w = c.pop_types-2.new.self in
-    let none = table_refused md v c.requires.open_frame t.complete t.targets.now t.default c.pop_types.new.self c.in_ok-pop_types.ensures.passed c.in_ok-block_type.block_type c.in_ok-block_type.kind c.label_types-types.result.now (ap (label_of u) (sym c.default.ensures) ∙ c.in_ok-block_type.ensures.found) (c.label_types-types.ensures (context md v) refl) in
-    meets_none md _ c.args.offset v w _ (search rules) (search (rules, none)) (search rules) c.pop_types-2.ensures.valid (kept_on v u w c.pop_types.ensures.kept c.pop_types-2.ensures.kept)
+    let s = c.check_targets.new.stacks.body in
+    let w = c.pop_types-2.new.self.body in
+    let none = table_refused md v c.requires.open_frame t.complete t.targets.now t.default c.pop_types.new.self.body c.in_ok-pop_types.ensures.passed c.in_ok-block_type.block_type c.in_ok-block_type.kind c.label_types-types.result.now (ap (label_of u) (sym c.default.ensures) ∙ c.in_ok-block_type.ensures.found) (c.label_types-types.ensures (context md v) refl) in
+    meets_refused md _ c.args.offset v w _ (search rules) (search (rules, none)) (search rules) c.pop_types-2.ensures.valid (kept_on v s w (kept_on v u s c.pop_types.ensures.kept c.check_targets.ensures.kept) c.pop_types-2.ensures.kept)
 
 pub returns-in_err-pop_types-2-clause-memory : goal.returns-in_err-pop_types-2-clause-memory
 returns-in_err-pop_types-2-clause-memory g c =
     let md = g.R.WasmModuleResources.context c.args.resources.now in
-    let v = c.args.stacks.now in
-    let u = c.pop_types.new.self in
+    let v = c.args.stacks.now.body in
+    let u = c.pop_types.new.self.body in
     let t = c.args.table in
-    let none = table_refused md v c.requires.open_frame t.complete t.targets.now t.default c.pop_types.new.self c.in_ok-pop_types.ensures.passed c.in_ok-block_type.block_type c.in_ok-block_type.kind c.label_types-types.result.now (ap (label_of u) (sym c.default.ensures) ∙ c.in_ok-block_type.ensures.found) (c.label_types-types.ensures (context md v) refl) in
+    let none = table_refused md v c.requires.open_frame t.complete t.targets.now t.default c.pop_types.new.self.body c.in_ok-pop_types.ensures.passed c.in_ok-block_type.block_type c.in_ok-block_type.kind c.label_types-types.result.now (ap (label_of u) (sym c.default.ensures) ∙ c.in_ok-block_type.ensures.found) (c.label_types-types.ensures (context md v) refl) in
     search (rules, none)
 
 pub returns-clause-visit : goal.returns-clause-visit
 returns-clause-visit g c =
     let md = g.R.WasmModuleResources.context c.args.resources.now in
-    let v = c.args.stacks.now in
-    let u = c.pop_types.new.self in
+    let v = c.args.stacks.now.body in
+    let u = c.pop_types.new.self.body in
     let t = c.args.table in
-    let w = c.pop_types-2.new.self in
-    let x = c.unreachable.new.self in
-    meets_done md _ c.args.offset v x (table_passes md v c.requires.open_frame t.complete t.targets.now t.default c.pop_types.new.self c.in_ok-pop_types.ensures.passed c.in_ok-block_type.block_type c.in_ok-block_type.kind c.label_types-types.result.now (ap (label_of u) (sym c.default.ensures) ∙ c.in_ok-block_type.ensures.found) (c.label_types-types.ensures (context md v) refl) w x c.in_ok-check_targets.ensures.fits c.in_ok-pop_types-2.ensures.passed c.unreachable.ensures)
-    (ended_valid md w x c.pop_types-2.ensures.valid c.unreachable.ensures) (ended_kept v w x (kept_on v u w c.pop_types.ensures.kept c.pop_types-2.ensures.kept) c.unreachable.ensures)
+    let s = c.check_targets.new.stacks.body in
+    let same = ap (λ q. q.body) c.in_ok-check_targets.ensures.same in
+    let passed = sym (ap (body_popped_each md (reverse c.label_types-types.result.now)) same) ∙ c.in_ok-pop_types-2.ensures.passed in
+    let w = c.pop_types-2.new.self.body in
+    let x = c.end_live_part.new.self.body in
+    meets_last md _ c.args.offset v x (body_unreachable w) c.end_live_part.result (λ q. table_passes md v c.requires.open_frame t.complete t.targets.now t.default c.pop_types.new.self.body c.in_ok-pop_types.ensures.passed c.in_ok-block_type.block_type c.in_ok-block_type.kind c.label_types-types.result.now (ap (label_of u) (sym c.default.ensures) ∙ c.in_ok-block_type.ensures.found) (c.label_types-types.ensures (context md v) refl) w x c.in_ok-check_targets.ensures.fits passed q) c.end_live_part.ensures.ended c.end_live_part.ensures.memory c.end_live_part.ensures.offset
+    (c.end_live_part.ensures.valid md c.pop_types-2.ensures.valid) (kept_on v w x (kept_on v s w (kept_on v u s c.pop_types.ensures.kept c.check_targets.ensures.kept) c.pop_types-2.ensures.kept) c.end_live_part.ensures.kept)

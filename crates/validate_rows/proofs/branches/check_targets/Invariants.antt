@@ -8,4 +8,7 @@ use Rattle.validate_rows.proofs.branches.check_targets.Given as goal
 abbrev pub invariant-loop-target : goal.invariant-loop-target
 invariant-loop-target g l =
     let md = g.R.WasmModuleResources.context l.resources in
-    list_all (is_given md l.stacks l.count) (targets_left l.target-iterator) ≡ list_all (is_given md l.stacks l.count) (targets_given l.fn.table.targets.now l.fn.table.complete)
+    record {
+      same : l.stacks ≡ l.initial.stacks;
+      rest : list_all (is_given md l.initial.stacks.body l.count) (targets_left l.target-iterator) ≡ list_all (is_given md l.initial.stacks.body l.count) (targets_given l.fn.table.targets.now l.fn.table.complete);
+    }

@@ -1,11 +1,12 @@
-use Rattle.std.proofs.Common.{refl}
-use Rattle.validate_rows.proofs.Branching.{ended_valid, ended_kept, unreachable_is}
-use Rattle.validate_rows.proofs.Meeting.{meets_done}
+use Rattle.validate_stacks.specs.Steps.{body_unreachable}
+use Rattle.validate_rows.proofs.Branching.{unreachable_is}
+use Rattle.validate_rows.proofs.Meeting.{meets_last}
 use Rattle.validate_rows.proofs.control.check_unreachable.Goals as goal
 
 pub returns-clause-visit : goal.returns-clause-visit
 returns-clause-visit g c =
     let md = g.R.WasmModuleResources.context c.args.resources.now in
-    let v = c.args.stacks.now in
-    let w = c.unreachable.new.self in
-    meets_done md _ c.args.offset v w (unreachable_is md v w c.requires.open_frame c.unreachable.ensures) (ended_valid md v w c.requires.valid c.unreachable.ensures) (ended_kept v v w refl c.unreachable.ensures)
+    let v = c.args.stacks.now.body in
+    let w = c.end_live_part.new.self.body in
+    meets_last md _ c.args.offset v w (body_unreachable v) c.end_live_part.result (λ q. unreachable_is md v w c.requires.open_frame q) c.end_live_part.ensures.ended c.end_live_part.ensures.memory c.end_live_part.ensures.offset
+    (c.end_live_part.ensures.valid md c.requires.valid) c.end_live_part.ensures.kept

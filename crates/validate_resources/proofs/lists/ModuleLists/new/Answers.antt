@@ -1,23 +1,28 @@
-use Rattle.std.proofs.Common.{◌≡◌, true, ◌∙◌, arith}
+use Rattle.std.proofs.Common.{◌≡◌, true, Some, ◌∙◌, refl, ap, sym, arith}
 use Rattle.std.proofs.lemmas.Grind.{common_steps}
 use Rattle.validate_resources.specs.Indices.{is_known}
-use Rattle.validate_resources.specs.Lists.{Declared, is_module}
-use Rattle.validate_resources.specs.Forms.{module-same}
+use Rattle.validate_resources.specs.Lists.{Declared, declared_by, is_module, canonical_lists}
+use Rattle.validate_resources.specs.Lawful.Forms.{module-same}
 use Rattle.validate_resources.proofs.lists.ModuleLists.new.Goals as goal
 
-pub invariant_of-result : goal.invariant_of-result
-invariant_of-result c =
-    let d : Declared = record {
-      types = c.args.types.items;
-      functions = c.args.functions.items;
-      tables = c.args.tables.items;
-      memories = c.args.memories.items;
-      globals = c.args.globals.items;
-      elements = c.args.elements.items;
-      data_count = c.args.data_count;
-    } in
-    let m : is_module is_known d ≡ true = grind (arith, common_steps) in
-    record {
-      «module» = rw (c.in_ok-forms.ensures.types, c.in_ok-forms.ensures.tables, c.in_ok-forms.ensures.globals, c.in_ok-forms.ensures.elements)
-          (rw (c.deref.ensures.value, c.deref-2.ensures.value, c.deref-3.ensures.value, c.deref-4.ensures.value) (module-same d ∙ m));
-    }
+pub from_forms-requires : goal.from_forms-requires
+from_forms-requires c =
+    let d : Declared =
+    declared_by c.args.types.items c.args.functions.items c.args.tables.items c.args.memories.items
+    c.args.globals.items c.args.elements.items c.args.data_count in
+    let holds : is_module is_known d ≡ true = grind (arith, common_steps) in
+    rw (c.in_ok-forms.ensures.types, c.in_ok-forms.ensures.tables, c.in_ok-forms.ensures.globals, c.in_ok-forms.ensures.elements)
+    (rw (c.deref.ensures.value, c.deref-2.ensures.value, c.deref-3.ensures.value, c.deref-4.ensures.value) (module-same d ∙ holds))
+
+pub returns-clause-kept : goal.returns-clause-kept
+returns-clause-kept c =
+    let d : Declared =
+    declared_by c.args.types.items c.args.functions.items c.args.tables.items c.args.memories.items
+    c.args.globals.items c.args.elements.items c.args.data_count in
+    let holds : is_module is_known d ≡ true = grind (arith, common_steps) in
+    let forms = c.in_ok-forms.forms in
+    let same : declared_by forms.types.items c.args.functions.items forms.tables.items c.args.memories.items
+    forms.globals.items forms.elements.items c.args.data_count ≡ canonical_lists d =
+    rw (c.in_ok-forms.ensures.types, c.in_ok-forms.ensures.tables, c.in_ok-forms.ensures.globals, c.in_ok-forms.ensures.elements)
+    (rw (c.deref.ensures.value, c.deref-2.ensures.value, c.deref-3.ensures.value, c.deref-4.ensures.value) refl) in
+    rw holds (ap Some (sym (c.from_forms.ensures ∙ same)))

@@ -1,4 +1,6 @@
-use Rattle.std.proofs.Common.{None, not, ◌∙◌, ap}
+use Rattle.std.proofs.Common.{not, ◌∙◌, ap}
+use Rattle.validate_stacks.specs.Attempts.{body_state}
+use Rattle.validate_stacks.specs.Flat.{undone_pending}
 use Rattle.validate_stacks.specs.State.{BodyState}
 use Rattle.validate_stacks.specs.Steps.{is_set_in}
 use Rattle.validate_stacks.proofs.Marks.{set_is}
@@ -8,4 +10,4 @@ pub returns : goal.returns
 returns c =
     let s = c.self.inside in
     c.is_uninit.ensures
-    ∙ ap not (set_is s.control.items s.operands.items s.inits s.shared s.features s.locals None c.args.local_index c.self.invariant.shape ∙ ap (λ (v : BodyState). is_set_in v c.args.local_index) c.self.view_is)
+    ∙ ap not (set_is s.control.items s.operands.items s.inits s.shared s.features s.locals (undone_pending s.control.items s.operands.items s.inits.order s.transaction) c.args.local_index c.self.invariant.shape ∙ ap (λ (v : BodyState). is_set_in v c.args.local_index) (ap body_state c.self.view_is))

@@ -2,7 +2,7 @@
 use Rattle.std.proofs.Common.{◌≡◌, ◌≤◌, ◌-◌, length, take, reverse}
 use Rattle.validation_rules.specs.Fits.{all_fit}
 use Rattle.validate_stacks.specs.State.{context}
-use Rattle.validate_stacks.specs.Pops.{tops_fit}
+use Rattle.validate_stacks.specs.Pops.{has_operands_fitting}
 use Rattle.validate_stacks.proofs.Matching.{after_in}
 use Rattle.validate_stacks.proofs.stacks.Stacks.match_operands.Given as goal
 
@@ -11,8 +11,9 @@ decreases-loop-left g l = l.left
 
 abbrev pub invariant-loop-left : goal.invariant-loop-left
 invariant-loop-left g l =
-    let cx = context (g.R.WasmModuleResources.context l.resources) l.fn.self in
+    let cx = context (g.R.WasmModuleResources.context l.resources) l.initial.self.body in
     record {
+      same : l.self ≡ l.initial.self;
       within : l.left ≤ length l.wanted;
-      rest : all_fit cx (after_in l.left (length l.wanted - l.left) l.fn.self.present.frames) (reverse (take l.left l.wanted)) ≡ tops_fit cx l.wanted l.fn.self;
+      rest : all_fit cx (after_in l.left (length l.wanted - l.left) l.initial.self.body.present.frames) (reverse (take l.left l.wanted)) ≡ has_operands_fitting cx l.wanted l.initial.self.body;
     }

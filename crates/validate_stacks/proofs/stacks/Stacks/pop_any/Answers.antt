@@ -1,53 +1,47 @@
-use Rattle.std.proofs.Common.{None, length, sym, ◌∙◌, ap, arith}
+use Rattle.std.proofs.Common.{◌∷◌, length, sym, ◌∙◌, ap, arith}
 use Rattle.std.specs.Option.{option_copied}
-use Rattle.validate_stacks.proofs.Cuts.{popped_list, no_frame, at_height, above_height, shape_popped}
+use Rattle.validate_stacks.specs.Attempts.{Stacked, phase_moved}
+use Rattle.validate_stacks.specs.Flat.{undone_pending}
+use Rattle.validate_stacks.proofs.Cuts.{state_of, no_frame, at_height, above_height}
+use Rattle.validate_stacks.proofs.Undoing.{popped_top, not_empty, sound_pop, undone_pop, phase_pop}
 use Rattle.validate_stacks.proofs.stacks.Stacks.pop_any.Goals as goal
 use Rattle.validate_stacks.proofs.stacks.Stacks.pop_any.Goals.{then-frame, else-frame}
 
-pub returns-in_default-clause-value : goal.returns-in_default-clause-value
-returns-in_default-clause-value c =
+pub returns-in_default-clause-exact : goal.returns-in_default-clause-exact
+returns-in_default-clause-exact c =
     let s = c.self.inside in
-    rw (← c.self.view_is) (no_frame s.control.items s.operands.items s.inits.order s.shared s.features s.locals s.inits.base None (sym c.get.ensures ∙ ap option_copied c.in_default.is)).0
+    rw (← c.self.view_is) (no_frame s.control.items s.operands.items s.inits.order s.shared s.features s.locals s.inits.base (undone_pending s.control.items s.operands.items s.inits.order s.transaction) (sym c.get.ensures ∙ ap option_copied c.in_default.is))
 
-pub returns-in_default-clause-after : goal.returns-in_default-clause-after
-returns-in_default-clause-after c =
+pub returns-then-len-frame-clause-exact : goal.returns-then-len-frame-clause-exact
+returns-then-len-frame-clause-exact c =
     let s = c.self.inside in
-    rw (← c.self.view_is) (no_frame s.control.items s.operands.items s.inits.order s.shared s.features s.locals s.inits.base None (sym c.get.ensures ∙ ap option_copied c.in_default.is)).1
+    let h = at_height s.control.items c.in-Some.frame.now s.operands.items s.inits.order s.shared s.features s.locals s.inits.base (undone_pending s.control.items s.operands.items s.inits.order s.transaction) (sym c.get.ensures ∙ ap option_copied c.in-Some.is) (omega arith) in
+    rw (← c.self.view_is) (elim c.if-frame.branch [ then-frame w ↦ (w.result-is ∙ rw w.if-frame.true at h.0, h.1) | else-frame w ↦ (w.result-is ∙ rw w.if-frame.false at h.0, h.1) ])
 
-pub returns-then-len-frame-clause-value : goal.returns-then-len-frame-clause-value
-returns-then-len-frame-clause-value c =
-    let s = c.self.inside in
-    let h = at_height s.control.items c.in-Some.frame.now s.operands.items s.inits.order s.shared s.features s.locals s.inits.base None (sym c.get.ensures ∙ ap option_copied c.in-Some.is) (omega arith) in
-    rw (← c.self.view_is) (elim c.if-frame.branch [ then-frame w ↦ w.result-is ∙ rw w.if-frame.true at h.0 | else-frame w ↦ w.result-is ∙ rw w.if-frame.false at h.0 ])
+pub returns-in_default-get-clause-exact : goal.returns-in_default-get-clause-exact
+returns-in_default-get-clause-exact c =
+    absurd (not_empty c.self.inside.operands.items c.in-Some.frame.now.height (omega arith) (sym c.get-2.ensures ∙ ap option_copied c.in_default-get.is))
 
-pub returns-then-len-frame-clause-after : goal.returns-then-len-frame-clause-after
-returns-then-len-frame-clause-after c =
+pub invariant_of-self-2 : goal.invariant_of-self-2
+invariant_of-self-2 c =
     let s = c.self.inside in
-    let h = at_height s.control.items c.in-Some.frame.now s.operands.items s.inits.order s.shared s.features s.locals s.inits.base None (sym c.get.ensures ∙ ap option_copied c.in-Some.is) (omega arith) in
-    rw (← c.self.view_is) h.1
+    let whole = popped_top c.pop.result s.operands.items c.pop.new.self.items c.in-Some-get.top.now (sym c.get-2.ensures ∙ ap option_copied c.in-Some-get.is) c.pop.ensures.items in
+    let count = ap length whole in
+    rw c.in_ok-record_pop.ensures.exact
+    (sound_pop s.control.room s.control.items c.in-Some.frame.now s.operands.room c.pop.new.self.room c.in-Some-get.top.now c.pop.new.self.items s.inits.room s.inits.base s.inits.order s.transaction s.locals
+    (sym c.get.ensures ∙ ap option_copied c.in-Some.is) (omega arith) (omega arith) (sym c.pop.ensures.room) (rw whole at c.self.invariant))
 
-pub invariant_of-self : goal.invariant_of-self
-invariant_of-self c =
+pub returns-clause-exact : goal.returns-clause-exact
+returns-clause-exact c =
     let s = c.self.inside in
-    let p = popped_list c.pop.result s.operands.items c.pop.new.self.items (omega arith) c.pop.ensures.items in
-    let count = ap length p.2 in
-    record {
-      shape = shape_popped s.control.items c.in-Some.frame.now (length c.pop.new.self.items) (length s.inits.order) (sym c.get.ensures ∙ ap option_copied c.in-Some.is) (omega (arith, count)) (rw p.2 at c.self.invariant.shape);
-      marks = c.self.invariant.marks;
-    }
+    let whole = popped_top c.pop.result s.operands.items c.pop.new.self.items c.in-Some-get.top.now (sym c.get-2.ensures ∙ ap option_copied c.in-Some-get.is) c.pop.ensures.items in
+    let count = ap length whole in
+    let un = undone_pending s.control.items (c.in-Some-get.top.now ∷ c.pop.new.self.items) s.inits.order s.transaction in
+    let h = above_height s.control.items c.in-Some.frame.now c.in-Some-get.top.now c.pop.new.self.items s.inits.order s.shared s.features s.locals s.inits.base un (sym c.get.ensures ∙ ap option_copied c.in-Some.is) (omega arith) in
+    rw (← c.self.view_is, whole, c.in_ok-record_pop.ensures.exact)
+    (h.0, ap (λ u. state_of s.control.items c.pop.new.self.items s.inits.order s.shared s.features s.locals s.inits.base u) (undone_pop s.control.items c.in-Some-get.top.now c.pop.new.self.items s.inits.order s.transaction) ∙ h.1)
 
-pub returns-clause-value : goal.returns-clause-value
-returns-clause-value c =
+pub returns-clause-phase : goal.returns-clause-phase
+returns-clause-phase c =
     let s = c.self.inside in
-    let p = popped_list c.pop.result s.operands.items c.pop.new.self.items (omega arith) c.pop.ensures.items in
-    let count = ap length p.2 in
-    rw (← c.self.view_is, p.2)
-    (p.1 ∙ (above_height s.control.items c.in-Some.frame.now p.0 c.pop.new.self.items s.inits.order s.shared s.features s.locals s.inits.base None (sym c.get.ensures ∙ ap option_copied c.in-Some.is) (omega (arith, count))).0)
-
-pub returns-clause-after : goal.returns-clause-after
-returns-clause-after c =
-    let s = c.self.inside in
-    let p = popped_list c.pop.result s.operands.items c.pop.new.self.items (omega arith) c.pop.ensures.items in
-    let count = ap length p.2 in
-    rw (← c.self.view_is, p.2)
-    (above_height s.control.items c.in-Some.frame.now p.0 c.pop.new.self.items s.inits.order s.shared s.features s.locals s.inits.base None (sym c.get.ensures ∙ ap option_copied c.in-Some.is) (omega (arith, count))).1
+    rw c.in_ok-record_pop.ensures.exact (phase_pop (length s.inits.order) c.in-Some-get.top.now s.transaction ∙ ap (λ (v : Stacked). phase_moved v.phase) c.self.view_is)

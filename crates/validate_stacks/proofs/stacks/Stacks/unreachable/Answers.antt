@@ -1,9 +1,21 @@
-use Rattle.std.proofs.Common.{None, sym, ap, ◌∙◌}
-use Rattle.std.specs.Option.{option_copied}
-use Rattle.validate_stacks.proofs.Looks.{none_ended}
+use Rattle.std.proofs.Common.{sym, ap, ◌∙◌, subst}
+use Rattle.validate_stacks.specs.Attempts.{body_state}
+use Rattle.validate_stacks.specs.Pops.{IsKept}
+use Rattle.validate_stacks.specs.State.{IsValid}
+use Rattle.validate_stacks.specs.Steps.{body_unreachable}
+use Rattle.validate_stacks.proofs.Looks.{ended_popped}
+use Rattle.validate_stacks.proofs.Validity.{popped_valid, popped_kept, kept_on}
 use Rattle.validate_stacks.proofs.stacks.Stacks.unreachable.Goals as goal
 
-pub returns-in_default : goal.returns-in_default
-returns-in_default c =
-    let s = c.self.inside in
-    rw (← c.self.view_is) (none_ended s.control.items s.operands.items s.inits.order s.shared s.features s.locals s.inits.base None (sym c.get.ensures ∙ ap option_copied c.in_default.is))
+pub returns-in_err-pop_any-clause-valid : goal.returns-in_err-pop_any-clause-valid
+returns-in_err-pop_any-clause-valid c = λ md h. subst (IsValid md) (ap body_state (sym c.in_err-pop_any.ensures.exact)) (c.loop-self.invariant.valid md h)
+
+pub loop-self-preserved : goal.loop-self-preserved
+loop-self-preserved c =
+    let v = c.loop-self.self.body in
+    let e = c.in_ok-pop_any.ensures.exact.1 in
+    record {
+      same = ap body_unreachable e ∙ (ended_popped v ∙ c.loop-self.invariant.same);
+      valid = λ md h. subst (IsValid md) (sym e) (popped_valid md v (c.loop-self.invariant.valid md h));
+      kept = kept_on c.args.self.now.body v c.pop_any.new.self.body c.loop-self.invariant.kept (subst (IsKept v) (sym e) (popped_kept v));
+    }

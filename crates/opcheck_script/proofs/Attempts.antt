@@ -1,0 +1,103 @@
+-- One answer further, and what the answers up to the end come to.
+use Rattle.std.proofs.Common.{◌≡◌, ◌↔◌, ℕ, zero, suc, Bool, true, false, IsTrue, nat_eq, List, [], ◌∷◌, ◌++◌, map, length, get_or, slice_get, Some, None, IfSome, Ok, Err, refl, sym, ap, ◌∙◌, subst, arith}
+use Rattle.std.proofs.lemmas.Bool.{eq-eqb, eqb-true}
+use Rattle.validate_types.specs.Refusal.{Refusal}
+use Rattle.validate_visit.specs.Order.{Nesting, nesting, Flat, reads_on, is_ordered_from}
+use Rattle.validate_visit.specs.declared.op.Op.{Op}
+use Rattle.validate_visit.specs.declared.op.Op.TheVariants.{Control}
+use Rattle.validate_visit.specs.declared.op.ControlOp.TheVariants.{BrTable as OnTable, TypedSelectMulti as OnTypes}
+use Rattle.validation_rules.specs.Context.{Context}
+use Rattle.validation_rules.specs.Static.{Frame, State, bind, step, before, frame_count}
+use Rattle.validation_rules.specs.Table.{operator, body}
+use Rattle.validate_body.specs.Runs.{operators}
+use Rattle.validate_body.proofs.Listed.{kinds, IsOrderedBelow, some_open, ordered_next}
+use Rattle.opcheck_script.specs.Attempts.{Answer, IsAnswer, Answered, EndsRun, Ends, accepted_of}
+use Rattle.opcheck_script.specs.Owned.{OpValue, op_value, owned_value, op_values, value_nesting, is_flat, may_be_attempted}
+use Rattle.opcheck_script.specs.Written.{written_values}
+use Rattle.opcheck_script.specs.declared.script.written.WrittenOp.{WrittenOp}
+
+module _ (cx : Context) where
+  -- the answers with one more
+  pub answered_more : (s : State) (ops : List (Op × ℕ)) (bs : List Bool) (rs : List Answer) (a : Answer) (t u : State) (p : Op × ℕ) (b : Bool) → Answered cx s ops bs rs t → slice_get ops (length rs) ≡ Some p → slice_get bs (length rs) ≡ Some b → IsAnswer cx p b a t u → Answered cx s ops bs (rs ++ a ∷ []) u
+  answered_more s [] bs [] a t u p b h g k i = absurd cc
+  answered_more s (q ∷ ops) [] [] a t u p b h g k i = absurd cc
+  answered_more s (q ∷ ops) (c ∷ bs) [] a t u p b h g k i =
+      let same_op : p ≡ q = cc in
+      let same_mark : b ≡ c = cc in
+      (u, subst (λ x. IsAnswer cx q c a x u) (sym h) (subst (λ x. IsAnswer cx q x a t u) same_mark (subst (λ x. IsAnswer cx x b a t u) same_op i)), refl)
+  answered_more s [] bs (x ∷ rs) a t u p b h g k i = absurd h
+  answered_more s (q ∷ ops) [] (x ∷ rs) a t u p b h g k i = absurd h
+  answered_more s (q ∷ ops) (c ∷ bs) (x ∷ rs) a t u p b h g k i = (h.0, h.1, answered_more h.0 ops bs rs a t u p b h.2 g k i)
+
+  -- the last state is that of the accepted operators alone
+  pub accepted_rows : (s : State) (ops : List (Op × ℕ)) (bs : List Bool) (rs : List Answer) (t : State) → Answered cx s ops bs rs t → before cx (body cx (operators (accepted_of ops rs))) s (length (accepted_of ops rs)) ≡ Some t
+  accepted_rows s [] bs [] t h = ap Some h
+  accepted_rows s (p ∷ ops) bs [] t h = ap Some h
+  accepted_rows s [] bs (a ∷ rs) t h = absurd h
+  accepted_rows s (p ∷ ops) [] (a ∷ rs) t h = absurd h
+  accepted_rows s (p ∷ ops) (b ∷ bs) (Ok heights ∷ rs) t h =
+      ap (λ o. bind o (λ x. before cx (body cx (operators (accepted_of ops rs))) x (length (accepted_of ops rs)))) h.1.0 ∙ accepted_rows h.0 ops bs rs t h.2
+  accepted_rows s (p ∷ ops) (b ∷ bs) (Err e ∷ rs) t h =
+      subst (λ x. before cx (body cx (operators (accepted_of ops rs))) x (length (accepted_of ops rs)) ≡ Some t) (sym h.1.4) (accepted_rows h.0 ops bs rs t h.2)
+
+  -- the same at a place
+  pub next_answered : (s : State) (ops : List (Op × ℕ)) (bs : List Bool) (rs : List Answer) (a : Answer) (t u : State) (i : ℕ) (p : Op × ℕ) (b : Bool) → length rs ≡ i → Answered cx s ops bs rs t → slice_get ops i ≡ Some p → slice_get bs i ≡ Some b → IsAnswer cx p b a t u → Answered cx s ops bs (rs ++ a ∷ []) u
+  next_answered s ops bs rs a t u i p b n h g k x = answered_more s ops bs rs a t u p b h (ap (slice_get ops) n ∙ g) (ap (slice_get bs) n ∙ k) x
+
+  -- ---- the order of the rest
+
+  flat_next : (fs : List Frame) (p : Op × ℕ) (ops : List (Op × ℕ)) → nesting p.0 ≡ Flat → IsOrderedBelow fs (p ∷ ops) → IsOrderedBelow fs ops
+  flat_next [] p ops e h = absurd (some_open [] p ops h refl)
+  flat_next (f ∷ fs) p ops e h = subst (λ n. reads_on f.head.kind (kinds fs) n (λ js. is_ordered_from js (map nesting (operators ops))) ≡ true) e h
+
+  pub still_ordered : (s t : State) (p : Op × ℕ) (b : Bool) (a : Answer) (ops : List (Op × ℕ)) → IsAnswer cx p b a s t → (b ≡ true → nesting p.0 ≡ Flat) → IsOrderedBelow s.frames (p ∷ ops) → IsOrderedBelow t.frames ops
+  still_ordered s t p b (Ok heights) ops i flat o = ordered_next cx s t p ops i.0 o
+  still_ordered s t p b (Err e) ops i flat o = subst (λ (x : State). IsOrderedBelow x.frames ops) i.4 (flat_next s.frames p ops (flat i.0) o)
+
+-- ---- what is written, and what borrows its lists
+
+nests : (op : Op) → value_nesting (op_value op) ≡ nesting op
+nests (Control (OnTable table)) = refl
+nests (Control (OnTypes types)) = refl
+nests _ = refl
+
+flat_is : (n : Nesting) → is_flat n ≡ true → n ≡ Flat
+flat_is Flat h = refl
+flat_is _ h = absurd cc
+
+pub same_length : (ops : List (Op × ℕ)) (written : List (WrittenOp × ℕ)) → op_values ops ≡ written_values written → length written ≡ length ops
+same_length [] [] e = refl
+same_length [] (w ∷ ws) e = absurd cc
+same_length (p ∷ ops) [] e = absurd cc
+same_length (p ∷ ops) (w ∷ ws) e = let rest : op_values ops ≡ written_values ws = cc in ap suc (same_length ops ws rest)
+
+-- what may be attempted nests nothing
+pub attempted_flat : (ops : List (Op × ℕ)) (written : List (WrittenOp × ℕ)) (i : ℕ) (p : Op × ℕ) → op_values ops ≡ written_values written → slice_get ops i ≡ Some p → IfSome (slice_get written i) (λ (w : WrittenOp × ℕ). may_be_attempted w.0.op ≡ true) → nesting p.0 ≡ Flat
+attempted_flat [] ws i p e g h = absurd cc
+attempted_flat (q ∷ ops) [] i p e g h = absurd cc
+attempted_flat (q ∷ ops) (w ∷ ws) zero p e g h =
+    let same : op_value q.0 ≡ owned_value w.0.op = ap (λ (l : List (OpValue × ℕ)). (get_or l 0 (op_value q.0, 0)).0) e in
+    let there : q ≡ p = cc in
+    flat_is (nesting p.0) (ap is_flat (sym (nests p.0) ∙ ap value_nesting (ap (λ (x : Op × ℕ). op_value x.0) (sym there) ∙ same)) ∙ h)
+attempted_flat (q ∷ ops) (w ∷ ws) (suc i) p e g h = let rest : op_values ops ≡ written_values ws = cc in attempted_flat ops ws i p rest g h
+
+-- ---- the end
+
+-- the run ends at a place
+pub ends_at : (cx : Context) (ops : List (Op × ℕ)) (bs : List Bool) (rs : List Answer) (i : ℕ) (p : Op × ℕ) (b : Bool) (e : Refusal) (s : State) → length rs ≡ i → slice_get ops i ≡ Some p → slice_get bs i ≡ Some b → EndsRun cx p b e s → Ends cx ops bs rs s (Err e)
+ends_at cx ops bs rs i p b e s n g k x = (p, b, ap (slice_get ops) n ∙ g, ap (slice_get bs) n ∙ k, x)
+
+pub short_of_memory : (cx : Context) (p : Op × ℕ) (b : Bool) (e : Refusal) (s : State) → e.offset ≡ p.1 → e.memory ≡ true → EndsRun cx p b e s
+short_of_memory cx p b e s o m =
+    let never : (X : Type 0) → e.memory ≡ false → X = λ X f. (let clash : true ≡ false = sym m ∙ f in absurd cc) in
+    record { at_offset = o; is_plain = never (b ≡ false); row = never (step cx (operator cx p.0) s ≡ None) }
+
+no_frames : (fs : List Frame) → length fs ≡ 0 → fs ≡ []
+no_frames [] h = refl
+no_frames (f ∷ fs) h = absurd (omega (arith, h))
+
+pub closed_is : (s : State) (n : ℕ) → n ≡ frame_count s → IsTrue (nat_eq n 0) ↔ (s.frames ≡ [])
+closed_is s n e = (
+  λ h. (let none : n ≡ 0 = eqb-true n 0 h in no_frames s.frames (sym e ∙ none)),
+  λ h. eq-eqb n 0 (e ∙ ap length h),
+)

@@ -1,0 +1,60 @@
+-- What the run of a script with `try` lines answers.
+use Rattle.std.specs.Prelude.{◌≡◌, ◌↔◌, ℕ, Bool, true, false, IsTrue, List, [], ◌∷◌, Some, None, Result, Ok}
+use Rattle.std.specs.Prelude.{Err, length, slice_get}
+use Rattle.validate_types.specs.Refusal.{Refusal}
+use Rattle.validate_resources.specs.Context.{ModuleContext}
+use Rattle.validate_visit.specs.declared.op.Op.{Op}
+use Rattle.validation_rules.specs.Context.{Context}
+use Rattle.validation_rules.specs.Static.{State, step}
+use Rattle.validation_rules.specs.Table.{operator}
+use Rattle.validate_stacks.specs.State.{BodyState, context}
+use Rattle.validate_body.specs.Runs.{heights_of, state_before}
+
+-- what is answered at one operator: the heights after it, or the refusal of an attempt
+abbrev pub Answer : Type 0
+Answer = Result (ℕ × ℕ) Refusal
+
+-- The answer at an operator, from the state s to the state t: its row holds, and these are the heights
+-- after it; or it was attempted, its row doesn't hold, and it left no trace.
+abbrev pub IsAnswer : Context → Op × ℕ → Bool → Answer → State → State → Type 0
+IsAnswer cx p attempted (Ok heights) s t = (step cx (operator cx p.0) s ≡ Some t) × (heights ≡ heights_of t)
+IsAnswer cx p attempted (Err e) s t =
+    (attempted ≡ true) × (e.offset ≡ p.1) × (e.memory ≡ false) × (step cx (operator cx p.0) s ≡ None) × (s ≡ t)
+
+-- the answers at the first operators of a list, from the state s to the state t
+abbrev pub Answered : Context → State → List (Op × ℕ) → List Bool → List Answer → State → Type 0
+Answered cx s ops attempts [] t = s ≡ t
+Answered cx s (p ∷ ops) (b ∷ attempts) (a ∷ answers) t =
+    (u : State) × IsAnswer cx p b a s u × Answered cx u ops attempts answers t
+Answered cx s _ _ _ t = ⊥
+
+-- the operators that are accepted
+abbrev pub accepted_of : List (Op × ℕ) → List Answer → List (Op × ℕ)
+accepted_of (p ∷ ops) (Ok heights ∷ answers) = p ∷ accepted_of ops answers
+accepted_of (p ∷ ops) (Err e ∷ answers) = accepted_of ops answers
+accepted_of _ _ = []
+
+-- why the run ends at an operator, in the state s: no memory, or it isn't attempted and its row doesn't hold
+pub record EndsRun
+    (cx : Context) (p : Op × ℕ) (attempted : Bool) (refusal : Refusal) (s : State) : Type 0 where
+  pub at_offset : refusal.offset ≡ p.1
+  pub is_plain : refusal.memory ≡ false → attempted ≡ false
+  pub row : refusal.memory ≡ false → step cx (operator cx p.0) s ≡ None
+
+-- How the run ends: with an answer at each operator, and then whether the outermost frame is closed; or
+-- with a refusal at the next one.
+abbrev pub Ends : Context → List (Op × ℕ) → List Bool → List Answer → State → Result Bool Refusal → Type 0
+Ends cx ops attempts answers s (Ok closed) = (length answers ≡ length ops) × (IsTrue closed ↔ (s.frames ≡ []))
+Ends cx ops attempts answers s (Err refusal) =
+    (p : Op × ℕ) × (b : Bool) × (slice_get ops (length answers) ≡ Some p)
+    × (slice_get attempts (length answers) ≡ Some b) × EndsRun cx p b refusal s
+
+-- What the run of the operators from this state answers: the last state is that of the accepted
+-- operators alone.
+pub record RunsAttempts
+    (md : ModuleContext) (v : BodyState) (ops : List (Op × ℕ)) (attempts : List Bool)
+    (answers : List Answer) (outcome : Result Bool Refusal) : Type 0 where
+  pub last : State
+  pub answered : Answered (context md v) v.present ops attempts answers last
+  pub rows : state_before md v (accepted_of ops answers) (length (accepted_of ops answers)) ≡ Some last
+  pub ends : Ends (context md v) ops attempts answers last outcome

@@ -1,0 +1,162 @@
+//! Running the operators of a body.
+
+ghost use Rattle.std.specs.Prelude.{◌≡◌, ◌<◌, true, false, [], None, Ok, Some, IfOk, IfErr, OnErr, IfSome, length, slice_get};
+ghost use Rattle.std.specs.List.{list_all, list_any};
+ghost use Rattle.validate_visit.specs.Immediates.{module_immediates};
+ghost use Rattle.validate_visit.specs.Order.{is_well_ordered_list};
+ghost use Rattle.validate_visit.specs.declared.frame.BlockType.{BlockType};
+ghost use Rattle.validation_rules.specs.Static.{start};
+ghost use Rattle.validation_rules.specs.Table.{operator};
+ghost use Rattle.validate_stacks.specs.Pops.{IsKept};
+ghost use Rattle.validate_stacks.specs.State.{IsStarting, IsValid, context};
+ghost use Rattle.validate_stacks.specs.Visits.{MayVisit, Meets};
+ghost use Rattle.validate_body.specs.Runs.{operators, IsSafeFrom};
+ghost use Rattle.validate_body.specs.Start.{state, stacks_of};
+ghost use Rattle.opcheck_script.specs.Attempts.{IsAnswer, EndsRun, RunsAttempts, accepted_of};
+ghost use Rattle.opcheck_script.specs.Owned.{op_values, may_be_attempted};
+ghost use Rattle.opcheck_script.specs.Reports.{Runs, accepted_in, is_attempted};
+ghost use Rattle.opcheck_script.specs.Written.{written_values, attempts_of};
+
+use crate::report::{Answers, Report};
+use crate::script::written::WrittenOp;
+use std::alloc::Global;
+use validate_body::{OperatorValidator, check_ops, try_op};
+use validate_resources::WasmModuleResources;
+use validate_types::Error;
+use validate_visit::Op;
+
+/// What is answered at an operator: how many operands and frames there are after it, or the refusal of
+/// an attempt.
+type Answer = Result<(usize, usize), Error>;
+
+/// Runs the operators of a body, which borrow the lists of those that were written: by one check of the
+/// whole list, or, where a `try` line is among them, one by one.
+pub fn run_operators<R: WasmModuleResources>(
+    alloc: Global,
+    v: &mut OperatorValidator,
+    ops: &[(Op<'_>, u64)],
+    written: &[(WrittenOp, u64)],
+    resources: &R,
+) -> Report
+    requires starting { IsStarting (R.context resources.now) (state v.old) }
+    requires ordered { is_well_ordered_list (operators ops.now) ≡ true }
+    requires immediates { list_all (λ (p : _). module_immediates p.0) ops.now ≡ true }
+    requires same { op_values ops.now ≡ written_values written.now }
+    ensures runs { Runs (R.context resources.now) (state v.old) ops.now (attempts_of written.now)
+        result.answers result.outcome }
+    ensures safe { result.outcome ≡ Ok true → (ty : BlockType) → (state v.old).present ≡ start ty
+        → IsSafeFrom (R.context resources.now) (state v.old) (accepted_in ops.now result.answers) ty }
+{
+    if has_attempts(written) {
+        let mut answers = Vec::new(alloc);
+        let outcome = answer_each(v, ops, written, resources, &mut answers);
+        return Report {
+            answers: Answers::Attempts(answers),
+            outcome,
+        };
+    }
+    let mut heights = Vec::new(alloc);
+    let outcome = match check_ops(v, ops, resources, &mut heights) {
+        Ok(closed) => Ok(closed),
+        Err((_, refusal)) => Err(refusal),
+    };
+    Report {
+        answers: Answers::Heights(heights),
+        outcome,
+    }
+}
+
+/// Whether one of these operators is attempted.
+fn has_attempts(written: &[(WrittenOp, u64)]) -> bool
+    ensures { result ≡ list_any is_attempted (attempts_of written.now) }
+{
+    written.iter().any(|line| line.0.attempted)
+}
+
+/// Visits the operators one by one, or attempts those of `try` lines, and notes the answers. It answers
+/// whether the outermost frame is closed at the end, or the refusal that ends the run.
+fn answer_each<R: WasmModuleResources>(
+    v: &mut OperatorValidator,
+    ops: &[(Op<'_>, u64)],
+    written: &[(WrittenOp, u64)],
+    resources: &R,
+    answers: &mut Vec<Answer>,
+) -> Result<bool, Error>
+    requires starting { IsStarting (R.context resources.now) (state v.old) }
+    requires ordered { is_well_ordered_list (operators ops.now) ≡ true }
+    requires same { op_values ops.now ≡ written_values written.now }
+    requires empty { answers.old.items ≡ [] }
+    ensures runs { RunsAttempts (R.context resources.now) (state v.old) ops.now
+        (attempts_of written.now) answers.new.items result }
+    ensures safe { result ≡ Ok true → (ty : BlockType) → (state v.old).present ≡ start ty
+        → IsSafeFrom (R.context resources.now) (state v.old) (accepted_of ops.now answers.new.items)
+        ty }
+{
+    for (index, pair) in ops.iter().enumerate() {
+        let (op, offset) = *pair;
+        let attempted = is_attempted_at(written, index);
+        if answers.reserve(1).is_err() {
+            return Err(Error::out_of_memory(offset));
+        }
+        match answer_at(v, resources, offset, op, attempted) {
+            Ok(answer) => answers.push(answer).unwrap(),
+            Err(refusal) => return Err(refusal),
+        }
+    }
+    Ok(v.control_stack_height() == 0)
+}
+
+/// Whether the operator at this place is attempted.
+fn is_attempted_at(written: &[(WrittenOp, u64)], index: usize) -> bool
+    requires { index < length written.now }
+    ensures attempted { slice_get (attempts_of written.now) index ≡ Some result }
+    ensures flat { result ≡ true → IfSome (slice_get written.now index)
+        (λ line. may_be_attempted line.0.op ≡ true) }
+{
+    written[index].0.attempted
+}
+
+/// The answer at one operator, or the refusal that ends the run: of a plain operator, or for want of
+/// memory.
+fn answer_at<R: WasmModuleResources>(
+    v: &mut OperatorValidator,
+    resources: &R,
+    offset: u64,
+    op: Op<'_>,
+    attempted: bool,
+) -> Result<Answer, Error>
+    requires idle { (state v.old).undone ≡ None }
+    requires visit { MayVisit (R.context resources.now) (stacks_of v.old) }
+    ensures answered { IfOk result (λ answer. IsAnswer (context (R.context resources.now) (state v.old))
+        (op.entry, offset) attempted answer (state v.old).present (state v.new).present) }
+    ensures ended { IfErr result (λ refusal. EndsRun (context (R.context resources.now) (state v.old))
+        (op.entry, offset) attempted refusal (state v.old).present) }
+    ensures valid { IsValid (R.context resources.now) (state v.new) }
+    ensures kept { IsKept (state v.old) (state v.new) }
+{
+    match visit_or_try(v, resources, offset, op, attempted) {
+        Ok(()) => Ok(Ok((v.operand_stack_height(), v.control_stack_height()))),
+        Err(refusal) if attempted && !refusal.is_out_of_memory() => Ok(Err(refusal)),
+        Err(refusal) => Err(refusal),
+    }
+}
+
+/// Visits an operator, or attempts it.
+fn visit_or_try<R: WasmModuleResources>(
+    v: &mut OperatorValidator,
+    resources: &R,
+    offset: u64,
+    op: Op<'_>,
+    attempted: bool,
+) -> Result<(), Error>
+    requires idle { (state v.old).undone ≡ None }
+    requires visit { MayVisit (R.context resources.now) (stacks_of v.old) }
+    ensures meets { Meets (R.context resources.now) (λ cx. operator cx op.entry) offset (state v.old)
+        result (state v.new) }
+    ensures back { attempted ≡ true → OnErr result (state v.new ≡ state v.old) }
+{
+    if attempted {
+        return try_op(v, resources, offset, op);
+    }
+    v.check(resources, offset, op)
+}

@@ -1,0 +1,3 @@
+pub mod Params
+pub mod Listed
+pub mod Attempted

@@ -1,0 +1,60 @@
+-- The static run of a list of operators with offsets, and what a check of the list answers by it.
+use Rattle.std.specs.Prelude.{◌≡◌, ℕ, suc, ◌<◌, false, List, [], Option, Some, None, length, map, slice_get}
+use Rattle.validate_resources.specs.Context.{ModuleContext}
+use Rattle.validate_types.specs.Refusal.{Refusal}
+use Rattle.validate_visit.specs.declared.frame.BlockType.{BlockType}
+use Rattle.validate_visit.specs.declared.op.Op.{Op}
+use Rattle.validation_rules.specs.Rows.{Operator}
+use Rattle.validation_rules.specs.Static.{State, before, operand_count, frame_count}
+use Rattle.validation_rules.specs.Table.{body}
+use Rattle.validate_stacks.specs.State.{BodyState, context}
+use Rattle.type_safety.specs.Bodies.{HasHeights}
+use Rattle.type_safety.specs.Theorem.{IsTypeSafe}
+
+-- the operators of a list with offsets
+abbrev pub operators : List (Op × ℕ) → List Op
+operators ops = map (λ (p : Op × ℕ). p.0) ops
+
+-- the body of these operators, as the rules see it from the state v
+abbrev pub body_of : ModuleContext → BodyState → List (Op × ℕ) → List Operator
+body_of md v ops = body (context md v) (operators ops)
+
+-- the state before operator k, where the rows of all operators before it hold
+abbrev pub state_before : ModuleContext → BodyState → List (Op × ℕ) → ℕ → Option State
+state_before md v ops k = before (context md v) (body_of md v ops) v.present k
+
+-- the heights of a state: how many operands, and how many open frames
+abbrev pub heights_of : State → ℕ × ℕ
+heights_of s = (operand_count s, frame_count s)
+
+-- all rows hold, and no frame is open after them
+pub record IsAcceptedList (md : ModuleContext) (v : BodyState) (ops : List (Op × ℕ)) : Type 0 where
+  pub last : State
+  pub rows : state_before md v ops (length ops) ≡ Some last
+  pub closed : last.frames ≡ []
+
+-- one entry for each of the first n operators: the heights after it
+pub record AreHeightsAfter
+    (md : ModuleContext) (v : BodyState) (ops : List (Op × ℕ)) (n : ℕ) (heights : List (ℕ × ℕ)) : Type 0 where
+  pub count : length heights ≡ n
+  pub each :
+      (k : ℕ) (s : State) → k < n → state_before md v ops (suc k) ≡ Some s →
+      slice_get heights k ≡ Some (heights_of s)
+
+-- Operator k was refused: the rows of all operators before it hold, its own doesn't, memory aside, and
+-- the refusal carries its offset.
+pub record IsRefusedAt
+    (md : ModuleContext) (v : BodyState) (ops : List (Op × ℕ)) (k : ℕ) (refusal : Refusal) : Type 0 where
+  pub operator : Op
+  pub at_offset : slice_get ops k ≡ Some (operator, refusal.offset)
+  pub state : State
+  pub rows_before : state_before md v ops k ≡ Some state
+  pub row : refusal.memory ≡ false → state_before md v ops (suc k) ≡ None
+
+-- No run of the typed machine over the list, however long and whatever it chooses, gets stuck; what it
+-- returns fits the results; and wherever it stands it has the labels, the operands and the heights of
+-- the static run.
+pub record IsSafeFrom
+    (md : ModuleContext) (v : BodyState) (ops : List (Op × ℕ)) (block_type : BlockType) : Type 0 where
+  pub type_safe : IsTypeSafe (context md v) (body_of md v ops) block_type
+  pub heights : HasHeights (context md v) (body_of md v ops) block_type

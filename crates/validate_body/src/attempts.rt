@@ -1,0 +1,79 @@
+//! One operator that is attempted: kept where it is accepted, or taken back whatever its outcome.
+
+ghost use Rattle.std.specs.Prelude.{◌≡◌, true, false, None, IsSome, OnOk, OnErr, IfErr};
+ghost use Rattle.validation_rules.specs.Table.{operator};
+ghost use Rattle.validate_stacks.specs.Attempts.{stacks_committed, stacks_rolled_back};
+ghost use Rattle.validate_stacks.specs.Visits.{step_body, MayVisit, Meets};
+ghost use Rattle.validate_body.specs.Start.{state, stacks_of};
+
+use crate::validator::OperatorValidator;
+use validate_resources::WasmModuleResources;
+use validate_types::Error;
+use validate_visit::Op;
+
+/// Attempts one operator: where it is accepted it stays, and where it is refused, or no memory is found
+/// for it, it is taken back, and the validator is in the state before. No attempt is pending afterwards.
+///
+/// A refusal is the one that the visit answers, with the offset handed in; want of memory is one too.
+///
+/// Conditions: no attempt is pending, a frame is open, and the types are those of this lookup.
+pub fn try_op<R: WasmModuleResources>(
+    v: &mut OperatorValidator,
+    resources: &R,
+    offset: u64,
+    op: Op,
+) -> Result<(), Error>
+    requires idle { (state v.old).undone ≡ None }
+    requires visit { MayVisit (R.context resources.now) (stacks_of v.old) }
+
+    // It answers by the row, as a visit does; the log of the attempt may want memory too.
+    ensures meets { Meets (R.context resources.now) (λ cx. operator cx op.entry) offset (state v.old)
+        result (state v.new) }
+
+    // A refused operator leaves no trace.
+    ensures back { OnErr result (state v.new ≡ state v.old) }
+{
+    v.begin_try_op();
+    let answer = v.check(resources, offset, op);
+    end_attempt(v, answer.is_ok());
+    answer
+}
+
+/// Ends the attempt: an accepted operator stays, and a refused one is taken back.
+fn end_attempt(v: &mut OperatorValidator, accepted: bool)
+    requires { IsSome (state v.old).undone }
+    ensures accepted { accepted ≡ true → stacks_of v.new ≡ stacks_committed (stacks_of v.old) }
+    ensures refused { accepted ≡ false → stacks_of v.new ≡ stacks_rolled_back (stacks_of v.old) }
+{
+    if accepted {
+        v.commit();
+    } else {
+        v.rollback();
+    }
+}
+
+/// Attempts one operator, and takes it back: whatever its outcome, the state is the one before, with the
+/// order in which locals were first set, and no attempt is pending. It answers as the visit does: accepted
+/// only where the row holds, and refused, but for want of memory, only where it doesn't.
+pub fn try_and_undo<R: WasmModuleResources>(
+    v: &mut OperatorValidator,
+    resources: &R,
+    offset: u64,
+    op: Op,
+) -> Result<(), Error>
+    requires idle { (state v.old).undone ≡ None }
+    requires visit { MayVisit (R.context resources.now) (stacks_of v.old) }
+    ensures same { state v.new ≡ state v.old }
+
+    // It answers by the row.
+    ensures accepted { OnOk result (IsSome (step_body (R.context resources.now)
+        (λ cx. operator cx op.entry) (state v.old))) }
+    ensures refused { IfErr result (λ e. e.memory ≡ false
+        → step_body (R.context resources.now) (λ cx. operator cx op.entry) (state v.old) ≡ None) }
+    ensures offset { IfErr result (λ e. e.offset ≡ offset) }
+{
+    v.begin_try_op();
+    let answer = v.check(resources, offset, op);
+    v.rollback();
+    answer
+}

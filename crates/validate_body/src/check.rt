@@ -1,0 +1,73 @@
+//! The check of a whole list of operators.
+
+ghost use Rattle.std.specs.Prelude.{◌≡◌, ◌↔◌, [], true, length, IsTrue, IfOk, OnOk, IfErr, MatchResult, Some};
+ghost use Rattle.std.specs.List.{list_all};
+ghost use Rattle.validate_visit.specs.Immediates.{module_immediates};
+ghost use Rattle.validate_visit.specs.Order.{is_well_ordered_list};
+ghost use Rattle.validate_visit.specs.declared.frame.BlockType.{BlockType};
+ghost use Rattle.validation_rules.specs.Static.{start};
+ghost use Rattle.validate_stacks.specs.Pops.{IsKept};
+ghost use Rattle.validate_stacks.specs.State.{IsStarting, IsValid};
+ghost use Rattle.validate_body.specs.Runs.{operators, state_before, AreHeightsAfter, IsRefusedAt, IsSafeFrom};
+ghost use Rattle.validate_body.specs.Start.{state};
+
+use crate::validator::OperatorValidator;
+use validate_resources::WasmModuleResources;
+use validate_types::Error;
+use validate_visit::Op;
+
+/// Visits the operators in order, and notes both heights after each one that is accepted: how many
+/// operands there are, and how many open frames.
+///
+/// `Ok(true)`: all were accepted, and the outermost frame is closed. Then no run of the body gets
+/// stuck, and what it returns fits the results. `Ok(false)`: all were accepted, and a frame is open.
+/// `Err((k, refusal))`: operator `k`, counted from 0, was refused, or no memory was found at it;
+/// `heights` has `k` entries then.
+///
+/// Conditions: the validator is in a starting state for this lookup, the list is well ordered
+/// ([`validate_visit::is_well_ordered`]), its immediates are those of a module
+/// ([`validate_visit::has_module_immediates`]), and `heights` is empty.
+pub fn check_ops<R: WasmModuleResources>(
+    v: &mut OperatorValidator,
+    ops: &[(Op, u64)],
+    resources: &R,
+    heights: &mut Vec<(usize, usize)>,
+) -> Result<bool, (usize, Error)>
+    requires starting { IsStarting (R.context resources.now) (state v.old) }
+    requires ordered { is_well_ordered_list (operators ops.now) ≡ true }
+    requires immediates { list_all (λ (p : _). module_immediates p.0) ops.now ≡ true }
+    requires empty { heights.old.items ≡ [] }
+
+    // All rows hold where it answers Ok, and the validator is in the last state of the run.
+    ensures rows { OnOk result (state_before (R.context resources.now) (state v.old) ops.now
+        (length ops.now) ≡ Some (state v.new).present) }
+    ensures closed { IfOk result (λ closed. IsTrue closed ↔ ((state v.new).present.frames ≡ [])) }
+    ensures refused { IfErr result (λ p. IsRefusedAt (R.context resources.now) (state v.old) ops.now p.0
+        p.1) }
+    ensures heights { MatchResult result (λ _. AreHeightsAfter (R.context resources.now) (state v.old)
+        ops.now (length ops.now) heights.new.items)
+        (λ p. AreHeightsAfter (R.context resources.now) (state v.old) ops.now p.0 heights.new.items) }
+
+    // Where it answers that the outermost frame is closed, the list is type safe.
+    ensures safe { IfOk result (λ closed. closed ≡ true → (ty : BlockType) → (state v.old).present
+        ≡ start ty → IsSafeFrom (R.context resources.now) (state v.old) ops.now ty) }
+
+    // Whatever it answers, the types stay valid, and nothing but operands and frames changes.
+    ensures valid { IsValid (R.context resources.now) (state v.new) }
+    ensures kept { IsKept (state v.old) (state v.new) }
+{
+    for (index, pair) in ops.iter().enumerate() {
+        let (op, offset) = *pair;
+        match heights.reserve(1) {
+            Ok(()) => {}
+            Err(_) => return Err((index, Error::out_of_memory(offset))),
+        }
+        match v.check(resources, offset, op) {
+            Ok(()) => {}
+            Err(refusal) => return Err((index, refusal)),
+        }
+        let noted = (v.operand_stack_height(), v.control_stack_height());
+        heights.push(noted).unwrap();
+    }
+    Ok(v.control_stack_height() == 0)
+}

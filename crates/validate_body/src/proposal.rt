@@ -1,0 +1,218 @@
+//! A validator that is about to visit an operator.
+
+ghost use Rattle.std.specs.Prelude.{◌≡◌};
+ghost use Rattle.validate_visit.specs.declared.op.Op.{Op};
+ghost use Rattle.validation_rules.specs.Static.{frame_count};
+ghost use Rattle.validation_rules.specs.Table.{operator};
+ghost use Rattle.validate_stacks.specs.Steps.{label_of};
+ghost use Rattle.validate_stacks.specs.Visits.{MayVisit, Meets};
+ghost use Rattle.validate_operators.specs.Memory.{TakesNoMemory};
+ghost use Rattle.validate_body.specs.Start.{state, current_kind, stacks_of};
+
+use crate::validator::OperatorValidator;
+use validate_resources::WasmModuleResources;
+use validate_types::{Error, RefType, SubType};
+use validate_visit::{
+    AtomicOp, BlockType, ControlOp, ConvertOp, FrameKind, FrameStack, MemoryOp, ModuleArity,
+    NumericOp, Op, ReferenceOp, TableOp,
+};
+
+/// A validator that is about to visit an operator, with the lookup and the operator's offset
+/// (wasmparser's `WasmProposalValidator`).
+#[derive(Drop)]
+pub struct WasmProposalValidator<'validator, 'resources, R> {
+    /// The operator's offset, which a refusal carries.
+    pub offset: u64,
+    /// The validator.
+    pub inner: &'validator mut OperatorValidator,
+    /// The lookup.
+    pub resources: &'resources R,
+}
+
+impl OperatorValidator {
+    /// The validator, ready to visit the operator at this offset. It takes no memory.
+    pub fn with_resources<'validator, 'resources, R: WasmModuleResources>(
+        &'validator mut self,
+        resources: &'resources R,
+        offset: u64,
+    ) -> WasmProposalValidator<'validator, 'resources, R>
+        ensures same_reference { result.inner.ghost_name ≡ self.entry.ghost_name }
+        ensures same_value { result.inner.now ≡ self.old }
+        ensures offset { result.offset ≡ offset }
+        ensures resources { result.resources.now ≡ resources.now }
+    {
+        WasmProposalValidator {
+            offset,
+            inner: self,
+            resources,
+        }
+    }
+}
+
+impl<'validator, 'resources, R> FrameStack for WasmProposalValidator<'validator, 'resources, R> {
+    ghost current = { λ v. current_kind (state v.inner.now) };
+
+    fn current_frame(&self) -> Option<FrameKind> {
+        let (_, kind) = self.inner.jump(0)?;
+        Some(kind)
+    }
+}
+
+impl<'validator, 'resources, R: WasmModuleResources> ModuleArity
+    for WasmProposalValidator<'validator, 'resources, R> {
+    ghost type_index_of = { λ v. (R.context v.resources.now).type_index_of };
+
+    ghost type_at = { λ v. (R.context v.resources.now).type_at };
+
+    ghost type_of_id = { λ v. (R.context v.resources.now).type_of_id };
+
+    ghost open_frames = { λ v. frame_count (state v.inner.now).present };
+
+    ghost label_at = { λ v. label_of (state v.inner.now) };
+
+    fn type_index_of_function(&self, function_index: u32) -> Option<u32> {
+        self.resources.type_index_of_function(function_index)
+    }
+
+    fn sub_type_at(&self, type_index: u32) -> Option<&SubType> {
+        self.resources.sub_type_at(type_index)
+    }
+
+    fn sub_type_of_ref_type(&self, ty: &RefType) -> Option<&SubType> {
+        let id = ty.type_index()?.as_core_type_id()?;
+        Some(self.resources.sub_type_at_id(id))
+    }
+
+    fn control_stack_height(&self) -> u32 {
+        self.inner.control_stack_height() as u32
+    }
+
+    fn label_block(&self, depth: u32) -> Option<(BlockType, FrameKind)> {
+        self.inner.jump(depth)
+    }
+}
+
+impl<'validator, 'resources, R: WasmModuleResources> WasmProposalValidator<
+    'validator,
+    'resources,
+    R,
+> {
+    /// The check of the operator, by its value.
+    pub fn check<'a>(&mut self, op: Op<'a>) -> Result<(), Error>
+        requires { MayVisit (R.context self.old.resources.now) (stacks_of self.old.inner.now) }
+        ensures same_reference { self.new.inner.ghost_name ≡ self.old.inner.ghost_name }
+        ensures offset { self.new.offset ≡ self.old.offset }
+        ensures resources { self.new.resources ≡ self.old.resources }
+        ensures row { Meets (R.context self.old.resources.now) (λ cx. operator cx op.entry)
+            self.old.offset (state self.old.inner.now) result (state self.new.inner.now) }
+        ensures memory { TakesNoMemory (R.context self.old.resources.now) op.entry
+            (state self.old.inner.now) result }
+    {
+        self.inner.check(self.resources, self.offset, op)
+    }
+
+    /// The check of an operator on control, locals or globals.
+    #[inline(always)]
+    pub fn check_control<'a>(&mut self, op: ControlOp<'a>) -> Result<(), Error>
+        requires { MayVisit (R.context self.old.resources.now) (stacks_of self.old.inner.now) }
+        ensures same_reference { self.new.inner.ghost_name ≡ self.old.inner.ghost_name }
+        ensures offset { self.new.offset ≡ self.old.offset }
+        ensures resources { self.new.resources ≡ self.old.resources }
+        ensures row { Meets (R.context self.old.resources.now) (λ cx. operator cx (Op.Control op.entry))
+            self.old.offset (state self.old.inner.now) result (state self.new.inner.now) }
+        ensures memory { TakesNoMemory (R.context self.old.resources.now) (Op.Control op.entry)
+            (state self.old.inner.now) result }
+    {
+        self.inner.check_control(self.resources, self.offset, op)
+    }
+
+    /// The check of an operator on numbers.
+    #[inline(always)]
+    pub fn check_numeric(&mut self, op: NumericOp) -> Result<(), Error>
+        requires { MayVisit (R.context self.old.resources.now) (stacks_of self.old.inner.now) }
+        ensures same_reference { self.new.inner.ghost_name ≡ self.old.inner.ghost_name }
+        ensures offset { self.new.offset ≡ self.old.offset }
+        ensures resources { self.new.resources ≡ self.old.resources }
+        ensures row { Meets (R.context self.old.resources.now) (λ cx. operator cx (Op.Numeric op))
+            self.old.offset (state self.old.inner.now) result (state self.new.inner.now) }
+        ensures memory { TakesNoMemory (R.context self.old.resources.now) (Op.Numeric op)
+            (state self.old.inner.now) result }
+    {
+        self.inner.check_numeric(self.resources, self.offset, op)
+    }
+
+    /// The check of a conversion.
+    #[inline(always)]
+    pub fn check_convert(&mut self, op: ConvertOp) -> Result<(), Error>
+        requires { MayVisit (R.context self.old.resources.now) (stacks_of self.old.inner.now) }
+        ensures same_reference { self.new.inner.ghost_name ≡ self.old.inner.ghost_name }
+        ensures offset { self.new.offset ≡ self.old.offset }
+        ensures resources { self.new.resources ≡ self.old.resources }
+        ensures row { Meets (R.context self.old.resources.now) (λ cx. operator cx (Op.Convert op))
+            self.old.offset (state self.old.inner.now) result (state self.new.inner.now) }
+        ensures memory { TakesNoMemory (R.context self.old.resources.now) (Op.Convert op)
+            (state self.old.inner.now) result }
+    {
+        self.inner.check_convert(self.resources, self.offset, op)
+    }
+
+    /// The check of an operator on memories.
+    #[inline(always)]
+    pub fn check_memory(&mut self, op: MemoryOp) -> Result<(), Error>
+        requires { MayVisit (R.context self.old.resources.now) (stacks_of self.old.inner.now) }
+        ensures same_reference { self.new.inner.ghost_name ≡ self.old.inner.ghost_name }
+        ensures offset { self.new.offset ≡ self.old.offset }
+        ensures resources { self.new.resources ≡ self.old.resources }
+        ensures row { Meets (R.context self.old.resources.now) (λ cx. operator cx (Op.Memory op))
+            self.old.offset (state self.old.inner.now) result (state self.new.inner.now) }
+        ensures memory { TakesNoMemory (R.context self.old.resources.now) (Op.Memory op)
+            (state self.old.inner.now) result }
+    {
+        self.inner.check_memory(self.resources, self.offset, op)
+    }
+
+    /// The check of an atomic operator.
+    #[inline(always)]
+    pub fn check_atomic(&mut self, op: AtomicOp) -> Result<(), Error>
+        requires { MayVisit (R.context self.old.resources.now) (stacks_of self.old.inner.now) }
+        ensures same_reference { self.new.inner.ghost_name ≡ self.old.inner.ghost_name }
+        ensures offset { self.new.offset ≡ self.old.offset }
+        ensures resources { self.new.resources ≡ self.old.resources }
+        ensures row { Meets (R.context self.old.resources.now) (λ cx. operator cx (Op.Atomic op))
+            self.old.offset (state self.old.inner.now) result (state self.new.inner.now) }
+        ensures memory { TakesNoMemory (R.context self.old.resources.now) (Op.Atomic op)
+            (state self.old.inner.now) result }
+    {
+        self.inner.check_atomic(self.resources, self.offset, op)
+    }
+
+    /// The check of an operator on references.
+    #[inline(always)]
+    pub fn check_reference(&mut self, op: ReferenceOp) -> Result<(), Error>
+        requires { MayVisit (R.context self.old.resources.now) (stacks_of self.old.inner.now) }
+        ensures same_reference { self.new.inner.ghost_name ≡ self.old.inner.ghost_name }
+        ensures offset { self.new.offset ≡ self.old.offset }
+        ensures resources { self.new.resources ≡ self.old.resources }
+        ensures row { Meets (R.context self.old.resources.now) (λ cx. operator cx (Op.Reference op))
+            self.old.offset (state self.old.inner.now) result (state self.new.inner.now) }
+        ensures memory { TakesNoMemory (R.context self.old.resources.now) (Op.Reference op)
+            (state self.old.inner.now) result }
+    {
+        self.inner.check_reference(self.resources, self.offset, op)
+    }
+
+    /// The check of an operator on tables.
+    #[inline(always)]
+    pub fn check_table(&mut self, op: TableOp) -> Result<(), Error>
+        requires { MayVisit (R.context self.old.resources.now) (stacks_of self.old.inner.now) }
+        ensures same_reference { self.new.inner.ghost_name ≡ self.old.inner.ghost_name }
+        ensures offset { self.new.offset ≡ self.old.offset }
+        ensures resources { self.new.resources ≡ self.old.resources }
+        ensures row { Meets (R.context self.old.resources.now) (λ cx. operator cx (Op.Table op))
+            self.old.offset (state self.old.inner.now) result (state self.new.inner.now) }
+        ensures memory { TakesNoMemory (R.context self.old.resources.now) (Op.Table op)
+            (state self.old.inner.now) result }
+    {
+        self.inner.check_table(self.resources, self.offset, op)
+    }
+}

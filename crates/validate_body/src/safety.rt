@@ -1,0 +1,25 @@
+//! The law of type safety.
+
+ghost use Rattle.std.specs.Prelude.{◌≡◌, true, List, ℕ};
+ghost use Rattle.std.specs.List.{list_all};
+ghost use Rattle.validate_visit.specs.Immediates.{module_immediates};
+ghost use Rattle.validate_visit.specs.Order.{is_well_ordered_list};
+ghost use Rattle.validate_visit.specs.declared.frame.BlockType.{BlockType};
+ghost use Rattle.validate_visit.specs.declared.op.Op.{Op};
+ghost use Rattle.validation_rules.specs.Static.{start};
+ghost use Rattle.validate_stacks.specs.State.{BodyState, IsStarting};
+ghost use Rattle.validate_body.specs.Runs.{operators, IsAcceptedList, IsSafeFrom};
+
+use validate_resources::WasmModuleResources;
+
+/// Type safety, for this lookup: from every starting state, over every well-ordered list with the
+/// immediates of a module whose rows all hold and which leaves no frame open, no run of the typed
+/// machine gets stuck, and what it returns fits the results. It does nothing: its contract is the
+/// law.
+pub fn safety_law<R: WasmModuleResources>(_resources: &R)
+    ensures { (v : BodyState) → (ty : BlockType) → (ops : List (Op × ℕ))
+        → IsStarting (R.context _resources.now) v → v.present ≡ start ty
+        → is_well_ordered_list (operators ops) ≡ true → list_all (λ (p : _). module_immediates p.0) ops
+        ≡ true → IsAcceptedList (R.context _resources.now) v ops
+        → IsSafeFrom (R.context _resources.now) v ops ty }
+{}

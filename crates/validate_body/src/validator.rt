@@ -1,0 +1,364 @@
+//! The validator's state: how it is made, what is declared in it, and what can be asked of it.
+
+ghost use Rattle.std.specs.Prelude.{◌≤◌, ◌≡◌, ◌⊎◌, ◌+◌, ◌<◌, true, false, None, length, is_some, IsSome, IfOk, OnOk, OnErr, IfErr};
+ghost use Rattle.std.specs.Option.{option_copied};
+ghost use Rattle.validation_rules.specs.Static.{operand_count, frame_count};
+ghost use Rattle.validate_locals.specs.Limit.{max_locals};
+ghost use Rattle.validate_stacks.specs.Attempts.{may_attempt, stacks_begun, stacks_committed, stacks_rolled_back};
+ghost use Rattle.validate_stacks.specs.State.{IsStarting, IsValid, UndoneIsValid};
+ghost use Rattle.validate_stacks.specs.Visits.{MayVisit, Meets};
+ghost use Rattle.validate_operators.specs.Memory.{TakesNoMemory};
+ghost use Rattle.validate_visit.specs.declared.op.Op.{Op};
+ghost use Rattle.validation_rules.specs.Table.{operator};
+ghost use Rattle.validate_resources.specs.Context.{ModuleContext, Valid, signature_of};
+ghost use Rattle.validate_stacks.specs.Steps.{type_at_depth, frame_at, label_of};
+ghost use Rattle.validate_body.specs.Start.{state, stacks_of, func_start, const_start, IsFuncStart, HasTooManyParams, DefinesLocals, CannotDefine};
+
+use validate_locals::Locals;
+use validate_operators::{
+    check_atomic, check_control, check_convert, check_memory, check_numeric, check_operator,
+    check_reference, check_table,
+};
+use validate_resources::WasmModuleResources;
+use validate_stacks::{OperatorValidatorAllocations, Stacks};
+use validate_types::{CompositeInnerType, Error, SubType, ValType, WasmFeatures};
+use validate_visit::{
+    AtomicOp, BlockType, ControlOp, ConvertOp, Frame, FrameKind, MemoryOp, NumericOp, Op,
+    ReferenceOp, TableOp,
+};
+
+/// The validator of a body (wasmparser's `OperatorValidator`). Contracts see what it stands for by
+/// `state` of `specs/`.
+#[derive(Drop)]
+pub struct OperatorValidator {
+    pub(crate) stacks: Stacks,
+}
+
+impl OperatorValidator {
+    /// A validator of the body of a function whose type is the one at index `ty`: one frame of that
+    /// type is open, and the parameters are locals that are set. It refuses, at the offset handed in:
+    /// `unknown type: type index out of bounds`, `too many locals: locals exceed maximum` for more
+    /// than 50,000 parameters, or want of memory. A refusal gives up the buffers.
+    pub fn new_func<R: WasmModuleResources>(
+        ty: u32,
+        offset: u64,
+        features: &WasmFeatures,
+        resources: &R,
+        allocs: OperatorValidatorAllocations,
+    ) -> Result<OperatorValidator, Error>
+        ensures made { IfOk result (λ v. IsFuncStart (R.context resources.now) features.now ty (state v)) }
+        ensures starting { IfOk result (λ v. IsStarting (R.context resources.now) (state v)) }
+        ensures refused { IfErr result (λ e. e.memory ≡ false
+            → ((R.context resources.now).type_at ty ≡ None)
+            ⊎ HasTooManyParams (R.context resources.now) ty) }
+        ensures offset { IfErr result (λ e. e.offset ≡ offset) }
+    {
+        match resources.sub_type_at(ty) {
+            Some(sub_type) => start_func(ty, sub_type, offset, *features, allocs),
+            None => Err(Error::new("unknown type: type index out of bounds", offset)),
+        }
+    }
+
+    /// A validator of a constant expression: one frame that gives a value of this type is open, and
+    /// there are no locals. The type has to be valid and canonical in the lookup of the later visits.
+    /// It refuses for want of memory alone, at offset 0, and gives up the buffers then.
+    pub fn new_const_expr(
+        features: &WasmFeatures,
+        ty: ValType,
+        allocs: OperatorValidatorAllocations,
+    ) -> Result<OperatorValidator, Error>
+        ensures made { IfOk result (λ v. state v ≡ const_start features.now ty) }
+        ensures starting { IfOk result (λ v. (md : ModuleContext) → Valid md ty → IsStarting md (state v)) }
+        ensures memory { IfErr result (λ e. e.memory ≡ true) }
+        ensures offset { IfErr result (λ e. e.offset ≡ 0) }
+    {
+        let mut stacks = Stacks::new(*features, allocs);
+        match stacks.push_bare_ctrl(FrameKind::Block, BlockType::Val(ty)) {
+            Ok(()) => Ok(OperatorValidator { stacks }),
+            Err(_) => Err(Error::out_of_memory(0)),
+        }
+    }
+
+    /// Declares `count` more locals of this type, which is checked even for a count of 0. It refuses,
+    /// at the offset handed in, a type that the lookup refuses; `too many locals: locals exceed
+    /// maximum` where there would be more than 50,000; or want of memory. A refusal leaves the locals
+    /// as they were.
+    pub fn define_locals<R: WasmModuleResources>(
+        &mut self,
+        offset: u64,
+        count: u32,
+        ty: ValType,
+        resources: &R,
+    ) -> Result<(), Error>
+        requires { IsStarting (R.context resources.now) (state self.old) }
+        ensures defined { OnOk result (DefinesLocals (R.context resources.now) count ty (state self.old)
+            (state self.new)) }
+        ensures refused { IfErr result (λ e. e.memory ≡ false
+            → CannotDefine (R.context resources.now) count ty (state self.old)) }
+        ensures err { OnErr result (state self.new ≡ state self.old) }
+        ensures starting { IsStarting (R.context resources.now) (state self.new) }
+        ensures offset { IfErr result (λ e. e.offset ≡ offset) }
+    {
+        let features = self.stacks.features();
+        let mut canonical = ty;
+        resources.check_value_type(&mut canonical, &features, offset)?;
+        match self.stacks.define_locals(count, canonical) {
+            Ok(true) => Ok(()),
+            Ok(false) => Err(Error::new("too many locals: locals exceed maximum", offset)),
+            Err(_) => Err(Error::out_of_memory(offset)),
+        }
+    }
+
+    /// The check of one operator at this offset: accepted exactly where its row holds, memory aside, with
+    /// the static step. A refusal carries the offset. A frame has to be open, and the types of the state
+    /// are those of this lookup.
+    pub fn check<R: WasmModuleResources>(
+        &mut self,
+        resources: &R,
+        offset: u64,
+        op: Op,
+    ) -> Result<(), Error>
+        requires { MayVisit (R.context resources.now) (stacks_of self.old) }
+        ensures row { Meets (R.context resources.now) (λ cx. operator cx op.entry) offset
+            (state self.old) result (state self.new) }
+        ensures memory { TakesNoMemory (R.context resources.now) op.entry (state self.old) result }
+    {
+        check_operator(&mut self.stacks, resources, offset, op)
+    }
+
+    /// The check of an operator on control, locals or globals, as [`OperatorValidator::check`].
+    #[inline(always)]
+    pub fn check_control<R: WasmModuleResources>(
+        &mut self,
+        resources: &R,
+        offset: u64,
+        op: ControlOp,
+    ) -> Result<(), Error>
+        requires { MayVisit (R.context resources.now) (stacks_of self.old) }
+        ensures row { Meets (R.context resources.now) (λ cx. operator cx (Op.Control op.entry)) offset
+            (state self.old) result (state self.new) }
+        ensures memory { TakesNoMemory (R.context resources.now) (Op.Control op.entry) (state self.old)
+            result }
+    {
+        check_control(&mut self.stacks, resources, offset, op)
+    }
+
+    /// The check of an operator on numbers, as [`OperatorValidator::check`].
+    #[inline(always)]
+    pub fn check_numeric<R: WasmModuleResources>(
+        &mut self,
+        resources: &R,
+        offset: u64,
+        op: NumericOp,
+    ) -> Result<(), Error>
+        requires { MayVisit (R.context resources.now) (stacks_of self.old) }
+        ensures { Meets (R.context resources.now) (λ cx. operator cx (Op.Numeric op)) offset
+            (state self.old) result (state self.new) }
+    {
+        check_numeric(&mut self.stacks, resources, offset, op)
+    }
+
+    /// The check of a conversion, as [`OperatorValidator::check`].
+    #[inline(always)]
+    pub fn check_convert<R: WasmModuleResources>(
+        &mut self,
+        resources: &R,
+        offset: u64,
+        op: ConvertOp,
+    ) -> Result<(), Error>
+        requires { MayVisit (R.context resources.now) (stacks_of self.old) }
+        ensures { Meets (R.context resources.now) (λ cx. operator cx (Op.Convert op)) offset
+            (state self.old) result (state self.new) }
+    {
+        check_convert(&mut self.stacks, resources, offset, op)
+    }
+
+    /// The check of an operator on memories, as [`OperatorValidator::check`].
+    #[inline(always)]
+    pub fn check_memory<R: WasmModuleResources>(
+        &mut self,
+        resources: &R,
+        offset: u64,
+        op: MemoryOp,
+    ) -> Result<(), Error>
+        requires { MayVisit (R.context resources.now) (stacks_of self.old) }
+        ensures { Meets (R.context resources.now) (λ cx. operator cx (Op.Memory op)) offset
+            (state self.old) result (state self.new) }
+    {
+        check_memory(&mut self.stacks, resources, offset, op)
+    }
+
+    /// The check of an atomic operator, as [`OperatorValidator::check`].
+    #[inline(always)]
+    pub fn check_atomic<R: WasmModuleResources>(
+        &mut self,
+        resources: &R,
+        offset: u64,
+        op: AtomicOp,
+    ) -> Result<(), Error>
+        requires { MayVisit (R.context resources.now) (stacks_of self.old) }
+        ensures { Meets (R.context resources.now) (λ cx. operator cx (Op.Atomic op)) offset
+            (state self.old) result (state self.new) }
+    {
+        check_atomic(&mut self.stacks, resources, offset, op)
+    }
+
+    /// The check of an operator on references, as [`OperatorValidator::check`].
+    #[inline(always)]
+    pub fn check_reference<R: WasmModuleResources>(
+        &mut self,
+        resources: &R,
+        offset: u64,
+        op: ReferenceOp,
+    ) -> Result<(), Error>
+        requires { MayVisit (R.context resources.now) (stacks_of self.old) }
+        ensures { Meets (R.context resources.now) (λ cx. operator cx (Op.Reference op)) offset
+            (state self.old) result (state self.new) }
+    {
+        check_reference(&mut self.stacks, resources, offset, op)
+    }
+
+    /// The check of an operator on tables, as [`OperatorValidator::check`].
+    #[inline(always)]
+    pub fn check_table<R: WasmModuleResources>(
+        &mut self,
+        resources: &R,
+        offset: u64,
+        op: TableOp,
+    ) -> Result<(), Error>
+        requires { MayVisit (R.context resources.now) (stacks_of self.old) }
+        ensures { Meets (R.context resources.now) (λ cx. operator cx (Op.Table op)) offset
+            (state self.old) result (state self.new) }
+    {
+        check_table(&mut self.stacks, resources, offset, op)
+    }
+
+    /// Whether an attempt is pending.
+    pub fn is_pending(&self) -> bool
+        ensures { result ≡ is_some (state self.now).undone }
+    {
+        self.stacks.is_pending()
+    }
+
+    /// Whether an operator may be visited: no attempt is pending, or the pending one has nothing to
+    /// undo.
+    pub fn can_attempt(&self) -> bool
+        ensures { result ≡ may_attempt (stacks_of self.now) }
+    {
+        self.stacks.can_attempt()
+    }
+
+    /// Begins an attempt, which `commit` or `rollback` ends. It takes no memory.
+    pub fn begin_try_op(&mut self)
+        requires { (state self.old).undone ≡ None }
+        ensures begun { stacks_of self.new ≡ stacks_begun (stacks_of self.old) }
+        ensures valid { (md : ModuleContext) → IsValid md (state self.old)
+            → UndoneIsValid md (state self.new) }
+    {
+        self.stacks.begin_try_op();
+    }
+
+    /// Ends the attempt, and keeps what it did. It takes no memory.
+    pub fn commit(&mut self)
+        requires { IsSome (state self.old).undone }
+        ensures { stacks_of self.new ≡ stacks_committed (stacks_of self.old) }
+    {
+        self.stacks.commit();
+    }
+
+    /// Ends the attempt, and takes back what it did. It takes no memory.
+    pub fn rollback(&mut self)
+        requires { IsSome (state self.old).undone }
+        ensures back { stacks_of self.new ≡ stacks_rolled_back (stacks_of self.old) }
+        ensures valid { (md : ModuleContext) → UndoneIsValid md (state self.old)
+            → IsValid md (state self.new) }
+    {
+        self.stacks.rollback();
+    }
+
+    /// How many operands there are, in all frames.
+    pub fn operand_stack_height(&self) -> usize
+        ensures { result ≡ operand_count (state self.now).present }
+    {
+        self.stacks.operand_stack_height()
+    }
+
+    /// How many frames are open.
+    pub fn control_stack_height(&self) -> usize
+        ensures { result ≡ frame_count (state self.now).present }
+    {
+        self.stacks.control_stack_height()
+    }
+
+    /// The type of the operand at this depth, the top at 0: None past the end, and `Some(None)` for
+    /// an operand whose type isn't known.
+    pub fn peek_operand_at(&self, depth: usize) -> Option<Option<ValType>>
+        ensures { result ≡ type_at_depth (state self.now) depth }
+    {
+        self.stacks.peek_operand_at(depth)
+    }
+
+    /// The frame at this depth, the innermost at 0, or None past the end.
+    pub fn get_frame(&self, depth: usize) -> Option<&Frame>
+        ensures { option_copied result ≡ frame_at (state self.now) depth }
+    {
+        self.stacks.get_frame(depth)
+    }
+
+    /// The block type and the kind of the frame that a branch of this depth names, the innermost at 0,
+    /// or None past the end.
+    pub fn jump(&self, depth: u32) -> Option<(BlockType, FrameKind)>
+        ensures { result ≡ label_of (state self.now) depth }
+    {
+        self.stacks.jump(depth)
+    }
+
+    /// The declared locals.
+    pub fn locals(&self) -> &Locals
+        ensures { result.now ≡ (state self.now).locals }
+    {
+        self.stacks.locals()
+    }
+
+    /// The proposals that are on.
+    pub fn features(&self) -> WasmFeatures
+        ensures { result ≡ (state self.now).features }
+    {
+        self.stacks.features()
+    }
+
+    /// The buffers, emptied, for the next validator. It takes no memory.
+    pub fn into_allocations(self) -> OperatorValidatorAllocations {
+        self.stacks.into_allocations()
+    }
+}
+
+/// A validator of the body of a function of this type, which stands at this index.
+fn start_func(
+    ty: u32,
+    sub_type: &SubType,
+    offset: u64,
+    features: WasmFeatures,
+    allocs: OperatorValidatorAllocations,
+) -> Result<OperatorValidator, Error>
+    ensures made { IfOk result (λ v. state v ≡ func_start features ty sub_type.now) }
+    ensures few { OnOk result (length (signature_of sub_type.now).params ≤ max_locals) }
+    ensures refused { IfErr result (λ e. e.memory ≡ false
+        → max_locals < length (signature_of sub_type.now).params) }
+    ensures offset { IfErr result (λ e. e.offset ≡ offset) }
+{
+    let CompositeInnerType::Func(func_type) = &sub_type.composite_type.inner;
+    let mut stacks = Stacks::new(features, allocs);
+    match stacks.define_params(func_type.params()) {
+        Ok(true) => {}
+        Ok(false) => {
+            return Err(Error::new("too many locals: locals exceed maximum", offset));
+        }
+        Err(_) => return Err(Error::out_of_memory(offset)),
+    }
+    stacks.set_shared(sub_type.composite_type.shared);
+    match stacks.push_bare_ctrl(FrameKind::Block, BlockType::FuncType(ty)) {
+        Ok(()) => Ok(OperatorValidator { stacks }),
+        Err(_) => Err(Error::out_of_memory(offset)),
+    }
+}

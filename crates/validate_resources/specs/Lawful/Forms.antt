@@ -1,0 +1,149 @@
+-- Proofs, which need no belief: canonical forms, and the types that are valid in a context of lists.
+use Rattle.std.specs.Prelude.{◌≡◌, ℕ, ◌+◌, ◌≤◌, Bool, List, [], ◌∷◌, true, ◌&&◌, map, nat_lt, nat_le}
+use Rattle.std.specs.Prelude.{length, is_some, slice_get, option_map, Option, Some, None, refl}
+use Rattle.std.specs.Bool.{beq}
+use Rattle.std.specs.List.{list_all, enumerate_from}
+use Rattle.std.proofs.Common.{arith, ap, ap₂, sym, ◌∙◌, ⊎_elim, lt-ltb, le-ltb}
+use Rattle.std.proofs.lemmas.Bool.{and_parts, and_from}
+use Rattle.std.proofs.lemmas.List.{length-map}
+use Rattle.std.proofs.lemmas.Option.{slice_get_cases, slice_get-map}
+use Rattle.validate_types.specs.Heap.{number_of}
+use Rattle.validate_types.specs.Refs.{fits_reference}
+use Rattle.validate_types.specs.declared.heap.TheConstants.PackedIndex.{LIMIT}
+use Rattle.validate_types.specs.declared.heap.HeapType.{HeapType}
+use Rattle.validate_types.specs.declared.heap.HeapType.TheVariants.{Abstract, Concrete}
+use Rattle.validate_types.specs.declared.heap.UnpackedIndex.{UnpackedIndex}
+use Rattle.validate_types.specs.declared.heap.UnpackedIndex.TheVariants.{Module, Id}
+use Rattle.validate_types.specs.declared.types.CompositeInnerType.{CompositeInnerType}
+use Rattle.validate_types.specs.declared.types.CompositeInnerType.TheVariants.{Func}
+use Rattle.validate_types.specs.declared.types.SubType.{SubType}
+use Rattle.validate_types.specs.declared.types.ValType.{ValType}
+use Rattle.validate_types.specs.declared.types.ValType.TheVariants.{I32, I64, F32, F64, V128, Ref}
+use Rattle.validate_resources.specs.declared.lists.FuncDecl.{FuncDecl}
+use Rattle.validate_resources.specs.declared.lists.TheConstants.{MAX_TYPES}
+use Rattle.validate_resources.specs.Context.{ModuleContext, IsCanonicalHeap, SupertypeIsValid, Valid}
+use Rattle.validate_resources.specs.Context.{AllValid, is_valid, is_valid_index, is_valid_heap}
+use Rattle.validate_resources.specs.Context.{inner_signature}
+use Rattle.validate_resources.specs.Indices.{is_known, is_id, heap_test, type_test, supertype_test}
+use Rattle.validate_resources.specs.Indices.{inner_test, sub_test, index_form, heap_form, ref_form}
+use Rattle.validate_resources.specs.Indices.{type_form, table_form, global_form, inner_form, sub_form}
+use Rattle.validate_resources.specs.Order.{is_shared_type, is_shared_at, has_fitting_supertype}
+use Rattle.validate_resources.specs.Order.{have_fitting_supertypes}
+use Rattle.validate_resources.specs.Order.{type_below}
+use Rattle.validate_resources.specs.Lists.{Declared, context_of, valid_below, indices_test, have_known_types}
+use Rattle.validate_resources.specs.Lists.{is_module, canonical_lists}
+
+-- ---- validity in a context of lists
+
+-- of the ids that the lists know each fits a reference, since there are at most 1,000,000
+id-valid : (d : Declared) → length d.types ≤ MAX_TYPES → (i : ℕ) → (is_some (slice_get d.types i) && nat_lt i LIMIT) ≡ nat_lt i (length d.types)
+id-valid d small i =
+    ⊎_elim (λ (x, lt, is, at). ap (λ o. is_some o && nat_lt i LIMIT) is ∙ lt-ltb i LIMIT (omega arith) ∙ sym (lt-ltb i (length d.types) lt))
+    (λ (le, is). ap (λ o. is_some o && nat_lt i LIMIT) is ∙ sym (le-ltb i (length d.types) le))
+    (slice_get_cases d.types i).1
+
+pub index-valid : (d : Declared) → length d.types ≤ MAX_TYPES → (i : UnpackedIndex) → is_valid_index (context_of d) i ≡ is_id (length d.types) i
+index-valid d small (Module i) = refl
+index-valid d small (Id id) = id-valid d small id.index
+
+pub heap-valid : (d : Declared) → length d.types ≤ MAX_TYPES → (h : HeapType) → is_valid_heap (context_of d) h ≡ heap_test (is_id (length d.types)) h
+heap-valid d small (Abstract s a) = refl
+heap-valid d small (Concrete i) = index-valid d small i
+
+pub type-valid : (d : Declared) → length d.types ≤ MAX_TYPES → (t : ValType) → is_valid (context_of d) t ≡ type_test (is_id (length d.types)) t
+type-valid d small I32 = refl
+type-valid d small I64 = refl
+type-valid d small F32 = refl
+type-valid d small F64 = refl
+type-valid d small V128 = refl
+type-valid d small (Ref r) = heap-valid d small r.heap_type
+
+all-valid : (d : Declared) → length d.types ≤ MAX_TYPES → (ts : List ValType) → list_all (type_test (is_id (length d.types))) ts ≡ true → AllValid (context_of d) ts
+all-valid d small [] h = tt
+all-valid d small (t ∷ ts) h =
+    let p = and_parts (type_test (is_id (length d.types)) t) _ h in (type-valid d small t ∙ p.0, all-valid d small ts p.1)
+
+pub inner-valid : (d : Declared) → length d.types ≤ MAX_TYPES → (i : CompositeInnerType) → inner_test (is_id (length d.types)) i ≡ true
+    → AllValid (context_of d) (inner_signature i).params × AllValid (context_of d) (inner_signature i).results
+inner-valid d small (Func f) h =
+    let p = and_parts (list_all (type_test (is_id (length d.types))) f.params) _ h in (all-valid d small f.params p.0, all-valid d small f.results p.1)
+
+pub supertype-valid : (d : Declared) → length d.types ≤ MAX_TYPES → (s : SubType) → supertype_test (is_id (length d.types)) s.supertype_idx ≡ true → SupertypeIsValid (context_of d) s
+supertype-valid d small s h = λ u e. index-valid d small u ∙ (ap (supertype_test (is_id (length d.types))) (sym e) ∙ h)
+
+-- of valid types the order is that of types
+pub below-valid : (d : Declared) → length d.types ≤ MAX_TYPES → (t u : ValType) → Valid (context_of d) t → Valid (context_of d) u → type_below d.types t u ≡ valid_below d.types t u
+below-valid d small t u h k = let v = sym (type-valid d small t) ∙ h in let w = sym (type-valid d small u) ∙ k in
+    sym (ap (λ b. b && type_below d.types t u) (and_from _ _ v w))
+
+-- a reference can be made to what is valid
+fits-valid : (md : ModuleContext) (h : HeapType) → is_valid_heap md h ≡ true → fits_reference h ≡ true
+fits-valid md (Abstract s a) e = refl
+fits-valid md (Concrete (Module i)) e = cc
+fits-valid md (Concrete (Id id)) e = (and_parts (is_some (md.type_of_id id)) _ e).1
+
+pub heap-canonical : (d : Declared) (h : HeapType) → length d.types ≤ MAX_TYPES → heap_test (is_id (length d.types)) h ≡ true → IsCanonicalHeap (context_of d) h
+heap-canonical d h small e = let v = heap-valid d small h ∙ e in record { is_valid = v; fits = fits-valid (context_of d) h v }
+
+-- ---- the indices of a canonical form are ids
+
+pub heap-ids : (n : ℕ) (h : HeapType) → heap_test (is_id n) (heap_form h) ≡ heap_test (is_known n) h
+heap-ids n (Abstract s a) = refl
+heap-ids n (Concrete i) = refl
+
+pub type-ids : (n : ℕ) (t : ValType) → type_test (is_id n) (type_form t) ≡ type_test (is_known n) t
+type-ids n I32 = refl
+type-ids n I64 = refl
+type-ids n F32 = refl
+type-ids n F64 = refl
+type-ids n V128 = refl
+type-ids n (Ref r) = heap-ids n r.heap_type
+
+-- ---- the canonical lists are a module where what is declared is one
+
+all-same : {X Y : Type 0} (p : Y → Bool) (q : X → Bool) (f : X → Y) → ((x : X) → p (f x) ≡ q x) → (xs : List X) → list_all p (map f xs) ≡ list_all q xs
+all-same p q f same [] = refl
+all-same p q f same (x ∷ xs) = ap₂ (λ a b. a && b) (same x) (all-same p q f same xs)
+
+supertype-ids : (n : ℕ) (o : Option UnpackedIndex) → supertype_test (is_id n) (option_map index_form o) ≡ supertype_test (is_known n) o
+supertype-ids n None = refl
+supertype-ids n (Some i) = refl
+
+inner-ids : (n : ℕ) (i : CompositeInnerType) → inner_test (is_id n) (inner_form i) ≡ inner_test (is_known n) i
+inner-ids n (Func f) = ap₂ (λ a b. a && b) (all-same _ _ type_form (type-ids n) f.params) (all-same _ _ type_form (type-ids n) f.results)
+
+sub-ids : (n : ℕ) (s : SubType) → sub_test (is_id n) (sub_form s) ≡ sub_test (is_known n) s
+sub-ids n s = ap₂ (λ a b. a && b) (supertype-ids n s.supertype_idx) (inner-ids n s.composite_type.inner)
+
+marks-same : (o : Option SubType) → is_shared_type (option_map sub_form o) ≡ is_shared_type o
+marks-same None = refl
+marks-same (Some s) = refl
+
+shared-same : (types : List SubType) (i : ℕ) → is_shared_at (map sub_form types) i ≡ is_shared_at types i
+shared-same types i = ap is_shared_type (slice_get-map sub_form types i) ∙ marks-same (slice_get types i)
+
+fits-same : (types : List SubType) (k : ℕ) (shared : Bool) (o : Option UnpackedIndex) → has_fitting_supertype (map sub_form types) k shared (option_map index_form o) ≡ has_fitting_supertype types k shared o
+fits-same types k shared None = refl
+fits-same types k shared (Some i) = ap (λ b. nat_lt (number_of i) k && beq b shared) (shared-same types (number_of i))
+
+enumerated-same : {X Y : Type 0} (p : ℕ × Y → Bool) (q : ℕ × X → Bool) (f : X → Y) → ((k : ℕ) (x : X) → p (k, f x) ≡ q (k, x)) → (n : ℕ) (xs : List X) → list_all p (enumerate_from n (map f xs)) ≡ list_all q (enumerate_from n xs)
+enumerated-same p q f same n [] = refl
+enumerated-same p q f same n (x ∷ xs) = ap₂ (λ a b. a && b) (same n x) (enumerated-same p q f same (n + 1) xs)
+
+supertypes-same : (types : List SubType) → have_fitting_supertypes (map sub_form types) ≡ have_fitting_supertypes types
+supertypes-same types = enumerated-same _ _ sub_form (λ k s. fits-same types k s.composite_type.shared s.supertype_idx) 0 types
+
+indices-same : (n : ℕ) (d : Declared) → indices_test (is_id n) (map sub_form d.types) (map table_form d.tables) (map global_form d.globals) (map ref_form d.elements) ≡ indices_test (is_known n) d.types d.tables d.globals d.elements
+indices-same n d =
+    ap₂ (λ a b. a && b)
+    (ap₂ (λ a b. a && b)
+    (ap₂ (λ a b. a && b) (all-same _ _ sub_form (sub-ids n) d.types) (all-same _ _ table_form (λ t. heap-ids n t.element_type.heap_type) d.tables))
+    (all-same _ _ global_form (λ g. type-ids n g.content_type) d.globals))
+    (all-same _ _ ref_form (λ r. heap-ids n r.heap_type) d.elements)
+
+pub module-same : (d : Declared) → is_module is_id (canonical_lists d) ≡ is_module is_known d
+module-same d =
+    let n : ℕ = length d.types in
+    let at : ℕ → Bool = λ m. nat_le m MAX_TYPES && indices_test (is_id m) (map sub_form d.types) (map table_form d.tables) (map global_form d.globals) (map ref_form d.elements) && list_all (λ (f : FuncDecl). nat_lt f.type_index m) d.functions && have_fitting_supertypes (map sub_form d.types) in
+    ap at (length-map d.types sub_form)
+    ∙ ap₂ (λ a b. nat_le n MAX_TYPES && a && have_known_types d && b) (indices-same n d) (supertypes-same d.types)

@@ -1,0 +1,5 @@
+use Rattle.validate_stacks.proofs.Rising.{heights_rise}
+use Rattle.validate_stacks.proofs.laws.shape_law.Goals as goal
+
+pub returns : goal.returns
+returns c v = heights_rise v

@@ -1,0 +1,52 @@
+//! What the operators of a body name, asked of the validator that visits them.
+
+ghost use Rattle.std.specs.Prelude.{◌≡◌, ◌<◌, ◌^◌};
+
+use crate::setting::{FOUR_TYPES, Setting};
+use std::process::Abort;
+use std::test::Fail;
+use wasmparser_validate::types::{CompositeInnerType, RefType, SubType};
+use wasmparser_validate::visit::{BlockType, FrameKind, ModuleArity};
+
+/// How many operands a function of this type takes.
+fn param_count(ty: &SubType) -> usize {
+    let CompositeInnerType::Func(func_type) = &ty.composite_type.inner;
+    func_type.params().len()
+}
+
+/// What is asked of the types and the labels, through the trait: function 0 is of type 1, `[i32] -> []`,
+/// there are four types, and one frame of type 0 is open.
+fn expect_names<M: ModuleArity>(rt: &impl Abort, body: &M) {
+    assert_eq!(rt; body.type_index_of_function(0), Some(1));
+    assert_eq!(rt; body.type_index_of_function(1), None);
+    assert_eq!(rt; body.sub_type_at(1).map(param_count), Some(1));
+    assert!(rt; body.sub_type_at(4).is_none());
+    assert_eq!(rt;
+        body.label_block(0),
+        Some((BlockType::FuncType(0), FrameKind::Block))
+    );
+    assert_eq!(rt; body.label_block(1), None);
+}
+
+/// How many frames are open, through the trait.
+fn height_of<M: ModuleArity>(body: &M) -> u32
+    requires { M.open_frames body.now < 2 ^ 32 }
+    ensures { result ≡ M.open_frames body.now }
+{
+    body.control_stack_height()
+}
+
+#[test]
+fn what_a_body_names(rt: HostRuntime) -> Result<(), Fail> {
+    let setting = Setting {
+        functions: &[1],
+        ..Setting::of(FOUR_TYPES)
+    };
+    let lists = setting.lists(&rt)?;
+    let mut v = setting.validator(&rt, &lists)?;
+    let body = v.with_resources(&lists, 7);
+    expect_names(&rt, &body);
+    assert!(rt; body.sub_type_of_ref_type(&RefType::FUNCREF).is_none());
+    assert_eq!(rt; height_of(&body), 1);
+    Ok(())
+}

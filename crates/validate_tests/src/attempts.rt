@@ -1,0 +1,342 @@
+//! Operators that are attempted, and taken back.
+//!
+//! A line is an operator, an arrow and the answer: how many operands and frames there are behind it, or
+//! the words of its refusal. Where a `try` stands before the operator it is attempted and taken back, and
+//! behind a second arrow stand the innermost frame and the operands within the attempt, the top last.
+
+ghost use Rattle.std.specs.Prelude.{◌≡◌, None, OnOk};
+ghost use Rattle.validation_rules.specs.Table.{operator};
+ghost use Rattle.validate_stacks.specs.Pops.{IsKept};
+ghost use Rattle.validate_stacks.specs.State.{IsStarting, IsValid};
+ghost use Rattle.validate_stacks.specs.Visits.{MayVisit, Meets};
+ghost use Rattle.wasmparser_validate.specs.Start.{state, stacks_of};
+
+use crate::expect::left_on;
+use crate::ops::read_flat;
+use crate::seen::Seen;
+use crate::setting::{FOUR_TYPES, Setting};
+use std::process::Abort;
+use std::test::Fail;
+use wasmparser_validate::operators::OperatorValidator;
+use wasmparser_validate::resources::WasmModuleResources;
+use wasmparser_validate::types::{AbstractHeapType, Error, HeapType, RefType, ValType};
+use wasmparser_validate::visit::{ControlOp, FrameKind, Op, VisitOperator};
+
+/// `(ref func)`, of which there is no default value.
+const FUNC: RefType = RefType {
+    nullable: false,
+    heap_type: HeapType::Abstract {
+        shared: false,
+        ty: AbstractHeapType::Func,
+    },
+};
+
+/// One visit.
+fn visit<R: WasmModuleResources>(
+    v: &mut OperatorValidator,
+    lists: &R,
+    op: Op<'_>,
+) -> Result<(), Error>
+    requires { MayVisit (R.context lists.now) (stacks_of v.old) }
+    ensures valid { IsValid (R.context lists.now) (state v.new) }
+    ensures kept { IsKept (state v.old) (state v.new) }
+{
+    visit_by_row(v, lists, op)
+}
+
+/// The same, with all that it promises.
+fn visit_by_row<R: WasmModuleResources>(
+    v: &mut OperatorValidator,
+    lists: &R,
+    op: Op<'_>,
+) -> Result<(), Error>
+    requires { MayVisit (R.context lists.now) (stacks_of v.old) }
+    ensures { Meets (R.context lists.now) (λ cx. operator cx op.entry) 7 (state v.old) result (state v.new) }
+{
+    v.with_resources(lists, 7).visit_operator(op)
+}
+
+/// What a visit answered: how many operands and frames it left, or the words of its refusal.
+fn answer_of(
+    rt: &impl AllocGlobal,
+    v: &OperatorValidator,
+    answer: Result<(), Error>,
+) -> Result<String, Fail> {
+    let mut said = String::new(rt.alloc());
+    match answer {
+        Ok(()) => write!(
+            said,
+            "{} {}",
+            v.operand_stack_height(),
+            v.control_stack_height()
+        )?,
+        Err(refusal) => write!(said, "{}", refusal.message())?,
+    }
+    Ok(said)
+}
+
+/// The innermost frame and the operands.
+fn innermost(rt: &impl AllocGlobal, v: &OperatorValidator) -> Result<String, Fail> {
+    let mut said = String::new(rt.alloc());
+    let frame = match v.get_frame(0) {
+        Some(frame) if frame.unreachable => {
+            said.push_str("dead ")?;
+            kind_name(frame.kind)
+        }
+        Some(frame) => kind_name(frame.kind),
+        None => "none",
+    };
+    let operands = left_on(rt, v)?;
+    write!(said, "{frame}:{operands}")?;
+    Ok(said)
+}
+
+/// What a visit answered, and the innermost frame and the operands behind it.
+fn seen_within(
+    rt: &impl AllocGlobal,
+    v: &OperatorValidator,
+    answer: Result<(), Error>,
+) -> Result<(String, String), Fail> {
+    let said = answer_of(rt, v, answer)?;
+    Ok((said, innermost(rt, v)?))
+}
+
+/// The operator that opens a frame of this kind, or the part of it.
+fn kind_name(kind: FrameKind) -> &'static str {
+    match kind {
+        FrameKind::Block => "block",
+        FrameKind::Loop => "loop",
+        FrameKind::If => "if",
+        FrameKind::Else => "else",
+        _ => "another",
+    }
+}
+
+/// Visits the operator, and compares the answer.
+fn expect_visit<R: WasmModuleResources>(
+    rt: &(impl Abort + AllocGlobal),
+    v: &mut OperatorValidator,
+    lists: &R,
+    op: Op<'_>,
+    wanted: &str,
+) -> Result<(), Fail>
+    requires { MayVisit (R.context lists.now) (stacks_of v.old) }
+    ensures valid { IsValid (R.context lists.now) (state v.new) }
+    ensures kept { IsKept (state v.old) (state v.new) }
+{
+    let answer = visit(v, lists, op);
+    let said = answer_of(rt, v, answer)?;
+    assert_eq!(rt; said.as_str(), wanted, "{op:?}");
+    Ok(())
+}
+
+/// Attempts the operator and takes it back. Within the attempt it answers this, and this is the innermost
+/// frame with the operands; behind it everything is as before.
+fn expect_undone<R: WasmModuleResources>(
+    rt: &(impl Abort + AllocGlobal),
+    v: &mut OperatorValidator,
+    lists: &R,
+    op: Op<'_>,
+    wanted: (&str, &str),
+) -> Result<(), Fail>
+    requires idle { (state v.old).undone ≡ None }
+    requires visit { MayVisit (R.context lists.now) (stacks_of v.old) }
+    ensures same { OnOk result (state v.new ≡ state v.old) }
+{
+    let before = Seen::of(rt, v)?;
+    assert!(rt; v.can_attempt() && !v.is_pending());
+    v.begin_try_op();
+    assert!(rt; v.can_attempt() && v.is_pending());
+    let answer = visit(v, lists, op);
+    let seen = seen_within(rt, v, answer);
+    v.rollback();
+    let (said, within) = seen?;
+    assert_eq!(rt; said.as_str(), wanted.0, "{op:?}");
+    assert_eq!(rt; within.as_str(), wanted.1, "{op:?}");
+    before.expect(rt, v);
+    Ok(())
+}
+
+/// What a line has before its first arrow and behind it.
+fn parts_of(line: &str) -> (&str, &str) {
+    let (written, answer) = line.split_once("=>").unwrap_or((line, ""));
+    (written.trim(), answer.trim())
+}
+
+/// Visits, or attempts and takes back, the operator of a line.
+fn expect_line<R: WasmModuleResources>(
+    rt: &(impl Abort + AllocGlobal),
+    v: &mut OperatorValidator,
+    lists: &R,
+    line: &str,
+) -> Result<(), Fail>
+    requires idle { (state v.old).undone ≡ None }
+    requires valid { IsValid (R.context lists.now) (state v.old) }
+    ensures idle { OnOk result ((state v.new).undone ≡ None) }
+    ensures valid { OnOk result (IsValid (R.context lists.now) (state v.new)) }
+{
+    let (written, answer) = parts_of(line);
+    if v.control_stack_height() == 0 {
+        return Err(Fail::new("a line behind a closed body"));
+    }
+    match written.strip_prefix("try ") {
+        Some(written) => {
+            let op = read_flat(rt, written)?;
+            expect_undone(rt, v, lists, op, parts_of(answer))
+        }
+        None => {
+            let op = read_flat(rt, written)?;
+            expect_visit(rt, v, lists, op, answer)
+        }
+    }
+}
+
+/// Visits, or attempts and takes back, the operators of these lines in turn. Blank lines stand for nothing.
+fn expect_lines<R: WasmModuleResources>(
+    rt: &(impl Abort + AllocGlobal),
+    v: &mut OperatorValidator,
+    lists: &R,
+    text: &str,
+) -> Result<(), Fail>
+    requires { IsStarting (R.context lists.now) (state v.old) }
+{
+    for line in text.lines() {
+        if !line.is_empty() {
+            expect_line(rt, v, lists, line)?;
+        }
+    }
+    Ok(())
+}
+
+/// The same, in a body that takes nothing and gives nothing, with two locals of type `(ref func)`.
+fn expect_attempts(rt: &(impl Abort + AllocGlobal), text: &str) -> Result<(), Fail> {
+    let setting = Setting::of(FOUR_TYPES);
+    let lists = setting.lists(rt)?;
+    let mut v = setting.validator(rt, &lists)?;
+    v.define_locals(0, 2, ValType::Ref(FUNC), &lists)?;
+    expect_lines(rt, &mut v, &lists, text)
+}
+
+#[test]
+fn an_attempt_is_taken_back(rt: HostRuntime) -> Result<(), Fail> {
+    let text = "
+i64.const     => 1 1
+i32.const     => 2 1
+try i32.add   => type mismatch: expected i32, found i64 => block:
+try return    => 0 1 => dead block:
+try drop      => 1 1 => block: i64
+try i32.const => 3 1 => block: i64 i32 i32
+try nop       => 2 1 => block: i64 i32
+try br 1      => unknown label: branch depth too large => block: i64 i32
+";
+    expect_attempts(&rt, text)
+}
+
+#[test]
+fn a_part_that_was_ended_comes_back(rt: HostRuntime) -> Result<(), Fail> {
+    let text = "
+i32.const => 1 1
+if        => 0 2
+try end   => 0 1 => block:
+try else  => 0 2 => else:
+else      => 0 2
+try end   => 0 1 => block:
+end       => 0 1
+try end   => 0 0 => none:
+end       => 0 0
+";
+    expect_attempts(&rt, text)?;
+    let text = "
+i32.const => 1 1
+i32.const => 2 1
+if 2      => 1 2
+try else  => 1 2 => else: i32
+try end   => 1 1 => block: i32
+try if    => 0 3 => if:
+drop      => 0 2
+try end   => type mismatch: expected i32 but nothing on stack => if:
+try else  => type mismatch: expected i32 but nothing on stack => if:
+";
+    expect_attempts(&rt, text)?;
+    let text = "
+i32.const => 1 1
+if i32    => 0 2
+i32.const => 1 2
+try end   => type mismatch: expected i32 but nothing on stack => else:
+try else  => 0 2 => else:
+else      => 0 2
+i32.const => 1 2
+try end   => 1 1 => block: i32
+";
+    expect_attempts(&rt, text)
+}
+
+#[test]
+fn a_frame_that_was_opened_is_gone(rt: HostRuntime) -> Result<(), Fail> {
+    let text = "
+i64.const   => 1 1
+i32.const   => 2 1
+try block   => 2 2 => block: i64 i32
+try block 2 => 2 2 => block: i64 i32
+try loop 1  => 2 2 => loop: i64 i32
+try if      => 1 2 => if: i64
+try if 1    => type mismatch: expected i32, found i64 => block:
+try block 9 => unknown type: type index out of bounds => block: i64 i32
+try end     => type mismatch: values remaining on stack at end of block => block: i64 i32
+loop 1      => 2 2
+try block   => 2 3 => block: i64 i32
+try end     => type mismatch: values remaining on stack at end of block => loop: i64 i32
+drop        => 1 2
+try end     => 1 1 => block: i64
+";
+    expect_attempts(&rt, text)
+}
+
+#[test]
+fn a_mark_that_stood_before_stays(rt: HostRuntime) -> Result<(), Fail> {
+    let text = "
+unreachable     => 0 1
+try return      => 0 1 => dead block:
+try unreachable => 0 1 => dead block:
+i32.add         => 1 1
+try drop        => 0 1 => dead block:
+try br 0        => 0 1 => dead block:
+drop            => 0 1
+try drop        => 0 1 => dead block:
+";
+    expect_attempts(&rt, text)
+}
+
+/// Locals that were first set in a frame are set again when it comes back.
+#[test]
+fn locals_that_were_unset_are_set_again(rt: HostRuntime) -> Result<(), Fail> {
+    let text = "
+i32.const       => 1 1
+if              => 0 2
+unreachable     => 0 2
+local.set 1     => 0 2
+try local.set 0 => 0 2 => dead if:
+try local.get 0 => uninitialized local: 0 => dead if:
+local.set 0     => 0 2
+try else        => 0 2 => else:
+try end         => 0 1 => block:
+local.get 0     => 1 2
+local.get 1     => 2 2
+";
+    expect_attempts(&rt, text)
+}
+
+/// An attempt that moved something allows no further operator, until it is committed.
+#[test]
+fn an_attempt_is_of_one_operator(rt: HostRuntime) -> Result<(), Fail> {
+    let setting = Setting::of(FOUR_TYPES);
+    let lists = setting.lists(&rt)?;
+    let mut v = setting.validator(&rt, &lists)?;
+    v.begin_try_op();
+    let answer = visit(&mut v, &lists, Op::Control(ControlOp::Return));
+    assert!(rt; answer.is_ok() && v.is_pending() && !v.can_attempt());
+    v.commit();
+    assert!(rt; v.can_attempt() && !v.is_pending());
+    assert!(rt; v.get_frame(0).is_some_and(|frame| frame.unreachable));
+    Ok(())
+}

@@ -1,0 +1,2 @@
+mod Tops
+pub mod Room

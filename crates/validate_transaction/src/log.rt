@@ -1,0 +1,171 @@
+//! The log of one attempt.
+
+ghost use Rattle.std.specs.Prelude.{◌≡◌, ℕ, ◌+◌, ◌<◌, ◌≤◌, List, [], ◌∷◌, ◌++◌, length, IfOk, OnOk, OnErr, IsOk, MatchOption, Option, true, false, None, Some};
+ghost use Rattle.std.specs.Prelude.{MatchResult};
+ghost use Rattle.validate_transaction.specs.Log.{Log, empty_log, has_changes};
+
+use crate::pile::Pile;
+use std::alloc::Global;
+use std::marker::Model;
+use std::mem;
+use validate_types::{MaybeType, OutOfMemory};
+use validate_visit::Frame;
+
+/// What an attempt changed.
+#[derive(Drop)]
+pub struct RollbackLog {
+    pub operands: Pile<Option<MaybeType>>,
+    pub frames: Pile<Option<Frame>>,
+    pub inits: Vec<u32>,
+    pub init_height: usize,
+    pub unreachable: bool,
+}
+
+impl Model for RollbackLog {
+    ghost use Rattle.validate_transaction.specs.Log.{Log};
+
+    ghost Value = { Log };
+
+    ghost view = { λ l. record { operands = l.operands.items; frames = l.frames.items; inits = l.inits.items; init_height = l.init_height; unreachable = l.unreachable } };
+}
+
+/// Buffers for a log.
+#[derive(Drop)]
+pub struct RollbackLogAllocations {
+    operands: Pile<Option<MaybeType>>,
+    frames: Pile<Option<Frame>>,
+    inits: Vec<u32>,
+}
+
+impl Model for RollbackLogAllocations {
+    ghost use Rattle.std.specs.Prelude.{⊤, ◌≡◌, [], List};
+
+    ghost Value = { ⊤ };
+
+    ghost view = { λ l. tt };
+
+    ghost invariant = { λ l. (l.operands.items ≡ []) × (l.frames.items ≡ []) × (l.inits.items ≡ []) };
+}
+
+impl RollbackLogAllocations {
+    pub fn new(alloc: Global) -> Self {
+        RollbackLogAllocations {
+            operands: Pile::new(alloc),
+            frames: Pile::new(alloc),
+            inits: Vec::new(alloc),
+        }
+    }
+
+    /// Takes the buffers, and leaves new ones.
+    pub fn take(&mut self) -> RollbackLogAllocations {
+        let alloc = *self.inits.allocator();
+        mem::replace(self, RollbackLogAllocations::new(alloc))
+    }
+}
+
+impl RollbackLog {
+    /// A log with nothing in it.
+    pub fn new(init_height: usize, allocs: RollbackLogAllocations) -> Self
+        ensures { result ≡ empty_log init_height }
+    {
+        let RollbackLogAllocations {
+            operands,
+            frames,
+            inits,
+        } = allocs;
+        RollbackLog {
+            operands,
+            frames,
+            inits,
+            init_height,
+            unreachable: false,
+        }
+    }
+
+    pub fn allocator(&self) -> Global {
+        *self.inits.allocator()
+    }
+
+    /// Whether there is something to undo, where so many locals are set now.
+    pub fn has_changes(&self, init_height: usize) -> bool
+        ensures { result ≡ has_changes init_height self.now }
+    {
+        if self.unreachable || self.init_height < init_height {
+            return true;
+        }
+        !(self.operands.is_empty() && self.frames.is_empty() && self.inits.is_empty())
+    }
+
+    /// Gives the buffers back.
+    pub fn into_allocations(self) -> RollbackLogAllocations {
+        let RollbackLog {
+            mut operands,
+            mut frames,
+            mut inits,
+            init_height: _,
+            unreachable: _,
+        } = self;
+        operands.clear();
+        frames.clear();
+        inits.clear();
+        RollbackLogAllocations {
+            operands,
+            frames,
+            inits,
+        }
+    }
+
+    pub fn record_push(&mut self) -> Result<(), OutOfMemory>
+        ensures { MatchResult result (λ _. self.new
+            ≡ record self.old { operands = None ∷ self.old.operands }) (λ _. self.new ≡ self.old) }
+    {
+        self.operands.take_room()?;
+        self.operands.put(None);
+        Ok(())
+    }
+
+    pub fn record_pop(&mut self, ty: MaybeType) -> Result<(), OutOfMemory>
+        ensures { MatchResult result (λ _. self.new
+            ≡ record self.old { operands = Some ty ∷ self.old.operands }) (λ _. self.new ≡ self.old) }
+    {
+        self.operands.take_room()?;
+        self.operands.put(Some(ty));
+        Ok(())
+    }
+
+    pub fn push_ctrl(&mut self) -> Result<(), OutOfMemory>
+        ensures { MatchResult result (λ _. self.new
+            ≡ record self.old { frames = None ∷ self.old.frames }) (λ _. self.new ≡ self.old) }
+    {
+        self.frames.take_room()?;
+        self.frames.put(None);
+        Ok(())
+    }
+
+    pub fn pop_ctrl(&mut self, frame: Frame, inits: &[u32]) -> Result<(), OutOfMemory>
+        ensures { MatchResult result (λ _. self.new
+            ≡ record self.old {
+              frames = Some frame ∷ self.old.frames;
+              inits = self.old.inits ++
+                  inits.now;
+            }) (λ _. self.new ≡ self.old) }
+    {
+        self.frames.take_room()?;
+        self.inits.extend_from_slice(inits)?;
+        self.frames.put(Some(frame));
+        Ok(())
+    }
+
+    pub fn set_unreachable(&mut self)
+        ensures { self.new ≡ record self.old { unreachable = true } }
+    {
+        self.unreachable = true;
+    }
+}
+
+/// An attempt, or the buffers for the next one.
+#[derive(Drop)]
+pub enum Transaction {
+    Active(RollbackLog),
+    Inactive(RollbackLogAllocations),
+}

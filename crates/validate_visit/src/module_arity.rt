@@ -1,0 +1,55 @@
+//! Who knows what the operators of a body name: types, functions and labels.
+
+ghost use Rattle.std.specs.Prelude.{◌≡◌, ◌<◌, ◌^◌, ℕ, Option, IsSome, option_and_then};
+ghost use Rattle.std.specs.Option.{option_copied, ForSome};
+ghost use Rattle.validate_types.specs.declared.heap.CoreTypeId.{CoreTypeId};
+ghost use Rattle.validate_types.specs.declared.types.SubType.{SubType};
+ghost use Rattle.validate_visit.specs.Arity.{id_in};
+ghost use Rattle.validate_visit.specs.declared.frame.BlockType.{BlockType};
+ghost use Rattle.validate_visit.specs.declared.frame.FrameKind.{FrameKind};
+
+use crate::frame::{BlockType, FrameKind};
+use validate_types::{RefType, SubType};
+
+/// Knows what says how many operands an operator of a body takes and gives (wasmparser's
+/// `ModuleArity`): the types that it names, and the open frames.
+pub trait ModuleArity {
+    /// The index of the type of the function at this index.
+    ghost type_index_of: { Self → ℕ → Option ℕ };
+
+    /// The type that the module declares at this index.
+    ghost type_at: { Self → ℕ → Option SubType };
+
+    /// The type that this id names, where the module knows the id.
+    ghost type_of_id: { Self → CoreTypeId → Option SubType };
+
+    /// How many frames are open.
+    ghost open_frames: { Self → ℕ };
+
+    /// The block type and the kind of the frame at this depth, the innermost at 0.
+    ghost label_at: { Self → ℕ → Option (BlockType × FrameKind) };
+
+    /// The index of the type of the function at this index, or None past the end.
+    fn type_index_of_function(&self, function_index: u32) -> Option<u32>
+        ensures { result ≡ type_index_of self.now function_index };
+
+    /// The type declared at this index, or None past the end.
+    fn sub_type_at(&self, type_index: u32) -> Option<&SubType>
+        ensures { option_copied result ≡ type_at self.now type_index };
+
+    /// The type that the reference points to by its id, which the module has to know; None where it
+    /// points to an abstract type, or to a type by its index.
+    fn sub_type_of_ref_type(&self, ty: &RefType) -> Option<&SubType>
+        requires { ForSome (id_in ty.now.heap_type) (λ id. IsSome (type_of_id self.now id)) }
+        ensures { option_copied result ≡ option_and_then (type_of_id self.now) (id_in ty.now.heap_type) };
+
+    /// How many frames are open. The number has to fit.
+    fn control_stack_height(&self) -> u32
+        requires { open_frames self.now < 2 ^ 32 }
+        ensures { result ≡ open_frames self.now };
+
+    /// The block type and the kind of the frame that a branch of this depth names, the innermost at 0,
+    /// or None past the end.
+    fn label_block(&self, depth: u32) -> Option<(BlockType, FrameKind)>
+        ensures { result ≡ label_at self.now depth };
+}

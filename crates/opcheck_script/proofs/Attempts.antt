@@ -1,5 +1,5 @@
 -- One answer further, and what the answers up to the end come to.
-use Rattle.std.proofs.Common.{◌≡◌, ◌↔◌, ℕ, zero, suc, Bool, true, false, IsTrue, nat_eq, List, [], ◌∷◌, ◌++◌, map, length, get_or, slice_get, Some, None, IfSome, Ok, Err, refl, sym, ap, ◌∙◌, subst, arith}
+use Rattle.std.proofs.Common.{◌≡◌, ◌↔◌, ℕ, zero, suc, Bool, true, false, IsTrue, nat_eq, List, [], ◌∷◌, ◌++◌, map, length, get_or, slice_get, Some, None, IfSome, Result, Ok, Err, IfOk, IfErr, refl, sym, ap, ◌∙◌, subst, arith}
 use Rattle.std.proofs.lemmas.Bool.{eq-eqb, eqb-true}
 use Rattle.validate_types.specs.Refusal.{Refusal}
 use Rattle.validate_visit.specs.Order.{Nesting, nesting, Flat, reads_on, is_ordered_from}
@@ -12,9 +12,9 @@ use Rattle.validation_rules.specs.Table.{operator, body}
 use Rattle.validate_body.specs.Runs.{operators}
 use Rattle.validate_body.proofs.Listed.{kinds, IsOrderedBelow, some_open, ordered_next}
 use Rattle.opcheck_script.specs.Attempts.{Answer, IsAnswer, Answered, EndsRun, Ends, accepted_of}
-use Rattle.opcheck_script.specs.Owned.{OpValue, op_value, owned_value, op_values, value_nesting, is_flat, may_be_attempted}
-use Rattle.opcheck_script.specs.Written.{written_values}
-use Rattle.opcheck_script.specs.declared.script.written.WrittenOp.{WrittenOp}
+use Rattle.script_reader.specs.Owned.{OpValue, op_value, owned_value, op_values, value_nesting, is_flat, may_be_attempted}
+use Rattle.script_reader.specs.Written.{written_values}
+use Rattle.script_reader.specs.declared.written.WrittenOp.{WrittenOp}
 
 module _ (cx : Context) where
   -- the answers with one more
@@ -53,6 +53,16 @@ module _ (cx : Context) where
   pub still_ordered : (s t : State) (p : Op × ℕ) (b : Bool) (a : Answer) (ops : List (Op × ℕ)) → IsAnswer cx p b a s t → (b ≡ true → nesting p.0 ≡ Flat) → IsOrderedBelow s.frames (p ∷ ops) → IsOrderedBelow t.frames ops
   still_ordered s t p b (Ok heights) ops i flat o = ordered_next cx s t p ops i.0 o
   still_ordered s t p b (Err e) ops i flat o = subst (λ (x : State). IsOrderedBelow x.frames ops) i.4 (flat_next s.frames p ops (flat i.0) o)
+
+-- ---- what follows from an answer
+
+pub ok_gives : {X Y : Type 0} (r : Result X Y) {P Q : X → Type 0} → ((x : X) → P x → Q x) → IfOk r P → IfOk r Q
+ok_gives (Ok x) f p = f x p
+ok_gives (Err e) f p = tt
+
+pub err_gives : {X Y : Type 0} (r : Result X Y) {P Q : Y → Type 0} → ((y : Y) → P y → Q y) → IfErr r P → IfErr r Q
+err_gives (Ok x) f p = tt
+err_gives (Err e) f p = f e p
 
 -- ---- what is written, and what borrows its lists
 

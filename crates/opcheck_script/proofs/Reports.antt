@@ -1,5 +1,5 @@
 -- The report of a run.
-use Rattle.std.proofs.Common.{◌≡◌, ◌↔◌, ℕ, Bool, true, false, ◌&&◌, IsTrue, List, [], length, Option, Some, IfSome, Result, Ok, Err, refl, sym, subst}
+use Rattle.std.proofs.Common.{◌≡◌, ◌↔◌, ℕ, Bool, IsTrue, List, [], length, Option, Some, IfSome, Result, Ok, Err, sym, subst}
 use Rattle.validate_types.specs.Refusal.{Refusal}
 use Rattle.validate_resources.specs.Context.{ModuleContext}
 use Rattle.validate_visit.specs.declared.op.Op.{Op}
@@ -7,14 +7,6 @@ use Rattle.validate_stacks.specs.State.{BodyState}
 use Rattle.validation_rules.specs.Static.{State}
 use Rattle.validate_body.specs.Runs.{state_before, AreHeightsAfter, IsRefusedAt}
 use Rattle.opcheck_script.specs.Reports.{RunsThrough}
-
-pub no_first : (a b : Bool) → a ≡ false → (a && b) ≡ false
-no_first false b h = refl
-no_first true b h = absurd cc
-
-pub no_second : (a b : Bool) → b ≡ false → (a && b) ≡ false
-no_second false b h = refl
-no_second true b h = h
 
 -- what holds of the lists that are kept
 pub of_module : {X : Type 0} (o : Option X) (x : X) (P : X → Type 0) → o ≡ Some x → P x → IfSome o P

@@ -5,10 +5,10 @@ use Rattle.validate_types.specs.declared.types.ValType.{ValType}
 use Rattle.validate_resources.specs.Context.{ModuleContext}
 use Rattle.validate_stacks.specs.State.{BodyState}
 use Rattle.validate_body.specs.Start.{const_start, IsFuncStart, HasTooManyParams, DefinesLocals, CannotDefine}
-use Rattle.opcheck_script.specs.declared.script.Body.{Body}
-use Rattle.opcheck_script.specs.declared.script.Body.TheVariants.{Function, Expression}
-use Rattle.opcheck_script.specs.declared.script.BodyLine.{BodyLine}
-use Rattle.opcheck_script.specs.declared.script.LocalLine.{LocalLine}
+use Rattle.script_reader.specs.declared.script.Body.{Body}
+use Rattle.script_reader.specs.declared.script.Body.TheVariants.{Function, Expression}
+use Rattle.script_reader.specs.declared.script.BodyLine.{BodyLine}
+use Rattle.script_reader.specs.declared.script.LocalLine.{LocalLine}
 
 -- a constant expression starts: its type passes the check, and the frame gives the canonical form
 pub record IsExpressionStart

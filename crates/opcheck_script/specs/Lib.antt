@@ -1,16 +1,5 @@
-pub mod Numbers
 pub mod Status
-pub mod Owned
-pub mod Written
 pub mod Attempts
-pub mod References
-pub mod Types
-pub mod Functions
-pub mod Tables
-pub mod Memory
-pub mod Globals
-pub mod Access
-pub mod Lines
 pub mod Module
 pub mod Begin
 pub mod Reports

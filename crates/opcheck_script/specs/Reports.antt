@@ -16,8 +16,8 @@ use Rattle.opcheck_script.specs.Attempts.{RunsAttempts, accepted_of}
 use Rattle.opcheck_script.specs.Begin.{HasLocals, CannotBegin}
 use Rattle.opcheck_script.specs.declared.report.Answers.{Answers}
 use Rattle.opcheck_script.specs.declared.report.Answers.TheVariants.{Heights, Attempts}
-use Rattle.opcheck_script.specs.declared.script.BodyLine.{BodyLine}
-use Rattle.opcheck_script.specs.declared.script.LocalLine.{LocalLine}
+use Rattle.script_reader.specs.declared.script.BodyLine.{BodyLine}
+use Rattle.script_reader.specs.declared.script.LocalLine.{LocalLine}
 
 -- the operators can be those of a body: they are in order, and their immediates those of a module
 abbrev pub may_be_body : List (Op × ℕ) → Bool

@@ -1,5 +1,8 @@
 -- The statuses of the program.
 use Rattle.std.specs.Prelude.{ℕ, Bool, true, false, Result, Ok, Err}
+use Rattle.script_reader.specs.declared.failure.ScriptError.{ScriptError}
+use Rattle.script_reader.specs.declared.failure.ScriptError.TheVariants.{BadLine, OutOfMemory as NoMemory}
+use Rattle.opcheck_script.specs.declared.failure.BadScript.TheVariants.{Line}
 use Rattle.opcheck_script.specs.declared.failure.Failure.{Failure}
 use Rattle.opcheck_script.specs.declared.failure.Failure.TheVariants.{BadScript, OutOfMemory, Output}
 use Rattle.opcheck_script.specs.declared.verdict.Verdict.{Verdict}
@@ -19,3 +22,8 @@ abbrev pub verdict_of : {E : Type 0} → Result Bool E → Verdict
 verdict_of (Ok true) = Accepted
 verdict_of (Ok false) = Open
 verdict_of (Err refusal) = Refused
+
+-- why a run ends whose script isn't read
+abbrev pub failure_of : ScriptError → Failure
+failure_of (BadLine number) = BadScript (Line number)
+failure_of NoMemory = OutOfMemory

@@ -13,12 +13,12 @@ ghost use Rattle.validate_stacks.specs.Visits.{MayVisit, Meets};
 ghost use Rattle.validate_body.specs.Runs.{operators, IsSafeFrom};
 ghost use Rattle.validate_body.specs.Start.{state, stacks_of};
 ghost use Rattle.opcheck_script.specs.Attempts.{IsAnswer, EndsRun, RunsAttempts, accepted_of};
-ghost use Rattle.opcheck_script.specs.Owned.{op_values, may_be_attempted};
+ghost use Rattle.script_reader.specs.Owned.{op_values, may_be_attempted};
 ghost use Rattle.opcheck_script.specs.Reports.{Runs, accepted_in, is_attempted};
-ghost use Rattle.opcheck_script.specs.Written.{written_values, attempts_of};
+ghost use Rattle.script_reader.specs.Written.{written_values, attempts_of};
 
 use crate::report::{Answers, Report};
-use crate::script::written::WrittenOp;
+use script_reader::WrittenOp;
 use std::alloc::Global;
 use validate_body::{OperatorValidator, check_ops, try_op};
 use validate_resources::WasmModuleResources;
@@ -136,9 +136,22 @@ fn answer_at<R: WasmModuleResources>(
 {
     match visit_or_try(v, resources, offset, op, attempted) {
         Ok(()) => Ok(Ok((v.operand_stack_height(), v.control_stack_height()))),
-        Err(refusal) if attempted && !refusal.is_out_of_memory() => Ok(Err(refusal)),
-        Err(refusal) => Err(refusal),
+        Err(refusal) => after_refusal(attempted, refusal),
     }
+}
+
+/// What a refusal comes to: that of an attempt is its answer, and the run goes on; that of a plain
+/// operator ends the run, and want of memory too.
+fn after_refusal(attempted: bool, refusal: Error) -> Result<Answer, Error>
+    ensures answer { IfOk result (λ answer. (answer ≡ Err refusal) × (attempted ≡ true)
+        × (refusal.memory ≡ false)) }
+    ensures ended { IfErr result (λ last. (last ≡ refusal) × (refusal.memory ≡ false
+        → attempted ≡ false)) }
+{
+    if attempted && !refusal.is_out_of_memory() {
+        return Ok(Err(refusal));
+    }
+    Err(refusal)
 }
 
 /// Visits an operator, or attempts it.

@@ -9,8 +9,8 @@ ghost use Rattle.validate_stacks.specs.State.{IsStarting};
 ghost use Rattle.validate_body.specs.Start.{state};
 ghost use Rattle.opcheck_script.specs.Module.{declared_by};
 ghost use Rattle.opcheck_script.specs.Begin.{IsExpressionStart, IsBodyStart, CannotStart, HasLocals, CannotBegin};
-ghost use Rattle.opcheck_script.specs.Owned.{op_values};
-ghost use Rattle.opcheck_script.specs.Written.{written_values, attempts_of};
+ghost use Rattle.script_reader.specs.Owned.{op_values};
+ghost use Rattle.script_reader.specs.Written.{written_values, attempts_of};
 ghost use Rattle.opcheck_script.specs.Reports.{IsReport, may_be_body};
 ghost use Rattle.opcheck_script.specs.declared.failure.BadScript.{BadScript};
 ghost use Rattle.opcheck_script.specs.declared.failure.Failure.{Failure};
@@ -18,9 +18,7 @@ ghost use Rattle.opcheck_script.specs.declared.failure.Failure.{Failure};
 use crate::body::run_operators;
 use crate::failure::{BadScript, Failure};
 use crate::report::{Answers, Report};
-use crate::script::owned::borrowed_ops;
-use crate::script::written::WrittenOp;
-use crate::script::{Body, BodyLine, Declarations, LocalLine, Script};
+use script_reader::{Body, BodyLine, Declarations, LocalLine, Script, WrittenOp, borrowed_ops};
 use std::alloc::Global;
 use validate_body::OperatorValidator;
 use validate_resources::uses::laws;
@@ -87,7 +85,7 @@ fn check_operators(
         ⊎ ((failure ≡ Failure.BadScript BadScript.Module)
         × (module_of (declared_by declarations) ≡ None))) }
 {
-    if !is_well_ordered(ops) || !have_module_immediates(ops) {
+    if !may_be_body(ops) {
         return Err(Failure::BadScript(BadScript::Order));
     }
     let module = module_lists(alloc, declarations)?;
@@ -100,6 +98,14 @@ fn check_operators(
     }
 }
 
+/// Whether the operators can be those of a body: they are in order, and their immediates those of a
+/// module.
+fn may_be_body(operators: &[(Op<'_>, u64)]) -> bool
+    ensures { result ≡ may_be_body operators.now }
+{
+    is_well_ordered(operators) && have_module_immediates(operators)
+}
+
 /// Whether the immediates are those of a module, as they are of all operators that a script can write.
 fn have_module_immediates(operators: &[(Op<'_>, u64)]) -> bool
     ensures { result ≡ list_all (λ (pair : _). module_immediates pair.0) operators.now }
@@ -108,7 +114,7 @@ fn have_module_immediates(operators: &[(Op<'_>, u64)]) -> bool
 }
 
 /// The module of these declarations, in its canonical form.
-fn module_lists(alloc: Global, declarations: Declarations) -> Result<ModuleLists, Failure>
+pub fn module_lists(alloc: Global, declarations: Declarations) -> Result<ModuleLists, Failure>
     ensures kept { IfOk result (λ lists. module_of (declared_by declarations) ≡ Some (declared_lists lists)) }
     ensures cause { IfErr result (λ failure. (failure ≡ Failure.OutOfMemory)
         ⊎ ((failure ≡ Failure.BadScript BadScript.Module)

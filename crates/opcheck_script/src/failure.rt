@@ -2,7 +2,8 @@
 
 ghost use Rattle.std.specs.Prelude.{◌≡◌, Some};
 
-use std::alloc::{AllocError, AllocFailed};
+use script_reader::ScriptError;
+use std::alloc::AllocError;
 use std::fmt;
 
 /// Why a script is no script.
@@ -54,6 +55,19 @@ impl From<BadScript> for Failure {
     }
 }
 
+impl From<ScriptError> for Failure {
+    ghost use Rattle.opcheck_script.specs.Status.{failure_of};
+
+    ghost from_gives = { λ error failure. failure ≡ failure_of error };
+
+    fn from(error: ScriptError) -> Failure {
+        match error {
+            ScriptError::BadLine(number) => Failure::BadScript(BadScript::Line(number)),
+            ScriptError::OutOfMemory => Failure::OutOfMemory,
+        }
+    }
+}
+
 impl From<AllocError> for Failure {
     ghost use Rattle.opcheck_script.specs.declared.failure.Failure.{Failure};
 
@@ -61,51 +75,5 @@ impl From<AllocError> for Failure {
 
     fn from(_error: AllocError) -> Failure {
         Failure::OutOfMemory
-    }
-}
-
-/// Why a line isn't taken.
-#[derive(Clone, Copy, Debug, PartialEq, Eq)]
-pub enum LineError {
-    /// It isn't of the grammar or stands out of place.
-    Bad,
-    /// There was no memory for it.
-    OutOfMemory,
-}
-
-impl LineError {
-    ghost use Rattle.opcheck_script.specs.declared.failure.BadScript.{BadScript};
-    ghost use Rattle.opcheck_script.specs.declared.failure.Failure.{Failure};
-    ghost use Rattle.opcheck_script.specs.declared.failure.LineError.{LineError};
-
-    /// The failure of a script whose line of this number isn't taken.
-    pub fn at(self, number: u64) -> Failure
-        ensures bad { self ≡ LineError.Bad → result ≡ Failure.BadScript (BadScript.Line number) }
-        ensures memory { self ≡ LineError.OutOfMemory → result ≡ Failure.OutOfMemory }
-    {
-        match self {
-            LineError::Bad => Failure::BadScript(BadScript::Line(number)),
-            LineError::OutOfMemory => Failure::OutOfMemory,
-        }
-    }
-}
-
-impl From<AllocError> for LineError {
-    ghost use Rattle.opcheck_script.specs.declared.failure.LineError.{LineError};
-
-    ghost from_gives = { λ _ error. error ≡ LineError.OutOfMemory };
-
-    fn from(_error: AllocError) -> LineError {
-        LineError::OutOfMemory
-    }
-}
-
-impl<T: Drop> From<AllocFailed<T>> for LineError {
-    ghost use Rattle.opcheck_script.specs.declared.failure.LineError.{LineError};
-
-    ghost from_gives = { λ _ error. error ≡ LineError.OutOfMemory };
-
-    fn from(_error: AllocFailed<T>) -> LineError {
-        LineError::OutOfMemory
     }
 }

@@ -1,4 +1,4 @@
-//! Scripts, which declare a module and a body: reading one, checking it, and printing the validator's
+//! Scripts, which declare a module and a body: checking one that was read, and printing the validator's
 //! verdict on each operator and on the whole. The program `opcheck` is `run` over the standard input
 //! and outputs.
 #![tactic(auto)]
@@ -10,7 +10,8 @@ mod input;
 mod print;
 mod program;
 mod report;
-mod script;
 mod verdict;
 
+pub use check::{begin_body, module_lists};
+pub use failure::{BadScript, Failure};
 pub use program::run;

@@ -225,3 +225,69 @@ return_call 0 => refused 5: tail calls support is not enabled
 ";
     expect_transcript(&rt, "", transcript)
 }
+
+/// A call takes its parameters from the last on, and gives its results above the rest.
+#[test]
+fn parameters_of_calls(rt: HostRuntime) -> Result<(), Fail> {
+    let transcript = "
+# A call leaves what lies below its parameters, and its results above that.
+i64.const => ok 1 1
+i32.const => ok 2 1
+i64.const => ok 3 1
+call 0    => ok 2 1
+=> open
+
+i64.const => ok 1 1
+call 1    => ok 3 1
+=> open
+
+unreachable => ok 0 1
+i64.const   => ok 1 1
+call 0      => ok 1 1
+=> open
+
+# The last parameter is popped first.
+i64.const => ok 1 1
+i32.const => ok 2 1
+call 0    => refused 15: type mismatch: expected i64, found i32
+=> refused
+
+i64.const => ok 1 1
+call 0    => refused 13: type mismatch: expected i32 but nothing on stack
+=> refused
+
+# The operands below a block are left.
+i32.const => ok 1 1
+i64.const => ok 2 1
+block     => ok 2 2
+call 0    => refused 16: type mismatch: expected i64 but nothing on stack
+=> refused
+
+i32.const => ok 1 1
+block     => ok 1 2
+i64.const => ok 2 2
+call 0    => refused 15: type mismatch: expected i32 but nothing on stack
+=> refused
+
+# What is refused before the operands are looked at leaves them.
+i32.const => ok 1 1
+i64.const => ok 2 1
+call 7    => refused 15: unknown function 7: function index out of bounds
+=> refused
+
+i32.const     => ok 1 1
+i64.const     => ok 2 1
+return_call 7 => refused 14: unknown function 7: function index out of bounds
+=> refused
+
+i32.const     => ok 1 1
+i64.const     => ok 2 1
+return_call 1 => refused 14: type mismatch: current function requires result type [] but callee returns [i32 i64]
+=> refused
+";
+    expect_transcript(
+        &rt,
+        "type func ->\ntype func i32 i64 -> f32\ntype func -> i32 i64\nfn 1\nfn 2\nmemory\nmemory 64\nglobal i64 mut\nglobal f32\nfunc 0\nlocal 1 i64\n",
+        transcript,
+    )
+}

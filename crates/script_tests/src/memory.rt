@@ -354,3 +354,84 @@ memory.init 0 1 => refused 8: unknown memory 1
 ";
     expect_transcript(&rt, "", transcript)
 }
+
+/// What is refused first, of operators on memories and globals.
+#[test]
+fn what_is_refused_first(rt: HostRuntime) -> Result<(), Fail> {
+    let transcript = "
+# A store pops the value, and then the address.
+i64.const => ok 1 1
+i64.const => ok 2 1
+i32.store => refused 15: type mismatch: expected i32, found i64
+=> refused
+
+i64.const => ok 1 1
+i32.const => ok 2 1
+i32.store => refused 14: type mismatch: expected i32, found i64
+=> refused
+
+i64.const => ok 1 1
+i32.const => ok 2 1
+i64.store => refused 14: type mismatch: expected i64, found i32
+=> refused
+
+# A copy pops the length, the address that is read, and the one that is written.
+i64.const       => ok 1 1
+i32.const       => ok 2 1
+i64.const       => ok 3 1
+memory.copy 1 0 => refused 16: type mismatch: expected i32, found i64
+=> refused
+
+i64.const       => ok 1 1
+i64.const       => ok 2 1
+i32.const       => ok 3 1
+memory.copy 1 1 => refused 15: type mismatch: expected i64, found i32
+=> refused
+
+i32.const       => ok 1 1
+i64.const       => ok 2 1
+i32.const       => ok 3 1
+memory.copy 1 0 => refused 15: type mismatch: expected i32, found i64
+=> refused
+
+# An unknown memory is refused before any operand is looked at.
+i32.const     => ok 1 1
+i32.const     => ok 2 1
+i32.const     => ok 3 1
+memory.fill 7 => refused 16: unknown memory 7
+=> refused
+
+# What lies below a global is left, and what is refused before its operand is looked at leaves that.
+i32.const    => ok 1 1
+global.get 0 => ok 2 1
+=> open
+
+i32.const    => ok 1 1
+i64.const    => ok 2 1
+global.set 0 => ok 1 1
+=> open
+
+i64.const    => ok 1 1
+i32.const    => ok 2 1
+global.set 0 => refused 14: type mismatch: expected i64, found i32
+=> refused
+
+i64.const    => ok 1 1
+global.set 1 => refused 13: global is immutable: cannot modify it with `global.set`
+=> refused
+
+unreachable  => ok 0 1
+i64.const    => ok 1 1
+global.set 1 => refused 14: global is immutable: cannot modify it with `global.set`
+=> refused
+
+i64.const    => ok 1 1
+global.set 3 => refused 13: unknown global: global index out of bounds
+=> refused
+";
+    expect_transcript(
+        &rt,
+        "type func ->\ntype func i32 i64 -> f32\ntype func -> i32 i64\nfn 1\nfn 2\nmemory\nmemory 64\nglobal i64 mut\nglobal f32\nfunc 0\nlocal 1 i64\n",
+        transcript,
+    )
+}

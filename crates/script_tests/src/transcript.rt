@@ -10,6 +10,11 @@ use std::test::Fail;
 /// The first lines of a script whose body takes nothing and gives nothing.
 pub const HEAD: &str = "type func ->\nfunc 0\n";
 
+/// The same behind three more types, with a local of type i64: `[i32] -> []`, `[i32] -> [i32]` and
+/// `[] -> [i32 i64]`.
+pub const FOUR_TYPES: &str = "type func ->\ntype func i32 ->\ntype func i32 -> i32\n\
+    type func -> i32 i64\nfunc 0\nlocal 1 i64\n";
+
 /// The types that a script can write, one a line.
 pub const TYPES: &str = "i32\ni64\nf32\nf64\nv128";
 

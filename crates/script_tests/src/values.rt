@@ -144,3 +144,120 @@ local 4294967295 i32 => refused 4: too many locals: locals exceed maximum
 ";
     expect_transcript(&rt, HEAD, transcript)
 }
+
+/// What a body leaves is what it gives, and no more.
+#[test]
+fn bodies(rt: HostRuntime) -> Result<(), Fail> {
+    let transcript = "
+# An operand is missing.
+i32.add => refused 5: type mismatch: expected i32 but nothing on stack
+=> refused
+
+# A mismatched operand is popped.
+i32.const => ok 1 1
+i64.const => ok 2 1
+i32.add   => refused 7: type mismatch: expected i32, found i64
+=> refused
+
+# A body may stop early.
+i32.const => ok 1 1
+i64.const => ok 2 1
+=> open
+
+# A `nop` is never refused, and `drop` takes any operand.
+i32.const => ok 1 1
+i64.const => ok 2 1
+drop      => ok 1 1
+drop      => ok 0 1
+end       => ok 0 0
+=> accepted
+
+# An operator on numbers takes its operands and gives its result.
+i32.const => ok 1 1
+i32.const => ok 2 1
+i32.add   => ok 1 1
+=> open
+
+i32.const => ok 1 1
+i32.add   => refused 5: type mismatch: expected i32 but nothing on stack
+=> refused
+
+i32.const => ok 1 1
+i32.eqz   => ok 1 1
+=> open
+
+i64.const => ok 1 1
+i32.eqz   => refused 5: type mismatch: expected i32, found i64
+=> refused
+";
+    expect_transcript(&rt, "type func ->\nfunc 0\nlocal 1 i64\n", transcript)?;
+    let transcript = "
+# The end asks for exactly the results.
+end => refused 5: type mismatch: expected i32 but nothing on stack
+=> refused
+
+i64.const => ok 1 1
+end       => refused 5: type mismatch: expected i32, found i64
+=> refused
+";
+    expect_transcript(&rt, "type func -> i32\nfunc 0\nlocal 1 i64\n", transcript)?;
+    let transcript = "
+# Results lie in order.
+i32.const => ok 1 1
+i64.const => ok 2 1
+end       => ok 2 0
+=> accepted
+";
+    expect_transcript(
+        &rt,
+        "type func -> i32 i64\nfunc 0\nlocal 1 i64\n",
+        transcript,
+    )?;
+    let transcript = "
+# An addition is accepted.
+local.get 0 => ok 1 1
+i32.const   => ok 2 1
+i32.add     => ok 1 1
+end         => ok 1 0
+=> accepted
+";
+    expect_transcript(
+        &rt,
+        "type func i32 -> i32\nfunc 0\nlocal 1 i64\n",
+        transcript,
+    )
+}
+
+/// Local 0 is a parameter, and local 1 is declared.
+#[test]
+fn locals_behind_a_parameter(rt: HostRuntime) -> Result<(), Fail> {
+    let transcript = "
+# Locals are read and written.
+local.get 1 => ok 1 1
+=> open
+
+i64.const   => ok 1 1
+local.tee 1 => ok 1 1
+local.set 1 => ok 0 1
+=> open
+
+i32.const   => ok 1 1
+local.set 1 => refused 5: type mismatch: expected i64, found i32
+=> refused
+
+i32.const   => ok 1 1
+local.tee 1 => refused 5: type mismatch: expected i64, found i32
+=> refused
+
+# An unknown local is refused.
+local.get 4294967295 => refused 5: unknown local 4294967295: local index out of bounds
+=> refused
+
+local.set 2 => refused 4: unknown local 2: local index out of bounds
+=> refused
+
+local.tee 2 => refused 4: unknown local 2: local index out of bounds
+=> refused
+";
+    expect_transcript(&rt, "type func i32 ->\nfunc 0\nlocal 1 i64\n", transcript)
+}

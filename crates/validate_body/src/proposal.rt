@@ -31,6 +31,7 @@ pub struct WasmProposalValidator<'validator, 'resources, R> {
 
 impl OperatorValidator {
     /// The validator, ready to visit the operator at this offset. It takes no memory.
+    #[inline(always)]
     pub fn with_resources<'validator, 'resources, R: WasmModuleResources>(
         &'validator mut self,
         resources: &'resources R,
@@ -98,6 +99,7 @@ impl<'validator, 'resources, R: WasmModuleResources> WasmProposalValidator<
     R,
 > {
     /// The check of the operator, by its value.
+    #[inline(always)]
     pub fn check<'a>(&mut self, op: Op<'a>) -> Result<(), Error>
         requires { MayVisit (R.context self.old.resources.now) (stacks_of self.old.inner.now) }
         ensures same_reference { self.new.inner.ghost_name ≡ self.old.inner.ghost_name }

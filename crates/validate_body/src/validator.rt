@@ -112,6 +112,7 @@ impl OperatorValidator {
     /// The check of one operator at this offset: accepted exactly where its row holds, memory aside, with
     /// the static step. A refusal carries the offset. A frame has to be open, and the types of the state
     /// are those of this lookup.
+    #[inline(always)]
     pub fn check<R: WasmModuleResources>(
         &mut self,
         resources: &R,

@@ -115,6 +115,10 @@ read_at (x ∷ s) (suc i) r h e = read_at s i r (omega (arith, h)) e
 pub mark_is : (b : List Bool) (order : List ℕ) (set : List Bool) (i : ℕ) (r : Bool) → IsMarked b order set → slice_get set i ≡ Some r → (list_any (nat_eq i) order || slice_index_or b i false) ≡ r
 mark_is b order set i r m h = sym (set-marked b order i m.fresh) ∙ index_at (marks_with order b) i r (rw m.all h)
 
+-- a local that isn't set has a mark that says so
+pub unset_at : (b : List Bool) (order : List ℕ) (set : List Bool) (i : ℕ) → IsMarked b order set → i < length set → (list_any (nat_eq i) order || slice_index_or b i false) ≡ false → slice_get set i ≡ Some false
+unset_at b order set i m h e = read_at set i false h (sym (ap (λ s. slice_index_or s i false) (sym m.all) ∙ set-marked b order i m.fresh ∙ e))
+
 -- ---- indexes
 
 within : (b : List Bool) (i : ℕ) → slice_get b i ≡ Some false → i < length b

@@ -4,27 +4,37 @@ ghost use Rattle.std.specs.Prelude.{◌≡◌, ◌+◌, ◌<◌, ◌≤◌, ◌�
 ghost use Rattle.validate_types.specs.Types.{is_defaultable};
 ghost use Rattle.validate_locals.specs.Inits.{is_recorded_set, order_with, AreFresh};
 
+#[cfg(test)]
+mod tests;
+
 use std::alloc::Global;
 use std::marker::Model;
 use validate_types::{OutOfMemory, ValType};
 
 /// Which locals are set (wasmparser's `LocalInits`). Contracts see an `Inits` of `specs/`: which
 /// locals were set when they were declared, those that were first set since, in order, and the room.
+///
+/// Locals before the first without a default value have no marks: they are set from the start.
 #[derive(Debug, Drop)]
 pub struct LocalInits {
+    /// The index of the first local without a default value, or the number of locals where there is
+    /// none.
+    first_non_default_local: usize,
+    /// Which locals are set, from that index on.
     local_inits: Vec<bool>,
+    /// Those that were first set since they were declared, in order.
     inits: Vec<u32>,
 }
 
 impl Model for LocalInits {
     ghost use Rattle.std.specs.Vec.{vec_capacity};
-    ghost use Rattle.validate_locals.specs.Inits.{Inits, marks_without, IsMarked};
+    ghost use Rattle.validate_locals.specs.Inits.{Inits, marks_without, all_marks, IsMarkedFrom};
 
     ghost Value = { Inits };
 
-    ghost view = { λ a. record { base = marks_without a.inits.items a.local_inits.items; order = a.inits.items; room = vec_capacity a.inits; declared_room = vec_capacity a.local_inits } };
+    ghost view = { λ a. record { base = marks_without a.inits.items (all_marks a.first_non_default_local a.local_inits.items); order = a.inits.items; room = vec_capacity a.inits; declared_room = vec_capacity a.local_inits } };
 
-    ghost invariant = { λ a. IsMarked (marks_without a.inits.items a.local_inits.items) a.inits.items a.local_inits.items };
+    ghost invariant = { λ a. IsMarkedFrom a.first_non_default_local a.inits.items a.local_inits.items };
 }
 
 impl LocalInits {
@@ -34,6 +44,7 @@ impl LocalInits {
         ensures order { result.order ≡ [] }
     {
         LocalInits {
+            first_non_default_local: 0,
             local_inits: Vec::new(alloc),
             inits: Vec::new(alloc),
         }
@@ -48,7 +59,7 @@ impl LocalInits {
     pub fn is_empty(&self) -> bool
         ensures { IsTrue result ↔ (self.now.base ≡ []) }
     {
-        self.local_inits.is_empty()
+        self.first_non_default_local == 0 && self.local_inits.is_empty()
     }
 
     /// Forgets every local, and keeps the room.
@@ -58,6 +69,7 @@ impl LocalInits {
         ensures room { self.new.room ≡ self.old.room }
         ensures declared_room { self.new.declared_room ≡ self.old.declared_room }
     {
+        self.first_non_default_local = 0;
         self.local_inits.clear();
         self.inits.clear();
     }
@@ -71,6 +83,13 @@ impl LocalInits {
         ensures succeeds { length self.old.base + count ≤ self.old.declared_room → IsOk result }
         ensures err { OnErr result (self.new ≡ self.old) }
     {
+        if set && self.local_inits.is_empty() {
+            let Some(all) = self.first_non_default_local.checked_add(count) else {
+                return Err(OutOfMemory);
+            };
+            self.first_non_default_local = all;
+            return Ok(());
+        }
         self.local_inits.reserve(count)?;
         let len = self.local_inits.len();
         self.local_inits.resize(len + count, set).unwrap();
@@ -115,12 +134,16 @@ impl LocalInits {
         ensures succeeds { length self.old.base + count ≤ self.old.declared_room → IsOk result }
         ensures err { OnErr result (self.new ≡ self.old) }
     {
-        self.local_inits.reserve(count)?;
+        let Some(unmarked) = self.first_non_default_local.checked_add(count) else {
+            return Err(OutOfMemory);
+        };
+        self.local_inits.reserve(unmarked)?;
         Ok(())
     }
 
     /// How many locals were set since they were declared: the height that a frame notes when it is
     /// opened.
+    #[inline(always)]
     pub fn height(&self) -> usize
         ensures value { result ≡ length self.now.order }
         ensures within { length self.now.order ≤ self.now.room }
@@ -138,15 +161,21 @@ impl LocalInits {
     }
 
     /// Whether the local at this index isn't set.
+    #[inline(always)]
     pub fn is_uninit(&self, index: u32) -> bool
         requires { index < length self.now.base }
         ensures { result ≡ not (is_recorded_set self.now index) }
     {
-        !self.local_inits[index as usize]
+        let index = index as usize;
+        if index < self.first_non_default_local {
+            return false;
+        }
+        !self.local_inits[index - self.first_non_default_local]
     }
 
     /// Sets the local at this index: where it wasn't set, it comes last in the order. Want of memory
     /// changes nothing, and there is none where there is room or the local is set already.
+    #[inline(always)]
     pub fn set_init(&mut self, index: u32) -> Result<(), OutOfMemory>
         requires { index < length self.old.base }
         ensures set { OnOk result (self.new.order ≡ order_with self.old index) }
@@ -157,12 +186,12 @@ impl LocalInits {
         ensures already { is_recorded_set self.old index ≡ true → IsOk result }
         ensures err { OnErr result (self.new ≡ self.old) }
     {
-        if self.local_inits[index as usize] {
+        if !self.is_uninit(index) {
             return Ok(());
         }
         self.inits.reserve(1)?;
         self.inits.push(index).unwrap();
-        self.local_inits[index as usize] = true;
+        self.local_inits[index as usize - self.first_non_default_local] = true;
         Ok(())
     }
 
@@ -175,12 +204,13 @@ impl LocalInits {
         ensures declared_room { self.new.declared_room ≡ self.old.declared_room }
     {
         let index = self.inits.pop()?;
-        self.local_inits[index as usize] = false;
+        self.local_inits[index as usize - self.first_non_default_local] = false;
         Some(index)
     }
 
     /// Unsets what was first set from this height on (wasmparser's `pop_ctrl`, without its answer). It
     /// takes no memory.
+    #[inline(always)]
     pub fn drop_ctrl(&mut self, height: usize)
         ensures order { self.new.order ≡ take height self.old.order }
         ensures base { self.new.base ≡ self.old.base }

@@ -1,36 +1,59 @@
-//! The checks of the groups whose operators have a check each.
+//! The check of each group: behind the operator's gate, that of its row.
 
+ghost use Rattle.std.specs.Prelude.{◌≡◌, true, false, OnOk, OnErr, IfErr};
+ghost use Rattle.validate_types.specs.Gates.{is_open};
 ghost use Rattle.validate_visit.specs.declared.op.Op.{Op};
-ghost use Rattle.validation_rules.specs.Table.{operator};
+ghost use Rattle.validation_rules.specs.Table.{operator, flat_operator, control_operator};
+ghost use Rattle.validation_rules.specs.References.{reference_row};
 ghost use Rattle.validate_stacks.specs.Visits.{MayVisit, Meets};
 ghost use Rattle.validate_operators.specs.Memory.{TakesNoMemory};
 
 use validate_resources::WasmModuleResources;
+use validate_rows::atomic::check_atomic_row;
 use validate_rows::blocks::check_opener;
 use validate_rows::branches::{check_br, check_br_if, check_br_table, check_return};
 use validate_rows::calls::{check_call, check_return_call};
 use validate_rows::control::{check_else, check_end, check_nop, check_unreachable};
 use validate_rows::globals::{check_global_get, check_global_set};
+use validate_rows::memory::check_memory_row;
+use validate_rows::numeric::{check_convert_row, check_numeric_row};
 use validate_rows::parametric::{
     check_drop, check_select, check_typed_select, check_typed_select_multi,
 };
+use validate_rows::tables::check_table_row;
 use validate_rows::variables::{check_local_get, check_local_set, check_local_tee};
-use validate_rows::{indirect, references, tables};
+use validate_rows::{indirect, references};
 use validate_stacks::Stacks;
-use validate_types::{Error, ValType};
-use validate_visit::{ControlOp, FrameKind, ReferenceOp, TableOp};
+use validate_types::{Error, Gate, ValType};
+use validate_visit::{
+    AtomicOp, ControlOp, ConvertOp, FrameKind, MemoryOp, NumericOp, ReferenceOp, TableOp,
+};
 
-/// The check of an operator on control, locals or globals: accepted exactly where its row holds, memory
-/// aside, with the static step. A refusal carries the offset.
+/// Refuses where the gate is closed (wasmparser's `check_enabled`).
 #[inline(always)]
-pub fn check_control<R: WasmModuleResources>(
+fn check_enabled(stacks: &Stacks, offset: u64, gate: Gate) -> Result<(), Error>
+    ensures open { OnOk result (is_open stacks.now.body.features gate ≡ true) }
+    ensures closed { OnErr result (is_open stacks.now.body.features gate ≡ false) }
+    ensures offset { IfErr result (λ e. e.offset ≡ offset) }
+    ensures memory { IfErr result (λ e. e.memory ≡ false) }
+{
+    if gate.is_open(stacks.features()) {
+        Ok(())
+    } else {
+        Err(Error::new(gate.refusal(), offset))
+    }
+}
+
+/// The check of an operator on control, locals or globals, its gate aside.
+#[inline(always)]
+fn check_control_operator<R: WasmModuleResources>(
     stacks: &mut Stacks,
     resources: &R,
     offset: u64,
     op: ControlOp,
 ) -> Result<(), Error>
     requires { MayVisit (R.context resources.now) stacks.old }
-    ensures row { Meets (R.context resources.now) (λ cx. operator cx (Op.Control op.entry)) offset
+    ensures row { Meets (R.context resources.now) (λ cx. control_operator cx op.entry) offset
         stacks.old.body result stacks.new.body }
     ensures memory { TakesNoMemory (R.context resources.now) (Op.Control op.entry) stacks.old.body result }
 {
@@ -97,16 +120,100 @@ pub fn check_control<R: WasmModuleResources>(
     }
 }
 
-/// The check of an operator on references: accepted exactly where its row holds, memory aside, with the
+/// The check of an operator on control, locals or globals: accepted exactly where its row holds, memory
+/// aside, with the static step. A refusal carries the offset.
+#[inline(always)]
+pub fn check_control<R: WasmModuleResources>(
+    stacks: &mut Stacks,
+    resources: &R,
+    offset: u64,
+    op: ControlOp,
+) -> Result<(), Error>
+    requires { MayVisit (R.context resources.now) stacks.old }
+    ensures row { Meets (R.context resources.now) (λ cx. operator cx (Op.Control op.entry)) offset
+        stacks.old.body result stacks.new.body }
+    ensures memory { TakesNoMemory (R.context resources.now) (Op.Control op.entry) stacks.old.body result }
+{
+    check_enabled(stacks, offset, op.gate())?;
+    check_control_operator(stacks, resources, offset, op)
+}
+
+/// The check of an operator on numbers of one type, or of a constant: accepted exactly where its row
+/// holds, memory aside, with the static step. A refusal carries the offset.
+#[inline(always)]
+pub fn check_numeric<R: WasmModuleResources>(
+    stacks: &mut Stacks,
+    resources: &R,
+    offset: u64,
+    op: NumericOp,
+) -> Result<(), Error>
+    requires { MayVisit (R.context resources.now) stacks.old }
+    ensures { Meets (R.context resources.now) (λ cx. operator cx (Op.Numeric op)) offset
+        stacks.old.body result stacks.new.body }
+{
+    check_enabled(stacks, offset, op.gate())?;
+    check_numeric_row(stacks, resources, offset, op)
+}
+
+/// The check of a conversion, or of an extension of a sign: accepted exactly where its row holds,
+/// memory aside, with the static step. A refusal carries the offset.
+#[inline(always)]
+pub fn check_convert<R: WasmModuleResources>(
+    stacks: &mut Stacks,
+    resources: &R,
+    offset: u64,
+    op: ConvertOp,
+) -> Result<(), Error>
+    requires { MayVisit (R.context resources.now) stacks.old }
+    ensures { Meets (R.context resources.now) (λ cx. operator cx (Op.Convert op)) offset
+        stacks.old.body result stacks.new.body }
+{
+    check_enabled(stacks, offset, op.gate())?;
+    check_convert_row(stacks, resources, offset, op)
+}
+
+/// The check of an operator on memories: accepted exactly where its row holds, memory aside, with the
 /// static step. A refusal carries the offset.
-pub fn check_reference<R: WasmModuleResources>(
+#[inline(always)]
+pub fn check_memory<R: WasmModuleResources>(
+    stacks: &mut Stacks,
+    resources: &R,
+    offset: u64,
+    op: MemoryOp,
+) -> Result<(), Error>
+    requires { MayVisit (R.context resources.now) stacks.old }
+    ensures { Meets (R.context resources.now) (λ cx. operator cx (Op.Memory op)) offset
+        stacks.old.body result stacks.new.body }
+{
+    check_enabled(stacks, offset, op.gate())?;
+    check_memory_row(stacks, resources, offset, op)
+}
+
+/// The check of an atomic operator on memories: accepted exactly where its row holds, memory aside,
+/// with the static step. A refusal carries the offset.
+pub fn check_atomic<R: WasmModuleResources>(
+    stacks: &mut Stacks,
+    resources: &R,
+    offset: u64,
+    op: AtomicOp,
+) -> Result<(), Error>
+    requires { MayVisit (R.context resources.now) stacks.old }
+    ensures { Meets (R.context resources.now) (λ cx. operator cx (Op.Atomic op)) offset
+        stacks.old.body result stacks.new.body }
+{
+    check_enabled(stacks, offset, op.gate())?;
+    check_atomic_row(stacks, resources, offset, op)
+}
+
+/// The check of an operator on references, its gate aside.
+fn check_reference_row<R: WasmModuleResources>(
     stacks: &mut Stacks,
     resources: &R,
     offset: u64,
     op: ReferenceOp,
 ) -> Result<(), Error>
     requires { MayVisit (R.context resources.now) stacks.old }
-    ensures { Meets (R.context resources.now) (λ cx. operator cx (Op.Reference op)) offset
+    ensures { Meets (R.context resources.now) (λ cx. flat_operator (λ hs. reference_row cx hs op)) offset
         stacks.old.body result stacks.new.body }
 {
     match op {
@@ -127,6 +234,22 @@ pub fn check_reference<R: WasmModuleResources>(
     }
 }
 
+/// The check of an operator on references: accepted exactly where its row holds, memory aside, with the
+/// static step. A refusal carries the offset.
+pub fn check_reference<R: WasmModuleResources>(
+    stacks: &mut Stacks,
+    resources: &R,
+    offset: u64,
+    op: ReferenceOp,
+) -> Result<(), Error>
+    requires { MayVisit (R.context resources.now) stacks.old }
+    ensures { Meets (R.context resources.now) (λ cx. operator cx (Op.Reference op)) offset
+        stacks.old.body result stacks.new.body }
+{
+    check_enabled(stacks, offset, op.gate())?;
+    check_reference_row(stacks, resources, offset, op)
+}
+
 /// The check of an operator on tables: accepted exactly where its row holds, memory aside, with the
 /// static step. A refusal carries the offset.
 pub fn check_table<R: WasmModuleResources>(
@@ -136,24 +259,9 @@ pub fn check_table<R: WasmModuleResources>(
     op: TableOp,
 ) -> Result<(), Error>
     requires { MayVisit (R.context resources.now) stacks.old }
-    ensures { Meets (R.context resources.now) (λ cx. operator cx (Op.Table op)) offset stacks.old.body
-        result stacks.new.body }
+    ensures { Meets (R.context resources.now) (λ cx. operator cx (Op.Table op)) offset
+        stacks.old.body result stacks.new.body }
 {
-    match op {
-        TableOp::TableGet(table) => tables::check_table_get(stacks, resources, offset, table),
-        TableOp::TableSet(table) => tables::check_table_set(stacks, resources, offset, table),
-        TableOp::TableGrow(table) => tables::check_table_grow(stacks, resources, offset, table),
-        TableOp::TableSize(table) => tables::check_table_size(stacks, resources, offset, table),
-        TableOp::TableFill(table) => tables::check_table_fill(stacks, resources, offset, table),
-        TableOp::TableInit { elem_index, table } => {
-            tables::check_table_init(stacks, resources, offset, elem_index, table)
-        }
-        TableOp::ElemDrop(elem_index) => {
-            tables::check_elem_drop(stacks, resources, offset, elem_index)
-        }
-        TableOp::TableCopy {
-            dst_table,
-            src_table,
-        } => tables::check_table_copy(stacks, resources, offset, dst_table, src_table),
-    }
+    check_enabled(stacks, offset, op.gate())?;
+    check_table_row(stacks, resources, offset, op)
 }

@@ -4,17 +4,18 @@ ghost use Rattle.validation_rules.specs.Table.{operator};
 ghost use Rattle.validate_stacks.specs.Visits.{MayVisit, Meets};
 ghost use Rattle.validate_operators.specs.Memory.{TakesNoMemory};
 
-use crate::groups::{check_control, check_reference, check_table};
+use crate::groups::{
+    check_atomic, check_control, check_convert, check_memory, check_numeric, check_reference,
+    check_table,
+};
 use validate_resources::WasmModuleResources;
-use validate_rows::atomic::check_atomic;
-use validate_rows::memory::check_memory;
-use validate_rows::numeric::{check_convert, check_numeric};
 use validate_stacks::Stacks;
 use validate_types::Error;
-use validate_visit::Op;
+use validate_visit::{ConvertOp, NumericOp, Op};
 
 /// The check of an operator at this offset: accepted exactly where its row holds, memory aside, with the
 /// static step. A refusal carries the offset. A frame has to be open.
+#[inline(always)]
 pub fn check_operator<R: WasmModuleResources>(
     stacks: &mut Stacks,
     resources: &R,
@@ -28,11 +29,41 @@ pub fn check_operator<R: WasmModuleResources>(
 {
     match op {
         Op::Control(op) => check_control(stacks, resources, offset, op),
-        Op::Numeric(op) => check_numeric(stacks, resources, offset, op),
-        Op::Convert(op) => check_convert(stacks, resources, offset, op),
+        Op::Numeric(op) => any_numeric(stacks, resources, offset, op),
+        Op::Convert(op) => any_convert(stacks, resources, offset, op),
         Op::Memory(op) => check_memory(stacks, resources, offset, op),
         Op::Atomic(op) => check_atomic(stacks, resources, offset, op),
         Op::Reference(op) => check_reference(stacks, resources, offset, op),
         Op::Table(op) => check_table(stacks, resources, offset, op),
     }
+}
+
+/// [`check_numeric`], of which there is one copy for operators that are known by their value alone.
+#[inline(never)]
+fn any_numeric<R: WasmModuleResources>(
+    stacks: &mut Stacks,
+    resources: &R,
+    offset: u64,
+    op: NumericOp,
+) -> Result<(), Error>
+    requires { MayVisit (R.context resources.now) stacks.old }
+    ensures { Meets (R.context resources.now) (λ cx. operator cx (Op.Numeric op)) offset
+        stacks.old.body result stacks.new.body }
+{
+    check_numeric(stacks, resources, offset, op)
+}
+
+/// [`check_convert`], of which there is one copy for operators that are known by their value alone.
+#[inline(never)]
+fn any_convert<R: WasmModuleResources>(
+    stacks: &mut Stacks,
+    resources: &R,
+    offset: u64,
+    op: ConvertOp,
+) -> Result<(), Error>
+    requires { MayVisit (R.context resources.now) stacks.old }
+    ensures { Meets (R.context resources.now) (λ cx. operator cx (Op.Convert op)) offset
+        stacks.old.body result stacks.new.body }
+{
+    check_convert(stacks, resources, offset, op)
 }

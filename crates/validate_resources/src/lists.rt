@@ -211,6 +211,7 @@ impl WasmModuleResources for ModuleLists {
     }
 
     /// A question costs the length of a chain of supertypes, and takes no memory.
+    #[inline(always)]
     fn is_subtype(&self, a: ValType, b: ValType) -> bool {
         is_type_below(&self.types, a, b)
     }
@@ -229,6 +230,7 @@ impl WasmModuleResources for ModuleLists {
         write_form(ty, form, self.alloc, offset)
     }
 
+    #[inline(always)]
     fn check_value_type(
         &self,
         ty: &mut ValType,

@@ -1,125 +1,42 @@
-//! Atomic operators on memories, by shape (the threads proposal). Their gate is `threads`.
+//! Atomic operators on memories, by shape (the threads proposal).
 
-ghost use Rattle.std.specs.Prelude.{◌≡◌};
-ghost use Rattle.std.specs.List.{AllByRecursion};
-ghost use Rattle.validate_resources.specs.Context.{Valid};
-ghost use Rattle.validate_types.specs.declared.gate.Gate.TheVariants.{Threads};
-ghost use Rattle.validation_rules.specs.Access.{atomic_address_type, access_row, allows_ordering, atomic_fence_row};
-ghost use Rattle.validate_visit.specs.declared.op.Op.{Op};
-ghost use Rattle.validation_rules.specs.Table.{operator, row_operator, gated_row};
+ghost use Rattle.std.specs.Prelude.{◌≡◌, true, false, None, Some, IfOk, OnOk, OnErr, IfErr};
+ghost use Rattle.validate_resources.specs.Context.{Valid, is_index_type};
+ghost use Rattle.validation_rules.specs.Access.{atomic_address_type, allows_ordering};
+ghost use Rattle.validation_rules.specs.Atomic.{atomic_row};
+ghost use Rattle.validation_rules.specs.Table.{row_operator};
+ghost use Rattle.validate_stacks.specs.State.{context};
 ghost use Rattle.validate_stacks.specs.Visits.{MayVisit, Meets};
+ghost use Rattle.validate_rows.specs.Types.{types_row, AreValid};
 
-use crate::memory::check_access;
+use crate::memory::check_memarg;
 use crate::numbers::{accessed, integer};
-use crate::plain::{check_enabled, check_plain};
+use crate::types::{Few, Types, check_types};
 use validate_resources::WasmModuleResources;
 use validate_stacks::Stacks;
 use validate_types::{Error, Gate, ValType, WasmFeatures};
 use validate_visit::{AtomicOp, MemArg, Ordering};
 
-/// An atomic operator on memories, by its row.
-pub fn check_atomic<R: WasmModuleResources>(
-    stacks: &mut Stacks,
-    resources: &R,
-    offset: u64,
-    op: AtomicOp,
-) -> Result<(), Error>
-    requires { MayVisit (R.context resources.now) stacks.old }
-    ensures { Meets (R.context resources.now) (λ cx. operator cx (Op.Atomic op)) offset stacks.old.body
-        result stacks.new.body }
-{
-    match op {
-        AtomicOp::AtomicNotify(memarg) => {
-            check_atomic_access(
-                stacks,
-                resources,
-                offset,
-                memarg,
-                &[ValType::I32],
-                &[ValType::I32],
-            )
-        }
-        AtomicOp::AtomicWait(ty, memarg) => {
-            check_atomic_access(
-                stacks,
-                resources,
-                offset,
-                memarg,
-                &[integer(ty), ValType::I64],
-                &[ValType::I32],
-            )
-        }
-        AtomicOp::AtomicFence(ordering) => check_atomic_fence(stacks, resources, offset, ordering),
-        AtomicOp::AtomicLoad(access, memarg) => {
-            check_atomic_access(stacks, resources, offset, memarg, &[], &[accessed(access)])
-        }
-        AtomicOp::AtomicStore(access, memarg) => {
-            check_atomic_access(stacks, resources, offset, memarg, &[accessed(access)], &[])
-        }
-        AtomicOp::AtomicRmw(access, _, memarg) => {
-            let ty = accessed(access);
-            check_atomic_access(stacks, resources, offset, memarg, &[ty], &[ty])
-        }
-        AtomicOp::AtomicCmpxchg(access, memarg) => {
-            let ty = accessed(access);
-            check_atomic_access(stacks, resources, offset, memarg, &[ty, ty], &[ty])
-        }
-        AtomicOp::Pause => check_plain(
-            stacks,
-            resources,
-            offset,
-            Gate::AcquireReleaseAtomics,
-            &[],
-            &[],
-        ),
-    }
-}
-
-/// An atomic access: its alignment is the natural one, and the rest as of any access (wasmparser's
-/// `check_shared_memarg`, with the operands).
-fn check_atomic_access<R: WasmModuleResources>(
-    stacks: &mut Stacks,
+/// The type of the address of an atomic access: its alignment is the natural one, and the rest as of any
+/// access (wasmparser's `check_shared_memarg`).
+fn check_shared_memarg<R: WasmModuleResources>(
+    stacks: &Stacks,
     resources: &R,
     offset: u64,
     memarg: MemArg,
-    above: &[ValType],
-    pushed: &[ValType],
-) -> Result<(), Error>
-    requires visit { MayVisit (R.context resources.now) stacks.old }
-    requires above { AllByRecursion (Valid (R.context resources.now)) above.now }
-    requires pushed { AllByRecursion (Valid (R.context resources.now)) pushed.now }
-    ensures { Meets (R.context resources.now)
-        (λ cx. row_operator (gated_row cx Threads
-        (access_row (atomic_address_type cx.of_module memarg) above.now pushed.now))) offset
-        stacks.old.body result stacks.new.body }
+) -> Result<ValType, Error>
+    ensures found { IfOk result (λ it. atomic_address_type (R.context resources.now) memarg ≡ Some it) }
+    ensures index { IfOk result (λ it. is_index_type it ≡ true) }
+    ensures refused { OnErr result (atomic_address_type (R.context resources.now) memarg ≡ None) }
+    ensures offset { IfErr result (λ e. e.offset ≡ offset) }
 {
-    check_enabled(stacks, offset, Gate::Threads)?;
     if memarg.align != memarg.max_align {
         return Err(Error::new(
             "atomic instructions must always specify maximum alignment",
             offset,
         ));
     }
-    check_access(stacks, resources, offset, Gate::Mvp, memarg, above, pushed)
-}
-
-/// `atomic.fence`. Where it only acquires and releases it needs `acquire_release_atomics` too.
-fn check_atomic_fence<R: WasmModuleResources>(
-    stacks: &mut Stacks,
-    resources: &R,
-    offset: u64,
-    ordering: Ordering,
-) -> Result<(), Error>
-    requires { MayVisit (R.context resources.now) stacks.old }
-    ensures { Meets (R.context resources.now)
-        (λ cx. row_operator (gated_row cx Threads (atomic_fence_row cx ordering))) offset
-        stacks.old.body result stacks.new.body }
-{
-    check_enabled(stacks, offset, Gate::Threads)?;
-    if !allows(stacks.features(), ordering) {
-        return Err(Error::new("acquire-release atomics are not enabled", offset));
-    }
-    check_plain(stacks, resources, offset, Gate::Mvp, &[], &[])
+    check_memarg(stacks, resources, offset, memarg)
 }
 
 /// Whether an operator may be ordered so.
@@ -130,4 +47,85 @@ fn allows(features: WasmFeatures, ordering: Ordering) -> bool
         Ordering::SeqCst => true,
         Ordering::AcqRel => Gate::AcquireReleaseAtomics.is_open(features),
     }
+}
+
+/// Refuses a fence that only acquires and releases where `acquire_release_atomics` is off.
+fn check_ordering(stacks: &Stacks, offset: u64, ordering: Ordering) -> Result<(), Error>
+    ensures allowed { OnOk result (allows_ordering stacks.now.body.features ordering ≡ true) }
+    ensures refused { OnErr result (allows_ordering stacks.now.body.features ordering ≡ false) }
+    ensures offset { IfErr result (λ e. e.offset ≡ offset) }
+{
+    if allows(stacks.features(), ordering) {
+        Ok(())
+    } else {
+        Err(Error::new("acquire-release atomics are not enabled", offset))
+    }
+}
+
+/// What an atomic operator takes and gives, by the memory that it names.
+fn atomic_types<R: WasmModuleResources>(
+    stacks: &Stacks,
+    resources: &R,
+    offset: u64,
+    op: AtomicOp,
+) -> Result<Types, Error>
+    ensures row { IfOk result (λ t. atomic_row (context (R.context resources.now) stacks.now.body) op
+        ≡ types_row t) }
+    ensures valid { IfOk result (λ t. AreValid (R.context resources.now) t) }
+    ensures refused { OnErr result
+        ((atomic_row (context (R.context resources.now) stacks.now.body) op).premise ≡ false) }
+    ensures offset { IfErr result (λ e. e.offset ≡ offset) }
+{
+    let (wanted, pushed) = match op {
+        AtomicOp::AtomicNotify(memarg) => {
+            let address = check_shared_memarg(stacks, resources, offset, memarg)?;
+            (Few::Two(address, ValType::I32), Few::One(ValType::I32))
+        }
+        AtomicOp::AtomicWait(ty, memarg) => {
+            let address = check_shared_memarg(stacks, resources, offset, memarg)?;
+            (
+                Few::Three(address, integer(ty), ValType::I64),
+                Few::One(ValType::I32),
+            )
+        }
+        AtomicOp::AtomicFence(ordering) => {
+            check_ordering(stacks, offset, ordering)?;
+            (Few::Zero, Few::Zero)
+        }
+        AtomicOp::AtomicLoad(access, memarg) => {
+            let address = check_shared_memarg(stacks, resources, offset, memarg)?;
+            (Few::One(address), Few::One(accessed(access)))
+        }
+        AtomicOp::AtomicStore(access, memarg) => {
+            let address = check_shared_memarg(stacks, resources, offset, memarg)?;
+            (Few::Two(address, accessed(access)), Few::Zero)
+        }
+        AtomicOp::AtomicRmw(access, _, memarg) => {
+            let address = check_shared_memarg(stacks, resources, offset, memarg)?;
+            let ty = accessed(access);
+            (Few::Two(address, ty), Few::One(ty))
+        }
+        AtomicOp::AtomicCmpxchg(access, memarg) => {
+            let address = check_shared_memarg(stacks, resources, offset, memarg)?;
+            let ty = accessed(access);
+            (Few::Three(address, ty, ty), Few::One(ty))
+        }
+        AtomicOp::Pause => (Few::Zero, Few::Zero),
+    };
+    Ok(Types { wanted, pushed })
+}
+
+/// The check of an atomic operator, its gate aside.
+pub fn check_atomic_row<R: WasmModuleResources>(
+    stacks: &mut Stacks,
+    resources: &R,
+    offset: u64,
+    op: AtomicOp,
+) -> Result<(), Error>
+    requires { MayVisit (R.context resources.now) stacks.old }
+    ensures { Meets (R.context resources.now) (λ cx. row_operator (atomic_row cx op)) offset
+        stacks.old.body result stacks.new.body }
+{
+    let types = atomic_types(stacks, resources, offset, op)?;
+    check_types(stacks, resources, offset, types)
 }

@@ -50,6 +50,7 @@ fn check_function_type<R: WasmModuleResources>(
 /// The block type as a frame keeps it (wasmparser's `check_block_type`): a value type in its
 /// canonical form. It refuses a value type as the lookup does, and a function type where
 /// `multi_value` is off, where no type has its index, and an unshared one in a shared function.
+#[inline(always)]
 fn check_block_type<R: WasmModuleResources>(
     stacks: &Stacks,
     resources: &R,
@@ -78,6 +79,7 @@ fn check_block_type<R: WasmModuleResources>(
 
 /// Takes the operands above, and then the parameters of a checked block type, and opens a frame over
 /// the parameters.
+#[inline(always)]
 fn open_frame<R: WasmModuleResources>(
     stacks: &mut Stacks,
     resources: &R,
@@ -99,6 +101,7 @@ fn open_frame<R: WasmModuleResources>(
 
 /// An opener: `[params above] -> [results]` of its block type, over a frame of this kind with the
 /// parameters. `above` is empty for `block` and `loop`, and the test for `if`.
+#[inline(always)]
 pub fn check_opener<R: WasmModuleResources>(
     stacks: &mut Stacks,
     resources: &R,

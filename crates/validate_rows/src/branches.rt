@@ -16,6 +16,7 @@ use validate_types::{Error, ValType};
 use validate_visit::{BlockType, BrTable, FrameKind};
 
 /// The block type and the kind of the frame that a label names, counted from the innermost.
+#[inline(always)]
 pub(crate) fn label(
     stacks: &Stacks,
     offset: u64,
@@ -34,6 +35,7 @@ pub(crate) fn label(
 
 /// `br`: the types of the label, and the live part of the frame ends. It takes no memory but for the
 /// text of a refusal: it is refused only where its row doesn't hold.
+#[inline(always)]
 pub fn check_br<R: WasmModuleResources>(
     stacks: &mut Stacks,
     resources: &R,
@@ -54,6 +56,7 @@ pub fn check_br<R: WasmModuleResources>(
 }
 
 /// `br_if`: `[t i32] -> [t]`, with the types t of the label.
+#[inline(always)]
 pub fn check_br_if<R: WasmModuleResources>(
     stacks: &mut Stacks,
     resources: &R,
@@ -99,6 +102,7 @@ pub fn check_return<R: WasmModuleResources>(
 /// A target of `br_table`: its label, which has to have as many types as the default one, and the
 /// operands in place have to fit them. Where they don't, those down to the one that doesn't fit are
 /// popped.
+#[inline(always)]
 fn check_target<R: WasmModuleResources>(
     stacks: &mut Stacks,
     resources: &R,
@@ -131,6 +135,7 @@ fn check_target<R: WasmModuleResources>(
 }
 
 /// Every target of `br_table`, up to the end of the table, which has to be complete.
+#[inline(always)]
 fn check_targets<R: WasmModuleResources>(
     stacks: &mut Stacks,
     resources: &R,
@@ -164,6 +169,7 @@ fn check_targets<R: WasmModuleResources>(
 /// `br_table`: `[t i32]`, with the types t of the default label, which fit every other label too; and
 /// the live part of the frame ends. It takes no memory but for the text of a refusal: it is refused
 /// only where its row doesn't hold.
+#[inline(always)]
 pub fn check_br_table<R: WasmModuleResources>(
     stacks: &mut Stacks,
     resources: &R,

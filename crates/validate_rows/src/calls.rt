@@ -2,26 +2,26 @@
 
 ghost use Rattle.std.specs.Prelude.{◌≡◌, true, false, None, Some, ◌&&◌, nat_eq, length, map, pred, IfOk, OnOk, OnErr, IfErr};
 ghost use Rattle.std.specs.List.{AllByRecursion};
-ghost use Rattle.validate_types.specs.declared.gate.Gate.TheVariants.{TailCall};
 ghost use Rattle.validate_resources.specs.Context.{Valid, signature_of};
 ghost use Rattle.validation_rules.specs.Calls.{callee as called, call_row, may_return, tail_call_row, return_call_row};
 ghost use Rattle.validation_rules.specs.Indirect.{typed_callee};
 ghost use Rattle.validation_rules.specs.Context.{Context};
 ghost use Rattle.validation_rules.specs.Fits.{Known, all_fit};
 ghost use Rattle.validation_rules.specs.Static.{heads};
-ghost use Rattle.validation_rules.specs.Table.{row_operator, flat_operator, gated_row};
+ghost use Rattle.validation_rules.specs.Table.{row_operator, flat_operator};
 ghost use Rattle.validate_stacks.specs.State.{context};
 ghost use Rattle.validate_stacks.specs.Visits.{MayVisit, Meets};
 
-use crate::plain::{check_enabled, check_plain};
+use crate::plain::check_plain;
 use std::alloc::{AllocError, Global};
 use validate_resources::WasmModuleResources;
 use validate_stacks::blocks::label_types;
 use validate_stacks::{Stacks, ty_to_str};
-use validate_types::{CompositeInnerType, Error, FuncType, Gate, SubType, ValType};
+use validate_types::{CompositeInnerType, Error, FuncType, SubType, ValType};
 
 /// The type of a function, which has to be declared, and in a shared function has to be shared
 /// (wasmparser's `type_of_function`).
+#[inline(always)]
 fn type_of_function<'a, R: WasmModuleResources>(
     stacks: &Stacks,
     resources: &'a R,
@@ -76,6 +76,8 @@ fn func_type_of(sub_type: &SubType) -> &FuncType
     }
 }
 
+#[cold]
+#[inline(never)]
 pub(crate) fn unknown_function(alloc: Global, offset: u64, function_index: u32) -> Error
     ensures { result.offset ≡ offset }
 {
@@ -86,6 +88,7 @@ pub(crate) fn unknown_function(alloc: Global, offset: u64, function_index: u32) 
 }
 
 /// `call`: what the function takes, and what it gives.
+#[inline(always)]
 pub fn check_call<R: WasmModuleResources>(
     stacks: &mut Stacks,
     resources: &R,
@@ -98,7 +101,7 @@ pub fn check_call<R: WasmModuleResources>(
 {
     let func_type = type_of_function(stacks, resources, offset, function_index)?;
     let (params, results) = (func_type.params(), func_type.results());
-    check_plain(stacks, resources, offset, Gate::Mvp, params, results)
+    check_plain(stacks, resources, offset, params, results)
 }
 
 /// Whether the types are as many as those above them, and each is below its place.
@@ -200,7 +203,7 @@ pub(crate) fn check_return_call_ty<R: WasmModuleResources>(
 }
 
 /// `return_call`: what the function takes. The body returns its results, and the live part of the frame
-/// ends. Its gate is `tail_call`.
+/// ends.
 pub fn check_return_call<R: WasmModuleResources>(
     stacks: &mut Stacks,
     resources: &R,
@@ -209,10 +212,9 @@ pub fn check_return_call<R: WasmModuleResources>(
 ) -> Result<(), Error>
     requires { MayVisit (R.context resources.now) stacks.old }
     ensures { Meets (R.context resources.now)
-        (λ cx. flat_operator (λ hs. gated_row cx TailCall (return_call_row cx hs function_index)))
+        (λ cx. flat_operator (λ hs. return_call_row cx hs function_index))
         offset stacks.old.body result stacks.new.body }
 {
-    check_enabled(stacks, offset, Gate::TailCall)?;
     let func_type = type_of_function(stacks, resources, offset, function_index)?;
     check_return_call_ty(stacks, resources, offset, func_type)
 }

@@ -17,6 +17,7 @@ use validate_types::Error;
 use validate_visit::{Frame, FrameKind};
 
 /// `nop`: nothing. It is never refused, and takes no memory.
+#[inline(always)]
 pub fn check_nop<R: WasmModuleResources>(
     stacks: &mut Stacks,
     resources: &R,
@@ -35,6 +36,7 @@ pub fn check_nop<R: WasmModuleResources>(
 }
 
 /// `unreachable`: the live part of the frame ends here. It is never refused, and takes no memory.
+#[inline(always)]
 pub fn check_unreachable<R: WasmModuleResources>(
     stacks: &mut Stacks,
     resources: &R,
@@ -52,6 +54,7 @@ pub fn check_unreachable<R: WasmModuleResources>(
 
 /// `else`: closes the first part of an `if`, which has to have exactly its results, and begins the
 /// second with the parameters. It refuses after a frame of another kind.
+#[inline(always)]
 pub fn check_else<R: WasmModuleResources>(
     stacks: &mut Stacks,
     resources: &R,
@@ -70,6 +73,7 @@ pub fn check_else<R: WasmModuleResources>(
 
 /// `end`: closes the innermost frame, which has to have exactly its results, and gives them to the
 /// next outer one. An `if` without `else` has an empty second part.
+#[inline(always)]
 pub fn check_end<R: WasmModuleResources>(
     stacks: &mut Stacks,
     resources: &R,
@@ -92,6 +96,7 @@ fn is_if_part(kind: FrameKind) -> bool
 
 /// The second part of an `if` without `else`, which gives its parameters as its results. Of a frame
 /// of another kind it asks nothing.
+#[inline(always)]
 fn check_empty_else<R: WasmModuleResources>(
     stacks: &mut Stacks,
     resources: &R,

@@ -11,7 +11,7 @@ use crate::plain::check_plain;
 use validate_resources::WasmModuleResources;
 use validate_resources::uses::laws;
 use validate_stacks::Stacks;
-use validate_types::{Error, Gate, GlobalType};
+use validate_types::{Error, GlobalType};
 
 /// The type of a global, which has to be declared, and in a shared function has to be shared
 /// (wasmparser's `global_type_at`).
@@ -40,6 +40,7 @@ fn global_type_at<R: WasmModuleResources>(
 }
 
 /// `global.get`: `[] -> [t]`.
+#[inline(always)]
 pub fn check_global_get<R: WasmModuleResources>(
     stacks: &mut Stacks,
     resources: &R,
@@ -51,17 +52,11 @@ pub fn check_global_get<R: WasmModuleResources>(
         offset stacks.old.body result stacks.new.body }
 {
     let global = global_type_at(stacks, resources, offset, global_index)?;
-    check_plain(
-        stacks,
-        resources,
-        offset,
-        Gate::Mvp,
-        &[],
-        &[global.content_type],
-    )
+    check_plain(stacks, resources, offset, &[], &[global.content_type])
 }
 
 /// `global.set`: `[t] -> []` of a global that can be written.
+#[inline(always)]
 pub fn check_global_set<R: WasmModuleResources>(
     stacks: &mut Stacks,
     resources: &R,
@@ -79,12 +74,5 @@ pub fn check_global_set<R: WasmModuleResources>(
             offset,
         ));
     }
-    check_plain(
-        stacks,
-        resources,
-        offset,
-        Gate::Mvp,
-        &[global.content_type],
-        &[],
-    )
+    check_plain(stacks, resources, offset, &[global.content_type], &[])
 }

@@ -2,20 +2,19 @@
 //! specification, "Control Instructions").
 
 ghost use Rattle.std.specs.Prelude.{◌≡◌, false, None, Some, IfOk, OnErr, IfErr};
-ghost use Rattle.validate_types.specs.declared.gate.Gate.TheVariants.{TailCall, FunctionReferences};
 ghost use Rattle.validate_resources.specs.Context.{Valid};
 ghost use Rattle.validation_rules.specs.Indirect.{function_place as place_of_function, function_reference as reference_to_function, call_operand_row, return_call_operand_row, call_indirect_row, return_call_indirect_row, call_ref_row, return_call_ref_row};
-ghost use Rattle.validation_rules.specs.Table.{row_operator, flat_operator, gated_row};
+ghost use Rattle.validation_rules.specs.Table.{row_operator, flat_operator};
 ghost use Rattle.validate_stacks.specs.State.{context};
 ghost use Rattle.validate_stacks.specs.Visits.{MayVisit, Meets};
 
 use crate::calls::{check_return_call_ty, func_type_at};
-use crate::plain::{check_enabled, check_plain};
+use crate::plain::check_plain;
 use crate::tables::table_type_at;
 use validate_resources::WasmModuleResources;
 use validate_resources::uses::laws;
 use validate_stacks::Stacks;
-use validate_types::{Error, Gate, HeapType, RefType, UnpackedIndex, ValType};
+use validate_types::{Error, HeapType, RefType, UnpackedIndex, ValType};
 
 /// The type of a place in a table, which has to be one of functions.
 fn function_place<R: WasmModuleResources>(
@@ -84,7 +83,7 @@ fn check_call_by<R: WasmModuleResources>(
     stacks.pop_types(resources, offset, &[names])?;
     let func_type = func_type_at(stacks, resources, offset, type_index)?;
     let (params, results) = (func_type.params(), func_type.results());
-    check_plain(stacks, resources, offset, Gate::Mvp, params, results)
+    check_plain(stacks, resources, offset, params, results)
 }
 
 /// The same in the place of the rest of the body.
@@ -125,7 +124,7 @@ pub fn check_call_indirect<R: WasmModuleResources>(
 }
 
 /// `return_call_indirect`: what `call_indirect` takes. The body returns the results of the function, and
-/// the live part of the frame ends. Its gate is `tail_call`.
+/// the live part of the frame ends.
 pub fn check_return_call_indirect<R: WasmModuleResources>(
     stacks: &mut Stacks,
     resources: &R,
@@ -135,17 +134,14 @@ pub fn check_return_call_indirect<R: WasmModuleResources>(
 ) -> Result<(), Error>
     requires { MayVisit (R.context resources.now) stacks.old }
     ensures { Meets (R.context resources.now)
-        (λ cx. flat_operator (λ hs. gated_row cx TailCall
-        (return_call_indirect_row cx hs type_index table_index))) offset stacks.old.body result
-        stacks.new.body }
+        (λ cx. flat_operator (λ hs. return_call_indirect_row cx hs type_index table_index)) offset
+        stacks.old.body result stacks.new.body }
 {
-    check_enabled(stacks, offset, Gate::TailCall)?;
     let place = function_place(stacks, resources, offset, table_index)?;
     check_return_call_by(stacks, resources, offset, type_index, place)
 }
 
-/// `call_ref`: `[params (ref null t)] -> [results]` of a function of the type t at this index. Its gate is
-/// `function_references`.
+/// `call_ref`: `[params (ref null t)] -> [results]` of a function of the type t at this index.
 pub fn check_call_ref<R: WasmModuleResources>(
     stacks: &mut Stacks,
     resources: &R,
@@ -154,16 +150,14 @@ pub fn check_call_ref<R: WasmModuleResources>(
 ) -> Result<(), Error>
     requires { MayVisit (R.context resources.now) stacks.old }
     ensures { Meets (R.context resources.now)
-        (λ cx. row_operator (gated_row cx FunctionReferences (call_ref_row cx type_index))) offset
-        stacks.old.body result stacks.new.body }
+        (λ cx. row_operator (call_ref_row cx type_index)) offset stacks.old.body result stacks.new.body }
 {
-    check_enabled(stacks, offset, Gate::FunctionReferences)?;
     let reference = function_reference(stacks, resources, offset, type_index)?;
     check_call_by(stacks, resources, offset, type_index, reference)
 }
 
 /// `return_call_ref`: what `call_ref` takes. The body returns the results of the function, and the live
-/// part of the frame ends. Its gate is `function_references`.
+/// part of the frame ends.
 pub fn check_return_call_ref<R: WasmModuleResources>(
     stacks: &mut Stacks,
     resources: &R,
@@ -172,10 +166,9 @@ pub fn check_return_call_ref<R: WasmModuleResources>(
 ) -> Result<(), Error>
     requires { MayVisit (R.context resources.now) stacks.old }
     ensures { Meets (R.context resources.now)
-        (λ cx. flat_operator (λ hs. gated_row cx FunctionReferences
-        (return_call_ref_row cx hs type_index))) offset stacks.old.body result stacks.new.body }
+        (λ cx. flat_operator (λ hs. return_call_ref_row cx hs type_index)) offset stacks.old.body result
+        stacks.new.body }
 {
-    check_enabled(stacks, offset, Gate::FunctionReferences)?;
     let reference = function_reference(stacks, resources, offset, type_index)?;
     check_return_call_by(stacks, resources, offset, type_index, reference)
 }

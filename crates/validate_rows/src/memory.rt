@@ -1,78 +1,25 @@
 //! Operators on memories, by shape (WebAssembly core specification, "Memory Instructions").
 
-ghost use Rattle.std.specs.Prelude.{◌≡◌, true, false, None, Some, IfOk, OnOk, OnErr, IfErr, [], ◌∷◌};
-ghost use Rattle.std.specs.List.{AllByRecursion};
-ghost use Rattle.validate_resources.specs.Context.{Valid, is_index_type};
-ghost use Rattle.validation_rules.specs.Access.{memory_address_type as index_of_memory, address_type, access_row, narrower_type, memory_size_row, memory_grow_row, memory_fill_row, memory_discard_row, memory_copy_row, is_segment, memory_init_row, data_drop_row};
-ghost use Rattle.validate_types.specs.declared.gate.Gate.TheVariants.{BulkMemory, BulkMemoryOpt, MemoryControl};
-ghost use Rattle.validate_visit.specs.declared.op.Op.{Op};
-ghost use Rattle.validation_rules.specs.Table.{operator, row_operator, gated_row};
+ghost use Rattle.std.specs.Prelude.{◌≡◌, true, false, None, Some, IfOk, OnOk, OnErr, IfErr};
+ghost use Rattle.validate_resources.specs.Context.{Valid, is_index_type, is_number};
+ghost use Rattle.validation_rules.specs.Access.{memory_address_type as index_of_memory, address_type, narrower_type, is_segment, load_row, store_row};
+ghost use Rattle.validation_rules.specs.Memory.{memory_row};
+ghost use Rattle.validation_rules.specs.Table.{row_operator};
+ghost use Rattle.validate_stacks.specs.State.{context};
 ghost use Rattle.validate_stacks.specs.Visits.{MayVisit, Meets};
+ghost use Rattle.validate_rows.specs.Types.{types_row, AreValid};
 
 use crate::numbers::{number, packed};
-use crate::plain::{check_enabled, check_plain};
+use crate::plain::check_plain;
+use crate::types::{Few, Types, check_types};
 use validate_resources::WasmModuleResources;
 use validate_stacks::Stacks;
-use validate_types::{Error, Gate, ValType};
+use validate_types::{Error, ValType};
 use validate_visit::{MemArg, MemArgTarget, MemoryOp};
-
-/// An operator on memories, by its row.
-pub fn check_memory<R: WasmModuleResources>(
-    stacks: &mut Stacks,
-    resources: &R,
-    offset: u64,
-    op: MemoryOp,
-) -> Result<(), Error>
-    requires { MayVisit (R.context resources.now) stacks.old }
-    ensures { Meets (R.context resources.now) (λ cx. operator cx (Op.Memory op)) offset stacks.old.body
-        result stacks.new.body }
-{
-    let gate = op.gate();
-    match op {
-        MemoryOp::Load(ty, memarg) => {
-            check_access(stacks, resources, offset, gate, memarg, &[], &[number(ty)])
-        }
-        MemoryOp::LoadPacked(part, _, memarg) => {
-            check_access(
-                stacks,
-                resources,
-                offset,
-                gate,
-                memarg,
-                &[],
-                &[packed(part)],
-            )
-        }
-        MemoryOp::Store(ty, memarg) => {
-            check_access(stacks, resources, offset, gate, memarg, &[number(ty)], &[])
-        }
-        MemoryOp::StorePacked(part, memarg) => {
-            check_access(
-                stacks,
-                resources,
-                offset,
-                gate,
-                memarg,
-                &[packed(part)],
-                &[],
-            )
-        }
-        MemoryOp::MemorySize(index) => check_memory_size(stacks, resources, offset, index),
-        MemoryOp::MemoryGrow(index) => check_memory_grow(stacks, resources, offset, index),
-        MemoryOp::MemoryInit { data_index, mem } => check_memory_init(
-            stacks, resources, offset, data_index, mem,
-        ),
-        MemoryOp::DataDrop(index) => check_data_drop(stacks, resources, offset, index),
-        MemoryOp::MemoryCopy { dst_mem, src_mem } => check_memory_copy(
-            stacks, resources, offset, dst_mem, src_mem,
-        ),
-        MemoryOp::MemoryFill(index) => check_memory_fill(stacks, resources, offset, index),
-        MemoryOp::MemoryDiscard(index) => check_memory_discard(stacks, resources, offset, index),
-    }
-}
 
 /// The type of the addresses of a memory, or the refusal of an index past the end (wasmparser's
 /// `check_memory_index`).
+#[inline(always)]
 pub(crate) fn check_memory_index<R: WasmModuleResources>(
     stacks: &Stacks,
     resources: &R,
@@ -90,6 +37,8 @@ pub(crate) fn check_memory_index<R: WasmModuleResources>(
     }
 }
 
+#[cold]
+#[inline(never)]
 fn unknown_memory(stacks: &Stacks, offset: u64, memory_index: u32) -> Error
     ensures { result.offset ≡ offset }
 {
@@ -101,6 +50,7 @@ fn unknown_memory(stacks: &Stacks, offset: u64, memory_index: u32) -> Error
 
 /// The type of the address of a load or a store: its alignment is at most the natural one, and its
 /// offset one that the address allows (wasmparser's `check_memarg_inner`).
+#[inline(always)]
 pub(crate) fn check_memarg<R: WasmModuleResources>(
     stacks: &Stacks,
     resources: &R,
@@ -124,144 +74,6 @@ pub(crate) fn check_memarg<R: WasmModuleResources>(
         return Err(Error::new("offset out of range: must be <= 2**32", offset));
     }
     Ok(index_type)
-}
-
-/// An access over an address, with operands of the types `above` over it: `[it above] -> [pushed]`.
-pub(crate) fn check_access<R: WasmModuleResources>(
-    stacks: &mut Stacks,
-    resources: &R,
-    offset: u64,
-    gate: Gate,
-    memarg: MemArg,
-    above: &[ValType],
-    pushed: &[ValType],
-) -> Result<(), Error>
-    requires visit { MayVisit (R.context resources.now) stacks.old }
-    requires above { AllByRecursion (Valid (R.context resources.now)) above.now }
-    requires pushed { AllByRecursion (Valid (R.context resources.now)) pushed.now }
-    ensures { Meets (R.context resources.now)
-        (λ cx. row_operator (gated_row cx gate
-        (access_row (address_type cx.of_module memarg) above.now pushed.now))) offset stacks.old.body
-        result stacks.new.body }
-{
-    check_enabled(stacks, offset, gate)?;
-    let address = check_memarg(stacks, resources, offset, memarg)?;
-    stacks.pop_types(resources, offset, above)?;
-    stacks.pop_types(resources, offset, &[address])?;
-    stacks.push_types(offset, pushed)
-}
-
-/// `memory.size`: `[] -> [it]`.
-fn check_memory_size<R: WasmModuleResources>(
-    stacks: &mut Stacks,
-    resources: &R,
-    offset: u64,
-    memory_index: u32,
-) -> Result<(), Error>
-    requires { MayVisit (R.context resources.now) stacks.old }
-    ensures { Meets (R.context resources.now) (λ cx. row_operator (memory_size_row cx memory_index))
-        offset stacks.old.body result stacks.new.body }
-{
-    let index_type = check_memory_index(stacks, resources, offset, memory_index)?;
-    check_plain(stacks, resources, offset, Gate::Mvp, &[], &[index_type])
-}
-
-/// `memory.grow`: `[it] -> [it]`.
-fn check_memory_grow<R: WasmModuleResources>(
-    stacks: &mut Stacks,
-    resources: &R,
-    offset: u64,
-    memory_index: u32,
-) -> Result<(), Error>
-    requires { MayVisit (R.context resources.now) stacks.old }
-    ensures { Meets (R.context resources.now) (λ cx. row_operator (memory_grow_row cx memory_index))
-        offset stacks.old.body result stacks.new.body }
-{
-    let index_type = check_memory_index(stacks, resources, offset, memory_index)?;
-    check_plain(
-        stacks,
-        resources,
-        offset,
-        Gate::Mvp,
-        &[index_type],
-        &[index_type],
-    )
-}
-
-/// `memory.fill`: `[it i32 it] -> []`. Its gate is `bulk_memory_opt`.
-fn check_memory_fill<R: WasmModuleResources>(
-    stacks: &mut Stacks,
-    resources: &R,
-    offset: u64,
-    memory_index: u32,
-) -> Result<(), Error>
-    requires { MayVisit (R.context resources.now) stacks.old }
-    ensures { Meets (R.context resources.now)
-        (λ cx. row_operator (gated_row cx BulkMemoryOpt (memory_fill_row cx memory_index))) offset
-        stacks.old.body result stacks.new.body }
-{
-    check_enabled(stacks, offset, Gate::BulkMemoryOpt)?;
-    let index_type = check_memory_index(stacks, resources, offset, memory_index)?;
-    check_plain(
-        stacks,
-        resources,
-        offset,
-        Gate::Mvp,
-        &[index_type, ValType::I32, index_type],
-        &[],
-    )
-}
-
-/// `memory.discard`: `[it it] -> []`. Its gate is `memory_control`.
-fn check_memory_discard<R: WasmModuleResources>(
-    stacks: &mut Stacks,
-    resources: &R,
-    offset: u64,
-    memory_index: u32,
-) -> Result<(), Error>
-    requires { MayVisit (R.context resources.now) stacks.old }
-    ensures { Meets (R.context resources.now)
-        (λ cx. row_operator (gated_row cx MemoryControl (memory_discard_row cx memory_index))) offset
-        stacks.old.body result stacks.new.body }
-{
-    check_enabled(stacks, offset, Gate::MemoryControl)?;
-    let index_type = check_memory_index(stacks, resources, offset, memory_index)?;
-    check_plain(
-        stacks,
-        resources,
-        offset,
-        Gate::Mvp,
-        &[index_type, index_type],
-        &[],
-    )
-}
-
-/// `memory.copy`: `[it(dst) it(src) it] -> []`, the last of 32 bits where one of the others is. Its
-/// gate is `bulk_memory_opt`.
-fn check_memory_copy<R: WasmModuleResources>(
-    stacks: &mut Stacks,
-    resources: &R,
-    offset: u64,
-    dst_mem: u32,
-    src_mem: u32,
-) -> Result<(), Error>
-    requires { MayVisit (R.context resources.now) stacks.old }
-    ensures { Meets (R.context resources.now)
-        (λ cx. row_operator (gated_row cx BulkMemoryOpt (memory_copy_row cx dst_mem src_mem))) offset
-        stacks.old.body result stacks.new.body }
-{
-    check_enabled(stacks, offset, Gate::BulkMemoryOpt)?;
-    let dst = check_memory_index(stacks, resources, offset, dst_mem)?;
-    let src = check_memory_index(stacks, resources, offset, src_mem)?;
-    let length = narrower_of(dst, src);
-    check_plain(
-        stacks,
-        resources,
-        offset,
-        Gate::Mvp,
-        &[dst, src, length],
-        &[],
-    )
 }
 
 /// The type of a length that fits both memories, or both tables.
@@ -310,39 +122,144 @@ fn unknown_data_segment(stacks: &Stacks, offset: u64, data_index: u32) -> Error
     }
 }
 
-/// `memory.init`: `[it i32 i32] -> []` of a data segment that is there. Its gate is `bulk_memory`.
-fn check_memory_init<R: WasmModuleResources>(
-    stacks: &mut Stacks,
+/// What an operator on memories takes and gives, by the memories and segments that it names.
+fn memory_types<R: WasmModuleResources>(
+    stacks: &Stacks,
     resources: &R,
     offset: u64,
-    data_index: u32,
-    memory_index: u32,
-) -> Result<(), Error>
-    requires { MayVisit (R.context resources.now) stacks.old }
-    ensures { Meets (R.context resources.now)
-        (λ cx. row_operator (gated_row cx BulkMemory (memory_init_row cx data_index memory_index)))
-        offset stacks.old.body result stacks.new.body }
+    op: MemoryOp,
+) -> Result<Types, Error>
+    ensures row { IfOk result (λ t. memory_row (context (R.context resources.now) stacks.now.body) op
+        ≡ types_row t) }
+    ensures valid { IfOk result (λ t. AreValid (R.context resources.now) t) }
+    ensures refused { OnErr result
+        ((memory_row (context (R.context resources.now) stacks.now.body) op).premise ≡ false) }
+    ensures offset { IfErr result (λ e. e.offset ≡ offset) }
 {
-    check_enabled(stacks, offset, Gate::BulkMemory)?;
-    let index_type = check_memory_index(stacks, resources, offset, memory_index)?;
-    check_data_segment(stacks, resources, offset, data_index)?;
-    let wanted = [index_type, ValType::I32, ValType::I32];
-    check_plain(stacks, resources, offset, Gate::Mvp, &wanted, &[])
+    let (wanted, pushed) = match op {
+        MemoryOp::Load(ty, memarg) => {
+            let address = check_memarg(stacks, resources, offset, memarg)?;
+            (Few::One(address), Few::One(number(ty)))
+        }
+        MemoryOp::LoadPacked(part, _, memarg) => {
+            let address = check_memarg(stacks, resources, offset, memarg)?;
+            (Few::One(address), Few::One(packed(part)))
+        }
+        MemoryOp::Store(ty, memarg) => {
+            let address = check_memarg(stacks, resources, offset, memarg)?;
+            (Few::Two(address, number(ty)), Few::Zero)
+        }
+        MemoryOp::StorePacked(part, memarg) => {
+            let address = check_memarg(stacks, resources, offset, memarg)?;
+            (Few::Two(address, packed(part)), Few::Zero)
+        }
+        MemoryOp::MemorySize(memory) => {
+            let address = check_memory_index(stacks, resources, offset, memory)?;
+            (Few::Zero, Few::One(address))
+        }
+        MemoryOp::MemoryGrow(memory) => {
+            let address = check_memory_index(stacks, resources, offset, memory)?;
+            (Few::One(address), Few::One(address))
+        }
+        MemoryOp::MemoryInit { data_index, mem } => {
+            let address = check_memory_index(stacks, resources, offset, mem)?;
+            check_data_segment(stacks, resources, offset, data_index)?;
+            (Few::Three(address, ValType::I32, ValType::I32), Few::Zero)
+        }
+        MemoryOp::DataDrop(data_index) => {
+            check_data_segment(stacks, resources, offset, data_index)?;
+            (Few::Zero, Few::Zero)
+        }
+        MemoryOp::MemoryCopy { dst_mem, src_mem } => {
+            let dst = check_memory_index(stacks, resources, offset, dst_mem)?;
+            let src = check_memory_index(stacks, resources, offset, src_mem)?;
+            (Few::Three(dst, src, narrower_of(dst, src)), Few::Zero)
+        }
+        MemoryOp::MemoryFill(memory) => {
+            let address = check_memory_index(stacks, resources, offset, memory)?;
+            (Few::Three(address, ValType::I32, address), Few::Zero)
+        }
+        MemoryOp::MemoryDiscard(memory) => {
+            let address = check_memory_index(stacks, resources, offset, memory)?;
+            (Few::Two(address, address), Few::Zero)
+        }
+    };
+    Ok(Types { wanted, pushed })
 }
 
-/// `data.drop`: `[] -> []` of a data segment that is there. Its gate is `bulk_memory`.
-fn check_data_drop<R: WasmModuleResources>(
+/// The check of an operator on memories by what it takes and gives, its gate aside.
+fn check_memory_types<R: WasmModuleResources>(
     stacks: &mut Stacks,
     resources: &R,
     offset: u64,
-    data_index: u32,
+    op: MemoryOp,
 ) -> Result<(), Error>
     requires { MayVisit (R.context resources.now) stacks.old }
-    ensures { Meets (R.context resources.now)
-        (λ cx. row_operator (gated_row cx BulkMemory (data_drop_row cx data_index))) offset
+    ensures { Meets (R.context resources.now) (λ cx. row_operator (memory_row cx op)) offset
         stacks.old.body result stacks.new.body }
 {
-    check_enabled(stacks, offset, Gate::BulkMemory)?;
-    check_data_segment(stacks, resources, offset, data_index)?;
-    check_plain(stacks, resources, offset, Gate::Mvp, &[], &[])
+    let types = memory_types(stacks, resources, offset, op)?;
+    check_types(stacks, resources, offset, types)
+}
+
+/// A load of a number: `[it] -> [t]`.
+#[inline(always)]
+fn check_load<R: WasmModuleResources>(
+    stacks: &mut Stacks,
+    resources: &R,
+    offset: u64,
+    memarg: MemArg,
+    ty: ValType,
+) -> Result<(), Error>
+    requires visit { MayVisit (R.context resources.now) stacks.old }
+    requires number { is_number ty ≡ true }
+    ensures { Meets (R.context resources.now) (λ cx. row_operator (load_row cx memarg ty)) offset
+        stacks.old.body result stacks.new.body }
+{
+    let address = check_memarg(stacks, resources, offset, memarg)?;
+    check_plain(stacks, resources, offset, &[address], &[ty])
+}
+
+/// A store of a number: `[it t] -> []`.
+#[inline(always)]
+fn check_store<R: WasmModuleResources>(
+    stacks: &mut Stacks,
+    resources: &R,
+    offset: u64,
+    memarg: MemArg,
+    ty: ValType,
+) -> Result<(), Error>
+    requires visit { MayVisit (R.context resources.now) stacks.old }
+    requires number { is_number ty ≡ true }
+    ensures { Meets (R.context resources.now) (λ cx. row_operator (store_row cx memarg ty)) offset
+        stacks.old.body result stacks.new.body }
+{
+    let address = check_memarg(stacks, resources, offset, memarg)?;
+    check_plain(stacks, resources, offset, &[address, ty], &[])
+}
+
+/// The check of an operator on memories, its gate aside. Loads and stores, which are met most, take
+/// their operands without making a value of them first.
+#[inline(always)]
+pub fn check_memory_row<R: WasmModuleResources>(
+    stacks: &mut Stacks,
+    resources: &R,
+    offset: u64,
+    op: MemoryOp,
+) -> Result<(), Error>
+    requires { MayVisit (R.context resources.now) stacks.old }
+    ensures { Meets (R.context resources.now) (λ cx. row_operator (memory_row cx op)) offset
+        stacks.old.body result stacks.new.body }
+{
+    match op {
+        MemoryOp::Load(ty, memarg) => check_load(stacks, resources, offset, memarg, number(ty)),
+        MemoryOp::LoadPacked(part, _, memarg) => {
+            check_load(stacks, resources, offset, memarg, packed(part))
+        }
+        MemoryOp::Store(ty, memarg) => check_store(stacks, resources, offset, memarg, number(ty)),
+        MemoryOp::StorePacked(part, memarg) => {
+            check_store(stacks, resources, offset, memarg, packed(part))
+        }
+        _ => check_memory_types(stacks, resources, offset, op),
+    }
 }

@@ -2,16 +2,16 @@
 
 ghost use Rattle.std.specs.Prelude.{◌≡◌, true, false, [], None, Some, IfOk, OnErr, IfErr};
 ghost use Rattle.validate_types.specs.Gates.{is_open};
-ghost use Rattle.validation_rules.specs.Table.{plain_row, looking_row, drop_pushes, is_selectable, select_result, select_pushes, typed_select_row, row_operator, gated_row};
-ghost use Rattle.validate_types.specs.declared.gate.Gate.TheVariants.{ReferenceTypes};
+ghost use Rattle.validation_rules.specs.Table.{plain_row, looking_row, drop_pushes, is_selectable, select_result, select_pushes, typed_select_row, row_operator};
 ghost use Rattle.validate_stacks.specs.Visits.{step_body, MayVisit, Meets};
 
-use crate::plain::{check_enabled, check_plain};
+use crate::plain::check_plain;
 use validate_resources::WasmModuleResources;
 use validate_stacks::Stacks;
-use validate_types::{Error, Gate, MaybeType, ValType};
+use validate_types::{Error, MaybeType, ValType};
 
 /// `drop`: any one operand. It takes no memory: it is refused only where its row doesn't hold.
+#[inline(always)]
 pub fn check_drop<R: WasmModuleResources>(
     stacks: &mut Stacks,
     resources: &R,
@@ -85,7 +85,7 @@ pub fn check_select<R: WasmModuleResources>(
     }
 }
 
-/// `select` with its type: `[t t i32] -> [t]` of the checked type. Its gate is `reference_types`.
+/// `select` with its type: `[t t i32] -> [t]` of the checked type.
 pub fn check_typed_select<R: WasmModuleResources>(
     stacks: &mut Stacks,
     resources: &R,
@@ -94,17 +94,15 @@ pub fn check_typed_select<R: WasmModuleResources>(
 ) -> Result<(), Error>
     requires { MayVisit (R.context resources.now) stacks.old }
     ensures { Meets (R.context resources.now)
-        (λ cx. row_operator (gated_row cx ReferenceTypes (typed_select_row cx ty))) offset
-        stacks.old.body result stacks.new.body }
+        (λ cx. row_operator (typed_select_row cx ty)) offset stacks.old.body result stacks.new.body }
 {
-    check_enabled(stacks, offset, Gate::ReferenceTypes)?;
     let mut checked = ty;
     resources.check_value_type(&mut checked, &stacks.features(), offset)?;
     let wanted = [checked, checked, ValType::I32];
-    check_plain(stacks, resources, offset, Gate::Mvp, &wanted, &[checked])
+    check_plain(stacks, resources, offset, &wanted, &[checked])
 }
 
-/// `select` with several types: it is never accepted. Its gate is `reference_types`.
+/// `select` with several types: it is never accepted.
 pub fn check_typed_select_multi<R: WasmModuleResources>(
     stacks: &mut Stacks,
     resources: &R,
@@ -112,12 +110,10 @@ pub fn check_typed_select_multi<R: WasmModuleResources>(
 ) -> Result<(), Error>
     requires { MayVisit (R.context resources.now) stacks.old }
     ensures visit { Meets (R.context resources.now)
-        (λ cx. row_operator (gated_row cx ReferenceTypes (plain_row false [] []))) offset
-        stacks.old.body result stacks.new.body }
+        (λ cx. row_operator (plain_row false [] [])) offset stacks.old.body result stacks.new.body }
     ensures memory { IfErr result (λ e. e.memory ≡ false) }
 {
     // The contract alone reads it.
     let _resources = resources;
-    check_enabled(stacks, offset, Gate::ReferenceTypes)?;
     Err(Error::new("invalid result arity", offset))
 }

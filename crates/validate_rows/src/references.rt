@@ -2,11 +2,10 @@
 //! "Reference Instructions" and "Control Instructions").
 
 ghost use Rattle.std.specs.Prelude.{◌≡◌, true, false, [], ◌∷◌, None, Some, IfOk, OnOk, OnErr, IfErr};
-ghost use Rattle.validate_types.specs.declared.gate.Gate.TheVariants.{ReferenceTypes, FunctionReferences};
 ghost use Rattle.validate_resources.specs.Context.{ModuleContext};
 ghost use Rattle.validation_rules.specs.References.{is_null_gate_open, ref_null_row, ref_func_row, without_null, null_test_pushes, non_null_pushes, br_on_null_row, last_reference as ending, br_on_non_null_row};
 ghost use Rattle.validation_rules.specs.Static.{bind};
-ghost use Rattle.validation_rules.specs.Table.{looking_row, row_operator, flat_operator, gated_row};
+ghost use Rattle.validation_rules.specs.Table.{looking_row, row_operator, flat_operator};
 ghost use Rattle.validation_rules.specs.Valid.{OperandIsValid};
 ghost use Rattle.validate_stacks.specs.Attempts.{phase_moved};
 ghost use Rattle.validate_stacks.specs.Pops.{IsKept};
@@ -16,12 +15,12 @@ ghost use Rattle.validate_stacks.specs.Visits.{MayVisit, Meets};
 
 use crate::branches::label;
 use crate::calls::unknown_function;
-use crate::plain::{check_enabled, check_plain};
+use crate::plain::check_plain;
 use validate_resources::WasmModuleResources;
 use validate_resources::uses::laws;
 use validate_stacks::blocks::label_types;
 use validate_stacks::{Stacks, ty_to_str};
-use validate_types::{Error, Gate, HeapType, MaybeType, RefType, UnpackedIndex, ValType};
+use validate_types::{Error, HeapType, MaybeType, RefType, UnpackedIndex, ValType};
 
 /// The gate of the type of null. A type index of 2^20 or more, to which no reference can be made, has none:
 /// a lookup of at most 1,000,000 types refuses it later on.
@@ -42,8 +41,7 @@ fn check_null_gate(stacks: &Stacks, offset: u64, heap_type: HeapType) -> Result<
     }
 }
 
-/// `ref.null`: `[] -> [(ref null h)]` of a heap type h whose gate is open and that is known. Its gate is
-/// `reference_types`.
+/// `ref.null`: `[] -> [(ref null h)]` of a heap type h whose gate is open and that is known.
 pub fn check_ref_null<R: WasmModuleResources>(
     stacks: &mut Stacks,
     resources: &R,
@@ -52,29 +50,19 @@ pub fn check_ref_null<R: WasmModuleResources>(
 ) -> Result<(), Error>
     requires { MayVisit (R.context resources.now) stacks.old }
     ensures { Meets (R.context resources.now)
-        (λ cx. row_operator (gated_row cx ReferenceTypes (ref_null_row cx heap_type))) offset
-        stacks.old.body result stacks.new.body }
+        (λ cx. row_operator (ref_null_row cx heap_type)) offset stacks.old.body result stacks.new.body }
 {
     laws(resources);
-    check_enabled(stacks, offset, Gate::ReferenceTypes)?;
     check_null_gate(stacks, offset, heap_type)?;
     let mut checked = heap_type;
     resources.check_heap_type(&mut checked, offset)?;
     let Some(ty) = RefType::new(true, checked) else {
         unreachable!()
     };
-    check_plain(
-        stacks,
-        resources,
-        offset,
-        Gate::Mvp,
-        &[],
-        &[ValType::Ref(ty)],
-    )
+    check_plain(stacks, resources, offset, &[], &[ValType::Ref(ty)])
 }
 
-/// `ref.func`: `[] -> [(ref t)]` of a function that the module lets be referred to, of the type t. Its gate
-/// is `reference_types`.
+/// `ref.func`: `[] -> [(ref t)]` of a function that the module lets be referred to, of the type t.
 pub fn check_ref_func<R: WasmModuleResources>(
     stacks: &mut Stacks,
     resources: &R,
@@ -83,11 +71,10 @@ pub fn check_ref_func<R: WasmModuleResources>(
 ) -> Result<(), Error>
     requires { MayVisit (R.context resources.now) stacks.old }
     ensures { Meets (R.context resources.now)
-        (λ cx. row_operator (gated_row cx ReferenceTypes (ref_func_row cx function_index))) offset
-        stacks.old.body result stacks.new.body }
+        (λ cx. row_operator (ref_func_row cx function_index)) offset stacks.old.body result
+        stacks.new.body }
 {
     laws(resources);
-    check_enabled(stacks, offset, Gate::ReferenceTypes)?;
     let Some(id) = resources.type_id_of_function(function_index) else {
         return Err(unknown_function(stacks.allocator(), offset, function_index));
     };
@@ -97,14 +84,7 @@ pub fn check_ref_func<R: WasmModuleResources>(
     let Some(ty) = RefType::new(false, HeapType::Concrete(UnpackedIndex::Id(id))) else {
         unreachable!()
     };
-    check_plain(
-        stacks,
-        resources,
-        offset,
-        Gate::Mvp,
-        &[],
-        &[ValType::Ref(ty)],
-    )
+    check_plain(stacks, resources, offset, &[], &[ValType::Ref(ty)])
 }
 
 fn no_reference(stacks: &Stacks, offset: u64, found: ValType) -> Error
@@ -156,7 +136,7 @@ fn pop_non_null_ref<R: WasmModuleResources>(
     reference_without_null(stacks, offset, found)
 }
 
-/// `ref.is_null`: `[r] -> [i32]` of any reference r. Its gate is `reference_types`.
+/// `ref.is_null`: `[r] -> [i32]` of any reference r.
 pub fn check_ref_is_null<R: WasmModuleResources>(
     stacks: &mut Stacks,
     resources: &R,
@@ -164,10 +144,9 @@ pub fn check_ref_is_null<R: WasmModuleResources>(
 ) -> Result<(), Error>
     requires { MayVisit (R.context resources.now) stacks.old }
     ensures { Meets (R.context resources.now)
-        (λ cx. row_operator (gated_row cx ReferenceTypes (looking_row true 1 null_test_pushes))) offset
-        stacks.old.body result stacks.new.body }
+        (λ cx. row_operator (looking_row true 1 null_test_pushes)) offset stacks.old.body result
+        stacks.new.body }
 {
-    check_enabled(stacks, offset, Gate::ReferenceTypes)?;
     pop_non_null_ref(stacks, resources, offset)?;
     stacks.push_types(offset, &[ValType::I32])
 }
@@ -187,8 +166,7 @@ fn push_found(stacks: &mut Stacks, offset: u64, found: MaybeType) -> Result<(), 
     }
 }
 
-/// `ref.as_non_null`: `[r] -> [r]` of any reference r, without its null. Its gate is
-/// `function_references`.
+/// `ref.as_non_null`: `[r] -> [r]` of any reference r, without its null.
 pub fn check_ref_as_non_null<R: WasmModuleResources>(
     stacks: &mut Stacks,
     resources: &R,
@@ -196,16 +174,15 @@ pub fn check_ref_as_non_null<R: WasmModuleResources>(
 ) -> Result<(), Error>
     requires { MayVisit (R.context resources.now) stacks.old }
     ensures { Meets (R.context resources.now)
-        (λ cx. row_operator (gated_row cx FunctionReferences
-        (looking_row true 1 (non_null_pushes cx [])))) offset stacks.old.body result stacks.new.body }
+        (λ cx. row_operator (looking_row true 1 (non_null_pushes cx []))) offset stacks.old.body result
+        stacks.new.body }
 {
-    check_enabled(stacks, offset, Gate::FunctionReferences)?;
     let reference = pop_non_null_ref(stacks, resources, offset)?;
     push_found(stacks, offset, reference)
 }
 
 /// `br_on_null`: `[t r] -> [t r]` of any reference r, which goes on without its null, with the types t of
-/// the label. Its gate is `function_references`.
+/// the label.
 pub fn check_br_on_null<R: WasmModuleResources>(
     stacks: &mut Stacks,
     resources: &R,
@@ -214,10 +191,9 @@ pub fn check_br_on_null<R: WasmModuleResources>(
 ) -> Result<(), Error>
     requires { MayVisit (R.context resources.now) stacks.old }
     ensures { Meets (R.context resources.now)
-        (λ cx. flat_operator (λ hs. gated_row cx FunctionReferences
-        (br_on_null_row cx hs relative_depth))) offset stacks.old.body result stacks.new.body }
+        (λ cx. flat_operator (λ hs. br_on_null_row cx hs relative_depth)) offset stacks.old.body result
+        stacks.new.body }
 {
-    check_enabled(stacks, offset, Gate::FunctionReferences)?;
     let reference = pop_non_null_ref(stacks, resources, offset)?;
     let (block_type, kind) = label(stacks, offset, relative_depth)?;
     let types = label_types(resources, &block_type, kind);
@@ -249,7 +225,7 @@ fn last_reference(types: &[ValType], offset: u64) -> Result<(&[ValType], RefType
 }
 
 /// `br_on_non_null`: `[t (ref null h)] -> [t]`, with the types t of the label but its last, which is a
-/// reference to h. Its gate is `function_references`.
+/// reference to h.
 pub fn check_br_on_non_null<R: WasmModuleResources>(
     stacks: &mut Stacks,
     resources: &R,
@@ -258,13 +234,12 @@ pub fn check_br_on_non_null<R: WasmModuleResources>(
 ) -> Result<(), Error>
     requires { MayVisit (R.context resources.now) stacks.old }
     ensures { Meets (R.context resources.now)
-        (λ cx. flat_operator (λ hs. gated_row cx FunctionReferences
-        (br_on_non_null_row cx hs relative_depth))) offset stacks.old.body result stacks.new.body }
+        (λ cx. flat_operator (λ hs. br_on_non_null_row cx hs relative_depth)) offset
+        stacks.old.body result stacks.new.body }
 {
-    check_enabled(stacks, offset, Gate::FunctionReferences)?;
     let (block_type, kind) = label(stacks, offset, relative_depth)?;
     let types = label_types(resources, &block_type, kind);
     let (others, last) = last_reference(types, offset)?;
     stacks.pop_types(resources, offset, &[ValType::Ref(last.nullable())])?;
-    check_plain(stacks, resources, offset, Gate::Mvp, others, others)
+    check_plain(stacks, resources, offset, others, others)
 }

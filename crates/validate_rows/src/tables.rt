@@ -3,18 +3,19 @@
 ghost use Rattle.std.specs.Prelude.{◌≡◌, true, false, None, Some, IfOk, OnOk, OnErr, IfErr};
 ghost use Rattle.validate_resources.specs.Context.{Valid, is_index_type};
 ghost use Rattle.validate_types.specs.Types.{table_index_type};
-ghost use Rattle.validate_types.specs.declared.gate.Gate.TheVariants.{ReferenceTypes, BulkMemory};
-ghost use Rattle.validation_rules.specs.Table.{row_operator, gated_row};
-ghost use Rattle.validation_rules.specs.Tables.{table_type, table_get_row, table_set_row, table_grow_row, table_size_row, table_fill_row, table_init_row, elem_drop_row, table_copy_row};
+ghost use Rattle.validation_rules.specs.Table.{row_operator};
+ghost use Rattle.validation_rules.specs.Tables.{table_type, table_row};
 ghost use Rattle.validate_stacks.specs.State.{context};
 ghost use Rattle.validate_stacks.specs.Visits.{MayVisit, Meets};
+ghost use Rattle.validate_rows.specs.Types.{types_row, AreValid};
 
 use crate::memory::narrower_of;
-use crate::plain::{check_enabled, check_plain};
+use crate::types::{Few, Types, check_types};
 use validate_resources::WasmModuleResources;
 use validate_resources::uses::laws;
 use validate_stacks::Stacks;
-use validate_types::{Error, Gate, RefType, TableType, ValType};
+use validate_types::{Error, RefType, TableType, ValType};
+use validate_visit::TableOp;
 
 /// The type of a table, which has to be declared, and in a shared function has to be shared
 /// (wasmparser's `table_type_at`).
@@ -104,174 +105,93 @@ fn check_elements<R: WasmModuleResources>(
     }
 }
 
-/// `table.get`: `[it] -> [t]`. Its gate is `reference_types`.
-pub fn check_table_get<R: WasmModuleResources>(
-    stacks: &mut Stacks,
+/// What an operator on tables takes and gives, by the tables and segments that it names.
+fn table_types<R: WasmModuleResources>(
+    stacks: &Stacks,
     resources: &R,
     offset: u64,
-    table: u32,
-) -> Result<(), Error>
-    requires { MayVisit (R.context resources.now) stacks.old }
-    ensures { Meets (R.context resources.now)
-        (λ cx. row_operator (gated_row cx ReferenceTypes (table_get_row cx table))) offset
-        stacks.old.body result stacks.new.body }
+    op: TableOp,
+) -> Result<Types, Error>
+    ensures row { IfOk result (λ t. table_row (context (R.context resources.now) stacks.now.body) op
+        ≡ types_row t) }
+    ensures valid { IfOk result (λ t. AreValid (R.context resources.now) t) }
+    ensures refused { OnErr result
+        ((table_row (context (R.context resources.now) stacks.now.body) op).premise ≡ false) }
+    ensures offset { IfErr result (λ e. e.offset ≡ offset) }
 {
-    check_enabled(stacks, offset, Gate::ReferenceTypes)?;
-    let ty = table_type_at(stacks, resources, offset, table)?;
-    let (index, element) = (ty.index_type(), ValType::Ref(ty.element_type));
-    check_plain(stacks, resources, offset, Gate::Mvp, &[index], &[element])
+    let (wanted, pushed) = match op {
+        TableOp::TableGet(table) => {
+            let ty = table_type_at(stacks, resources, offset, table)?;
+            (
+                Few::One(ty.index_type()),
+                Few::One(ValType::Ref(ty.element_type)),
+            )
+        }
+        TableOp::TableSet(table) => {
+            let ty = table_type_at(stacks, resources, offset, table)?;
+            (
+                Few::Two(ty.index_type(), ValType::Ref(ty.element_type)),
+                Few::Zero,
+            )
+        }
+        TableOp::TableGrow(table) => {
+            let ty = table_type_at(stacks, resources, offset, table)?;
+            let index = ty.index_type();
+            (
+                Few::Two(ValType::Ref(ty.element_type), index),
+                Few::One(index),
+            )
+        }
+        TableOp::TableSize(table) => {
+            let ty = table_type_at(stacks, resources, offset, table)?;
+            (Few::Zero, Few::One(ty.index_type()))
+        }
+        TableOp::TableFill(table) => {
+            let ty = table_type_at(stacks, resources, offset, table)?;
+            let index = ty.index_type();
+            (
+                Few::Three(index, ValType::Ref(ty.element_type), index),
+                Few::Zero,
+            )
+        }
+        TableOp::TableInit { elem_index, table } => {
+            let ty = table_type_at(stacks, resources, offset, table)?;
+            let segment = element_type_at(stacks, resources, offset, elem_index)?;
+            check_elements(resources, offset, segment, ty.element_type)?;
+            (
+                Few::Three(ty.index_type(), ValType::I32, ValType::I32),
+                Few::Zero,
+            )
+        }
+        TableOp::ElemDrop(elem_index) => {
+            element_type_at(stacks, resources, offset, elem_index)?;
+            (Few::Zero, Few::Zero)
+        }
+        TableOp::TableCopy {
+            dst_table,
+            src_table,
+        } => {
+            let src = table_type_at(stacks, resources, offset, src_table)?;
+            let dst = table_type_at(stacks, resources, offset, dst_table)?;
+            check_elements(resources, offset, src.element_type, dst.element_type)?;
+            let (to, from) = (dst.index_type(), src.index_type());
+            (Few::Three(to, from, narrower_of(to, from)), Few::Zero)
+        }
+    };
+    Ok(Types { wanted, pushed })
 }
 
-/// `table.set`: `[it t] -> []`. Its gate is `reference_types`.
-pub fn check_table_set<R: WasmModuleResources>(
+/// The check of an operator on tables, its gate aside.
+pub fn check_table_row<R: WasmModuleResources>(
     stacks: &mut Stacks,
     resources: &R,
     offset: u64,
-    table: u32,
+    op: TableOp,
 ) -> Result<(), Error>
     requires { MayVisit (R.context resources.now) stacks.old }
-    ensures { Meets (R.context resources.now)
-        (λ cx. row_operator (gated_row cx ReferenceTypes (table_set_row cx table))) offset
+    ensures { Meets (R.context resources.now) (λ cx. row_operator (table_row cx op)) offset
         stacks.old.body result stacks.new.body }
 {
-    check_enabled(stacks, offset, Gate::ReferenceTypes)?;
-    let ty = table_type_at(stacks, resources, offset, table)?;
-    let (index, element) = (ty.index_type(), ValType::Ref(ty.element_type));
-    check_plain(stacks, resources, offset, Gate::Mvp, &[index, element], &[])
-}
-
-/// `table.grow`: `[t it] -> [it]`. Its gate is `reference_types`.
-pub fn check_table_grow<R: WasmModuleResources>(
-    stacks: &mut Stacks,
-    resources: &R,
-    offset: u64,
-    table: u32,
-) -> Result<(), Error>
-    requires { MayVisit (R.context resources.now) stacks.old }
-    ensures { Meets (R.context resources.now)
-        (λ cx. row_operator (gated_row cx ReferenceTypes (table_grow_row cx table))) offset
-        stacks.old.body result stacks.new.body }
-{
-    check_enabled(stacks, offset, Gate::ReferenceTypes)?;
-    let ty = table_type_at(stacks, resources, offset, table)?;
-    let (index, element) = (ty.index_type(), ValType::Ref(ty.element_type));
-    check_plain(
-        stacks,
-        resources,
-        offset,
-        Gate::Mvp,
-        &[element, index],
-        &[index],
-    )
-}
-
-/// `table.size`: `[] -> [it]`. Its gate is `reference_types`.
-pub fn check_table_size<R: WasmModuleResources>(
-    stacks: &mut Stacks,
-    resources: &R,
-    offset: u64,
-    table: u32,
-) -> Result<(), Error>
-    requires { MayVisit (R.context resources.now) stacks.old }
-    ensures { Meets (R.context resources.now)
-        (λ cx. row_operator (gated_row cx ReferenceTypes (table_size_row cx table))) offset
-        stacks.old.body result stacks.new.body }
-{
-    check_enabled(stacks, offset, Gate::ReferenceTypes)?;
-    let ty = table_type_at(stacks, resources, offset, table)?;
-    check_plain(
-        stacks,
-        resources,
-        offset,
-        Gate::Mvp,
-        &[],
-        &[ty.index_type()],
-    )
-}
-
-/// `table.fill`: `[it t it] -> []`. Its gate is `reference_types`.
-pub fn check_table_fill<R: WasmModuleResources>(
-    stacks: &mut Stacks,
-    resources: &R,
-    offset: u64,
-    table: u32,
-) -> Result<(), Error>
-    requires { MayVisit (R.context resources.now) stacks.old }
-    ensures { Meets (R.context resources.now)
-        (λ cx. row_operator (gated_row cx ReferenceTypes (table_fill_row cx table))) offset
-        stacks.old.body result stacks.new.body }
-{
-    check_enabled(stacks, offset, Gate::ReferenceTypes)?;
-    let ty = table_type_at(stacks, resources, offset, table)?;
-    let (index, element) = (ty.index_type(), ValType::Ref(ty.element_type));
-    check_plain(
-        stacks,
-        resources,
-        offset,
-        Gate::Mvp,
-        &[index, element, index],
-        &[],
-    )
-}
-
-/// `table.init`: `[it i32 i32] -> []` of a segment whose elements the table can hold. Its gate is
-/// `bulk_memory`.
-pub fn check_table_init<R: WasmModuleResources>(
-    stacks: &mut Stacks,
-    resources: &R,
-    offset: u64,
-    elem_index: u32,
-    table: u32,
-) -> Result<(), Error>
-    requires { MayVisit (R.context resources.now) stacks.old }
-    ensures { Meets (R.context resources.now)
-        (λ cx. row_operator (gated_row cx BulkMemory (table_init_row cx elem_index table))) offset
-        stacks.old.body result stacks.new.body }
-{
-    check_enabled(stacks, offset, Gate::BulkMemory)?;
-    let ty = table_type_at(stacks, resources, offset, table)?;
-    let segment = element_type_at(stacks, resources, offset, elem_index)?;
-    check_elements(resources, offset, segment, ty.element_type)?;
-    let wanted = [ty.index_type(), ValType::I32, ValType::I32];
-    check_plain(stacks, resources, offset, Gate::Mvp, &wanted, &[])
-}
-
-/// `elem.drop`: `[] -> []` of a segment that is there. Its gate is `bulk_memory`.
-pub fn check_elem_drop<R: WasmModuleResources>(
-    stacks: &mut Stacks,
-    resources: &R,
-    offset: u64,
-    elem_index: u32,
-) -> Result<(), Error>
-    requires { MayVisit (R.context resources.now) stacks.old }
-    ensures { Meets (R.context resources.now)
-        (λ cx. row_operator (gated_row cx BulkMemory (elem_drop_row cx elem_index))) offset
-        stacks.old.body result stacks.new.body }
-{
-    check_enabled(stacks, offset, Gate::BulkMemory)?;
-    element_type_at(stacks, resources, offset, elem_index)?;
-    check_plain(stacks, resources, offset, Gate::Mvp, &[], &[])
-}
-
-/// `table.copy`: `[it(dst) it(src) it] -> []`, the last of 32 bits where one of the others is, between
-/// tables of which the first can hold the elements of the second. Its gate is `bulk_memory`.
-pub fn check_table_copy<R: WasmModuleResources>(
-    stacks: &mut Stacks,
-    resources: &R,
-    offset: u64,
-    dst_table: u32,
-    src_table: u32,
-) -> Result<(), Error>
-    requires { MayVisit (R.context resources.now) stacks.old }
-    ensures { Meets (R.context resources.now)
-        (λ cx. row_operator (gated_row cx BulkMemory (table_copy_row cx dst_table src_table))) offset
-        stacks.old.body result stacks.new.body }
-{
-    check_enabled(stacks, offset, Gate::BulkMemory)?;
-    let src = table_type_at(stacks, resources, offset, src_table)?;
-    let dst = table_type_at(stacks, resources, offset, dst_table)?;
-    check_elements(resources, offset, src.element_type, dst.element_type)?;
-    let (to, from) = (dst.index_type(), src.index_type());
-    let wanted = [to, from, narrower_of(to, from)];
-    check_plain(stacks, resources, offset, Gate::Mvp, &wanted, &[])
+    let types = table_types(stacks, resources, offset, op)?;
+    check_types(stacks, resources, offset, types)
 }

@@ -14,6 +14,7 @@ use validate_stacks::Stacks;
 use validate_types::{Error, ValType};
 
 /// The declared type of a local, or the refusal of an index past the end.
+#[inline(always)]
 fn local(stacks: &Stacks, offset: u64, local_index: u32) -> Result<ValType, Error>
     ensures found { IfOk result (λ ty. slice_get stacks.now.body.locals local_index ≡ Some ty) }
     ensures within { OnOk result (local_index < length stacks.now.body.locals) }
@@ -26,6 +27,8 @@ fn local(stacks: &Stacks, offset: u64, local_index: u32) -> Result<ValType, Erro
     }
 }
 
+#[cold]
+#[inline(never)]
 fn unknown_local(stacks: &Stacks, offset: u64, local_index: u32) -> Error
     ensures { result.offset ≡ offset }
 {
@@ -35,6 +38,8 @@ fn unknown_local(stacks: &Stacks, offset: u64, local_index: u32) -> Error
     }
 }
 
+#[cold]
+#[inline(never)]
 fn uninitialized_local(stacks: &Stacks, offset: u64, local_index: u32) -> Error
     ensures { result.offset ≡ offset }
 {
@@ -45,6 +50,7 @@ fn uninitialized_local(stacks: &Stacks, offset: u64, local_index: u32) -> Error
 }
 
 /// Sets a local, with the offset in the refusal.
+#[inline(always)]
 fn set_init(stacks: &mut Stacks, offset: u64, local_index: u32) -> Result<(), Error>
     requires declared { local_index < length stacks.old.body.locals }
     requires set { may_set stacks.old ≡ true }
@@ -61,6 +67,7 @@ fn set_init(stacks: &mut Stacks, offset: u64, local_index: u32) -> Result<(), Er
 }
 
 /// `local.get`: `[] -> [t]` of a local that is set.
+#[inline(always)]
 pub fn check_local_get<R: WasmModuleResources>(
     stacks: &mut Stacks,
     resources: &R,
@@ -81,6 +88,7 @@ pub fn check_local_get<R: WasmModuleResources>(
 }
 
 /// `local.set`: `[t] -> []`, and the local is set.
+#[inline(always)]
 pub fn check_local_set<R: WasmModuleResources>(
     stacks: &mut Stacks,
     resources: &R,
@@ -97,6 +105,7 @@ pub fn check_local_set<R: WasmModuleResources>(
 }
 
 /// `local.tee`: `[t] -> [t]`, and the local is set.
+#[inline(always)]
 pub fn check_local_tee<R: WasmModuleResources>(
     stacks: &mut Stacks,
     resources: &R,

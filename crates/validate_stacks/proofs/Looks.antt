@@ -9,7 +9,7 @@ use Rattle.validation_rules.specs.Fits.{MaybeType, Bottom}
 use Rattle.validation_rules.specs.Static.{Frame, State, heads}
 use Rattle.validate_stacks.specs.Flat.{flat_state, with_heights}
 use Rattle.validation_rules.specs.Pops.{operand_on_top}
-use Rattle.validate_stacks.specs.Steps.{type_and_kind, found_below_in_frames, innermost_operands, body_without_first, frames_owning, body_popped, frames_marked, body_marked, frames_unreachable, body_unreachable}
+use Rattle.validate_stacks.specs.Steps.{type_and_kind, found_below_in_frames, innermost_operands, body_without_first, frames_owning, body_popped, body_marked, frames_unreachable, body_unreachable}
 use Rattle.validate_stacks.specs.State.{BodyState}
 use Rattle.validate_stacks.proofs.Cuts.{state_of}
 

@@ -72,6 +72,7 @@ pub fn label_types<'a, R: WasmModuleResources>(
 impl Stacks {
     /// Opens a frame of this kind over the parameters of its block type (wasmparser's `push_ctrl`).
     /// It refuses for want of memory alone.
+    #[inline(always)]
     pub fn push_ctrl<R: WasmModuleResources>(
         &mut self,
         resources: &R,
@@ -99,6 +100,7 @@ impl Stacks {
     /// Closes the innermost frame, which has to have exactly its results (wasmparser's `pop_ctrl`).
     /// It gives back the frame, or refuses where an operand is missing or of another type, or where one
     /// is left over. Memory is wanted for the text of a refusal and the log of an attempt alone.
+    #[inline(always)]
     pub fn pop_ctrl<R: WasmModuleResources>(
         &mut self,
         resources: &R,

@@ -15,6 +15,7 @@ use validate_types::{Error, MaybeType, ValType};
 impl Stacks {
     /// Pops one operand for each of these types, the last of the list first. Memory is wanted for the
     /// text of a refusal and the log of an attempt alone.
+    #[inline(always)]
     pub fn pop_types<R: WasmModuleResources>(
         &mut self,
         resources: &R,
@@ -85,6 +86,7 @@ impl Stacks {
 
     /// Pushes an operand of each of these types, the first of the list first. It refuses for want of
     /// memory alone.
+    #[inline(always)]
     pub fn push_types(&mut self, offset: u64, types: &[ValType]) -> Result<(), Error>
         ensures pushed { OnOk result (self.new.body ≡ body_pushed_each types.now self.old.body) }
         ensures memory { IfErr result (λ e. e.memory ≡ true) }

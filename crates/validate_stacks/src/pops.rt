@@ -31,6 +31,8 @@ pub fn ty_to_str(ty: ValType) -> &'static str
 }
 
 /// The refusal of an operand that isn't there. Where no type is wanted it takes no memory.
+#[cold]
+#[inline(never)]
 fn nothing_there(alloc: Global, expected: Option<ValType>, offset: u64) -> Error
     ensures offset { result.offset ≡ offset }
     ensures memory { expected ≡ None → result.memory ≡ false }
@@ -49,6 +51,8 @@ fn nothing_there(alloc: Global, expected: Option<ValType>, offset: u64) -> Error
 }
 
 /// The refusal of an operand of another type.
+#[cold]
+#[inline(never)]
 fn mismatch(alloc: Global, expected: ValType, found: ValType, offset: u64) -> Error
     ensures { result.offset ≡ offset }
 {
@@ -61,6 +65,8 @@ fn mismatch(alloc: Global, expected: ValType, found: ValType, offset: u64) -> Er
 }
 
 /// The refusal of a reference where a number or a vector is wanted.
+#[cold]
+#[inline(never)]
 fn reference_found(alloc: Global, expected: ValType, offset: u64) -> Error
     ensures { result.offset ≡ offset }
 {
@@ -75,6 +81,7 @@ impl Stacks {
     /// Pops an operand that fits what is wanted, if anything is. It refuses, at the offset handed in,
     /// where nothing is found or where what is found doesn't fit (and is popped). Memory is wanted for
     /// the text of a refusal and the log of an attempt alone.
+    #[inline(always)]
     pub fn pop_operand<R: WasmModuleResources>(
         &mut self,
         resources: &R,
@@ -103,6 +110,39 @@ impl Stacks {
         ensures memory { self.old.body.undone ≡ None → expected ≡ None
             → IfErr result (λ e. e.memory ≡ false) }
     {
+        match expected {
+            Some(wanted) if self.pop_number(wanted) => Ok(MaybeType::Known(wanted)),
+            _ => self.pop_fitting(resources, offset, expected),
+        }
+    }
+
+    /// [`Stacks::pop_operand`], by the order of types alone.
+    #[inline(never)]
+    fn pop_fitting<R: WasmModuleResources>(
+        &mut self,
+        resources: &R,
+        offset: u64,
+        expected: Option<ValType>,
+    ) -> Result<MaybeType, Error>
+        requires wanted { ForSome expected (Valid (R.context resources.now)) }
+        requires state { IsValid (R.context resources.now) self.old.body }
+        ensures value { IfOk result (λ t. found_in_body self.old.body ≡ Some t) }
+        ensures passed { OnOk result (may_pop (context (R.context resources.now) self.old.body)
+            (found_in_body self.old.body) expected ≡ true) }
+        ensures popped { OnOk result (self.new.body ≡ body_popped self.old.body) }
+        ensures refused { IfErr result (λ e. e.memory ≡ false
+            → may_pop (context (R.context resources.now) self.old.body) (found_in_body self.old.body)
+            expected ≡ false) }
+        ensures left { OnErr result ((self.new.body ≡ self.old.body)
+            ⊎ (self.new.body ≡ body_popped self.old.body)) }
+        ensures phase { phase_moved self.new.phase ≡ phase_moved self.old.phase }
+        ensures offset { IfErr result (λ e. e.offset ≡ offset) }
+        ensures idle { self.old.body.undone ≡ None
+            → OnErr result (may_pop (context (R.context resources.now) self.old.body)
+            (found_in_body self.old.body) expected ≡ false) }
+        ensures memory { self.old.body.undone ≡ None → expected ≡ None
+            → IfErr result (λ e. e.memory ≡ false) }
+    {
         match self.pop_any() {
             Ok(found) => self.check_found(resources, offset, found, expected),
             Err(_) => Err(Error::out_of_memory(offset)),
@@ -110,6 +150,7 @@ impl Stacks {
     }
 
     /// The operand that was found, where it fits what is wanted, if anything is.
+    #[inline(always)]
     pub(crate) fn check_found<R: WasmModuleResources>(
         &self,
         resources: &R,
@@ -148,6 +189,7 @@ impl Stacks {
 
     /// Whether an unknown reference, of which an abstract type may be known, fits what is wanted: with
     /// the sharedness of that.
+    #[inline(never)]
     fn check_unknown<R: WasmModuleResources>(
         &self,
         resources: &R,

@@ -1,14 +1,16 @@
 //! The operands, the open frames and the locals.
 
-ghost use Rattle.std.specs.Prelude.{◌≡◌, ◌≢◌, ◌+◌, ◌<◌, ◌≤◌, true, None, [], length, is_some, IfOk, OnOk, OnErr, IsOk, IsSome, MatchBool, MatchResult, IsTrue, not};
+ghost use Rattle.std.specs.Prelude.{◌≡◌, ◌≢◌, ◌+◌, ◌<◌, ◌≤◌, true, None, Some, [], length, is_some, IfOk, OnOk, OnErr, IsOk, IsSome, MatchBool, MatchResult, IsTrue, not};
 ghost use Rattle.std.specs.Option.{option_copied};
 ghost use Rattle.validate_locals.specs.Limit.{max_locals};
 ghost use Rattle.validate_resources.specs.Context.{ModuleContext};
 ghost use Rattle.validate_transaction.specs.TakeBack.{items_taken_back, CanTakeBack};
 ghost use Rattle.validation_rules.specs.Static.{operand_count, frame_count};
+ghost use Rattle.validation_rules.specs.Fits.{Known};
 ghost use Rattle.validate_stacks.specs.Attempts.{phase_moved, may_attempt, may_frame, may_set, may_unset, stacks_begun, stacks_committed, stacks_rolled_back};
 ghost use Rattle.validate_stacks.specs.Flat.{frames_unmarked, inits_in_frames};
 ghost use Rattle.validate_stacks.specs.Pops.{IsKept};
+ghost use Rattle.validate_stacks.specs.Names.{place_of};
 ghost use Rattle.validate_stacks.specs.State.{IsValid};
 ghost use Rattle.validate_stacks.specs.Steps.{empty_body, innermost_operands, found_in_body, known_type, type_at_depth, frame_at, label_of, found_below_in_body, body_marked, body_unreachable, body_pushed, body_popped, body_with_frame, body_without_frame, is_set_in, body_with_local_set, setting_order, body_with_locals, body_with_params};
 
@@ -155,6 +157,7 @@ impl Stacks {
     }
 
     /// Whether the local at this index isn't set (wasmparser's `is_uninit`).
+    #[inline(always)]
     pub fn is_uninit(&self, local_index: u32) -> bool
         requires { local_index < length self.now.body.locals }
         ensures { result ≡ not (is_set_in self.now.body local_index) }
@@ -183,6 +186,7 @@ impl Stacks {
     }
 
     /// How many operands there are, in all frames.
+    #[inline(always)]
     pub fn operand_stack_height(&self) -> usize
         ensures { result ≡ operand_count self.now.body.present }
     {
@@ -190,6 +194,7 @@ impl Stacks {
     }
 
     /// How many frames are open.
+    #[inline(always)]
     pub fn control_stack_height(&self) -> usize
         ensures { result ≡ frame_count self.now.body.present }
     {
@@ -206,6 +211,7 @@ impl Stacks {
     }
 
     /// The frame at this depth, the innermost at 0, or None past the end.
+    #[inline(always)]
     pub fn get_frame(&self, depth: usize) -> Option<&Frame>
         ensures { option_copied result ≡ frame_at self.now.body depth }
     {
@@ -223,6 +229,7 @@ impl Stacks {
     }
 
     /// Pushes an operand onto the innermost frame. Want of memory changes nothing.
+    #[inline(always)]
     pub fn push_operand(&mut self, ty: MaybeType) -> Result<(), OutOfMemory>
         ensures exact { MatchResult result (λ _. self.new.body ≡ body_pushed ty self.old.body)
             (λ _. self.new ≡ self.old) }
@@ -237,6 +244,7 @@ impl Stacks {
     /// Takes the top own operand of the innermost frame. Below those of a dead frame lie unknown
     /// ones, which are found and stay; None where nothing is found. Want of memory changes nothing, and
     /// there is none where no attempt is pending.
+    #[inline(always)]
     pub(crate) fn pop_any(&mut self) -> Result<Option<MaybeType>, OutOfMemory>
         ensures exact { MatchResult result (λ t. (t ≡ found_in_body self.old.body)
             × (self.new.body ≡ body_popped self.old.body)) (λ _. self.new ≡ self.old) }
@@ -262,7 +270,27 @@ impl Stacks {
         Ok(Some(ty))
     }
 
+    /// Takes the top own operand of the innermost frame where it is this number or vector type. False,
+    /// with nothing changed, where it isn't, or where memory wants.
+    #[inline(always)]
+    pub(crate) fn pop_number(&mut self, wanted: ValType) -> bool
+        ensures exact { MatchBool result ((found_in_body self.old.body ≡ Some (Known wanted))
+            × (self.new.body ≡ body_popped self.old.body)) (self.new ≡ self.old) }
+        ensures phase { phase_moved self.new.phase ≡ phase_moved self.old.phase }
+    {
+        match self.found_at(0) {
+            Some(MaybeType::Known(found)) if is_same_number(found, wanted) => {
+                match self.pop_any() {
+                    Ok(_) => true,
+                    Err(_) => false,
+                }
+            }
+            _ => false,
+        }
+    }
+
     /// What a pop would find below so many others, in the innermost frame.
+    #[inline(always)]
     pub(crate) fn found_at(&self, depth: usize) -> Option<MaybeType>
         ensures { result ≡ found_below_in_body depth self.now.body }
     {
@@ -311,6 +339,7 @@ impl Stacks {
     }
 
     /// How many own operands the innermost frame has.
+    #[inline(always)]
     pub fn own_len(&self) -> usize
         ensures { result ≡ length (innermost_operands self.now.body.present.frames) }
     {
@@ -321,6 +350,7 @@ impl Stacks {
     }
 
     /// Opens a frame with no operands of its own. Want of memory changes nothing.
+    #[inline(always)]
     pub fn push_bare_ctrl(
         &mut self,
         kind: FrameKind,
@@ -348,6 +378,7 @@ impl Stacks {
     /// Closes the innermost frame, which has no operands of its own: the locals that were first set in it
     /// aren't set any more. Want of memory changes nothing, and there is none where no attempt is
     /// pending.
+    #[inline(always)]
     pub fn pop_bare_ctrl(&mut self) -> Result<(), OutOfMemory>
         requires own { innermost_operands self.old.body.present.frames ≡ [] }
         requires frames { may_frame self.old ≡ true }
@@ -452,6 +483,30 @@ fn take_back_frames(
                 }
             }
         }
+    }
+}
+
+/// Whether this is twice the same number or vector type.
+#[inline(always)]
+fn is_same_number(found: ValType, wanted: ValType) -> bool
+    ensures { result ≡ true → found ≡ wanted }
+{
+    let place = place_of(found);
+    place < 5 && place == place_of(wanted)
+}
+
+/// The place of a number or vector type among them, from 0; 5 for every reference.
+#[inline(always)]
+fn place_of(ty: ValType) -> u8
+    ensures { result ≡ place_of ty }
+{
+    match ty {
+        ValType::I32 => 0,
+        ValType::I64 => 1,
+        ValType::F32 => 2,
+        ValType::F64 => 3,
+        ValType::V128 => 4,
+        ValType::Ref(_) => 5,
     }
 }
 

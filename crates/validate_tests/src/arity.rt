@@ -38,13 +38,10 @@ fn height_of<M: ModuleArity>(body: &M) -> u32
 
 #[test]
 fn what_a_body_names(rt: HostRuntime) -> Result<(), Fail> {
-    let setting = Setting {
-        functions: &[1],
-        ..Setting::of(FOUR_TYPES)
-    };
-    let lists = setting.lists(&rt)?;
-    let mut v = setting.validator(&rt, &lists)?;
-    let body = v.with_resources(&lists, 7);
+    let head = format!(in rt.alloc(); "fn 1\n{FOUR_TYPES}")?;
+    let setting = Setting::read(&rt, &head)?;
+    let mut v = setting.validator(&rt)?;
+    let body = v.with_resources(&setting.lists, 7);
     expect_names(&rt, &body);
     assert!(rt; body.sub_type_of_ref_type(&RefType::FUNCREF).is_none());
     assert_eq!(rt; height_of(&body), 1);

@@ -11,8 +11,8 @@ ghost use Rattle.validate_stacks.specs.State.{IsStarting, IsValid};
 ghost use Rattle.validate_stacks.specs.Visits.{MayVisit, Meets};
 ghost use Rattle.wasmparser_validate.specs.Start.{state, stacks_of};
 
-use crate::expect::left_on;
-use crate::ops::read_flat;
+use crate::ops::read_op;
+use crate::run::left_on;
 use crate::seen::Seen;
 use crate::setting::{FOUR_TYPES, Setting};
 use std::process::Abort;
@@ -181,12 +181,12 @@ fn expect_line<R: WasmModuleResources>(
     }
     match written.strip_prefix("try ") {
         Some(written) => {
-            let op = read_flat(rt, written)?;
-            expect_undone(rt, v, lists, op, parts_of(answer))
+            let op = read_op(rt, written)?;
+            expect_undone(rt, v, lists, op.as_op(), parts_of(answer))
         }
         None => {
-            let op = read_flat(rt, written)?;
-            expect_visit(rt, v, lists, op, answer)
+            let op = read_op(rt, written)?;
+            expect_visit(rt, v, lists, op.as_op(), answer)
         }
     }
 }
@@ -210,11 +210,10 @@ fn expect_lines<R: WasmModuleResources>(
 
 /// The same, in a body that takes nothing and gives nothing, with two locals of type `(ref func)`.
 fn expect_attempts(rt: &(impl Abort + AllocGlobal), text: &str) -> Result<(), Fail> {
-    let setting = Setting::of(FOUR_TYPES);
-    let lists = setting.lists(rt)?;
-    let mut v = setting.validator(rt, &lists)?;
-    v.define_locals(0, 2, ValType::Ref(FUNC), &lists)?;
-    expect_lines(rt, &mut v, &lists, text)
+    let setting = Setting::read(rt, FOUR_TYPES)?;
+    let mut v = setting.validator(rt)?;
+    v.define_locals(0, 2, ValType::Ref(FUNC), &setting.lists)?;
+    expect_lines(rt, &mut v, &setting.lists, text)
 }
 
 #[test]
@@ -329,11 +328,10 @@ local.get 1     => 2 2
 /// An attempt that moved something allows no further operator, until it is committed.
 #[test]
 fn an_attempt_is_of_one_operator(rt: HostRuntime) -> Result<(), Fail> {
-    let setting = Setting::of(FOUR_TYPES);
-    let lists = setting.lists(&rt)?;
-    let mut v = setting.validator(&rt, &lists)?;
+    let setting = Setting::read(&rt, FOUR_TYPES)?;
+    let mut v = setting.validator(&rt)?;
     v.begin_try_op();
-    let answer = visit(&mut v, &lists, Op::Control(ControlOp::Return));
+    let answer = visit(&mut v, &setting.lists, Op::Control(ControlOp::Return));
     assert!(rt; answer.is_ok() && v.is_pending() && !v.can_attempt());
     v.commit();
     assert!(rt; v.can_attempt() && !v.is_pending());

@@ -8,9 +8,9 @@ ghost use Rattle.validate_stacks.specs.Pops.{IsKept};
 ghost use Rattle.validate_stacks.specs.State.{IsStarting, IsValid};
 ghost use Rattle.wasmparser_validate.specs.Start.{state};
 
-use crate::ops::FOUR_BYTES;
+use crate::ops::read_op;
 use crate::seen::Seen;
-use crate::setting::MEMORY_32;
+use crate::setting::Setting;
 use bitflags::Flags;
 use std::alloc::AllocError;
 use std::process::Abort;
@@ -18,69 +18,24 @@ use std::test::Fail;
 use wasmparser_validate::operators::{
     OperatorValidator, OperatorValidatorAllocations, try_and_undo, try_op,
 };
-use wasmparser_validate::resources::{ModuleLists, WasmModuleResources};
+use wasmparser_validate::resources::WasmModuleResources;
 use wasmparser_validate::types::{
-    AbstractHeapType, CompositeInnerType, CompositeType, Error, FuncType, HeapType, RefType,
-    SubType, TableType, ValType, WasmFeatures,
+    AbstractHeapType, Error, HeapType, RefType, ValType, WasmFeatures,
 };
-use wasmparser_validate::visit::{
-    AtomicAccess, AtomicOp, BlockType, ControlOp, ConvertOp, IntegerBinaryOp, IntegerType,
-    MemoryOp, NumberType, NumericOp, Op, ReferenceOp, Sign, TableOp,
-};
+use wasmparser_validate::visit::Op;
 
-/// An operator, and how many operands and frames it leaves.
-type Step = (Op<'static>, usize, usize);
-
-const I32_CONST: Op<'static> = Op::Numeric(NumericOp::I32Const(7));
-
-const DROP: Op<'static> = Op::Control(ControlOp::Drop);
-
-const FUNC: HeapType = HeapType::Abstract {
-    shared: false,
-    ty: AbstractHeapType::Func,
+/// `(ref func)`, of which there is no default value.
+const FUNC: RefType = RefType {
+    nullable: false,
+    heap_type: HeapType::Abstract {
+        shared: false,
+        ty: AbstractHeapType::Func,
+    },
 };
 
-/// A table of functions.
-const TABLE: TableType = TableType {
-    element_type: RefType::FUNCREF,
-    table64: false,
-    shared: false,
-};
-
-/// A list of one item. Where memory is wanting it is asked for again.
-fn one<T: Drop>(rt: &impl AllocGlobal, item: T) -> Result<Vec<T>, Error> {
-    let mut list = Vec::new(rt.alloc());
-    if list.reserve(1).is_err() && list.reserve(1).is_err() {
-        return Err(Error::out_of_memory(0));
-    }
-    list.push(item).unwrap();
-    Ok(list)
-}
-
-/// A module with a type `[] -> []`, a memory and a table, both with addresses of 32 bits.
-fn lists_once(rt: &impl AllocGlobal) -> Result<ModuleLists, Error> {
-    let ty = SubType {
-        is_final: true,
-        supertype_idx: None,
-        composite_type: CompositeType {
-            inner: CompositeInnerType::Func(FuncType::new(
-                Vec::new(rt.alloc()),
-                Vec::new(rt.alloc()),
-            )),
-            shared: false,
-        },
-    };
-    ModuleLists::new(
-        rt.alloc(),
-        one(rt, ty)?,
-        Vec::new(rt.alloc()),
-        one(rt, TABLE)?,
-        one(rt, MEMORY_32)?,
-        Vec::new(rt.alloc()),
-        Vec::new(rt.alloc()),
-        None,
-    )
-}
+/// The first lines of a script whose module has a type `[] -> []`, a memory and a table, both with addresses
+/// of 32 bits.
+const HEAD: &str = "type func ->\nmemory\ntable funcref\nfunc 0\n";
 
 /// A validator of a body of type 0.
 fn validator_once<R: WasmModuleResources>(
@@ -168,14 +123,13 @@ fn expect_step<R: WasmModuleResources>(
     rt: &(impl Abort + AllocGlobal),
     v: &mut OperatorValidator,
     lists: &R,
-    step: Step,
+    op: Op<'_>,
 ) -> Result<(), Fail>
     requires idle { (state v.old).undone ≡ None }
     requires valid { IsValid (R.context lists.now) (state v.old) }
     ensures idle { OnOk result ((state v.new).undone ≡ None) }
     ensures valid { OnOk result (IsValid (R.context lists.now) (state v.new)) }
 {
-    let (op, operands, frames) = step;
     let before = seen(rt, v)?;
     if v.control_stack_height() == 0 {
         return Err(Fail::new("a step behind a closed body"));
@@ -187,177 +141,171 @@ fn expect_step<R: WasmModuleResources>(
         before.expect(rt, v);
         assert!(rt; attempt(v, lists, op).is_ok(), "{op:?}");
     }
-    assert_eq!(rt; v.operand_stack_height(), operands, "{op:?}");
-    assert_eq!(rt; v.control_stack_height(), frames, "{op:?}");
     Ok(())
 }
 
-/// These steps in turn.
-fn expect_steps<R: WasmModuleResources>(
+/// The operator of a line, with the numbers of operands and frames that it leaves behind an arrow.
+fn expect_line<R: WasmModuleResources>(
     rt: &(impl Abort + AllocGlobal),
     v: &mut OperatorValidator,
     lists: &R,
-    steps: &[Step],
+    line: &str,
+) -> Result<(), Fail>
+    requires idle { (state v.old).undone ≡ None }
+    requires valid { IsValid (R.context lists.now) (state v.old) }
+    ensures idle { OnOk result ((state v.new).undone ≡ None) }
+    ensures valid { OnOk result (IsValid (R.context lists.now) (state v.new)) }
+{
+    let (written, heights) = line.split_once("=>").unwrap_or((line, ""));
+    let (operands, frames) = heights.trim().split_once(' ').unwrap_or(("", ""));
+    let op = read_op(rt, written)?;
+    expect_step(rt, v, lists, op.as_op())?;
+    assert_eq!(rt; operands.parse(), Ok(v.operand_stack_height()), "{line:?}");
+    assert_eq!(rt; frames.parse(), Ok(v.control_stack_height()), "{line:?}");
+    Ok(())
+}
+
+/// The lines of a text in turn.
+fn expect_lines<R: WasmModuleResources>(
+    rt: &(impl Abort + AllocGlobal),
+    v: &mut OperatorValidator,
+    lists: &R,
+    text: &str,
 ) -> Result<(), Fail>
     requires { IsStarting (R.context lists.now) (state v.old) }
 {
-    for step in steps {
-        expect_step(rt, v, lists, *step)?;
+    for line in text.lines() {
+        if !line.is_empty() {
+            expect_line(rt, v, lists, line)?;
+        }
     }
     Ok(())
 }
 
-/// These steps in turn, in a body that takes nothing and gives nothing, with two locals of type
+/// The lines of a text in turn, in a body that takes nothing and gives nothing, with two locals of type
 /// `(ref func)`.
-fn expect_group(rt: &(impl Abort + AllocGlobal), steps: &[Step]) -> Result<(), Fail> {
-    let lists = match lists_once(rt) {
-        Ok(lists) => lists,
-        Err(_) => lists_once(rt)?,
-    };
-    let mut v = validator(rt, &lists)?;
-    let ty = ValType::Ref(RefType {
-        nullable: false,
-        heap_type: FUNC,
-    });
-    define_two(&mut v, &lists, ty)?;
-    expect_steps(rt, &mut v, &lists, steps)
+fn expect_group(rt: &(impl Abort + AllocGlobal), text: &str) -> Result<(), Fail> {
+    let setting = Setting::read(rt, HEAD)?;
+    let mut v = validator(rt, &setting.lists)?;
+    define_two(&mut v, &setting.lists, ValType::Ref(FUNC))?;
+    expect_lines(rt, &mut v, &setting.lists, text)
 }
 
 #[test]
 fn control(rt: HostRuntime) -> Result<(), Fail> {
-    let steps = [
-        (I32_CONST, 1, 1),
-        (Op::Control(ControlOp::If(BlockType::Empty)), 0, 2),
-        (Op::Control(ControlOp::Nop), 0, 2),
-        (
-            Op::Control(ControlOp::Block(BlockType::Val(ValType::I32))),
-            0,
-            3,
-        ),
-        (I32_CONST, 1, 3),
-        (I32_CONST, 2, 3),
-        (Op::Control(ControlOp::BrIf(0)), 1, 3),
-        (Op::Control(ControlOp::End), 1, 2),
-        (Op::Control(ControlOp::Loop(BlockType::Empty)), 1, 3),
-        (Op::Control(ControlOp::Br(0)), 1, 3),
-        (Op::Control(ControlOp::LocalSet(1)), 1, 3),
-        (Op::Control(ControlOp::LocalSet(0)), 1, 3),
-        (Op::Control(ControlOp::LocalGet(0)), 2, 3),
-        (Op::Control(ControlOp::LocalTee(1)), 2, 3),
-        (DROP, 1, 3),
-        (Op::Control(ControlOp::End), 1, 2),
-        (DROP, 0, 2),
-        (Op::Control(ControlOp::Else), 0, 2),
-        (Op::Control(ControlOp::Unreachable), 0, 2),
-        (Op::Control(ControlOp::Select), 1, 2),
-        (Op::Control(ControlOp::Return), 0, 2),
-        (Op::Control(ControlOp::End), 0, 1),
-        (I32_CONST, 1, 1),
-        (Op::Control(ControlOp::If(BlockType::Empty)), 0, 2),
-        (Op::Control(ControlOp::End), 0, 1),
-        (Op::Control(ControlOp::End), 0, 0),
-    ];
-    expect_group(&rt, &steps)
+    let text = "
+i32.const   => 1 1
+if          => 0 2
+nop         => 0 2
+block i32   => 0 3
+i32.const   => 1 3
+i32.const   => 2 3
+br_if 0     => 1 3
+end         => 1 2
+loop        => 1 3
+br 0        => 1 3
+local.set 1 => 1 3
+local.set 0 => 1 3
+local.get 0 => 2 3
+local.tee 1 => 2 3
+drop        => 1 3
+end         => 1 2
+drop        => 0 2
+else        => 0 2
+unreachable => 0 2
+select      => 1 2
+return      => 0 2
+end         => 0 1
+i32.const   => 1 1
+if          => 0 2
+end         => 0 1
+end         => 0 0
+";
+    expect_group(&rt, text)
 }
 
 #[test]
 fn numbers(rt: HostRuntime) -> Result<(), Fail> {
-    let add = NumericOp::IntegerBinary(IntegerType::I32, IntegerBinaryOp::Add);
-    let steps = [
-        (I32_CONST, 1, 1),
-        (I32_CONST, 2, 1),
-        (I32_CONST, 3, 1),
-        (I32_CONST, 4, 1),
-        (I32_CONST, 5, 1),
-        (I32_CONST, 6, 1),
-        (I32_CONST, 7, 1),
-        (I32_CONST, 8, 1),
-        (I32_CONST, 9, 1),
-        (Op::Numeric(NumericOp::Eqz(IntegerType::I32)), 9, 1),
-        (Op::Numeric(add), 8, 1),
-        (Op::Numeric(NumericOp::I64Const(7)), 9, 1),
-    ];
-    expect_group(&rt, &steps)
+    let text = "
+i32.const 7 => 1 1
+i32.const 7 => 2 1
+i32.const 7 => 3 1
+i32.const 7 => 4 1
+i32.const 7 => 5 1
+i32.const 7 => 6 1
+i32.const 7 => 7 1
+i32.const 7 => 8 1
+i32.const 7 => 9 1
+i32.eqz     => 9 1
+i32.add     => 8 1
+i64.const 7 => 9 1
+";
+    expect_group(&rt, text)
 }
 
 #[test]
 fn conversions(rt: HostRuntime) -> Result<(), Fail> {
-    let steps = [
-        (I32_CONST, 1, 1),
-        (Op::Convert(ConvertOp::Extend(Sign::Signed)), 1, 1),
-        (Op::Convert(ConvertOp::Wrap), 1, 1),
-    ];
-    expect_group(&rt, &steps)
+    expect_group(
+        &rt,
+        "i32.const => 1 1\ni64.extend_i32_s => 1 1\ni32.wrap_i64 => 1 1",
+    )
 }
 
 #[test]
 fn memories(rt: HostRuntime) -> Result<(), Fail> {
-    let steps = [
-        (Op::Memory(MemoryOp::MemorySize(0)), 1, 1),
-        (
-            Op::Memory(MemoryOp::Load(NumberType::I32, FOUR_BYTES)),
-            1,
-            1,
-        ),
-        (I32_CONST, 2, 1),
-        (
-            Op::Memory(MemoryOp::Store(NumberType::I32, FOUR_BYTES)),
-            0,
-            1,
-        ),
-        (I32_CONST, 1, 1),
-        (I32_CONST, 2, 1),
-        (I32_CONST, 3, 1),
-        (Op::Memory(MemoryOp::MemoryFill(0)), 0, 1),
-        (I32_CONST, 1, 1),
-        (Op::Memory(MemoryOp::MemoryGrow(0)), 1, 1),
-    ];
-    expect_group(&rt, &steps)
+    let text = "
+memory.size 0 => 1 1
+i32.load      => 1 1
+i32.const     => 2 1
+i32.store     => 0 1
+i32.const     => 1 1
+i32.const     => 2 1
+i32.const     => 3 1
+memory.fill 0 => 0 1
+i32.const     => 1 1
+memory.grow 0 => 1 1
+";
+    expect_group(&rt, text)
 }
 
 #[test]
 fn atomic_operators(rt: HostRuntime) -> Result<(), Fail> {
-    let access = AtomicAccess::Whole(IntegerType::I32);
-    let steps = [
-        (I32_CONST, 1, 1),
-        (Op::Atomic(AtomicOp::AtomicLoad(access, FOUR_BYTES)), 1, 1),
-        (I32_CONST, 2, 1),
-        (I32_CONST, 3, 1),
-        (
-            Op::Atomic(AtomicOp::AtomicCmpxchg(access, FOUR_BYTES)),
-            1,
-            1,
-        ),
-        (I32_CONST, 2, 1),
-        (Op::Atomic(AtomicOp::AtomicStore(access, FOUR_BYTES)), 0, 1),
-        (Op::Atomic(AtomicOp::Pause), 0, 1),
-    ];
-    expect_group(&rt, &steps)
+    let text = "
+i32.const              => 1 1
+i32.atomic.load        => 1 1
+i32.const              => 2 1
+i32.const              => 3 1
+i32.atomic.rmw.cmpxchg => 1 1
+i32.const              => 2 1
+i32.atomic.store       => 0 1
+pause                  => 0 1
+";
+    expect_group(&rt, text)
 }
 
 #[test]
 fn references(rt: HostRuntime) -> Result<(), Fail> {
-    let steps = [
-        (Op::Reference(ReferenceOp::RefNull(FUNC)), 1, 1),
-        (Op::Reference(ReferenceOp::BrOnNull(0)), 1, 1),
-        (Op::Reference(ReferenceOp::RefAsNonNull), 1, 1),
-        (Op::Control(ControlOp::LocalTee(1)), 1, 1),
-        (Op::Reference(ReferenceOp::RefIsNull), 1, 1),
-        (DROP, 0, 1),
-        (Op::Control(ControlOp::LocalGet(1)), 1, 1),
-    ];
-    expect_group(&rt, &steps)
+    let text = "
+ref.null func   => 1 1
+br_on_null 0    => 1 1
+ref.as_non_null => 1 1
+local.tee 1     => 1 1
+ref.is_null     => 1 1
+drop            => 0 1
+local.get 1     => 1 1
+";
+    expect_group(&rt, text)
 }
 
 #[test]
 fn tables(rt: HostRuntime) -> Result<(), Fail> {
-    let steps = [
-        (Op::Table(TableOp::TableSize(0)), 1, 1),
-        (Op::Table(TableOp::TableGet(0)), 1, 1),
-        (I32_CONST, 2, 1),
-        (Op::Table(TableOp::TableGrow(0)), 1, 1),
-        (Op::Reference(ReferenceOp::RefNull(FUNC)), 2, 1),
-        (Op::Table(TableOp::TableSet(0)), 0, 1),
-    ];
-    expect_group(&rt, &steps)
+    let text = "
+table.size 0  => 1 1
+table.get 0   => 1 1
+i32.const     => 2 1
+table.grow 0  => 1 1
+ref.null func => 2 1
+table.set 0   => 0 1
+";
+    expect_group(&rt, text)
 }

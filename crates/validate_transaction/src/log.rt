@@ -115,6 +115,7 @@ impl RollbackLog {
         }
     }
 
+    #[inline(never)]
     pub fn record_push(&mut self) -> Result<(), OutOfMemory>
         ensures { MatchResult result (λ _. self.new
             ≡ record self.old { operands = None ∷ self.old.operands }) (λ _. self.new ≡ self.old) }
@@ -124,6 +125,7 @@ impl RollbackLog {
         Ok(())
     }
 
+    #[inline(never)]
     pub fn record_pop(&mut self, ty: MaybeType) -> Result<(), OutOfMemory>
         ensures { MatchResult result (λ _. self.new
             ≡ record self.old { operands = Some ty ∷ self.old.operands }) (λ _. self.new ≡ self.old) }
@@ -133,6 +135,7 @@ impl RollbackLog {
         Ok(())
     }
 
+    #[inline(never)]
     pub fn push_ctrl(&mut self) -> Result<(), OutOfMemory>
         ensures { MatchResult result (λ _. self.new
             ≡ record self.old { frames = None ∷ self.old.frames }) (λ _. self.new ≡ self.old) }
@@ -142,6 +145,7 @@ impl RollbackLog {
         Ok(())
     }
 
+    #[inline(never)]
     pub fn pop_ctrl(&mut self, frame: Frame, inits: &[u32]) -> Result<(), OutOfMemory>
         ensures { MatchResult result (λ _. self.new
             ≡ record self.old {

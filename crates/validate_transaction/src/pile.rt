@@ -34,6 +34,7 @@ impl<T> Pile<T> {
         }
     }
 
+    #[inline(always)]
     pub fn len(&self) -> usize
         ensures value { result ≡ length self.now.items }
         ensures within { length self.now.items ≤ self.now.room }
@@ -41,6 +42,7 @@ impl<T> Pile<T> {
         self.vec.len()
     }
 
+    #[inline(always)]
     pub fn is_empty(&self) -> bool
         ensures { result ≡ is_empty self.now.items }
     {
@@ -48,6 +50,7 @@ impl<T> Pile<T> {
     }
 
     /// The item at this depth, the newest at 0.
+    #[inline(always)]
     pub fn get(&self, depth: usize) -> Option<&T>
         ensures { option_copied result ≡ slice_get self.now.items depth }
     {
@@ -60,6 +63,7 @@ impl<T> Pile<T> {
     }
 
     /// Room for one more item.
+    #[inline(always)]
     pub fn take_room(&mut self) -> Result<(), OutOfMemory>
         ensures items { self.new.items ≡ self.old.items }
         ensures never_less { self.old.room ≤ self.new.room }
@@ -71,6 +75,7 @@ impl<T> Pile<T> {
     }
 
     /// Adds an item where there is room.
+    #[inline(always)]
     pub fn put(&mut self, item: T)
     where
         T: Drop,
@@ -82,6 +87,7 @@ impl<T> Pile<T> {
     }
 
     /// Takes the newest item.
+    #[inline(always)]
     pub fn pop(&mut self) -> Option<T>
         ensures items { MatchOption result ((self.old.items ≡ []) × (self.new.items ≡ []))
             (λ x. self.old.items ≡ x ∷ self.new.items) }

@@ -37,6 +37,7 @@ impl Transaction {
     }
 
     /// Whether an attempt is pending that has something to undo, where so many locals are set now.
+    #[inline(always)]
     pub fn has_changes(&self, init_height: usize) -> bool
         ensures { result ≡ has_changes_now init_height self.now }
     {
@@ -58,6 +59,7 @@ impl Transaction {
         *self = Transaction::Active(RollbackLog::new(init_height, allocs));
     }
 
+    #[inline(always)]
     pub fn is_active(&self) -> bool
         ensures { result ≡ is_some (log_of self.now) }
     {
@@ -83,6 +85,7 @@ impl Transaction {
         }
     }
 
+    #[inline(always)]
     pub fn record_push(&mut self) -> Result<(), OutOfMemory>
         ensures exact { MatchResult result (λ _. self.new ≡ with_push self.old) (λ _. self.new ≡ self.old) }
         ensures idle { log_of self.old ≡ None → IsOk result }
@@ -93,6 +96,7 @@ impl Transaction {
         }
     }
 
+    #[inline(always)]
     pub fn record_pop(&mut self, ty: MaybeType) -> Result<(), OutOfMemory>
         ensures exact { MatchResult result (λ _. self.new ≡ with_pop ty self.old) (λ _. self.new ≡ self.old) }
         ensures idle { log_of self.old ≡ None → IsOk result }
@@ -103,6 +107,7 @@ impl Transaction {
         }
     }
 
+    #[inline(always)]
     pub fn push_ctrl(&mut self) -> Result<(), OutOfMemory>
         ensures exact { MatchResult result (λ _. self.new ≡ with_opened self.old) (λ _. self.new ≡ self.old) }
         ensures idle { log_of self.old ≡ None → IsOk result }
@@ -113,6 +118,7 @@ impl Transaction {
         }
     }
 
+    #[inline(always)]
     pub fn pop_ctrl(&mut self, frame: Frame, inits: &[u32]) -> Result<(), OutOfMemory>
         ensures exact { MatchResult result (λ _. self.new ≡ with_closed frame inits.now self.old)
             (λ _. self.new ≡ self.old) }
@@ -124,6 +130,7 @@ impl Transaction {
         }
     }
 
+    #[inline(always)]
     pub fn set_unreachable(&mut self)
         ensures { self.new ≡ with_mark self.old }
     {

@@ -38,6 +38,7 @@ pub enum Gate {
 
 impl Gate {
     /// Whether these features open it.
+    #[inline(always)]
     pub fn is_open(self, features: WasmFeatures) -> bool
         ensures { result ≡ is_open features self }
     {

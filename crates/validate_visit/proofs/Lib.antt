@@ -1,2 +1,3 @@
 mod Reading
 mod LookingBack
+mod Noting

@@ -4,10 +4,11 @@ use Rattle.std.proofs.lemmas.List.{take_more, map-append}
 use Rattle.std.proofs.Math.Bool.{and_assoc, and-true}
 use Rattle.std.proofs.Math.Seq.{split_at}
 use Rattle.validate_visit.specs.declared.frame.FrameKind.{FrameKind}
-use Rattle.validate_visit.specs.declared.frame.FrameKind.TheVariants.{Block, Else}
+use Rattle.validate_visit.specs.declared.frame.FrameKind.TheVariants.{Else}
 use Rattle.validate_visit.specs.declared.op.Op.{Op}
 use Rattle.validate_visit.specs.declared.op.Op.TheVariants.{Control, Numeric, Convert, Memory, Atomic, Reference, Table}
 use Rattle.validate_visit.specs.declared.op.ControlOp.TheVariants.{Nop, Block as BlockOp, Loop as LoopOp, If as IfOp, Else as ElseOp}
+use Rattle.validate_visit.specs.Parts.{outermost, turned, after, parts}
 use Rattle.validate_visit.specs.Order.{Nesting, Flat, Opens, BeginsElse, BeginsCatch, Ends, Delegates, nesting, is_opening, is_closer, begins_else, is_if, is_try, may_catch, catch_kind, is_ordered_from, is_well_ordered_list}
 
 -- the operators of a list with offsets, and what they do to the open parts
@@ -17,27 +18,7 @@ operators ps = map (λ (p : Op × ℕ). p.0) ps
 abbrev pub nestings : List (Op × ℕ) → List Nesting
 nestings ps = map nesting (operators ps)
 
-abbrev pub outermost : List FrameKind
-outermost = Block ∷ []
-
 -- ---- one operator
-
-abbrev pub tail : List FrameKind → List FrameKind
-tail [] = []
-tail (k ∷ ks) = ks
-
-abbrev pub turned : FrameKind → List FrameKind → List FrameKind
-turned j [] = []
-turned j (k ∷ ks) = j ∷ ks
-
--- the open parts after it, wherever it stands
-abbrev pub after : List FrameKind → Nesting → List FrameKind
-after ks Flat = ks
-after ks (Opens kind) = kind ∷ ks
-after ks BeginsElse = turned Else ks
-after ks (BeginsCatch all) = turned (catch_kind all) ks
-after ks Ends = tail ks
-after ks Delegates = tail ks
 
 -- whether it may stand there
 abbrev pub stands : List FrameKind → Nesting → Bool
@@ -84,7 +65,7 @@ length-turned j [] = refl
 length-turned j (k ∷ ks) = refl
 
 -- so many parts are open after it
-counted : (ks : List FrameKind) (n : Nesting) (c m : ℕ) → c ≡ length ks → (is_opening n ≡ true → m ≡ c + 1) → (is_closer n ≡ true → m + 1 ≡ c) → (is_opening n ≡ false → is_closer n ≡ false → m ≡ c) → m ≡ length (after ks n)
+pub counted : (ks : List FrameKind) (n : Nesting) (c m : ℕ) → c ≡ length ks → (is_opening n ≡ true → m ≡ c + 1) → (is_closer n ≡ true → m + 1 ≡ c) → (is_opening n ≡ false → is_closer n ≡ false → m ≡ c) → m ≡ length (after ks n)
 counted ks Flat c m e opens closes stays = stays refl refl ∙ e
 counted ks (Opens kind) c m e opens closes stays = let h = opens refl in omega (arith, e, h)
 counted ks BeginsElse c m e opens closes stays = stays refl refl ∙ e ∙ length-turned Else ks
@@ -95,11 +76,6 @@ counted [] Delegates c m e opens closes stays = let h = closes refl in absurd (o
 counted (k ∷ ks) Delegates c m e opens closes stays = let h = closes refl in omega (arith, e, h)
 
 -- ---- a list
-
--- the open parts after it
-abbrev pub parts : List FrameKind → List Nesting → List FrameKind
-parts ks [] = ks
-parts ks (n ∷ ns) = parts (after ks n) ns
 
 parts-push : (ks : List FrameKind) (ns : List Nesting) (n : Nesting) → parts ks (ns ++ n ∷ []) ≡ after (parts ks ns) n
 parts-push ks [] n = refl

@@ -1,5 +1,5 @@
 -- What a reference names.
-use Rattle.std.specs.Prelude.{Option, Some, None}
+use Rattle.std.specs.Prelude.{Option, None}
 use Rattle.validate_types.specs.Heap.{id_of}
 use Rattle.validate_types.specs.declared.heap.CoreTypeId.{CoreTypeId}
 use Rattle.validate_types.specs.declared.heap.HeapType.{HeapType}

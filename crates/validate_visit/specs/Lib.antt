@@ -1,4 +1,5 @@
 pub mod Order
+pub mod Parts
 pub mod Numbers
 pub mod Gates
 pub mod Immediates

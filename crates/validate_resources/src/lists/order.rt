@@ -109,6 +109,7 @@ fn is_heap_below(types: &[SubType], a: HeapType, b: HeapType) -> bool
 }
 
 /// Whether a reference type is below another.
+#[inline(never)]
 fn is_ref_below(types: &[SubType], a: RefType, b: RefType) -> bool
     ensures { result ≡ ref_below types.now a b }
 {
@@ -117,6 +118,7 @@ fn is_ref_below(types: &[SubType], a: RefType, b: RefType) -> bool
 
 /// Whether a type is below another in the order of types, where both are valid and canonical. It
 /// costs the length of a chain of supertypes, and takes no memory.
+#[inline(always)]
 pub fn is_type_below(types: &[SubType], a: ValType, b: ValType) -> bool
     ensures { result ≡ type_below types.now a b }
 {

@@ -8,7 +8,7 @@ use Rattle.validate_stacks.proofs.Validity.{kept_on}
 use Rattle.validate_body.specs.Start.{state}
 use Rattle.validate_body.proofs.Listed.{IsOrderedBelow, at_place, safe_list}
 use Rattle.opcheck_script.specs.Attempts.{Answer, IsAnswer, Answered, EndsRun, RunsAttempts, accepted_of}
-use Rattle.opcheck_script.specs.Written.{attempts_of}
+use Rattle.script_reader.specs.Written.{attempts_of}
 use Rattle.opcheck_script.proofs.Attempts.{next_answered, accepted_rows, still_ordered, attempted_flat, ends_at, short_of_memory, closed_is}
 use Rattle.opcheck_script.proofs.body.answer_each.Goals as goal
 

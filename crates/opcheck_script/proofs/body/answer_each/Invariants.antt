@@ -6,7 +6,7 @@ use Rattle.validate_stacks.specs.State.{IsValid, context}
 use Rattle.validate_body.specs.Start.{state}
 use Rattle.validate_body.proofs.Listed.{IsOrderedBelow}
 use Rattle.opcheck_script.specs.Attempts.{Answered}
-use Rattle.opcheck_script.specs.Written.{attempts_of}
+use Rattle.script_reader.specs.Written.{attempts_of}
 use Rattle.opcheck_script.proofs.body.answer_each.Given as goal
 
 abbrev pub invariant-loop-index : goal.invariant-loop-index

@@ -2,8 +2,8 @@ use Rattle.std.proofs.Common.{ℕ, sym, ◌∙◌, rules, tests}
 use Rattle.std.proofs.lemmas.Iterator.{YieldsList-from_slice}
 use Rattle.std.proofs.lemmas.Iterator.Search.{any_from_yields_List}
 use Rattle.opcheck_script.specs.Reports.{is_attempted}
-use Rattle.opcheck_script.specs.declared.script.written.WrittenOp.{WrittenOp}
-use Rattle.opcheck_script.proofs.Types.{any-map}
+use Rattle.script_reader.specs.declared.written.WrittenOp.{WrittenOp}
+use Rattle.script_reader.proofs.Lists.{any-map}
 use Rattle.opcheck_script.proofs.body.has_attempts.Goals as goal
 
 pub returns : goal.returns

@@ -1,5 +1,4 @@
 use Rattle.std.proofs.Common.{rules, ◌≡◌, true, refl, sym, ap, ◌∙◌, subst}
-use Rattle.validate_types.specs.declared.gate.Gate.TheVariants.{FunctionReferences}
 use Rattle.validate_types.specs.declared.refs.RefType.{RefType}
 use Rattle.validate_resources.specs.Context.{is_valid_heap}
 use Rattle.validation_rules.specs.References.{last_reference, br_on_non_null_row_for, br_on_non_null_row}
@@ -8,17 +7,10 @@ use Rattle.validation_rules.specs.Table.{lookup_row}
 use Rattle.validation_rules.proofs.Valid.{before_last_valid, last_valid}
 use Rattle.validate_stacks.specs.State.{context}
 use Rattle.validate_rows.proofs.Branching.{label_there, no_label, no_types, label_valid}
-use Rattle.validate_rows.proofs.Calling.{flat_shut, flat_nowhere}
+use Rattle.validate_rows.proofs.Found.{meets_barred}
 use Rattle.validate_rows.proofs.Looking.{on_non_null_missing, on_non_null_rest}
-use Rattle.validate_rows.proofs.Meeting.{meets_none, meets_from, meets_refused}
+use Rattle.validate_rows.proofs.Meeting.{meets_from, meets_refused}
 use Rattle.validate_rows.proofs.references.check_br_on_non_null.Goals as goal
-
-pub returns-in_err-check_enabled : goal.returns-in_err-check_enabled
-returns-in_err-check_enabled g c =
-    let md = g.R.WasmModuleResources.context c.args.resources.now in
-    let v = c.args.stacks.now.body in
-    let none = flat_shut md v FunctionReferences (λ cx hs. br_on_non_null_row cx hs c.args.relative_depth) in
-    meets_none md _ c.args.offset v v _ (search rules) (search (rules, none)) (search rules) c.requires.valid refl
 
 pub returns-in_err-block_type : goal.returns-in_err-block_type
 returns-in_err-block_type g c =
@@ -27,8 +19,8 @@ returns-in_err-block_type g c =
     let cx = context md v in
     let hs = heads v.present.frames in
     let d = c.args.relative_depth in
-    let none = flat_nowhere md v FunctionReferences (λ cx hs. br_on_non_null_row cx hs c.args.relative_depth) c.in_ok-check_enabled.ensures.open (ap (λ ts. lookup_row (last_reference ts) (br_on_non_null_row_for cx hs d)) (no_types cx hs d (no_label hs d c.in_err-block_type.ensures.missing))) in
-    meets_none md _ c.args.offset v v _ (search rules) (search (rules, none)) (search rules) c.requires.valid refl
+    let none = ap (λ ts. (lookup_row (last_reference ts) (br_on_non_null_row_for cx hs d)).premise) (no_types cx hs d (no_label hs d c.in_err-block_type.ensures.missing)) in
+    meets_barred md v (λ cx hs. br_on_non_null_row cx hs d) c.args.offset _ (search rules) (search (rules, none)) (search rules) c.requires.valid
 
 pub returns-in_err-others : goal.returns-in_err-others
 returns-in_err-others g c =
@@ -38,10 +30,9 @@ returns-in_err-others g c =
     let hs = heads v.present.frames in
     let d = c.args.relative_depth in
     let label = label_there cx hs d c.in_ok-block_type.block_type c.in_ok-block_type.kind c.in_ok-block_type.ensures.found in
-    let ts = c.label_types-types.result.now in
     let types = c.label_types-types.ensures cx refl ∙ sym label.1 in
-    let none = flat_nowhere md v FunctionReferences (λ cx hs. br_on_non_null_row cx hs c.args.relative_depth) c.in_ok-check_enabled.ensures.open (ap (λ ts. lookup_row (last_reference ts) (br_on_non_null_row_for cx hs d)) (sym types) ∙ ap (λ o. lookup_row o (br_on_non_null_row_for cx hs d)) c.in_err-others.ensures.refused) in
-    meets_none md _ c.args.offset v v _ (search rules) (search (rules, none)) (search rules) c.requires.valid refl
+    let none = ap (λ o. (lookup_row o (br_on_non_null_row_for cx hs d)).premise) (ap last_reference (sym types) ∙ c.in_err-others.ensures.refused) in
+    meets_barred md v (λ cx hs. br_on_non_null_row cx hs d) c.args.offset _ (search rules) (search (rules, none)) (search rules) c.requires.valid
 
 pub pop_types-requires-clause-types : goal.pop_types-requires-clause-types
 pop_types-requires-clause-types g c =
@@ -73,7 +64,7 @@ returns-in_err-pop_types g c =
     let last = c.in_ok-others.last in
     let with = c.nullable.result in
     let ends = ap last_reference (sym types) ∙ c.in_ok-others.ensures.found in
-    let none = on_non_null_missing md v c.requires.open_frame d others last with c.in_ok-check_enabled.ensures.open label.0 ends c.nullable.ensures in
+    let none = on_non_null_missing md v c.requires.open_frame d others last with label.0 ends c.nullable.ensures in
     meets_refused md _ c.args.offset v c.pop_types.new.self.body _ (search rules) (search (rules, none)) (search rules) c.pop_types.ensures.valid c.pop_types.ensures.kept
 
 pub check_plain-requires-clause-wanted : goal.check_plain-requires-clause-wanted
@@ -123,5 +114,5 @@ returns g c =
     let with = c.nullable.result in
     let ends = ap last_reference (sym types) ∙ c.in_ok-others.ensures.found in
     let u = c.pop_types.new.self.body in
-    let same = on_non_null_rest md v c.requires.open_frame d others last with c.in_ok-check_enabled.ensures.open label.0 ends c.nullable.ensures u c.in_ok-pop_types.ensures.passed in
+    let same = on_non_null_rest md v c.requires.open_frame d others last with label.0 ends c.nullable.ensures u c.in_ok-pop_types.ensures.passed in
     meets_from md _ _ c.args.offset v u c.check_plain.new.stacks.body c.check_plain.result same c.pop_types.ensures.kept c.check_plain.ensures

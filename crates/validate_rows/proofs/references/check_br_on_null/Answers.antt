@@ -1,7 +1,6 @@
 use Rattle.std.proofs.Common.{rules, ◌≡◌, None, reverse, true, false, [], Some, refl, sym, ap, ◌∙◌}
-use Rattle.validate_types.specs.declared.gate.Gate.TheVariants.{FunctionReferences}
 use Rattle.validation_rules.specs.Branches.{has_label, label_types_at}
-use Rattle.validation_rules.specs.References.{br_on_null_row, without_null}
+use Rattle.validation_rules.specs.References.{without_null}
 use Rattle.validation_rules.specs.Static.{bind, heads}
 use Rattle.validate_stacks.specs.State.{BodyState, context}
 use Rattle.validate_stacks.specs.Pops.{body_popped_each}
@@ -9,17 +8,9 @@ use Rattle.validate_stacks.specs.Steps as steps
 use Rattle.validate_stacks.specs.Steps.{body_pushed}
 use Rattle.validate_stacks.proofs.Validity.{kept_on}
 use Rattle.validate_rows.proofs.Branching.{label_there, no_label, label_valid}
-use Rattle.validate_rows.proofs.Calling.{flat_shut}
 use Rattle.validate_rows.proofs.Looking.{on_null_is, unreferenced, above_missing, above_there, label_below}
 use Rattle.validate_rows.proofs.Meeting.{meets_none, meets_starved, meets_last, meets_refused}
 use Rattle.validate_rows.proofs.references.check_br_on_null.Goals as goal
-
-pub returns-in_err-check_enabled : goal.returns-in_err-check_enabled
-returns-in_err-check_enabled g c =
-    let md = g.R.WasmModuleResources.context c.args.resources.now in
-    let v = c.args.stacks.now.body in
-    let none = flat_shut md v FunctionReferences (λ cx hs. br_on_null_row cx hs c.args.relative_depth) in
-    meets_none md _ c.args.offset v v _ (search rules) (search (rules, none)) (search rules) c.requires.valid refl
 
 pub returns-in_err-reference : goal.returns-in_err-reference
 returns-in_err-reference g c =
@@ -28,7 +19,7 @@ returns-in_err-reference g c =
     let cx = context md v in
     let hs = heads v.present.frames in
     let d = c.args.relative_depth in
-    let none = λ (n : bind (steps.found_in_body v) without_null ≡ None). on_null_is md v c.requires.open_frame d (has_label hs d) (label_types_at cx hs d) c.in_ok-check_enabled.ensures.open refl refl ∙ unreferenced md (has_label hs d) (label_types_at cx hs d) v n in
+    let none = λ (n : bind (steps.found_in_body v) without_null ≡ None). on_null_is md v c.requires.open_frame d (has_label hs d) (label_types_at cx hs d) refl refl ∙ unreferenced md (has_label hs d) (label_types_at cx hs d) v n in
     meets_refused md _ c.args.offset v c.pop_non_null_ref.new.stacks.body _ (search rules) (search (rules, none)) (search rules) c.pop_non_null_ref.ensures.valid c.pop_non_null_ref.ensures.kept
 
 pub returns-in_err-block_type : goal.returns-in_err-block_type
@@ -39,7 +30,7 @@ returns-in_err-block_type g c =
     let hs = heads v.present.frames in
     let d = c.args.relative_depth in
     let u = c.pop_non_null_ref.new.stacks.body in
-    let none = on_null_is md v c.requires.open_frame d false (label_types_at cx hs d) c.in_ok-check_enabled.ensures.open (no_label hs d (sym (label_below md [] v u c.in_ok-reference.reference c.in_ok-reference.ensures.given c.in_ok-reference.ensures.popped d) ∙ c.in_err-block_type.ensures.missing)) refl in
+    let none = on_null_is md v c.requires.open_frame d false (label_types_at cx hs d) (no_label hs d (sym (label_below md [] v u c.in_ok-reference.reference c.in_ok-reference.ensures.given c.in_ok-reference.ensures.popped d) ∙ c.in_err-block_type.ensures.missing)) refl in
     meets_none md _ c.args.offset v u _ (search rules) (search (rules, none)) (search rules) c.pop_non_null_ref.ensures.valid c.pop_non_null_ref.ensures.kept
 
 pub pop_types-requires-clause-types : goal.pop_types-requires-clause-types
@@ -70,7 +61,7 @@ returns-in_err-pop_types g c =
     let label = label_there cx hs d c.in_ok-block_type.block_type c.in_ok-block_type.kind found in
     let ts = c.label_types-types.result.now in
     let types = c.label_types-types.ensures cx refl ∙ sym label.1 in
-    let none = λ (n : body_popped_each md (reverse ts) u ≡ None). on_null_is md v c.requires.open_frame d true ts c.in_ok-check_enabled.ensures.open label.0 (sym types) ∙ above_missing md ts v u c.in_ok-reference.reference c.in_ok-reference.ensures.given c.in_ok-reference.ensures.popped n in
+    let none = λ (n : body_popped_each md (reverse ts) u ≡ None). on_null_is md v c.requires.open_frame d true ts label.0 (sym types) ∙ above_missing md ts v u c.in_ok-reference.reference c.in_ok-reference.ensures.given c.in_ok-reference.ensures.popped n in
     meets_refused md _ c.args.offset v w _ (search rules) (search (rules, none)) (search rules) c.pop_types.ensures.valid (kept_on v u w c.pop_non_null_ref.ensures.kept c.pop_types.ensures.kept)
 
 pub returns-in_err-push_types : goal.returns-in_err-push_types
@@ -108,6 +99,6 @@ returns g c =
     let ts = c.label_types-types.result.now in
     let types = c.label_types-types.ensures cx refl ∙ sym label.1 in
     let valid = label_valid md v d ts laws c.requires.valid types in
-    let passes = on_null_is md v c.requires.open_frame d true ts c.in_ok-check_enabled.ensures.open label.0 (sym types) ∙ (above_there md ts v u c.in_ok-reference.reference c.in_ok-reference.ensures.given c.in_ok-reference.ensures.popped w c.in_ok-pop_types.ensures.passed ∙ ap (λ (q : BodyState). Some (body_pushed c.in_ok-reference.reference q)) (sym c.in_ok-push_types.ensures.pushed)) in
+    let passes = on_null_is md v c.requires.open_frame d true ts label.0 (sym types) ∙ (above_there md ts v u c.in_ok-reference.reference c.in_ok-reference.ensures.given c.in_ok-reference.ensures.popped w c.in_ok-pop_types.ensures.passed ∙ ap (λ (q : BodyState). Some (body_pushed c.in_ok-reference.reference q)) (sym c.in_ok-push_types.ensures.pushed)) in
     meets_last md _ c.args.offset v z (body_pushed c.in_ok-reference.reference x) c.push_found.result (λ q. passes ∙ ap Some (sym q)) c.push_found.ensures.pushed c.push_found.ensures.memory c.push_found.ensures.offset
     (c.push_found.ensures.valid md c.in_ok-reference.ensures.operand (c.push_types.ensures.valid md valid c.pop_types.ensures.valid)) (kept_on v x z (kept_on v w x (kept_on v u w c.pop_non_null_ref.ensures.kept c.pop_types.ensures.kept) c.push_types.ensures.kept) c.push_found.ensures.kept)

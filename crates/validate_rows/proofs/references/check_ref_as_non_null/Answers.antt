@@ -1,28 +1,19 @@
 use Rattle.std.proofs.Common.{rules, ◌≡◌, None, true, [], Some, refl, sym, ap, ◌∙◌}
-use Rattle.validate_types.specs.declared.gate.Gate.TheVariants.{FunctionReferences}
-use Rattle.validation_rules.specs.References.{non_null_pushes, without_null}
+use Rattle.validation_rules.specs.References.{without_null}
 use Rattle.validation_rules.specs.Static.{bind}
-use Rattle.validation_rules.specs.Table.{looking_row}
 use Rattle.validate_stacks.specs.Steps as steps
 use Rattle.validate_stacks.specs.Steps.{body_pushed}
 use Rattle.validate_stacks.proofs.Validity.{kept_on}
-use Rattle.validate_rows.proofs.Addresses.{shut}
-use Rattle.validate_rows.proofs.Looking.{non_null_is, unreferenced, above_there}
-use Rattle.validate_rows.proofs.Meeting.{meets_none, meets_refused, meets_last}
+use Rattle.validate_stacks.proofs.Whole.{popped_none}
+use Rattle.validate_rows.proofs.Looking.{above_is, unreferenced, above_there}
+use Rattle.validate_rows.proofs.Meeting.{meets_refused, meets_last}
 use Rattle.validate_rows.proofs.references.check_ref_as_non_null.Goals as goal
-
-pub returns-in_err-check_enabled : goal.returns-in_err-check_enabled
-returns-in_err-check_enabled g c =
-    let md = g.R.WasmModuleResources.context c.args.resources.now in
-    let v = c.args.stacks.now.body in
-    let none = shut md v FunctionReferences (λ cx. looking_row true 1 (non_null_pushes cx [])) in
-    meets_none md _ c.args.offset v v _ (search rules) (search (rules, none)) (search rules) c.requires.valid refl
 
 pub returns-in_err-reference : goal.returns-in_err-reference
 returns-in_err-reference g c =
     let md = g.R.WasmModuleResources.context c.args.resources.now in
     let v = c.args.stacks.now.body in
-    let none = λ (n : bind (steps.found_in_body v) without_null ≡ None). non_null_is md v c.requires.open_frame c.in_ok-check_enabled.ensures.open ∙ unreferenced md true [] v n in
+    let none = λ (n : bind (steps.found_in_body v) without_null ≡ None). above_is md v c.requires.open_frame true [] [] ∙ unreferenced md true [] v n in
     meets_refused md _ c.args.offset v c.pop_non_null_ref.new.stacks.body _ (search rules) (search (rules, none)) (search rules) c.pop_non_null_ref.ensures.valid c.pop_non_null_ref.ensures.kept
 
 pub returns : goal.returns
@@ -31,6 +22,6 @@ returns g c =
     let v = c.args.stacks.now.body in
     let u = c.pop_non_null_ref.new.stacks.body in
     let w = c.push_found.new.stacks.body in
-    let passes = non_null_is md v c.requires.open_frame c.in_ok-check_enabled.ensures.open ∙ above_there md [] v u c.in_ok-reference.reference c.in_ok-reference.ensures.given c.in_ok-reference.ensures.popped u refl in
+    let passes = above_is md v c.requires.open_frame true [] [] ∙ above_there md [] v u c.in_ok-reference.reference c.in_ok-reference.ensures.given c.in_ok-reference.ensures.popped u (popped_none md u) in
     meets_last md _ c.args.offset v w (body_pushed c.in_ok-reference.reference u) c.push_found.result (λ q. passes ∙ ap Some (sym q)) c.push_found.ensures.pushed c.push_found.ensures.memory c.push_found.ensures.offset
     (c.push_found.ensures.valid md c.in_ok-reference.ensures.operand c.pop_non_null_ref.ensures.valid) (kept_on v u w c.pop_non_null_ref.ensures.kept c.push_found.ensures.kept)

@@ -1,6 +1,5 @@
-use Rattle.std.proofs.Common.{rules, true, false, [], ◌∷◌, refl, sym, ap, ◌∙◌}
+use Rattle.std.proofs.Common.{rules, true, false, [], ◌∷◌, sym, ap, ◌∙◌}
 use Rattle.validate_types.specs.Refs.{reference}
-use Rattle.validate_types.specs.declared.gate.Gate.TheVariants.{ReferenceTypes}
 use Rattle.validate_types.specs.declared.heap.CoreTypeId.{CoreTypeId}
 use Rattle.validate_types.specs.declared.heap.HeapType.TheVariants.{Concrete}
 use Rattle.validate_types.specs.declared.heap.UnpackedIndex.TheVariants.{Id}
@@ -8,32 +7,19 @@ use Rattle.validate_types.specs.declared.refs.RefType.{RefType}
 use Rattle.validation_rules.specs.Context.{Ref}
 use Rattle.validation_rules.specs.References.{ref_func_row}
 use Rattle.validation_rules.specs.Table.{plain_row, lookup_row}
-use Rattle.validate_rows.proofs.Addresses.{shut, opened_as, nowhere, hindered}
+use Rattle.validate_rows.proofs.Found.{meets_barred, meets_found}
 use Rattle.validate_rows.proofs.Reaching.{not_made, made_is}
-use Rattle.validate_rows.proofs.Meeting.{meets_none, meets_as}
 use Rattle.validate_rows.proofs.references.check_ref_func.Goals as goal
-
-pub returns-in_err-check_enabled : goal.returns-in_err-check_enabled
-returns-in_err-check_enabled g c =
-    let md = g.R.WasmModuleResources.context c.args.resources.now in
-    let v = c.args.stacks.now.body in
-    let none = shut md v ReferenceTypes (λ cx. ref_func_row cx c.args.function_index) in
-    meets_none md _ c.args.offset v v _ (search rules) (search (rules, none)) (search rules) c.requires.valid refl
 
 pub returns-in_default : goal.returns-in_default
 returns-in_default g c =
     let md = g.R.WasmModuleResources.context c.args.resources.now in
-    let v = c.args.stacks.now.body in
-    let none = nowhere md v ReferenceTypes (λ cx. ref_func_row cx c.args.function_index) c.in_ok-check_enabled.ensures.open (ap (λ o. lookup_row o (λ (id : CoreTypeId). plain_row (md.is_referenced c.args.function_index) [] (Ref (reference false (Concrete (Id id))) ∷ []))) (sym c.type_id_of_function.ensures ∙ c.in_default.is)) in
-    meets_none md _ c.args.offset v v _ (search rules) (search (rules, none)) (search rules) c.requires.valid refl
+    meets_barred md c.args.stacks.now.body (λ cx hs. ref_func_row cx c.args.function_index) c.args.offset _ (search rules) (search rules) (search rules) c.requires.valid
 
 pub returns-then-not-is_function_referenced : goal.returns-then-not-is_function_referenced
 returns-then-not-is_function_referenced g c =
     let md = g.R.WasmModuleResources.context c.args.resources.now in
-    let v = c.args.stacks.now.body in
-    let ps = Ref (reference false (Concrete (Id c.in-Some.id))) ∷ [] in
-    let none = hindered md v ReferenceTypes (λ cx. ref_func_row cx c.args.function_index) [] ps c.in_ok-check_enabled.ensures.open (ap (λ o. lookup_row o (λ (id : CoreTypeId). plain_row (md.is_referenced c.args.function_index) [] (Ref (reference false (Concrete (Id id))) ∷ []))) (sym c.type_id_of_function.ensures ∙ c.in-Some.is) ∙ ap (λ b. plain_row b [] ps) (sym c.is_function_referenced.ensures ∙ c.if-not-is_function_referenced.true)) in
-    meets_none md _ c.args.offset v v _ (search rules) (search (rules, none)) (search rules) c.requires.valid refl
+    meets_barred md c.args.stacks.now.body (λ cx hs. ref_func_row cx c.args.function_index) c.args.offset _ (search rules) (search rules) (search rules) c.requires.valid
 
 pub unreachable-requires : goal.unreachable-requires
 unreachable-requires g c =
@@ -48,4 +34,4 @@ returns g c =
     let ps = Ref (reference false (Concrete (Id c.in-Some.id))) ∷ [] in
     let fits = (laws.functions c.args.function_index c.in-Some.id (sym c.type_id_of_function.ensures ∙ c.in-Some.is)).fits in
     let there = ap (λ o. lookup_row o (λ (id : CoreTypeId). plain_row (md.is_referenced c.args.function_index) [] (Ref (reference false (Concrete (Id id))) ∷ []))) (sym c.type_id_of_function.ensures ∙ c.in-Some.is) ∙ (ap (λ b. plain_row b [] ps) (sym c.is_function_referenced.ensures ∙ c.if-not-is_function_referenced.false) ∙ ap (λ (r : RefType). plain_row true [] (Ref r ∷ [])) (made_is (Concrete (Id c.in-Some.id)) false c.in-Some-new.ty fits (sym c.new-2.ensures ∙ c.in-Some-new.is))) in
-    meets_as md _ _ c.args.offset v c.check_plain.new.stacks.body c.check_plain.result (opened_as md v ReferenceTypes (λ cx. ref_func_row cx c.args.function_index) (plain_row true [] (Ref c.in-Some-new.ty ∷ [])) c.in_ok-check_enabled.ensures.open there) c.check_plain.ensures
+    meets_found md c.args.stacks.now.body (λ cx hs. ref_func_row cx c.args.function_index) c.args.offset (λ cx hs. plain_row true [] (Ref c.in-Some-new.ty ∷ [])) _ _ there c.check_plain.ensures

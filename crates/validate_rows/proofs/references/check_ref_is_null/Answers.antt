@@ -1,33 +1,22 @@
 use Rattle.std.proofs.Common.{rules, ◌≡◌, None, Some, refl, sym, ap, ◌∙◌}
 use Rattle.std.specs.Option.{option_map}
-use Rattle.validate_types.specs.declared.gate.Gate.TheVariants.{ReferenceTypes}
 use Rattle.validation_rules.specs.Context.{I32}
 use Rattle.validation_rules.specs.Fits.{MaybeType, Known}
-use Rattle.validation_rules.specs.References.{null_test_pushes, without_null}
+use Rattle.validation_rules.specs.References.{without_null}
 use Rattle.validation_rules.specs.Static.{bind}
-use Rattle.validation_rules.specs.Table.{looking_row}
-use Rattle.std.proofs.Common.{true}
 use Rattle.validate_stacks.specs.State.{BodyState}
 use Rattle.validate_stacks.specs.Steps as steps
 use Rattle.validate_stacks.specs.Steps.{body_popped, body_pushed}
 use Rattle.validate_stacks.proofs.Validity.{kept_on}
-use Rattle.validate_rows.proofs.Addresses.{shut}
-use Rattle.validate_rows.proofs.Looking.{tested_is}
-use Rattle.validate_rows.proofs.Meeting.{meets_none, meets_refused, meets_last}
+use Rattle.validate_rows.proofs.Looking.{null_is}
+use Rattle.validate_rows.proofs.Meeting.{meets_refused, meets_last}
 use Rattle.validate_rows.proofs.references.check_ref_is_null.Goals as goal
-
-pub returns-in_err-check_enabled : goal.returns-in_err-check_enabled
-returns-in_err-check_enabled g c =
-    let md = g.R.WasmModuleResources.context c.args.resources.now in
-    let v = c.args.stacks.now.body in
-    let none = shut md v ReferenceTypes (λ cx. looking_row true 1 null_test_pushes) in
-    meets_none md _ c.args.offset v v _ (search rules) (search (rules, none)) (search rules) c.requires.valid refl
 
 pub returns-in_err-pop_non_null_ref : goal.returns-in_err-pop_non_null_ref
 returns-in_err-pop_non_null_ref g c =
     let md = g.R.WasmModuleResources.context c.args.resources.now in
     let v = c.args.stacks.now.body in
-    let none = λ (n : bind (steps.found_in_body v) without_null ≡ None). tested_is md v c.requires.open_frame c.in_ok-check_enabled.ensures.open ∙ ap (option_map (λ (y : MaybeType). body_pushed (Known I32) (body_popped v))) n in
+    let none = λ (n : bind (steps.found_in_body v) without_null ≡ None). null_is md v c.requires.open_frame ∙ ap (option_map (λ (y : MaybeType). body_pushed (Known I32) (body_popped v))) n in
     meets_refused md _ c.args.offset v c.pop_non_null_ref.new.stacks.body _ (search rules) (search (rules, none)) (search rules) c.pop_non_null_ref.ensures.valid c.pop_non_null_ref.ensures.kept
 
 pub returns : goal.returns
@@ -36,6 +25,6 @@ returns g c =
     let v = c.args.stacks.now.body in
     let u = c.pop_non_null_ref.new.stacks.body in
     let w = c.push_types.new.self.body in
-    let passes = tested_is md v c.requires.open_frame c.in_ok-check_enabled.ensures.open ∙ (ap (option_map (λ (y : MaybeType). body_pushed (Known I32) (body_popped v))) c.in_ok-pop_non_null_ref.ensures.given ∙ ap (λ (q : BodyState). Some (body_pushed (Known I32) q)) (sym c.in_ok-pop_non_null_ref.ensures.popped)) in
+    let passes = null_is md v c.requires.open_frame ∙ (ap (option_map (λ (y : MaybeType). body_pushed (Known I32) (body_popped v))) c.in_ok-pop_non_null_ref.ensures.given ∙ ap (λ (q : BodyState). Some (body_pushed (Known I32) q)) (sym c.in_ok-pop_non_null_ref.ensures.popped)) in
     meets_last md _ c.args.offset v w (body_pushed (Known I32) u) c.push_types.result (λ q. passes ∙ ap Some (sym q)) c.push_types.ensures.pushed c.push_types.ensures.memory c.push_types.ensures.offset
     (c.push_types.ensures.valid md (refl, tt) c.pop_non_null_ref.ensures.valid) (kept_on v u w c.pop_non_null_ref.ensures.kept c.push_types.ensures.kept)

@@ -1,0 +1,33 @@
+//! What the program's words choose.
+
+use crate::failure::Failure;
+use std::env;
+
+/// What the words choose.
+#[derive(Clone, Copy, Debug, PartialEq, Eq)]
+pub struct Choice {
+    /// How often each way is run.
+    pub runs: u32,
+    /// Whether the times are left out.
+    pub untimed: bool,
+}
+
+/// Reads the program's words.
+pub fn read_choice(rt: &HostRuntime) -> Result<Choice, Failure> {
+    let mut choice = Choice {
+        runs: 20,
+        untimed: false,
+    };
+    let mut words = env::args(rt).map_err(|_| Failure::Host)?.skip(1);
+    while let Some(word) = words.next() {
+        match word.as_str() {
+            "--untimed" => choice.untimed = true,
+            "--runs" => {
+                let runs = words.next().ok_or(Failure::Words)?;
+                choice.runs = runs.parse().map_err(|_| Failure::Words)?;
+            }
+            _ => return Err(Failure::Words),
+        }
+    }
+    Ok(choice)
+}

@@ -1,0 +1,93 @@
+//! `opcheck_bench`: how long the validator takes for the body of a script, in the process.
+//!
+//! It reads a script from the standard input, as `opcheck` does, and checks its body many times: by
+//! `check_ops`, which notes the heights, and by single visits, those of `try` lines attempted. For each
+//! way it prints the best time, in nanoseconds an operator, and how many operators there are.
+//!
+//! `--runs N` says how often (20, if nothing is said), and `--untimed` leaves the times out.
+#![tactic(auto)]
+
+mod choice;
+mod failure;
+mod measure;
+
+use crate::choice::{Choice, read_choice};
+use crate::failure::Failure;
+use crate::measure::{Subject, Way, best_time};
+use opcheck_script::module_lists;
+use script_reader::{Script, borrowed_ops, read_script};
+use std::io::Read;
+use std::process::ExitCode;
+use std::str;
+
+/// Reads the script whole.
+fn read(rt: &HostRuntime) -> Result<Script, Failure> {
+    let mut bytes = Vec::new(rt.alloc());
+    rt.stdin()
+        .read_to_end(&mut bytes)
+        .map_err(|_| Failure::Script)?;
+    let text = str::from_utf8(&bytes).map_err(|_| Failure::Script)?;
+    read_script(rt.alloc(), text).map_err(|_| Failure::Script)
+}
+
+/// Prints the line of one way.
+fn report(
+    rt: &HostRuntime,
+    choice: Choice,
+    way: Way,
+    best: u128,
+    count: usize,
+) -> Result<(), Failure> {
+    let name = way.name();
+    if choice.untimed || count == 0 {
+        println!(rt; "{name}: {count} operators").map_err(|_| Failure::Host)?;
+        return Ok(());
+    }
+    let hundredths = best.saturating_mul(100) / count as u128;
+    let whole = hundredths / 100;
+    let tenths = hundredths % 100 / 10;
+    let rest = hundredths % 10;
+    println!(rt; "{name}: {whole}.{tenths}{rest} ns, {count} operators").map_err(
+        |_| Failure::Host,
+    )?;
+    Ok(())
+}
+
+/// Measures each way that the body of the script is checked.
+fn run(rt: &HostRuntime) -> Result<(), Failure> {
+    let alloc = rt.alloc();
+    let choice = read_choice(rt)?;
+    let Script {
+        features,
+        declarations,
+        body,
+        locals,
+        operators,
+    } = read(rt)?;
+    let lists = module_lists(alloc, declarations).map_err(|_| Failure::Script)?;
+    let ops = borrowed_ops(alloc, &operators).map_err(|_| Failure::Host)?;
+    let subject = Subject {
+        alloc,
+        lists: &lists,
+        features: &features,
+        body,
+        locals: &locals,
+        written: &operators,
+        ops: &ops,
+    };
+    for way in [Way::CheckOps, Way::Visits] {
+        let best = best_time(rt, way, subject, choice.runs)?;
+        report(rt, choice, way, best, ops.len())?;
+    }
+    Ok(())
+}
+
+fn main(rt: HostRuntime) -> ExitCode {
+    match run(&rt) {
+        Ok(()) => ExitCode::SUCCESS,
+        Err(failure) => {
+            let _ = eprintln!(rt; "{}", failure.text());
+            ExitCode::from(failure.status())
+        }
+    }
+}

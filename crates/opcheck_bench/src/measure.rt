@@ -1,0 +1,163 @@
+//! Checking a body, and the best time of many.
+
+ghost use Rattle.std.specs.Prelude.{◌≡◌, true, None};
+ghost use Rattle.std.specs.List.{list_all};
+ghost use Rattle.validate_visit.specs.Immediates.{module_immediates};
+ghost use Rattle.validate_visit.specs.Order.{is_well_ordered_list};
+ghost use Rattle.validate_body.specs.Runs.{operators};
+ghost use Rattle.validate_body.specs.Start.{state, stacks_of};
+ghost use Rattle.validation_rules.specs.Table.{operator};
+ghost use Rattle.validate_stacks.specs.Visits.{MayVisit, Meets};
+ghost use Rattle.validate_stacks.specs.State.{IsStarting};
+
+use crate::failure::Failure;
+use opcheck_script::begin_body;
+use script_reader::{BodyLine, LocalLine, WrittenOp};
+use std::alloc::Global;
+use std::time::Instant;
+use validate_body::{OperatorValidator, check_ops, try_op};
+use validate_resources::{ModuleLists, WasmModuleResources};
+use validate_types::{Error, WasmFeatures};
+use validate_visit::{Op, has_module_immediates, is_well_ordered};
+
+/// A body, in its module.
+#[derive(Clone, Copy)]
+pub struct Subject<'a> {
+    /// With what the validator is made.
+    pub alloc: Global,
+    /// The module.
+    pub lists: &'a ModuleLists,
+    /// The proposals that are on.
+    pub features: &'a WasmFeatures,
+    /// The `func` or `expr` line.
+    pub body: BodyLine,
+    /// The `local` lines.
+    pub locals: &'a [LocalLine],
+    /// The operators, as they were written.
+    pub written: &'a [(WrittenOp, u64)],
+    /// The operators.
+    pub ops: &'a [(Op<'a>, u64)],
+}
+
+/// How a body is checked.
+#[derive(Clone, Copy, Debug, PartialEq, Eq)]
+pub enum Way {
+    /// By `check_ops`.
+    CheckOps,
+    /// By single visits, those of `try` lines attempted.
+    Visits,
+}
+
+impl Way {
+    /// Its name.
+    pub fn name(self) -> &'static str {
+        match self {
+            Way::CheckOps => "check_ops",
+            Way::Visits => "visits",
+        }
+    }
+}
+
+/// The best time of so many runs, in nanoseconds. It fails where the body isn't accepted.
+pub fn best_time(
+    rt: &HostRuntime,
+    way: Way,
+    subject: Subject<'_>,
+    runs: u32,
+) -> Result<u128, Failure> {
+    if !is_well_ordered(subject.ops) || !have_module_immediates(subject.ops) {
+        return Err(Failure::Script);
+    }
+    let mut heights = Vec::new(subject.alloc);
+    let mut best = u128::MAX;
+    for _ in 0..runs {
+        best = best.min(time(rt, way, subject, &mut heights)?);
+    }
+    Ok(best)
+}
+
+/// Whether the immediates are those of a module.
+fn have_module_immediates(ops: &[(Op<'_>, u64)]) -> bool
+    ensures { result ≡ list_all (λ (pair : _). module_immediates pair.0) ops.now }
+{
+    ops.iter().all(|pair| has_module_immediates(&pair.0))
+}
+
+/// The time of one run, the making of the validator with it.
+fn time(
+    rt: &HostRuntime,
+    way: Way,
+    subject: Subject<'_>,
+    heights: &mut Vec<(usize, usize)>,
+) -> Result<u128, Failure>
+    requires ordered { is_well_ordered_list (operators subject.ops.now) ≡ true }
+    requires immediates { list_all (λ (pair : _). module_immediates pair.0) subject.ops.now ≡ true }
+{
+    heights.clear();
+    let since = Instant::now(rt).map_err(|_| Failure::Host)?;
+    let Ok(mut validator) = begin_body(
+        subject.alloc,
+        subject.lists,
+        subject.features,
+        subject.body,
+        subject.locals,
+    ) else {
+        return Err(Failure::Refused);
+    };
+    let accepted = match way {
+        Way::CheckOps => {
+            matches!(
+                check_ops(&mut validator, subject.ops, subject.lists, heights),
+                Ok(true)
+            )
+        }
+        Way::Visits => visit_each(&mut validator, subject.ops, subject.written, subject.lists),
+    };
+    let time = since.elapsed(rt).map_err(|_| Failure::Host)?.as_nanos();
+    if !accepted {
+        return Err(Failure::Refused);
+    }
+    Ok(time)
+}
+
+/// Visits the operators one by one, or attempts those of `try` lines: whether all were accepted, and the
+/// outermost frame is closed.
+fn visit_each<R: WasmModuleResources>(
+    validator: &mut OperatorValidator,
+    ops: &[(Op<'_>, u64)],
+    written: &[(WrittenOp, u64)],
+    resources: &R,
+) -> bool
+    requires { IsStarting (R.context resources.now) (state validator.old) }
+{
+    for (pair, line) in ops.iter().zip(written) {
+        let (op, offset) = *pair;
+        if validator.control_stack_height() == 0 {
+            return false;
+        }
+        if visit(validator, resources, offset, op, line.0.attempted).is_err() {
+            return false;
+        }
+    }
+    validator.control_stack_height() == 0
+}
+
+/// Visits one operator, or attempts it.
+#[inline(always)]
+fn visit<R: WasmModuleResources>(
+    validator: &mut OperatorValidator,
+    resources: &R,
+    offset: u64,
+    op: Op<'_>,
+    attempted: bool,
+) -> Result<(), Error>
+    requires idle { (state validator.old).undone ≡ None }
+    requires visit { MayVisit (R.context resources.now) (stacks_of validator.old) }
+    ensures { Meets (R.context resources.now) (λ cx. operator cx op.entry) offset (state validator.old)
+        result (state validator.new) }
+{
+    if attempted {
+        return try_op(validator, resources, offset, op);
+    }
+    validator.check(resources, offset, op)
+}

@@ -1,0 +1,5 @@
+pub mod Lists
+mod Following
+mod Indices
+mod ReferenceNames
+mod Marks

@@ -1,0 +1,72 @@
+-- The indices of operators, as a script writes them.
+use Rattle.std.specs.Prelude.{ℕ, List, [], ◌∷◌}
+use Rattle.validate_visit.specs.declared.op.ControlOp.{ControlOp}
+use Rattle.validate_visit.specs.declared.op.ControlOp.TheVariants.{Br, BrIf, Call, ReturnCall, CallRef}
+use Rattle.validate_visit.specs.declared.op.ControlOp.TheVariants.{ReturnCallRef, CallIndirect}
+use Rattle.validate_visit.specs.declared.op.ControlOp.TheVariants.{ReturnCallIndirect, LocalGet, LocalSet}
+use Rattle.validate_visit.specs.declared.op.ControlOp.TheVariants.{LocalTee, GlobalGet, GlobalSet}
+use Rattle.validate_visit.specs.declared.op.MemoryOp.{MemoryOp}
+use Rattle.validate_visit.specs.declared.op.MemoryOp.TheVariants.{MemorySize, MemoryGrow, MemoryInit}
+use Rattle.validate_visit.specs.declared.op.MemoryOp.TheVariants.{DataDrop, MemoryCopy, MemoryFill}
+use Rattle.validate_visit.specs.declared.op.MemoryOp.TheVariants.{MemoryDiscard}
+use Rattle.validate_visit.specs.declared.op.Op.{Op}
+use Rattle.validate_visit.specs.declared.op.Op.TheVariants.{Control, Memory, Reference, Table}
+use Rattle.validate_visit.specs.declared.op.ReferenceOp.{ReferenceOp}
+use Rattle.validate_visit.specs.declared.op.ReferenceOp.TheVariants.{RefFunc, BrOnNull, BrOnNonNull}
+use Rattle.validate_visit.specs.declared.op.TableOp.{TableOp}
+use Rattle.validate_visit.specs.declared.op.TableOp.TheVariants.{TableGet, TableSet, TableGrow, TableSize}
+use Rattle.validate_visit.specs.declared.op.TableOp.TheVariants.{TableFill, TableInit, ElemDrop, TableCopy}
+
+-- the label, function, type, table, local or global of an operator on control or variables: of an indirect
+-- call the type, and then the table
+abbrev pub control_indices : ControlOp → List ℕ
+control_indices (Br label) = label ∷ []
+control_indices (BrIf label) = label ∷ []
+control_indices (Call function) = function ∷ []
+control_indices (ReturnCall function) = function ∷ []
+control_indices (CallRef type) = type ∷ []
+control_indices (ReturnCallRef type) = type ∷ []
+control_indices (CallIndirect type table) = type ∷ table ∷ []
+control_indices (ReturnCallIndirect type table) = type ∷ table ∷ []
+control_indices (LocalGet local) = local ∷ []
+control_indices (LocalSet local) = local ∷ []
+control_indices (LocalTee local) = local ∷ []
+control_indices (GlobalGet global) = global ∷ []
+control_indices (GlobalSet global) = global ∷ []
+control_indices _ = []
+
+-- the label or the function of an operator on references
+abbrev pub reference_indices : ReferenceOp → List ℕ
+reference_indices (RefFunc function) = function ∷ []
+reference_indices (BrOnNull label) = label ∷ []
+reference_indices (BrOnNonNull label) = label ∷ []
+reference_indices _ = []
+
+-- the indices of an operator on whole memories or on data segments, in their order
+abbrev pub memory_indices : MemoryOp → List ℕ
+memory_indices (MemorySize memory) = memory ∷ []
+memory_indices (MemoryGrow memory) = memory ∷ []
+memory_indices (MemoryInit segment memory) = segment ∷ memory ∷ []
+memory_indices (DataDrop segment) = segment ∷ []
+memory_indices (MemoryCopy to from) = to ∷ from ∷ []
+memory_indices (MemoryFill memory) = memory ∷ []
+memory_indices (MemoryDiscard memory) = memory ∷ []
+memory_indices _ = []
+
+-- the indices of an operator on tables or on element segments, in their order
+abbrev pub table_indices : TableOp → List ℕ
+table_indices (TableGet table) = table ∷ []
+table_indices (TableSet table) = table ∷ []
+table_indices (TableGrow table) = table ∷ []
+table_indices (TableSize table) = table ∷ []
+table_indices (TableFill table) = table ∷ []
+table_indices (TableInit segment table) = segment ∷ table ∷ []
+table_indices (ElemDrop segment) = segment ∷ []
+table_indices (TableCopy to from) = to ∷ from ∷ []
+
+abbrev pub op_indices : Op → List ℕ
+op_indices (Control op) = control_indices op
+op_indices (Reference op) = reference_indices op
+op_indices (Memory op) = memory_indices op
+op_indices (Table op) = table_indices op
+op_indices _ = []

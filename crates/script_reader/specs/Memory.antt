@@ -1,0 +1,7 @@
+-- Memories, as a script writes them.
+use Rattle.std.specs.Prelude.{ℕ, List, [], ◌∷◌, ◌++◌, codes, if◌then◌else◌}
+use Rattle.validate_types.specs.declared.types.MemoryType.{MemoryType}
+
+-- the marks of a memory, in their order
+abbrev pub marks_of : MemoryType → List (List ℕ)
+marks_of m = (if m.memory64 then codes "64" ∷ [] else []) ++ (if m.shared then codes "shared" ∷ [] else [])

@@ -1,0 +1,155 @@
+//! What stands behind an operator's name: one table, by the names.
+
+use self::Form::{Access, Block, Constant, Fence, Indexed, NullType, Plain, SelectType};
+use crate::atomic::ATOMIC_ACCESSES;
+use crate::conversions::CONVERSIONS;
+use crate::memory::LOADS_AND_STORES;
+use crate::names::named_in;
+use crate::numeric::numeric_operator;
+use validate_visit::Op::{Atomic, Control, Memory, Reference, Table};
+use validate_visit::{
+    AtomicOp, BlockType, ControlOp, MemoryOp, NumberType, Op, ReferenceOp, TableOp,
+};
+
+/// The immediates of an operator, with the operator that has them: those of a line come in the place of
+/// its own.
+#[derive(Clone, Copy)]
+pub enum Form {
+    /// None.
+    Plain(Op<'static>),
+    /// One index or two.
+    Indexed(Op<'static>),
+    /// A block type, or none, which means the empty one.
+    Block(ControlOp<'static>),
+    /// A constant of this type, or none, which means 0.
+    Constant(NumberType),
+    /// The type of a `select`.
+    SelectType,
+    /// The heap type of a `ref.null`.
+    NullType,
+    /// The ordering of a fence.
+    Fence,
+    /// Those of an access.
+    Access(Op<'static>),
+}
+
+/// The operators but those on numbers and the accesses, which have tables of their own.
+const FORMS: &[(&str, Form)] = &[
+    ("unreachable", Plain(Control(ControlOp::Unreachable))),
+    ("nop", Plain(Control(ControlOp::Nop))),
+    ("block", Block(ControlOp::Block(BlockType::Empty))),
+    ("loop", Block(ControlOp::Loop(BlockType::Empty))),
+    ("if", Block(ControlOp::If(BlockType::Empty))),
+    ("else", Plain(Control(ControlOp::Else))),
+    ("end", Plain(Control(ControlOp::End))),
+    ("return", Plain(Control(ControlOp::Return))),
+    ("drop", Plain(Control(ControlOp::Drop))),
+    ("select", Plain(Control(ControlOp::Select))),
+    ("select_t", SelectType),
+    ("br", Indexed(Control(ControlOp::Br(0)))),
+    ("br_if", Indexed(Control(ControlOp::BrIf(0)))),
+    ("call", Indexed(Control(ControlOp::Call(0)))),
+    ("return_call", Indexed(Control(ControlOp::ReturnCall(0)))),
+    ("call_ref", Indexed(Control(ControlOp::CallRef(0)))),
+    (
+        "return_call_ref",
+        Indexed(Control(ControlOp::ReturnCallRef(0))),
+    ),
+    ("local.get", Indexed(Control(ControlOp::LocalGet(0)))),
+    ("local.set", Indexed(Control(ControlOp::LocalSet(0)))),
+    ("local.tee", Indexed(Control(ControlOp::LocalTee(0)))),
+    ("global.get", Indexed(Control(ControlOp::GlobalGet(0)))),
+    ("global.set", Indexed(Control(ControlOp::GlobalSet(0)))),
+    (
+        "call_indirect",
+        Indexed(Control(ControlOp::CallIndirect {
+            type_index: 0,
+            table_index: 0,
+        })),
+    ),
+    (
+        "return_call_indirect",
+        Indexed(Control(ControlOp::ReturnCallIndirect {
+            type_index: 0,
+            table_index: 0,
+        })),
+    ),
+    ("i32.const", Constant(NumberType::I32)),
+    ("i64.const", Constant(NumberType::I64)),
+    ("f32.const", Constant(NumberType::F32)),
+    ("f64.const", Constant(NumberType::F64)),
+    ("ref.null", NullType),
+    ("ref.is_null", Plain(Reference(ReferenceOp::RefIsNull))),
+    ("ref.func", Indexed(Reference(ReferenceOp::RefFunc(0)))),
+    (
+        "ref.as_non_null",
+        Plain(Reference(ReferenceOp::RefAsNonNull)),
+    ),
+    ("br_on_null", Indexed(Reference(ReferenceOp::BrOnNull(0)))),
+    (
+        "br_on_non_null",
+        Indexed(Reference(ReferenceOp::BrOnNonNull(0))),
+    ),
+    ("table.get", Indexed(Table(TableOp::TableGet(0)))),
+    ("table.set", Indexed(Table(TableOp::TableSet(0)))),
+    ("table.grow", Indexed(Table(TableOp::TableGrow(0)))),
+    ("table.size", Indexed(Table(TableOp::TableSize(0)))),
+    ("table.fill", Indexed(Table(TableOp::TableFill(0)))),
+    (
+        "table.init",
+        Indexed(Table(TableOp::TableInit {
+            elem_index: 0,
+            table: 0,
+        })),
+    ),
+    ("elem.drop", Indexed(Table(TableOp::ElemDrop(0)))),
+    (
+        "table.copy",
+        Indexed(Table(TableOp::TableCopy {
+            dst_table: 0,
+            src_table: 0,
+        })),
+    ),
+    ("memory.size", Indexed(Memory(MemoryOp::MemorySize(0)))),
+    ("memory.grow", Indexed(Memory(MemoryOp::MemoryGrow(0)))),
+    (
+        "memory.init",
+        Indexed(Memory(MemoryOp::MemoryInit {
+            data_index: 0,
+            mem: 0,
+        })),
+    ),
+    ("data.drop", Indexed(Memory(MemoryOp::DataDrop(0)))),
+    (
+        "memory.copy",
+        Indexed(Memory(MemoryOp::MemoryCopy {
+            dst_mem: 0,
+            src_mem: 0,
+        })),
+    ),
+    ("memory.fill", Indexed(Memory(MemoryOp::MemoryFill(0)))),
+    (
+        "memory.discard",
+        Indexed(Memory(MemoryOp::MemoryDiscard(0))),
+    ),
+    ("atomic.fence", Fence),
+    ("pause", Plain(Atomic(AtomicOp::Pause))),
+];
+
+/// The form of the operator of this name, if it has no list.
+pub fn form_of(name: &str) -> Option<Form> {
+    if let Some(form) = named_in(FORMS, name) {
+        return Some(form);
+    }
+    if let Some(op) = named_in(LOADS_AND_STORES, name) {
+        return Some(Access(Memory(op)));
+    }
+    if let Some(op) = named_in(ATOMIC_ACCESSES, name) {
+        return Some(Access(Atomic(op)));
+    }
+    if let Some(op) = named_in(CONVERSIONS, name) {
+        return Some(Plain(Op::Convert(op)));
+    }
+    let op = numeric_operator(name)?;
+    Some(Plain(Op::Numeric(op)))
+}

@@ -1,0 +1,55 @@
+//! Memories, and the loads and stores by their names.
+
+ghost use Rattle.std.specs.Prelude.{◌≡◌, ◌≢◌, IfNone, IfSome, map};
+ghost use Rattle.validate_types.specs.declared.types.MemoryType.{MemoryType};
+ghost use Rattle.script_reader.specs.Memory.{marks_of};
+
+use crate::access::{BYTES_1, BYTES_2, BYTES_4, BYTES_8};
+use validate_types::MemoryType;
+use validate_visit::MemoryOp;
+use validate_visit::MemoryOp::{Load, LoadPacked, Store, StorePacked};
+use validate_visit::NumberType::{F32, F64, I32, I64};
+use validate_visit::PackedInteger::{I32Bits8, I32Bits16, I64Bits8, I64Bits16, I64Bits32};
+use validate_visit::Sign::{Signed, Unsigned};
+
+/// The type of a memory with these marks, if they are those of one.
+pub fn read_memory_type(marks: &[&str]) -> Option<MemoryType>
+    ensures read { IfSome result (λ ty. map (λ mark. mark.now) marks.now ≡ marks_of ty) }
+    ensures other { IfNone result ((ty : MemoryType) → map (λ mark. mark.now) marks.now ≢ marks_of ty) }
+{
+    let (memory64, shared) = match *marks {
+        [] => (false, false),
+        ["64"] => (true, false),
+        ["shared"] => (false, true),
+        ["64", "shared"] => (true, true),
+        _ => return None,
+    };
+    Some(MemoryType { memory64, shared })
+}
+
+/// The loads and the stores, each with its natural alignment.
+pub const LOADS_AND_STORES: &[(&str, MemoryOp)] = &[
+    ("i32.load", Load(I32, BYTES_4)),
+    ("i64.load", Load(I64, BYTES_8)),
+    ("f32.load", Load(F32, BYTES_4)),
+    ("f64.load", Load(F64, BYTES_8)),
+    ("i32.load8_s", LoadPacked(I32Bits8, Signed, BYTES_1)),
+    ("i32.load8_u", LoadPacked(I32Bits8, Unsigned, BYTES_1)),
+    ("i32.load16_s", LoadPacked(I32Bits16, Signed, BYTES_2)),
+    ("i32.load16_u", LoadPacked(I32Bits16, Unsigned, BYTES_2)),
+    ("i64.load8_s", LoadPacked(I64Bits8, Signed, BYTES_1)),
+    ("i64.load8_u", LoadPacked(I64Bits8, Unsigned, BYTES_1)),
+    ("i64.load16_s", LoadPacked(I64Bits16, Signed, BYTES_2)),
+    ("i64.load16_u", LoadPacked(I64Bits16, Unsigned, BYTES_2)),
+    ("i64.load32_s", LoadPacked(I64Bits32, Signed, BYTES_4)),
+    ("i64.load32_u", LoadPacked(I64Bits32, Unsigned, BYTES_4)),
+    ("i32.store", Store(I32, BYTES_4)),
+    ("i64.store", Store(I64, BYTES_8)),
+    ("f32.store", Store(F32, BYTES_4)),
+    ("f64.store", Store(F64, BYTES_8)),
+    ("i32.store8", StorePacked(I32Bits8, BYTES_1)),
+    ("i32.store16", StorePacked(I32Bits16, BYTES_2)),
+    ("i64.store8", StorePacked(I64Bits8, BYTES_1)),
+    ("i64.store16", StorePacked(I64Bits16, BYTES_2)),
+    ("i64.store32", StorePacked(I64Bits32, BYTES_4)),
+];

@@ -1,0 +1,30 @@
+-- The types of the locals in parts: the first of them plainly, the others in runs.
+use Rattle.std.specs.Prelude.{◌≡◌, ℕ, ◌+◌, ◌-◌, ◌<◌, ◌≤◌, List, [], ◌∷◌, ◌++◌, length, replicate}
+use Rattle.validate_types.specs.declared.types.ValType.{ValType}
+use Rattle.validate_locals.specs.Limit.{max_locals}
+
+-- how many locals are held plainly at the most
+abbrev pub max_first : ℕ
+max_first = 50
+
+-- the types of the runs, the first of which begins at this index: of each the greatest index and the type
+abbrev pub run_types : ℕ → List (ℕ × ValType) → List ValType
+run_types from [] = []
+run_types from (run ∷ runs) = replicate (run.0 + 1 - from) run.1 ++ run_types (run.0 + 1) runs
+
+-- the types of all locals
+abbrev pub local_types : List ValType → List (ℕ × ValType) → List ValType
+local_types first runs = first ++ run_types (length first) runs
+
+-- each run begins after the one before it, and none is empty
+abbrev pub AreRuns : ℕ → List (ℕ × ValType) → Type 0
+AreRuns from [] = Unit {0}
+AreRuns from (run ∷ runs) = (from ≤ run.0) × AreRuns (run.0 + 1) runs
+
+-- so many locals, in runs only once the first are as many as they can be
+pub record AreLocals (first : List ValType) (runs : List (ℕ × ValType)) (count : ℕ) : Type 0 where
+  pub rising : AreRuns (length first) runs
+  pub counted : count ≡ length (local_types first runs)
+  pub few : length first ≤ max_first
+  pub full : length first < max_first → runs ≡ []
+  pub within : count ≤ max_locals

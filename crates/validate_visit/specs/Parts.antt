@@ -1,0 +1,61 @@
+-- The parts that are open after each operator, the innermost first, and what is noted of them.
+use Rattle.std.specs.Prelude.{◌≡◌, ℕ, zero, suc, ◌-◌, ◌<◌, ◌≤◌, ◌/◌, ◌%◌, Bool, false, List, [], ◌∷◌, map}
+use Rattle.std.specs.Prelude.{length, nat_eq, slice_index}
+use Rattle.std.specs.Int.{bit_at}
+use Rattle.validate_visit.specs.declared.frame.FrameKind.{FrameKind}
+use Rattle.validate_visit.specs.declared.frame.FrameKind.TheVariants.{Block, Else}
+use Rattle.validate_visit.specs.declared.op.Op.{Op}
+use Rattle.validate_visit.specs.Order.{Nesting, Flat, Opens, BeginsElse, BeginsCatch, Ends, Delegates}
+use Rattle.validate_visit.specs.Order.{nesting, is_if, catch_kind}
+
+abbrev pub outermost : List FrameKind
+outermost = Block ∷ []
+
+abbrev pub tail : List FrameKind → List FrameKind
+tail [] = []
+tail (k ∷ ks) = ks
+
+abbrev pub turned : FrameKind → List FrameKind → List FrameKind
+turned j [] = []
+turned j (k ∷ ks) = j ∷ ks
+
+-- the open parts after an operator, wherever it stands
+abbrev pub after : List FrameKind → Nesting → List FrameKind
+after ks Flat = ks
+after ks (Opens kind) = kind ∷ ks
+after ks BeginsElse = turned Else ks
+after ks (BeginsCatch all) = turned (catch_kind all) ks
+after ks Ends = tail ks
+after ks Delegates = tail ks
+
+-- the open parts after a list
+abbrev pub parts : List FrameKind → List Nesting → List FrameKind
+parts ks [] = ks
+parts ks (n ∷ ns) = parts (after ks n) ns
+
+-- the parts that a list leaves open
+abbrev pub parts_left : List Op → List FrameKind
+parts_left ops = parts outermost (map nesting ops)
+
+-- whether the part under d others is the first part of an `if`
+abbrev pub is_if_under : ℕ → List FrameKind → Bool
+is_if_under d [] = false
+is_if_under zero (k ∷ ks) = is_if k
+is_if_under (suc d) (k ∷ ks) = is_if_under d ks
+
+-- ---- what is noted
+
+-- of how many parts it can be noted what they are: a bit in each of 1024 words of 64
+abbrev pub most_noted : ℕ
+most_noted = 65536
+
+-- whether the part at this depth is noted as the first part of an `if`
+abbrev pub noted_at : List ℕ → ℕ → Bool
+noted_at words depth = nat_eq (bit_at (slice_index words (depth / 64 % 1024)) (depth % 64)) 1
+
+-- so many parts are open, and of so many of the innermost it is noted what they are
+pub record AreNoted (depth noted : ℕ) (words : List ℕ) (kinds : List FrameKind) : Type 0 where
+  pub counted : depth ≡ length kinds
+  pub within : noted ≤ depth
+  pub few : noted ≤ most_noted
+  pub same : (j : ℕ) → j < noted → noted_at words (depth - j) ≡ is_if_under j kinds

@@ -6,7 +6,7 @@ ghost use Rattle.validate_visit.specs.Immediates.{module_immediates};
 ghost use Rattle.validate_visit.specs.Order.{is_well_ordered_list};
 ghost use Rattle.validate_body.specs.Runs.{operators};
 ghost use Rattle.validate_body.specs.Start.{state, stacks_of};
-ghost use Rattle.validation_rules.specs.Table.{operator};
+ghost use Rattle.validation_rules.specs.Operators.{operator};
 ghost use Rattle.validate_stacks.specs.Visits.{MayVisit, Meets};
 ghost use Rattle.validate_stacks.specs.State.{IsStarting};
 

@@ -1,14 +1,15 @@
 -- One answer further, and what the answers up to the end come to.
 use Rattle.std.proofs.Common.{◌≡◌, ◌↔◌, ℕ, zero, suc, Bool, true, false, IsTrue, nat_eq, List, [], ◌∷◌, ◌++◌, map, length, get_or, slice_get, Some, None, IfSome, Result, Ok, Err, IfOk, IfErr, refl, sym, ap, ◌∙◌, subst, arith}
 use Rattle.std.proofs.lemmas.Bool.{eq-eqb, eqb-true}
+use Rattle.std.specs.Option.{option_and_then}
 use Rattle.validate_types.specs.Refusal.{Refusal}
 use Rattle.validate_visit.specs.Order.{Nesting, nesting, Flat, reads_on, is_ordered_from}
 use Rattle.validate_visit.specs.declared.op.Op.{Op}
 use Rattle.validate_visit.specs.declared.op.Op.TheVariants.{Control}
 use Rattle.validate_visit.specs.declared.op.ControlOp.TheVariants.{BrTable as OnTable, TypedSelectMulti as OnTypes}
 use Rattle.validation_rules.specs.Context.{Context}
-use Rattle.validation_rules.specs.Static.{Frame, State, bind, step, before, frame_count}
-use Rattle.validation_rules.specs.Table.{operator, body}
+use Rattle.validation_rules.specs.Static.{Frame, State, step, before, frame_count}
+use Rattle.validation_rules.specs.Operators.{operator, body}
 use Rattle.validate_body.specs.Runs.{operators}
 use Rattle.validate_body.proofs.Listed.{kinds, IsOrderedBelow, some_open, ordered_next}
 use Rattle.opcheck_script.specs.Attempts.{Answer, IsAnswer, Answered, EndsRun, Ends, accepted_of}
@@ -36,7 +37,7 @@ module _ (cx : Context) where
   accepted_rows s [] bs (a ∷ rs) t h = absurd h
   accepted_rows s (p ∷ ops) [] (a ∷ rs) t h = absurd h
   accepted_rows s (p ∷ ops) (b ∷ bs) (Ok heights ∷ rs) t h =
-      ap (λ o. bind o (λ x. before cx (body cx (operators (accepted_of ops rs))) x (length (accepted_of ops rs)))) h.1.0 ∙ accepted_rows h.0 ops bs rs t h.2
+      ap (λ o. option_and_then (λ x. before cx (body cx (operators (accepted_of ops rs))) x (length (accepted_of ops rs))) o) h.1.0 ∙ accepted_rows h.0 ops bs rs t h.2
   accepted_rows s (p ∷ ops) (b ∷ bs) (Err e ∷ rs) t h =
       subst (λ x. before cx (body cx (operators (accepted_of ops rs))) x (length (accepted_of ops rs)) ≡ Some t) (sym h.1.4) (accepted_rows h.0 ops bs rs t h.2)
 
@@ -97,9 +98,9 @@ attempted_flat (q ∷ ops) (w ∷ ws) (suc i) p e g h = let rest : op_values ops
 pub ends_at : (cx : Context) (ops : List (Op × ℕ)) (bs : List Bool) (rs : List Answer) (i : ℕ) (p : Op × ℕ) (b : Bool) (e : Refusal) (s : State) → length rs ≡ i → slice_get ops i ≡ Some p → slice_get bs i ≡ Some b → EndsRun cx p b e s → Ends cx ops bs rs s (Err e)
 ends_at cx ops bs rs i p b e s n g k x = (p, b, ap (slice_get ops) n ∙ g, ap (slice_get bs) n ∙ k, x)
 
-pub short_of_memory : (cx : Context) (p : Op × ℕ) (b : Bool) (e : Refusal) (s : State) → e.offset ≡ p.1 → e.memory ≡ true → EndsRun cx p b e s
+pub short_of_memory : (cx : Context) (p : Op × ℕ) (b : Bool) (e : Refusal) (s : State) → e.offset ≡ p.1 → e.wants_memory ≡ true → EndsRun cx p b e s
 short_of_memory cx p b e s o m =
-    let never : (X : Type 0) → e.memory ≡ false → X = λ X f. (let clash : true ≡ false = sym m ∙ f in absurd cc) in
+    let never : (X : Type 0) → e.wants_memory ≡ false → X = λ X f. (let clash : true ≡ false = sym m ∙ f in absurd cc) in
     record { at_offset = o; is_plain = never (b ≡ false); row = never (step cx (operator cx p.0) s ≡ None) }
 
 no_frames : (fs : List Frame) → length fs ≡ 0 → fs ≡ []

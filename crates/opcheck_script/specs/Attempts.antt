@@ -6,7 +6,7 @@ use Rattle.validate_resources.specs.Context.{ModuleContext}
 use Rattle.validate_visit.specs.declared.op.Op.{Op}
 use Rattle.validation_rules.specs.Context.{Context}
 use Rattle.validation_rules.specs.Static.{State, step}
-use Rattle.validation_rules.specs.Table.{operator}
+use Rattle.validation_rules.specs.Operators.{operator}
 use Rattle.validate_stacks.specs.State.{BodyState, context}
 use Rattle.validate_body.specs.Runs.{heights_of, state_before}
 
@@ -19,7 +19,8 @@ Answer = Result (ℕ × ℕ) Refusal
 abbrev pub IsAnswer : Context → Op × ℕ → Bool → Answer → State → State → Type 0
 IsAnswer cx p attempted (Ok heights) s t = (step cx (operator cx p.0) s ≡ Some t) × (heights ≡ heights_of t)
 IsAnswer cx p attempted (Err e) s t =
-    (attempted ≡ true) × (e.offset ≡ p.1) × (e.memory ≡ false) × (step cx (operator cx p.0) s ≡ None) × (s ≡ t)
+    (attempted ≡ true) × (e.offset ≡ p.1) × (e.wants_memory ≡ false)
+    × (step cx (operator cx p.0) s ≡ None) × (s ≡ t)
 
 -- the answers at the first operators of a list, from the state s to the state t
 abbrev pub Answered : Context → State → List (Op × ℕ) → List Bool → List Answer → State → Type 0
@@ -38,8 +39,8 @@ accepted_of _ _ = []
 pub record EndsRun
     (cx : Context) (p : Op × ℕ) (attempted : Bool) (refusal : Refusal) (s : State) : Type 0 where
   pub at_offset : refusal.offset ≡ p.1
-  pub is_plain : refusal.memory ≡ false → attempted ≡ false
-  pub row : refusal.memory ≡ false → step cx (operator cx p.0) s ≡ None
+  pub is_plain : refusal.wants_memory ≡ false → attempted ≡ false
+  pub row : refusal.wants_memory ≡ false → step cx (operator cx p.0) s ≡ None
 
 -- How the run ends: with an answer at each operator, and then whether the outermost frame is closed; or
 -- with a refusal at the next one.

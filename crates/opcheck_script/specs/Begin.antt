@@ -57,4 +57,5 @@ pub record HasBadLocal
 -- first `local` line that defines none.
 abbrev pub CannotBegin : ModuleContext → WasmFeatures → BodyLine → List LocalLine → ℕ → Type 0
 CannotBegin md features line lines offset =
-    (CannotStart md features line.body × (offset ≡ line.offset)) ⊎ HasBadLocal md features line.body lines offset
+    (CannotStart md features line.body × (offset ≡ line.offset))
+    ⊎ HasBadLocal md features line.body lines offset

@@ -26,7 +26,8 @@ may_be_body ops = is_well_ordered_list (operators ops) && list_all (λ (p : Op �
 -- What a run of operators without attempts answers: whether the outermost frame is closed, where all
 -- rows hold; or the refusal of the first operator whose row doesn't. The heights are those after each
 -- operator before that.
-abbrev pub RunsThrough : ModuleContext → BodyState → List (Op × ℕ) → List (ℕ × ℕ) → Result Bool Refusal → Type 0
+abbrev pub RunsThrough :
+    ModuleContext → BodyState → List (Op × ℕ) → List (ℕ × ℕ) → Result Bool Refusal → Type 0
 RunsThrough md v ops heights (Ok closed) =
     (s : State) × (state_before md v ops (length ops) ≡ Some s) × (IsTrue closed ↔ (s.frames ≡ []))
     × AreHeightsAfter md v ops (length ops) heights
@@ -37,7 +38,8 @@ abbrev pub is_attempted : Bool → Bool
 is_attempted b = b
 
 -- what the run of the operators from this state answers, of which these are attempted
-abbrev pub Runs : ModuleContext → BodyState → List (Op × ℕ) → List Bool → Answers → Result Bool Refusal → Type 0
+abbrev pub Runs :
+    ModuleContext → BodyState → List (Op × ℕ) → List Bool → Answers → Result Bool Refusal → Type 0
 Runs md v ops attempts (Heights heights) outcome =
     (list_any is_attempted attempts ≡ false) × RunsThrough md v ops heights.items outcome
 Runs md v ops attempts (Attempts answers) outcome =
@@ -72,7 +74,7 @@ pub record IsRefusedBefore
     (answers : Answers) (outcome : Result Bool Refusal) : Type 0 where
   pub refusal : Refusal
   pub is_outcome : outcome ≡ Err refusal
-  pub cause : refusal.memory ≡ false → CannotBegin md features line lines refusal.offset
+  pub cause : refusal.wants_memory ≡ false → CannotBegin md features line lines refusal.offset
   pub none_noted : HasNone answers
 
 abbrev pub IsReport :

@@ -6,7 +6,7 @@ ghost use Rattle.validate_visit.specs.Immediates.{module_immediates};
 ghost use Rattle.validate_visit.specs.Order.{is_well_ordered_list};
 ghost use Rattle.validate_visit.specs.declared.frame.BlockType.{BlockType};
 ghost use Rattle.validation_rules.specs.Static.{start};
-ghost use Rattle.validation_rules.specs.Table.{operator};
+ghost use Rattle.validation_rules.specs.Operators.{operator};
 ghost use Rattle.validate_stacks.specs.Pops.{IsKept};
 ghost use Rattle.validate_stacks.specs.State.{IsStarting, IsValid, context};
 ghost use Rattle.validate_stacks.specs.Visits.{MayVisit, Meets};
@@ -144,8 +144,8 @@ fn answer_at<R: WasmModuleResources>(
 /// operator ends the run, and want of memory too.
 fn after_refusal(attempted: bool, refusal: Error) -> Result<Answer, Error>
     ensures answer { IfOk result (λ answer. (answer ≡ Err refusal) × (attempted ≡ true)
-        × (refusal.memory ≡ false)) }
-    ensures ended { IfErr result (λ last. (last ≡ refusal) × (refusal.memory ≡ false
+        × (refusal.wants_memory ≡ false)) }
+    ensures ended { IfErr result (λ last. (last ≡ refusal) × (refusal.wants_memory ≡ false
         → attempted ≡ false)) }
 {
     if attempted && !refusal.is_out_of_memory() {

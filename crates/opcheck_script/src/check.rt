@@ -153,7 +153,7 @@ pub fn begin_body<R: WasmModuleResources>(
     ensures starting { IfOk result (λ validator. IsStarting (R.context resources.now) (state validator)) }
     ensures locals { IfOk result (λ validator. HasLocals (R.context resources.now) features.now
         line.body locals.now (state validator)) }
-    ensures refused { IfErr result (λ e. e.memory ≡ false
+    ensures refused { IfErr result (λ e. e.wants_memory ≡ false
         → CannotBegin (R.context resources.now) features.now line locals.now e.offset) }
 {
     let mut validator = start_body(alloc, resources, features, line)?;
@@ -173,9 +173,9 @@ fn start_body<R: WasmModuleResources>(
     ensures starting { IfOk result (λ validator. IsStarting (R.context resources.now) (state validator)) }
     ensures made { IfOk result (λ validator. IsBodyStart (R.context resources.now) features.now
         line.body (state validator)) }
-    ensures refused { IfErr result (λ e. e.memory ≡ false
+    ensures refused { IfErr result (λ e. e.wants_memory ≡ false
         → CannotStart (R.context resources.now) features.now line.body) }
-    ensures offset { IfErr result (λ e. e.memory ≡ false → e.offset ≡ line.offset) }
+    ensures offset { IfErr result (λ e. e.wants_memory ≡ false → e.offset ≡ line.offset) }
 {
     let allocs = OperatorValidatorAllocations::new(alloc);
     match line.body {
@@ -197,9 +197,9 @@ fn start_expression<R: WasmModuleResources>(
     ensures starting { IfOk result (λ validator. IsStarting (R.context resources.now) (state validator)) }
     ensures made { IfOk result (λ validator. IsExpressionStart (R.context resources.now) features.now ty
         (state validator)) }
-    ensures refused { IfErr result (λ e. e.memory ≡ false
+    ensures refused { IfErr result (λ e. e.wants_memory ≡ false
         → (R.context resources.now).canonical features.now ty ≡ None) }
-    ensures offset { IfErr result (λ e. e.memory ≡ false → e.offset ≡ offset) }
+    ensures offset { IfErr result (λ e. e.wants_memory ≡ false → e.offset ≡ offset) }
 {
     laws(resources);
     let mut canonical = ty;

@@ -18,9 +18,9 @@ use validate_types::Error;
 /// there is one, and the verdict. A report that ends in want of memory has no verdict.
 pub fn print_report<W: Write>(out: &mut W, report: &Report) -> Result<Verdict, Failure>
     ensures verdict { IfOk result (λ verdict. verdict ≡ verdict_of report.now.outcome) }
-    ensures memory { IfErr report.now.outcome (λ e. e.memory ≡ true → IsErr result) }
+    ensures memory { IfErr report.now.outcome (λ e. e.wants_memory ≡ true → IsErr result) }
     ensures cause { IfErr result (λ failure. (failure ≡ Failure.Output)
-        ⊎ ((failure ≡ Failure.OutOfMemory) × IsErrAnd report.now.outcome (λ e. e.memory ≡ true))) }
+        ⊎ ((failure ≡ Failure.OutOfMemory) × IsErrAnd report.now.outcome (λ e. e.wants_memory ≡ true))) }
 {
     match &report.answers {
         Answers::Heights(heights) => print_heights(out, heights)?,

@@ -36,9 +36,9 @@ words_in line = filter (λ word. not (length word == 0)) (slice_split (λ b. b =
 abbrev pub part_of : Draft → Part
 part_of d = if is_some d.body then (if vec_len d.operators == 0 then Locals else Operators) else Module
 
--- Whether a line may stand after lines that have come to this part and have said how many data segments there are,
--- if they have: proposals and declarations before the `func` or `expr` line, that number once, locals after the line,
--- and operators last.
+-- Whether a line may stand after lines that have come to this part and have said how many data segments
+-- there are, if they have: proposals and declarations before the `func` or `expr` line, that number once,
+-- locals after the line, and operators last.
 abbrev pub may_stand : Line → Part → Option ℕ → Bool
 may_stand (OnFeature named) Module _ = true
 may_stand (OnType ty) Module _ = true

@@ -60,26 +60,45 @@ pub fn read_line(alloc: Global, words: &[&str]) -> Result<Line, LineError> {
 
 /// Reads the words of a line that takes no memory and is no operator.
 fn read_flat_line(words: &[&str]) -> Option<Line> {
+    let (keyword, rest) = words.split_first()?;
+    match *keyword {
+        "memory" => Some(Line::Memory(read_memory_type(rest)?)),
+        "local" => read_locals(rest),
+        "fn" | "table" | "global" => read_marked(keyword, rest),
+        _ => read_single(keyword, rest),
+    }
+}
+
+/// A line of this keyword, behind which stand a word and marks of what it declares.
+fn read_marked(keyword: &str, words: &[&str]) -> Option<Line> {
+    let (word, marks) = words.split_first()?;
+    match keyword {
+        "fn" => Some(Line::Function(read_function(read_index(word)?, marks)?)),
+        "table" => Some(Line::Table(read_table_type(read_reference(word)?, marks)?)),
+        "global" => Some(Line::Global(read_global_type(read_value_type(word)?, marks)?)),
+        _ => None,
+    }
+}
+
+/// A line of this keyword, behind which stands one word.
+fn read_single(keyword: &str, words: &[&str]) -> Option<Line> {
+    let [word] = *words else {
+        return None;
+    };
+    match keyword {
+        "feature" => Some(Line::Feature(read_feature(word)?)),
+        "elem" => Some(Line::Element(read_reference(word)?)),
+        "data" => Some(Line::DataCount(read_index(word)?)),
+        "func" => Some(Line::Body(Body::Function(read_index(word)?))),
+        "expr" => Some(Line::Body(Body::Expression(read_value_type(word)?))),
+        _ => None,
+    }
+}
+
+/// A `local` line: how many locals, and their type.
+fn read_locals(words: &[&str]) -> Option<Line> {
     match *words {
-        ["feature", name] => Some(Line::Feature(read_feature(name)?)),
-        ["fn", type_index, ref marks @ ..] => {
-            let type_index = read_index(type_index)?;
-            Some(Line::Function(read_function(type_index, marks)?))
-        }
-        ["table", ty, ref marks @ ..] => {
-            let element_type = read_reference(ty)?;
-            Some(Line::Table(read_table_type(element_type, marks)?))
-        }
-        ["memory", ref marks @ ..] => Some(Line::Memory(read_memory_type(marks)?)),
-        ["global", ty, ref marks @ ..] => {
-            let content_type = read_value_type(ty)?;
-            Some(Line::Global(read_global_type(content_type, marks)?))
-        }
-        ["elem", ty] => Some(Line::Element(read_reference(ty)?)),
-        ["data", count] => Some(Line::DataCount(read_index(count)?)),
-        ["func", type_index] => Some(Line::Body(Body::Function(read_index(type_index)?))),
-        ["expr", ty] => Some(Line::Body(Body::Expression(read_value_type(ty)?))),
-        ["local", count, ty] => Some(Line::Locals(read_index(count)?, read_value_type(ty)?)),
+        [count, ty] => Some(Line::Locals(read_index(count)?, read_value_type(ty)?)),
         _ => None,
     }
 }

@@ -2,6 +2,7 @@
 
 use crate::transcript::expect_run;
 use opcheck_script::run;
+use std::fmt::Debug;
 use std::io;
 use std::io::{Read, Write};
 use std::process::Abort;
@@ -56,18 +57,19 @@ impl Write for BrokenWriter {
     }
 }
 
+/// What was found, behind these bytes or with room for them, is what was wanted.
+fn expect_same<T: PartialEq + Debug + Drop>(rt: &impl Abort, found: T, wanted: T, bytes: &[u8]) {
+    assert_eq!(rt; found, wanted, "at {bytes:?}");
+}
+
 /// A script whose reader fails behind these bytes is bad.
 fn expect_broken_after(rt: &(impl Abort + AllocGlobal), bytes: &[u8]) {
     let mut printed = Vec::new(rt.alloc());
     let mut said = Vec::new(rt.alloc());
     let status = run(rt.alloc(), BrokenReader { bytes }, &mut printed, &mut said);
-    assert_eq!(rt; status, 2, "after {bytes:?}");
-    assert_eq!(rt; printed.as_slice(), b"".as_slice(), "after {bytes:?}");
-    assert_eq!(rt;
-        said.as_slice(),
-        b"bad script: input\n".as_slice(),
-        "after {bytes:?}"
-    );
+    expect_same(rt, status, 2, bytes);
+    expect_same(rt, printed.as_slice(), b"", bytes);
+    expect_same(rt, said.as_slice(), b"bad script: input\n", bytes);
 }
 
 #[test]
@@ -87,9 +89,9 @@ fn expect_printed(rt: &(impl Abort + AllocGlobal), bytes: &[u8], status: u8) {
     };
     let mut said = Vec::new(rt.alloc());
     let answer = run(rt.alloc(), SCRIPT, &mut out, &mut said);
-    assert_eq!(rt; answer, status, "with room for {bytes:?}");
-    assert_eq!(rt; out.taken.as_slice(), bytes);
-    assert_eq!(rt; said.as_slice(), b"".as_slice(), "with room for {bytes:?}");
+    expect_same(rt, answer, status, bytes);
+    expect_same(rt, out.taken.as_slice(), bytes, bytes);
+    expect_same(rt, said.as_slice(), b"", bytes);
 }
 
 #[test]
@@ -110,9 +112,9 @@ fn expect_told(rt: &(impl Abort + AllocGlobal), told: &[u8]) {
     };
     let wombat: &[u8] = b"wombat";
     let status = run(rt.alloc(), wombat, &mut printed, &mut err);
-    assert_eq!(rt; status, 2, "with room for {told:?}");
-    assert_eq!(rt; printed.as_slice(), b"".as_slice());
-    assert_eq!(rt; err.taken.as_slice(), told);
+    expect_same(rt, status, 2, told);
+    expect_same(rt, printed.as_slice(), b"", told);
+    expect_same(rt, err.taken.as_slice(), told, told);
 }
 
 #[test]

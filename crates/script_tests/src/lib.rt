@@ -54,6 +54,8 @@ mod tables;
 #[cfg(test)]
 mod transcript;
 #[cfg(test)]
+mod undone;
+#[cfg(test)]
 mod values;
 #[cfg(test)]
 mod verdicts;

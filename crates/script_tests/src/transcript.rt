@@ -1,6 +1,7 @@
 //! Transcripts: scripts with what the program prints at each line.
 
 use crate::attempts::attempted;
+use crate::undone::expect_undone;
 use opcheck_script::run;
 use std::alloc::{AllocError, Global};
 use std::process::Abort;
@@ -30,8 +31,8 @@ fn expect_output(
     Ok(())
 }
 
-/// Runs a script, and compares both outputs and the status; and once more with each operator attempted
-/// that may be.
+/// Runs a script, and compares both outputs and the status; once more with each operator attempted that
+/// may be; and once by attempts alone, behind a refused one of which all is as it was before.
 pub fn expect_run(
     rt: &(impl Abort + AllocGlobal),
     script: &[u8],
@@ -43,6 +44,7 @@ pub fn expect_run(
     let Ok(text) = str::from_utf8(script) else {
         return Ok(());
     };
+    expect_undone(rt, text)?;
     let (text, out, status) = attempted(rt, text, out, status)?;
     expect_once(rt, text.as_bytes(), &out, err, status)
 }

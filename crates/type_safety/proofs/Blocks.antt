@@ -1,10 +1,11 @@
 -- A block leaves the locals that are set as they were at its opening, as far as the rows hold.
 use Rattle.std.proofs.Common.{◌≡◌, ◌≤◌, ℕ, zero, suc, List, [], ◌∷◌, Some, refl, sym, ap, arith, ◌∙◌, subst, drop, slice_get}
+use Rattle.std.specs.Option.{option_and_then}
 use Rattle.validation_rules.specs.Context.{BlockType, Context}
 use Rattle.validation_rules.specs.Fits.{MaybeType}
 use Rattle.validation_rules.specs.Rows.{Form, Flat, Opens, BeginsElse, BeginsCatch, Ends, Delegates, params, Row, Operator}
-use Rattle.validation_rules.specs.Static.{Frame, State, heads, locals_set, frame_below, opened_frame, open_state, bind, start, step, before}
-use Rattle.validation_rules.proofs.Steps.{after, some_injective, bind_some, get_of_drop, before_then, stepped}
+use Rattle.validation_rules.specs.Static.{Frame, State, heads, locals_set, frame_below, opened_frame, open_state, start, step, before}
+use Rattle.validation_rules.proofs.Steps.{after, some_injective, and_then_given, get_of_drop, before_then, stepped}
 use Rattle.type_safety.specs.Machine.{delimiter, forms_of}
 use Rattle.type_safety.specs.Blocks.{IsBlock, IsAsBefore, BlocksKeepLocals}
 use Rattle.type_safety.proofs.Delimiters.{RowHolds, row_of_step, later_place, delimiter_within}
@@ -42,7 +43,7 @@ pub state_before : (cx : Context) (code : List Operator) (s : State) (k : ℕ) (
 state_before cx code s zero t i b = subst IsBodyState (some_injective s t b) i
 state_before cx [] s (suc k) t i b = absurd cc
 state_before cx (op ∷ code) s (suc k) t i b =
-    let m = bind_some (step cx op s) (λ v. before cx code v k) t b in
+    let m = and_then_given (step cx op s) (λ v. before cx code v k) t b in
     state_before cx code m.0 k t (step_state cx op s m.0 i m.1) m.2
 
 -- where the rows before a place hold, so do those before an earlier one
@@ -51,9 +52,9 @@ before_earlier cx code s n zero t h b = (s, refl)
 before_earlier cx code s zero (suc k) t h b = absurd (omega (arith, h))
 before_earlier cx [] s (suc n) (suc k) t h b = absurd cc
 before_earlier cx (op ∷ code) s (suc n) (suc k) t h b =
-    let m = bind_some (step cx op s) (λ v. before cx code v n) t b in
+    let m = and_then_given (step cx op s) (λ v. before cx code v n) t b in
     let r = before_earlier cx code m.0 n k t (omega (arith, h)) m.2 in
-    (r.0, ap (λ o. bind o (λ v. before cx code v k)) m.1 ∙ r.1)
+    (r.0, ap (λ o. option_and_then (λ v. before cx code v k) o) m.1 ∙ r.1)
 
 -- ---- the law
 

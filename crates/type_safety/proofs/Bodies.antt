@@ -5,13 +5,13 @@ use Rattle.validate_resources.specs.Context.{ModuleContext, IsLawful}
 use Rattle.validation_rules.specs.Context.{BlockType, Context}
 use Rattle.validation_rules.specs.Rows.{Operator}
 use Rattle.validation_rules.specs.Static.{Frame, open_state, operand_count_in}
-use Rattle.validation_rules.specs.Table.{body}
+use Rattle.validation_rules.specs.Operators.{body}
 use Rattle.validation_rules.proofs.Below.{below-length, length-known}
 use Rattle.type_safety.specs.Machine.{Label, At}
 use Rattle.type_safety.specs.Theorem.{LabelsBelow, OperandsBelow, IsAsValidated, IsTypeSafe}
 use Rattle.type_safety.specs.Bodies.{BodySafety, BodyHeights, HasHeights, HasHeightsAt, operands_held}
 use Rattle.type_safety.proofs.Safety.{type_safety}
-use Rattle.type_safety.proofs.Table.{body_lawful}
+use Rattle.type_safety.proofs.Operators.{body_lawful}
 
 -- the main theorem: for every lawful module
 pub body_safety : (md : ModuleContext) → IsLawful md → BodySafety md

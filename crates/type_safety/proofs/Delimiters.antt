@@ -6,14 +6,14 @@ use Rattle.validation_rules.specs.Rows.{FrameKind, If, Else, Head, is_if, params
 use Rattle.validation_rules.specs.Static.{Frame, State, onto, heads, locals_set, pushed_types, pushed_by_form, opened_frame, of_kind, frame_after, frame_below, frame_with, open_state, step, before, IsAccepted}
 use Rattle.type_safety.specs.Machine.{Delimiter, delimiter, delimiters_from, forms_of, delimiters, has_no_else}
 use Rattle.validation_rules.proofs.Below.{and_true}
-use Rattle.validation_rules.proofs.Steps.{given, after, some_injective, guard_some, bind_some, get_of_drop, drop_next, stepped, before_next}
+use Rattle.validation_rules.proofs.Steps.{given, after, some_injective, guard_some, and_then_given, get_of_drop, drop_next, stepped, before_next}
 
 rest_accepted : (cx : Context) (code : List Operator) (s : State) (k : ℕ) (t : State) → before cx code s k ≡ Some t → IsAccepted cx code s → IsAccepted cx (drop k code) t
 rest_accepted cx code s zero t b a = subst (λ v. IsAccepted cx code v) (some_injective s t b) a
 rest_accepted cx [] s (suc k) t b a = absurd cc
 rest_accepted cx (x ∷ code) s (suc k) t b a =
-    let m = bind_some (step cx x s) (λ v. before cx code v k) t b in
-    let n = bind_some (step cx x s) (λ v. before cx code v (length code)) _ a.1 in
+    let m = and_then_given (step cx x s) (λ v. before cx code v k) t b in
+    let n = and_then_given (step cx x s) (λ v. before cx code v (length code)) _ a.1 in
     let e : n.0 ≡ m.0 = some_injective n.0 m.0 (sym n.1 ∙ m.1) in
     rest_accepted cx code m.0 k t m.2 (a.0, ap (λ v. before cx code v (length code)) (sym e) ∙ n.2)
 
@@ -141,7 +141,7 @@ module _ (cx : Context) (code : List Operator) (s0 : State) (accepted : IsAccept
   pub row_at : (k : ℕ) (op : Operator) (more : List Operator) (f : Frame) (fs : List Frame) → drop k code ≡ op ∷ more → before cx code s0 k ≡ Some (open_state (f ∷ fs)) → RowHolds cx code s0 k op f fs
   row_at k op more f fs d b =
       let a = subst (λ ops. IsAccepted cx ops (open_state (f ∷ fs))) d (rest_accepted cx code s0 k _ b accepted) in
-      let m = bind_some (step cx op (open_state (f ∷ fs))) (λ v. before cx more v (length more)) _ a.1 in
+      let m = and_then_given (step cx op (open_state (f ∷ fs))) (λ v. before cx more v (length more)) _ a.1 in
       row_of_step cx code s0 k op more f fs m.0 d b m.1
 
   -- of a frame that has just been opened, or a part that has just begun, at place b

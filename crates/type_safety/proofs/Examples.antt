@@ -10,22 +10,22 @@ use Rattle.validate_visit.specs.declared.op.Op.TheVariants.{Control, Numeric}
 use Rattle.validate_visit.specs.declared.op.ControlOp.TheVariants.{Nop, End, Drop, LocalGet, LocalSet}
 use Rattle.validate_visit.specs.declared.op.NumericOp.TheVariants.{Eqz, IntegerBinary, I32Const, I64Const}
 use Rattle.validation_rules.specs.Context.{SubType, WasmFeatures, ValType, I32, I64, BlockType, Empty, Val, FuncType, Context, AllBelow}
-use Rattle.validation_rules.specs.Fits.{MaybeType, Known}
+use Rattle.validation_rules.specs.Fits.{MaybeType, Bottom, Known}
 use Rattle.validation_rules.specs.Static.{Frame}
 use Rattle.validation_rules.specs.Rows.{FrameKind, Block, If, Else, Loop, TryTable, LegacyTry, LegacyCatch, Head, params, results, is_if, Flat, Opens, BeginsElse, BeginsCatch, Ends, Delegates, Clause, Target, Operator}
-use Rattle.validation_rules.specs.Table.{plain_row, body, operator}
+use Rattle.validation_rules.specs.Operators.{plain_row, looking_row, row_operator, body, operator}
 use Rattle.validation_rules.specs.Branches.{target}
 use Rattle.validation_rules.proofs.Handmade.{a_block, a_loop, an_if, an_else, an_end, br, a_return, a_try_table, throw, a_try, a_catch, delegate}
 use Rattle.validation_rules.proofs.Steps.{some_injective}
 use Rattle.type_safety.specs.Machine.{Label, label_heads, Machine, At, Returned, Trapped, LeftByException, LeftBySuspension, delimiter, delimiters, LabelAccepts, Demand, configuration, IsNotStuck, Step, Run, initial_machine}
 use Rattle.type_safety.specs.Machine.Outcome.{traps, raises, suspends}
-use Rattle.type_safety.proofs.Outcomes.{by_going_on, by_entering, by_entering_else, by_skipping, by_jumping, by_closing, by_ending_part, by_catching, by_catching_legacy}
+use Rattle.type_safety.proofs.Outcomes.{holding, by_going_on, by_entering, by_entering_else, by_skipping, by_jumping, by_closing, by_ending_part, by_catching, by_catching_legacy}
 use Rattle.type_safety.specs.Theorem.{LabelsBelow, IsAsValidated, IsTypeSafe}
 use Rattle.type_safety.proofs.Laws.{IsLawfulOperator}
 use Rattle.type_safety.proofs.Bodies.{body_safety}
 use Rattle.type_safety.proofs.Handmade.{block_lawful, loop_lawful, if_lawful, else_lawful, end_lawful, branch_lawful, try_table_lawful, throw_lawful, try_lawful, catch_lawful}
 use Rattle.type_safety.proofs.Safety.{type_safety}
-use Rattle.type_safety.proofs.Table.{operator_lawful}
+use Rattle.type_safety.proofs.Operators.{operator_lawful}
 
 abbrev a_type : List ValType → List ValType → SubType
 a_type params results =
@@ -96,7 +96,7 @@ module _ (features : WasmFeatures) where
   adding_1 = (
     operator cx (Control (LocalGet 0)),
     refl,
-    record { row = (_, refl); targets = λ j t e. absurd cc; clauses = λ j c e. absurd cc; no_else = λ h e. absurd cc },
+    record { row = holding _ refl refl; targets = λ j t e. absurd cc; clauses = λ j c e. absurd cc; no_else = λ h e. absurd cc },
     by_going_on (I32 ∷ []) (I32 ∷ []) refl refl refl (refl, tt) refl,
   )
 
@@ -104,7 +104,7 @@ module _ (features : WasmFeatures) where
   adding_2 = (
     operator cx (Numeric (I32Const (pos 1))),
     refl,
-    record { row = (_, refl); targets = λ j t e. absurd cc; clauses = λ j c e. absurd cc; no_else = λ h e. absurd cc },
+    record { row = holding _ refl refl; targets = λ j t e. absurd cc; clauses = λ j c e. absurd cc; no_else = λ h e. absurd cc },
     by_going_on (I32 ∷ []) (I32 ∷ []) refl refl refl (refl, tt) refl,
   )
 
@@ -112,7 +112,7 @@ module _ (features : WasmFeatures) where
   adding_3 = (
     operator cx (Numeric (IntegerBinary IntegerI32 Add)),
     refl,
-    record { row = (_, refl); targets = λ j t e. absurd cc; clauses = λ j c e. absurd cc; no_else = λ h e. absurd cc },
+    record { row = holding _ refl refl; targets = λ j t e. absurd cc; clauses = λ j c e. absurd cc; no_else = λ h e. absurd cc },
     by_going_on (I32 ∷ []) (I32 ∷ []) refl refl refl (refl, tt) refl,
   )
 
@@ -120,7 +120,7 @@ module _ (features : WasmFeatures) where
   adding_4 = (
     operator cx (Control End),
     refl,
-    record { row = (_, refl); targets = λ j t e. absurd cc; clauses = λ j c e. absurd cc; no_else = λ h e. absurd cc },
+    record { row = holding _ refl refl; targets = λ j t e. absurd cc; clauses = λ j c e. absurd cc; no_else = λ h e. absurd cc },
     by_closing (I32 ∷ []) refl (refl, tt) refl,
   )
 
@@ -129,14 +129,14 @@ module _ (features : WasmFeatures) where
 
   -- any operator may trap
   adding_traps : Step cx adding (initial_machine one_to_one) Trapped
-  adding_traps = (operator cx (Control (LocalGet 0)), refl, record { row = (_, refl); targets = λ j t e. absurd cc; clauses = λ j c e. absurd cc; no_else = λ h e. absurd cc }, traps refl)
+  adding_traps = (operator cx (Control (LocalGet 0)), refl, record { row = holding _ refl refl; targets = λ j t e. absurd cc; clauses = λ j c e. absurd cc; no_else = λ h e. absurd cc }, traps refl)
 
   -- or leave, by an exception that nothing catches, or by a suspension
   adding_raises : Step cx adding (initial_machine one_to_one) LeftByException
-  adding_raises = (operator cx (Control (LocalGet 0)), refl, record { row = (_, refl); targets = λ j t e. absurd cc; clauses = λ j c e. absurd cc; no_else = λ h e. absurd cc }, raises refl)
+  adding_raises = (operator cx (Control (LocalGet 0)), refl, record { row = holding _ refl refl; targets = λ j t e. absurd cc; clauses = λ j c e. absurd cc; no_else = λ h e. absurd cc }, raises refl)
 
   adding_suspends : Step cx adding (initial_machine one_to_one) LeftBySuspension
-  adding_suspends = (operator cx (Control (LocalGet 0)), refl, record { row = (_, refl); targets = λ j t e. absurd cc; clauses = λ j c e. absurd cc; no_else = λ h e. absurd cc }, suspends refl)
+  adding_suspends = (operator cx (Control (LocalGet 0)), refl, record { row = holding _ refl refl; targets = λ j t e. absurd cc; clauses = λ j c e. absurd cc; no_else = λ h e. absurd cc }, suspends refl)
 
   -- no run of it is stuck, however long
   adding_safe : IsTypeSafe cx adding one_to_one
@@ -173,7 +173,7 @@ module _ (features : WasmFeatures) where
   reads_local = (
     operator cx (Control (LocalGet 1)),
     refl,
-    record { row = (_, refl); targets = λ j t e. absurd cc; clauses = λ j c e. absurd cc; no_else = λ h e. absurd cc },
+    record { row = holding _ refl refl; targets = λ j t e. absurd cc; clauses = λ j c e. absurd cc; no_else = λ h e. absurd cc },
   )
 
   -- the list has ended, and a label is open
@@ -204,7 +204,7 @@ module _ (features : WasmFeatures) where
   to_loop = (
     i32_const,
     refl,
-    record { row = (_, refl); targets = λ j t e. absurd cc; clauses = λ j c e. absurd cc; no_else = λ h e. absurd cc },
+    record { row = holding _ refl refl; targets = λ j t e. absurd cc; clauses = λ j c e. absurd cc; no_else = λ h e. absurd cc },
     by_going_on (I32 ∷ []) (I32 ∷ []) refl refl refl (refl, tt) refl,
   )
 
@@ -212,7 +212,7 @@ module _ (features : WasmFeatures) where
   into_loop = (
     a_loop cx takes_one,
     refl,
-    record { row = (_, refl); targets = λ j t e. absurd cc; clauses = λ j c e. absurd cc; no_else = λ h e i. absurd (opens_no_if _ h e refl i) },
+    record { row = holding _ refl refl; targets = λ j t e. absurd cc; clauses = λ j c e. absurd cc; no_else = λ h e i. absurd (opens_no_if _ h e refl i) },
     by_entering (record { kind = Loop; block_type = takes_one }) (I32 ∷ []) refl (refl, tt) refl,
   )
 
@@ -222,7 +222,7 @@ module _ (features : WasmFeatures) where
     br cx 0,
     refl,
     record {
-      row = (_, refl);
+      row = holding _ refl refl;
       targets = only (λ (t : Target). LabelAccepts cx (drop t.depth (label 1 Loop takes_one (I32 ∷ []) ∷ outermost to_nothing [] ∷ [])) (t.carried (I32 ∷ []))) (target cx (label_heads (label 1 Loop takes_one (I32 ∷ []) ∷ outermost to_nothing [] ∷ [])) 0) (refl, tt);
       clauses = λ j c e. absurd cc;
       no_else = λ h e. absurd cc;
@@ -267,7 +267,7 @@ module _ (features : WasmFeatures) where
     a_return cx,
     refl,
     record {
-      row = (_, refl);
+      row = holding _ refl refl;
       targets = only (λ (t : Target). LabelAccepts cx (drop t.depth (inside (I32 ∷ []))) (t.carried (I32 ∷ []))) (target cx (label_heads (inside [])) 1) (refl, tt);
       clauses = λ j c e. absurd cc;
       no_else = λ h e. absurd cc;
@@ -295,7 +295,7 @@ module _ (features : WasmFeatures) where
     a_try_table cx Empty (a_clause ∷ []),
     refl,
     record {
-      row = (_, refl);
+      row = holding _ refl refl;
       targets = λ j t e. absurd cc;
       clauses = only (λ (c : Clause). LabelAccepts cx (drop c.depth in_block) c.types) a_clause (refl, tt);
       no_else = λ h e i. absurd (opens_no_if _ h e refl i);
@@ -308,7 +308,7 @@ module _ (features : WasmFeatures) where
   caught = (
     throw (I32 ∷ []),
     refl,
-    record { row = (_, refl); targets = λ j t e. absurd cc; clauses = λ j c e. absurd cc; no_else = λ h e. absurd cc },
+    record { row = holding _ refl refl; targets = λ j t e. absurd cc; clauses = λ j c e. absurd cc; no_else = λ h e. absurd cc },
     by_catching 0 (label 1 TryTable Empty (I32 ∷ [])) in_block (a_try_table cx Empty (a_clause ∷ [])) 0 a_clause refl refl refl refl
         (record {
           label = label 0 Block (Val I32) [];
@@ -325,7 +325,7 @@ module _ (features : WasmFeatures) where
   caught_early = (
     i32_const,
     refl,
-    record { row = (_, refl); targets = λ j t e. absurd cc; clauses = λ j c e. absurd cc; no_else = λ h e. absurd cc },
+    record { row = holding _ refl refl; targets = λ j t e. absurd cc; clauses = λ j c e. absurd cc; no_else = λ h e. absurd cc },
     by_catching 0 (label 1 TryTable Empty []) in_block (a_try_table cx Empty (a_clause ∷ [])) 0 a_clause refl refl refl refl
         (record {
           label = label 0 Block (Val I32) [];
@@ -345,7 +345,7 @@ module _ (features : WasmFeatures) where
   caught_legacy = (
     throw (I32 ∷ []),
     refl,
-    record { row = (_, refl); targets = λ j t e. absurd cc; clauses = λ j c e. absurd cc; no_else = λ h e. absurd cc },
+    record { row = holding _ refl refl; targets = λ j t e. absurd cc; clauses = λ j c e. absurd cc; no_else = λ h e. absurd cc },
     by_catching_legacy 0 (label 0 LegacyTry Empty (I32 ∷ [])) (outermost to_nothing [] ∷ []) 3 false (I32 ∷ []) (I32 ∷ []) refl refl (0, refl) (refl, tt) refl,
   )
 
@@ -375,7 +375,7 @@ module _ (features : WasmFeatures) where
   in_part k began kind own = At k (label began kind (Val I32) own ∷ outermost (Val I32) [] ∷ []) []
 
   demand_if : Demand cx choosing (configuration 1 (outermost (Val I32) (I32 ∷ [])) [] [] (an_if cx (Val I32)))
-  demand_if = record { row = (_, refl); targets = λ j t e. absurd cc; clauses = λ j c e. absurd cc; no_else = λ h e i w. absurd cc }
+  demand_if = record { row = holding _ refl refl; targets = λ j t e. absurd cc; clauses = λ j c e. absurd cc; no_else = λ h e i w. absurd cc }
 
   first_part : Step cx choosing at_if (in_part 2 1 If [])
   first_part = (an_if cx (Val I32), refl, demand_if, by_entering (record { kind = If; block_type = Val I32 }) [] refl tt refl)
@@ -389,7 +389,7 @@ module _ (features : WasmFeatures) where
   passes_else = (
     an_else,
     refl,
-    record { row = (_, refl); targets = λ j t e. absurd cc; clauses = λ j c e. absurd cc; no_else = λ h e. absurd cc },
+    record { row = holding _ refl refl; targets = λ j t e. absurd cc; clauses = λ j c e. absurd cc; no_else = λ h e. absurd cc },
     by_ending_part 5 (I32 ∷ []) refl (Ends, (1, refl), refl) (refl, tt) refl,
   )
 
@@ -408,7 +408,7 @@ module _ (features : WasmFeatures) where
   skips = (
     an_if cx Empty,
     refl,
-    record { row = (_, refl); targets = λ j t e. absurd cc; clauses = λ j c e. absurd cc; no_else = λ h e i w. nothing_given h e },
+    record { row = holding _ refl refl; targets = λ j t e. absurd cc; clauses = λ j c e. absurd cc; no_else = λ h e i w. nothing_given h e },
     by_skipping (record { kind = If; block_type = Empty }) 2 [] refl refl refl (Ends, (0, refl), refl) tt refl,
   )
     where
@@ -436,7 +436,7 @@ module _ (features : WasmFeatures) where
 
   -- a branch to a loop that wants the loop's results, not its parameters
   abbrev br_by_results : Operator
-  br_by_results = record { form = Flat; row = λ hs. record (plain_row true [] []) { ends_live = true; targets = record { depth = 0; carried = λ ys. ys } ∷ [] } }
+  br_by_results = record { form = Flat; row = λ hs. record (plain_row [] []) { ends_live = true; targets = record { depth = 0; carried = λ ys. ys } ∷ [] } }
 
   stuck_at_loop : IsNotStuck cx (i32_const ∷ a_loop cx takes_one ∷ br_by_results ∷ an_end ∷ an_end ∷ []) (At 2 (label 1 Loop takes_one [] ∷ outermost to_nothing [] ∷ []) []) → ⊥
   stuck_at_loop d = (the_demand _ 2 (label 1 Loop takes_one []) (outermost to_nothing [] ∷ []) [] br_by_results refl d).targets 0 _ refl
@@ -444,12 +444,25 @@ module _ (features : WasmFeatures) where
   -- a table of branches that looks at its default alone
   abbrev table_by_default : Operator
   table_by_default =
-      record { form = Flat; row = λ hs. record (plain_row true (I32 ∷ []) []) { ends_live = true; targets = target cx hs 0 ∷ target cx hs 1 ∷ [] } }
+      record { form = Flat; row = λ hs. record (plain_row (I32 ∷ []) []) { ends_live = true; targets = target cx hs 0 ∷ target cx hs 1 ∷ [] } }
 
   stuck_at_table : IsNotStuck cx (table_by_default ∷ []) (At 0 (label 0 Block (Val I64) (I32 ∷ []) ∷ outermost to_nothing [] ∷ []) []) → ⊥
   stuck_at_table d =
       let e = ((the_demand _ 0 (label 0 Block (Val I64) (I32 ∷ [])) (outermost to_nothing [] ∷ []) [] table_by_default refl d).targets 0 _ refl).0 in
       absurd cc
+
+  -- an operator that pushes what isn't known over operands that are
+  abbrev forgets : Operator
+  forgets = row_operator (looking_row 1 (λ found. Some (Bottom ∷ [])))
+
+  not_known : (types : List ValType) → Some (Bottom ∷ []) ≡ Some (map Known types) → ⊥
+  not_known [] e = absurd cc
+  not_known (t ∷ types) e = absurd cc
+
+  stuck_at_unknown : IsNotStuck cx (forgets ∷ []) (At 0 (outermost to_nothing (I32 ∷ []) ∷ []) []) → ⊥
+  stuck_at_unknown d =
+      let holds = (the_demand _ 0 (outermost to_nothing (I32 ∷ [])) [] [] forgets refl d).row in
+      not_known holds.0 holds.1
 
   -- an `if` without `else` that has results and no parameters
   stuck_at_if : IsNotStuck cx (an_if cx (Val I32) ∷ i32_const ∷ an_end ∷ an_end ∷ []) (At 0 (outermost to_nothing (I32 ∷ []) ∷ []) []) → ⊥
@@ -468,7 +481,7 @@ module _ (features : WasmFeatures) where
     br cx 0,
     refl,
     record {
-      row = (_, refl);
+      row = holding _ refl refl;
       targets = only (λ (t : Target). LabelAccepts cx (drop t.depth (label 0 Block Empty [] ∷ outermost to_nothing [] ∷ [])) (t.carried [])) (target cx (label_heads (label 0 Block Empty [] ∷ outermost to_nothing [] ∷ [])) 0) tt;
       clauses = λ j c e. absurd cc;
       no_else = λ h e. absurd cc;
@@ -538,7 +551,7 @@ module _ (features : WasmFeatures) where
   pushes_below = (
     operator tilted_context (Numeric (I64Const (pos 0))),
     refl,
-    record { row = (_, refl); targets = λ j t e. absurd cc; clauses = λ j c e. absurd cc; no_else = λ h e. absurd cc },
+    record { row = holding _ refl refl; targets = λ j t e. absurd cc; clauses = λ j c e. absurd cc; no_else = λ h e. absurd cc },
     by_going_on (I64 ∷ []) (I32 ∷ []) refl refl refl (refl, tt) refl,
   )
 
@@ -547,7 +560,7 @@ module _ (features : WasmFeatures) where
   takes_below = (
     operator tilted_context (Numeric (IntegerBinary IntegerI64 Add)),
     refl,
-    record { row = (_, refl); targets = λ j t e. absurd cc; clauses = λ j c e. absurd cc; no_else = λ h e. absurd cc },
+    record { row = holding _ refl refl; targets = λ j t e. absurd cc; clauses = λ j c e. absurd cc; no_else = λ h e. absurd cc },
   )
 
   -- and not what lies above
@@ -563,7 +576,7 @@ module _ (features : WasmFeatures) where
   gives_below = (
     an_end,
     refl,
-    record { row = (_, refl); targets = λ j t e. absurd cc; clauses = λ j c e. absurd cc; no_else = λ h e. absurd cc },
+    record { row = holding _ refl refl; targets = λ j t e. absurd cc; clauses = λ j c e. absurd cc; no_else = λ h e. absurd cc },
     by_closing (I32 ∷ []) refl (refl, tt) refl,
   )
 
@@ -573,7 +586,7 @@ module _ (features : WasmFeatures) where
     br tilted_context 0,
     refl,
     record {
-      row = (_, refl);
+      row = holding _ refl refl;
       targets = only (λ (t : Target). LabelAccepts tilted_context (drop t.depth (giving_i64 (I64 ∷ []) ∷ [])) (t.carried (I64 ∷ []))) (target tilted_context (label_heads (giving_i64 (I64 ∷ []) ∷ [])) 0) (refl, tt);
       clauses = λ j c e. absurd cc;
       no_else = λ h e. absurd cc;

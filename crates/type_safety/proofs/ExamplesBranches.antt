@@ -11,10 +11,10 @@ use Rattle.validate_visit.specs.declared.op.NumericOp.TheVariants.{I32Const, I64
 use Rattle.validation_rules.specs.Branches.{target}
 use Rattle.validation_rules.specs.Context.{SubType, ValType, I32, I64, BlockType, Empty, Val, FuncType, Context}
 use Rattle.validation_rules.specs.Rows.{FrameKind, Block, Loop, Ends, Target, Operator}
-use Rattle.validation_rules.specs.Table.{body, operator}
+use Rattle.validation_rules.specs.Operators.{body, operator}
 use Rattle.validation_rules.proofs.Steps.{some_injective}
 use Rattle.type_safety.specs.Machine.{Label, label_heads, At, Returned, LabelAccepts, Demand, configuration, Step}
-use Rattle.type_safety.proofs.Outcomes.{by_going_on, by_jumping}
+use Rattle.type_safety.proofs.Outcomes.{holding, by_going_on, by_jumping}
 use Rattle.type_safety.specs.Theorem.{IsTypeSafe}
 use Rattle.type_safety.proofs.Bodies.{body_safety}
 
@@ -83,7 +83,7 @@ in_loop own = label 1 Loop i32_to_i64 own ∷ outermost to_nothing [] ∷ []
 -- at `br_if`: the parameter, and the test above it
 at_test : Demand cx looping (configuration 3 (label 1 Loop i32_to_i64 (I32 ∷ I32 ∷ [])) (outermost to_nothing [] ∷ []) [] (operator cx (Control (BrIf 0))))
 at_test = record {
-  row = (_, refl);
+  row = holding _ refl refl;
   targets = only (λ (t : Target). LabelAccepts cx (drop t.depth (in_loop (I32 ∷ I32 ∷ []))) (t.carried (I32 ∷ I32 ∷ []))) (target cx (label_heads (in_loop [])) 0) (refl, tt);
   clauses = λ j c e. absurd cc;
   no_else = λ h e. absurd cc;
@@ -122,7 +122,7 @@ in_blocks own = label 1 Block (Val I64) own ∷ outer_block []
 
 at_table : Demand cx choosing (configuration 4 (label 1 Block (Val I64) (I32 ∷ I64 ∷ [])) (outer_block []) [] (operator cx (br_table (1 ∷ []) 0)))
 at_table = record {
-  row = (_, refl);
+  row = holding _ refl refl;
   targets = each_of_two (λ (t : Target). LabelAccepts cx (drop t.depth (in_blocks (I32 ∷ I64 ∷ []))) (t.carried (I64 ∷ I32 ∷ []))) (target cx (label_heads (in_blocks [])) 0) (target cx (label_heads (in_blocks [])) 1) (refl, tt) (refl, tt);
   clauses = λ j c e. absurd cc;
   no_else = λ h e. absurd cc;
@@ -161,7 +161,7 @@ returns = (
   operator cx (Control Return),
   refl,
   record {
-    row = (_, refl);
+    row = holding _ refl refl;
     targets = only (λ (t : Target). LabelAccepts cx (drop t.depth (label 0 Block (Val I64) (I32 ∷ I64 ∷ []) ∷ outermost (Val I32) [] ∷ [])) (t.carried (I32 ∷ []))) (target cx (label_heads (label 0 Block (Val I64) [] ∷ outermost (Val I32) [] ∷ [])) 1) (refl, tt);
     clauses = λ j c e. absurd cc;
     no_else = λ h e. absurd cc;
@@ -175,7 +175,7 @@ selects : Step cx (body cx (Control Select ∷ [])) (At 0 (outermost to_nothing 
 selects = (
   operator cx (Control Select),
   refl,
-  record { row = (_, refl); targets = λ j t e. absurd cc; clauses = λ j c e. absurd cc; no_else = λ h e. absurd cc },
+  record { row = holding _ refl refl; targets = λ j t e. absurd cc; clauses = λ j c e. absurd cc; no_else = λ h e. absurd cc },
   by_going_on (I64 ∷ []) (I64 ∷ []) refl refl refl (refl, tt) refl,
 )
 

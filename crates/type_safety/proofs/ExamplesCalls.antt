@@ -12,10 +12,10 @@ use Rattle.validate_visit.specs.declared.op.Op.TheVariants.{Control, Numeric}
 use Rattle.validation_rules.specs.Context.{SubType, ValType, I32, I64, F32, BlockType, Empty, Val, Context}
 use Rattle.validation_rules.specs.Fits.{Known}
 use Rattle.validation_rules.specs.Rows.{Block, Target, Operator}
-use Rattle.validation_rules.specs.Table.{body, operator}
+use Rattle.validation_rules.specs.Operators.{body, operator}
 use Rattle.validation_rules.proofs.Steps.{some_injective}
 use Rattle.type_safety.specs.Machine.{Label, At, Returned, LabelAccepts, Demand, configuration, IsNotStuck, Step}
-use Rattle.type_safety.proofs.Outcomes.{by_going_on, by_jumping}
+use Rattle.type_safety.proofs.Outcomes.{holding, by_going_on, by_jumping}
 use Rattle.type_safety.specs.Theorem.{IsTypeSafe}
 use Rattle.type_safety.proofs.Bodies.{body_safety}
 
@@ -69,7 +69,7 @@ only P x p (suc j) y e = absurd cc
 -- at the call, over two i32: its label is the outermost, and it carries an i64 there
 at_tail_call : Demand cx leaving (configuration 3 (in_block (I32 ∷ I32 ∷ [])) outermost [] (operator cx (return_call 0)))
 at_tail_call = record {
-  row = (_, refl);
+  row = holding _ refl refl;
   targets = only (λ (t : Target). LabelAccepts cx (drop t.depth (in_block (I32 ∷ I32 ∷ []) ∷ outermost)) (t.carried (I32 ∷ []))) (record { depth = 1; carried = λ found. I64 ∷ [] }) (refl, tt);
   clauses = λ j c e. absurd cc;
   no_else = λ h e. absurd cc;
@@ -108,7 +108,7 @@ calls : Step cx calling (At 0 outermost []) (At 1 (label 0 (Val I64) (I64 ∷ I3
 calls = (
   operator cx (call 1),
   refl,
-  record { row = (_, refl); targets = λ j t e. absurd cc; clauses = λ j c e. absurd cc; no_else = λ h e. absurd cc },
+  record { row = holding _ refl refl; targets = λ j t e. absurd cc; clauses = λ j c e. absurd cc; no_else = λ h e. absurd cc },
   by_going_on (I32 ∷ I64 ∷ []) (I32 ∷ I64 ∷ []) refl refl refl (refl, (refl, tt)) refl,
 )
 
@@ -116,7 +116,7 @@ sets : Step cx calling (At 1 (label 0 (Val I64) (I64 ∷ I32 ∷ []) ∷ []) [])
 sets = (
   operator cx (Control (GlobalSet 1)),
   refl,
-  record { row = (_, refl); targets = λ j t e. absurd cc; clauses = λ j c e. absurd cc; no_else = λ h e. absurd cc },
+  record { row = holding _ refl refl; targets = λ j t e. absurd cc; clauses = λ j c e. absurd cc; no_else = λ h e. absurd cc },
   by_going_on [] [] refl refl refl tt refl,
 )
 

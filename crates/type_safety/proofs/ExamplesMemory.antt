@@ -13,11 +13,11 @@ use Rattle.validate_visit.specs.declared.op.Op.{Op}
 use Rattle.validate_visit.specs.declared.op.Op.TheVariants.{Control, Numeric, Memory}
 use Rattle.validation_rules.specs.Context.{ValType, I32, I64, Empty, Context}
 use Rattle.validation_rules.specs.Rows.{Block, Operator}
-use Rattle.validation_rules.specs.Table.{body, operator}
+use Rattle.validation_rules.specs.Operators.{body, operator}
 use Rattle.validation_rules.proofs.Steps.{some_injective}
 use Rattle.type_safety.specs.Machine.{Label, Machine, At, Trapped, Demand, configuration, IsNotStuck, Step}
 use Rattle.type_safety.specs.Machine.Outcome.{traps}
-use Rattle.type_safety.proofs.Outcomes.{by_going_on}
+use Rattle.type_safety.proofs.Outcomes.{holding, by_going_on}
 use Rattle.type_safety.specs.Theorem.{IsTypeSafe}
 use Rattle.type_safety.proofs.Bodies.{body_safety}
 
@@ -64,7 +64,7 @@ loads : Step cx moving (standing 2 (I64 ∷ I32 ∷ [])) (standing 3 (I64 ∷ I3
 loads = (
   operator cx (load 1),
   refl,
-  record { row = (_, refl); targets = λ j t e. absurd cc; clauses = λ j c e. absurd cc; no_else = λ h e. absurd cc },
+  record { row = holding _ refl refl; targets = λ j t e. absurd cc; clauses = λ j c e. absurd cc; no_else = λ h e. absurd cc },
   by_going_on (I64 ∷ []) (I64 ∷ []) refl refl refl (refl, tt) refl,
 )
 
@@ -73,7 +73,7 @@ stores : Step cx moving (standing 3 (I64 ∷ I32 ∷ [])) (standing 4 [])
 stores = (
   operator cx (store 0),
   refl,
-  record { row = (_, refl); targets = λ j t e. absurd cc; clauses = λ j c e. absurd cc; no_else = λ h e. absurd cc },
+  record { row = holding _ refl refl; targets = λ j t e. absurd cc; clauses = λ j c e. absurd cc; no_else = λ h e. absurd cc },
   by_going_on [] [] refl refl refl tt refl,
 )
 
@@ -82,7 +82,7 @@ may_trap : Step cx moving (standing 3 (I64 ∷ I32 ∷ [])) Trapped
 may_trap = (
   operator cx (store 0),
   refl,
-  record { row = (_, refl); targets = λ j t e. absurd cc; clauses = λ j c e. absurd cc; no_else = λ h e. absurd cc },
+  record { row = holding _ refl refl; targets = λ j t e. absurd cc; clauses = λ j c e. absurd cc; no_else = λ h e. absurd cc },
   traps refl,
 )
 

@@ -19,10 +19,10 @@ use Rattle.validation_rules.specs.Branches.{target}
 use Rattle.validation_rules.specs.Context.{SubType, ValType, I32, I64, Ref, BlockType, Val, FuncType, Context}
 use Rattle.validation_rules.specs.References.{last_without_null}
 use Rattle.validation_rules.specs.Rows.{Block, Ends, Target, Operator}
-use Rattle.validation_rules.specs.Table.{body, operator}
+use Rattle.validation_rules.specs.Operators.{body, operator}
 use Rattle.validation_rules.proofs.Steps.{some_injective}
 use Rattle.type_safety.specs.Machine.{Label, label_heads, At, LabelAccepts, Demand, configuration, IsNotStuck, Step}
-use Rattle.type_safety.proofs.Outcomes.{by_going_on, by_jumping}
+use Rattle.type_safety.proofs.Outcomes.{holding, by_going_on, by_jumping}
 use Rattle.type_safety.specs.Theorem.{IsTypeSafe}
 use Rattle.type_safety.proofs.Bodies.{body_safety}
 
@@ -103,7 +103,7 @@ in_block own = label 0 (Val I32) own ∷ outermost []
 -- over the i32 a reference, null or not: the i32 alone is carried
 at_null : Demand cx testing (configuration 3 (label 0 (Val I32) (null func ∷ I32 ∷ [])) (outermost []) [] (operator cx (br_on_null 0)))
 at_null = record {
-  row = (_, refl);
+  row = holding _ refl refl;
   targets = only (λ (t : Target). LabelAccepts cx (drop t.depth (in_block (null func ∷ I32 ∷ []))) (t.carried (I32 ∷ null func ∷ []))) (target cx (label_heads (in_block [])) 0) (refl, tt);
   clauses = λ j c e. absurd cc;
   no_else = λ h e. absurd cc;
@@ -170,7 +170,7 @@ in_giving own = label 0 to_i32_and_func own ∷ outermost []
 -- both are carried, and what the block gives is never null
 at_non_null : Demand cx giving (configuration 3 (label 0 to_i32_and_func (null func ∷ I32 ∷ [])) (outermost []) [] (operator cx (br_on_non_null 0)))
 at_non_null = record {
-  row = (_, refl);
+  row = holding _ refl refl;
   targets = only (λ (t : Target). LabelAccepts cx (drop t.depth (in_giving (null func ∷ I32 ∷ []))) (t.carried (I32 ∷ null func ∷ []))) (record { depth = 0; carried = last_without_null }) (refl, (refl, tt));
   clauses = λ j c e. absurd cc;
   no_else = λ h e. absurd cc;
@@ -218,7 +218,7 @@ tests : Step cx calling (At 1 (outermost (null func ∷ [])) []) (At 2 (outermos
 tests = (
   operator cx (Reference RefIsNull),
   refl,
-  record { row = (_, refl); targets = λ j t e. absurd cc; clauses = λ j c e. absurd cc; no_else = λ h e. absurd cc },
+  record { row = holding _ refl refl; targets = λ j t e. absurd cc; clauses = λ j c e. absurd cc; no_else = λ h e. absurd cc },
   by_going_on (I32 ∷ []) (I32 ∷ []) refl refl refl (refl, tt) refl,
 )
 
@@ -226,7 +226,7 @@ loses : Step cx calling (At 4 (outermost (null (concrete 0) ∷ [])) []) (At 5 (
 loses = (
   operator cx (Reference RefAsNonNull),
   refl,
-  record { row = (_, refl); targets = λ j t e. absurd cc; clauses = λ j c e. absurd cc; no_else = λ h e. absurd cc },
+  record { row = holding _ refl refl; targets = λ j t e. absurd cc; clauses = λ j c e. absurd cc; no_else = λ h e. absurd cc },
   by_going_on (no_null (concrete 0) ∷ []) (no_null (concrete 0) ∷ []) refl refl refl (refl, tt) refl,
 )
 
@@ -235,7 +235,7 @@ calls : Step cx calling (At 5 (outermost (no_null (concrete 0) ∷ [])) []) (At 
 calls = (
   operator cx (Control (CallRef 0)),
   refl,
-  record { row = (_, refl); targets = λ j t e. absurd cc; clauses = λ j c e. absurd cc; no_else = λ h e. absurd cc },
+  record { row = holding _ refl refl; targets = λ j t e. absurd cc; clauses = λ j c e. absurd cc; no_else = λ h e. absurd cc },
   by_going_on [] [] refl refl refl tt refl,
 )
 

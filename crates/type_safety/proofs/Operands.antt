@@ -1,10 +1,11 @@
 -- A row that holds over the validator's operands holds over the machine's, which lie below them.
 use Rattle.std.proofs.Common.{◌≡◌, ℕ, zero, suc, Bool, true, false, ◌&&◌, ◌||◌, ◌⊎◌, inl, inr, List, [], ◌∷◌, ◌++◌, length, map, take, drop, Option, Some, None, refl, sym, ap, ◌∙◌, subst, slice_get, nat_eq, nat_le}
+use Rattle.std.specs.List.{list_any}
 use Rattle.validate_resources.specs.Context.{IsLawful}
 use Rattle.validation_rules.specs.Context.{ValType, Context, AllBelow, is_set_at_entry}
 use Rattle.validation_rules.specs.Fits.{MaybeType, Known, all_fit}
 use Rattle.validation_rules.specs.Rows.{Head, results, is_if, is_try, may_catch, Form, Flat, Opens, BeginsElse, BeginsCatch, Ends, Delegates, Clause, Row, guard, operands_wanted, pushed_for, label_types}
-use Rattle.validation_rules.specs.Static.{Frame, is_among, is_set, reads_set, onto, operands_on_top, operands_found, operands_below, pushed_by_form, pushed_by_row, clauses_fit, clause_fits, label_accepts, first_set_after, may_close}
+use Rattle.validation_rules.specs.Static.{Frame, is_set, reads_set, onto, operands_on_top, operands_found, operands_below, pushed_by_form, pushed_by_row, clauses_fit, clause_fits, label_accepts, first_set_after, may_close}
 use Rattle.type_safety.specs.Machine.{Label, live_frame, types_on_top, set_after}
 use Rattle.type_safety.proofs.Laws.{IsMonotoneAt, HeadAccepts, IsLawfulRow}
 use Rattle.validation_rules.proofs.Below.{and_true, true_and, below-length, below-trans, below-take, below-drop, below-onto, below_of_fit, fit_of_below, drop-known, on_top-known, onto-known, length-known}
@@ -13,7 +14,7 @@ use Rattle.validation_rules.proofs.Steps.{if_fits, joined, some_injective, guard
 -- ---- sets of locals
 
 abbrev pub IsWithin : List ℕ → List ℕ → Type 0
-IsWithin xs ys = (i : ℕ) → is_among xs i ≡ true → is_among ys i ≡ true
+IsWithin xs ys = (i : ℕ) → list_any (nat_eq i) xs ≡ true → list_any (nat_eq i) ys ≡ true
 
 or_cases : (a b : Bool) → a || b ≡ true → (a ≡ true) ⊎ (b ≡ true)
 or_cases true b h = inl refl
@@ -27,25 +28,25 @@ or_right : (a b : Bool) → b ≡ true → a || b ≡ true
 or_right true b h = refl
 or_right false b h = h
 
-has_cases : (xs ys : List ℕ) (i : ℕ) → is_among (xs ++ ys) i ≡ true → (is_among xs i ≡ true) ⊎ (is_among ys i ≡ true)
+has_cases : (xs ys : List ℕ) (i : ℕ) → list_any (nat_eq i) (xs ++ ys) ≡ true → (list_any (nat_eq i) xs ≡ true) ⊎ (list_any (nat_eq i) ys ≡ true)
 has_cases [] ys i h = inr h
 has_cases (x ∷ xs) ys i h =
-    elim (or_cases (nat_eq i x) (is_among (xs ++ ys) i) h) [
-      | inl e ↦ inl (or_left (nat_eq i x) (is_among xs i) e)
-      | inr e ↦ elim (has_cases xs ys i e) [ inl d ↦ inl (or_right (nat_eq i x) (is_among xs i) d) | inr d ↦ inr d ]
+    elim (or_cases (nat_eq i x) (list_any (nat_eq i) (xs ++ ys)) h) [
+      | inl e ↦ inl (or_left (nat_eq i x) (list_any (nat_eq i) xs) e)
+      | inr e ↦ elim (has_cases xs ys i e) [ inl d ↦ inl (or_right (nat_eq i x) (list_any (nat_eq i) xs) d) | inr d ↦ inr d ]
     ]
 
-has_left : (xs ys : List ℕ) (i : ℕ) → is_among xs i ≡ true → is_among (xs ++ ys) i ≡ true
+has_left : (xs ys : List ℕ) (i : ℕ) → list_any (nat_eq i) xs ≡ true → list_any (nat_eq i) (xs ++ ys) ≡ true
 has_left [] ys i h = absurd cc
 has_left (x ∷ xs) ys i h =
-    elim (or_cases (nat_eq i x) (is_among xs i) h) [
-      | inl e ↦ or_left (nat_eq i x) (is_among (xs ++ ys) i) e
-      | inr e ↦ or_right (nat_eq i x) (is_among (xs ++ ys) i) (has_left xs ys i e)
+    elim (or_cases (nat_eq i x) (list_any (nat_eq i) xs) h) [
+      | inl e ↦ or_left (nat_eq i x) (list_any (nat_eq i) (xs ++ ys)) e
+      | inr e ↦ or_right (nat_eq i x) (list_any (nat_eq i) (xs ++ ys)) (has_left xs ys i e)
     ]
 
-has_right : (xs ys : List ℕ) (i : ℕ) → is_among ys i ≡ true → is_among (xs ++ ys) i ≡ true
+has_right : (xs ys : List ℕ) (i : ℕ) → list_any (nat_eq i) ys ≡ true → list_any (nat_eq i) (xs ++ ys) ≡ true
 has_right [] ys i h = h
-has_right (x ∷ xs) ys i h = or_right (nat_eq i x) (is_among (xs ++ ys) i) (has_right xs ys i h)
+has_right (x ∷ xs) ys i h = or_right (nat_eq i x) (list_any (nat_eq i) (xs ++ ys)) (has_right xs ys i h)
 
 pub within_right : (xs ys zs : List ℕ) → IsWithin (xs ++ ys) zs → IsWithin ys zs
 within_right xs ys zs w i h = w i (has_right xs ys i h)
@@ -57,14 +58,14 @@ within_both : (xs ys zs : List ℕ) → IsWithin xs zs → IsWithin ys zs → Is
 within_both xs ys zs v w i h = elim (has_cases xs ys i h) [ inl e ↦ v i e | inr e ↦ w i e ]
 
 one_within : (j : ℕ) (zs : List ℕ) → IsWithin (j ∷ []) (j ∷ zs)
-one_within j zs i h = elim (or_cases (nat_eq i j) false h) [ inl e ↦ or_left (nat_eq i j) (is_among zs i) e | inr e ↦ absurd cc ]
+one_within j zs i h = elim (or_cases (nat_eq i j) false h) [ inl e ↦ or_left (nat_eq i j) (list_any (nat_eq i) zs) e | inr e ↦ absurd cc ]
 
 joined_within : (b : Bool) (i : ℕ) (xs ys zs : List ℕ) → IsWithin (xs ++ ys) zs → IsWithin (joined b xs i ++ ys) (i ∷ zs)
-joined_within true i xs ys zs w j h = or_right (nat_eq j i) (is_among zs j) (w j h)
+joined_within true i xs ys zs w j h = or_right (nat_eq j i) (list_any (nat_eq j) zs) (w j h)
 joined_within false i xs ys zs w j h =
     within_both (xs ++ i ∷ []) ys (i ∷ zs)
-    (within_both xs (i ∷ []) (i ∷ zs) (λ k e. or_right (nat_eq k i) (is_among zs k) (within_left xs ys zs w k e)) (one_within i zs))
-    (λ k e. or_right (nat_eq k i) (is_among zs k) (within_right xs ys zs w k e))
+    (within_both xs (i ∷ []) (i ∷ zs) (λ k e. or_right (nat_eq k i) (list_any (nat_eq k) zs) (within_left xs ys zs w k e)) (one_within i zs))
+    (λ k e. or_right (nat_eq k i) (list_any (nat_eq k) zs) (within_right xs ys zs w k e))
     j h
 
 -- the locals that a frame has set after an operator are within those of the machine
@@ -74,9 +75,9 @@ set_within cx set (Some i) xs ys zs w = joined_within (is_set cx set i) i xs ys 
 
 is_set_within : (cx : Context) (xs ys : List ℕ) (i : ℕ) → IsWithin xs ys → is_set cx xs i ≡ true → is_set cx ys i ≡ true
 is_set_within cx xs ys i w h =
-    elim (or_cases (is_among xs i) (is_set_at_entry cx i) h) [
-      | inl e ↦ or_left (is_among ys i) (is_set_at_entry cx i) (w i e)
-      | inr e ↦ or_right (is_among ys i) (is_set_at_entry cx i) e
+    elim (or_cases (list_any (nat_eq i) xs) (is_set_at_entry cx i) h) [
+      | inl e ↦ or_left (list_any (nat_eq i) ys) (is_set_at_entry cx i) (w i e)
+      | inr e ↦ or_right (list_any (nat_eq i) ys) (is_set_at_entry cx i) e
     ]
 
 reads_within : (cx : Context) (xs ys : List ℕ) (o : Option ℕ) → IsWithin xs ys → reads_set cx xs o ≡ true → reads_set cx ys o ≡ true
@@ -152,7 +153,7 @@ module _ (cx : Context) where
   closes_below l f us laws head live own below h =
       subst (λ k. may_close cx (record { head = k; operands = map Known l.operands; dead = false; first_set = [] }) ≡ true) (sym head) (closes_by l f us laws live own below h)
 
-  closing : (row : Row) (l : Label) (f : Frame) (us : List ValType) (kind kind' : Bool) → kind' ≡ kind → (pushed : List MaybeType) → IsLawful cx.of_module → l.head ≡ f.head → f.dead ≡ false → f.operands ≡ map Known us → AllBelow cx l.operands us → guard (row.premise && (kind && may_close cx f)) (Some []) ≡ Some pushed → (ps : List MaybeType) × (guard (row.premise && (kind' && may_close cx (live_frame l))) (Some []) ≡ Some ps)
+  closing : (row : Row) (l : Label) (f : Frame) (us : List ValType) (kind kind' : Bool) → kind' ≡ kind → (pushed : List MaybeType) → IsLawful cx.of_module → l.head ≡ f.head → f.dead ≡ false → f.operands ≡ map Known us → AllBelow cx l.operands us → guard (row.premise && (kind && may_close cx f)) (Some []) ≡ Some pushed → (ps : List ValType) × (guard (row.premise && (kind' && may_close cx (live_frame l))) (Some []) ≡ Some (map Known ps))
   closing row l f us kind kind' same pushed laws head live own below p =
       let g = guard_some _ _ _ p in
       let a = and_true row.premise _ g.0 in
@@ -161,13 +162,13 @@ module _ (cx : Context) where
       ([], ap (λ t. guard t (Some [])) test)
 
   -- any operator: its row holds over the label read as a live frame
-  pub holds_below : (row : Row) (hs : List Head) (set mset : List ℕ) (l : Label) (f : Frame) (us : List ValType) (form : Form) (pushed : List MaybeType) → IsLawful cx.of_module → IsLawfulRow cx hs row → l.head ≡ f.head → f.dead ≡ false → f.operands ≡ map Known us → AllBelow cx l.operands us → IsWithin set mset → pushed_by_form cx row hs set f form ≡ Some pushed → (ps : List MaybeType) × (pushed_by_form cx row hs mset (live_frame l) form ≡ Some ps)
+  pub holds_below : (row : Row) (hs : List Head) (set mset : List ℕ) (l : Label) (f : Frame) (us : List ValType) (form : Form) (pushed : List MaybeType) → IsLawful cx.of_module → IsLawfulRow cx hs row → l.head ≡ f.head → f.dead ≡ false → f.operands ≡ map Known us → AllBelow cx l.operands us → IsWithin set mset → pushed_by_form cx row hs set f form ≡ Some pushed → (ps : List ValType) × (pushed_by_form cx row hs mset (live_frame l) form ≡ Some (map Known ps))
   holds_below row hs set mset l f us Flat pushed laws rl head live own below within p =
       let a = passes row hs set mset l f us pushed rl live own below within p in
-      (_, a.holds)
+      (a.monotone.lower, a.holds)
   holds_below row hs set mset l f us (Opens o) pushed laws rl head live own below within p =
       let a = passes row hs set mset l f us pushed rl live own below within p in
-      (_, a.holds)
+      (a.monotone.lower, a.holds)
   holds_below row hs set mset l f us BeginsElse pushed laws rl head live own below within p =
       closing row l f us (is_if f.head.kind) (is_if l.head.kind) (ap (λ h. is_if h.kind) head) pushed laws head live own below p
   holds_below row hs set mset l f us (BeginsCatch all types) pushed laws rl head live own below within p =

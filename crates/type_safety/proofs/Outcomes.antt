@@ -1,11 +1,20 @@
--- Each outcome from its parts in order, for the runs of the examples.
-use Rattle.std.specs.Prelude.{◌≡◌, ℕ, suc, Bool, List, ◌∷◌, Some, IsTrue, IsFalse, map, drop, slice_get}
+-- Demands and outcomes from their parts in order, for the runs of the examples.
+use Rattle.std.specs.Prelude.{◌≡◌, ℕ, suc, Bool, List, [], ◌∷◌, Option, Some, IsTrue, IsFalse, map, drop, slice_get}
+use Rattle.std.proofs.Common.{sym, ap, ◌∙◌}
 use Rattle.validation_rules.specs.Context.{ValType, Context, AllBelow}
-use Rattle.validation_rules.specs.Fits.{Known}
+use Rattle.validation_rules.specs.Fits.{MaybeType, Known}
 use Rattle.validation_rules.specs.Rows.{Head, params, results, is_if, is_try, is_try_table, Else, Flat, Opens, BeginsElse, BeginsCatch, Target, Clause, Operator, catch_kind}
 use Rattle.validation_rules.specs.Static.{of_kind}
 use Rattle.type_safety.specs.Machine.{Label, opened_label, label_with, Machine, At, Configuration, labels_at, row_in, row_at, operands_taken, label_below, pushed_types_at, is_closer, is_separator, IsDelimiter, IsCloser, HasNoElse, set_after, machine_after_exit, Branches, Outcome}
 use Rattle.type_safety.specs.Machine.Outcome.{goes_on, enters, enters_else, skips_if, jumps, closes, ends_part, catches, catches_legacy}
+
+abbrev pub known_in : List MaybeType → List ValType
+known_in (Known t ∷ pushed) = t ∷ known_in pushed
+known_in _ = []
+
+-- a row that holds, and pushes known types
+pub holding : {o : Option (List MaybeType)} (pushed : List MaybeType) → o ≡ Some pushed → map Known (known_in pushed) ≡ pushed → (types : List ValType) × (o ≡ Some (map Known types))
+holding pushed e known = (known_in pushed, e ∙ ap Some (sym known))
 
 pub by_going_on : {cx : Context} {code : List Operator} {here : Configuration} {next : Machine} (pushed types : List ValType) → here.op.form ≡ Flat → IsFalse (row_at here).ends_live → pushed_types_at cx here ≡ Some (map Known pushed) → AllBelow cx types pushed → next ≡ At (suc here.place) (label_with types (label_below here) ∷ here.outer) (set_after (row_at here).sets here.set) → Outcome cx code here next
 by_going_on pushed types flat live p below is =

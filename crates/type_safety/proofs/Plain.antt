@@ -6,7 +6,7 @@ use Rattle.validate_types.specs.declared.gate.Gate.{Gate}
 use Rattle.validation_rules.specs.Context.{ValType, Context, AllBelow}
 use Rattle.validation_rules.specs.Fits.{MaybeType, Known, all_fit}
 use Rattle.validation_rules.specs.Rows.{Head, Form, Plain, Looks, Target, Row, Operator, guard, all_fit_each, pushed_for, is_instruction}
-use Rattle.validation_rules.specs.Table.{lookup_row, looking_row, flat_operator, row_operator, delimiter_operator, gated_operator}
+use Rattle.validation_rules.specs.Operators.{lookup_row, looking_row_if, flat_operator, row_operator, delimiter_operator, gated_operator}
 use Rattle.validation_rules.proofs.Below.{and_true, true_and, below-trans, below_of_fit, fit_of_below}
 use Rattle.validation_rules.proofs.Steps.{some_injective, guard_some}
 use Rattle.type_safety.proofs.Laws.{IsMonotoneAt, IsLawfulRow, IsLawfulOperator}
@@ -68,11 +68,11 @@ module _ (cx : Context) (laws : IsLawful cx.of_module) where
   pub plain_lawful : (premise : Bool) (reads sets : Option ℕ) (wanted push : List ValType) (dead : Bool) → IsLawfulOperator cx (row_operator (record { premise = premise; reads = reads; type = Plain wanted [] push; sets = sets; targets = []; clauses = []; ends_live = dead }))
   plain_lawful premise reads sets wanted push dead = flat_lawful _ (λ hs. no_target hs _ refl (plain_monotone wanted [] push))
 
-  pub looking_lawful : (premise : Bool) (n : ℕ) (f : List MaybeType → Option (List MaybeType)) → ((xs ys : List ValType) (pushed : List MaybeType) → AllBelow cx ys xs → f (map Known xs) ≡ Some pushed → IsMonotoneAt cx (Looks n f) xs ys pushed) → IsLawfulOperator cx (row_operator (looking_row premise n f))
+  pub looking_lawful : (premise : Bool) (n : ℕ) (f : List MaybeType → Option (List MaybeType)) → ((xs ys : List ValType) (pushed : List MaybeType) → AllBelow cx ys xs → f (map Known xs) ≡ Some pushed → IsMonotoneAt cx (Looks n f) xs ys pushed) → IsLawfulOperator cx (row_operator (looking_row_if premise n f))
   looking_lawful premise n f h = flat_lawful _ (λ hs. no_target hs _ refl h)
 
-  pub closing_lawful : (form : Form) (premise : Bool) → is_instruction form ≡ false → IsLawfulOperator cx (delimiter_operator form premise)
-  closing_lawful form premise i =
+  pub closing_lawful : (form : Form) → is_instruction form ≡ false → IsLawfulOperator cx (delimiter_operator form)
+  closing_lawful form i =
       record {
         row = λ hs. no_target hs _ refl (plain_monotone [] [] []);
         closing = λ hs k. (refl, refl);

@@ -10,7 +10,7 @@ use Rattle.validation_rules.specs.Context.{ValType, I32, Ref, Context, IsBelow, 
 use Rattle.validation_rules.specs.Fits.{MaybeType, Known}
 use Rattle.validation_rules.specs.References.{null_test_pushes, non_null_pushes, last_reference, without_null_known, last_without_null, br_on_null_row, br_on_non_null_row_for, br_on_non_null_row}
 use Rattle.validation_rules.specs.Rows.{Head, Looks, guard}
-use Rattle.validation_rules.specs.Table.{lookup_row}
+use Rattle.validation_rules.specs.Operators.{lookup_row}
 use Rattle.validation_rules.proofs.Below.{below-trans}
 use Rattle.validation_rules.proofs.Steps.{some_injective, guard_some, mapped_some}
 use Rattle.type_safety.proofs.Laws.{IsMonotoneAt, IsLawfulRow}
@@ -100,7 +100,7 @@ module _ (cx : Context) (laws : IsLawful cx.of_module) where
   loses_null y r b =
       let l = laws.below_reference y (with_null r) b in
       let k = laws.non_null_keeps l.lower (with_null r) (subst (λ t. IsBelow cx t (Ref (with_null r))) l.is b) in
-      let v = laws.valid _ _ k in
+      let v = laws.both_valid _ _ k in
       subst (λ t. IsBelow cx (without_null_known t) (Ref r)) (sym l.is) (laws.transitive _ _ _ k (laws.non_null_below r v.1))
 
   last_loses_null : (ts : List ValType) (r : RefType) (ys : List ValType) → AllBelow cx ys (ts ++ Ref (with_null r) ∷ []) → AllBelow cx (last_without_null ys) (ts ++ Ref r ∷ [])

@@ -18,7 +18,7 @@ pub record IsBlock (code : List Operator) (k c : ℕ) : Type 0 where
 abbrev pub RowsHoldBefore : Context → List Operator → BlockType → ℕ → Type 0
 RowsHoldBefore cx code ty n = (s : State) × (before cx code (start ty) n ≡ Some s)
 
--- before place n the same frames are open as before place k, and the same locals are set
+-- before place n frames of the same heads are open as before place k, and the same locals are set
 pub record IsAsBefore (cx : Context) (code : List Operator) (ty : BlockType) (k n : ℕ) : Type 0 where
   pub opening : State
   pub is_before : before cx code (start ty) k ≡ Some opening

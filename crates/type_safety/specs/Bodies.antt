@@ -5,7 +5,7 @@ use Rattle.validate_visit.specs.declared.op.Op.{Op}
 use Rattle.validation_rules.specs.Context.{BlockType, Context}
 use Rattle.validation_rules.specs.Rows.{Operator}
 use Rattle.validation_rules.specs.Static.{Frame, State, start, before, IsAccepted, operand_count, frame_count}
-use Rattle.validation_rules.specs.Table.{body}
+use Rattle.validation_rules.specs.Operators.{body}
 use Rattle.type_safety.specs.Machine.{Label, At, Run, initial_machine}
 use Rattle.type_safety.specs.Theorem.{IsTypeSafe}
 

@@ -194,8 +194,9 @@ module _ (cx : Context) (code : List Operator) where
   -- asserted there "due to validation")
 
   pub record Demand (here : Configuration) : Type 0 where
-    -- its row holds: the operands are there and fit, and the local that it reads is set
-    pub row : (pushed : List MaybeType) × (pushed_types_at cx here ≡ Some pushed)
+    -- its row holds: the operands are there and fit, the local that it reads is set, and over operands of
+    -- known types it pushes known types
+    pub row : (pushed : List ValType) × (pushed_types_at cx here ≡ Some (map Known pushed))
     -- each label that it may branch to exists, and takes what the branch carries there
     pub targets :
         (j : ℕ) (t : Target) → slice_get (row_at here).targets j ≡ Some t →

@@ -34,7 +34,7 @@ unfolding Meets
 accepted_begun md op offset v w (Ok x) m = some_unpended v w (step (context md v.body) (op (context md v.body)) v.body.present) m.accepted
 accepted_begun md op offset v w (Err e) m = tt
 
-pub refused_begun : (md : ModuleContext) (op : Context → Operator) (offset : ℕ) (v : Stacked) (w : BodyState) (r : Result (Unit {0}) Refusal) → Meets md op offset (stacks_begun v).body r w → IfErr r (λ e. e.memory ≡ false → step_body md op v.body ≡ None)
+pub refused_begun : (md : ModuleContext) (op : Context → Operator) (offset : ℕ) (v : Stacked) (w : BodyState) (r : Result (Unit {0}) Refusal) → Meets md op offset (stacks_begun v).body r w → IfErr r (λ e. e.wants_memory ≡ false → step_body md op v.body ≡ None)
 unfolding Meets
 refused_begun md op offset v w (Ok x) m = tt
 refused_begun md op offset v w (Err e) m = λ f. unpended_none v (step (context md v.body) (op (context md v.body)) v.body.present) (m.refused f)

@@ -13,7 +13,7 @@ use Rattle.validation_rules.specs.Fits.{MaybeType}
 use Rattle.validation_rules.specs.Order.{nesting_of}
 use Rattle.validation_rules.specs.Rows.{results, Form, Flat, Opens, BeginsElse, BeginsCatch, Ends, Delegates, Row}
 use Rattle.validation_rules.specs.Static.{Frame, State, heads, locals_set, state_after_exit, state_after, step, step_in, before, start, operand_count, frame_count}
-use Rattle.validation_rules.specs.Table.{operator, body}
+use Rattle.validation_rules.specs.Operators.{operator, body}
 use Rattle.validation_rules.proofs.Below.{and_true}
 use Rattle.validation_rules.proofs.Order.{operator_nests}
 use Rattle.validation_rules.proofs.Steps.{stepped, before_then}
@@ -75,7 +75,7 @@ pub visited : (md : ModuleContext) (op : Op) (offset : ℕ) (v w : BodyState) (u
 unfolding Meets
 visited md op offset v w u m = step_some v w (step (context md v) (operator (context md v) op) v.present) m.accepted
 
-pub not_visited : (md : ModuleContext) (op : Op) (offset : ℕ) (v w : BodyState) (e : Refusal) → Meets md (λ cx. operator cx op) offset v (Err e) w → e.memory ≡ false → step (context md v) (operator (context md v) op) v.present ≡ None
+pub not_visited : (md : ModuleContext) (op : Op) (offset : ℕ) (v w : BodyState) (e : Refusal) → Meets md (λ cx. operator cx op) offset v (Err e) w → e.wants_memory ≡ false → step (context md v) (operator (context md v) op) v.present ≡ None
 unfolding Meets
 not_visited md op offset v w e m f = step_none v (step (context md v) (operator (context md v) op) v.present) (m.refused f)
 
@@ -124,7 +124,7 @@ module _ (md : ModuleContext) (v : BodyState) (ops : List (Op × ℕ)) (i : ℕ)
   row_there s r = before_then (context md v) (body_of md v ops) v.present i (operator (context md v) (get_or ops i d).0) s r (code_at (context md v) ops i d h)
 
   -- no memory was found at it
-  pub refused_memory : (s : State) (e : Refusal) → state_before md v ops i ≡ Some s → e.offset ≡ (get_or ops i d).1 → e.memory ≡ true → IsRefusedAt md v ops i e
+  pub refused_memory : (s : State) (e : Refusal) → state_before md v ops i ≡ Some s → e.offset ≡ (get_or ops i d).1 → e.wants_memory ≡ true → IsRefusedAt md v ops i e
   refused_memory s e r o m = record {
     operator = (get_or ops i d).0;
     at_offset = at_place ops i d h ∙ ap Some (pair_is (get_or ops i d) e.offset o);

@@ -18,7 +18,7 @@ func_starts md features i s laws h =
       one_frame = refl;
       none_pending = refl;
       is_valid = record {
-        locals_valid = laws.params i s h;
+        locals_valid = (laws.types i s h).params;
         frames = (record { block = record { type = s; is_there = h; is_shared = λ e. e }; operands = tt }, tt);
         left = tt;
       };

@@ -6,7 +6,7 @@ use Rattle.validate_visit.specs.declared.frame.BlockType.{BlockType}
 use Rattle.validate_visit.specs.declared.op.Op.{Op}
 use Rattle.validation_rules.specs.Rows.{Operator}
 use Rattle.validation_rules.specs.Static.{State, before, operand_count, frame_count}
-use Rattle.validation_rules.specs.Table.{body}
+use Rattle.validation_rules.specs.Operators.{body}
 use Rattle.validate_stacks.specs.State.{BodyState, context}
 use Rattle.type_safety.specs.Bodies.{HasHeights}
 use Rattle.type_safety.specs.Theorem.{IsTypeSafe}
@@ -49,7 +49,7 @@ pub record IsRefusedAt
   pub at_offset : slice_get ops k ≡ Some (operator, refusal.offset)
   pub state : State
   pub rows_before : state_before md v ops k ≡ Some state
-  pub row : refusal.memory ≡ false → state_before md v ops (suc k) ≡ None
+  pub row : refusal.wants_memory ≡ false → state_before md v ops (suc k) ≡ None
 
 -- No run of the typed machine over the list, however long and whatever it chooses, gets stuck; what it
 -- returns fits the results; and wherever it stands it has the labels, the operands and the heights of

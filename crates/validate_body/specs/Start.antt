@@ -1,4 +1,4 @@
--- The states that a validator is made in.
+-- The states that a validator is made in (the crate's own).
 use Rattle.std.specs.Prelude.{◌≡◌, ◌⊎◌, ℕ, ◌+◌, ◌<◌, ◌≤◌, true, false, [], Option, Some, None, length, map}
 use Rattle.std.specs.Option.{option_map}
 use Rattle.validate_locals.specs.Limit.{max_locals}

@@ -1,7 +1,7 @@
 //! One operator that is attempted: kept where it is accepted, or taken back whatever its outcome.
 
 ghost use Rattle.std.specs.Prelude.{◌≡◌, true, false, None, IsSome, OnOk, OnErr, IfErr};
-ghost use Rattle.validation_rules.specs.Table.{operator};
+ghost use Rattle.validation_rules.specs.Operators.{operator};
 ghost use Rattle.validate_stacks.specs.Attempts.{stacks_committed, stacks_rolled_back};
 ghost use Rattle.validate_stacks.specs.Visits.{step_body, MayVisit, Meets};
 ghost use Rattle.validate_body.specs.Start.{state, stacks_of};
@@ -68,7 +68,7 @@ pub fn try_and_undo<R: WasmModuleResources>(
     // It answers by the row.
     ensures accepted { OnOk result (IsSome (step_body (R.context resources.now)
         (λ cx. operator cx op.entry) (state v.old))) }
-    ensures refused { IfErr result (λ e. e.memory ≡ false
+    ensures refused { IfErr result (λ e. e.wants_memory ≡ false
         → step_body (R.context resources.now) (λ cx. operator cx op.entry) (state v.old) ≡ None) }
     ensures offset { IfErr result (λ e. e.offset ≡ offset) }
 {

@@ -67,7 +67,7 @@ pub fn check_ops<R: WasmModuleResources>(
             Err(refusal) => return Err((index, refusal)),
         }
         let noted = (v.operand_stack_height(), v.control_stack_height());
-        heights.push(noted).unwrap();
+        heights.push_reserved(noted);
     }
     Ok(v.control_stack_height() == 0)
 }

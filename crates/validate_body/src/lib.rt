@@ -4,10 +4,9 @@
 
 pub mod attempts;
 pub mod check;
+pub mod first_set;
 pub mod proposal;
 pub mod safety;
-#[cfg(test)]
-mod tests;
 pub mod validator;
 
 pub use crate::attempts::{try_and_undo, try_op};

@@ -5,11 +5,11 @@ ghost use Rattle.std.specs.Option.{option_copied};
 ghost use Rattle.validation_rules.specs.Static.{operand_count, frame_count};
 ghost use Rattle.validate_locals.specs.Limit.{max_locals};
 ghost use Rattle.validate_stacks.specs.Attempts.{may_attempt, stacks_begun, stacks_committed, stacks_rolled_back};
-ghost use Rattle.validate_stacks.specs.State.{IsStarting, IsValid, UndoneIsValid};
+ghost use Rattle.validate_stacks.specs.State.{IsStarting, IsValid, IsUndoneValid};
 ghost use Rattle.validate_stacks.specs.Visits.{MayVisit, Meets};
 ghost use Rattle.validate_operators.specs.Memory.{TakesNoMemory};
 ghost use Rattle.validate_visit.specs.declared.op.Op.{Op};
-ghost use Rattle.validation_rules.specs.Table.{operator};
+ghost use Rattle.validation_rules.specs.Operators.{operator};
 ghost use Rattle.validate_resources.specs.Context.{ModuleContext, Valid, signature_of};
 ghost use Rattle.validate_stacks.specs.Steps.{type_at_depth, frame_at, label_of};
 ghost use Rattle.validate_body.specs.Start.{state, stacks_of, func_start, const_start, IsFuncStart, HasTooManyParams, DefinesLocals, CannotDefine};
@@ -48,7 +48,7 @@ impl OperatorValidator {
     ) -> Result<OperatorValidator, Error>
         ensures made { IfOk result (λ v. IsFuncStart (R.context resources.now) features.now ty (state v)) }
         ensures starting { IfOk result (λ v. IsStarting (R.context resources.now) (state v)) }
-        ensures refused { IfErr result (λ e. e.memory ≡ false
+        ensures refused { IfErr result (λ e. e.wants_memory ≡ false
             → ((R.context resources.now).type_at ty ≡ None)
             ⊎ HasTooManyParams (R.context resources.now) ty) }
         ensures offset { IfErr result (λ e. e.offset ≡ offset) }
@@ -69,7 +69,7 @@ impl OperatorValidator {
     ) -> Result<OperatorValidator, Error>
         ensures made { IfOk result (λ v. state v ≡ const_start features.now ty) }
         ensures starting { IfOk result (λ v. (md : ModuleContext) → Valid md ty → IsStarting md (state v)) }
-        ensures memory { IfErr result (λ e. e.memory ≡ true) }
+        ensures memory { IfErr result (λ e. e.wants_memory ≡ true) }
         ensures offset { IfErr result (λ e. e.offset ≡ 0) }
     {
         let mut stacks = Stacks::new(*features, allocs);
@@ -93,7 +93,7 @@ impl OperatorValidator {
         requires { IsStarting (R.context resources.now) (state self.old) }
         ensures defined { OnOk result (DefinesLocals (R.context resources.now) count ty (state self.old)
             (state self.new)) }
-        ensures refused { IfErr result (λ e. e.memory ≡ false
+        ensures refused { IfErr result (λ e. e.wants_memory ≡ false
             → CannotDefine (R.context resources.now) count ty (state self.old)) }
         ensures err { OnErr result (state self.new ≡ state self.old) }
         ensures starting { IsStarting (R.context resources.now) (state self.new) }
@@ -254,7 +254,7 @@ impl OperatorValidator {
         requires { (state self.old).undone ≡ None }
         ensures begun { stacks_of self.new ≡ stacks_begun (stacks_of self.old) }
         ensures valid { (md : ModuleContext) → IsValid md (state self.old)
-            → UndoneIsValid md (state self.new) }
+            → IsUndoneValid md (state self.new) }
     {
         self.stacks.begin_try_op();
     }
@@ -271,7 +271,7 @@ impl OperatorValidator {
     pub fn rollback(&mut self)
         requires { IsSome (state self.old).undone }
         ensures back { stacks_of self.new ≡ stacks_rolled_back (stacks_of self.old) }
-        ensures valid { (md : ModuleContext) → UndoneIsValid md (state self.old)
+        ensures valid { (md : ModuleContext) → IsUndoneValid md (state self.old)
             → IsValid md (state self.new) }
     {
         self.stacks.rollback();
@@ -344,7 +344,7 @@ fn start_func(
 ) -> Result<OperatorValidator, Error>
     ensures made { IfOk result (λ v. state v ≡ func_start features ty sub_type.now) }
     ensures few { OnOk result (length (signature_of sub_type.now).params ≤ max_locals) }
-    ensures refused { IfErr result (λ e. e.memory ≡ false
+    ensures refused { IfErr result (λ e. e.wants_memory ≡ false
         → max_locals < length (signature_of sub_type.now).params) }
     ensures offset { IfErr result (λ e. e.offset ≡ offset) }
 {

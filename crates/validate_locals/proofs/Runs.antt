@@ -1,20 +1,17 @@
 -- Lists of locals in parts: more at the end, and the type at an index.
-use Rattle.std.proofs.Common.{◌≡◌, ℕ, zero, suc, ◌<◌, ◌≤◌, ◌+◌, ◌-◌, List, [], ◌∷◌, ◌++◌, Some, length, replicate, slice_get, get_or, refl, sym, ◌∙◌, ap, ap₂, subst, arith, append_assoc, append-nil, length-append}
-use Rattle.std.specs.List.{enumerate_from}
-use Rattle.std.specs.Option.{option_map}
-use Rattle.std.proofs.lemmas.List.{length-replicate}
+use Rattle.std.proofs.Common.{◌≡◌, ℕ, zero, suc, ◌<◌, ◌≤◌, ◌+◌, ◌-◌, ◌*◌, inl, inr, List, [], ◌∷◌, ◌++◌, Option, None, Some, length, replicate, slice_get, get_or, refl, sym, ◌∙◌, ap, ap₂, subst, arith, append_assoc, append-nil, length-append}
+use Rattle.std.specs.Option.{option_map, option_to_list}
+use Rattle.std.proofs.Math.Nat.{mul-le-mul_left}
+use Rattle.std.proofs.lemmas.Bool.{cases_lt}
+use Rattle.std.proofs.lemmas.List.{length-replicate, replicate-append-replicate, get_or_default}
 use Rattle.validate_types.specs.declared.types.ValType.{ValType}
 use Rattle.validate_locals.specs.Limit.{max_locals}
-use Rattle.validate_locals.specs.Runs.{max_first, run_types, local_types, AreRuns, AreLocals}
+use Rattle.validate_locals.specs.Runs.{max_first, run_types, local_types, end_of, AreRuns, AreLongerRuns, AreLocals, IsBetween}
 
 abbrev pub Run : Type 0
 Run = ℕ × ValType
 
 -- ---- more runs
-
--- where the runs end
-abbrev pub end_of : ℕ → List Run → ℕ
-end_of n rs = n + length (run_types n rs)
 
 end-cons : (n : ℕ) (r : Run) (rs : List Run) → n ≤ r.0 → end_of n (r ∷ rs) ≡ end_of (r.0 + 1) rs
 end-cons n r rs h =
@@ -33,29 +30,11 @@ runs-append : (n : ℕ) (rs more : List Run) → AreRuns n rs → AreRuns (end_o
 runs-append n [] more h k = let e : n + 0 ≡ n = omega arith in subst (λ m. AreRuns m more) e k
 runs-append n (r ∷ rs) more h k = (h.0, runs-append (r.0 + 1) rs more h.1 (subst (λ m. AreRuns m more) (end-cons n r rs h.0) k))
 
--- ---- runs of one local each, and one run
+runs-front : (n : ℕ) (rs : List Run) (r : Run) → AreRuns n (rs ++ r ∷ []) → AreRuns n rs × (end_of n rs ≤ r.0)
+runs-front n [] r h = (tt, omega (arith, h.0))
+runs-front n (q ∷ rs) r h = let k = runs-front (q.0 + 1) rs r h.1 in ((h.0, k.0), omega (arith, k.1, end-cons n q rs h.0))
 
-pub single_types : (n : ℕ) (ts : List ValType) → run_types n (enumerate_from n ts) ≡ ts
-single_types n [] = refl
-single_types n (t ∷ ts) =
-    let one : n + 1 - n ≡ 1 = omega arith in
-    ap₂ (λ k rest. replicate k t ++ rest) one (single_types (n + 1) ts)
-
-pub single_runs : (n : ℕ) (ts : List ValType) → AreRuns n (enumerate_from n ts)
-single_runs n [] = tt
-single_runs n (t ∷ ts) = (omega arith, single_runs (n + 1) ts)
-
-pub single-push : (n k : ℕ) (ts : List ValType) (t : ValType) → k ≡ length ts → enumerate_from n (ts ++ t ∷ []) ≡ enumerate_from n ts ++ (n + k, t) ∷ []
-single-push n k [] t e =
-    let m : n ≡ n + k = omega (arith, e) in
-    ap (λ i. (i, t) ∷ []) m
-single-push n k (u ∷ ts) t e =
-    let m : n + 1 + length ts ≡ n + k = omega (arith, e) in
-    ap (λ rs. (n, u) ∷ rs) (single-push (n + 1) (length ts) ts t refl ∙ ap (λ i. enumerate_from (n + 1) ts ++ (i, t) ∷ []) m)
-
-pub no_singles : (n : ℕ) (ts : List ValType) → length ts ≡ 0 → enumerate_from n ts ≡ []
-no_singles n [] e = refl
-no_singles n (t ∷ ts) e = absurd (omega (arith, e))
+-- ---- one run more
 
 -- one run, of so many locals
 pub one_run : (n k last : ℕ) (t : ValType) → n + k ≡ last + 1 → run_types n ((last, t) ∷ []) ≡ replicate k t
@@ -63,64 +42,139 @@ one_run n k last t h =
     let e : last + 1 - n ≡ k = omega (arith, h) in
     append-nil (replicate (last + 1 - n) t) ∙ ap (λ m. replicate m t) e
 
+end-append : (n : ℕ) (rs : List Run) (r : Run) → AreRuns n (rs ++ r ∷ []) → end_of n (rs ++ r ∷ []) ≡ r.0 + 1
+end-append n [] r h =
+    let l = length-append (replicate (r.0 + 1 - n) r.1) [] in
+    omega (arith, l, length-replicate (r.0 + 1 - n) r.1, h.0)
+end-append n (q ∷ rs) r h = end-cons n q (rs ++ r ∷ []) h.0 ∙ end-append (q.0 + 1) rs r h.1
+
+-- a run of its own
+pub longer_pushed : (n k last : ℕ) (rs : List Run) (t : ValType) → AreRuns n rs → 0 < k → end_of n rs + k ≡ last + 1 → AreLongerRuns n rs (rs ++ (last, t) ∷ []) (replicate k t)
+longer_pushed n k last rs t h few e = record {
+  rising = runs-append n rs ((last, t) ∷ []) h (omega (arith, few, e), tt);
+  types = types-append n rs ((last, t) ∷ []) h ∙ ap (λ ts. run_types n rs ++ ts) (one_run (end_of n rs) k last t e);
+}
+
+-- the last run reaches further
+longer_joined : (n k last m : ℕ) (rs : List Run) (t : ValType) → AreRuns n (rs ++ (m, t) ∷ []) → 0 < k → end_of n (rs ++ (m, t) ∷ []) + k ≡ last + 1 → AreLongerRuns n (rs ++ (m, t) ∷ []) (rs ++ (last, t) ∷ []) (replicate k t)
+longer_joined n k last m rs t h few e =
+    let front = runs-front n rs (m, t) h in
+    let from = end_of n rs in
+    let ended = end-append n rs (m, t) h in
+    let all : from + (m + 1 - from + k) ≡ last + 1 = omega (arith, front.1, ended, e) in
+    let longer = longer_pushed n (m + 1 - from + k) last rs t front.0 (omega (arith, few)) all in
+    let was = types-append n rs ((m, t) ∷ []) front.0 ∙ ap (λ ts. run_types n rs ++ ts) (one_run from (m + 1 - from) m t (omega (arith, front.1))) in
+    record {
+      rising = longer.rising;
+      types = longer.types ∙ ap (λ ts. run_types n rs ++ ts) (sym (replicate-append-replicate (m + 1 - from) k t)) ∙ sym (append_assoc (run_types n rs) (replicate (m + 1 - from) t) (replicate k t)) ∙ ap (λ ts. ts ++ replicate k t) (sym was);
+    }
+
+last-run : (rs : List Run) (r : Run) → slice_get (rs ++ r ∷ []) (length rs) ≡ Some r
+last-run [] r = refl
+last-run (q ∷ rs) r = last-run rs r
+
+-- the run that is taken has the type that the last run has
+type_of_last : (rs : List Run) (r : Run) (t : ValType) → option_map (λ (run : Run). run.1) (slice_get (rs ++ r ∷ []) (length (rs ++ r ∷ []) - 1)) ≡ Some t → r.1 ≡ t
+type_of_last rs r t h =
+    let l : length rs ≡ length (rs ++ r ∷ []) - 1 = omega (arith, length-append rs (r ∷ [])) in
+    let e : Some r.1 ≡ Some t = sym (ap (option_map (λ (run : Run). run.1)) (last-run rs r)) ∙ ap (λ i. option_map (λ (run : Run). run.1) (slice_get (rs ++ r ∷ []) i)) l ∙ h in
+    cc
+
+-- the last run, if there is one, is taken and added again
+pub longer_again : (n k last : ℕ) (rs front : List Run) (taken : Option Run) (t : ValType) → rs ≡ front ++ option_to_list taken → option_map (λ (run : Run). run.1) (slice_get rs (length rs - 1)) ≡ Some t → AreRuns n rs → 0 < k → end_of n rs + k ≡ last + 1 → AreLongerRuns n rs (front ++ (last, t) ∷ []) (replicate k t)
+longer_again n k last rs front None t e h rising few to =
+    let same : front ≡ rs = sym (e ∙ append-nil front) in
+    rw same (longer_pushed n k last rs t rising few to)
+longer_again n k last rs front (Some r) t e h rising few to =
+    let ty = type_of_last front r t (rw e at h) in
+    let same : rs ≡ front ++ (r.0, t) ∷ [] = e ∙ ap (λ u. front ++ (r.0, u) ∷ []) ty in
+    rw same (longer_joined n k last r.0 front t (rw same at rising) few (rw same at to))
+
+-- ---- more and more runs
+
+pub longer_none : (n : ℕ) (rs : List Run) → AreRuns n rs → AreLongerRuns n rs rs []
+longer_none n rs h = record { rising = h; types = sym (append-nil (run_types n rs)) }
+
+pub longer_more : (n : ℕ) (a b c : List Run) (ts us : List ValType) → AreLongerRuns n a b ts → AreLongerRuns n b c us → AreLongerRuns n a c (ts ++ us)
+longer_more n a b c ts us h k = record {
+  rising = k.rising;
+  types = k.types ∙ ap (λ vs. vs ++ us) h.types ∙ append_assoc (run_types n a) ts us;
+}
+
 -- ---- more locals: some plainly, and some in runs
 
-pub record Grown (first : List ValType) (runs : List Run) (count : ℕ) (near : List ValType) (far : List Run) (more : List ValType) : Type 0 where
-  pub locals : AreLocals (first ++ near) (runs ++ far) (count + length more)
-  pub types : local_types (first ++ near) (runs ++ far) ≡ local_types first runs ++ more
+pub record Grown (first : List ValType) (runs : List Run) (count : ℕ) (first' : List ValType) (runs' : List Run) (more : List ValType) : Type 0 where
+  pub locals : AreLocals first' runs' (count + length more)
+  pub types : local_types first' runs' ≡ local_types first runs ++ more
 
--- nothing plainly
-types-far : (first : List ValType) (rs far : List Run) (count : ℕ) → AreRuns (length first) rs → end_of (length first) rs ≡ count → local_types first (rs ++ far) ≡ local_types first rs ++ run_types count far
-types-far first rs far count rising e =
-    ap (λ ts. first ++ ts) (types-append (length first) rs far rising)
-    ∙ sym (append_assoc first (run_types (length first) rs) (run_types (end_of (length first) rs) far))
-    ∙ ap (λ m. local_types first rs ++ run_types m far) e
+run-end : (first : List ValType) (rs : List Run) (count : ℕ) → AreLocals first rs count → end_of (length first) rs ≡ count
+run-end first rs count was = omega (arith, was.counted, length-append first (run_types (length first) rs))
 
--- no runs yet
-types-near : (first near : List ValType) (far : List Run) (count : ℕ) → length first ≡ count → local_types (first ++ near) far ≡ local_types first [] ++ (near ++ run_types (count + length near) far)
-types-near first near far count e =
-    let all : length (first ++ near) ≡ count + length near = omega (arith, length-append first near, e) in
-    ap (λ m. (first ++ near) ++ run_types m far) all
-    ∙ append_assoc first near (run_types (count + length near) far)
-    ∙ ap (λ f. f ++ (near ++ run_types (count + length near) far)) (sym (append-nil first))
-
-types-grown : (first : List ValType) (rs : List Run) (count : ℕ) (near : List ValType) (far : List Run) → AreLocals first rs count → length first + length near ≤ max_first → local_types (first ++ near) (rs ++ far) ≡ local_types first rs ++ (near ++ run_types (count + length near) far)
-types-grown first rs count [] far was room =
-    let e : end_of (length first) rs ≡ count = omega (arith, was.counted, length-append first (run_types (length first) rs)) in
-    let z : count ≡ count + 0 = omega arith in
-    ap (λ f. local_types f (rs ++ far)) (append-nil first)
-    ∙ types-far first rs far count was.rising e
-    ∙ ap (λ m. local_types first rs ++ run_types m far) z
-types-grown first rs count (t ∷ ts) far was room =
-    let none = was.full (omega (arith, room)) in
-    let e : length first ≡ count = omega (arith, was.counted, ap (λ rs. length (local_types first rs)) none, length-append first []) in
-    rw none (types-near first (t ∷ ts) far count e)
-
-runs-grown : (first : List ValType) (rs : List Run) (count : ℕ) (near : List ValType) (far : List Run) → AreLocals first rs count → length first + length near ≤ max_first → AreRuns (count + length near) far → AreRuns (length (first ++ near)) (rs ++ far)
-runs-grown first rs count [] far was room rising =
-    let e : end_of (length first) rs ≡ count = omega (arith, was.counted, length-append first (run_types (length first) rs)) in
-    let z : count + 0 ≡ end_of (length first) rs = omega (arith, e) in
-    rw append-nil (runs-append (length first) rs far was.rising (subst (λ m. AreRuns m far) z rising))
-runs-grown first rs count (t ∷ ts) far was room rising =
-    let none = was.full (omega (arith, room)) in
-    let e : count + length (t ∷ ts) ≡ length (first ++ t ∷ ts) = omega (arith, was.counted, ap (λ rs. length (local_types first rs)) none, length-append first [], length-append first (t ∷ ts)) in
-    rw none (subst (λ m. AreRuns m far) e rising)
-
--- what is added plainly keeps within the first, and only then come runs
-pub grown : (first : List ValType) (rs : List Run) (count : ℕ) (near : List ValType) (far : List Run) (more : List ValType) → AreLocals first rs count → length first + length near ≤ max_first → (length first + length near < max_first → far ≡ []) → AreRuns (count + length near) far → near ++ run_types (count + length near) far ≡ more → count + length more ≤ max_locals → Grown first rs count near far more
-grown first rs count near far more was room order rising e within =
-    let types = types-grown first rs count near far was room ∙ ap (λ m. local_types first rs ++ m) e in
+-- no runs, where there is room among the first
+near-grown : (first near : List ValType) (count : ℕ) → AreLocals first [] count → length first + length near ≤ max_first → count + length near ≤ max_locals → Grown first [] count (first ++ near) [] near
+near-grown first near count was room within =
+    let types = append-nil (first ++ near) ∙ ap (λ f. f ++ near) (sym (append-nil first)) in
     let l = length-append first near in
     record {
       locals = record {
-        rising = runs-grown first rs count near far was room rising;
-        counted = omega (arith, was.counted, ap length types, length-append (local_types first rs) more);
+        rising = tt;
+        counted = omega (arith, was.counted, ap length types, length-append (local_types first []) near);
         few = omega (arith, l, room);
-        full = λ h. ap₂ (λ a b. a ++ b) (was.full (omega (arith, h, l))) (order (omega (arith, h, l)));
+        full = λ _. refl;
         within = within;
       };
       types = types;
     }
+
+-- locals that are held plainly
+grown-near : (first : List ValType) (rs : List Run) (count : ℕ) (near : List ValType) → AreLocals first rs count → length first + length near ≤ max_first → count + length near ≤ max_locals → Grown first rs count (first ++ near) rs near
+grown-near first rs count [] was room within =
+    let all : count ≡ count + 0 = omega arith in
+    rw (append-nil first) record { locals = subst (λ n. AreLocals first rs n) all was; types = sym (append-nil (local_types first rs)) }
+grown-near first rs count (t ∷ ts) was room within =
+    let none = was.full (omega (arith, room)) in
+    rw none (near-grown first (t ∷ ts) count (rw none at was) room within)
+
+pub empty_list : (ts : List ValType) → length ts ≡ 0 → ts ≡ []
+empty_list [] e = refl
+empty_list (t ∷ ts) e = absurd (omega (arith, e))
+
+no-runs : (n : ℕ) (rs : List Run) → AreRuns n rs → run_types n rs ≡ [] → rs ≡ []
+no-runs n [] h e = refl
+no-runs n (r ∷ rs) h e =
+    let l = length-append (replicate (r.0 + 1 - n) r.1) (run_types (r.0 + 1) rs) in
+    absurd (omega (arith, l, length-replicate (r.0 + 1 - n) r.1, ap length e, h.0))
+
+-- locals in runs
+grown-far : (first : List ValType) (rs rs' : List Run) (count : ℕ) (far : List ValType) → AreLocals first rs count → (length first < max_first → far ≡ []) → AreLongerRuns (length first) rs rs' far → count + length far ≤ max_locals → Grown first rs count first rs' far
+grown-far first rs rs' count far was order longer within =
+    let types = ap (λ ts. first ++ ts) longer.types ∙ sym (append_assoc first (run_types (length first) rs) far) in
+    record {
+      locals = record {
+        rising = longer.rising;
+        counted = omega (arith, was.counted, ap length types, length-append (local_types first rs) far);
+        few = was.few;
+        full = λ h. no-runs (length first) rs' longer.rising (longer.types ∙ ap₂ (λ qs ts. run_types (length first) qs ++ ts) (was.full h) (order h));
+        within = within;
+      };
+      types = types;
+    }
+
+grown-on : (first first' first'' : List ValType) (rs rs' rs'' : List Run) (count : ℕ) (near far : List ValType) → Grown first rs count first' rs' near → Grown first' rs' (count + length near) first'' rs'' far → Grown first rs count first'' rs'' (near ++ far)
+grown-on first first' first'' rs rs' rs'' count near far g h =
+    let all : count + length near + length far ≡ count + length (near ++ far) = omega (arith, length-append near far) in
+    record {
+      locals = subst (λ n. AreLocals first'' rs'' n) all h.locals;
+      types = h.types ∙ ap (λ ts. ts ++ far) g.types ∙ append_assoc (local_types first rs) near far;
+    }
+
+-- both, and only where the first are as many as they can be are there runs
+pub grown : (first : List ValType) (rs rs' : List Run) (count : ℕ) (near far : List ValType) → AreLocals first rs count → length first + length near ≤ max_first → (length first + length near < max_first → far ≡ []) → (AreRuns (length (first ++ near)) rs → end_of (length (first ++ near)) rs ≡ count + length near → AreLongerRuns (length (first ++ near)) rs rs' far) → count + length near + length far ≤ max_locals → Grown first rs count (first ++ near) rs' (near ++ far)
+grown first rs rs' count near far was room order longer within =
+    let plainly = grown-near first rs count near was room (omega (arith, within)) in
+    let l = length-append first near in
+    let runs = longer plainly.locals.rising (run-end (first ++ near) rs (count + length near) plainly.locals) in
+    grown-on first (first ++ near) (first ++ near) rs rs rs' count near far plainly (grown-far (first ++ near) rs rs' (count + length near) far plainly.locals (λ h. order (omega (arith, h, l))) runs within)
 
 pub as_locals : (first first' : List ValType) (rs rs' : List Run) (count count' : ℕ) → first' ≡ first → rs' ≡ rs → count' ≡ count → AreLocals first rs count → AreLocals first' rs' count'
 as_locals first first' rs rs' count count' e f g was = rw (e, f, g) was
@@ -133,12 +187,12 @@ ends_above n (r ∷ rs) h zero d k = h.0
 ends_above n (r ∷ rs) h (suc j) d k = let m = ends_above (r.0 + 1) rs h.1 j d (omega (arith, k)) in omega (arith, m, h.0)
 
 -- the runs rise
-pub rising_ends : (n : ℕ) (rs : List Run) → AreRuns n rs → (i j : ℕ) (d : Run) → i ≤ j → j < length rs → (get_or rs i d).0 ≤ (get_or rs j d).0
-rising_ends n [] h i j d le k = absurd (omega (arith, k))
-rising_ends n (r ∷ rs) h zero zero d le k = omega arith
-rising_ends n (r ∷ rs) h zero (suc j) d le k = let m = ends_above (r.0 + 1) rs h.1 j d (omega (arith, k)) in omega (arith, m)
-rising_ends n (r ∷ rs) h (suc i) zero d le k = absurd (omega (arith, le))
-rising_ends n (r ∷ rs) h (suc i) (suc j) d le k = rising_ends (r.0 + 1) rs h.1 i j d (omega (arith, le)) (omega (arith, k))
+rising-ends : (n : ℕ) (rs : List Run) → AreRuns n rs → (i j : ℕ) (d : Run) → i ≤ j → j < length rs → (get_or rs i d).0 ≤ (get_or rs j d).0
+rising-ends n [] h i j d le k = absurd (omega (arith, k))
+rising-ends n (r ∷ rs) h zero zero d le k = omega arith
+rising-ends n (r ∷ rs) h zero (suc j) d le k = let m = ends_above (r.0 + 1) rs h.1 j d (omega (arith, k)) in omega (arith, m)
+rising-ends n (r ∷ rs) h (suc i) zero d le k = absurd (omega (arith, le))
+rising-ends n (r ∷ rs) h (suc i) (suc j) d le k = rising-ends (r.0 + 1) rs h.1 i j d (omega (arith, le)) (omega (arith, k))
 
 get-under : (xs ys : List ValType) (i : ℕ) → i < length xs → slice_get (xs ++ ys) i ≡ slice_get xs i
 get-under [] ys i h = absurd (omega (arith, h))
@@ -156,19 +210,112 @@ get-replicate (suc n) zero t h = refl
 get-replicate (suc n) (suc i) t h = get-replicate n i t (omega (arith, h))
 
 -- the runs before it end below the index, and it doesn't
-pub type_at : (rs : List Run) (k i n : ℕ) → AreRuns n rs → n ≤ i → ((j : ℕ) (d : Run) → j < k → (get_or rs j d).0 < i) → ((j : ℕ) (d : Run) → k ≤ j → j < length rs → i ≤ (get_or rs j d).0) → option_map (λ (r : Run). r.1) (slice_get rs k) ≡ slice_get (run_types n rs) (i - n)
-type_at [] k i n rising h below above = refl
-type_at (r ∷ rs) zero i n rising h below above =
+type-at : (rs : List Run) (k i n : ℕ) → AreRuns n rs → n ≤ i → ((j : ℕ) (d : Run) → j < k → (get_or rs j d).0 < i) → ((j : ℕ) (d : Run) → k ≤ j → j < length rs → i ≤ (get_or rs j d).0) → option_map (λ (r : Run). r.1) (slice_get rs k) ≡ slice_get (run_types n rs) (i - n)
+type-at [] k i n rising h below above = refl
+type-at (r ∷ rs) zero i n rising h below above =
     let last : i ≤ r.0 = above 0 r (omega arith) (omega arith) in
     let len = length-replicate (r.0 + 1 - n) r.1 in
     sym (get-under (replicate (r.0 + 1 - n) r.1) (run_types (r.0 + 1) rs) (i - n) (omega (arith, len, last, h)) ∙ get-replicate (r.0 + 1 - n) (i - n) r.1 (omega (arith, last, h)))
-type_at (r ∷ rs) (suc k) i n rising h below above =
+type-at (r ∷ rs) (suc k) i n rising h below above =
     let last : r.0 < i = below 0 r (omega arith) in
     let len = length-replicate (r.0 + 1 - n) r.1 in
     let e : i - (r.0 + 1) ≡ i - n - length (replicate (r.0 + 1 - n) r.1) = omega (arith, len, last, h, rising.0) in
-    type_at rs k i (r.0 + 1) rising.1 (omega (arith, last)) (λ j d l. below (suc j) d (omega (arith, l))) (λ j d l m. above (suc j) d (omega (arith, l)) (omega (arith, m)))
+    type-at rs k i (r.0 + 1) rising.1 (omega (arith, last)) (λ j d l. below (suc j) d (omega (arith, l))) (λ j d l m. above (suc j) d (omega (arith, l)) (omega (arith, m)))
     ∙ ap (slice_get (run_types (r.0 + 1) rs)) e
     ∙ sym (get-past (replicate (r.0 + 1 - n) r.1) (run_types (r.0 + 1) rs) (i - n) (omega (arith, len, last, h)))
+
+-- 1 where a run that reaches up to this place ends below the index, and 0 where it doesn't
+pub record OneIfBelow (last index one : ℕ) : Type 0 where
+  pub below : last < index → one ≡ 1
+  pub above : index ≤ last → one ≡ 0
+
+pub between_all : (runs : List Run) (index : ℕ) → IsBetween runs index 0 (length runs)
+between_all runs index = record {
+  before = λ j d l. absurd (omega (arith, l));
+  after = λ j d l m. absurd (omega (arith, l, m));
+}
+
+-- the run at this place ends below the index
+between_from : (n : ℕ) (runs : List Run) (index below above place : ℕ) (d : Run) → AreRuns n runs → IsBetween runs index below above → place < length runs → (get_or runs place d).0 < index → IsBetween runs index (place + 1) above
+between_from n runs index below above place d rising is within h = record {
+  before = λ j e l.
+      let same : get_or runs place e ≡ get_or runs place d = get_or_default runs place e d within in
+      let le = rising-ends n runs rising j place e (omega (arith, l)) within in
+      omega (arith, le, h, ap (λ (r : Run). r.0) same);
+  after = is.after;
+}
+
+-- and it doesn't
+between_to : (n : ℕ) (runs : List Run) (index below above place : ℕ) (d : Run) → AreRuns n runs → IsBetween runs index below above → place < length runs → index ≤ (get_or runs place d).0 → IsBetween runs index below place
+between_to n runs index below above place d rising is within h = record {
+  before = is.before;
+  after = λ j e l m.
+      let same : get_or runs place e ≡ get_or runs place d = get_or_default runs place e d within in
+      let le = rising-ends n runs rising place j e l m in
+      omega (arith, le, h, ap (λ (r : Run). r.0) same);
+}
+
+-- less is known at lower and higher places
+pub between_wider : (runs : List Run) (index below above below' above' : ℕ) → IsBetween runs index below above → below' ≤ below → above ≤ above' → IsBetween runs index below' above'
+between_wider runs index below above below' above' is h k = record {
+  before = λ j d l. is.before j d (omega (arith, l, h));
+  after = λ j d l m. is.after j d (omega (arith, l, k)) m;
+}
+
+-- three runs in their order, of which so many end below the index
+pub between_quarters : (n : ℕ) (runs : List Run) (index base size quarter one two three : ℕ) (d : Run) → AreRuns n runs → IsBetween runs index base (base + size) → 0 < quarter → 4 * quarter ≤ size → base + size ≤ length runs
+    → OneIfBelow (get_or runs (base + quarter - 1) d).0 index one
+    → OneIfBelow (get_or runs (base + quarter - 1 + quarter) d).0 index two
+    → OneIfBelow (get_or runs (base + quarter - 1 + quarter + quarter) d).0 index three
+    → IsBetween runs index (base + quarter * (one + two + three)) (base + quarter * (one + two + three) + (size - 3 * quarter))
+between_quarters n runs index base size quarter one two three d rising is some room within a b c =
+    let i = base + quarter - 1 in
+    let j = base + quarter - 1 + quarter in
+    let k = base + quarter - 1 + quarter + quarter in
+    let ij = rising-ends n runs rising i j d (omega arith) (omega (arith, some, room, within)) in
+    let jk = rising-ends n runs rising j k d (omega arith) (omega (arith, some, room, within)) in
+    let count = quarter * (one + two + three) in
+    let all = base + size in
+    let over = base + count + (size - 3 * quarter) in
+    elim (cases_lt (get_or runs k d).0 index) [
+      | inl h ↦
+          let e : count ≡ quarter * 3 = ap (λ m. quarter * m) (omega (arith, a.below (omega (arith, h, ij, jk)), b.below (omega (arith, h, jk)), c.below h)) in
+          between_wider runs index (k + 1) all (base + count) over (between_from n runs index base all k d rising is (omega (arith, some, room, within)) h) (omega (arith, e, some)) (omega (arith, e, room))
+      | inr h ↦ elim (cases_lt (get_or runs j d).0 index) [
+        | inl g ↦
+            let e : count ≡ quarter * 2 = ap (λ m. quarter * m) (omega (arith, a.below (omega (arith, g, ij)), b.below g, c.above h)) in
+            let to = between_to n runs index base all k d rising is (omega (arith, some, room, within)) h in
+            between_wider runs index (j + 1) k (base + count) over (between_from n runs index base k j d rising to (omega (arith, some, room, within)) g) (omega (arith, e, some)) (omega (arith, e, room))
+        | inr g ↦ elim (cases_lt (get_or runs i d).0 index) [
+          | inl f ↦
+              let e : count ≡ quarter * 1 = ap (λ m. quarter * m) (omega (arith, a.below f, b.above g, c.above h)) in
+              let to = between_to n runs index base all j d rising is (omega (arith, some, room, within)) g in
+              between_wider runs index (i + 1) j (base + count) over (between_from n runs index base j i d rising to (omega (arith, some, room, within)) f) (omega (arith, e, some)) (omega (arith, e, room))
+          | inr f ↦
+              let e : count ≡ quarter * 0 = ap (λ m. quarter * m) (omega (arith, a.above f, b.above g, c.above h)) in
+              between_wider runs index base i (base + count) over (between_to n runs index base all i d rising is (omega (arith, some, room, within)) f) (omega (arith, e, some)) (omega (arith, e, room))
+        ]
+      ]
+    ]
+
+pub few_quarters : (quarter passed : ℕ) → passed ≤ 3 → quarter * passed ≤ 3 * quarter
+few_quarters quarter passed h = let m = mul-le-mul_left quarter h in omega (arith, m)
+
+-- one run, which ends below the index or doesn't
+pub between_one : (n : ℕ) (runs : List Run) (index place above one : ℕ) (d : Run) → AreRuns n runs → IsBetween runs index place above → place < above → above ≤ length runs → OneIfBelow (get_or runs place d).0 index one → IsBetween runs index (place + one) (above + one - 1)
+between_one n runs index place above one d rising is some within a =
+    elim (cases_lt (get_or runs place d).0 index) [
+      | inl h ↦
+          let e = a.below h in
+          between_wider runs index (place + 1) above (place + one) (above + one - 1) (between_from n runs index place above place d rising is (omega (arith, some, within)) h) (omega (arith, e)) (omega (arith, e))
+      | inr h ↦
+          let e = a.above h in
+          between_wider runs index place place (place + one) (above + one - 1) (between_to n runs index place above place d rising is (omega (arith, some, within)) h) (omega (arith, e)) (omega (arith, e, some))
+    ]
+
+-- where both are one place, the type there is that at the index
+pub type_between : (n : ℕ) (runs : List Run) (index place : ℕ) → AreRuns n runs → n ≤ index → IsBetween runs index place place → option_map (λ (r : Run). r.1) (slice_get runs place) ≡ slice_get (run_types n runs) (index - n)
+type_between n runs index place rising h is = type-at runs place index n rising h is.before is.after
 
 pub get-first : (first : List ValType) (rs : List Run) (i : ℕ) → i < length first → slice_get first i ≡ slice_get (local_types first rs) i
 get-first first rs i h = sym (get-under first (run_types (length first) rs) i h)

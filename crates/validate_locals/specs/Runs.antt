@@ -1,5 +1,6 @@
--- The types of the locals in parts: the first of them plainly, the others in runs.
+-- The types of the locals in parts: the first of them plainly, the others in runs (the crate's own).
 use Rattle.std.specs.Prelude.{◌≡◌, ℕ, ◌+◌, ◌-◌, ◌<◌, ◌≤◌, List, [], ◌∷◌, ◌++◌, length, replicate}
+use Rattle.std.specs.Prelude.{slice_index_or}
 use Rattle.validate_types.specs.declared.types.ValType.{ValType}
 use Rattle.validate_locals.specs.Limit.{max_locals}
 
@@ -20,6 +21,20 @@ local_types first runs = first ++ run_types (length first) runs
 abbrev pub AreRuns : ℕ → List (ℕ × ValType) → Type 0
 AreRuns from [] = Unit {0}
 AreRuns from (run ∷ runs) = (from ≤ run.0) × AreRuns (run.0 + 1) runs
+
+-- the index after the last of the runs
+abbrev pub end_of : ℕ → List (ℕ × ValType) → ℕ
+end_of from runs = from + length (run_types from runs)
+
+-- the later runs are the earlier ones with these types after them
+pub record AreLongerRuns (from : ℕ) (earlier later : List (ℕ × ValType)) (more : List ValType) : Type 0 where
+  pub rising : AreRuns from later
+  pub types : run_types from later ≡ run_types from earlier ++ more
+
+-- the runs before the one place end below the index, and those from the other on don't
+pub record IsBetween (runs : List (ℕ × ValType)) (index below above : ℕ) : Type 0 where
+  pub before : (j : ℕ) (d : ℕ × ValType) → j < below → (slice_index_or runs j d).0 < index
+  pub after : (j : ℕ) (d : ℕ × ValType) → above ≤ j → j < length runs → index ≤ (slice_index_or runs j d).0
 
 -- so many locals, in runs only once the first are as many as they can be
 pub record AreLocals (first : List ValType) (runs : List (ℕ × ValType)) (count : ℕ) : Type 0 where

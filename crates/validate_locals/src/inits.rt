@@ -1,6 +1,6 @@
 //! Which locals are set, and the order in which they were first set.
 
-ghost use Rattle.std.specs.Prelude.{◌≡◌, ◌+◌, ◌<◌, ◌≤◌, ◌↔◌, [], ◌∷◌, ◌++◌, true, length, take, drop, replicate, not, IsTrue, IfOk, OnOk, OnErr, IsOk, MatchOption};
+ghost use Rattle.std.specs.Prelude.{◌≡◌, ◌+◌, ◌<◌, ◌≤◌, ◌↔◌, [], ◌∷◌, ◌++◌, true, false, length, take, drop, replicate, not, IsTrue, IfOk, OnOk, OnErr, IsOk, MatchOption};
 ghost use Rattle.validate_types.specs.Types.{is_defaultable};
 ghost use Rattle.validate_locals.specs.Inits.{is_recorded_set, order_with, AreFresh};
 
@@ -32,7 +32,12 @@ impl Model for LocalInits {
 
     ghost Value = { Inits };
 
-    ghost view = { λ a. record { base = marks_without a.inits.items (all_marks a.first_non_default_local a.local_inits.items); order = a.inits.items; room = vec_capacity a.inits; declared_room = vec_capacity a.local_inits } };
+    ghost view = { λ a. record {
+      base = marks_without a.inits.items (all_marks a.first_non_default_local a.local_inits.items);
+      order = a.inits.items;
+      room = vec_capacity a.inits;
+      declared_room = vec_capacity a.local_inits;
+    } };
 
     ghost invariant = { λ a. IsMarkedFrom a.first_non_default_local a.inits.items a.local_inits.items };
 }
@@ -160,17 +165,21 @@ impl LocalInits {
         self.inits.capacity()
     }
 
-    /// Whether the local at this index isn't set.
+    /// Whether the local at this index is declared and isn't set.
     #[inline(always)]
     pub fn is_uninit(&self, index: u32) -> bool
-        requires { index < length self.now.base }
-        ensures { result ≡ not (is_recorded_set self.now index) }
+        ensures declared { index < length self.now.base
+            → result ≡ not (is_recorded_set self.now index) }
+        ensures undeclared { length self.now.base ≤ index → result ≡ false }
     {
         let index = index as usize;
         if index < self.first_non_default_local {
             return false;
         }
-        !self.local_inits[index - self.first_non_default_local]
+        match self.local_inits.get(index - self.first_non_default_local) {
+            Some(set) => !*set,
+            None => false,
+        }
     }
 
     /// Sets the local at this index: where it wasn't set, it comes last in the order. Want of memory

@@ -5,7 +5,7 @@ use Rattle.validate_types.specs.Refusal.{Refusal}
 use Rattle.validate_visit.specs.declared.op.ControlOp.{ControlOp}
 use Rattle.validate_visit.specs.declared.op.ControlOp.TheVariants.{Unreachable, Nop, Block, Loop, If, Else, End, Br, BrIf, BrTable, Return, Call, ReturnCall, CallIndirect, ReturnCallIndirect, CallRef, ReturnCallRef, Drop, Select, TypedSelect, TypedSelectMulti, LocalGet, LocalSet, LocalTee, GlobalGet, GlobalSet}
 use Rattle.validate_visit.specs.declared.op.Op.TheVariants.{Control}
-use Rattle.validation_rules.specs.Table.{operator}
+use Rattle.validation_rules.specs.Operators.{operator}
 use Rattle.validate_stacks.specs.State.{BodyState}
 use Rattle.validate_stacks.specs.Visits.{step_body}
 use Rattle.validate_operators.specs.Memory.{TakesNoMemory}

@@ -9,10 +9,10 @@ use Rattle.validate_visit.specs.Gates.{gate_of}
 use Rattle.validate_visit.specs.declared.op.Op.{Op}
 use Rattle.validation_rules.specs.Rows.{Head, Form, Flat, Opens, BeginsElse, BeginsCatch, Ends, Delegates, Row, Operator}
 use Rattle.validation_rules.specs.Static.{Frame, State, step, step_in}
-use Rattle.validation_rules.specs.Table.{operator, ungated}
+use Rattle.validation_rules.specs.Operators.{operator, ungated}
 use Rattle.validate_stacks.specs.State.{BodyState, context, IsValid}
 use Rattle.validate_stacks.specs.Visits.{step_body, Meets}
-use Rattle.validate_rows.proofs.Meeting.{meets_none, meets_as}
+use Rattle.validate_shapes.proofs.Meeting.{meets_none, meets_as}
 
 -- the operator with another premise before its own
 abbrev under : Bool → Operator → Operator

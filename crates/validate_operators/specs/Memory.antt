@@ -7,7 +7,7 @@ use Rattle.validate_visit.specs.declared.op.Op.{Op}
 use Rattle.validate_visit.specs.declared.op.Op.TheVariants.{Control}
 use Rattle.validate_visit.specs.declared.op.ControlOp.TheVariants.{Unreachable, Nop, Br, BrTable, Return}
 use Rattle.validate_visit.specs.declared.op.ControlOp.TheVariants.{Drop}
-use Rattle.validation_rules.specs.Table.{operator}
+use Rattle.validation_rules.specs.Operators.{operator}
 use Rattle.validate_stacks.specs.State.{BodyState}
 use Rattle.validate_stacks.specs.Visits.{step_body}
 

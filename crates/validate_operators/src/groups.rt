@@ -3,7 +3,7 @@
 ghost use Rattle.std.specs.Prelude.{◌≡◌, true, false, OnOk, OnErr, IfErr};
 ghost use Rattle.validate_types.specs.Gates.{is_open};
 ghost use Rattle.validate_visit.specs.declared.op.Op.{Op};
-ghost use Rattle.validation_rules.specs.Table.{operator, flat_operator, control_operator};
+ghost use Rattle.validation_rules.specs.Operators.{operator, flat_operator, control_operator};
 ghost use Rattle.validation_rules.specs.References.{reference_row};
 ghost use Rattle.validate_stacks.specs.Visits.{MayVisit, Meets};
 ghost use Rattle.validate_operators.specs.Memory.{TakesNoMemory};
@@ -35,7 +35,7 @@ fn check_enabled(stacks: &Stacks, offset: u64, gate: Gate) -> Result<(), Error>
     ensures open { OnOk result (is_open stacks.now.body.features gate ≡ true) }
     ensures closed { OnErr result (is_open stacks.now.body.features gate ≡ false) }
     ensures offset { IfErr result (λ e. e.offset ≡ offset) }
-    ensures memory { IfErr result (λ e. e.memory ≡ false) }
+    ensures memory { IfErr result (λ e. e.wants_memory ≡ false) }
 {
     if gate.is_open(stacks.features()) {
         Ok(())

@@ -1,6 +1,6 @@
 //! The check of any operator.
 
-ghost use Rattle.validation_rules.specs.Table.{operator};
+ghost use Rattle.validation_rules.specs.Operators.{operator};
 ghost use Rattle.validate_stacks.specs.Visits.{MayVisit, Meets};
 ghost use Rattle.validate_operators.specs.Memory.{TakesNoMemory};
 

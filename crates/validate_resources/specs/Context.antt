@@ -3,8 +3,8 @@
 use Rattle.std.specs.Prelude.{◌≡◌, ℕ, Bool, List, true, false, ◌&&◌, Option, Some, is_some}
 use Rattle.std.specs.List.{AllByRecursion}
 use Rattle.validate_types.specs.Heap.{is_small}
-use Rattle.validate_types.specs.Refs.{fits_reference, non_null, with_null}
-use Rattle.validate_types.specs.Types.{Signature, index_type, table_index_type}
+use Rattle.validate_types.specs.Refs.{non_null, with_null}
+use Rattle.validate_types.specs.Types.{Signature}
 use Rattle.validate_types.specs.declared.features.WasmFeatures.{WasmFeatures}
 use Rattle.validate_types.specs.declared.heap.CoreTypeId.{CoreTypeId}
 use Rattle.validate_types.specs.declared.heap.HeapType.{HeapType}
@@ -108,18 +108,15 @@ pub record IsBelowReference (md : ModuleContext) (t : ValType) (r : RefType) : T
   pub same_sharedness : md.is_shared lower ≡ md.is_shared r
   pub without_null : r.nullable ≡ false → lower.nullable ≡ false
 
--- the supertype that a type declares, if it declares one, is valid and canonical
-abbrev pub SupertypeIsValid : ModuleContext → SubType → Type 0
-SupertypeIsValid md s = (u : UnpackedIndex) → s.supertype_idx ≡ Some u → is_valid_index md u ≡ true
-
--- a heap type that is valid and canonical, and so one that a reference can be made to
-pub record IsCanonicalHeap (md : ModuleContext) (h : HeapType) : Type 0 where
-  pub is_valid : is_valid_heap md h ≡ true
-  pub fits : fits_reference h ≡ true
+-- what a declared type is made of is valid and canonical: what it takes and gives, and its supertype
+pub record IsValidType (md : ModuleContext) (s : SubType) : Type 0 where
+  pub params : AllValid md (signature_of s).params
+  pub results : AllValid md (signature_of s).results
+  pub supertype : (u : UnpackedIndex) → s.supertype_idx ≡ Some u → is_valid_index md u ≡ true
 
 pub record IsLawful (md : ModuleContext) : Type 0 where
   -- the order is one of valid and canonical types, reflexive and transitive
-  pub valid : (t u : ValType) → IsTypeBelow md t u → Valid md t × Valid md u
+  pub both_valid : (t u : ValType) → IsTypeBelow md t u → Valid md t × Valid md u
   pub reflexive : (t : ValType) → Valid md t → IsTypeBelow md t t
   pub transitive : (t u v : ValType) → IsTypeBelow md t u → IsTypeBelow md u v → IsTypeBelow md t v
   -- a number or vector type has only itself below it
@@ -130,28 +127,15 @@ pub record IsLawful (md : ModuleContext) : Type 0 where
       → IsTypeBelow md (Ref (non_null r)) (Ref (non_null s))
   pub non_null_below : (r : RefType) → Valid md (Ref r) → IsTypeBelow md (Ref (non_null r)) (Ref r)
   pub below_with_null : (r : RefType) → Valid md (Ref r) → IsTypeBelow md (Ref r) (Ref (with_null r))
-  -- whatever a look-up hands out is valid and canonical: what a declared type is made of, by its index
-  pub params : (i : ℕ) (s : SubType) → md.type_at i ≡ Some s → AllValid md (signature_of s).params
-  pub results : (i : ℕ) (s : SubType) → md.type_at i ≡ Some s → AllValid md (signature_of s).results
-  pub supertype : (i : ℕ) (s : SubType) → md.type_at i ≡ Some s → SupertypeIsValid md s
-  -- or by its id,
-  pub params_of_id : (id : CoreTypeId) (s : SubType) → md.type_of_id id ≡ Some s
-      → AllValid md (signature_of s).params
-  pub results_of_id : (id : CoreTypeId) (s : SubType) → md.type_of_id id ≡ Some s
-      → AllValid md (signature_of s).results
-  pub supertype_of_id : (id : CoreTypeId) (s : SubType) → md.type_of_id id ≡ Some s → SupertypeIsValid md s
-  -- and the types of functions, tables, globals and element segments
-  pub functions : (f : ℕ) (id : CoreTypeId) → md.type_id_of f ≡ Some id
-      → IsCanonicalHeap md (Concrete (Id id))
+  -- whatever a look-up hands out is valid and canonical: a declared type, by its index or its id, and the
+  -- types of functions, tables, globals and element segments
+  pub types : (i : ℕ) (s : SubType) → md.type_at i ≡ Some s → IsValidType md s
+  pub types_of_ids : (id : CoreTypeId) (s : SubType) → md.type_of_id id ≡ Some s → IsValidType md s
+  pub functions : (f : ℕ) (id : CoreTypeId) → md.type_id_of f ≡ Some id → is_valid_index md (Id id) ≡ true
   pub tables : (i : ℕ) (t : TableType) → md.table_at i ≡ Some t → Valid md (Ref t.element_type)
   pub globals : (i : ℕ) (g : GlobalType) → md.global_at i ≡ Some g → Valid md g.content_type
   pub elements : (i : ℕ) (r : RefType) → md.element_at i ≡ Some r → Valid md (Ref r)
-  -- addresses of a memory or a table have 32 or 64 bits
-  pub memory_index : (i : ℕ) (m : MemoryType) → md.memory_at i ≡ Some m
-      → is_index_type (index_type m) ≡ true
-  pub table_index : (i : ℕ) (t : TableType) → md.table_at i ≡ Some t
-      → is_index_type (table_index_type t) ≡ true
   -- where a check passes, it writes a valid and canonical form
   pub checked : (features : WasmFeatures) (t u : ValType) → md.canonical features t ≡ Some u → Valid md u
   pub checked_ref : (r s : RefType) → md.canonical_ref r ≡ Some s → Valid md (Ref s)
-  pub checked_heap : (h k : HeapType) → md.canonical_heap h ≡ Some k → IsCanonicalHeap md k
+  pub checked_heap : (h k : HeapType) → md.canonical_heap h ≡ Some k → is_valid_heap md k ≡ true

@@ -63,55 +63,55 @@ sub_test p s = supertype_test p s.supertype_idx && inner_test p s.composite_type
 
 -- ---- the form of a type with an id for each index (Specification, "Types")
 
-abbrev pub index_form : UnpackedIndex → UnpackedIndex
-index_form i = Id (record { index = number_of i })
+abbrev pub index_with_id : UnpackedIndex → UnpackedIndex
+index_with_id i = Id (record { index = number_of i })
 
-abbrev pub heap_form : HeapType → HeapType
-heap_form (Abstract shared ty) = Abstract shared ty
-heap_form (Concrete i) = Concrete (index_form i)
+abbrev pub heap_with_id : HeapType → HeapType
+heap_with_id (Abstract shared ty) = Abstract shared ty
+heap_with_id (Concrete i) = Concrete (index_with_id i)
 
-abbrev pub ref_form : RefType → RefType
-ref_form r = reference r.nullable (heap_form r.heap_type)
+abbrev pub ref_with_id : RefType → RefType
+ref_with_id r = reference r.nullable (heap_with_id r.heap_type)
 
-abbrev pub type_form : ValType → ValType
-type_form I32 = I32
-type_form I64 = I64
-type_form F32 = F32
-type_form F64 = F64
-type_form V128 = V128
-type_form (Ref r) = Ref (ref_form r)
+abbrev pub type_with_id : ValType → ValType
+type_with_id I32 = I32
+type_with_id I64 = I64
+type_with_id F32 = F32
+type_with_id F64 = F64
+type_with_id V128 = V128
+type_with_id (Ref r) = Ref (ref_with_id r)
 
-abbrev pub table_form : TableType → TableType
-table_form t = record t { element_type = ref_form t.element_type }
+abbrev pub table_with_id : TableType → TableType
+table_with_id t = record t { element_type = ref_with_id t.element_type }
 
-abbrev pub global_form : GlobalType → GlobalType
-global_form g = record g { content_type = type_form g.content_type }
+abbrev pub global_with_id : GlobalType → GlobalType
+global_with_id g = record g { content_type = type_with_id g.content_type }
 
-abbrev pub signature_form : Signature → Signature
-signature_form f = record { params = map type_form f.params; results = map type_form f.results }
+abbrev pub signature_with_ids : Signature → Signature
+signature_with_ids f = record { params = map type_with_id f.params; results = map type_with_id f.results }
 
-abbrev pub inner_form : CompositeInnerType → CompositeInnerType
-inner_form (Func f) = Func (signature_form f)
+abbrev pub inner_with_ids : CompositeInnerType → CompositeInnerType
+inner_with_ids (Func f) = Func (signature_with_ids f)
 
-abbrev pub sub_form : SubType → SubType
-sub_form s = record s {
-  supertype_idx = option_map index_form s.supertype_idx;
-  composite_type = record s.composite_type { inner = inner_form s.composite_type.inner };
+abbrev pub sub_with_ids : SubType → SubType
+sub_with_ids s = record s {
+  supertype_idx = option_map index_with_id s.supertype_idx;
+  composite_type = record s.composite_type { inner = inner_with_ids s.composite_type.inner };
 }
 
 -- ---- the canonical form of a type of a module of so many types, where it has one
 
 abbrev pub canonical_index : ℕ → UnpackedIndex → Option UnpackedIndex
-canonical_index n i = if is_known n i then Some (index_form i) else None
+canonical_index n i = if is_known n i then Some (index_with_id i) else None
 
 abbrev pub canonical_heap : ℕ → HeapType → Option HeapType
-canonical_heap n h = if heap_test (is_known n) h then Some (heap_form h) else None
+canonical_heap n h = if heap_test (is_known n) h then Some (heap_with_id h) else None
 
 abbrev pub canonical_ref : ℕ → RefType → Option RefType
-canonical_ref n r = if ref_test (is_known n) r then Some (ref_form r) else None
+canonical_ref n r = if ref_test (is_known n) r then Some (ref_with_id r) else None
 
 abbrev pub canonical_type : ℕ → ValType → Option ValType
-canonical_type n t = if type_test (is_known n) t then Some (type_form t) else None
+canonical_type n t = if type_test (is_known n) t then Some (type_with_id t) else None
 
 -- ---- the number of the index in a type, or 0 where it has none
 

@@ -1,4 +1,4 @@
--- What a lookup over lists keeps.
+-- What a lookup over lists keeps (the crate's own).
 use Rattle.validate_resources.specs.declared.lists.ModuleLists.{ModuleLists}
 use Rattle.validate_resources.specs.Lists.{Declared, declared_by}
 

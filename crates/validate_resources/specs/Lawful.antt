@@ -8,7 +8,7 @@ use Rattle.std.specs.List.{list_all}
 use Rattle.std.proofs.Common.{sym, ◌∙◌, subst, leb-true}
 use Rattle.std.proofs.lemmas.Bool.{and_parts, and_from, or_right}
 use Rattle.std.proofs.lemmas.Option.{cond_some}
-use Rattle.validate_types.specs.Features.{type_gate}
+use Rattle.validate_types.specs.Features.{is_type_enabled}
 use Rattle.validate_types.specs.declared.features.WasmFeatures.{WasmFeatures}
 use Rattle.validate_types.specs.declared.heap.CoreTypeId.{CoreTypeId}
 use Rattle.validate_types.specs.declared.heap.HeapType.TheVariants.{Concrete}
@@ -19,22 +19,18 @@ use Rattle.validate_types.specs.declared.types.ValType.{ValType}
 use Rattle.validate_types.specs.declared.types.ValType.TheVariants.{I32, I64, Ref}
 use Rattle.validate_resources.specs.declared.lists.FuncDecl.{FuncDecl}
 use Rattle.validate_resources.specs.declared.lists.TheConstants.{MAX_TYPES}
-use Rattle.validate_resources.specs.Context.{ModuleContext, IsLawful, IsBelowReference, IsCanonicalHeap}
-use Rattle.validate_resources.specs.Context.{SupertypeIsValid, Valid, AllValid, is_index_type, signature_of}
+use Rattle.validate_resources.specs.Context.{ModuleContext, IsLawful, IsBelowReference, IsValidType}
+use Rattle.validate_resources.specs.Context.{Valid, is_valid_index, is_valid_heap}
 use Rattle.validate_resources.specs.Indices.{is_id, is_known, heap_test, ref_test, type_test, table_test}
-use Rattle.validate_resources.specs.Indices.{global_test, sub_test, heap_form, ref_form, type_form}
+use Rattle.validate_resources.specs.Indices.{global_test, sub_test, heap_with_id, ref_with_id, type_with_id}
 use Rattle.validate_resources.specs.Indices.{supertype_test}
 use Rattle.validate_resources.specs.Order.{heap_below, have_fitting_supertypes, type_below}
 use Rattle.validate_resources.specs.Lists.{Declared, is_module, indices_test, have_known_types, context_of}
 use Rattle.validate_resources.specs.Lists.{valid_below, canonical_under, type_id}
 use Rattle.validate_resources.specs.Lawful.Matching.{passes-at, heap-shared, ref-reflexive, type-reflexive}
 use Rattle.validate_resources.specs.Lawful.Matching.{type-transitive, number-below, below-ref}
-use Rattle.validate_resources.specs.Lawful.Forms.{heap-valid, type-valid, inner-valid, supertype-valid}
-use Rattle.validate_resources.specs.Lawful.Forms.{heap-canonical, heap-ids, type-ids}
-
-index-type-of : (b : Bool) → is_index_type (if b then I64 else I32) ≡ true
-index-type-of true = refl
-index-type-of false = refl
+use Rattle.validate_resources.specs.Lawful.Forms.{heap-valid, type-valid, type-is-valid}
+use Rattle.validate_resources.specs.Lawful.Forms.{heap-ids, type-ids}
 
 -- a type below another: both are valid, and the one is below the other
 record Below (d : Declared) (t u : ValType) : Type 0 where
@@ -50,12 +46,6 @@ parts d t u h =
 
 from : (d : Declared) (t u : ValType) → type_test (is_id (length d.types)) t ≡ true → type_test (is_id (length d.types)) u ≡ true → type_below d.types t u ≡ true → valid_below d.types t u ≡ true
 from d t u h k e = and_from _ _ (and_from _ _ h k) e
-
--- what a declared type is made of
-record TypeIsValid (md : ModuleContext) (s : SubType) : Type 0 where
-  params : AllValid md (signature_of s).params
-  results : AllValid md (signature_of s).results
-  supertype : SupertypeIsValid md s
 
 -- what a list that is a module says
 record Facts (d : Declared) : Type 0 where
@@ -80,11 +70,8 @@ facts d h =
     let (types, tables) = and_parts p _ g in
     record { small = leb-true _ _ small; types = types; tables = tables; globals = globals; elements = elements; functions = functions; supertypes = supertypes }
 
-type_valid : (d : Declared) → Facts d → (i : ℕ) (s : SubType) → slice_get d.types i ≡ Some s → TypeIsValid (context_of d) s
-type_valid d m i s h =
-    let p = and_parts (supertype_test (is_id (length d.types)) s.supertype_idx) _ (passes-at (sub_test (is_id (length d.types))) i d.types s m.types h) in
-    let q = inner-valid d m.small s.composite_type.inner p.1 in
-    record { params = q.0; results = q.1; supertype = supertype-valid d m.small s p.0 }
+type_valid : (d : Declared) → Facts d → (i : ℕ) (s : SubType) → slice_get d.types i ≡ Some s → IsValidType (context_of d) s
+type_valid d m i s h = type-is-valid d m.small s (passes-at (sub_test (is_id (length d.types))) i d.types s m.types h)
 
 below_parts : (d : Declared) → Facts d → (t : ValType) (r : RefType) → Below d t (Ref r) → IsBelowReference (context_of d) t r
 below_parts d m t r b =
@@ -105,23 +92,23 @@ marked d r s b n m e = from d (Ref (record r { nullable = n })) (Ref (record s {
 itself : (d : Declared) → Facts d → (r : RefType) → Valid (context_of d) (Ref r) → Below d (Ref r) (Ref r)
 itself d m r h = let v = sym (heap-valid d m.small r.heap_type) ∙ h in record { low = v; high = v; order = ref-reflexive d.types r }
 
-function_of : (d : Declared) → Facts d → (f : ℕ) (id : CoreTypeId) (o : Option FuncDecl) → slice_get d.functions f ≡ o → option_map (λ (f : FuncDecl). type_id f.type_index) o ≡ Some id → IsCanonicalHeap (context_of d) (Concrete (Id id))
+function_of : (d : Declared) → Facts d → (f : ℕ) (id : CoreTypeId) (o : Option FuncDecl) → slice_get d.functions f ≡ o → option_map (λ (f : FuncDecl). type_id f.type_index) o ≡ Some id → is_valid_index (context_of d) (Id id) ≡ true
 function_of d m f id None is h = cc
 function_of d m f id (Some decl) is h =
     let e : type_id decl.type_index ≡ id = cc in
-    subst (λ i. IsCanonicalHeap (context_of d) (Concrete (Id i))) e
-    (heap-canonical d (Concrete (Id (type_id decl.type_index))) m.small (passes-at _ f d.functions decl m.functions is))
+    subst (λ i. is_valid_index (context_of d) (Id i) ≡ true) e
+    (heap-valid d m.small (Concrete (Id (type_id decl.type_index))) ∙ passes-at _ f d.functions decl m.functions is)
 
 checked_type : (d : Declared) → Facts d → (features : WasmFeatures) (t u : ValType) → canonical_under (length d.types) features t ≡ Some u → Valid (context_of d) u
 checked_type d m features t u h =
-    let p = cond_some (type_gate features t && type_test (is_known (length d.types)) t) (type_form t) u h in
-    subst (Valid (context_of d)) p.1 (type-valid d m.small (type_form t) ∙ type-ids (length d.types) t ∙ (and_parts (type_gate features t) _ p.0).1)
+    let p = cond_some (is_type_enabled features t && type_test (is_known (length d.types)) t) (type_with_id t) u h in
+    subst (Valid (context_of d)) p.1 (type-valid d m.small (type_with_id t) ∙ type-ids (length d.types) t ∙ (and_parts (is_type_enabled features t) _ p.0).1)
 
 pub lawful_lists : (d : Declared) → is_module is_id d ≡ true → IsLawful (context_of d)
 lawful_lists d h =
     let m = facts d h in
     record {
-      valid = λ t u e. let b = parts d t u e in (type-valid d m.small t ∙ b.low, type-valid d m.small u ∙ b.high);
+      both_valid = λ t u e. let b = parts d t u e in (type-valid d m.small t ∙ b.low, type-valid d m.small u ∙ b.high);
       reflexive = λ t e. let v = sym (type-valid d m.small t) ∙ e in from d t t v v (type-reflexive d.types t);
       transitive = λ t u v e f. let a = parts d t u e in let b = parts d u v f in from d t v a.low b.high (type-transitive d.types m.supertypes t u v a.order b.order);
       number = λ t u e k. number-below d.types t u (parts d t u e).order k;
@@ -129,25 +116,19 @@ lawful_lists d h =
       non_null_keeps = λ r s e. marked d r s (parts d (Ref r) (Ref s) e) false false refl;
       non_null_below = λ r e. marked d r r (itself d m r e) false r.nullable (or_right r.nullable true refl);
       below_with_null = λ r e. marked d r r (itself d m r e) r.nullable true refl;
-      params = λ i s e. (type_valid d m i s e).params;
-      results = λ i s e. (type_valid d m i s e).results;
-      supertype = λ i s e. (type_valid d m i s e).supertype;
-      params_of_id = λ id s e. (type_valid d m id.index s e).params;
-      results_of_id = λ id s e. (type_valid d m id.index s e).results;
-      supertype_of_id = λ id s e. (type_valid d m id.index s e).supertype;
+      types = type_valid d m;
+      types_of_ids = λ id s e. type_valid d m id.index s e;
       functions = λ f id e. function_of d m f id (slice_get d.functions f) refl e;
       tables = λ i t e. heap-valid d m.small t.element_type.heap_type ∙ passes-at (table_test (is_id (length d.types))) i d.tables t m.tables e;
       globals = λ i g e. type-valid d m.small g.content_type ∙ passes-at (global_test (is_id (length d.types))) i d.globals g m.globals e;
       elements = λ i r e. heap-valid d m.small r.heap_type ∙ passes-at (ref_test (is_id (length d.types))) i d.elements r m.elements e;
-      memory_index = λ i t e. index-type-of t.memory64;
-      table_index = λ i t e. index-type-of t.table64;
       checked = checked_type d m;
       checked_ref = λ r s e.
-          let p = cond_some (ref_test (is_known (length d.types)) r) (ref_form r) s e in
-          subst (λ x. Valid (context_of d) (Ref x)) p.1 (heap-valid d m.small (heap_form r.heap_type) ∙ heap-ids (length d.types) r.heap_type ∙ p.0);
+          let p = cond_some (ref_test (is_known (length d.types)) r) (ref_with_id r) s e in
+          subst (λ x. Valid (context_of d) (Ref x)) p.1 (heap-valid d m.small (heap_with_id r.heap_type) ∙ heap-ids (length d.types) r.heap_type ∙ p.0);
       checked_heap = λ k l e.
-          let p = cond_some (heap_test (is_known (length d.types)) k) (heap_form k) l e in
-          subst (IsCanonicalHeap (context_of d)) p.1 (heap-canonical d (heap_form k) m.small (heap-ids (length d.types) k ∙ p.0));
+          let p = cond_some (heap_test (is_known (length d.types)) k) (heap_with_id k) l e in
+          subst (λ h. is_valid_heap (context_of d) h ≡ true) p.1 (heap-valid d m.small (heap_with_id k) ∙ heap-ids (length d.types) k ∙ p.0);
     }
 
 -- there are no more types than a lookup over lists holds

@@ -3,7 +3,7 @@
 use Rattle.std.specs.Prelude.{ℕ, Bool, List, false, ◌&&◌, map, nat_le, nat_lt, length, Option, Some, None}
 use Rattle.std.specs.Prelude.{slice_get, option_map, unwrap_or, if◌then◌else◌}
 use Rattle.std.specs.List.{list_all}
-use Rattle.validate_types.specs.Features.{type_gate}
+use Rattle.validate_types.specs.Features.{is_type_enabled}
 use Rattle.validate_types.specs.declared.features.WasmFeatures.{WasmFeatures}
 use Rattle.validate_types.specs.declared.heap.CoreTypeId.{CoreTypeId}
 use Rattle.validate_types.specs.declared.heap.UnpackedIndex.{UnpackedIndex}
@@ -17,8 +17,9 @@ use Rattle.validate_resources.specs.declared.lists.FuncDecl.{FuncDecl}
 use Rattle.validate_resources.specs.declared.lists.TheConstants.{MAX_TYPES}
 use Rattle.validate_resources.specs.Context.{ModuleContext}
 use Rattle.validate_resources.specs.Indices.{is_known, is_id, ref_test, type_test, table_test, global_test}
-use Rattle.validate_resources.specs.Indices.{sub_test, ref_form, table_form, global_form, sub_form}
-use Rattle.validate_resources.specs.Indices.{type_form, canonical_heap, canonical_ref}
+use Rattle.validate_resources.specs.Indices.{sub_test, ref_with_id, table_with_id, global_with_id}
+use Rattle.validate_resources.specs.Indices.{sub_with_ids}
+use Rattle.validate_resources.specs.Indices.{type_with_id, canonical_heap, canonical_ref}
 use Rattle.validate_resources.specs.Order.{is_heap_shared, have_fitting_supertypes, type_below}
 
 -- what a module declares
@@ -72,10 +73,10 @@ is_module p d =
 
 abbrev pub canonical_lists : Declared → Declared
 canonical_lists d = record d {
-  types = map sub_form d.types;
-  tables = map table_form d.tables;
-  globals = map global_form d.globals;
-  elements = map ref_form d.elements;
+  types = map sub_with_ids d.types;
+  tables = map table_with_id d.tables;
+  globals = map global_with_id d.globals;
+  elements = map ref_with_id d.elements;
 }
 
 -- the canonical lists of what is declared, where no cause of a refusal stands
@@ -87,7 +88,7 @@ module_of d = if is_module is_known d then Some (canonical_lists d) else None
 -- the gate of the type is open, and each index in it known
 abbrev pub canonical_under : ℕ → WasmFeatures → ValType → Option ValType
 canonical_under n features t =
-    if type_gate features t && type_test (is_known n) t then Some (type_form t) else None
+    if is_type_enabled features t && type_test (is_known n) t then Some (type_with_id t) else None
 
 -- both types are valid and canonical, and the one below the other
 abbrev pub valid_below : List SubType → ValType → ValType → Bool

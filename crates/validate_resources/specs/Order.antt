@@ -34,7 +34,8 @@ is_heap_shared types (Concrete i) = is_shared_at types (number_of i)
 -- the supertype of type k is an earlier one of the same sharedness, if it has one
 abbrev pub has_fitting_supertype : List SubType → ℕ → Bool → Option UnpackedIndex → Bool
 has_fitting_supertype types k shared None = true
-has_fitting_supertype types k shared (Some i) = nat_lt (number_of i) k && beq (is_shared_at types (number_of i)) shared
+has_fitting_supertype types k shared (Some i) =
+    nat_lt (number_of i) k && beq (is_shared_at types (number_of i)) shared
 
 abbrev pub have_fitting_supertypes : List SubType → Bool
 have_fitting_supertypes types =

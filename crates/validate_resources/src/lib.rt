@@ -69,7 +69,8 @@ pub trait WasmModuleResources {
     /// Whether `a` is below `b` in the order of types. Nothing is said of types that aren't valid
     /// and canonical.
     fn is_subtype(&self, a: ValType, b: ValType) -> bool
-        ensures { Valid (context self.now) a → Valid (context self.now) b → result ≡ (context self.now).below a b };
+        ensures { Valid (context self.now) a → Valid (context self.now) b
+            → result ≡ (context self.now).below a b };
 
     /// Whether the reference is to something shared. Nothing is said of a type that isn't valid and
     /// canonical.
@@ -80,7 +81,7 @@ pub trait WasmModuleResources {
     /// in, where an index in it is unknown, or for want of memory.
     fn check_heap_type(&self, ty: &mut HeapType, offset: u64) -> Result<(), Error>
         ensures canonical { OnOk result ((context self.now).canonical_heap ty.old ≡ Some ty.new) }
-        ensures refused { IfErr result (λ e. e.memory ≡ false → (context self.now).canonical_heap ty.old
+        ensures refused { IfErr result (λ e. e.wants_memory ≡ false → (context self.now).canonical_heap ty.old
             ≡ None) }
         ensures offset { IfErr result (λ e. e.offset ≡ offset) };
 
@@ -88,7 +89,7 @@ pub trait WasmModuleResources {
     /// handed in, where an index in it is unknown, or for want of memory.
     fn check_ref_type(&self, ty: &mut RefType, offset: u64) -> Result<(), Error>
         ensures canonical { OnOk result ((context self.now).canonical_ref ty.old ≡ Some ty.new) }
-        ensures refused { IfErr result (λ e. e.memory ≡ false → (context self.now).canonical_ref ty.old
+        ensures refused { IfErr result (λ e. e.wants_memory ≡ false → (context self.now).canonical_ref ty.old
             ≡ None) }
         ensures offset { IfErr result (λ e. e.offset ≡ offset) };
 
@@ -102,7 +103,7 @@ pub trait WasmModuleResources {
         offset: u64,
     ) -> Result<(), Error>
         ensures canonical { OnOk result ((context self.now).canonical features.now ty.old ≡ Some ty.new) }
-        ensures refused { IfErr result (λ e. e.memory ≡ false
+        ensures refused { IfErr result (λ e. e.wants_memory ≡ false
             → (context self.now).canonical features.now ty.old ≡ None) }
         ensures offset { IfErr result (λ e. e.offset ≡ offset) };
 

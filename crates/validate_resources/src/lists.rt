@@ -70,11 +70,15 @@ impl ModuleLists {
     ) -> Result<ModuleLists, Error>
         ensures kept { IfOk result (λ m. module_of (declared_by types.items functions.items tables.items
             memories.items globals.items elements.items data_count) ≡ Some (declared_lists m)) }
-        ensures refused { IfErr result (λ e. e.memory ≡ false
+        ensures refused { IfErr result (λ e. e.wants_memory ≡ false
             → module_of (declared_by types.items functions.items tables.items
             memories.items globals.items elements.items data_count) ≡ None) }
         ensures too_many { MAX_TYPES < length types.items
-            → IfErr result (λ e. e ≡ record { offset = 0; text = codes "too many types"; memory = false }) }
+            → IfErr result (λ e. e ≡ record {
+              offset = 0;
+              text = codes "too many types";
+              wants_memory = false;
+            }) }
         ensures offset { IfErr result (λ e. e.offset ≡ 0) }
     {
         if types.len() > MAX_TYPES {
@@ -140,7 +144,7 @@ fn write_form<T: Copy>(
     offset: u64,
 ) -> Result<(), Error>
     ensures written { OnOk result (form ≡ Ok ty.new) }
-    ensures refused { IfErr result (λ e. e.memory ≡ false → IfErr form (λ n. e.text ≡ unknown_text n)) }
+    ensures refused { IfErr result (λ e. e.wants_memory ≡ false → IfErr form (λ n. e.text ≡ unknown_text n)) }
     ensures unknown { OnErr result (is_ok form ≡ false) }
     ensures offset { IfErr result (λ e. e.offset ≡ offset) }
 {

@@ -1,43 +1,20 @@
 //! Atomic operators on memories, by shape (the threads proposal).
 
-ghost use Rattle.std.specs.Prelude.{◌≡◌, true, false, None, Some, IfOk, OnOk, OnErr, IfErr};
-ghost use Rattle.validate_resources.specs.Context.{Valid, is_index_type};
-ghost use Rattle.validation_rules.specs.Access.{atomic_address_type, allows_ordering};
+ghost use Rattle.std.specs.Prelude.{◌≡◌, true, false, IfOk, OnOk, OnErr, IfErr};
+ghost use Rattle.validation_rules.specs.Access.{allows_ordering};
 ghost use Rattle.validation_rules.specs.Atomic.{atomic_row};
-ghost use Rattle.validation_rules.specs.Table.{row_operator};
+ghost use Rattle.validation_rules.specs.Operators.{row_operator};
 ghost use Rattle.validate_stacks.specs.State.{context};
 ghost use Rattle.validate_stacks.specs.Visits.{MayVisit, Meets};
-ghost use Rattle.validate_rows.specs.Types.{types_row, AreValid};
+ghost use Rattle.validate_shapes.specs.Types.{types_row, AreValid};
 
-use crate::memory::check_memarg;
-use crate::numbers::{accessed, integer};
-use crate::types::{Few, Types, check_types};
 use validate_resources::WasmModuleResources;
+use validate_shapes::memories::check_shared_memarg;
+use validate_shapes::numbers::{accessed, integer};
+use validate_shapes::types::{Few, Types, check_types};
 use validate_stacks::Stacks;
 use validate_types::{Error, Gate, ValType, WasmFeatures};
-use validate_visit::{AtomicOp, MemArg, Ordering};
-
-/// The type of the address of an atomic access: its alignment is the natural one, and the rest as of any
-/// access (wasmparser's `check_shared_memarg`).
-fn check_shared_memarg<R: WasmModuleResources>(
-    stacks: &Stacks,
-    resources: &R,
-    offset: u64,
-    memarg: MemArg,
-) -> Result<ValType, Error>
-    ensures found { IfOk result (λ it. atomic_address_type (R.context resources.now) memarg ≡ Some it) }
-    ensures index { IfOk result (λ it. is_index_type it ≡ true) }
-    ensures refused { OnErr result (atomic_address_type (R.context resources.now) memarg ≡ None) }
-    ensures offset { IfErr result (λ e. e.offset ≡ offset) }
-{
-    if memarg.align != memarg.max_align {
-        return Err(Error::new(
-            "atomic instructions must always specify maximum alignment",
-            offset,
-        ));
-    }
-    check_memarg(stacks, resources, offset, memarg)
-}
+use validate_visit::{AtomicOp, Ordering};
 
 /// Whether an operator may be ordered so.
 fn allows(features: WasmFeatures, ordering: Ordering) -> bool

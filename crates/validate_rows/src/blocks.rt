@@ -4,8 +4,8 @@ ghost use Rattle.std.specs.Prelude.{◌≡◌, true, false, None, Some, ◌&&◌
 ghost use Rattle.std.specs.List.{AllByRecursion};
 ghost use Rattle.validate_resources.specs.Context.{Valid};
 ghost use Rattle.validate_types.specs.Features.{has, multi_value};
-ghost use Rattle.validation_rules.specs.Table.{opener, opening_operator, checked_block, may_name};
-ghost use Rattle.validation_rules.specs.Valid.{BlockIsValid};
+ghost use Rattle.validation_rules.specs.Operators.{opener, opening_operator, checked_block, may_access_type};
+ghost use Rattle.validation_rules.specs.Valid.{IsValidBlock};
 ghost use Rattle.validate_stacks.specs.State.{context};
 ghost use Rattle.validate_stacks.specs.Visits.{MayVisit, Meets};
 
@@ -26,11 +26,11 @@ fn check_function_type<R: WasmModuleResources>(
     offset: u64,
     type_index: u32,
 ) -> Result<(), Error>
-    ensures accepted { OnOk result ((has stacks.now.body.features multi_value && may_name
+    ensures accepted { OnOk result ((has stacks.now.body.features multi_value && may_access_type
         (context (R.context resources.now) stacks.now.body)
         ((R.context resources.now).type_at type_index)) ≡ true) }
-    ensures refused { IfErr result (λ e. e.memory ≡ false
-        → (has stacks.now.body.features multi_value && may_name
+    ensures refused { IfErr result (λ e. e.wants_memory ≡ false
+        → (has stacks.now.body.features multi_value && may_access_type
         (context (R.context resources.now) stacks.now.body)
         ((R.context resources.now).type_at type_index)) ≡ false) }
     ensures offset { IfErr result (λ e. e.offset ≡ offset) }
@@ -59,7 +59,7 @@ fn check_block_type<R: WasmModuleResources>(
 ) -> Result<BlockType, Error>
     ensures checked { IfOk result (λ bt. checked_block
         (context (R.context resources.now) stacks.now.body) block_type ≡ Some bt) }
-    ensures refused { IfErr result (λ e. e.memory ≡ false
+    ensures refused { IfErr result (λ e. e.wants_memory ≡ false
         → checked_block (context (R.context resources.now) stacks.now.body) block_type ≡ None) }
     ensures offset { IfErr result (λ e. e.offset ≡ offset) }
 {
@@ -90,7 +90,7 @@ fn open_frame<R: WasmModuleResources>(
 ) -> Result<(), Error>
     requires visit { MayVisit (R.context resources.now) stacks.old }
     requires above { AllByRecursion (Valid (R.context resources.now)) above.now }
-    requires block { BlockIsValid (R.context resources.now) stacks.old.body.shared block_type }
+    requires block { IsValidBlock (R.context resources.now) stacks.old.body.shared block_type }
     ensures { Meets (R.context resources.now) (λ cx. opening_operator cx kind above.now true block_type)
         offset stacks.old.body result stacks.new.body }
 {

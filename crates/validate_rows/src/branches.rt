@@ -1,37 +1,19 @@
 //! Branches (WebAssembly core specification, "Control Instructions").
 
-ghost use Rattle.std.specs.Prelude.{◌≡◌, None, Some, true, false, length, IfOk, OnOk, OnErr, IfErr};
+ghost use Rattle.std.specs.Prelude.{◌≡◌, None, Some, true, false, OnOk, OnErr, IfErr};
 ghost use Rattle.validation_rules.specs.Branches.{br_row, br_if_row, br_table_row, return_row};
-ghost use Rattle.validation_rules.specs.Table.{flat_operator};
+ghost use Rattle.validation_rules.specs.Operators.{flat_operator};
 ghost use Rattle.validate_stacks.specs.Pops.{IsKept};
 ghost use Rattle.validate_stacks.specs.State.{IsValid, context};
-ghost use Rattle.validate_stacks.specs.Steps.{label_of};
 ghost use Rattle.validate_stacks.specs.Visits.{step_body, MayVisit, Meets};
 ghost use Rattle.validate_rows.specs.Targets.{is_target, are_targets};
 
 use validate_resources::WasmModuleResources;
+use validate_shapes::labels::label;
 use validate_stacks::Stacks;
 use validate_stacks::blocks::label_types;
 use validate_types::{Error, ValType};
-use validate_visit::{BlockType, BrTable, FrameKind};
-
-/// The block type and the kind of the frame that a label names, counted from the innermost.
-#[inline(always)]
-pub(crate) fn label(
-    stacks: &Stacks,
-    offset: u64,
-    relative_depth: u32,
-) -> Result<(BlockType, FrameKind), Error>
-    ensures found { IfOk result (λ found. label_of stacks.now.body relative_depth ≡ Some found) }
-    ensures missing { OnErr result (label_of stacks.now.body relative_depth ≡ None) }
-    ensures offset { IfErr result (λ e. e.offset ≡ offset) }
-    ensures memory { IfErr result (λ e. e.memory ≡ false) }
-{
-    match stacks.jump(relative_depth) {
-        Some(found) => Ok(found),
-        None => Err(Error::new("unknown label: branch depth too large", offset)),
-    }
-}
+use validate_visit::BrTable;
 
 /// `br`: the types of the label, and the live part of the frame ends. It takes no memory but for the
 /// text of a refusal: it is refused only where its row doesn't hold.
@@ -114,7 +96,7 @@ fn check_target<R: WasmModuleResources>(
     ensures fits { OnOk result (is_target (R.context resources.now) stacks.old.body count relative_depth
         ≡ true) }
     ensures same { OnOk result (stacks.new ≡ stacks.old) }
-    ensures refused { IfErr result (λ e. e.memory ≡ false
+    ensures refused { IfErr result (λ e. e.wants_memory ≡ false
         → is_target (R.context resources.now) stacks.old.body count relative_depth ≡ false) }
     ensures idle { stacks.old.body.undone ≡ None
         → OnErr result (is_target (R.context resources.now) stacks.old.body count relative_depth
@@ -147,7 +129,7 @@ fn check_targets<R: WasmModuleResources>(
     ensures fits { OnOk result (are_targets (R.context resources.now) stacks.old.body count
         table.entry.complete table.entry.targets.now ≡ true) }
     ensures same { OnOk result (stacks.new ≡ stacks.old) }
-    ensures refused { IfErr result (λ e. e.memory ≡ false
+    ensures refused { IfErr result (λ e. e.wants_memory ≡ false
         → are_targets (R.context resources.now) stacks.old.body count table.entry.complete
         table.entry.targets.now ≡ false) }
     ensures idle { stacks.old.body.undone ≡ None → OnErr result

@@ -1,9 +1,9 @@
 //! Operators that begin and end parts (WebAssembly core specification, "Control Instructions").
 
-ghost use Rattle.std.specs.Prelude.{◌≡◌, true, false, None, [], IsOk, OnOk, OnErr, IfErr};
+ghost use Rattle.std.specs.Prelude.{◌≡◌, true, false, None, [], IsOk, OnOk, IfErr};
 ghost use Rattle.validation_rules.specs.Rows.{BeginsElse, Ends, is_if};
-ghost use Rattle.validation_rules.specs.Table.{plain_row, ending_row, row_operator, delimiter_operator};
-ghost use Rattle.validation_rules.specs.Valid.{BlockIsValid};
+ghost use Rattle.validation_rules.specs.Operators.{plain_row, ending_row, row_operator, delimiter_operator};
+ghost use Rattle.validation_rules.specs.Valid.{IsValidBlock};
 ghost use Rattle.validate_stacks.specs.Attempts.{may_frame};
 ghost use Rattle.validate_stacks.specs.Pops.{IsKept};
 ghost use Rattle.validate_stacks.specs.State.{IsValid};
@@ -24,7 +24,7 @@ pub fn check_nop<R: WasmModuleResources>(
     offset: u64,
 ) -> Result<(), Error>
     requires { MayVisit (R.context resources.now) stacks.old }
-    ensures visit { Meets (R.context resources.now) (λ cx. row_operator (plain_row true [] [])) offset
+    ensures visit { Meets (R.context resources.now) (λ cx. row_operator (plain_row [] [])) offset
         stacks.old.body result stacks.new.body }
     ensures memory { IsOk result }
 {
@@ -43,7 +43,7 @@ pub fn check_unreachable<R: WasmModuleResources>(
     offset: u64,
 ) -> Result<(), Error>
     requires { MayVisit (R.context resources.now) stacks.old }
-    ensures visit { Meets (R.context resources.now) (λ cx. row_operator (ending_row true [])) offset
+    ensures visit { Meets (R.context resources.now) (λ cx. row_operator (ending_row [])) offset
         stacks.old.body result stacks.new.body }
     ensures memory { stacks.old.body.undone ≡ None → IsOk result }
 {
@@ -61,7 +61,7 @@ pub fn check_else<R: WasmModuleResources>(
     offset: u64,
 ) -> Result<(), Error>
     requires { MayVisit (R.context resources.now) stacks.old }
-    ensures { Meets (R.context resources.now) (λ cx. delimiter_operator BeginsElse true) offset
+    ensures { Meets (R.context resources.now) (λ cx. delimiter_operator BeginsElse) offset
         stacks.old.body result stacks.new.body }
 {
     let frame = stacks.pop_ctrl(resources, offset)?;
@@ -80,7 +80,7 @@ pub fn check_end<R: WasmModuleResources>(
     offset: u64,
 ) -> Result<(), Error>
     requires { MayVisit (R.context resources.now) stacks.old }
-    ensures { Meets (R.context resources.now) (λ cx. delimiter_operator Ends true) offset
+    ensures { Meets (R.context resources.now) (λ cx. delimiter_operator Ends) offset
         stacks.old.body result stacks.new.body }
 {
     let frame = stacks.pop_ctrl(resources, offset)?;
@@ -104,11 +104,11 @@ fn check_empty_else<R: WasmModuleResources>(
     frame: Frame,
 ) -> Result<(), Error>
     requires state { IsValid (R.context resources.now) stacks.old.body }
-    requires block { BlockIsValid (R.context resources.now) stacks.old.body.shared frame.block_type }
+    requires block { IsValidBlock (R.context resources.now) stacks.old.body.shared frame.block_type }
     requires frames { may_frame stacks.old ≡ true }
     ensures fits { OnOk result (may_close_as_if (R.context resources.now) frame stacks.old.body ≡ true) }
     ensures same { OnOk result (stacks.new.body ≡ stacks.old.body) }
-    ensures refused { IfErr result (λ e. e.memory ≡ false
+    ensures refused { IfErr result (λ e. e.wants_memory ≡ false
         → may_close_as_if (R.context resources.now) frame stacks.old.body ≡ false) }
     ensures offset { IfErr result (λ e. e.offset ≡ offset) }
     ensures valid { IsValid (R.context resources.now) stacks.new.body }

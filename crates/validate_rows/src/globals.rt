@@ -1,43 +1,15 @@
 //! Operators on globals (WebAssembly core specification, "Variable Instructions").
 
-ghost use Rattle.std.specs.Prelude.{◌≡◌, false, None, Some, IfOk, OnErr, IfErr};
-ghost use Rattle.validate_resources.specs.Context.{Valid};
-ghost use Rattle.validation_rules.specs.Calls.{global_type, global_get_row, global_set_row};
-ghost use Rattle.validation_rules.specs.Table.{row_operator};
+ghost use Rattle.validation_rules.specs.Calls.{global_get_row, global_set_row};
+ghost use Rattle.validation_rules.specs.Operators.{row_operator};
 ghost use Rattle.validate_stacks.specs.State.{context};
 ghost use Rattle.validate_stacks.specs.Visits.{MayVisit, Meets};
 
-use crate::plain::check_plain;
 use validate_resources::WasmModuleResources;
-use validate_resources::uses::laws;
+use validate_shapes::globals::global_type_at;
+use validate_shapes::plain::check_plain;
 use validate_stacks::Stacks;
-use validate_types::{Error, GlobalType};
-
-/// The type of a global, which has to be declared, and in a shared function has to be shared
-/// (wasmparser's `global_type_at`).
-fn global_type_at<R: WasmModuleResources>(
-    stacks: &Stacks,
-    resources: &R,
-    offset: u64,
-    global_index: u32,
-) -> Result<GlobalType, Error>
-    ensures found { IfOk result (λ g. global_type (context (R.context resources.now) stacks.now.body)
-        global_index ≡ Some g) }
-    ensures valid { IfOk result (λ g. Valid (R.context resources.now) g.content_type) }
-    ensures refused { OnErr result (global_type (context (R.context resources.now) stacks.now.body)
-        global_index ≡ None) }
-    ensures offset { IfErr result (λ e. e.offset ≡ offset) }
-    ensures memory { IfErr result (λ e. e.memory ≡ false) }
-{
-    laws(resources);
-    let Some(global) = resources.global_at(global_index) else {
-        return Err(Error::new("unknown global: global index out of bounds", offset));
-    };
-    if stacks.is_shared() && !global.shared {
-        return Err(Error::new("shared functions cannot access unshared globals", offset));
-    }
-    Ok(global)
-}
+use validate_types::Error;
 
 /// `global.get`: `[] -> [t]`.
 #[inline(always)]

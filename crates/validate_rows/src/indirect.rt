@@ -4,15 +4,16 @@
 ghost use Rattle.std.specs.Prelude.{◌≡◌, false, None, Some, IfOk, OnErr, IfErr};
 ghost use Rattle.validate_resources.specs.Context.{Valid};
 ghost use Rattle.validation_rules.specs.Indirect.{function_place as place_of_function, function_reference as reference_to_function, call_operand_row, return_call_operand_row, call_indirect_row, return_call_indirect_row, call_ref_row, return_call_ref_row};
-ghost use Rattle.validation_rules.specs.Table.{row_operator, flat_operator};
+ghost use Rattle.validation_rules.specs.Operators.{row_operator, flat_operator};
 ghost use Rattle.validate_stacks.specs.State.{context};
 ghost use Rattle.validate_stacks.specs.Visits.{MayVisit, Meets};
 
-use crate::calls::{check_return_call_ty, func_type_at};
-use crate::plain::check_plain;
-use crate::tables::table_type_at;
+use crate::calls::check_return_call_ty;
 use validate_resources::WasmModuleResources;
 use validate_resources::uses::laws;
+use validate_shapes::functions::func_type_at;
+use validate_shapes::plain::check_plain;
+use validate_shapes::tables::table_type_at;
 use validate_stacks::Stacks;
 use validate_types::{Error, HeapType, RefType, UnpackedIndex, ValType};
 
@@ -50,7 +51,7 @@ fn function_reference<R: WasmModuleResources>(
     ensures found { IfOk result (λ t. reference_to_function
         (context (R.context resources.now) stacks.now.body) type_index ≡ Some t) }
     ensures valid { IfOk result (λ t. Valid (R.context resources.now) t) }
-    ensures refused { IfErr result (λ e. e.memory ≡ false
+    ensures refused { IfErr result (λ e. e.wants_memory ≡ false
         → reference_to_function (context (R.context resources.now) stacks.now.body) type_index ≡ None) }
     ensures offset { IfErr result (λ e. e.offset ≡ offset) }
 {
@@ -67,7 +68,7 @@ fn function_reference<R: WasmModuleResources>(
 
 /// A call of a function of the type at this index. The operand on top, of the type `names`, names the
 /// function, and what it takes lies below.
-fn check_call_by<R: WasmModuleResources>(
+fn check_call_operand<R: WasmModuleResources>(
     stacks: &mut Stacks,
     resources: &R,
     offset: u64,
@@ -87,7 +88,7 @@ fn check_call_by<R: WasmModuleResources>(
 }
 
 /// The same in the place of the rest of the body.
-fn check_return_call_by<R: WasmModuleResources>(
+fn check_return_call_operand<R: WasmModuleResources>(
     stacks: &mut Stacks,
     resources: &R,
     offset: u64,
@@ -120,7 +121,7 @@ pub fn check_call_indirect<R: WasmModuleResources>(
         stacks.new.body }
 {
     let place = function_place(stacks, resources, offset, table_index)?;
-    check_call_by(stacks, resources, offset, type_index, place)
+    check_call_operand(stacks, resources, offset, type_index, place)
 }
 
 /// `return_call_indirect`: what `call_indirect` takes. The body returns the results of the function, and
@@ -138,7 +139,7 @@ pub fn check_return_call_indirect<R: WasmModuleResources>(
         stacks.old.body result stacks.new.body }
 {
     let place = function_place(stacks, resources, offset, table_index)?;
-    check_return_call_by(stacks, resources, offset, type_index, place)
+    check_return_call_operand(stacks, resources, offset, type_index, place)
 }
 
 /// `call_ref`: `[params (ref null t)] -> [results]` of a function of the type t at this index.
@@ -153,7 +154,7 @@ pub fn check_call_ref<R: WasmModuleResources>(
         (λ cx. row_operator (call_ref_row cx type_index)) offset stacks.old.body result stacks.new.body }
 {
     let reference = function_reference(stacks, resources, offset, type_index)?;
-    check_call_by(stacks, resources, offset, type_index, reference)
+    check_call_operand(stacks, resources, offset, type_index, reference)
 }
 
 /// `return_call_ref`: what `call_ref` takes. The body returns the results of the function, and the live
@@ -170,5 +171,5 @@ pub fn check_return_call_ref<R: WasmModuleResources>(
         stacks.new.body }
 {
     let reference = function_reference(stacks, resources, offset, type_index)?;
-    check_return_call_by(stacks, resources, offset, type_index, reference)
+    check_return_call_operand(stacks, resources, offset, type_index, reference)
 }

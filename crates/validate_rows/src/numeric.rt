@@ -2,12 +2,12 @@
 
 ghost use Rattle.validation_rules.specs.Convert.{convert_row};
 ghost use Rattle.validation_rules.specs.Numeric.{numeric_row};
-ghost use Rattle.validation_rules.specs.Table.{row_operator};
+ghost use Rattle.validation_rules.specs.Operators.{row_operator};
 ghost use Rattle.validate_stacks.specs.Visits.{MayVisit, Meets};
 
-use crate::numbers::{float, integer, number, once, packed, twice};
-use crate::plain::check_plain;
 use validate_resources::WasmModuleResources;
+use validate_shapes::numbers::{float, integer, number, once, packed, twice};
+use validate_shapes::plain::check_plain;
 use validate_stacks::Stacks;
 use validate_types::{Error, ValType};
 use validate_visit::{ConvertOp, NumericOp};

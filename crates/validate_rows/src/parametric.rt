@@ -1,12 +1,11 @@
 //! Operators on operands of any type (WebAssembly core specification, "Parametric Instructions").
 
-ghost use Rattle.std.specs.Prelude.{◌≡◌, true, false, [], None, Some, IfOk, OnErr, IfErr};
-ghost use Rattle.validate_types.specs.Gates.{is_open};
-ghost use Rattle.validation_rules.specs.Table.{plain_row, looking_row, drop_pushes, is_selectable, select_result, select_pushes, typed_select_row, row_operator};
+ghost use Rattle.std.specs.Prelude.{◌≡◌, true, false, None, Some, IfOk, OnErr, IfErr};
+ghost use Rattle.validation_rules.specs.Operators.{never_row, looking_row, drop_pushes, is_selectable, select_result, select_pushes, typed_select_row, row_operator};
 ghost use Rattle.validate_stacks.specs.Visits.{step_body, MayVisit, Meets};
 
-use crate::plain::check_plain;
 use validate_resources::WasmModuleResources;
+use validate_shapes::plain::check_plain;
 use validate_stacks::Stacks;
 use validate_types::{Error, MaybeType, ValType};
 
@@ -19,11 +18,11 @@ pub fn check_drop<R: WasmModuleResources>(
 ) -> Result<(), Error>
     requires { MayVisit (R.context resources.now) stacks.old }
     ensures visit { Meets (R.context resources.now)
-        (λ cx. row_operator (looking_row true 1 drop_pushes)) offset stacks.old.body result
+        (λ cx. row_operator (looking_row 1 drop_pushes)) offset stacks.old.body result
         stacks.new.body }
     ensures memory { stacks.old.body.undone ≡ None
         → OnErr result (step_body (R.context resources.now)
-        (λ cx. row_operator (looking_row true 1 drop_pushes)) stacks.old.body ≡ None) }
+        (λ cx. row_operator (looking_row 1 drop_pushes)) stacks.old.body ≡ None) }
 {
     match stacks.pop_operand(resources, offset, None) {
         Ok(_) => Ok(()),
@@ -48,7 +47,7 @@ fn select_type(lower: MaybeType, upper: MaybeType, offset: u64) -> Result<MaybeT
     ensures given { IfOk result (λ t. select_result lower upper ≡ Some t) }
     ensures refused { OnErr result (select_result lower upper ≡ None) }
     ensures offset { IfErr result (λ e. e.offset ≡ offset) }
-    ensures memory { IfErr result (λ e. e.memory ≡ false) }
+    ensures memory { IfErr result (λ e. e.wants_memory ≡ false) }
 {
     if !can_select(lower) || !can_select(upper) {
         return Err(Error::new("type mismatch: select only takes integral types", offset));
@@ -72,7 +71,7 @@ pub fn check_select<R: WasmModuleResources>(
 ) -> Result<(), Error>
     requires { MayVisit (R.context resources.now) stacks.old }
     ensures { Meets (R.context resources.now)
-        (λ cx. row_operator (looking_row true 3 (select_pushes cx))) offset stacks.old.body result
+        (λ cx. row_operator (looking_row 3 (select_pushes cx))) offset stacks.old.body result
         stacks.new.body }
 {
     stacks.pop_operand(resources, offset, Some(ValType::I32))?;
@@ -110,8 +109,8 @@ pub fn check_typed_select_multi<R: WasmModuleResources>(
 ) -> Result<(), Error>
     requires { MayVisit (R.context resources.now) stacks.old }
     ensures visit { Meets (R.context resources.now)
-        (λ cx. row_operator (plain_row false [] [])) offset stacks.old.body result stacks.new.body }
-    ensures memory { IfErr result (λ e. e.memory ≡ false) }
+        (λ cx. row_operator never_row) offset stacks.old.body result stacks.new.body }
+    ensures memory { IfErr result (λ e. e.wants_memory ≡ false) }
 {
     // The contract alone reads it.
     let _resources = resources;

@@ -1,8 +1,8 @@
 //! Operators on locals (WebAssembly core specification, "Variable Instructions").
 
-ghost use Rattle.std.specs.Prelude.{◌≡◌, ◌<◌, true, false, None, Some, IfOk, OnOk, IfErr, length, slice_get};
+ghost use Rattle.std.specs.Prelude.{◌≡◌, ◌<◌, true, None, Some, IfOk, OnOk, IfErr, length, slice_get};
 ghost use Rattle.validate_resources.specs.Context.{ModuleContext};
-ghost use Rattle.validation_rules.specs.Table.{row_operator, local_get_row, local_set_row, local_tee_row};
+ghost use Rattle.validation_rules.specs.Operators.{row_operator, local_get_row, local_set_row, local_tee_row};
 ghost use Rattle.validate_stacks.specs.Attempts.{may_set};
 ghost use Rattle.validate_stacks.specs.Pops.{IsKept};
 ghost use Rattle.validate_stacks.specs.State.{IsValid};
@@ -55,7 +55,7 @@ fn set_init(stacks: &mut Stacks, offset: u64, local_index: u32) -> Result<(), Er
     requires declared { local_index < length stacks.old.body.locals }
     requires set { may_set stacks.old ≡ true }
     ensures set { OnOk result (stacks.new.body ≡ body_with_local_set local_index stacks.old.body) }
-    ensures memory { IfErr result (λ e. e.memory ≡ true) }
+    ensures memory { IfErr result (λ e. e.wants_memory ≡ true) }
     ensures offset { IfErr result (λ e. e.offset ≡ offset) }
     ensures valid { (md : ModuleContext) → IsValid md stacks.old.body → IsValid md stacks.new.body }
     ensures kept { IsKept stacks.old.body stacks.new.body }

@@ -10,7 +10,7 @@ use Rattle.validation_rules.specs.Context.{block_signature}
 use Rattle.validation_rules.specs.Fits.{MaybeType, all_fit}
 use Rattle.validation_rules.specs.Rows.{results, guard}
 use Rattle.validation_rules.specs.Static.{Frame, operands_found, operands_below, may_close, opened_frame}
-use Rattle.validation_rules.specs.Valid.{BlockIsValid}
+use Rattle.validation_rules.specs.Valid.{IsValidBlock}
 use Rattle.validation_rules.proofs.Pops.{and_false, is_empty, closes_whole}
 use Rattle.validation_rules.proofs.Valid.{params_valid, results_valid}
 use Rattle.validate_stacks.specs.Attempts.{innermost_first_set}
@@ -51,11 +51,11 @@ innermost v r h = by v.present.frames refl
         record { frame = f; outer = fs; is = e; kind = cc; block_type = cc }
 
 -- its block type resolves
-pub block_valid : (md : ModuleContext) (v : BodyState) (r : FlatFrame) → frame_at v 0 ≡ Some r → IsValid md v → BlockIsValid md v.shared r.block_type
+pub block_valid : (md : ModuleContext) (v : BodyState) (r : FlatFrame) → frame_at v 0 ≡ Some r → IsValid md v → IsValidBlock md v.shared r.block_type
 block_valid md v r h w =
     let i = innermost v r h in
     let all = rw i.is at w.frames in
-    subst (BlockIsValid md v.shared) i.block_type all.0.block
+    subst (IsValidBlock md v.shared) i.block_type all.0.block
 
 -- its results are valid
 pub wants_valid : (md : ModuleContext) (v : BodyState) (r : FlatFrame) (rs : List ValType) → IsLawful md → frame_at v 0 ≡ Some r → IsValid md v → rs ≡ (block_signature md r.block_type).results → AllByRecursion (Valid md) rs
@@ -132,11 +132,11 @@ entered_is md kind bt v u ps e o =
     ∙ pushed_whole ps (body_with_frame kind bt v) (empty_frame kind bt) v.present.frames refl
     ∙ ap (λ (ts : List ValType). record v { present = record { frames = opened_frame (head_of kind bt) ts ∷ v.present.frames; left = v.present.left } }) e
 
-pub opened_valid : (md : ModuleContext) (kind : FrameKind) (bt : BlockType) (v u : BodyState) → u ≡ body_with_frame kind bt v → BlockIsValid md v.shared bt → IsValid md v → IsValid md u
+pub opened_valid : (md : ModuleContext) (kind : FrameKind) (bt : BlockType) (v u : BodyState) → u ≡ body_with_frame kind bt v → IsValidBlock md v.shared bt → IsValid md v → IsValid md u
 opened_valid md kind bt v u o b w =
     let opens : IsValid md (body_with_frame kind bt v) = record { locals_valid = w.locals_valid; frames = (record { block = b; operands = tt }, w.frames); left = w.left } in
     subst (IsValid md) (sym o) opens
 
 -- its parameters are valid
-pub takes_valid : (md : ModuleContext) (shared : Bool) (bt : BlockType) (ps : List ValType) → IsLawful md → BlockIsValid md shared bt → ps ≡ (block_signature md bt).params → AllByRecursion (Valid md) ps
+pub takes_valid : (md : ModuleContext) (shared : Bool) (bt : BlockType) (ps : List ValType) → IsLawful md → IsValidBlock md shared bt → ps ≡ (block_signature md bt).params → AllByRecursion (Valid md) ps
 takes_valid md shared bt ps laws b e = subst (AllByRecursion (Valid md)) (sym e) (params_valid md laws shared bt b)

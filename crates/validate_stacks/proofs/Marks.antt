@@ -9,11 +9,11 @@ use Rattle.validation_rules.specs.Fits.{MaybeType}
 use Rattle.validation_rules.specs.Static.{State}
 use Rattle.validate_stacks.specs.Flat.{flat_state, HasShape}
 use Rattle.validate_stacks.specs.State.{BodyState}
-use Rattle.validate_stacks.specs.Steps.{is_set_in, frames_setting, body_with_local_set, body_with_params}
+use Rattle.validate_stacks.specs.Steps.{is_set_in_body, frames_setting, body_with_local_set, body_with_params}
 use Rattle.validate_stacks.proofs.Cuts.{state_of, set-cut}
 
 -- a local has a mark exactly where it is set in the body
-pub set_is : (fs : List FlatFrame) (ops : List MaybeType) (v : Inits) (s : Bool) (n : WasmFeatures) (ls : List ValType) (un : Option State) (i : ℕ) → HasShape fs (length ops) (length v.order) → is_recorded_set v i ≡ is_set_in (state_of fs ops v.order s n ls v.base un) i
+pub set_is : (fs : List FlatFrame) (ops : List MaybeType) (v : Inits) (s : Bool) (n : WasmFeatures) (ls : List ValType) (un : Option State) (i : ℕ) → HasShape fs (length ops) (length v.order) → is_recorded_set v i ≡ is_set_in_body (state_of fs ops v.order s n ls v.base un) i
 set_is fs ops v s n ls un i h = ap (λ b. b || slice_index_or v.base i false) (sym (set-cut fs ops v.order i h))
 
 -- ---- setting

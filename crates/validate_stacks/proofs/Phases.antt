@@ -6,7 +6,7 @@ use Rattle.validate_stacks.specs.Attempts.{Phase, Clean, Moved, Set, Framed, Uns
 use Rattle.validate_resources.specs.Context.{ModuleContext}
 use Rattle.validation_rules.specs.Valid.{IsValidState}
 use Rattle.validate_stacks.specs.Pops.{IsKept}
-use Rattle.validate_stacks.specs.State.{BodyState, IsValid, UndoneIsValid}
+use Rattle.validate_stacks.specs.State.{BodyState, IsValid, IsUndoneValid}
 
 unmarked_moved : (p : Phase) → is_unmarked (phase_moved p) ≡ is_unmarked p
 unmarked_moved Clean = refl
@@ -108,13 +108,13 @@ undone_whole v w n k =
     ∙ ap (λ (u : Option State). record v.body { undone = u }) (sym n)
 
 -- the types of what it comes back to stay valid
-pub undone_valid : (md : ModuleContext) (v w : BodyState) → IsKept v w → UndoneIsValid md v → UndoneIsValid md w
-undone_valid md v w k h = subst (UndoneIsValid md) (sym k) h
+pub undone_valid : (md : ModuleContext) (v w : BodyState) → IsKept v w → IsUndoneValid md v → IsUndoneValid md w
+undone_valid md v w k h = subst (IsUndoneValid md) (sym k) h
 
-pub begun_valid : (md : ModuleContext) (v : Stacked) → IsValid md v.body → UndoneIsValid md (stacks_begun v).body
+pub begun_valid : (md : ModuleContext) (v : Stacked) → IsValid md v.body → IsUndoneValid md (stacks_begun v).body
 begun_valid md v h s e = subst (IsValidState md v.body.shared v.body.locals) (some_of v.body.present s e) h
 
-pub rolled_valid : (md : ModuleContext) (v : Stacked) → IsSome v.body.undone → UndoneIsValid md v.body → IsValid md (stacks_rolled_back v).body
+pub rolled_valid : (md : ModuleContext) (v : Stacked) → IsSome v.body.undone → IsUndoneValid md v.body → IsValid md (stacks_rolled_back v).body
 rolled_valid md v i h = by v.body.undone refl i
   where
     by : (u : Option State) → v.body.undone ≡ u → IsSome u → IsValidState md v.body.shared v.body.locals (unwrap_or v.body.undone v.body.present)

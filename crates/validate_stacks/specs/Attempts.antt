@@ -45,7 +45,7 @@ is_setting Moved = true
 is_setting Set = true
 is_setting _ = false
 
--- no local was unset
+-- it is known that no local was unset
 abbrev pub has_none_unset : Phase → Bool
 has_none_unset Unset = false
 has_none_unset Marked = false

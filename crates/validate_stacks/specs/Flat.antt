@@ -1,4 +1,5 @@
--- The frames' own parts of the flat lists: where heights stand for lists.
+-- The frames' own parts of the flat lists: where heights stand for lists (Specification, appendix
+-- "Validation Algorithm": ctrl_frame, with its height).
 use Rattle.std.specs.Prelude.{◌≡◌, ℕ, ◌+◌, ◌-◌, ◌≤◌, List, [], ◌∷◌, ◌++◌, Bool, true, false, Option, Some}
 use Rattle.std.specs.Prelude.{None, length, take, drop, nat_lt}
 use Rattle.validate_locals.specs.Inits.{AreFresh}

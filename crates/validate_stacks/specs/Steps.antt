@@ -1,7 +1,10 @@
--- The steps of the stacks on what they stand for.
+-- The steps of the stacks on what they stand for (Specification, appendix "Validation Algorithm": pop_val,
+-- push_val, push_ctrl, unreachable, set_local, on a whole body).
 use Rattle.std.specs.Prelude.{ℕ, List, [], ◌∷◌, ◌++◌, Bool, true, false, Option, Some, None, length, drop}
 use Rattle.std.specs.Prelude.{slice_get, slice_index_or, replicate, map, ◌||◌, if◌then◌else◌}
 use Rattle.std.specs.Option.{option_map}
+use Rattle.std.specs.List.{list_any}
+use Rattle.std.specs.Prelude.{nat_eq}
 use Rattle.validate_types.specs.declared.features.WasmFeatures.{WasmFeatures}
 use Rattle.validate_types.specs.Types.{is_defaultable}
 use Rattle.validate_types.specs.declared.types.ValType.{ValType}
@@ -11,7 +14,7 @@ use Rattle.validate_visit.specs.declared.frame.FrameKind.{FrameKind}
 use Rattle.validation_rules.specs.Fits.{MaybeType, Bottom, UnknownRef, Known}
 use Rattle.validation_rules.specs.Pops.{operand_on_top}
 use Rattle.validation_rules.specs.Rows.{Head}
-use Rattle.validation_rules.specs.Static.{Frame, State, state_with, open_state, heads, is_among, locals_set}
+use Rattle.validation_rules.specs.Static.{Frame, State, state_with, open_state, heads, locals_set}
 use Rattle.validate_stacks.specs.Flat.{with_heights}
 use Rattle.validate_stacks.specs.State.{BodyState, body_with_frames}
 
@@ -140,8 +143,8 @@ body_without_frame v = body_with_frames (outer_frames v.present.frames) v
 -- ---- locals
 
 -- the local is set, when the body begins or since
-abbrev pub is_set_in : BodyState → ℕ → Bool
-is_set_in v i = is_among (locals_set v.present.frames) i || slice_index_or v.entry i false
+abbrev pub is_set_in_body : BodyState → ℕ → Bool
+is_set_in_body v i = list_any (nat_eq i) (locals_set v.present.frames) || slice_index_or v.entry i false
 
 abbrev pub frames_setting : Bool → ℕ → List Frame → List Frame
 frames_setting set i [] = []
@@ -150,7 +153,7 @@ frames_setting set i (f ∷ fs) =
 
 -- with the local set: where it wasn't, it joins those first set in the innermost frame
 abbrev pub body_with_local_set : ℕ → BodyState → BodyState
-body_with_local_set i v = body_with_frames (frames_setting (is_set_in v i) i v.present.frames) v
+body_with_local_set i v = body_with_frames (frames_setting (is_set_in_body v i) i v.present.frames) v
 
 -- the locals that were first set in a frame that is still open, in order
 abbrev pub setting_order : List Frame → List ℕ

@@ -1,4 +1,4 @@
--- What the visit of an operator asks and answers.
+-- What the visit of an operator asks and answers (the crate's own).
 use Rattle.std.specs.Prelude.{◌≡◌, ◌≢◌, ℕ, true, false, [], Option, Some, None, Result, OnOk, IfErr}
 use Rattle.std.specs.Option.{option_map}
 use Rattle.validate_resources.specs.Context.{ModuleContext}
@@ -22,7 +22,7 @@ pub record Answers
     (md : ModuleContext) (op : Context → Operator) (offset : ℕ) (v : BodyState)
     (answer : Result (Unit {0}) Refusal) (w : BodyState) : Type 0 where
   pub accepted : OnOk answer (step_body md op v ≡ Some w)
-  pub refused : IfErr answer (λ e. e.memory ≡ false → step_body md op v ≡ None)
+  pub refused : IfErr answer (λ e. e.wants_memory ≡ false → step_body md op v ≡ None)
   pub at_offset : IfErr answer (λ e. e.offset ≡ offset)
   pub valid : IsValid md w
   pub kept : IsKept v w

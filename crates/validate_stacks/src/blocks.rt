@@ -4,7 +4,7 @@ ghost use Rattle.std.specs.Prelude.{◌≡◌, ◌≢◌, [], true, false, None,
 ghost use Rattle.validate_resources.specs.Context.{Valid};
 ghost use Rattle.validation_rules.specs.Context.{Context, block_signature};
 ghost use Rattle.validation_rules.specs.Rows.{label_types};
-ghost use Rattle.validation_rules.specs.Valid.{BlockIsValid};
+ghost use Rattle.validation_rules.specs.Valid.{IsValidBlock};
 ghost use Rattle.validate_stacks.specs.State.{IsValid};
 ghost use Rattle.validate_stacks.specs.Steps.{frame_at};
 ghost use Rattle.validate_stacks.specs.Pops.{IsKept};
@@ -81,11 +81,11 @@ impl Stacks {
         block_type: BlockType,
     ) -> Result<(), Error>
         requires state { IsValid (R.context resources.now) self.old.body }
-        requires block { BlockIsValid (R.context resources.now) self.old.body.shared block_type }
+        requires block { IsValidBlock (R.context resources.now) self.old.body.shared block_type }
         requires frames { may_frame self.old ≡ true }
         ensures entered { OnOk result (self.new.body ≡ body_with_block (R.context resources.now) kind
             block_type self.old.body) }
-        ensures memory { IfErr result (λ e. e.memory ≡ true) }
+        ensures memory { IfErr result (λ e. e.wants_memory ≡ true) }
         ensures offset { IfErr result (λ e. e.offset ≡ offset) }
         ensures valid { IsValid (R.context resources.now) self.new.body }
         ensures kept { IsKept self.old.body self.new.body }
@@ -113,7 +113,7 @@ impl Stacks {
         ensures closed { OnOk result (closed_body (R.context resources.now) self.old.body
             ≡ Some self.new.body) }
         ensures frame { IfOk result (λ f. frame_at self.old.body 0 ≡ Some f) }
-        ensures refused { IfErr result (λ e. e.memory ≡ false
+        ensures refused { IfErr result (λ e. e.wants_memory ≡ false
             → closed_body (R.context resources.now) self.old.body ≡ None) }
         ensures offset { IfErr result (λ e. e.offset ≡ offset) }
         ensures valid { IsValid (R.context resources.now) self.new.body }

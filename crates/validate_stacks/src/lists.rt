@@ -1,6 +1,6 @@
 //! Pops and pushes of lists of types, and the end of the live part of a frame.
 
-ghost use Rattle.std.specs.Prelude.{◌≡◌, ◌≢◌, ◌⊎◌, [], true, false, None, Some, OnOk, OnErr, IfErr, IsOk, reverse};
+ghost use Rattle.std.specs.Prelude.{◌≡◌, ◌≢◌, ◌⊎◌, [], true, false, None, Some, OnOk, OnErr, IfErr, IsOk, length, reverse, take, ◌≤◌};
 ghost use Rattle.std.specs.List.{AllByRecursion};
 ghost use Rattle.validate_resources.specs.Context.{ModuleContext, Valid};
 ghost use Rattle.validate_stacks.specs.Attempts.{phase_moved};
@@ -26,7 +26,7 @@ impl Stacks {
         requires state { IsValid (R.context resources.now) self.old.body }
         ensures passed { OnOk result (body_popped_each (R.context resources.now) (reverse wanted.now)
             self.old.body ≡ Some self.new.body) }
-        ensures refused { IfErr result (λ e. e.memory ≡ false
+        ensures refused { IfErr result (λ e. e.wants_memory ≡ false
             → body_popped_each (R.context resources.now) (reverse wanted.now) self.old.body ≡ None) }
         ensures idle { self.old.body.undone ≡ None
             → OnErr result (body_popped_each (R.context resources.now) (reverse wanted.now)
@@ -37,6 +37,41 @@ impl Stacks {
         ensures kept { IsKept self.old.body self.new.body }
     {
         let mut left = wanted.len();
+        while left > 0 {
+            match self.pop_at_once(resources, Some(wanted[left - 1])) {
+                Some(_) => left -= 1,
+                None => return self.pop_first_types(resources, offset, wanted, left),
+            }
+        }
+        Ok(())
+    }
+
+    /// [`Stacks::pop_types`], of the first so many of these types, by the order of types.
+    #[inline(never)]
+    fn pop_first_types<R: WasmModuleResources>(
+        &mut self,
+        resources: &R,
+        offset: u64,
+        wanted: &[ValType],
+        count: usize,
+    ) -> Result<(), Error>
+        requires within { count ≤ length wanted.now }
+        requires types { AllByRecursion (Valid (R.context resources.now)) wanted.now }
+        requires state { IsValid (R.context resources.now) self.old.body }
+        ensures passed { OnOk result (body_popped_each (R.context resources.now)
+            (reverse (take count wanted.now)) self.old.body ≡ Some self.new.body) }
+        ensures refused { IfErr result (λ e. e.wants_memory ≡ false
+            → body_popped_each (R.context resources.now) (reverse (take count wanted.now)) self.old.body
+            ≡ None) }
+        ensures idle { self.old.body.undone ≡ None
+            → OnErr result (body_popped_each (R.context resources.now) (reverse (take count wanted.now))
+            self.old.body ≡ None) }
+        ensures phase { phase_moved self.new.phase ≡ phase_moved self.old.phase }
+        ensures offset { IfErr result (λ e. e.offset ≡ offset) }
+        ensures valid { IsValid (R.context resources.now) self.new.body }
+        ensures kept { IsKept self.old.body self.new.body }
+    {
+        let mut left = count;
         while left > 0 {
             left -= 1;
             self.pop_operand(resources, offset, Some(wanted[left]))?;
@@ -59,7 +94,7 @@ impl Stacks {
         ensures passed { OnOk result (has_operands_fitting
             (context (R.context resources.now) self.old.body) wanted.now self.old.body ≡ true) }
         ensures same { OnOk result (self.new ≡ self.old) }
-        ensures refused { IfErr result (λ e. e.memory ≡ false
+        ensures refused { IfErr result (λ e. e.wants_memory ≡ false
             → has_operands_fitting (context (R.context resources.now) self.old.body) wanted.now
             self.old.body ≡ false) }
         ensures idle { self.old.body.undone ≡ None
@@ -89,7 +124,7 @@ impl Stacks {
     #[inline(always)]
     pub fn push_types(&mut self, offset: u64, types: &[ValType]) -> Result<(), Error>
         ensures pushed { OnOk result (self.new.body ≡ body_pushed_each types.now self.old.body) }
-        ensures memory { IfErr result (λ e. e.memory ≡ true) }
+        ensures memory { IfErr result (λ e. e.wants_memory ≡ true) }
         ensures offset { IfErr result (λ e. e.offset ≡ offset) }
         ensures valid { (md : ModuleContext) → AllByRecursion (Valid md) types.now
             → IsValid md self.old.body → IsValid md self.new.body }
@@ -109,7 +144,7 @@ impl Stacks {
     /// where no attempt is pending.
     pub fn end_live_part(&mut self, offset: u64) -> Result<(), Error>
         ensures ended { OnOk result (self.new.body ≡ body_unreachable self.old.body) }
-        ensures memory { IfErr result (λ e. e.memory ≡ true) }
+        ensures memory { IfErr result (λ e. e.wants_memory ≡ true) }
         ensures offset { IfErr result (λ e. e.offset ≡ offset) }
         ensures valid { (md : ModuleContext) → IsValid md self.old.body → IsValid md self.new.body }
         ensures kept { IsKept self.old.body self.new.body }

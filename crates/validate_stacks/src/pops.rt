@@ -1,14 +1,14 @@
 //! Pops of operands against what is wanted.
 
-ghost use Rattle.std.specs.Prelude.{◌≡◌, ◌⊎◌, true, false, None, Some, OnOk, OnErr, IfOk, IfErr};
+ghost use Rattle.std.specs.Prelude.{◌≡◌, ◌⊎◌, true, false, None, Some, OnOk, OnErr, IfOk, IfErr, MatchOption};
 ghost use Rattle.std.specs.Option.{ForSome};
 ghost use Rattle.validate_resources.specs.Context.{Valid};
 ghost use Rattle.validation_rules.specs.Fits.{UnknownRef, fits};
-ghost use Rattle.validation_rules.specs.Valid.{OperandIsValid};
+ghost use Rattle.validation_rules.specs.Valid.{IsValidOperand};
 ghost use Rattle.validate_stacks.specs.Attempts.{phase_moved};
 ghost use Rattle.validate_stacks.specs.State.{IsValid, context};
-ghost use Rattle.validate_stacks.specs.Names.{type_name};
-ghost use Rattle.validate_stacks.specs.Pops.{may_pop};
+ghost use Rattle.validate_stacks.specs.Names.{place_of, type_name};
+ghost use Rattle.validate_stacks.specs.Pops.{may_pop, FitsAtOnce};
 ghost use Rattle.validate_stacks.specs.Steps.{found_in_body, body_popped};
 
 use crate::stacks::Stacks;
@@ -35,7 +35,7 @@ pub fn ty_to_str(ty: ValType) -> &'static str
 #[inline(never)]
 fn nothing_there(alloc: Global, expected: Option<ValType>, offset: u64) -> Error
     ensures offset { result.offset ≡ offset }
-    ensures memory { expected ≡ None → result.memory ≡ false }
+    ensures memory { expected ≡ None → result.wants_memory ≡ false }
 {
     let Some(wanted) = expected else {
         return Error::new(
@@ -77,6 +77,42 @@ fn reference_found(alloc: Global, expected: ValType, offset: u64) -> Error
     }
 }
 
+/// Whether nothing is wanted, or this operand isn't known at all, or is the wanted number or vector type.
+#[inline(always)]
+fn fits_at_once(found: MaybeType, expected: Option<ValType>) -> bool
+    ensures { result ≡ true → FitsAtOnce found expected }
+{
+    match (found, expected) {
+        (_, None) | (MaybeType::Bottom, _) => true,
+        (MaybeType::Known(found), Some(wanted)) => is_same_number(found, wanted),
+        (MaybeType::UnknownRef(_), Some(_)) => false,
+    }
+}
+
+/// Whether this is twice the same number or vector type.
+#[inline(always)]
+fn is_same_number(found: ValType, wanted: ValType) -> bool
+    ensures { result ≡ true → found ≡ wanted }
+{
+    let place = place_of(found);
+    place < 5 && place == place_of(wanted)
+}
+
+/// The place of a number or vector type among them, from 0; 5 for every reference.
+#[inline(always)]
+fn place_of(ty: ValType) -> u8
+    ensures { result ≡ place_of ty }
+{
+    match ty {
+        ValType::I32 => 0,
+        ValType::I64 => 1,
+        ValType::F32 => 2,
+        ValType::F64 => 3,
+        ValType::V128 => 4,
+        ValType::Ref(_) => 5,
+    }
+}
+
 impl Stacks {
     /// Pops an operand that fits what is wanted, if anything is. It refuses, at the offset handed in,
     /// where nothing is found or where what is found doesn't fit (and is popped). Memory is wanted for
@@ -94,7 +130,7 @@ impl Stacks {
         ensures passed { OnOk result (may_pop (context (R.context resources.now) self.old.body)
             (found_in_body self.old.body) expected ≡ true) }
         ensures popped { OnOk result (self.new.body ≡ body_popped self.old.body) }
-        ensures refused { IfErr result (λ e. e.memory ≡ false
+        ensures refused { IfErr result (λ e. e.wants_memory ≡ false
             → may_pop (context (R.context resources.now) self.old.body) (found_in_body self.old.body)
             expected ≡ false) }
         ensures left { OnErr result ((self.new.body ≡ self.old.body)
@@ -108,11 +144,39 @@ impl Stacks {
             → OnErr result (may_pop (context (R.context resources.now) self.old.body)
             (found_in_body self.old.body) expected ≡ false) }
         ensures memory { self.old.body.undone ≡ None → expected ≡ None
-            → IfErr result (λ e. e.memory ≡ false) }
+            → IfErr result (λ e. e.wants_memory ≡ false) }
     {
-        match expected {
-            Some(wanted) if self.pop_number(wanted) => Ok(MaybeType::Known(wanted)),
-            _ => self.pop_fitting(resources, offset, expected),
+        match self.pop_at_once(resources, expected) {
+            Some(found) => Ok(found),
+            None => self.pop_fitting(resources, offset, expected),
+        }
+    }
+
+    /// Pops the operand that is found, where it fits at once: nothing is wanted, or it isn't known at all,
+    /// or it is the wanted number or vector type itself. None, with nothing changed, where that isn't so,
+    /// or where memory wants.
+    #[inline(always)]
+    pub(crate) fn pop_at_once<R: WasmModuleResources>(
+        &mut self,
+        resources: &R,
+        expected: Option<ValType>,
+    ) -> Option<MaybeType>
+        requires { ForSome expected (Valid (R.context resources.now)) }
+        ensures exact { MatchOption result (self.new ≡ self.old) (λ t.
+            (found_in_body self.old.body ≡ Some t) × (self.new.body ≡ body_popped self.old.body)) }
+        ensures passed { ForSome result (λ _. may_pop (context (R.context resources.now) self.old.body)
+            (found_in_body self.old.body) expected ≡ true) }
+        ensures phase { phase_moved self.new.phase ≡ phase_moved self.old.phase }
+    {
+        // The contract alone reads it.
+        let _resources = resources;
+        let found = self.found_at(0)?;
+        if !fits_at_once(found, expected) {
+            return None;
+        }
+        match self.pop_any() {
+            Ok(_) => Some(found),
+            Err(_) => None,
         }
     }
 
@@ -130,7 +194,7 @@ impl Stacks {
         ensures passed { OnOk result (may_pop (context (R.context resources.now) self.old.body)
             (found_in_body self.old.body) expected ≡ true) }
         ensures popped { OnOk result (self.new.body ≡ body_popped self.old.body) }
-        ensures refused { IfErr result (λ e. e.memory ≡ false
+        ensures refused { IfErr result (λ e. e.wants_memory ≡ false
             → may_pop (context (R.context resources.now) self.old.body) (found_in_body self.old.body)
             expected ≡ false) }
         ensures left { OnErr result ((self.new.body ≡ self.old.body)
@@ -141,7 +205,7 @@ impl Stacks {
             → OnErr result (may_pop (context (R.context resources.now) self.old.body)
             (found_in_body self.old.body) expected ≡ false) }
         ensures memory { self.old.body.undone ≡ None → expected ≡ None
-            → IfErr result (λ e. e.memory ≡ false) }
+            → IfErr result (λ e. e.wants_memory ≡ false) }
     {
         match self.pop_any() {
             Ok(found) => self.check_found(resources, offset, found, expected),
@@ -159,14 +223,14 @@ impl Stacks {
         expected: Option<ValType>,
     ) -> Result<MaybeType, Error>
         requires wanted { ForSome expected (Valid (R.context resources.now)) }
-        requires found { ForSome found (OperandIsValid (R.context resources.now)) }
+        requires found { ForSome found (IsValidOperand (R.context resources.now)) }
         ensures value { IfOk result (λ t. found ≡ Some t) }
         ensures passed { OnOk result (may_pop (context (R.context resources.now) self.now.body) found
             expected ≡ true) }
         ensures refused { OnErr result (may_pop (context (R.context resources.now) self.now.body) found
             expected ≡ false) }
         ensures offset { IfErr result (λ e. e.offset ≡ offset) }
-        ensures memory { expected ≡ None → IfErr result (λ e. e.memory ≡ false) }
+        ensures memory { expected ≡ None → IfErr result (λ e. e.wants_memory ≡ false) }
     {
         let Some(actual) = found else {
             return Err(nothing_there(self.allocator(), expected, offset));

@@ -6,20 +6,18 @@ ghost use Rattle.validate_locals.specs.Limit.{max_locals};
 ghost use Rattle.validate_resources.specs.Context.{ModuleContext};
 ghost use Rattle.validate_transaction.specs.TakeBack.{items_taken_back, CanTakeBack};
 ghost use Rattle.validation_rules.specs.Static.{operand_count, frame_count};
-ghost use Rattle.validation_rules.specs.Fits.{Known};
 ghost use Rattle.validate_stacks.specs.Attempts.{phase_moved, may_attempt, may_frame, may_set, may_unset, stacks_begun, stacks_committed, stacks_rolled_back};
 ghost use Rattle.validate_stacks.specs.Flat.{frames_unmarked, inits_in_frames};
 ghost use Rattle.validate_stacks.specs.Pops.{IsKept};
-ghost use Rattle.validate_stacks.specs.Names.{place_of};
 ghost use Rattle.validate_stacks.specs.State.{IsValid};
-ghost use Rattle.validate_stacks.specs.Steps.{empty_body, innermost_operands, found_in_body, known_type, type_at_depth, frame_at, label_of, found_below_in_body, body_marked, body_unreachable, body_pushed, body_popped, body_with_frame, body_without_frame, is_set_in, body_with_local_set, setting_order, body_with_locals, body_with_params};
+ghost use Rattle.validate_stacks.specs.Steps.{empty_body, innermost_operands, found_in_body, known_type, type_at_depth, frame_at, label_of, found_below_in_body, body_marked, body_unreachable, body_pushed, body_popped, body_with_frame, body_without_frame, is_set_in_body, body_with_local_set, setting_order, body_with_locals, body_with_params};
 
 use crate::allocations::OperatorValidatorAllocations;
 use std::alloc::Global;
 use std::marker::Model;
 use validate_locals::{LocalInits, Locals};
 use validate_transaction::pile::take_back;
-use validate_transaction::{Pile, RollbackLogAllocations, Transaction};
+use validate_transaction::{Pile, Transaction};
 use validate_types::{MaybeType, OutOfMemory, ValType, WasmFeatures};
 use validate_visit::{BlockType, Frame, FrameKind};
 
@@ -44,9 +42,11 @@ impl Model for Stacks {
 
     ghost use Rattle.validate_stacks.specs.Flat.{stacked_of, IsSound};
 
-    ghost view = { λ s. stacked_of s.control.items s.operands.items s.inits.order s.transaction s.shared s.features s.locals s.inits.base };
+    ghost view = { λ s. stacked_of s.control.items s.operands.items s.inits.order s.transaction s.shared
+        s.features s.locals s.inits.base };
 
-    ghost invariant = { λ s. IsSound s.control.room s.control.items s.operands.room s.operands.items s.inits.room s.inits.base s.inits.order s.transaction s.locals };
+    ghost invariant = { λ s. IsSound s.control.room s.control.items s.operands.room s.operands.items
+        s.inits.room s.inits.base s.inits.order s.transaction s.locals };
 }
 
 impl Stacks {
@@ -54,13 +54,20 @@ impl Stacks {
     pub fn new(features: WasmFeatures, allocs: OperatorValidatorAllocations) -> Stacks
         ensures { result.body ≡ empty_body features }
     {
-        let alloc = allocs.allocator();
+        let OperatorValidatorAllocations {
+            operands,
+            control,
+            locals,
+            inits,
+            log,
+            alloc,
+        } = allocs;
         Stacks {
-            operands: Pile::new(alloc),
-            control: Pile::new(alloc),
-            locals: Locals::new(alloc),
-            inits: LocalInits::new(alloc),
-            transaction: Transaction::new(RollbackLogAllocations::new(alloc)),
+            operands,
+            control,
+            locals,
+            inits,
+            transaction: Transaction::new(log),
             shared: false,
             features,
             alloc,
@@ -69,7 +76,28 @@ impl Stacks {
 
     /// The buffers, emptied. It takes no memory.
     pub fn into_allocations(self) -> OperatorValidatorAllocations {
-        OperatorValidatorAllocations::new(self.alloc)
+        let Stacks {
+            mut operands,
+            mut control,
+            mut locals,
+            mut inits,
+            transaction,
+            shared: _,
+            features: _,
+            alloc,
+        } = self;
+        operands.clear();
+        control.clear();
+        locals.clear();
+        inits.clear();
+        OperatorValidatorAllocations {
+            operands,
+            control,
+            locals,
+            inits,
+            log: transaction.into_allocations(),
+            alloc,
+        }
     }
 
     /// The allocator of the buffers, with which texts are made.
@@ -160,7 +188,7 @@ impl Stacks {
     #[inline(always)]
     pub fn is_uninit(&self, local_index: u32) -> bool
         requires { local_index < length self.now.body.locals }
-        ensures { result ≡ not (is_set_in self.now.body local_index) }
+        ensures { result ≡ not (is_set_in_body self.now.body local_index) }
     {
         // The proof takes the invariant of the stacks from this read.
         let _frames = self.control.len();
@@ -265,28 +293,9 @@ impl Stacks {
             return Ok(None);
         };
         let ty = *top;
-        self.transaction.record_pop(ty)?;
+        self.transaction.record_pop(top)?;
         let _ = self.operands.pop();
         Ok(Some(ty))
-    }
-
-    /// Takes the top own operand of the innermost frame where it is this number or vector type. False,
-    /// with nothing changed, where it isn't, or where memory wants.
-    #[inline(always)]
-    pub(crate) fn pop_number(&mut self, wanted: ValType) -> bool
-        ensures exact { MatchBool result ((found_in_body self.old.body ≡ Some (Known wanted))
-            × (self.new.body ≡ body_popped self.old.body)) (self.new ≡ self.old) }
-        ensures phase { phase_moved self.new.phase ≡ phase_moved self.old.phase }
-    {
-        match self.found_at(0) {
-            Some(MaybeType::Known(found)) if is_same_number(found, wanted) => {
-                match self.pop_any() {
-                    Ok(_) => true,
-                    Err(_) => false,
-                }
-            }
-            _ => false,
-        }
     }
 
     /// What a pop would find below so many others, in the innermost frame.
@@ -391,13 +400,13 @@ impl Stacks {
         let Some(innermost) = self.control.get(0) else {
             return Ok(());
         };
-        let frame = *innermost;
+        let init_height = innermost.init_height;
         // The proof takes the invariant of the stacks from this read.
         let _count = self.control.len();
         self.transaction
-            .pop_ctrl(frame, self.inits.set_since(frame.init_height))?;
+            .pop_ctrl(innermost, self.inits.set_since(init_height))?;
         let _ = self.control.pop();
-        self.inits.drop_ctrl(frame.init_height);
+        self.inits.drop_ctrl(init_height);
         Ok(())
     }
 
@@ -483,30 +492,6 @@ fn take_back_frames(
                 }
             }
         }
-    }
-}
-
-/// Whether this is twice the same number or vector type.
-#[inline(always)]
-fn is_same_number(found: ValType, wanted: ValType) -> bool
-    ensures { result ≡ true → found ≡ wanted }
-{
-    let place = place_of(found);
-    place < 5 && place == place_of(wanted)
-}
-
-/// The place of a number or vector type among them, from 0; 5 for every reference.
-#[inline(always)]
-fn place_of(ty: ValType) -> u8
-    ensures { result ≡ place_of ty }
-{
-    match ty {
-        ValType::I32 => 0,
-        ValType::I64 => 1,
-        ValType::F32 => 2,
-        ValType::F64 => 3,
-        ValType::V128 => 4,
-        ValType::Ref(_) => 5,
     }
 }
 

@@ -2,6 +2,7 @@
 
 ghost use Rattle.std.specs.Prelude.{◌≡◌, ◌<◌, ◌^◌};
 
+use crate::expect::{expect, expect_same};
 use crate::setting::{FOUR_TYPES, Setting};
 use std::process::Abort;
 use std::test::Fail;
@@ -17,15 +18,16 @@ fn param_count(ty: &SubType) -> usize {
 /// What is asked of the types and the labels, through the trait: function 0 is of type 1, `[i32] -> []`,
 /// there are four types, and one frame of type 0 is open.
 fn expect_names<M: ModuleArity>(rt: &impl Abort, body: &M) {
-    assert_eq!(rt; body.type_index_of_function(0), Some(1));
-    assert_eq!(rt; body.type_index_of_function(1), None);
-    assert_eq!(rt; body.sub_type_at(1).map(param_count), Some(1));
-    assert!(rt; body.sub_type_at(4).is_none());
-    assert_eq!(rt;
+    expect_same(rt, body.type_index_of_function(0), Some(1));
+    expect_same(rt, body.type_index_of_function(1), None);
+    expect_same(rt, body.sub_type_at(1).map(param_count), Some(1));
+    expect(rt, body.sub_type_at(4).is_none());
+    expect_same(
+        rt,
         body.label_block(0),
-        Some((BlockType::FuncType(0), FrameKind::Block))
+        Some((BlockType::FuncType(0), FrameKind::Block)),
     );
-    assert_eq!(rt; body.label_block(1), None);
+    expect_same(rt, body.label_block(1), None);
 }
 
 /// How many frames are open, through the trait.
@@ -43,7 +45,7 @@ fn what_a_body_names(rt: HostRuntime) -> Result<(), Fail> {
     let mut v = setting.validator(&rt)?;
     let body = v.with_resources(&setting.lists, 7);
     expect_names(&rt, &body);
-    assert!(rt; body.sub_type_of_ref_type(&RefType::FUNCREF).is_none());
-    assert_eq!(rt; height_of(&body), 1);
+    expect(&rt, body.sub_type_of_ref_type(&RefType::FUNCREF).is_none());
+    expect_same(&rt, height_of(&body), 1);
     Ok(())
 }

@@ -4,32 +4,27 @@
 //! the words of its refusal. Where a `try` stands before the operator it is attempted and taken back, and
 //! behind a second arrow stand the innermost frame and the operands within the attempt, the top last.
 
-ghost use Rattle.std.specs.Prelude.{◌≡◌, None, OnOk};
-ghost use Rattle.validation_rules.specs.Table.{operator};
+ghost use Rattle.std.specs.Prelude.{◌≡◌, None, IfOk, OnOk};
+ghost use Rattle.validation_rules.specs.Operators.{operator};
 ghost use Rattle.validate_stacks.specs.Pops.{IsKept};
 ghost use Rattle.validate_stacks.specs.State.{IsStarting, IsValid};
 ghost use Rattle.validate_stacks.specs.Visits.{MayVisit, Meets};
 ghost use Rattle.wasmparser_validate.specs.Start.{state, stacks_of};
 
+use crate::expect::{expect, expect_same, expect_same_in};
 use crate::ops::read_op;
 use crate::run::left_on;
 use crate::seen::Seen;
-use crate::setting::{FOUR_TYPES, Setting};
+use crate::setting::{FOUR_TYPES, FUNC, Setting};
 use std::process::Abort;
 use std::test::Fail;
-use wasmparser_validate::operators::OperatorValidator;
-use wasmparser_validate::resources::WasmModuleResources;
-use wasmparser_validate::types::{AbstractHeapType, Error, HeapType, RefType, ValType};
-use wasmparser_validate::visit::{ControlOp, FrameKind, Op, VisitOperator};
-
-/// `(ref func)`, of which there is no default value.
-const FUNC: RefType = RefType {
-    nullable: false,
-    heap_type: HeapType::Abstract {
-        shared: false,
-        ty: AbstractHeapType::Func,
-    },
+use validate_body::first_set::inits_of;
+use wasmparser_validate::operators::{
+    OperatorValidator, OperatorValidatorAllocations, try_and_undo,
 };
+use wasmparser_validate::resources::{ModuleLists, WasmModuleResources};
+use wasmparser_validate::types::{Error, ValType};
+use wasmparser_validate::visit::{ControlOp, FrameKind, Op, VisitOperator};
 
 /// One visit.
 fn visit<R: WasmModuleResources>(
@@ -126,7 +121,7 @@ fn expect_visit<R: WasmModuleResources>(
 {
     let answer = visit(v, lists, op);
     let said = answer_of(rt, v, answer)?;
-    assert_eq!(rt; said.as_str(), wanted, "{op:?}");
+    expect_same_in(rt, said.as_str(), wanted, &op);
     Ok(())
 }
 
@@ -144,15 +139,15 @@ fn expect_undone<R: WasmModuleResources>(
     ensures same { OnOk result (state v.new ≡ state v.old) }
 {
     let before = Seen::of(rt, v)?;
-    assert!(rt; v.can_attempt() && !v.is_pending());
+    expect(rt, v.can_attempt() && !v.is_pending());
     v.begin_try_op();
-    assert!(rt; v.can_attempt() && v.is_pending());
+    expect(rt, v.can_attempt() && v.is_pending());
     let answer = visit(v, lists, op);
     let seen = seen_within(rt, v, answer);
     v.rollback();
     let (said, within) = seen?;
-    assert_eq!(rt; said.as_str(), wanted.0, "{op:?}");
-    assert_eq!(rt; within.as_str(), wanted.1, "{op:?}");
+    expect_same_in(rt, said.as_str(), wanted.0, &op);
+    expect_same_in(rt, within.as_str(), wanted.1, &op);
     before.expect(rt, v);
     Ok(())
 }
@@ -198,7 +193,10 @@ fn expect_lines<R: WasmModuleResources>(
     lists: &R,
     text: &str,
 ) -> Result<(), Fail>
-    requires { IsStarting (R.context lists.now) (state v.old) }
+    requires idle { (state v.old).undone ≡ None }
+    requires valid { IsValid (R.context lists.now) (state v.old) }
+    ensures idle { OnOk result ((state v.new).undone ≡ None) }
+    ensures valid { OnOk result (IsValid (R.context lists.now) (state v.new)) }
 {
     for line in text.lines() {
         if !line.is_empty() {
@@ -208,12 +206,39 @@ fn expect_lines<R: WasmModuleResources>(
     Ok(())
 }
 
-/// The same, in a body that takes nothing and gives nothing, with two locals of type `(ref func)`.
+/// A validator of a body that takes nothing and gives nothing, with two locals of type `(ref func)`, in these
+/// buffers.
+fn with_unset_locals(
+    setting: &Setting,
+    allocs: OperatorValidatorAllocations,
+) -> Result<OperatorValidator, Fail>
+    ensures { IfOk result (λ v. IsStarting
+        (⟦<ModuleLists as WasmModuleResources>⟧.context setting.now.lists) (state v)) }
+{
+    let mut v = setting.validator_in(allocs)?;
+    v.define_locals(0, 2, ValType::Ref(FUNC), &setting.lists)?;
+    Ok(v)
+}
+
+/// The lines, in such a body.
+fn expect_attempts_in(
+    rt: &(impl Abort + AllocGlobal),
+    setting: &Setting,
+    text: &str,
+    allocs: OperatorValidatorAllocations,
+) -> Result<OperatorValidatorAllocations, Fail> {
+    let mut v = with_unset_locals(setting, allocs)?;
+    expect_lines(rt, &mut v, &setting.lists, text)?;
+    Ok(v.into_allocations())
+}
+
+/// The same, in new buffers, and again in those that this leaves.
 fn expect_attempts(rt: &(impl Abort + AllocGlobal), text: &str) -> Result<(), Fail> {
     let setting = Setting::read(rt, FOUR_TYPES)?;
-    let mut v = setting.validator(rt)?;
-    v.define_locals(0, 2, ValType::Ref(FUNC), &setting.lists)?;
-    expect_lines(rt, &mut v, &setting.lists, text)
+    let new = OperatorValidatorAllocations::new(rt.alloc());
+    let used = expect_attempts_in(rt, &setting, text, new)?;
+    expect_attempts_in(rt, &setting, text, used)?;
+    Ok(())
 }
 
 #[test]
@@ -325,6 +350,56 @@ local.get 1     => 2 2
     expect_attempts(&rt, text)
 }
 
+/// The locals that were first set in the innermost frame are these, in order.
+fn expect_first_set(rt: &impl Abort, v: &OperatorValidator, wanted: &[u32]) {
+    let height = v.get_frame(0).map_or(0, |frame| frame.init_height);
+    let inits = inits_of(v);
+    assert!(rt; height <= inits.height());
+    expect_same(rt, inits.set_since(height), wanted);
+}
+
+/// Attempts an `else`, which is accepted, and takes it back.
+fn undo_else<R: WasmModuleResources>(rt: &impl Abort, v: &mut OperatorValidator, lists: &R)
+    requires idle { (state v.old).undone ≡ None }
+    requires valid { IsValid (R.context lists.now) (state v.old) }
+    ensures { state v.new ≡ state v.old }
+{
+    assert!(rt; v.control_stack_height() > 0);
+    expect(
+        rt,
+        try_and_undo(v, lists, 7, Op::Control(ControlOp::Else)).is_ok(),
+    );
+    let frame = v.get_frame(0);
+    expect(
+        rt,
+        frame.is_some_and(|frame| frame.kind == FrameKind::If && frame.unreachable),
+    );
+    expect_same(rt, v.operand_stack_height(), 0);
+}
+
+#[test]
+fn the_order_of_first_set_locals_comes_back(rt: HostRuntime) -> Result<(), Fail> {
+    let setting = Setting::read(&rt, FOUR_TYPES)?;
+    let mut v = with_unset_locals(&setting, OperatorValidatorAllocations::new(rt.alloc()))?;
+    let text = "
+unreachable => 0 1
+if          => 0 2
+unreachable => 0 2
+local.set 1 => 0 2
+local.set 0 => 0 2
+";
+    expect_lines(&rt, &mut v, &setting.lists, text)?;
+    expect_first_set(&rt, &v, &[1, 0]);
+    undo_else(&rt, &mut v, &setting.lists);
+    expect_first_set(&rt, &v, &[1, 0]);
+    expect_lines(
+        &rt,
+        &mut v,
+        &setting.lists,
+        "local.get 0 => 1 2\nlocal.get 1 => 2 2",
+    )
+}
+
 /// An attempt that moved something allows no further operator, until it is committed.
 #[test]
 fn an_attempt_is_of_one_operator(rt: HostRuntime) -> Result<(), Fail> {
@@ -332,9 +407,24 @@ fn an_attempt_is_of_one_operator(rt: HostRuntime) -> Result<(), Fail> {
     let mut v = setting.validator(&rt)?;
     v.begin_try_op();
     let answer = visit(&mut v, &setting.lists, Op::Control(ControlOp::Return));
-    assert!(rt; answer.is_ok() && v.is_pending() && !v.can_attempt());
+    expect(&rt, answer.is_ok() && v.is_pending() && !v.can_attempt());
     v.commit();
+    expect(&rt, v.can_attempt() && !v.is_pending());
+    expect(&rt, v.get_frame(0).is_some_and(|frame| frame.unreachable));
+    Ok(())
+}
+
+/// An attempt that is pending is not in the buffers of its validator.
+#[test]
+fn a_pending_attempt_goes_with_its_validator(rt: HostRuntime) -> Result<(), Fail> {
+    let setting = Setting::read(&rt, FOUR_TYPES)?;
+    let before = Seen::of(&rt, &setting.validator(&rt)?)?;
+    let mut v = setting.validator(&rt)?;
+    v.begin_try_op();
+    let answer = visit(&mut v, &setting.lists, Op::Control(ControlOp::Unreachable));
+    assert!(rt; answer.is_ok() && v.is_pending() && !v.can_attempt());
+    let v = setting.validator_in(v.into_allocations())?;
     assert!(rt; v.can_attempt() && !v.is_pending());
-    assert!(rt; v.get_frame(0).is_some_and(|frame| frame.unreachable));
+    before.expect(&rt, &v);
     Ok(())
 }

@@ -9,6 +9,7 @@ ghost use Rattle.wasmparser_validate.specs.Start.{state};
 ghost use Rattle.wasmparser_validate.specs.State.{BodyState, IsStarting};
 ghost use Rattle.wasmparser_validate.specs.Static.{start};
 
+use crate::expect::expect;
 use crate::run::expect_line;
 use crate::setting::{FOUR_TYPES, Setting};
 use bitflags::Flags;
@@ -18,16 +19,15 @@ use wasmparser_validate::resources::{ModuleLists, WasmModuleResources};
 use wasmparser_validate::types::{Error, ValType, WasmFeatures};
 
 /// A validator of a constant expression of type i32.
-fn constant(rt: &impl AllocGlobal, lists: &ModuleLists) -> Result<OperatorValidator, Error>
+fn constant(
+    lists: &ModuleLists,
+    allocs: OperatorValidatorAllocations,
+) -> Result<OperatorValidator, Error>
     ensures { IfOk result (λ v. IsStarting (⟦<ModuleLists as WasmModuleResources>⟧.context lists.now)
         (state v)) }
 {
     let _lists = lists;
-    OperatorValidator::new_const_expr(
-        &WasmFeatures::all(),
-        ValType::I32,
-        OperatorValidatorAllocations::new(rt.alloc()),
-    )
+    OperatorValidator::new_const_expr(&WasmFeatures::all(), ValType::I32, allocs)
 }
 
 /// The law of type safety, of a lookup over lists: what `safety_law` promises of any lookup.
@@ -45,7 +45,7 @@ fn lists_are_safe(lists: &ModuleLists)
 fn the_law_holds_of_lists(rt: HostRuntime) -> Result<(), Fail> {
     let setting = Setting::read(&rt, FOUR_TYPES)?;
     lists_are_safe(&setting.lists);
-    assert!(rt; setting.lists.sub_type_at(4).is_none());
+    expect(&rt, setting.lists.sub_type_at(4).is_none());
     Ok(())
 }
 
@@ -53,9 +53,14 @@ fn the_law_holds_of_lists(rt: HostRuntime) -> Result<(), Fail> {
 fn a_constant_expression(rt: HostRuntime) -> Result<(), Fail> {
     let setting = Setting::read(&rt, FOUR_TYPES)?;
     let table = "i32.const,end => i32\ni64.const,end =>\nlocal.get 0 =>";
+    let mut used = OperatorValidatorAllocations::new(rt.alloc());
     for line in table.lines() {
-        let mut v = constant(&rt, &setting.lists)?;
+        let new = OperatorValidatorAllocations::new(rt.alloc());
+        let mut v = constant(&setting.lists, new)?;
         expect_line(&rt, &mut v, &setting.lists, line)?;
+        let mut v = constant(&setting.lists, used)?;
+        expect_line(&rt, &mut v, &setting.lists, line)?;
+        used = v.into_allocations();
     }
     Ok(())
 }

@@ -4,7 +4,7 @@
 //! last on top, `?` being one whose type isn't known.
 
 ghost use Rattle.std.specs.Prelude.{◌≡◌, true, None, []};
-ghost use Rattle.validation_rules.specs.Table.{operator};
+ghost use Rattle.validation_rules.specs.Operators.{operator};
 ghost use Rattle.validate_stacks.specs.Visits.{MayVisit, Meets};
 ghost use Rattle.std.specs.List.{list_all};
 ghost use Rattle.wasmparser_validate.specs.Immediates.{module_immediates};
@@ -13,13 +13,16 @@ ghost use Rattle.wasmparser_validate.specs.Runs.{operators};
 ghost use Rattle.wasmparser_validate.specs.Start.{state, stacks_of};
 ghost use Rattle.wasmparser_validate.specs.State.{IsStarting};
 
+use crate::expect::{expect, expect_same, expect_same_in};
 use crate::ops::read_ops;
 use crate::seen::Seen;
 use crate::setting::Setting;
 use script_reader::borrowed_ops;
 use std::process::Abort;
 use std::test::Fail;
-use wasmparser_validate::operators::{OperatorValidator, check_ops, try_op};
+use wasmparser_validate::operators::{
+    OperatorValidator, OperatorValidatorAllocations, check_ops, try_op,
+};
 use wasmparser_validate::resources::{ModuleLists, WasmModuleResources};
 use wasmparser_validate::types::{Error, ValType};
 use wasmparser_validate::visit::{Op, has_module_immediates, is_well_ordered};
@@ -57,13 +60,13 @@ fn refusal_in(
     match answer {
         Ok(closed) => {
             let left_none = noted.last().is_some_and(|(_, frames)| *frames == 0);
-            assert_eq!(rt; closed, left_none, "{line:?}");
+            expect_same_in(rt, closed, left_none, &line);
             None
         }
         Err((place, refusal)) => {
-            assert_eq!(rt; place, noted.len(), "{line:?}");
-            assert_eq!(rt; refusal.offset(), (place as u64).saturating_add(100));
-            assert!(rt; !refusal.is_out_of_memory());
+            expect_same_in(rt, place, noted.len(), &line);
+            expect_same(rt, refusal.offset(), (place as u64).saturating_add(100));
+            expect(rt, !refusal.is_out_of_memory());
             Some(refusal)
         }
     }
@@ -114,7 +117,7 @@ pub fn expect_line(
     let ops = borrowed_ops(rt.alloc(), &written)?;
     check_list(rt, v, lists, &ops, line)?;
     let operands = left_on(rt, v)?;
-    assert_eq!(rt; operands.trim(), left.trim(), "{line:?}");
+    expect_same_in(rt, operands.trim(), left.trim(), &line);
     Ok(())
 }
 
@@ -172,27 +175,37 @@ fn expect_attempts(
     let ops = borrowed_ops(rt.alloc(), &written)?;
     if attempt_each(rt, v, &ops, lists)? {
         let operands = left_on(rt, v)?;
-        assert_eq!(rt; operands.trim(), left.trim(), "{line:?}");
+        expect_same_in(rt, operands.trim(), left.trim(), &line);
     }
     Ok(())
 }
 
 /// Checks the operators of a line in a body of this setting, which has a local of type i64 behind its
-/// parameters, and attempts them in another.
-fn expect_body(rt: &(impl Abort + AllocGlobal), setting: &Setting, line: &str) -> Result<(), Fail> {
-    let mut v = setting.validator(rt)?;
+/// parameters, and attempts them in another. Each body has the buffers of the one before it.
+fn expect_body(
+    rt: &(impl Abort + AllocGlobal),
+    setting: &Setting,
+    line: &str,
+    allocs: OperatorValidatorAllocations,
+) -> Result<OperatorValidatorAllocations, Fail> {
+    let mut v = setting.validator_in(allocs)?;
     v.define_locals(0, 1, ValType::I64, &setting.lists)?;
     expect_line(rt, &mut v, &setting.lists, line)?;
-    let mut v = setting.validator(rt)?;
+    let mut v = setting.validator_in(v.into_allocations())?;
     v.define_locals(0, 1, ValType::I64, &setting.lists)?;
-    expect_attempts(rt, &mut v, &setting.lists, line)
+    expect_attempts(rt, &mut v, &setting.lists, line)?;
+    Ok(v.into_allocations())
 }
 
-/// Checks each line of a table in a body behind these lines of a script. Blank lines stand for nothing.
+/// Checks each line of a table in a body behind these lines of a script, in new buffers and in those of the
+/// line before it. Blank lines stand for nothing.
 pub fn expect_lines(rt: &(impl Abort + AllocGlobal), head: &str, table: &str) -> Result<(), Fail> {
     let setting = Setting::read(rt, head)?;
+    let mut used = OperatorValidatorAllocations::new(rt.alloc());
     for line in table.lines().filter(|line| !line.is_empty()) {
-        expect_body(rt, &setting, line)?;
+        let new = OperatorValidatorAllocations::new(rt.alloc());
+        expect_body(rt, &setting, line, new)?;
+        used = expect_body(rt, &setting, line, used)?;
     }
     Ok(())
 }

@@ -1,5 +1,6 @@
 //! What can be seen of a validator's state: its frames and its operands.
 
+use crate::expect::{expect, expect_same};
 use std::alloc::AllocError;
 use std::process::Abort;
 use wasmparser_validate::operators::OperatorValidator;
@@ -24,13 +25,13 @@ impl Seen {
 
     /// The validator has these frames and operands, and no others. It takes no memory.
     pub fn expect(&self, rt: &impl Abort, v: &OperatorValidator) {
-        assert_eq!(rt; v.control_stack_height(), self.frames.len());
-        assert_eq!(rt; v.operand_stack_height(), self.operands.len());
+        expect_same(rt, v.control_stack_height(), self.frames.len());
+        expect_same(rt, v.operand_stack_height(), self.operands.len());
         for (depth, frame) in self.frames.iter().enumerate() {
-            assert!(rt; v.get_frame(depth).is_some_and(|found| *found == *frame));
+            expect(rt, v.get_frame(depth).is_some_and(|found| *found == *frame));
         }
         for (depth, operand) in self.operands.iter().enumerate() {
-            assert_eq!(rt; v.peek_operand_at(depth), Some(*operand));
+            expect_same(rt, v.peek_operand_at(depth), Some(*operand));
         }
     }
 }

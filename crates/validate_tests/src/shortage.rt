@@ -8,9 +8,10 @@ ghost use Rattle.validate_stacks.specs.Pops.{IsKept};
 ghost use Rattle.validate_stacks.specs.State.{IsStarting, IsValid};
 ghost use Rattle.wasmparser_validate.specs.Start.{state};
 
+use crate::expect::{expect_in, expect_same_in};
 use crate::ops::read_op;
 use crate::seen::Seen;
-use crate::setting::Setting;
+use crate::setting::{FUNC, Setting};
 use bitflags::Flags;
 use std::alloc::AllocError;
 use std::process::Abort;
@@ -19,19 +20,8 @@ use wasmparser_validate::operators::{
     OperatorValidator, OperatorValidatorAllocations, try_and_undo, try_op,
 };
 use wasmparser_validate::resources::WasmModuleResources;
-use wasmparser_validate::types::{
-    AbstractHeapType, Error, HeapType, RefType, ValType, WasmFeatures,
-};
+use wasmparser_validate::types::{Error, ValType, WasmFeatures};
 use wasmparser_validate::visit::Op;
-
-/// `(ref func)`, of which there is no default value.
-const FUNC: RefType = RefType {
-    nullable: false,
-    heap_type: HeapType::Abstract {
-        shared: false,
-        ty: AbstractHeapType::Func,
-    },
-};
 
 /// The first lines of a script whose module has a type `[] -> []`, a memory and a table, both with addresses
 /// of 32 bits.
@@ -105,7 +95,7 @@ fn attempt_undone<R: WasmModuleResources>(
     ensures { state v.new ≡ state v.old }
 {
     if let Err(refusal) = try_and_undo(v, lists, 7, op) {
-        assert!(rt; refusal.is_out_of_memory(), "{op:?}");
+        expect_in(rt, refusal.is_out_of_memory(), &op);
     }
 }
 
@@ -137,9 +127,9 @@ fn expect_step<R: WasmModuleResources>(
     attempt_undone(rt, v, lists, op);
     before.expect(rt, v);
     if let Err(refusal) = attempt(v, lists, op) {
-        assert!(rt; refusal.is_out_of_memory(), "{op:?}");
+        expect_in(rt, refusal.is_out_of_memory(), &op);
         before.expect(rt, v);
-        assert!(rt; attempt(v, lists, op).is_ok(), "{op:?}");
+        expect_in(rt, attempt(v, lists, op).is_ok(), &op);
     }
     Ok(())
 }
@@ -160,8 +150,8 @@ fn expect_line<R: WasmModuleResources>(
     let (operands, frames) = heights.trim().split_once(' ').unwrap_or(("", ""));
     let op = read_op(rt, written)?;
     expect_step(rt, v, lists, op.as_op())?;
-    assert_eq!(rt; operands.parse(), Ok(v.operand_stack_height()), "{line:?}");
-    assert_eq!(rt; frames.parse(), Ok(v.control_stack_height()), "{line:?}");
+    expect_same_in(rt, operands.parse(), Ok(v.operand_stack_height()), &line);
+    expect_same_in(rt, frames.parse(), Ok(v.control_stack_height()), &line);
     Ok(())
 }
 

@@ -26,7 +26,13 @@ impl Model for RollbackLog {
 
     ghost Value = { Log };
 
-    ghost view = { λ l. record { operands = l.operands.items; frames = l.frames.items; inits = l.inits.items; init_height = l.init_height; unreachable = l.unreachable } };
+    ghost view = { λ l. record {
+      operands = l.operands.items;
+      frames = l.frames.items;
+      inits = l.inits.items;
+      init_height = l.init_height;
+      unreachable = l.unreachable;
+    } };
 }
 
 /// Buffers for a log.
@@ -126,12 +132,12 @@ impl RollbackLog {
     }
 
     #[inline(never)]
-    pub fn record_pop(&mut self, ty: MaybeType) -> Result<(), OutOfMemory>
+    pub fn record_pop(&mut self, ty: &MaybeType) -> Result<(), OutOfMemory>
         ensures { MatchResult result (λ _. self.new
-            ≡ record self.old { operands = Some ty ∷ self.old.operands }) (λ _. self.new ≡ self.old) }
+            ≡ record self.old { operands = Some ty.now ∷ self.old.operands }) (λ _. self.new ≡ self.old) }
     {
         self.operands.take_room()?;
-        self.operands.put(Some(ty));
+        self.operands.put(Some(*ty));
         Ok(())
     }
 
@@ -146,17 +152,17 @@ impl RollbackLog {
     }
 
     #[inline(never)]
-    pub fn pop_ctrl(&mut self, frame: Frame, inits: &[u32]) -> Result<(), OutOfMemory>
+    pub fn pop_ctrl(&mut self, frame: &Frame, inits: &[u32]) -> Result<(), OutOfMemory>
         ensures { MatchResult result (λ _. self.new
             ≡ record self.old {
-              frames = Some frame ∷ self.old.frames;
+              frames = Some frame.now ∷ self.old.frames;
               inits = self.old.inits ++
                   inits.now;
             }) (λ _. self.new ≡ self.old) }
     {
         self.frames.take_room()?;
         self.inits.extend_from_slice(inits)?;
-        self.frames.put(Some(frame));
+        self.frames.put(Some(*frame));
         Ok(())
     }
 

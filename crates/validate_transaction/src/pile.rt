@@ -83,7 +83,7 @@ impl<T> Pile<T> {
         ensures items { self.new.items ≡ item ∷ self.old.items }
         ensures never_less { self.old.room ≤ self.new.room }
     {
-        let _ = self.vec.push(item);
+        self.vec.push_reserved(item);
     }
 
     /// Takes the newest item.

@@ -97,8 +97,9 @@ impl Transaction {
     }
 
     #[inline(always)]
-    pub fn record_pop(&mut self, ty: MaybeType) -> Result<(), OutOfMemory>
-        ensures exact { MatchResult result (λ _. self.new ≡ with_pop ty self.old) (λ _. self.new ≡ self.old) }
+    pub fn record_pop(&mut self, ty: &MaybeType) -> Result<(), OutOfMemory>
+        ensures exact { MatchResult result (λ _. self.new ≡ with_pop ty.now self.old)
+            (λ _. self.new ≡ self.old) }
         ensures idle { log_of self.old ≡ None → IsOk result }
     {
         match self {
@@ -119,8 +120,8 @@ impl Transaction {
     }
 
     #[inline(always)]
-    pub fn pop_ctrl(&mut self, frame: Frame, inits: &[u32]) -> Result<(), OutOfMemory>
-        ensures exact { MatchResult result (λ _. self.new ≡ with_closed frame inits.now self.old)
+    pub fn pop_ctrl(&mut self, frame: &Frame, inits: &[u32]) -> Result<(), OutOfMemory>
+        ensures exact { MatchResult result (λ _. self.new ≡ with_closed frame.now inits.now self.old)
             (λ _. self.new ≡ self.old) }
         ensures idle { log_of self.old ≡ None → IsOk result }
     {

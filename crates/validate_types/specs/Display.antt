@@ -1,4 +1,4 @@
--- How types print.
+-- How types print (the crate's own).
 use Rattle.std.specs.Prelude.{ℕ, Bool, true, false, List, ◌++◌, codes, Some, None}
 use Rattle.std.specs.Fmt.{decimal}
 use Rattle.validate_types.specs.declared.heap.HeapType.{HeapType}

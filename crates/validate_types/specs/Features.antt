@@ -1,4 +1,4 @@
--- The proposals, each one bit, and the gates of types.
+-- The proposals, each one bit, and the proposals that types need (the crate's own).
 use Rattle.std.specs.Prelude.{ℕ, Bool, true, false, ◌==◌, ◌&&◌, ◌||◌}
 use Rattle.std.specs.Int.RustNames.{bit_and}
 use Rattle.validate_types.specs.declared.features.WasmFeatures.{WasmFeatures}
@@ -95,20 +95,20 @@ abbrev pub shared_gate : WasmFeatures → Bool → Bool
 shared_gate features true = has features shared_everything_threads
 shared_gate features false = true
 
-abbrev pub heap_gate : WasmFeatures → Bool → HeapType → Bool
-heap_gate features nullable (Abstract shared ty) =
+abbrev pub is_heap_enabled : WasmFeatures → Bool → HeapType → Bool
+is_heap_enabled features nullable (Abstract shared ty) =
     shared_gate features shared && abstract_gate features nullable ty
-heap_gate features nullable (Concrete i) = has features function_references || has features gc
+is_heap_enabled features nullable (Concrete i) = has features function_references || has features gc
 
 -- the gate of a reference type is open
-abbrev pub ref_gate : WasmFeatures → RefType → Bool
-ref_gate features r = has features reference_types && heap_gate features r.nullable r.heap_type
+abbrev pub is_ref_enabled : WasmFeatures → RefType → Bool
+is_ref_enabled features r = has features reference_types && is_heap_enabled features r.nullable r.heap_type
 
 -- the gate of a value type is open
-abbrev pub type_gate : WasmFeatures → ValType → Bool
-type_gate features I32 = true
-type_gate features I64 = true
-type_gate features F32 = has features floats
-type_gate features F64 = has features floats
-type_gate features V128 = has features simd
-type_gate features (Ref r) = ref_gate features r
+abbrev pub is_type_enabled : WasmFeatures → ValType → Bool
+is_type_enabled features I32 = true
+is_type_enabled features I64 = true
+is_type_enabled features F32 = has features floats
+is_type_enabled features F64 = has features floats
+is_type_enabled features V128 = has features simd
+is_type_enabled features (Ref r) = is_ref_enabled features r

@@ -1,4 +1,4 @@
--- The text of a message, and whether it says that memory was wanting.
+-- The text of a message, and whether it says that memory was wanting (the crate's own).
 use Rattle.std.specs.Prelude.{ℕ, List, Bool, true, false, codes}
 use Rattle.std.specs.String.{string_bytes}
 use Rattle.validate_types.specs.declared.error.Message.{Message}

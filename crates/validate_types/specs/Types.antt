@@ -21,7 +21,7 @@ index_type m = if m.memory64 then I64 else I32
 abbrev pub table_index_type : TableType → ValType
 table_index_type t = if t.table64 then I64 else I32
 
--- it has a default value (Specification, "Value Types")
+-- it has a default value (Specification, "Defaultable Types")
 abbrev pub is_defaultable : ValType → Bool
 is_defaultable (Ref r) = r.nullable
 is_defaultable _ = true

@@ -46,13 +46,17 @@ impl Model for Error {
 
     ghost use Rattle.validate_types.specs.Messages.{text_of, is_memory};
 
-    ghost view = { λ e. record { offset = e.offset; text = text_of e.message; memory = is_memory e.message } };
+    ghost view = { λ e. record {
+      offset = e.offset;
+      text = text_of e.message;
+      wants_memory = is_memory e.message;
+    } };
 }
 
 impl Error {
     /// A refusal with this text, at this offset.
     pub fn new(message: &'static str, offset: u64) -> Error
-        ensures { result ≡ record { offset = offset; text = message.now; memory = false } }
+        ensures { result ≡ record { offset = offset; text = message.now; wants_memory = false } }
     {
         Error {
             offset,
@@ -62,7 +66,7 @@ impl Error {
 
     /// A refusal with a text that was made for it, at this offset.
     pub fn with_text(text: String, offset: u64) -> Error
-        ensures { result ≡ record { offset = offset; text = string_bytes text; memory = false } }
+        ensures { result ≡ record { offset = offset; text = string_bytes text; wants_memory = false } }
     {
         Error {
             offset,
@@ -72,7 +76,7 @@ impl Error {
 
     /// Want of memory, at this offset. Its text is `out of memory`.
     pub fn out_of_memory(offset: u64) -> Error
-        ensures { result ≡ record { offset = offset; text = codes "out of memory"; memory = true } }
+        ensures { result ≡ record { offset = offset; text = codes "out of memory"; wants_memory = true } }
     {
         Error {
             offset,
@@ -89,7 +93,7 @@ impl Error {
 
     /// Whether it was made for want of memory, as by [`Error::out_of_memory`].
     pub fn is_out_of_memory(&self) -> bool
-        ensures { result ≡ self.now.memory }
+        ensures { result ≡ self.now.wants_memory }
     {
         matches!(&self.message, Message::OutOfMemory)
     }

@@ -1,7 +1,7 @@
 //! Which proposals are on.
 
 ghost use Rattle.std.specs.Prelude.{⊤, ◌≡◌, [], ◌∷◌, codes, is_ok};
-ghost use Rattle.validate_types.specs.Features.{has, type_gate, ref_gate, abstract_gate};
+ghost use Rattle.validate_types.specs.Features.{has, is_type_enabled, is_ref_enabled, abstract_gate};
 ghost use Rattle.validate_types.specs.Features as feature;
 
 use crate::heap::{AbstractHeapType, HeapType};
@@ -132,7 +132,15 @@ impl Flags for WasmFeatures {
 
     ghost exact = { ⊤ };
 
-    ghost table = { (codes "multi_value", 1) ∷ (codes "floats", 2) ∷ (codes "simd", 4) ∷ (codes "reference_types", 8) ∷ (codes "bulk_memory", 16) ∷ (codes "bulk_memory_opt", 32) ∷ (codes "sign_extension", 64) ∷ (codes "saturating_float_to_int", 128) ∷ (codes "threads", 256) ∷ (codes "shared_everything_threads", 512) ∷ (codes "exceptions", 1024) ∷ (codes "legacy_exceptions", 2048) ∷ (codes "tail_call", 4096) ∷ (codes "function_references", 8192) ∷ (codes "gc", 16384) ∷ (codes "custom_descriptors", 32768) ∷ (codes "stack_switching", 65536) ∷ (codes "memory_control", 131072) ∷ (codes "wide_arithmetic", 262144) ∷ (codes "acquire_release_atomics", 524288) ∷ (codes "multibyte_array_access", 1048576) ∷ [] };
+    ghost table = { (codes "multi_value", 1) ∷ (codes "floats", 2) ∷ (codes "simd", 4) ∷
+        (codes "reference_types", 8) ∷ (codes "bulk_memory", 16) ∷ (codes "bulk_memory_opt", 32) ∷
+        (codes "sign_extension", 64) ∷ (codes "saturating_float_to_int", 128) ∷ (codes "threads", 256) ∷
+        (codes "shared_everything_threads", 512) ∷ (codes "exceptions", 1024) ∷
+        (codes "legacy_exceptions", 2048) ∷ (codes "tail_call", 4096) ∷
+        (codes "function_references", 8192) ∷ (codes "gc", 16384) ∷ (codes "custom_descriptors", 32768) ∷
+        (codes "stack_switching", 65536) ∷ (codes "memory_control", 131072) ∷
+        (codes "wide_arithmetic", 262144) ∷ (codes "acquire_release_atomics", 524288) ∷
+        (codes "multibyte_array_access", 1048576) ∷ [] };
 
     ghost set_of = { λ f. f.0 };
 
@@ -299,7 +307,7 @@ impl WasmFeatures {
 
     /// Ok exactly where the type's gate is open, else the text of the refusal.
     pub fn check_value_type(self, ty: ValType) -> Result<(), &'static str>
-        ensures { is_ok result ≡ type_gate self ty }
+        ensures { is_ok result ≡ is_type_enabled self ty }
     {
         match ty {
             ValType::I32 | ValType::I64 => Ok(()),
@@ -313,7 +321,7 @@ impl WasmFeatures {
 
     /// Ok exactly where the gate of the reference type is open, else the text of the refusal.
     pub fn check_ref_type(self, ty: RefType) -> Result<(), &'static str>
-        ensures { is_ok result ≡ ref_gate self ty }
+        ensures { is_ok result ≡ is_ref_enabled self ty }
     {
         if !self.reference_types() {
             return Err("reference types support is not enabled");

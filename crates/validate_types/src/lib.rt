@@ -9,8 +9,6 @@ pub mod gate;
 pub mod heap;
 pub mod refs;
 pub mod signature;
-#[cfg(test)]
-mod tests;
 pub mod types;
 
 pub use crate::error::{Error, OutOfMemory};

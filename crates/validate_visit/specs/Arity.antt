@@ -1,4 +1,4 @@
--- What a reference names.
+-- What a reference names (the crate's own).
 use Rattle.std.specs.Prelude.{Option, None}
 use Rattle.validate_types.specs.Heap.{id_of}
 use Rattle.validate_types.specs.declared.heap.CoreTypeId.{CoreTypeId}

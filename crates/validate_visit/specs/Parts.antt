@@ -1,4 +1,5 @@
--- The parts that are open after each operator, the innermost first, and what is noted of them.
+-- The parts that are open after each operator, the innermost first, and what is noted of them (the crate's
+-- own: what a test of the order remembers; no public contract names it).
 use Rattle.std.specs.Prelude.{◌≡◌, ℕ, zero, suc, ◌-◌, ◌<◌, ◌≤◌, ◌/◌, ◌%◌, Bool, false, List, [], ◌∷◌, map}
 use Rattle.std.specs.Prelude.{length, nat_eq, slice_index}
 use Rattle.std.specs.Int.{bit_at}
@@ -45,7 +46,7 @@ is_if_under (suc d) (k ∷ ks) = is_if_under d ks
 
 -- ---- what is noted
 
--- of how many parts it can be noted what they are: a bit in each of 1024 words of 64
+-- of how many parts it can be noted what they are: 64 bits in each of 1024 words
 abbrev pub most_noted : ℕ
 most_noted = 65536
 

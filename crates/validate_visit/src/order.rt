@@ -8,9 +8,6 @@ ghost use Rattle.validate_visit.specs.declared.frame.FrameKind.{FrameKind};
 ghost use Rattle.validate_visit.specs.declared.op.Op.{Op};
 ghost use Rattle.validate_visit.specs.declared.op.ControlOp.{ControlOp};
 
-#[cfg(test)]
-mod tests;
-
 use crate::frame::FrameKind;
 use crate::op::{ControlOp, Op};
 

@@ -1,13 +1,18 @@
 //! The visitor of operators.
 
 ghost use Rattle.validate_visit.specs.declared.op.Op.{Op};
+ghost use Rattle.validate_visit.specs.declared.op.Op.TheVariants.{Numeric, Atomic};
+ghost use Rattle.validate_visit.specs.declared.op.NumericOp.TheVariants.{Add128, Eqz, F32Const, F64Const, FloatBinary, FloatComparison, FloatUnary, I32Const, I64Const, IntegerBinary, IntegerComparison, IntegerUnary, MulWide, Sub128};
+ghost use Rattle.validate_visit.specs.declared.op.AtomicOp.TheVariants.{AtomicCmpxchg, AtomicFence, AtomicLoad, AtomicNotify, AtomicRmw, AtomicStore, AtomicWait, Pause};
+ghost use Rattle.validate_visit.specs.declared.memory.AtomicAccess.TheVariants.{Packed, Whole};
+ghost use Rattle.validate_visit.specs.declared.numbers.PackedInteger.TheVariants.{I32Bits8, I32Bits16, I64Bits8, I64Bits16, I64Bits32};
+ghost use Rattle.validate_visit.specs.declared.numbers.Sign.TheVariants.{Signed, Unsigned};
 
 use validate_types::{HeapType, ValType};
 use validate_visit::{
-    AtomicAccess, AtomicOp, AtomicRmwOp, BlockType, BrTable, ControlOp, ConvertOp, FloatBinaryOp,
-    FloatComparisonOp, FloatType, FloatUnaryOp, Ieee32, Ieee64, IntegerBinaryOp,
-    IntegerComparisonOp, IntegerType, IntegerUnaryOp, MemArg, MemoryOp, NumberType, NumericOp, Op,
-    Ordering, PackedInteger, ReferenceOp, Sign, TableOp,
+    AtomicRmwOp, BlockType, BrTable, ControlOp, ConvertOp, FloatBinaryOp, FloatComparisonOp,
+    FloatType, FloatUnaryOp, Ieee32, Ieee64, IntegerBinaryOp, IntegerComparisonOp, IntegerType,
+    IntegerUnaryOp, MemArg, MemoryOp, NumberType, Op, Ordering, ReferenceOp, TableOp,
 };
 
 /// Visits operators (wasmparser's `VisitOperator`): one call for each operator, with its immediates.
@@ -92,12 +97,14 @@ pub trait VisitOperator<'a> {
     /// `call_indirect`
     fn visit_call_indirect(&mut self, type_index: u32, table_index: u32) -> Self::Output
         requires { can_visit self.old (Op.Control (ControlOp.CallIndirect type_index table_index)) }
-        ensures { visits self.old (Op.Control (ControlOp.CallIndirect type_index table_index)) result self.new };
+        ensures { visits self.old
+            (Op.Control (ControlOp.CallIndirect type_index table_index)) result self.new };
 
     /// `return_call_indirect`
     fn visit_return_call_indirect(&mut self, type_index: u32, table_index: u32) -> Self::Output
         requires { can_visit self.old (Op.Control (ControlOp.ReturnCallIndirect type_index table_index)) }
-        ensures { visits self.old (Op.Control (ControlOp.ReturnCallIndirect type_index table_index)) result self.new };
+        ensures { visits self.old
+            (Op.Control (ControlOp.ReturnCallIndirect type_index table_index)) result self.new };
 
     /// `call_ref`
     fn visit_call_ref(&mut self, type_index: u32) -> Self::Output
@@ -156,533 +163,625 @@ pub trait VisitOperator<'a> {
 
     /// `i32.const`
     fn visit_i32_const(&mut self, value: i32) -> Self::Output
-        requires { can_visit self.old (Op.Numeric (NumericOp.I32Const value)) }
-        ensures { visits self.old (Op.Numeric (NumericOp.I32Const value)) result self.new };
+        requires { can_visit self.old (Numeric (I32Const value)) }
+        ensures { visits self.old (Numeric (I32Const value)) result self.new };
 
     /// `i64.const`
     fn visit_i64_const(&mut self, value: i64) -> Self::Output
-        requires { can_visit self.old (Op.Numeric (NumericOp.I64Const value)) }
-        ensures { visits self.old (Op.Numeric (NumericOp.I64Const value)) result self.new };
+        requires { can_visit self.old (Numeric (I64Const value)) }
+        ensures { visits self.old (Numeric (I64Const value)) result self.new };
 
     /// `f32.const`
     fn visit_f32_const(&mut self, value: Ieee32) -> Self::Output
-        requires { can_visit self.old (Op.Numeric (NumericOp.F32Const value)) }
-        ensures { visits self.old (Op.Numeric (NumericOp.F32Const value)) result self.new };
+        requires { can_visit self.old (Numeric (F32Const value)) }
+        ensures { visits self.old (Numeric (F32Const value)) result self.new };
 
     /// `f64.const`
     fn visit_f64_const(&mut self, value: Ieee64) -> Self::Output
-        requires { can_visit self.old (Op.Numeric (NumericOp.F64Const value)) }
-        ensures { visits self.old (Op.Numeric (NumericOp.F64Const value)) result self.new };
+        requires { can_visit self.old (Numeric (F64Const value)) }
+        ensures { visits self.old (Numeric (F64Const value)) result self.new };
 
     /// `i32.eqz`
     fn visit_i32_eqz(&mut self) -> Self::Output
-        requires { can_visit self.old (Op.Numeric (NumericOp.Eqz IntegerType.I32)) }
-        ensures { visits self.old (Op.Numeric (NumericOp.Eqz IntegerType.I32)) result self.new };
+        requires { can_visit self.old (Numeric (Eqz IntegerType.I32)) }
+        ensures { visits self.old (Numeric (Eqz IntegerType.I32)) result self.new };
 
     /// `i32.eq`
     fn visit_i32_eq(&mut self) -> Self::Output
-        requires { can_visit self.old (Op.Numeric (NumericOp.IntegerComparison IntegerType.I32 IntegerComparisonOp.Eq)) }
-        ensures { visits self.old (Op.Numeric (NumericOp.IntegerComparison IntegerType.I32 IntegerComparisonOp.Eq)) result self.new };
+        requires { can_visit self.old (Numeric (IntegerComparison IntegerType.I32 IntegerComparisonOp.Eq)) }
+        ensures { visits self.old
+            (Numeric (IntegerComparison IntegerType.I32 IntegerComparisonOp.Eq)) result self.new };
 
     /// `i32.ne`
     fn visit_i32_ne(&mut self) -> Self::Output
-        requires { can_visit self.old (Op.Numeric (NumericOp.IntegerComparison IntegerType.I32 IntegerComparisonOp.Ne)) }
-        ensures { visits self.old (Op.Numeric (NumericOp.IntegerComparison IntegerType.I32 IntegerComparisonOp.Ne)) result self.new };
+        requires { can_visit self.old (Numeric (IntegerComparison IntegerType.I32 IntegerComparisonOp.Ne)) }
+        ensures { visits self.old
+            (Numeric (IntegerComparison IntegerType.I32 IntegerComparisonOp.Ne)) result self.new };
 
     /// `i32.lt_s`
     fn visit_i32_lt_s(&mut self) -> Self::Output
-        requires { can_visit self.old (Op.Numeric (NumericOp.IntegerComparison IntegerType.I32 (IntegerComparisonOp.Lt Sign.Signed))) }
-        ensures { visits self.old (Op.Numeric (NumericOp.IntegerComparison IntegerType.I32 (IntegerComparisonOp.Lt Sign.Signed))) result self.new };
+        requires { can_visit self.old
+            (Numeric (IntegerComparison IntegerType.I32 (IntegerComparisonOp.Lt Signed))) }
+        ensures { visits self.old
+            (Numeric (IntegerComparison IntegerType.I32 (IntegerComparisonOp.Lt Signed))) result self.new };
 
     /// `i32.lt_u`
     fn visit_i32_lt_u(&mut self) -> Self::Output
-        requires { can_visit self.old (Op.Numeric (NumericOp.IntegerComparison IntegerType.I32 (IntegerComparisonOp.Lt Sign.Unsigned))) }
-        ensures { visits self.old (Op.Numeric (NumericOp.IntegerComparison IntegerType.I32 (IntegerComparisonOp.Lt Sign.Unsigned))) result self.new };
+        requires { can_visit self.old
+            (Numeric (IntegerComparison IntegerType.I32 (IntegerComparisonOp.Lt Unsigned))) }
+        ensures { visits self.old
+            (Numeric (IntegerComparison IntegerType.I32 (IntegerComparisonOp.Lt Unsigned))) result self.new };
 
     /// `i32.gt_s`
     fn visit_i32_gt_s(&mut self) -> Self::Output
-        requires { can_visit self.old (Op.Numeric (NumericOp.IntegerComparison IntegerType.I32 (IntegerComparisonOp.Gt Sign.Signed))) }
-        ensures { visits self.old (Op.Numeric (NumericOp.IntegerComparison IntegerType.I32 (IntegerComparisonOp.Gt Sign.Signed))) result self.new };
+        requires { can_visit self.old
+            (Numeric (IntegerComparison IntegerType.I32 (IntegerComparisonOp.Gt Signed))) }
+        ensures { visits self.old
+            (Numeric (IntegerComparison IntegerType.I32 (IntegerComparisonOp.Gt Signed))) result self.new };
 
     /// `i32.gt_u`
     fn visit_i32_gt_u(&mut self) -> Self::Output
-        requires { can_visit self.old (Op.Numeric (NumericOp.IntegerComparison IntegerType.I32 (IntegerComparisonOp.Gt Sign.Unsigned))) }
-        ensures { visits self.old (Op.Numeric (NumericOp.IntegerComparison IntegerType.I32 (IntegerComparisonOp.Gt Sign.Unsigned))) result self.new };
+        requires { can_visit self.old
+            (Numeric (IntegerComparison IntegerType.I32 (IntegerComparisonOp.Gt Unsigned))) }
+        ensures { visits self.old
+            (Numeric (IntegerComparison IntegerType.I32 (IntegerComparisonOp.Gt Unsigned))) result self.new };
 
     /// `i32.le_s`
     fn visit_i32_le_s(&mut self) -> Self::Output
-        requires { can_visit self.old (Op.Numeric (NumericOp.IntegerComparison IntegerType.I32 (IntegerComparisonOp.Le Sign.Signed))) }
-        ensures { visits self.old (Op.Numeric (NumericOp.IntegerComparison IntegerType.I32 (IntegerComparisonOp.Le Sign.Signed))) result self.new };
+        requires { can_visit self.old
+            (Numeric (IntegerComparison IntegerType.I32 (IntegerComparisonOp.Le Signed))) }
+        ensures { visits self.old
+            (Numeric (IntegerComparison IntegerType.I32 (IntegerComparisonOp.Le Signed))) result self.new };
 
     /// `i32.le_u`
     fn visit_i32_le_u(&mut self) -> Self::Output
-        requires { can_visit self.old (Op.Numeric (NumericOp.IntegerComparison IntegerType.I32 (IntegerComparisonOp.Le Sign.Unsigned))) }
-        ensures { visits self.old (Op.Numeric (NumericOp.IntegerComparison IntegerType.I32 (IntegerComparisonOp.Le Sign.Unsigned))) result self.new };
+        requires { can_visit self.old
+            (Numeric (IntegerComparison IntegerType.I32 (IntegerComparisonOp.Le Unsigned))) }
+        ensures { visits self.old
+            (Numeric (IntegerComparison IntegerType.I32 (IntegerComparisonOp.Le Unsigned))) result self.new };
 
     /// `i32.ge_s`
     fn visit_i32_ge_s(&mut self) -> Self::Output
-        requires { can_visit self.old (Op.Numeric (NumericOp.IntegerComparison IntegerType.I32 (IntegerComparisonOp.Ge Sign.Signed))) }
-        ensures { visits self.old (Op.Numeric (NumericOp.IntegerComparison IntegerType.I32 (IntegerComparisonOp.Ge Sign.Signed))) result self.new };
+        requires { can_visit self.old
+            (Numeric (IntegerComparison IntegerType.I32 (IntegerComparisonOp.Ge Signed))) }
+        ensures { visits self.old
+            (Numeric (IntegerComparison IntegerType.I32 (IntegerComparisonOp.Ge Signed))) result self.new };
 
     /// `i32.ge_u`
     fn visit_i32_ge_u(&mut self) -> Self::Output
-        requires { can_visit self.old (Op.Numeric (NumericOp.IntegerComparison IntegerType.I32 (IntegerComparisonOp.Ge Sign.Unsigned))) }
-        ensures { visits self.old (Op.Numeric (NumericOp.IntegerComparison IntegerType.I32 (IntegerComparisonOp.Ge Sign.Unsigned))) result self.new };
+        requires { can_visit self.old
+            (Numeric (IntegerComparison IntegerType.I32 (IntegerComparisonOp.Ge Unsigned))) }
+        ensures { visits self.old
+            (Numeric (IntegerComparison IntegerType.I32 (IntegerComparisonOp.Ge Unsigned))) result self.new };
 
     /// `i64.eqz`
     fn visit_i64_eqz(&mut self) -> Self::Output
-        requires { can_visit self.old (Op.Numeric (NumericOp.Eqz IntegerType.I64)) }
-        ensures { visits self.old (Op.Numeric (NumericOp.Eqz IntegerType.I64)) result self.new };
+        requires { can_visit self.old (Numeric (Eqz IntegerType.I64)) }
+        ensures { visits self.old (Numeric (Eqz IntegerType.I64)) result self.new };
 
     /// `i64.eq`
     fn visit_i64_eq(&mut self) -> Self::Output
-        requires { can_visit self.old (Op.Numeric (NumericOp.IntegerComparison IntegerType.I64 IntegerComparisonOp.Eq)) }
-        ensures { visits self.old (Op.Numeric (NumericOp.IntegerComparison IntegerType.I64 IntegerComparisonOp.Eq)) result self.new };
+        requires { can_visit self.old (Numeric (IntegerComparison IntegerType.I64 IntegerComparisonOp.Eq)) }
+        ensures { visits self.old
+            (Numeric (IntegerComparison IntegerType.I64 IntegerComparisonOp.Eq)) result self.new };
 
     /// `i64.ne`
     fn visit_i64_ne(&mut self) -> Self::Output
-        requires { can_visit self.old (Op.Numeric (NumericOp.IntegerComparison IntegerType.I64 IntegerComparisonOp.Ne)) }
-        ensures { visits self.old (Op.Numeric (NumericOp.IntegerComparison IntegerType.I64 IntegerComparisonOp.Ne)) result self.new };
+        requires { can_visit self.old (Numeric (IntegerComparison IntegerType.I64 IntegerComparisonOp.Ne)) }
+        ensures { visits self.old
+            (Numeric (IntegerComparison IntegerType.I64 IntegerComparisonOp.Ne)) result self.new };
 
     /// `i64.lt_s`
     fn visit_i64_lt_s(&mut self) -> Self::Output
-        requires { can_visit self.old (Op.Numeric (NumericOp.IntegerComparison IntegerType.I64 (IntegerComparisonOp.Lt Sign.Signed))) }
-        ensures { visits self.old (Op.Numeric (NumericOp.IntegerComparison IntegerType.I64 (IntegerComparisonOp.Lt Sign.Signed))) result self.new };
+        requires { can_visit self.old
+            (Numeric (IntegerComparison IntegerType.I64 (IntegerComparisonOp.Lt Signed))) }
+        ensures { visits self.old
+            (Numeric (IntegerComparison IntegerType.I64 (IntegerComparisonOp.Lt Signed))) result self.new };
 
     /// `i64.lt_u`
     fn visit_i64_lt_u(&mut self) -> Self::Output
-        requires { can_visit self.old (Op.Numeric (NumericOp.IntegerComparison IntegerType.I64 (IntegerComparisonOp.Lt Sign.Unsigned))) }
-        ensures { visits self.old (Op.Numeric (NumericOp.IntegerComparison IntegerType.I64 (IntegerComparisonOp.Lt Sign.Unsigned))) result self.new };
+        requires { can_visit self.old
+            (Numeric (IntegerComparison IntegerType.I64 (IntegerComparisonOp.Lt Unsigned))) }
+        ensures { visits self.old
+            (Numeric (IntegerComparison IntegerType.I64 (IntegerComparisonOp.Lt Unsigned))) result self.new };
 
     /// `i64.gt_s`
     fn visit_i64_gt_s(&mut self) -> Self::Output
-        requires { can_visit self.old (Op.Numeric (NumericOp.IntegerComparison IntegerType.I64 (IntegerComparisonOp.Gt Sign.Signed))) }
-        ensures { visits self.old (Op.Numeric (NumericOp.IntegerComparison IntegerType.I64 (IntegerComparisonOp.Gt Sign.Signed))) result self.new };
+        requires { can_visit self.old
+            (Numeric (IntegerComparison IntegerType.I64 (IntegerComparisonOp.Gt Signed))) }
+        ensures { visits self.old
+            (Numeric (IntegerComparison IntegerType.I64 (IntegerComparisonOp.Gt Signed))) result self.new };
 
     /// `i64.gt_u`
     fn visit_i64_gt_u(&mut self) -> Self::Output
-        requires { can_visit self.old (Op.Numeric (NumericOp.IntegerComparison IntegerType.I64 (IntegerComparisonOp.Gt Sign.Unsigned))) }
-        ensures { visits self.old (Op.Numeric (NumericOp.IntegerComparison IntegerType.I64 (IntegerComparisonOp.Gt Sign.Unsigned))) result self.new };
+        requires { can_visit self.old
+            (Numeric (IntegerComparison IntegerType.I64 (IntegerComparisonOp.Gt Unsigned))) }
+        ensures { visits self.old
+            (Numeric (IntegerComparison IntegerType.I64 (IntegerComparisonOp.Gt Unsigned))) result self.new };
 
     /// `i64.le_s`
     fn visit_i64_le_s(&mut self) -> Self::Output
-        requires { can_visit self.old (Op.Numeric (NumericOp.IntegerComparison IntegerType.I64 (IntegerComparisonOp.Le Sign.Signed))) }
-        ensures { visits self.old (Op.Numeric (NumericOp.IntegerComparison IntegerType.I64 (IntegerComparisonOp.Le Sign.Signed))) result self.new };
+        requires { can_visit self.old
+            (Numeric (IntegerComparison IntegerType.I64 (IntegerComparisonOp.Le Signed))) }
+        ensures { visits self.old
+            (Numeric (IntegerComparison IntegerType.I64 (IntegerComparisonOp.Le Signed))) result self.new };
 
     /// `i64.le_u`
     fn visit_i64_le_u(&mut self) -> Self::Output
-        requires { can_visit self.old (Op.Numeric (NumericOp.IntegerComparison IntegerType.I64 (IntegerComparisonOp.Le Sign.Unsigned))) }
-        ensures { visits self.old (Op.Numeric (NumericOp.IntegerComparison IntegerType.I64 (IntegerComparisonOp.Le Sign.Unsigned))) result self.new };
+        requires { can_visit self.old
+            (Numeric (IntegerComparison IntegerType.I64 (IntegerComparisonOp.Le Unsigned))) }
+        ensures { visits self.old
+            (Numeric (IntegerComparison IntegerType.I64 (IntegerComparisonOp.Le Unsigned))) result self.new };
 
     /// `i64.ge_s`
     fn visit_i64_ge_s(&mut self) -> Self::Output
-        requires { can_visit self.old (Op.Numeric (NumericOp.IntegerComparison IntegerType.I64 (IntegerComparisonOp.Ge Sign.Signed))) }
-        ensures { visits self.old (Op.Numeric (NumericOp.IntegerComparison IntegerType.I64 (IntegerComparisonOp.Ge Sign.Signed))) result self.new };
+        requires { can_visit self.old
+            (Numeric (IntegerComparison IntegerType.I64 (IntegerComparisonOp.Ge Signed))) }
+        ensures { visits self.old
+            (Numeric (IntegerComparison IntegerType.I64 (IntegerComparisonOp.Ge Signed))) result self.new };
 
     /// `i64.ge_u`
     fn visit_i64_ge_u(&mut self) -> Self::Output
-        requires { can_visit self.old (Op.Numeric (NumericOp.IntegerComparison IntegerType.I64 (IntegerComparisonOp.Ge Sign.Unsigned))) }
-        ensures { visits self.old (Op.Numeric (NumericOp.IntegerComparison IntegerType.I64 (IntegerComparisonOp.Ge Sign.Unsigned))) result self.new };
+        requires { can_visit self.old
+            (Numeric (IntegerComparison IntegerType.I64 (IntegerComparisonOp.Ge Unsigned))) }
+        ensures { visits self.old
+            (Numeric (IntegerComparison IntegerType.I64 (IntegerComparisonOp.Ge Unsigned))) result self.new };
 
     /// `f32.eq`
     fn visit_f32_eq(&mut self) -> Self::Output
-        requires { can_visit self.old (Op.Numeric (NumericOp.FloatComparison FloatType.F32 FloatComparisonOp.Eq)) }
-        ensures { visits self.old (Op.Numeric (NumericOp.FloatComparison FloatType.F32 FloatComparisonOp.Eq)) result self.new };
+        requires { can_visit self.old (Numeric (FloatComparison FloatType.F32 FloatComparisonOp.Eq)) }
+        ensures { visits self.old
+            (Numeric (FloatComparison FloatType.F32 FloatComparisonOp.Eq)) result self.new };
 
     /// `f32.ne`
     fn visit_f32_ne(&mut self) -> Self::Output
-        requires { can_visit self.old (Op.Numeric (NumericOp.FloatComparison FloatType.F32 FloatComparisonOp.Ne)) }
-        ensures { visits self.old (Op.Numeric (NumericOp.FloatComparison FloatType.F32 FloatComparisonOp.Ne)) result self.new };
+        requires { can_visit self.old (Numeric (FloatComparison FloatType.F32 FloatComparisonOp.Ne)) }
+        ensures { visits self.old
+            (Numeric (FloatComparison FloatType.F32 FloatComparisonOp.Ne)) result self.new };
 
     /// `f32.lt`
     fn visit_f32_lt(&mut self) -> Self::Output
-        requires { can_visit self.old (Op.Numeric (NumericOp.FloatComparison FloatType.F32 FloatComparisonOp.Lt)) }
-        ensures { visits self.old (Op.Numeric (NumericOp.FloatComparison FloatType.F32 FloatComparisonOp.Lt)) result self.new };
+        requires { can_visit self.old (Numeric (FloatComparison FloatType.F32 FloatComparisonOp.Lt)) }
+        ensures { visits self.old
+            (Numeric (FloatComparison FloatType.F32 FloatComparisonOp.Lt)) result self.new };
 
     /// `f32.gt`
     fn visit_f32_gt(&mut self) -> Self::Output
-        requires { can_visit self.old (Op.Numeric (NumericOp.FloatComparison FloatType.F32 FloatComparisonOp.Gt)) }
-        ensures { visits self.old (Op.Numeric (NumericOp.FloatComparison FloatType.F32 FloatComparisonOp.Gt)) result self.new };
+        requires { can_visit self.old (Numeric (FloatComparison FloatType.F32 FloatComparisonOp.Gt)) }
+        ensures { visits self.old
+            (Numeric (FloatComparison FloatType.F32 FloatComparisonOp.Gt)) result self.new };
 
     /// `f32.le`
     fn visit_f32_le(&mut self) -> Self::Output
-        requires { can_visit self.old (Op.Numeric (NumericOp.FloatComparison FloatType.F32 FloatComparisonOp.Le)) }
-        ensures { visits self.old (Op.Numeric (NumericOp.FloatComparison FloatType.F32 FloatComparisonOp.Le)) result self.new };
+        requires { can_visit self.old (Numeric (FloatComparison FloatType.F32 FloatComparisonOp.Le)) }
+        ensures { visits self.old
+            (Numeric (FloatComparison FloatType.F32 FloatComparisonOp.Le)) result self.new };
 
     /// `f32.ge`
     fn visit_f32_ge(&mut self) -> Self::Output
-        requires { can_visit self.old (Op.Numeric (NumericOp.FloatComparison FloatType.F32 FloatComparisonOp.Ge)) }
-        ensures { visits self.old (Op.Numeric (NumericOp.FloatComparison FloatType.F32 FloatComparisonOp.Ge)) result self.new };
+        requires { can_visit self.old (Numeric (FloatComparison FloatType.F32 FloatComparisonOp.Ge)) }
+        ensures { visits self.old
+            (Numeric (FloatComparison FloatType.F32 FloatComparisonOp.Ge)) result self.new };
 
     /// `f64.eq`
     fn visit_f64_eq(&mut self) -> Self::Output
-        requires { can_visit self.old (Op.Numeric (NumericOp.FloatComparison FloatType.F64 FloatComparisonOp.Eq)) }
-        ensures { visits self.old (Op.Numeric (NumericOp.FloatComparison FloatType.F64 FloatComparisonOp.Eq)) result self.new };
+        requires { can_visit self.old (Numeric (FloatComparison FloatType.F64 FloatComparisonOp.Eq)) }
+        ensures { visits self.old
+            (Numeric (FloatComparison FloatType.F64 FloatComparisonOp.Eq)) result self.new };
 
     /// `f64.ne`
     fn visit_f64_ne(&mut self) -> Self::Output
-        requires { can_visit self.old (Op.Numeric (NumericOp.FloatComparison FloatType.F64 FloatComparisonOp.Ne)) }
-        ensures { visits self.old (Op.Numeric (NumericOp.FloatComparison FloatType.F64 FloatComparisonOp.Ne)) result self.new };
+        requires { can_visit self.old (Numeric (FloatComparison FloatType.F64 FloatComparisonOp.Ne)) }
+        ensures { visits self.old
+            (Numeric (FloatComparison FloatType.F64 FloatComparisonOp.Ne)) result self.new };
 
     /// `f64.lt`
     fn visit_f64_lt(&mut self) -> Self::Output
-        requires { can_visit self.old (Op.Numeric (NumericOp.FloatComparison FloatType.F64 FloatComparisonOp.Lt)) }
-        ensures { visits self.old (Op.Numeric (NumericOp.FloatComparison FloatType.F64 FloatComparisonOp.Lt)) result self.new };
+        requires { can_visit self.old (Numeric (FloatComparison FloatType.F64 FloatComparisonOp.Lt)) }
+        ensures { visits self.old
+            (Numeric (FloatComparison FloatType.F64 FloatComparisonOp.Lt)) result self.new };
 
     /// `f64.gt`
     fn visit_f64_gt(&mut self) -> Self::Output
-        requires { can_visit self.old (Op.Numeric (NumericOp.FloatComparison FloatType.F64 FloatComparisonOp.Gt)) }
-        ensures { visits self.old (Op.Numeric (NumericOp.FloatComparison FloatType.F64 FloatComparisonOp.Gt)) result self.new };
+        requires { can_visit self.old (Numeric (FloatComparison FloatType.F64 FloatComparisonOp.Gt)) }
+        ensures { visits self.old
+            (Numeric (FloatComparison FloatType.F64 FloatComparisonOp.Gt)) result self.new };
 
     /// `f64.le`
     fn visit_f64_le(&mut self) -> Self::Output
-        requires { can_visit self.old (Op.Numeric (NumericOp.FloatComparison FloatType.F64 FloatComparisonOp.Le)) }
-        ensures { visits self.old (Op.Numeric (NumericOp.FloatComparison FloatType.F64 FloatComparisonOp.Le)) result self.new };
+        requires { can_visit self.old (Numeric (FloatComparison FloatType.F64 FloatComparisonOp.Le)) }
+        ensures { visits self.old
+            (Numeric (FloatComparison FloatType.F64 FloatComparisonOp.Le)) result self.new };
 
     /// `f64.ge`
     fn visit_f64_ge(&mut self) -> Self::Output
-        requires { can_visit self.old (Op.Numeric (NumericOp.FloatComparison FloatType.F64 FloatComparisonOp.Ge)) }
-        ensures { visits self.old (Op.Numeric (NumericOp.FloatComparison FloatType.F64 FloatComparisonOp.Ge)) result self.new };
+        requires { can_visit self.old (Numeric (FloatComparison FloatType.F64 FloatComparisonOp.Ge)) }
+        ensures { visits self.old
+            (Numeric (FloatComparison FloatType.F64 FloatComparisonOp.Ge)) result self.new };
 
     /// `i32.clz`
     fn visit_i32_clz(&mut self) -> Self::Output
-        requires { can_visit self.old (Op.Numeric (NumericOp.IntegerUnary IntegerType.I32 IntegerUnaryOp.Clz)) }
-        ensures { visits self.old (Op.Numeric (NumericOp.IntegerUnary IntegerType.I32 IntegerUnaryOp.Clz)) result self.new };
+        requires { can_visit self.old (Numeric (IntegerUnary IntegerType.I32 IntegerUnaryOp.Clz)) }
+        ensures { visits self.old
+            (Numeric (IntegerUnary IntegerType.I32 IntegerUnaryOp.Clz)) result self.new };
 
     /// `i32.ctz`
     fn visit_i32_ctz(&mut self) -> Self::Output
-        requires { can_visit self.old (Op.Numeric (NumericOp.IntegerUnary IntegerType.I32 IntegerUnaryOp.Ctz)) }
-        ensures { visits self.old (Op.Numeric (NumericOp.IntegerUnary IntegerType.I32 IntegerUnaryOp.Ctz)) result self.new };
+        requires { can_visit self.old (Numeric (IntegerUnary IntegerType.I32 IntegerUnaryOp.Ctz)) }
+        ensures { visits self.old
+            (Numeric (IntegerUnary IntegerType.I32 IntegerUnaryOp.Ctz)) result self.new };
 
     /// `i32.popcnt`
     fn visit_i32_popcnt(&mut self) -> Self::Output
-        requires { can_visit self.old (Op.Numeric (NumericOp.IntegerUnary IntegerType.I32 IntegerUnaryOp.Popcnt)) }
-        ensures { visits self.old (Op.Numeric (NumericOp.IntegerUnary IntegerType.I32 IntegerUnaryOp.Popcnt)) result self.new };
+        requires { can_visit self.old (Numeric (IntegerUnary IntegerType.I32 IntegerUnaryOp.Popcnt)) }
+        ensures { visits self.old
+            (Numeric (IntegerUnary IntegerType.I32 IntegerUnaryOp.Popcnt)) result self.new };
 
     /// `i32.add`
     fn visit_i32_add(&mut self) -> Self::Output
-        requires { can_visit self.old (Op.Numeric (NumericOp.IntegerBinary IntegerType.I32 IntegerBinaryOp.Add)) }
-        ensures { visits self.old (Op.Numeric (NumericOp.IntegerBinary IntegerType.I32 IntegerBinaryOp.Add)) result self.new };
+        requires { can_visit self.old (Numeric (IntegerBinary IntegerType.I32 IntegerBinaryOp.Add)) }
+        ensures { visits self.old
+            (Numeric (IntegerBinary IntegerType.I32 IntegerBinaryOp.Add)) result self.new };
 
     /// `i32.sub`
     fn visit_i32_sub(&mut self) -> Self::Output
-        requires { can_visit self.old (Op.Numeric (NumericOp.IntegerBinary IntegerType.I32 IntegerBinaryOp.Sub)) }
-        ensures { visits self.old (Op.Numeric (NumericOp.IntegerBinary IntegerType.I32 IntegerBinaryOp.Sub)) result self.new };
+        requires { can_visit self.old (Numeric (IntegerBinary IntegerType.I32 IntegerBinaryOp.Sub)) }
+        ensures { visits self.old
+            (Numeric (IntegerBinary IntegerType.I32 IntegerBinaryOp.Sub)) result self.new };
 
     /// `i32.mul`
     fn visit_i32_mul(&mut self) -> Self::Output
-        requires { can_visit self.old (Op.Numeric (NumericOp.IntegerBinary IntegerType.I32 IntegerBinaryOp.Mul)) }
-        ensures { visits self.old (Op.Numeric (NumericOp.IntegerBinary IntegerType.I32 IntegerBinaryOp.Mul)) result self.new };
+        requires { can_visit self.old (Numeric (IntegerBinary IntegerType.I32 IntegerBinaryOp.Mul)) }
+        ensures { visits self.old
+            (Numeric (IntegerBinary IntegerType.I32 IntegerBinaryOp.Mul)) result self.new };
 
     /// `i32.div_s`
     fn visit_i32_div_s(&mut self) -> Self::Output
-        requires { can_visit self.old (Op.Numeric (NumericOp.IntegerBinary IntegerType.I32 (IntegerBinaryOp.Div Sign.Signed))) }
-        ensures { visits self.old (Op.Numeric (NumericOp.IntegerBinary IntegerType.I32 (IntegerBinaryOp.Div Sign.Signed))) result self.new };
+        requires { can_visit self.old (Numeric (IntegerBinary IntegerType.I32 (IntegerBinaryOp.Div Signed))) }
+        ensures { visits self.old
+            (Numeric (IntegerBinary IntegerType.I32 (IntegerBinaryOp.Div Signed))) result self.new };
 
     /// `i32.div_u`
     fn visit_i32_div_u(&mut self) -> Self::Output
-        requires { can_visit self.old (Op.Numeric (NumericOp.IntegerBinary IntegerType.I32 (IntegerBinaryOp.Div Sign.Unsigned))) }
-        ensures { visits self.old (Op.Numeric (NumericOp.IntegerBinary IntegerType.I32 (IntegerBinaryOp.Div Sign.Unsigned))) result self.new };
+        requires { can_visit self.old
+            (Numeric (IntegerBinary IntegerType.I32 (IntegerBinaryOp.Div Unsigned))) }
+        ensures { visits self.old
+            (Numeric (IntegerBinary IntegerType.I32 (IntegerBinaryOp.Div Unsigned))) result self.new };
 
     /// `i32.rem_s`
     fn visit_i32_rem_s(&mut self) -> Self::Output
-        requires { can_visit self.old (Op.Numeric (NumericOp.IntegerBinary IntegerType.I32 (IntegerBinaryOp.Rem Sign.Signed))) }
-        ensures { visits self.old (Op.Numeric (NumericOp.IntegerBinary IntegerType.I32 (IntegerBinaryOp.Rem Sign.Signed))) result self.new };
+        requires { can_visit self.old (Numeric (IntegerBinary IntegerType.I32 (IntegerBinaryOp.Rem Signed))) }
+        ensures { visits self.old
+            (Numeric (IntegerBinary IntegerType.I32 (IntegerBinaryOp.Rem Signed))) result self.new };
 
     /// `i32.rem_u`
     fn visit_i32_rem_u(&mut self) -> Self::Output
-        requires { can_visit self.old (Op.Numeric (NumericOp.IntegerBinary IntegerType.I32 (IntegerBinaryOp.Rem Sign.Unsigned))) }
-        ensures { visits self.old (Op.Numeric (NumericOp.IntegerBinary IntegerType.I32 (IntegerBinaryOp.Rem Sign.Unsigned))) result self.new };
+        requires { can_visit self.old
+            (Numeric (IntegerBinary IntegerType.I32 (IntegerBinaryOp.Rem Unsigned))) }
+        ensures { visits self.old
+            (Numeric (IntegerBinary IntegerType.I32 (IntegerBinaryOp.Rem Unsigned))) result self.new };
 
     /// `i32.and`
     fn visit_i32_and(&mut self) -> Self::Output
-        requires { can_visit self.old (Op.Numeric (NumericOp.IntegerBinary IntegerType.I32 IntegerBinaryOp.And)) }
-        ensures { visits self.old (Op.Numeric (NumericOp.IntegerBinary IntegerType.I32 IntegerBinaryOp.And)) result self.new };
+        requires { can_visit self.old (Numeric (IntegerBinary IntegerType.I32 IntegerBinaryOp.And)) }
+        ensures { visits self.old
+            (Numeric (IntegerBinary IntegerType.I32 IntegerBinaryOp.And)) result self.new };
 
     /// `i32.or`
     fn visit_i32_or(&mut self) -> Self::Output
-        requires { can_visit self.old (Op.Numeric (NumericOp.IntegerBinary IntegerType.I32 IntegerBinaryOp.Or)) }
-        ensures { visits self.old (Op.Numeric (NumericOp.IntegerBinary IntegerType.I32 IntegerBinaryOp.Or)) result self.new };
+        requires { can_visit self.old (Numeric (IntegerBinary IntegerType.I32 IntegerBinaryOp.Or)) }
+        ensures { visits self.old
+            (Numeric (IntegerBinary IntegerType.I32 IntegerBinaryOp.Or)) result self.new };
 
     /// `i32.xor`
     fn visit_i32_xor(&mut self) -> Self::Output
-        requires { can_visit self.old (Op.Numeric (NumericOp.IntegerBinary IntegerType.I32 IntegerBinaryOp.Xor)) }
-        ensures { visits self.old (Op.Numeric (NumericOp.IntegerBinary IntegerType.I32 IntegerBinaryOp.Xor)) result self.new };
+        requires { can_visit self.old (Numeric (IntegerBinary IntegerType.I32 IntegerBinaryOp.Xor)) }
+        ensures { visits self.old
+            (Numeric (IntegerBinary IntegerType.I32 IntegerBinaryOp.Xor)) result self.new };
 
     /// `i32.shl`
     fn visit_i32_shl(&mut self) -> Self::Output
-        requires { can_visit self.old (Op.Numeric (NumericOp.IntegerBinary IntegerType.I32 IntegerBinaryOp.Shl)) }
-        ensures { visits self.old (Op.Numeric (NumericOp.IntegerBinary IntegerType.I32 IntegerBinaryOp.Shl)) result self.new };
+        requires { can_visit self.old (Numeric (IntegerBinary IntegerType.I32 IntegerBinaryOp.Shl)) }
+        ensures { visits self.old
+            (Numeric (IntegerBinary IntegerType.I32 IntegerBinaryOp.Shl)) result self.new };
 
     /// `i32.shr_s`
     fn visit_i32_shr_s(&mut self) -> Self::Output
-        requires { can_visit self.old (Op.Numeric (NumericOp.IntegerBinary IntegerType.I32 (IntegerBinaryOp.Shr Sign.Signed))) }
-        ensures { visits self.old (Op.Numeric (NumericOp.IntegerBinary IntegerType.I32 (IntegerBinaryOp.Shr Sign.Signed))) result self.new };
+        requires { can_visit self.old (Numeric (IntegerBinary IntegerType.I32 (IntegerBinaryOp.Shr Signed))) }
+        ensures { visits self.old
+            (Numeric (IntegerBinary IntegerType.I32 (IntegerBinaryOp.Shr Signed))) result self.new };
 
     /// `i32.shr_u`
     fn visit_i32_shr_u(&mut self) -> Self::Output
-        requires { can_visit self.old (Op.Numeric (NumericOp.IntegerBinary IntegerType.I32 (IntegerBinaryOp.Shr Sign.Unsigned))) }
-        ensures { visits self.old (Op.Numeric (NumericOp.IntegerBinary IntegerType.I32 (IntegerBinaryOp.Shr Sign.Unsigned))) result self.new };
+        requires { can_visit self.old
+            (Numeric (IntegerBinary IntegerType.I32 (IntegerBinaryOp.Shr Unsigned))) }
+        ensures { visits self.old
+            (Numeric (IntegerBinary IntegerType.I32 (IntegerBinaryOp.Shr Unsigned))) result self.new };
 
     /// `i32.rotl`
     fn visit_i32_rotl(&mut self) -> Self::Output
-        requires { can_visit self.old (Op.Numeric (NumericOp.IntegerBinary IntegerType.I32 IntegerBinaryOp.Rotl)) }
-        ensures { visits self.old (Op.Numeric (NumericOp.IntegerBinary IntegerType.I32 IntegerBinaryOp.Rotl)) result self.new };
+        requires { can_visit self.old (Numeric (IntegerBinary IntegerType.I32 IntegerBinaryOp.Rotl)) }
+        ensures { visits self.old
+            (Numeric (IntegerBinary IntegerType.I32 IntegerBinaryOp.Rotl)) result self.new };
 
     /// `i32.rotr`
     fn visit_i32_rotr(&mut self) -> Self::Output
-        requires { can_visit self.old (Op.Numeric (NumericOp.IntegerBinary IntegerType.I32 IntegerBinaryOp.Rotr)) }
-        ensures { visits self.old (Op.Numeric (NumericOp.IntegerBinary IntegerType.I32 IntegerBinaryOp.Rotr)) result self.new };
+        requires { can_visit self.old (Numeric (IntegerBinary IntegerType.I32 IntegerBinaryOp.Rotr)) }
+        ensures { visits self.old
+            (Numeric (IntegerBinary IntegerType.I32 IntegerBinaryOp.Rotr)) result self.new };
 
     /// `i64.clz`
     fn visit_i64_clz(&mut self) -> Self::Output
-        requires { can_visit self.old (Op.Numeric (NumericOp.IntegerUnary IntegerType.I64 IntegerUnaryOp.Clz)) }
-        ensures { visits self.old (Op.Numeric (NumericOp.IntegerUnary IntegerType.I64 IntegerUnaryOp.Clz)) result self.new };
+        requires { can_visit self.old (Numeric (IntegerUnary IntegerType.I64 IntegerUnaryOp.Clz)) }
+        ensures { visits self.old
+            (Numeric (IntegerUnary IntegerType.I64 IntegerUnaryOp.Clz)) result self.new };
 
     /// `i64.ctz`
     fn visit_i64_ctz(&mut self) -> Self::Output
-        requires { can_visit self.old (Op.Numeric (NumericOp.IntegerUnary IntegerType.I64 IntegerUnaryOp.Ctz)) }
-        ensures { visits self.old (Op.Numeric (NumericOp.IntegerUnary IntegerType.I64 IntegerUnaryOp.Ctz)) result self.new };
+        requires { can_visit self.old (Numeric (IntegerUnary IntegerType.I64 IntegerUnaryOp.Ctz)) }
+        ensures { visits self.old
+            (Numeric (IntegerUnary IntegerType.I64 IntegerUnaryOp.Ctz)) result self.new };
 
     /// `i64.popcnt`
     fn visit_i64_popcnt(&mut self) -> Self::Output
-        requires { can_visit self.old (Op.Numeric (NumericOp.IntegerUnary IntegerType.I64 IntegerUnaryOp.Popcnt)) }
-        ensures { visits self.old (Op.Numeric (NumericOp.IntegerUnary IntegerType.I64 IntegerUnaryOp.Popcnt)) result self.new };
+        requires { can_visit self.old (Numeric (IntegerUnary IntegerType.I64 IntegerUnaryOp.Popcnt)) }
+        ensures { visits self.old
+            (Numeric (IntegerUnary IntegerType.I64 IntegerUnaryOp.Popcnt)) result self.new };
 
     /// `i64.add`
     fn visit_i64_add(&mut self) -> Self::Output
-        requires { can_visit self.old (Op.Numeric (NumericOp.IntegerBinary IntegerType.I64 IntegerBinaryOp.Add)) }
-        ensures { visits self.old (Op.Numeric (NumericOp.IntegerBinary IntegerType.I64 IntegerBinaryOp.Add)) result self.new };
+        requires { can_visit self.old (Numeric (IntegerBinary IntegerType.I64 IntegerBinaryOp.Add)) }
+        ensures { visits self.old
+            (Numeric (IntegerBinary IntegerType.I64 IntegerBinaryOp.Add)) result self.new };
 
     /// `i64.sub`
     fn visit_i64_sub(&mut self) -> Self::Output
-        requires { can_visit self.old (Op.Numeric (NumericOp.IntegerBinary IntegerType.I64 IntegerBinaryOp.Sub)) }
-        ensures { visits self.old (Op.Numeric (NumericOp.IntegerBinary IntegerType.I64 IntegerBinaryOp.Sub)) result self.new };
+        requires { can_visit self.old (Numeric (IntegerBinary IntegerType.I64 IntegerBinaryOp.Sub)) }
+        ensures { visits self.old
+            (Numeric (IntegerBinary IntegerType.I64 IntegerBinaryOp.Sub)) result self.new };
 
     /// `i64.mul`
     fn visit_i64_mul(&mut self) -> Self::Output
-        requires { can_visit self.old (Op.Numeric (NumericOp.IntegerBinary IntegerType.I64 IntegerBinaryOp.Mul)) }
-        ensures { visits self.old (Op.Numeric (NumericOp.IntegerBinary IntegerType.I64 IntegerBinaryOp.Mul)) result self.new };
+        requires { can_visit self.old (Numeric (IntegerBinary IntegerType.I64 IntegerBinaryOp.Mul)) }
+        ensures { visits self.old
+            (Numeric (IntegerBinary IntegerType.I64 IntegerBinaryOp.Mul)) result self.new };
 
     /// `i64.div_s`
     fn visit_i64_div_s(&mut self) -> Self::Output
-        requires { can_visit self.old (Op.Numeric (NumericOp.IntegerBinary IntegerType.I64 (IntegerBinaryOp.Div Sign.Signed))) }
-        ensures { visits self.old (Op.Numeric (NumericOp.IntegerBinary IntegerType.I64 (IntegerBinaryOp.Div Sign.Signed))) result self.new };
+        requires { can_visit self.old (Numeric (IntegerBinary IntegerType.I64 (IntegerBinaryOp.Div Signed))) }
+        ensures { visits self.old
+            (Numeric (IntegerBinary IntegerType.I64 (IntegerBinaryOp.Div Signed))) result self.new };
 
     /// `i64.div_u`
     fn visit_i64_div_u(&mut self) -> Self::Output
-        requires { can_visit self.old (Op.Numeric (NumericOp.IntegerBinary IntegerType.I64 (IntegerBinaryOp.Div Sign.Unsigned))) }
-        ensures { visits self.old (Op.Numeric (NumericOp.IntegerBinary IntegerType.I64 (IntegerBinaryOp.Div Sign.Unsigned))) result self.new };
+        requires { can_visit self.old
+            (Numeric (IntegerBinary IntegerType.I64 (IntegerBinaryOp.Div Unsigned))) }
+        ensures { visits self.old
+            (Numeric (IntegerBinary IntegerType.I64 (IntegerBinaryOp.Div Unsigned))) result self.new };
 
     /// `i64.rem_s`
     fn visit_i64_rem_s(&mut self) -> Self::Output
-        requires { can_visit self.old (Op.Numeric (NumericOp.IntegerBinary IntegerType.I64 (IntegerBinaryOp.Rem Sign.Signed))) }
-        ensures { visits self.old (Op.Numeric (NumericOp.IntegerBinary IntegerType.I64 (IntegerBinaryOp.Rem Sign.Signed))) result self.new };
+        requires { can_visit self.old (Numeric (IntegerBinary IntegerType.I64 (IntegerBinaryOp.Rem Signed))) }
+        ensures { visits self.old
+            (Numeric (IntegerBinary IntegerType.I64 (IntegerBinaryOp.Rem Signed))) result self.new };
 
     /// `i64.rem_u`
     fn visit_i64_rem_u(&mut self) -> Self::Output
-        requires { can_visit self.old (Op.Numeric (NumericOp.IntegerBinary IntegerType.I64 (IntegerBinaryOp.Rem Sign.Unsigned))) }
-        ensures { visits self.old (Op.Numeric (NumericOp.IntegerBinary IntegerType.I64 (IntegerBinaryOp.Rem Sign.Unsigned))) result self.new };
+        requires { can_visit self.old
+            (Numeric (IntegerBinary IntegerType.I64 (IntegerBinaryOp.Rem Unsigned))) }
+        ensures { visits self.old
+            (Numeric (IntegerBinary IntegerType.I64 (IntegerBinaryOp.Rem Unsigned))) result self.new };
 
     /// `i64.and`
     fn visit_i64_and(&mut self) -> Self::Output
-        requires { can_visit self.old (Op.Numeric (NumericOp.IntegerBinary IntegerType.I64 IntegerBinaryOp.And)) }
-        ensures { visits self.old (Op.Numeric (NumericOp.IntegerBinary IntegerType.I64 IntegerBinaryOp.And)) result self.new };
+        requires { can_visit self.old (Numeric (IntegerBinary IntegerType.I64 IntegerBinaryOp.And)) }
+        ensures { visits self.old
+            (Numeric (IntegerBinary IntegerType.I64 IntegerBinaryOp.And)) result self.new };
 
     /// `i64.or`
     fn visit_i64_or(&mut self) -> Self::Output
-        requires { can_visit self.old (Op.Numeric (NumericOp.IntegerBinary IntegerType.I64 IntegerBinaryOp.Or)) }
-        ensures { visits self.old (Op.Numeric (NumericOp.IntegerBinary IntegerType.I64 IntegerBinaryOp.Or)) result self.new };
+        requires { can_visit self.old (Numeric (IntegerBinary IntegerType.I64 IntegerBinaryOp.Or)) }
+        ensures { visits self.old
+            (Numeric (IntegerBinary IntegerType.I64 IntegerBinaryOp.Or)) result self.new };
 
     /// `i64.xor`
     fn visit_i64_xor(&mut self) -> Self::Output
-        requires { can_visit self.old (Op.Numeric (NumericOp.IntegerBinary IntegerType.I64 IntegerBinaryOp.Xor)) }
-        ensures { visits self.old (Op.Numeric (NumericOp.IntegerBinary IntegerType.I64 IntegerBinaryOp.Xor)) result self.new };
+        requires { can_visit self.old (Numeric (IntegerBinary IntegerType.I64 IntegerBinaryOp.Xor)) }
+        ensures { visits self.old
+            (Numeric (IntegerBinary IntegerType.I64 IntegerBinaryOp.Xor)) result self.new };
 
     /// `i64.shl`
     fn visit_i64_shl(&mut self) -> Self::Output
-        requires { can_visit self.old (Op.Numeric (NumericOp.IntegerBinary IntegerType.I64 IntegerBinaryOp.Shl)) }
-        ensures { visits self.old (Op.Numeric (NumericOp.IntegerBinary IntegerType.I64 IntegerBinaryOp.Shl)) result self.new };
+        requires { can_visit self.old (Numeric (IntegerBinary IntegerType.I64 IntegerBinaryOp.Shl)) }
+        ensures { visits self.old
+            (Numeric (IntegerBinary IntegerType.I64 IntegerBinaryOp.Shl)) result self.new };
 
     /// `i64.shr_s`
     fn visit_i64_shr_s(&mut self) -> Self::Output
-        requires { can_visit self.old (Op.Numeric (NumericOp.IntegerBinary IntegerType.I64 (IntegerBinaryOp.Shr Sign.Signed))) }
-        ensures { visits self.old (Op.Numeric (NumericOp.IntegerBinary IntegerType.I64 (IntegerBinaryOp.Shr Sign.Signed))) result self.new };
+        requires { can_visit self.old (Numeric (IntegerBinary IntegerType.I64 (IntegerBinaryOp.Shr Signed))) }
+        ensures { visits self.old
+            (Numeric (IntegerBinary IntegerType.I64 (IntegerBinaryOp.Shr Signed))) result self.new };
 
     /// `i64.shr_u`
     fn visit_i64_shr_u(&mut self) -> Self::Output
-        requires { can_visit self.old (Op.Numeric (NumericOp.IntegerBinary IntegerType.I64 (IntegerBinaryOp.Shr Sign.Unsigned))) }
-        ensures { visits self.old (Op.Numeric (NumericOp.IntegerBinary IntegerType.I64 (IntegerBinaryOp.Shr Sign.Unsigned))) result self.new };
+        requires { can_visit self.old
+            (Numeric (IntegerBinary IntegerType.I64 (IntegerBinaryOp.Shr Unsigned))) }
+        ensures { visits self.old
+            (Numeric (IntegerBinary IntegerType.I64 (IntegerBinaryOp.Shr Unsigned))) result self.new };
 
     /// `i64.rotl`
     fn visit_i64_rotl(&mut self) -> Self::Output
-        requires { can_visit self.old (Op.Numeric (NumericOp.IntegerBinary IntegerType.I64 IntegerBinaryOp.Rotl)) }
-        ensures { visits self.old (Op.Numeric (NumericOp.IntegerBinary IntegerType.I64 IntegerBinaryOp.Rotl)) result self.new };
+        requires { can_visit self.old (Numeric (IntegerBinary IntegerType.I64 IntegerBinaryOp.Rotl)) }
+        ensures { visits self.old
+            (Numeric (IntegerBinary IntegerType.I64 IntegerBinaryOp.Rotl)) result self.new };
 
     /// `i64.rotr`
     fn visit_i64_rotr(&mut self) -> Self::Output
-        requires { can_visit self.old (Op.Numeric (NumericOp.IntegerBinary IntegerType.I64 IntegerBinaryOp.Rotr)) }
-        ensures { visits self.old (Op.Numeric (NumericOp.IntegerBinary IntegerType.I64 IntegerBinaryOp.Rotr)) result self.new };
+        requires { can_visit self.old (Numeric (IntegerBinary IntegerType.I64 IntegerBinaryOp.Rotr)) }
+        ensures { visits self.old
+            (Numeric (IntegerBinary IntegerType.I64 IntegerBinaryOp.Rotr)) result self.new };
 
     /// `f32.abs`
     fn visit_f32_abs(&mut self) -> Self::Output
-        requires { can_visit self.old (Op.Numeric (NumericOp.FloatUnary FloatType.F32 FloatUnaryOp.Abs)) }
-        ensures { visits self.old (Op.Numeric (NumericOp.FloatUnary FloatType.F32 FloatUnaryOp.Abs)) result self.new };
+        requires { can_visit self.old (Numeric (FloatUnary FloatType.F32 FloatUnaryOp.Abs)) }
+        ensures { visits self.old (Numeric (FloatUnary FloatType.F32 FloatUnaryOp.Abs)) result self.new };
 
     /// `f32.neg`
     fn visit_f32_neg(&mut self) -> Self::Output
-        requires { can_visit self.old (Op.Numeric (NumericOp.FloatUnary FloatType.F32 FloatUnaryOp.Neg)) }
-        ensures { visits self.old (Op.Numeric (NumericOp.FloatUnary FloatType.F32 FloatUnaryOp.Neg)) result self.new };
+        requires { can_visit self.old (Numeric (FloatUnary FloatType.F32 FloatUnaryOp.Neg)) }
+        ensures { visits self.old (Numeric (FloatUnary FloatType.F32 FloatUnaryOp.Neg)) result self.new };
 
     /// `f32.ceil`
     fn visit_f32_ceil(&mut self) -> Self::Output
-        requires { can_visit self.old (Op.Numeric (NumericOp.FloatUnary FloatType.F32 FloatUnaryOp.Ceil)) }
-        ensures { visits self.old (Op.Numeric (NumericOp.FloatUnary FloatType.F32 FloatUnaryOp.Ceil)) result self.new };
+        requires { can_visit self.old (Numeric (FloatUnary FloatType.F32 FloatUnaryOp.Ceil)) }
+        ensures { visits self.old (Numeric (FloatUnary FloatType.F32 FloatUnaryOp.Ceil)) result self.new };
 
     /// `f32.floor`
     fn visit_f32_floor(&mut self) -> Self::Output
-        requires { can_visit self.old (Op.Numeric (NumericOp.FloatUnary FloatType.F32 FloatUnaryOp.Floor)) }
-        ensures { visits self.old (Op.Numeric (NumericOp.FloatUnary FloatType.F32 FloatUnaryOp.Floor)) result self.new };
+        requires { can_visit self.old (Numeric (FloatUnary FloatType.F32 FloatUnaryOp.Floor)) }
+        ensures { visits self.old (Numeric (FloatUnary FloatType.F32 FloatUnaryOp.Floor)) result self.new };
 
     /// `f32.trunc`
     fn visit_f32_trunc(&mut self) -> Self::Output
-        requires { can_visit self.old (Op.Numeric (NumericOp.FloatUnary FloatType.F32 FloatUnaryOp.Trunc)) }
-        ensures { visits self.old (Op.Numeric (NumericOp.FloatUnary FloatType.F32 FloatUnaryOp.Trunc)) result self.new };
+        requires { can_visit self.old (Numeric (FloatUnary FloatType.F32 FloatUnaryOp.Trunc)) }
+        ensures { visits self.old (Numeric (FloatUnary FloatType.F32 FloatUnaryOp.Trunc)) result self.new };
 
     /// `f32.nearest`
     fn visit_f32_nearest(&mut self) -> Self::Output
-        requires { can_visit self.old (Op.Numeric (NumericOp.FloatUnary FloatType.F32 FloatUnaryOp.Nearest)) }
-        ensures { visits self.old (Op.Numeric (NumericOp.FloatUnary FloatType.F32 FloatUnaryOp.Nearest)) result self.new };
+        requires { can_visit self.old (Numeric (FloatUnary FloatType.F32 FloatUnaryOp.Nearest)) }
+        ensures { visits self.old (Numeric (FloatUnary FloatType.F32 FloatUnaryOp.Nearest)) result self.new };
 
     /// `f32.sqrt`
     fn visit_f32_sqrt(&mut self) -> Self::Output
-        requires { can_visit self.old (Op.Numeric (NumericOp.FloatUnary FloatType.F32 FloatUnaryOp.Sqrt)) }
-        ensures { visits self.old (Op.Numeric (NumericOp.FloatUnary FloatType.F32 FloatUnaryOp.Sqrt)) result self.new };
+        requires { can_visit self.old (Numeric (FloatUnary FloatType.F32 FloatUnaryOp.Sqrt)) }
+        ensures { visits self.old (Numeric (FloatUnary FloatType.F32 FloatUnaryOp.Sqrt)) result self.new };
 
     /// `f32.add`
     fn visit_f32_add(&mut self) -> Self::Output
-        requires { can_visit self.old (Op.Numeric (NumericOp.FloatBinary FloatType.F32 FloatBinaryOp.Add)) }
-        ensures { visits self.old (Op.Numeric (NumericOp.FloatBinary FloatType.F32 FloatBinaryOp.Add)) result self.new };
+        requires { can_visit self.old (Numeric (FloatBinary FloatType.F32 FloatBinaryOp.Add)) }
+        ensures { visits self.old (Numeric (FloatBinary FloatType.F32 FloatBinaryOp.Add)) result self.new };
 
     /// `f32.sub`
     fn visit_f32_sub(&mut self) -> Self::Output
-        requires { can_visit self.old (Op.Numeric (NumericOp.FloatBinary FloatType.F32 FloatBinaryOp.Sub)) }
-        ensures { visits self.old (Op.Numeric (NumericOp.FloatBinary FloatType.F32 FloatBinaryOp.Sub)) result self.new };
+        requires { can_visit self.old (Numeric (FloatBinary FloatType.F32 FloatBinaryOp.Sub)) }
+        ensures { visits self.old (Numeric (FloatBinary FloatType.F32 FloatBinaryOp.Sub)) result self.new };
 
     /// `f32.mul`
     fn visit_f32_mul(&mut self) -> Self::Output
-        requires { can_visit self.old (Op.Numeric (NumericOp.FloatBinary FloatType.F32 FloatBinaryOp.Mul)) }
-        ensures { visits self.old (Op.Numeric (NumericOp.FloatBinary FloatType.F32 FloatBinaryOp.Mul)) result self.new };
+        requires { can_visit self.old (Numeric (FloatBinary FloatType.F32 FloatBinaryOp.Mul)) }
+        ensures { visits self.old (Numeric (FloatBinary FloatType.F32 FloatBinaryOp.Mul)) result self.new };
 
     /// `f32.div`
     fn visit_f32_div(&mut self) -> Self::Output
-        requires { can_visit self.old (Op.Numeric (NumericOp.FloatBinary FloatType.F32 FloatBinaryOp.Div)) }
-        ensures { visits self.old (Op.Numeric (NumericOp.FloatBinary FloatType.F32 FloatBinaryOp.Div)) result self.new };
+        requires { can_visit self.old (Numeric (FloatBinary FloatType.F32 FloatBinaryOp.Div)) }
+        ensures { visits self.old (Numeric (FloatBinary FloatType.F32 FloatBinaryOp.Div)) result self.new };
 
     /// `f32.min`
     fn visit_f32_min(&mut self) -> Self::Output
-        requires { can_visit self.old (Op.Numeric (NumericOp.FloatBinary FloatType.F32 FloatBinaryOp.Min)) }
-        ensures { visits self.old (Op.Numeric (NumericOp.FloatBinary FloatType.F32 FloatBinaryOp.Min)) result self.new };
+        requires { can_visit self.old (Numeric (FloatBinary FloatType.F32 FloatBinaryOp.Min)) }
+        ensures { visits self.old (Numeric (FloatBinary FloatType.F32 FloatBinaryOp.Min)) result self.new };
 
     /// `f32.max`
     fn visit_f32_max(&mut self) -> Self::Output
-        requires { can_visit self.old (Op.Numeric (NumericOp.FloatBinary FloatType.F32 FloatBinaryOp.Max)) }
-        ensures { visits self.old (Op.Numeric (NumericOp.FloatBinary FloatType.F32 FloatBinaryOp.Max)) result self.new };
+        requires { can_visit self.old (Numeric (FloatBinary FloatType.F32 FloatBinaryOp.Max)) }
+        ensures { visits self.old (Numeric (FloatBinary FloatType.F32 FloatBinaryOp.Max)) result self.new };
 
     /// `f32.copysign`
     fn visit_f32_copysign(&mut self) -> Self::Output
-        requires { can_visit self.old (Op.Numeric (NumericOp.FloatBinary FloatType.F32 FloatBinaryOp.Copysign)) }
-        ensures { visits self.old (Op.Numeric (NumericOp.FloatBinary FloatType.F32 FloatBinaryOp.Copysign)) result self.new };
+        requires { can_visit self.old (Numeric (FloatBinary FloatType.F32 FloatBinaryOp.Copysign)) }
+        ensures { visits self.old
+            (Numeric (FloatBinary FloatType.F32 FloatBinaryOp.Copysign)) result self.new };
 
     /// `f64.abs`
     fn visit_f64_abs(&mut self) -> Self::Output
-        requires { can_visit self.old (Op.Numeric (NumericOp.FloatUnary FloatType.F64 FloatUnaryOp.Abs)) }
-        ensures { visits self.old (Op.Numeric (NumericOp.FloatUnary FloatType.F64 FloatUnaryOp.Abs)) result self.new };
+        requires { can_visit self.old (Numeric (FloatUnary FloatType.F64 FloatUnaryOp.Abs)) }
+        ensures { visits self.old (Numeric (FloatUnary FloatType.F64 FloatUnaryOp.Abs)) result self.new };
 
     /// `f64.neg`
     fn visit_f64_neg(&mut self) -> Self::Output
-        requires { can_visit self.old (Op.Numeric (NumericOp.FloatUnary FloatType.F64 FloatUnaryOp.Neg)) }
-        ensures { visits self.old (Op.Numeric (NumericOp.FloatUnary FloatType.F64 FloatUnaryOp.Neg)) result self.new };
+        requires { can_visit self.old (Numeric (FloatUnary FloatType.F64 FloatUnaryOp.Neg)) }
+        ensures { visits self.old (Numeric (FloatUnary FloatType.F64 FloatUnaryOp.Neg)) result self.new };
 
     /// `f64.ceil`
     fn visit_f64_ceil(&mut self) -> Self::Output
-        requires { can_visit self.old (Op.Numeric (NumericOp.FloatUnary FloatType.F64 FloatUnaryOp.Ceil)) }
-        ensures { visits self.old (Op.Numeric (NumericOp.FloatUnary FloatType.F64 FloatUnaryOp.Ceil)) result self.new };
+        requires { can_visit self.old (Numeric (FloatUnary FloatType.F64 FloatUnaryOp.Ceil)) }
+        ensures { visits self.old (Numeric (FloatUnary FloatType.F64 FloatUnaryOp.Ceil)) result self.new };
 
     /// `f64.floor`
     fn visit_f64_floor(&mut self) -> Self::Output
-        requires { can_visit self.old (Op.Numeric (NumericOp.FloatUnary FloatType.F64 FloatUnaryOp.Floor)) }
-        ensures { visits self.old (Op.Numeric (NumericOp.FloatUnary FloatType.F64 FloatUnaryOp.Floor)) result self.new };
+        requires { can_visit self.old (Numeric (FloatUnary FloatType.F64 FloatUnaryOp.Floor)) }
+        ensures { visits self.old (Numeric (FloatUnary FloatType.F64 FloatUnaryOp.Floor)) result self.new };
 
     /// `f64.trunc`
     fn visit_f64_trunc(&mut self) -> Self::Output
-        requires { can_visit self.old (Op.Numeric (NumericOp.FloatUnary FloatType.F64 FloatUnaryOp.Trunc)) }
-        ensures { visits self.old (Op.Numeric (NumericOp.FloatUnary FloatType.F64 FloatUnaryOp.Trunc)) result self.new };
+        requires { can_visit self.old (Numeric (FloatUnary FloatType.F64 FloatUnaryOp.Trunc)) }
+        ensures { visits self.old (Numeric (FloatUnary FloatType.F64 FloatUnaryOp.Trunc)) result self.new };
 
     /// `f64.nearest`
     fn visit_f64_nearest(&mut self) -> Self::Output
-        requires { can_visit self.old (Op.Numeric (NumericOp.FloatUnary FloatType.F64 FloatUnaryOp.Nearest)) }
-        ensures { visits self.old (Op.Numeric (NumericOp.FloatUnary FloatType.F64 FloatUnaryOp.Nearest)) result self.new };
+        requires { can_visit self.old (Numeric (FloatUnary FloatType.F64 FloatUnaryOp.Nearest)) }
+        ensures { visits self.old (Numeric (FloatUnary FloatType.F64 FloatUnaryOp.Nearest)) result self.new };
 
     /// `f64.sqrt`
     fn visit_f64_sqrt(&mut self) -> Self::Output
-        requires { can_visit self.old (Op.Numeric (NumericOp.FloatUnary FloatType.F64 FloatUnaryOp.Sqrt)) }
-        ensures { visits self.old (Op.Numeric (NumericOp.FloatUnary FloatType.F64 FloatUnaryOp.Sqrt)) result self.new };
+        requires { can_visit self.old (Numeric (FloatUnary FloatType.F64 FloatUnaryOp.Sqrt)) }
+        ensures { visits self.old (Numeric (FloatUnary FloatType.F64 FloatUnaryOp.Sqrt)) result self.new };
 
     /// `f64.add`
     fn visit_f64_add(&mut self) -> Self::Output
-        requires { can_visit self.old (Op.Numeric (NumericOp.FloatBinary FloatType.F64 FloatBinaryOp.Add)) }
-        ensures { visits self.old (Op.Numeric (NumericOp.FloatBinary FloatType.F64 FloatBinaryOp.Add)) result self.new };
+        requires { can_visit self.old (Numeric (FloatBinary FloatType.F64 FloatBinaryOp.Add)) }
+        ensures { visits self.old (Numeric (FloatBinary FloatType.F64 FloatBinaryOp.Add)) result self.new };
 
     /// `f64.sub`
     fn visit_f64_sub(&mut self) -> Self::Output
-        requires { can_visit self.old (Op.Numeric (NumericOp.FloatBinary FloatType.F64 FloatBinaryOp.Sub)) }
-        ensures { visits self.old (Op.Numeric (NumericOp.FloatBinary FloatType.F64 FloatBinaryOp.Sub)) result self.new };
+        requires { can_visit self.old (Numeric (FloatBinary FloatType.F64 FloatBinaryOp.Sub)) }
+        ensures { visits self.old (Numeric (FloatBinary FloatType.F64 FloatBinaryOp.Sub)) result self.new };
 
     /// `f64.mul`
     fn visit_f64_mul(&mut self) -> Self::Output
-        requires { can_visit self.old (Op.Numeric (NumericOp.FloatBinary FloatType.F64 FloatBinaryOp.Mul)) }
-        ensures { visits self.old (Op.Numeric (NumericOp.FloatBinary FloatType.F64 FloatBinaryOp.Mul)) result self.new };
+        requires { can_visit self.old (Numeric (FloatBinary FloatType.F64 FloatBinaryOp.Mul)) }
+        ensures { visits self.old (Numeric (FloatBinary FloatType.F64 FloatBinaryOp.Mul)) result self.new };
 
     /// `f64.div`
     fn visit_f64_div(&mut self) -> Self::Output
-        requires { can_visit self.old (Op.Numeric (NumericOp.FloatBinary FloatType.F64 FloatBinaryOp.Div)) }
-        ensures { visits self.old (Op.Numeric (NumericOp.FloatBinary FloatType.F64 FloatBinaryOp.Div)) result self.new };
+        requires { can_visit self.old (Numeric (FloatBinary FloatType.F64 FloatBinaryOp.Div)) }
+        ensures { visits self.old (Numeric (FloatBinary FloatType.F64 FloatBinaryOp.Div)) result self.new };
 
     /// `f64.min`
     fn visit_f64_min(&mut self) -> Self::Output
-        requires { can_visit self.old (Op.Numeric (NumericOp.FloatBinary FloatType.F64 FloatBinaryOp.Min)) }
-        ensures { visits self.old (Op.Numeric (NumericOp.FloatBinary FloatType.F64 FloatBinaryOp.Min)) result self.new };
+        requires { can_visit self.old (Numeric (FloatBinary FloatType.F64 FloatBinaryOp.Min)) }
+        ensures { visits self.old (Numeric (FloatBinary FloatType.F64 FloatBinaryOp.Min)) result self.new };
 
     /// `f64.max`
     fn visit_f64_max(&mut self) -> Self::Output
-        requires { can_visit self.old (Op.Numeric (NumericOp.FloatBinary FloatType.F64 FloatBinaryOp.Max)) }
-        ensures { visits self.old (Op.Numeric (NumericOp.FloatBinary FloatType.F64 FloatBinaryOp.Max)) result self.new };
+        requires { can_visit self.old (Numeric (FloatBinary FloatType.F64 FloatBinaryOp.Max)) }
+        ensures { visits self.old (Numeric (FloatBinary FloatType.F64 FloatBinaryOp.Max)) result self.new };
 
     /// `f64.copysign`
     fn visit_f64_copysign(&mut self) -> Self::Output
-        requires { can_visit self.old (Op.Numeric (NumericOp.FloatBinary FloatType.F64 FloatBinaryOp.Copysign)) }
-        ensures { visits self.old (Op.Numeric (NumericOp.FloatBinary FloatType.F64 FloatBinaryOp.Copysign)) result self.new };
+        requires { can_visit self.old (Numeric (FloatBinary FloatType.F64 FloatBinaryOp.Copysign)) }
+        ensures { visits self.old
+            (Numeric (FloatBinary FloatType.F64 FloatBinaryOp.Copysign)) result self.new };
 
     /// `i64.add128`
     fn visit_i64_add128(&mut self) -> Self::Output
-        requires { can_visit self.old (Op.Numeric NumericOp.Add128) }
-        ensures { visits self.old (Op.Numeric NumericOp.Add128) result self.new };
+        requires { can_visit self.old (Numeric Add128) }
+        ensures { visits self.old (Numeric Add128) result self.new };
 
     /// `i64.sub128`
     fn visit_i64_sub128(&mut self) -> Self::Output
-        requires { can_visit self.old (Op.Numeric NumericOp.Sub128) }
-        ensures { visits self.old (Op.Numeric NumericOp.Sub128) result self.new };
+        requires { can_visit self.old (Numeric Sub128) }
+        ensures { visits self.old (Numeric Sub128) result self.new };
 
     /// `i64.mul_wide_s`
     fn visit_i64_mul_wide_s(&mut self) -> Self::Output
-        requires { can_visit self.old (Op.Numeric (NumericOp.MulWide Sign.Signed)) }
-        ensures { visits self.old (Op.Numeric (NumericOp.MulWide Sign.Signed)) result self.new };
+        requires { can_visit self.old (Numeric (MulWide Signed)) }
+        ensures { visits self.old (Numeric (MulWide Signed)) result self.new };
 
     /// `i64.mul_wide_u`
     fn visit_i64_mul_wide_u(&mut self) -> Self::Output
-        requires { can_visit self.old (Op.Numeric (NumericOp.MulWide Sign.Unsigned)) }
-        ensures { visits self.old (Op.Numeric (NumericOp.MulWide Sign.Unsigned)) result self.new };
+        requires { can_visit self.old (Numeric (MulWide Unsigned)) }
+        ensures { visits self.old (Numeric (MulWide Unsigned)) result self.new };
 
     /// `i32.wrap_i64`
     fn visit_i32_wrap_i64(&mut self) -> Self::Output
@@ -691,93 +790,113 @@ pub trait VisitOperator<'a> {
 
     /// `i32.trunc_f32_s`
     fn visit_i32_trunc_f32_s(&mut self) -> Self::Output
-        requires { can_visit self.old (Op.Convert (ConvertOp.Trunc IntegerType.I32 FloatType.F32 Sign.Signed)) }
-        ensures { visits self.old (Op.Convert (ConvertOp.Trunc IntegerType.I32 FloatType.F32 Sign.Signed)) result self.new };
+        requires { can_visit self.old (Op.Convert (ConvertOp.Trunc IntegerType.I32 FloatType.F32 Signed)) }
+        ensures { visits self.old
+            (Op.Convert (ConvertOp.Trunc IntegerType.I32 FloatType.F32 Signed)) result self.new };
 
     /// `i32.trunc_f32_u`
     fn visit_i32_trunc_f32_u(&mut self) -> Self::Output
-        requires { can_visit self.old (Op.Convert (ConvertOp.Trunc IntegerType.I32 FloatType.F32 Sign.Unsigned)) }
-        ensures { visits self.old (Op.Convert (ConvertOp.Trunc IntegerType.I32 FloatType.F32 Sign.Unsigned)) result self.new };
+        requires { can_visit self.old (Op.Convert (ConvertOp.Trunc IntegerType.I32 FloatType.F32 Unsigned)) }
+        ensures { visits self.old
+            (Op.Convert (ConvertOp.Trunc IntegerType.I32 FloatType.F32 Unsigned)) result self.new };
 
     /// `i32.trunc_f64_s`
     fn visit_i32_trunc_f64_s(&mut self) -> Self::Output
-        requires { can_visit self.old (Op.Convert (ConvertOp.Trunc IntegerType.I32 FloatType.F64 Sign.Signed)) }
-        ensures { visits self.old (Op.Convert (ConvertOp.Trunc IntegerType.I32 FloatType.F64 Sign.Signed)) result self.new };
+        requires { can_visit self.old (Op.Convert (ConvertOp.Trunc IntegerType.I32 FloatType.F64 Signed)) }
+        ensures { visits self.old
+            (Op.Convert (ConvertOp.Trunc IntegerType.I32 FloatType.F64 Signed)) result self.new };
 
     /// `i32.trunc_f64_u`
     fn visit_i32_trunc_f64_u(&mut self) -> Self::Output
-        requires { can_visit self.old (Op.Convert (ConvertOp.Trunc IntegerType.I32 FloatType.F64 Sign.Unsigned)) }
-        ensures { visits self.old (Op.Convert (ConvertOp.Trunc IntegerType.I32 FloatType.F64 Sign.Unsigned)) result self.new };
+        requires { can_visit self.old (Op.Convert (ConvertOp.Trunc IntegerType.I32 FloatType.F64 Unsigned)) }
+        ensures { visits self.old
+            (Op.Convert (ConvertOp.Trunc IntegerType.I32 FloatType.F64 Unsigned)) result self.new };
 
     /// `i64.trunc_f32_s`
     fn visit_i64_trunc_f32_s(&mut self) -> Self::Output
-        requires { can_visit self.old (Op.Convert (ConvertOp.Trunc IntegerType.I64 FloatType.F32 Sign.Signed)) }
-        ensures { visits self.old (Op.Convert (ConvertOp.Trunc IntegerType.I64 FloatType.F32 Sign.Signed)) result self.new };
+        requires { can_visit self.old (Op.Convert (ConvertOp.Trunc IntegerType.I64 FloatType.F32 Signed)) }
+        ensures { visits self.old
+            (Op.Convert (ConvertOp.Trunc IntegerType.I64 FloatType.F32 Signed)) result self.new };
 
     /// `i64.trunc_f32_u`
     fn visit_i64_trunc_f32_u(&mut self) -> Self::Output
-        requires { can_visit self.old (Op.Convert (ConvertOp.Trunc IntegerType.I64 FloatType.F32 Sign.Unsigned)) }
-        ensures { visits self.old (Op.Convert (ConvertOp.Trunc IntegerType.I64 FloatType.F32 Sign.Unsigned)) result self.new };
+        requires { can_visit self.old (Op.Convert (ConvertOp.Trunc IntegerType.I64 FloatType.F32 Unsigned)) }
+        ensures { visits self.old
+            (Op.Convert (ConvertOp.Trunc IntegerType.I64 FloatType.F32 Unsigned)) result self.new };
 
     /// `i64.trunc_f64_s`
     fn visit_i64_trunc_f64_s(&mut self) -> Self::Output
-        requires { can_visit self.old (Op.Convert (ConvertOp.Trunc IntegerType.I64 FloatType.F64 Sign.Signed)) }
-        ensures { visits self.old (Op.Convert (ConvertOp.Trunc IntegerType.I64 FloatType.F64 Sign.Signed)) result self.new };
+        requires { can_visit self.old (Op.Convert (ConvertOp.Trunc IntegerType.I64 FloatType.F64 Signed)) }
+        ensures { visits self.old
+            (Op.Convert (ConvertOp.Trunc IntegerType.I64 FloatType.F64 Signed)) result self.new };
 
     /// `i64.trunc_f64_u`
     fn visit_i64_trunc_f64_u(&mut self) -> Self::Output
-        requires { can_visit self.old (Op.Convert (ConvertOp.Trunc IntegerType.I64 FloatType.F64 Sign.Unsigned)) }
-        ensures { visits self.old (Op.Convert (ConvertOp.Trunc IntegerType.I64 FloatType.F64 Sign.Unsigned)) result self.new };
+        requires { can_visit self.old (Op.Convert (ConvertOp.Trunc IntegerType.I64 FloatType.F64 Unsigned)) }
+        ensures { visits self.old
+            (Op.Convert (ConvertOp.Trunc IntegerType.I64 FloatType.F64 Unsigned)) result self.new };
 
     /// `i64.extend_i32_s`
     fn visit_i64_extend_i32_s(&mut self) -> Self::Output
-        requires { can_visit self.old (Op.Convert (ConvertOp.Extend Sign.Signed)) }
-        ensures { visits self.old (Op.Convert (ConvertOp.Extend Sign.Signed)) result self.new };
+        requires { can_visit self.old (Op.Convert (ConvertOp.Extend Signed)) }
+        ensures { visits self.old (Op.Convert (ConvertOp.Extend Signed)) result self.new };
 
     /// `i64.extend_i32_u`
     fn visit_i64_extend_i32_u(&mut self) -> Self::Output
-        requires { can_visit self.old (Op.Convert (ConvertOp.Extend Sign.Unsigned)) }
-        ensures { visits self.old (Op.Convert (ConvertOp.Extend Sign.Unsigned)) result self.new };
+        requires { can_visit self.old (Op.Convert (ConvertOp.Extend Unsigned)) }
+        ensures { visits self.old (Op.Convert (ConvertOp.Extend Unsigned)) result self.new };
 
     /// `f32.convert_i32_s`
     fn visit_f32_convert_i32_s(&mut self) -> Self::Output
-        requires { can_visit self.old (Op.Convert (ConvertOp.Convert FloatType.F32 IntegerType.I32 Sign.Signed)) }
-        ensures { visits self.old (Op.Convert (ConvertOp.Convert FloatType.F32 IntegerType.I32 Sign.Signed)) result self.new };
+        requires { can_visit self.old (Op.Convert (ConvertOp.Convert FloatType.F32 IntegerType.I32 Signed)) }
+        ensures { visits self.old
+            (Op.Convert (ConvertOp.Convert FloatType.F32 IntegerType.I32 Signed)) result self.new };
 
     /// `f32.convert_i32_u`
     fn visit_f32_convert_i32_u(&mut self) -> Self::Output
-        requires { can_visit self.old (Op.Convert (ConvertOp.Convert FloatType.F32 IntegerType.I32 Sign.Unsigned)) }
-        ensures { visits self.old (Op.Convert (ConvertOp.Convert FloatType.F32 IntegerType.I32 Sign.Unsigned)) result self.new };
+        requires { can_visit self.old
+            (Op.Convert (ConvertOp.Convert FloatType.F32 IntegerType.I32 Unsigned)) }
+        ensures { visits self.old
+            (Op.Convert (ConvertOp.Convert FloatType.F32 IntegerType.I32 Unsigned)) result self.new };
 
     /// `f32.convert_i64_s`
     fn visit_f32_convert_i64_s(&mut self) -> Self::Output
-        requires { can_visit self.old (Op.Convert (ConvertOp.Convert FloatType.F32 IntegerType.I64 Sign.Signed)) }
-        ensures { visits self.old (Op.Convert (ConvertOp.Convert FloatType.F32 IntegerType.I64 Sign.Signed)) result self.new };
+        requires { can_visit self.old (Op.Convert (ConvertOp.Convert FloatType.F32 IntegerType.I64 Signed)) }
+        ensures { visits self.old
+            (Op.Convert (ConvertOp.Convert FloatType.F32 IntegerType.I64 Signed)) result self.new };
 
     /// `f32.convert_i64_u`
     fn visit_f32_convert_i64_u(&mut self) -> Self::Output
-        requires { can_visit self.old (Op.Convert (ConvertOp.Convert FloatType.F32 IntegerType.I64 Sign.Unsigned)) }
-        ensures { visits self.old (Op.Convert (ConvertOp.Convert FloatType.F32 IntegerType.I64 Sign.Unsigned)) result self.new };
+        requires { can_visit self.old
+            (Op.Convert (ConvertOp.Convert FloatType.F32 IntegerType.I64 Unsigned)) }
+        ensures { visits self.old
+            (Op.Convert (ConvertOp.Convert FloatType.F32 IntegerType.I64 Unsigned)) result self.new };
 
     /// `f64.convert_i32_s`
     fn visit_f64_convert_i32_s(&mut self) -> Self::Output
-        requires { can_visit self.old (Op.Convert (ConvertOp.Convert FloatType.F64 IntegerType.I32 Sign.Signed)) }
-        ensures { visits self.old (Op.Convert (ConvertOp.Convert FloatType.F64 IntegerType.I32 Sign.Signed)) result self.new };
+        requires { can_visit self.old (Op.Convert (ConvertOp.Convert FloatType.F64 IntegerType.I32 Signed)) }
+        ensures { visits self.old
+            (Op.Convert (ConvertOp.Convert FloatType.F64 IntegerType.I32 Signed)) result self.new };
 
     /// `f64.convert_i32_u`
     fn visit_f64_convert_i32_u(&mut self) -> Self::Output
-        requires { can_visit self.old (Op.Convert (ConvertOp.Convert FloatType.F64 IntegerType.I32 Sign.Unsigned)) }
-        ensures { visits self.old (Op.Convert (ConvertOp.Convert FloatType.F64 IntegerType.I32 Sign.Unsigned)) result self.new };
+        requires { can_visit self.old
+            (Op.Convert (ConvertOp.Convert FloatType.F64 IntegerType.I32 Unsigned)) }
+        ensures { visits self.old
+            (Op.Convert (ConvertOp.Convert FloatType.F64 IntegerType.I32 Unsigned)) result self.new };
 
     /// `f64.convert_i64_s`
     fn visit_f64_convert_i64_s(&mut self) -> Self::Output
-        requires { can_visit self.old (Op.Convert (ConvertOp.Convert FloatType.F64 IntegerType.I64 Sign.Signed)) }
-        ensures { visits self.old (Op.Convert (ConvertOp.Convert FloatType.F64 IntegerType.I64 Sign.Signed)) result self.new };
+        requires { can_visit self.old (Op.Convert (ConvertOp.Convert FloatType.F64 IntegerType.I64 Signed)) }
+        ensures { visits self.old
+            (Op.Convert (ConvertOp.Convert FloatType.F64 IntegerType.I64 Signed)) result self.new };
 
     /// `f64.convert_i64_u`
     fn visit_f64_convert_i64_u(&mut self) -> Self::Output
-        requires { can_visit self.old (Op.Convert (ConvertOp.Convert FloatType.F64 IntegerType.I64 Sign.Unsigned)) }
-        ensures { visits self.old (Op.Convert (ConvertOp.Convert FloatType.F64 IntegerType.I64 Sign.Unsigned)) result self.new };
+        requires { can_visit self.old
+            (Op.Convert (ConvertOp.Convert FloatType.F64 IntegerType.I64 Unsigned)) }
+        ensures { visits self.old
+            (Op.Convert (ConvertOp.Convert FloatType.F64 IntegerType.I64 Unsigned)) result self.new };
 
     /// `f32.demote_f64`
     fn visit_f32_demote_f64(&mut self) -> Self::Output
@@ -811,68 +930,80 @@ pub trait VisitOperator<'a> {
 
     /// `i32.extend8_s`
     fn visit_i32_extend8_s(&mut self) -> Self::Output
-        requires { can_visit self.old (Op.Convert (ConvertOp.ExtendPacked PackedInteger.I32Bits8)) }
-        ensures { visits self.old (Op.Convert (ConvertOp.ExtendPacked PackedInteger.I32Bits8)) result self.new };
+        requires { can_visit self.old (Op.Convert (ConvertOp.ExtendPacked I32Bits8)) }
+        ensures { visits self.old (Op.Convert (ConvertOp.ExtendPacked I32Bits8)) result self.new };
 
     /// `i32.extend16_s`
     fn visit_i32_extend16_s(&mut self) -> Self::Output
-        requires { can_visit self.old (Op.Convert (ConvertOp.ExtendPacked PackedInteger.I32Bits16)) }
-        ensures { visits self.old (Op.Convert (ConvertOp.ExtendPacked PackedInteger.I32Bits16)) result self.new };
+        requires { can_visit self.old (Op.Convert (ConvertOp.ExtendPacked I32Bits16)) }
+        ensures { visits self.old (Op.Convert (ConvertOp.ExtendPacked I32Bits16)) result self.new };
 
     /// `i64.extend8_s`
     fn visit_i64_extend8_s(&mut self) -> Self::Output
-        requires { can_visit self.old (Op.Convert (ConvertOp.ExtendPacked PackedInteger.I64Bits8)) }
-        ensures { visits self.old (Op.Convert (ConvertOp.ExtendPacked PackedInteger.I64Bits8)) result self.new };
+        requires { can_visit self.old (Op.Convert (ConvertOp.ExtendPacked I64Bits8)) }
+        ensures { visits self.old (Op.Convert (ConvertOp.ExtendPacked I64Bits8)) result self.new };
 
     /// `i64.extend16_s`
     fn visit_i64_extend16_s(&mut self) -> Self::Output
-        requires { can_visit self.old (Op.Convert (ConvertOp.ExtendPacked PackedInteger.I64Bits16)) }
-        ensures { visits self.old (Op.Convert (ConvertOp.ExtendPacked PackedInteger.I64Bits16)) result self.new };
+        requires { can_visit self.old (Op.Convert (ConvertOp.ExtendPacked I64Bits16)) }
+        ensures { visits self.old (Op.Convert (ConvertOp.ExtendPacked I64Bits16)) result self.new };
 
     /// `i64.extend32_s`
     fn visit_i64_extend32_s(&mut self) -> Self::Output
-        requires { can_visit self.old (Op.Convert (ConvertOp.ExtendPacked PackedInteger.I64Bits32)) }
-        ensures { visits self.old (Op.Convert (ConvertOp.ExtendPacked PackedInteger.I64Bits32)) result self.new };
+        requires { can_visit self.old (Op.Convert (ConvertOp.ExtendPacked I64Bits32)) }
+        ensures { visits self.old (Op.Convert (ConvertOp.ExtendPacked I64Bits32)) result self.new };
 
     /// `i32.trunc_sat_f32_s`
     fn visit_i32_trunc_sat_f32_s(&mut self) -> Self::Output
-        requires { can_visit self.old (Op.Convert (ConvertOp.TruncSat IntegerType.I32 FloatType.F32 Sign.Signed)) }
-        ensures { visits self.old (Op.Convert (ConvertOp.TruncSat IntegerType.I32 FloatType.F32 Sign.Signed)) result self.new };
+        requires { can_visit self.old (Op.Convert (ConvertOp.TruncSat IntegerType.I32 FloatType.F32 Signed)) }
+        ensures { visits self.old
+            (Op.Convert (ConvertOp.TruncSat IntegerType.I32 FloatType.F32 Signed)) result self.new };
 
     /// `i32.trunc_sat_f32_u`
     fn visit_i32_trunc_sat_f32_u(&mut self) -> Self::Output
-        requires { can_visit self.old (Op.Convert (ConvertOp.TruncSat IntegerType.I32 FloatType.F32 Sign.Unsigned)) }
-        ensures { visits self.old (Op.Convert (ConvertOp.TruncSat IntegerType.I32 FloatType.F32 Sign.Unsigned)) result self.new };
+        requires { can_visit self.old
+            (Op.Convert (ConvertOp.TruncSat IntegerType.I32 FloatType.F32 Unsigned)) }
+        ensures { visits self.old
+            (Op.Convert (ConvertOp.TruncSat IntegerType.I32 FloatType.F32 Unsigned)) result self.new };
 
     /// `i32.trunc_sat_f64_s`
     fn visit_i32_trunc_sat_f64_s(&mut self) -> Self::Output
-        requires { can_visit self.old (Op.Convert (ConvertOp.TruncSat IntegerType.I32 FloatType.F64 Sign.Signed)) }
-        ensures { visits self.old (Op.Convert (ConvertOp.TruncSat IntegerType.I32 FloatType.F64 Sign.Signed)) result self.new };
+        requires { can_visit self.old (Op.Convert (ConvertOp.TruncSat IntegerType.I32 FloatType.F64 Signed)) }
+        ensures { visits self.old
+            (Op.Convert (ConvertOp.TruncSat IntegerType.I32 FloatType.F64 Signed)) result self.new };
 
     /// `i32.trunc_sat_f64_u`
     fn visit_i32_trunc_sat_f64_u(&mut self) -> Self::Output
-        requires { can_visit self.old (Op.Convert (ConvertOp.TruncSat IntegerType.I32 FloatType.F64 Sign.Unsigned)) }
-        ensures { visits self.old (Op.Convert (ConvertOp.TruncSat IntegerType.I32 FloatType.F64 Sign.Unsigned)) result self.new };
+        requires { can_visit self.old
+            (Op.Convert (ConvertOp.TruncSat IntegerType.I32 FloatType.F64 Unsigned)) }
+        ensures { visits self.old
+            (Op.Convert (ConvertOp.TruncSat IntegerType.I32 FloatType.F64 Unsigned)) result self.new };
 
     /// `i64.trunc_sat_f32_s`
     fn visit_i64_trunc_sat_f32_s(&mut self) -> Self::Output
-        requires { can_visit self.old (Op.Convert (ConvertOp.TruncSat IntegerType.I64 FloatType.F32 Sign.Signed)) }
-        ensures { visits self.old (Op.Convert (ConvertOp.TruncSat IntegerType.I64 FloatType.F32 Sign.Signed)) result self.new };
+        requires { can_visit self.old (Op.Convert (ConvertOp.TruncSat IntegerType.I64 FloatType.F32 Signed)) }
+        ensures { visits self.old
+            (Op.Convert (ConvertOp.TruncSat IntegerType.I64 FloatType.F32 Signed)) result self.new };
 
     /// `i64.trunc_sat_f32_u`
     fn visit_i64_trunc_sat_f32_u(&mut self) -> Self::Output
-        requires { can_visit self.old (Op.Convert (ConvertOp.TruncSat IntegerType.I64 FloatType.F32 Sign.Unsigned)) }
-        ensures { visits self.old (Op.Convert (ConvertOp.TruncSat IntegerType.I64 FloatType.F32 Sign.Unsigned)) result self.new };
+        requires { can_visit self.old
+            (Op.Convert (ConvertOp.TruncSat IntegerType.I64 FloatType.F32 Unsigned)) }
+        ensures { visits self.old
+            (Op.Convert (ConvertOp.TruncSat IntegerType.I64 FloatType.F32 Unsigned)) result self.new };
 
     /// `i64.trunc_sat_f64_s`
     fn visit_i64_trunc_sat_f64_s(&mut self) -> Self::Output
-        requires { can_visit self.old (Op.Convert (ConvertOp.TruncSat IntegerType.I64 FloatType.F64 Sign.Signed)) }
-        ensures { visits self.old (Op.Convert (ConvertOp.TruncSat IntegerType.I64 FloatType.F64 Sign.Signed)) result self.new };
+        requires { can_visit self.old (Op.Convert (ConvertOp.TruncSat IntegerType.I64 FloatType.F64 Signed)) }
+        ensures { visits self.old
+            (Op.Convert (ConvertOp.TruncSat IntegerType.I64 FloatType.F64 Signed)) result self.new };
 
     /// `i64.trunc_sat_f64_u`
     fn visit_i64_trunc_sat_f64_u(&mut self) -> Self::Output
-        requires { can_visit self.old (Op.Convert (ConvertOp.TruncSat IntegerType.I64 FloatType.F64 Sign.Unsigned)) }
-        ensures { visits self.old (Op.Convert (ConvertOp.TruncSat IntegerType.I64 FloatType.F64 Sign.Unsigned)) result self.new };
+        requires { can_visit self.old
+            (Op.Convert (ConvertOp.TruncSat IntegerType.I64 FloatType.F64 Unsigned)) }
+        ensures { visits self.old
+            (Op.Convert (ConvertOp.TruncSat IntegerType.I64 FloatType.F64 Unsigned)) result self.new };
 
     /// `i32.load`
     fn visit_i32_load(&mut self, memarg: MemArg) -> Self::Output
@@ -896,53 +1027,58 @@ pub trait VisitOperator<'a> {
 
     /// `i32.load8_s`
     fn visit_i32_load8_s(&mut self, memarg: MemArg) -> Self::Output
-        requires { can_visit self.old (Op.Memory (MemoryOp.LoadPacked PackedInteger.I32Bits8 Sign.Signed memarg)) }
-        ensures { visits self.old (Op.Memory (MemoryOp.LoadPacked PackedInteger.I32Bits8 Sign.Signed memarg)) result self.new };
+        requires { can_visit self.old (Op.Memory (MemoryOp.LoadPacked I32Bits8 Signed memarg)) }
+        ensures { visits self.old (Op.Memory (MemoryOp.LoadPacked I32Bits8 Signed memarg)) result self.new };
 
     /// `i32.load8_u`
     fn visit_i32_load8_u(&mut self, memarg: MemArg) -> Self::Output
-        requires { can_visit self.old (Op.Memory (MemoryOp.LoadPacked PackedInteger.I32Bits8 Sign.Unsigned memarg)) }
-        ensures { visits self.old (Op.Memory (MemoryOp.LoadPacked PackedInteger.I32Bits8 Sign.Unsigned memarg)) result self.new };
+        requires { can_visit self.old (Op.Memory (MemoryOp.LoadPacked I32Bits8 Unsigned memarg)) }
+        ensures { visits self.old
+            (Op.Memory (MemoryOp.LoadPacked I32Bits8 Unsigned memarg)) result self.new };
 
     /// `i32.load16_s`
     fn visit_i32_load16_s(&mut self, memarg: MemArg) -> Self::Output
-        requires { can_visit self.old (Op.Memory (MemoryOp.LoadPacked PackedInteger.I32Bits16 Sign.Signed memarg)) }
-        ensures { visits self.old (Op.Memory (MemoryOp.LoadPacked PackedInteger.I32Bits16 Sign.Signed memarg)) result self.new };
+        requires { can_visit self.old (Op.Memory (MemoryOp.LoadPacked I32Bits16 Signed memarg)) }
+        ensures { visits self.old (Op.Memory (MemoryOp.LoadPacked I32Bits16 Signed memarg)) result self.new };
 
     /// `i32.load16_u`
     fn visit_i32_load16_u(&mut self, memarg: MemArg) -> Self::Output
-        requires { can_visit self.old (Op.Memory (MemoryOp.LoadPacked PackedInteger.I32Bits16 Sign.Unsigned memarg)) }
-        ensures { visits self.old (Op.Memory (MemoryOp.LoadPacked PackedInteger.I32Bits16 Sign.Unsigned memarg)) result self.new };
+        requires { can_visit self.old (Op.Memory (MemoryOp.LoadPacked I32Bits16 Unsigned memarg)) }
+        ensures { visits self.old
+            (Op.Memory (MemoryOp.LoadPacked I32Bits16 Unsigned memarg)) result self.new };
 
     /// `i64.load8_s`
     fn visit_i64_load8_s(&mut self, memarg: MemArg) -> Self::Output
-        requires { can_visit self.old (Op.Memory (MemoryOp.LoadPacked PackedInteger.I64Bits8 Sign.Signed memarg)) }
-        ensures { visits self.old (Op.Memory (MemoryOp.LoadPacked PackedInteger.I64Bits8 Sign.Signed memarg)) result self.new };
+        requires { can_visit self.old (Op.Memory (MemoryOp.LoadPacked I64Bits8 Signed memarg)) }
+        ensures { visits self.old (Op.Memory (MemoryOp.LoadPacked I64Bits8 Signed memarg)) result self.new };
 
     /// `i64.load8_u`
     fn visit_i64_load8_u(&mut self, memarg: MemArg) -> Self::Output
-        requires { can_visit self.old (Op.Memory (MemoryOp.LoadPacked PackedInteger.I64Bits8 Sign.Unsigned memarg)) }
-        ensures { visits self.old (Op.Memory (MemoryOp.LoadPacked PackedInteger.I64Bits8 Sign.Unsigned memarg)) result self.new };
+        requires { can_visit self.old (Op.Memory (MemoryOp.LoadPacked I64Bits8 Unsigned memarg)) }
+        ensures { visits self.old
+            (Op.Memory (MemoryOp.LoadPacked I64Bits8 Unsigned memarg)) result self.new };
 
     /// `i64.load16_s`
     fn visit_i64_load16_s(&mut self, memarg: MemArg) -> Self::Output
-        requires { can_visit self.old (Op.Memory (MemoryOp.LoadPacked PackedInteger.I64Bits16 Sign.Signed memarg)) }
-        ensures { visits self.old (Op.Memory (MemoryOp.LoadPacked PackedInteger.I64Bits16 Sign.Signed memarg)) result self.new };
+        requires { can_visit self.old (Op.Memory (MemoryOp.LoadPacked I64Bits16 Signed memarg)) }
+        ensures { visits self.old (Op.Memory (MemoryOp.LoadPacked I64Bits16 Signed memarg)) result self.new };
 
     /// `i64.load16_u`
     fn visit_i64_load16_u(&mut self, memarg: MemArg) -> Self::Output
-        requires { can_visit self.old (Op.Memory (MemoryOp.LoadPacked PackedInteger.I64Bits16 Sign.Unsigned memarg)) }
-        ensures { visits self.old (Op.Memory (MemoryOp.LoadPacked PackedInteger.I64Bits16 Sign.Unsigned memarg)) result self.new };
+        requires { can_visit self.old (Op.Memory (MemoryOp.LoadPacked I64Bits16 Unsigned memarg)) }
+        ensures { visits self.old
+            (Op.Memory (MemoryOp.LoadPacked I64Bits16 Unsigned memarg)) result self.new };
 
     /// `i64.load32_s`
     fn visit_i64_load32_s(&mut self, memarg: MemArg) -> Self::Output
-        requires { can_visit self.old (Op.Memory (MemoryOp.LoadPacked PackedInteger.I64Bits32 Sign.Signed memarg)) }
-        ensures { visits self.old (Op.Memory (MemoryOp.LoadPacked PackedInteger.I64Bits32 Sign.Signed memarg)) result self.new };
+        requires { can_visit self.old (Op.Memory (MemoryOp.LoadPacked I64Bits32 Signed memarg)) }
+        ensures { visits self.old (Op.Memory (MemoryOp.LoadPacked I64Bits32 Signed memarg)) result self.new };
 
     /// `i64.load32_u`
     fn visit_i64_load32_u(&mut self, memarg: MemArg) -> Self::Output
-        requires { can_visit self.old (Op.Memory (MemoryOp.LoadPacked PackedInteger.I64Bits32 Sign.Unsigned memarg)) }
-        ensures { visits self.old (Op.Memory (MemoryOp.LoadPacked PackedInteger.I64Bits32 Sign.Unsigned memarg)) result self.new };
+        requires { can_visit self.old (Op.Memory (MemoryOp.LoadPacked I64Bits32 Unsigned memarg)) }
+        ensures { visits self.old
+            (Op.Memory (MemoryOp.LoadPacked I64Bits32 Unsigned memarg)) result self.new };
 
     /// `i32.store`
     fn visit_i32_store(&mut self, memarg: MemArg) -> Self::Output
@@ -966,28 +1102,28 @@ pub trait VisitOperator<'a> {
 
     /// `i32.store8`
     fn visit_i32_store8(&mut self, memarg: MemArg) -> Self::Output
-        requires { can_visit self.old (Op.Memory (MemoryOp.StorePacked PackedInteger.I32Bits8 memarg)) }
-        ensures { visits self.old (Op.Memory (MemoryOp.StorePacked PackedInteger.I32Bits8 memarg)) result self.new };
+        requires { can_visit self.old (Op.Memory (MemoryOp.StorePacked I32Bits8 memarg)) }
+        ensures { visits self.old (Op.Memory (MemoryOp.StorePacked I32Bits8 memarg)) result self.new };
 
     /// `i32.store16`
     fn visit_i32_store16(&mut self, memarg: MemArg) -> Self::Output
-        requires { can_visit self.old (Op.Memory (MemoryOp.StorePacked PackedInteger.I32Bits16 memarg)) }
-        ensures { visits self.old (Op.Memory (MemoryOp.StorePacked PackedInteger.I32Bits16 memarg)) result self.new };
+        requires { can_visit self.old (Op.Memory (MemoryOp.StorePacked I32Bits16 memarg)) }
+        ensures { visits self.old (Op.Memory (MemoryOp.StorePacked I32Bits16 memarg)) result self.new };
 
     /// `i64.store8`
     fn visit_i64_store8(&mut self, memarg: MemArg) -> Self::Output
-        requires { can_visit self.old (Op.Memory (MemoryOp.StorePacked PackedInteger.I64Bits8 memarg)) }
-        ensures { visits self.old (Op.Memory (MemoryOp.StorePacked PackedInteger.I64Bits8 memarg)) result self.new };
+        requires { can_visit self.old (Op.Memory (MemoryOp.StorePacked I64Bits8 memarg)) }
+        ensures { visits self.old (Op.Memory (MemoryOp.StorePacked I64Bits8 memarg)) result self.new };
 
     /// `i64.store16`
     fn visit_i64_store16(&mut self, memarg: MemArg) -> Self::Output
-        requires { can_visit self.old (Op.Memory (MemoryOp.StorePacked PackedInteger.I64Bits16 memarg)) }
-        ensures { visits self.old (Op.Memory (MemoryOp.StorePacked PackedInteger.I64Bits16 memarg)) result self.new };
+        requires { can_visit self.old (Op.Memory (MemoryOp.StorePacked I64Bits16 memarg)) }
+        ensures { visits self.old (Op.Memory (MemoryOp.StorePacked I64Bits16 memarg)) result self.new };
 
     /// `i64.store32`
     fn visit_i64_store32(&mut self, memarg: MemArg) -> Self::Output
-        requires { can_visit self.old (Op.Memory (MemoryOp.StorePacked PackedInteger.I64Bits32 memarg)) }
-        ensures { visits self.old (Op.Memory (MemoryOp.StorePacked PackedInteger.I64Bits32 memarg)) result self.new };
+        requires { can_visit self.old (Op.Memory (MemoryOp.StorePacked I64Bits32 memarg)) }
+        ensures { visits self.old (Op.Memory (MemoryOp.StorePacked I64Bits32 memarg)) result self.new };
 
     /// `memory.size`
     fn visit_memory_size(&mut self, mem: u32) -> Self::Output
@@ -1026,343 +1162,385 @@ pub trait VisitOperator<'a> {
 
     /// `memory.atomic.notify`
     fn visit_memory_atomic_notify(&mut self, memarg: MemArg) -> Self::Output
-        requires { can_visit self.old (Op.Atomic (AtomicOp.AtomicNotify memarg)) }
-        ensures { visits self.old (Op.Atomic (AtomicOp.AtomicNotify memarg)) result self.new };
+        requires { can_visit self.old (Atomic (AtomicNotify memarg)) }
+        ensures { visits self.old (Atomic (AtomicNotify memarg)) result self.new };
 
     /// `memory.atomic.wait32`
     fn visit_memory_atomic_wait32(&mut self, memarg: MemArg) -> Self::Output
-        requires { can_visit self.old (Op.Atomic (AtomicOp.AtomicWait IntegerType.I32 memarg)) }
-        ensures { visits self.old (Op.Atomic (AtomicOp.AtomicWait IntegerType.I32 memarg)) result self.new };
+        requires { can_visit self.old (Atomic (AtomicWait IntegerType.I32 memarg)) }
+        ensures { visits self.old (Atomic (AtomicWait IntegerType.I32 memarg)) result self.new };
 
     /// `memory.atomic.wait64`
     fn visit_memory_atomic_wait64(&mut self, memarg: MemArg) -> Self::Output
-        requires { can_visit self.old (Op.Atomic (AtomicOp.AtomicWait IntegerType.I64 memarg)) }
-        ensures { visits self.old (Op.Atomic (AtomicOp.AtomicWait IntegerType.I64 memarg)) result self.new };
+        requires { can_visit self.old (Atomic (AtomicWait IntegerType.I64 memarg)) }
+        ensures { visits self.old (Atomic (AtomicWait IntegerType.I64 memarg)) result self.new };
 
     /// `atomic.fence`
     fn visit_atomic_fence(&mut self, ordering: Ordering) -> Self::Output
-        requires { can_visit self.old (Op.Atomic (AtomicOp.AtomicFence ordering)) }
-        ensures { visits self.old (Op.Atomic (AtomicOp.AtomicFence ordering)) result self.new };
+        requires { can_visit self.old (Atomic (AtomicFence ordering)) }
+        ensures { visits self.old (Atomic (AtomicFence ordering)) result self.new };
 
     /// `i32.atomic.load`
     fn visit_i32_atomic_load(&mut self, memarg: MemArg) -> Self::Output
-        requires { can_visit self.old (Op.Atomic (AtomicOp.AtomicLoad (AtomicAccess.Whole IntegerType.I32) memarg)) }
-        ensures { visits self.old (Op.Atomic (AtomicOp.AtomicLoad (AtomicAccess.Whole IntegerType.I32) memarg)) result self.new };
+        requires { can_visit self.old (Atomic (AtomicLoad (Whole IntegerType.I32) memarg)) }
+        ensures { visits self.old (Atomic (AtomicLoad (Whole IntegerType.I32) memarg)) result self.new };
 
     /// `i64.atomic.load`
     fn visit_i64_atomic_load(&mut self, memarg: MemArg) -> Self::Output
-        requires { can_visit self.old (Op.Atomic (AtomicOp.AtomicLoad (AtomicAccess.Whole IntegerType.I64) memarg)) }
-        ensures { visits self.old (Op.Atomic (AtomicOp.AtomicLoad (AtomicAccess.Whole IntegerType.I64) memarg)) result self.new };
+        requires { can_visit self.old (Atomic (AtomicLoad (Whole IntegerType.I64) memarg)) }
+        ensures { visits self.old (Atomic (AtomicLoad (Whole IntegerType.I64) memarg)) result self.new };
 
     /// `i32.atomic.load8_u`
     fn visit_i32_atomic_load8_u(&mut self, memarg: MemArg) -> Self::Output
-        requires { can_visit self.old (Op.Atomic (AtomicOp.AtomicLoad (AtomicAccess.Packed PackedInteger.I32Bits8) memarg)) }
-        ensures { visits self.old (Op.Atomic (AtomicOp.AtomicLoad (AtomicAccess.Packed PackedInteger.I32Bits8) memarg)) result self.new };
+        requires { can_visit self.old (Atomic (AtomicLoad (Packed I32Bits8) memarg)) }
+        ensures { visits self.old (Atomic (AtomicLoad (Packed I32Bits8) memarg)) result self.new };
 
     /// `i32.atomic.load16_u`
     fn visit_i32_atomic_load16_u(&mut self, memarg: MemArg) -> Self::Output
-        requires { can_visit self.old (Op.Atomic (AtomicOp.AtomicLoad (AtomicAccess.Packed PackedInteger.I32Bits16) memarg)) }
-        ensures { visits self.old (Op.Atomic (AtomicOp.AtomicLoad (AtomicAccess.Packed PackedInteger.I32Bits16) memarg)) result self.new };
+        requires { can_visit self.old (Atomic (AtomicLoad (Packed I32Bits16) memarg)) }
+        ensures { visits self.old (Atomic (AtomicLoad (Packed I32Bits16) memarg)) result self.new };
 
     /// `i64.atomic.load8_u`
     fn visit_i64_atomic_load8_u(&mut self, memarg: MemArg) -> Self::Output
-        requires { can_visit self.old (Op.Atomic (AtomicOp.AtomicLoad (AtomicAccess.Packed PackedInteger.I64Bits8) memarg)) }
-        ensures { visits self.old (Op.Atomic (AtomicOp.AtomicLoad (AtomicAccess.Packed PackedInteger.I64Bits8) memarg)) result self.new };
+        requires { can_visit self.old (Atomic (AtomicLoad (Packed I64Bits8) memarg)) }
+        ensures { visits self.old (Atomic (AtomicLoad (Packed I64Bits8) memarg)) result self.new };
 
     /// `i64.atomic.load16_u`
     fn visit_i64_atomic_load16_u(&mut self, memarg: MemArg) -> Self::Output
-        requires { can_visit self.old (Op.Atomic (AtomicOp.AtomicLoad (AtomicAccess.Packed PackedInteger.I64Bits16) memarg)) }
-        ensures { visits self.old (Op.Atomic (AtomicOp.AtomicLoad (AtomicAccess.Packed PackedInteger.I64Bits16) memarg)) result self.new };
+        requires { can_visit self.old (Atomic (AtomicLoad (Packed I64Bits16) memarg)) }
+        ensures { visits self.old (Atomic (AtomicLoad (Packed I64Bits16) memarg)) result self.new };
 
     /// `i64.atomic.load32_u`
     fn visit_i64_atomic_load32_u(&mut self, memarg: MemArg) -> Self::Output
-        requires { can_visit self.old (Op.Atomic (AtomicOp.AtomicLoad (AtomicAccess.Packed PackedInteger.I64Bits32) memarg)) }
-        ensures { visits self.old (Op.Atomic (AtomicOp.AtomicLoad (AtomicAccess.Packed PackedInteger.I64Bits32) memarg)) result self.new };
+        requires { can_visit self.old (Atomic (AtomicLoad (Packed I64Bits32) memarg)) }
+        ensures { visits self.old (Atomic (AtomicLoad (Packed I64Bits32) memarg)) result self.new };
 
     /// `i32.atomic.store`
     fn visit_i32_atomic_store(&mut self, memarg: MemArg) -> Self::Output
-        requires { can_visit self.old (Op.Atomic (AtomicOp.AtomicStore (AtomicAccess.Whole IntegerType.I32) memarg)) }
-        ensures { visits self.old (Op.Atomic (AtomicOp.AtomicStore (AtomicAccess.Whole IntegerType.I32) memarg)) result self.new };
+        requires { can_visit self.old (Atomic (AtomicStore (Whole IntegerType.I32) memarg)) }
+        ensures { visits self.old (Atomic (AtomicStore (Whole IntegerType.I32) memarg)) result self.new };
 
     /// `i64.atomic.store`
     fn visit_i64_atomic_store(&mut self, memarg: MemArg) -> Self::Output
-        requires { can_visit self.old (Op.Atomic (AtomicOp.AtomicStore (AtomicAccess.Whole IntegerType.I64) memarg)) }
-        ensures { visits self.old (Op.Atomic (AtomicOp.AtomicStore (AtomicAccess.Whole IntegerType.I64) memarg)) result self.new };
+        requires { can_visit self.old (Atomic (AtomicStore (Whole IntegerType.I64) memarg)) }
+        ensures { visits self.old (Atomic (AtomicStore (Whole IntegerType.I64) memarg)) result self.new };
 
     /// `i32.atomic.store8`
     fn visit_i32_atomic_store8(&mut self, memarg: MemArg) -> Self::Output
-        requires { can_visit self.old (Op.Atomic (AtomicOp.AtomicStore (AtomicAccess.Packed PackedInteger.I32Bits8) memarg)) }
-        ensures { visits self.old (Op.Atomic (AtomicOp.AtomicStore (AtomicAccess.Packed PackedInteger.I32Bits8) memarg)) result self.new };
+        requires { can_visit self.old (Atomic (AtomicStore (Packed I32Bits8) memarg)) }
+        ensures { visits self.old (Atomic (AtomicStore (Packed I32Bits8) memarg)) result self.new };
 
     /// `i32.atomic.store16`
     fn visit_i32_atomic_store16(&mut self, memarg: MemArg) -> Self::Output
-        requires { can_visit self.old (Op.Atomic (AtomicOp.AtomicStore (AtomicAccess.Packed PackedInteger.I32Bits16) memarg)) }
-        ensures { visits self.old (Op.Atomic (AtomicOp.AtomicStore (AtomicAccess.Packed PackedInteger.I32Bits16) memarg)) result self.new };
+        requires { can_visit self.old (Atomic (AtomicStore (Packed I32Bits16) memarg)) }
+        ensures { visits self.old (Atomic (AtomicStore (Packed I32Bits16) memarg)) result self.new };
 
     /// `i64.atomic.store8`
     fn visit_i64_atomic_store8(&mut self, memarg: MemArg) -> Self::Output
-        requires { can_visit self.old (Op.Atomic (AtomicOp.AtomicStore (AtomicAccess.Packed PackedInteger.I64Bits8) memarg)) }
-        ensures { visits self.old (Op.Atomic (AtomicOp.AtomicStore (AtomicAccess.Packed PackedInteger.I64Bits8) memarg)) result self.new };
+        requires { can_visit self.old (Atomic (AtomicStore (Packed I64Bits8) memarg)) }
+        ensures { visits self.old (Atomic (AtomicStore (Packed I64Bits8) memarg)) result self.new };
 
     /// `i64.atomic.store16`
     fn visit_i64_atomic_store16(&mut self, memarg: MemArg) -> Self::Output
-        requires { can_visit self.old (Op.Atomic (AtomicOp.AtomicStore (AtomicAccess.Packed PackedInteger.I64Bits16) memarg)) }
-        ensures { visits self.old (Op.Atomic (AtomicOp.AtomicStore (AtomicAccess.Packed PackedInteger.I64Bits16) memarg)) result self.new };
+        requires { can_visit self.old (Atomic (AtomicStore (Packed I64Bits16) memarg)) }
+        ensures { visits self.old (Atomic (AtomicStore (Packed I64Bits16) memarg)) result self.new };
 
     /// `i64.atomic.store32`
     fn visit_i64_atomic_store32(&mut self, memarg: MemArg) -> Self::Output
-        requires { can_visit self.old (Op.Atomic (AtomicOp.AtomicStore (AtomicAccess.Packed PackedInteger.I64Bits32) memarg)) }
-        ensures { visits self.old (Op.Atomic (AtomicOp.AtomicStore (AtomicAccess.Packed PackedInteger.I64Bits32) memarg)) result self.new };
+        requires { can_visit self.old (Atomic (AtomicStore (Packed I64Bits32) memarg)) }
+        ensures { visits self.old (Atomic (AtomicStore (Packed I64Bits32) memarg)) result self.new };
 
     /// `i32.atomic.rmw.add`
     fn visit_i32_atomic_rmw_add(&mut self, memarg: MemArg) -> Self::Output
-        requires { can_visit self.old (Op.Atomic (AtomicOp.AtomicRmw (AtomicAccess.Whole IntegerType.I32) AtomicRmwOp.Add memarg)) }
-        ensures { visits self.old (Op.Atomic (AtomicOp.AtomicRmw (AtomicAccess.Whole IntegerType.I32) AtomicRmwOp.Add memarg)) result self.new };
+        requires { can_visit self.old (Atomic (AtomicRmw (Whole IntegerType.I32) AtomicRmwOp.Add memarg)) }
+        ensures { visits self.old
+            (Atomic (AtomicRmw (Whole IntegerType.I32) AtomicRmwOp.Add memarg)) result self.new };
 
     /// `i64.atomic.rmw.add`
     fn visit_i64_atomic_rmw_add(&mut self, memarg: MemArg) -> Self::Output
-        requires { can_visit self.old (Op.Atomic (AtomicOp.AtomicRmw (AtomicAccess.Whole IntegerType.I64) AtomicRmwOp.Add memarg)) }
-        ensures { visits self.old (Op.Atomic (AtomicOp.AtomicRmw (AtomicAccess.Whole IntegerType.I64) AtomicRmwOp.Add memarg)) result self.new };
+        requires { can_visit self.old (Atomic (AtomicRmw (Whole IntegerType.I64) AtomicRmwOp.Add memarg)) }
+        ensures { visits self.old
+            (Atomic (AtomicRmw (Whole IntegerType.I64) AtomicRmwOp.Add memarg)) result self.new };
 
     /// `i32.atomic.rmw8.add_u`
     fn visit_i32_atomic_rmw8_add_u(&mut self, memarg: MemArg) -> Self::Output
-        requires { can_visit self.old (Op.Atomic (AtomicOp.AtomicRmw (AtomicAccess.Packed PackedInteger.I32Bits8) AtomicRmwOp.Add memarg)) }
-        ensures { visits self.old (Op.Atomic (AtomicOp.AtomicRmw (AtomicAccess.Packed PackedInteger.I32Bits8) AtomicRmwOp.Add memarg)) result self.new };
+        requires { can_visit self.old (Atomic (AtomicRmw (Packed I32Bits8) AtomicRmwOp.Add memarg)) }
+        ensures { visits self.old
+            (Atomic (AtomicRmw (Packed I32Bits8) AtomicRmwOp.Add memarg)) result self.new };
 
     /// `i32.atomic.rmw16.add_u`
     fn visit_i32_atomic_rmw16_add_u(&mut self, memarg: MemArg) -> Self::Output
-        requires { can_visit self.old (Op.Atomic (AtomicOp.AtomicRmw (AtomicAccess.Packed PackedInteger.I32Bits16) AtomicRmwOp.Add memarg)) }
-        ensures { visits self.old (Op.Atomic (AtomicOp.AtomicRmw (AtomicAccess.Packed PackedInteger.I32Bits16) AtomicRmwOp.Add memarg)) result self.new };
+        requires { can_visit self.old (Atomic (AtomicRmw (Packed I32Bits16) AtomicRmwOp.Add memarg)) }
+        ensures { visits self.old
+            (Atomic (AtomicRmw (Packed I32Bits16) AtomicRmwOp.Add memarg)) result self.new };
 
     /// `i64.atomic.rmw8.add_u`
     fn visit_i64_atomic_rmw8_add_u(&mut self, memarg: MemArg) -> Self::Output
-        requires { can_visit self.old (Op.Atomic (AtomicOp.AtomicRmw (AtomicAccess.Packed PackedInteger.I64Bits8) AtomicRmwOp.Add memarg)) }
-        ensures { visits self.old (Op.Atomic (AtomicOp.AtomicRmw (AtomicAccess.Packed PackedInteger.I64Bits8) AtomicRmwOp.Add memarg)) result self.new };
+        requires { can_visit self.old (Atomic (AtomicRmw (Packed I64Bits8) AtomicRmwOp.Add memarg)) }
+        ensures { visits self.old
+            (Atomic (AtomicRmw (Packed I64Bits8) AtomicRmwOp.Add memarg)) result self.new };
 
     /// `i64.atomic.rmw16.add_u`
     fn visit_i64_atomic_rmw16_add_u(&mut self, memarg: MemArg) -> Self::Output
-        requires { can_visit self.old (Op.Atomic (AtomicOp.AtomicRmw (AtomicAccess.Packed PackedInteger.I64Bits16) AtomicRmwOp.Add memarg)) }
-        ensures { visits self.old (Op.Atomic (AtomicOp.AtomicRmw (AtomicAccess.Packed PackedInteger.I64Bits16) AtomicRmwOp.Add memarg)) result self.new };
+        requires { can_visit self.old (Atomic (AtomicRmw (Packed I64Bits16) AtomicRmwOp.Add memarg)) }
+        ensures { visits self.old
+            (Atomic (AtomicRmw (Packed I64Bits16) AtomicRmwOp.Add memarg)) result self.new };
 
     /// `i64.atomic.rmw32.add_u`
     fn visit_i64_atomic_rmw32_add_u(&mut self, memarg: MemArg) -> Self::Output
-        requires { can_visit self.old (Op.Atomic (AtomicOp.AtomicRmw (AtomicAccess.Packed PackedInteger.I64Bits32) AtomicRmwOp.Add memarg)) }
-        ensures { visits self.old (Op.Atomic (AtomicOp.AtomicRmw (AtomicAccess.Packed PackedInteger.I64Bits32) AtomicRmwOp.Add memarg)) result self.new };
+        requires { can_visit self.old (Atomic (AtomicRmw (Packed I64Bits32) AtomicRmwOp.Add memarg)) }
+        ensures { visits self.old
+            (Atomic (AtomicRmw (Packed I64Bits32) AtomicRmwOp.Add memarg)) result self.new };
 
     /// `i32.atomic.rmw.sub`
     fn visit_i32_atomic_rmw_sub(&mut self, memarg: MemArg) -> Self::Output
-        requires { can_visit self.old (Op.Atomic (AtomicOp.AtomicRmw (AtomicAccess.Whole IntegerType.I32) AtomicRmwOp.Sub memarg)) }
-        ensures { visits self.old (Op.Atomic (AtomicOp.AtomicRmw (AtomicAccess.Whole IntegerType.I32) AtomicRmwOp.Sub memarg)) result self.new };
+        requires { can_visit self.old (Atomic (AtomicRmw (Whole IntegerType.I32) AtomicRmwOp.Sub memarg)) }
+        ensures { visits self.old
+            (Atomic (AtomicRmw (Whole IntegerType.I32) AtomicRmwOp.Sub memarg)) result self.new };
 
     /// `i64.atomic.rmw.sub`
     fn visit_i64_atomic_rmw_sub(&mut self, memarg: MemArg) -> Self::Output
-        requires { can_visit self.old (Op.Atomic (AtomicOp.AtomicRmw (AtomicAccess.Whole IntegerType.I64) AtomicRmwOp.Sub memarg)) }
-        ensures { visits self.old (Op.Atomic (AtomicOp.AtomicRmw (AtomicAccess.Whole IntegerType.I64) AtomicRmwOp.Sub memarg)) result self.new };
+        requires { can_visit self.old (Atomic (AtomicRmw (Whole IntegerType.I64) AtomicRmwOp.Sub memarg)) }
+        ensures { visits self.old
+            (Atomic (AtomicRmw (Whole IntegerType.I64) AtomicRmwOp.Sub memarg)) result self.new };
 
     /// `i32.atomic.rmw8.sub_u`
     fn visit_i32_atomic_rmw8_sub_u(&mut self, memarg: MemArg) -> Self::Output
-        requires { can_visit self.old (Op.Atomic (AtomicOp.AtomicRmw (AtomicAccess.Packed PackedInteger.I32Bits8) AtomicRmwOp.Sub memarg)) }
-        ensures { visits self.old (Op.Atomic (AtomicOp.AtomicRmw (AtomicAccess.Packed PackedInteger.I32Bits8) AtomicRmwOp.Sub memarg)) result self.new };
+        requires { can_visit self.old (Atomic (AtomicRmw (Packed I32Bits8) AtomicRmwOp.Sub memarg)) }
+        ensures { visits self.old
+            (Atomic (AtomicRmw (Packed I32Bits8) AtomicRmwOp.Sub memarg)) result self.new };
 
     /// `i32.atomic.rmw16.sub_u`
     fn visit_i32_atomic_rmw16_sub_u(&mut self, memarg: MemArg) -> Self::Output
-        requires { can_visit self.old (Op.Atomic (AtomicOp.AtomicRmw (AtomicAccess.Packed PackedInteger.I32Bits16) AtomicRmwOp.Sub memarg)) }
-        ensures { visits self.old (Op.Atomic (AtomicOp.AtomicRmw (AtomicAccess.Packed PackedInteger.I32Bits16) AtomicRmwOp.Sub memarg)) result self.new };
+        requires { can_visit self.old (Atomic (AtomicRmw (Packed I32Bits16) AtomicRmwOp.Sub memarg)) }
+        ensures { visits self.old
+            (Atomic (AtomicRmw (Packed I32Bits16) AtomicRmwOp.Sub memarg)) result self.new };
 
     /// `i64.atomic.rmw8.sub_u`
     fn visit_i64_atomic_rmw8_sub_u(&mut self, memarg: MemArg) -> Self::Output
-        requires { can_visit self.old (Op.Atomic (AtomicOp.AtomicRmw (AtomicAccess.Packed PackedInteger.I64Bits8) AtomicRmwOp.Sub memarg)) }
-        ensures { visits self.old (Op.Atomic (AtomicOp.AtomicRmw (AtomicAccess.Packed PackedInteger.I64Bits8) AtomicRmwOp.Sub memarg)) result self.new };
+        requires { can_visit self.old (Atomic (AtomicRmw (Packed I64Bits8) AtomicRmwOp.Sub memarg)) }
+        ensures { visits self.old
+            (Atomic (AtomicRmw (Packed I64Bits8) AtomicRmwOp.Sub memarg)) result self.new };
 
     /// `i64.atomic.rmw16.sub_u`
     fn visit_i64_atomic_rmw16_sub_u(&mut self, memarg: MemArg) -> Self::Output
-        requires { can_visit self.old (Op.Atomic (AtomicOp.AtomicRmw (AtomicAccess.Packed PackedInteger.I64Bits16) AtomicRmwOp.Sub memarg)) }
-        ensures { visits self.old (Op.Atomic (AtomicOp.AtomicRmw (AtomicAccess.Packed PackedInteger.I64Bits16) AtomicRmwOp.Sub memarg)) result self.new };
+        requires { can_visit self.old (Atomic (AtomicRmw (Packed I64Bits16) AtomicRmwOp.Sub memarg)) }
+        ensures { visits self.old
+            (Atomic (AtomicRmw (Packed I64Bits16) AtomicRmwOp.Sub memarg)) result self.new };
 
     /// `i64.atomic.rmw32.sub_u`
     fn visit_i64_atomic_rmw32_sub_u(&mut self, memarg: MemArg) -> Self::Output
-        requires { can_visit self.old (Op.Atomic (AtomicOp.AtomicRmw (AtomicAccess.Packed PackedInteger.I64Bits32) AtomicRmwOp.Sub memarg)) }
-        ensures { visits self.old (Op.Atomic (AtomicOp.AtomicRmw (AtomicAccess.Packed PackedInteger.I64Bits32) AtomicRmwOp.Sub memarg)) result self.new };
+        requires { can_visit self.old (Atomic (AtomicRmw (Packed I64Bits32) AtomicRmwOp.Sub memarg)) }
+        ensures { visits self.old
+            (Atomic (AtomicRmw (Packed I64Bits32) AtomicRmwOp.Sub memarg)) result self.new };
 
     /// `i32.atomic.rmw.and`
     fn visit_i32_atomic_rmw_and(&mut self, memarg: MemArg) -> Self::Output
-        requires { can_visit self.old (Op.Atomic (AtomicOp.AtomicRmw (AtomicAccess.Whole IntegerType.I32) AtomicRmwOp.And memarg)) }
-        ensures { visits self.old (Op.Atomic (AtomicOp.AtomicRmw (AtomicAccess.Whole IntegerType.I32) AtomicRmwOp.And memarg)) result self.new };
+        requires { can_visit self.old (Atomic (AtomicRmw (Whole IntegerType.I32) AtomicRmwOp.And memarg)) }
+        ensures { visits self.old
+            (Atomic (AtomicRmw (Whole IntegerType.I32) AtomicRmwOp.And memarg)) result self.new };
 
     /// `i64.atomic.rmw.and`
     fn visit_i64_atomic_rmw_and(&mut self, memarg: MemArg) -> Self::Output
-        requires { can_visit self.old (Op.Atomic (AtomicOp.AtomicRmw (AtomicAccess.Whole IntegerType.I64) AtomicRmwOp.And memarg)) }
-        ensures { visits self.old (Op.Atomic (AtomicOp.AtomicRmw (AtomicAccess.Whole IntegerType.I64) AtomicRmwOp.And memarg)) result self.new };
+        requires { can_visit self.old (Atomic (AtomicRmw (Whole IntegerType.I64) AtomicRmwOp.And memarg)) }
+        ensures { visits self.old
+            (Atomic (AtomicRmw (Whole IntegerType.I64) AtomicRmwOp.And memarg)) result self.new };
 
     /// `i32.atomic.rmw8.and_u`
     fn visit_i32_atomic_rmw8_and_u(&mut self, memarg: MemArg) -> Self::Output
-        requires { can_visit self.old (Op.Atomic (AtomicOp.AtomicRmw (AtomicAccess.Packed PackedInteger.I32Bits8) AtomicRmwOp.And memarg)) }
-        ensures { visits self.old (Op.Atomic (AtomicOp.AtomicRmw (AtomicAccess.Packed PackedInteger.I32Bits8) AtomicRmwOp.And memarg)) result self.new };
+        requires { can_visit self.old (Atomic (AtomicRmw (Packed I32Bits8) AtomicRmwOp.And memarg)) }
+        ensures { visits self.old
+            (Atomic (AtomicRmw (Packed I32Bits8) AtomicRmwOp.And memarg)) result self.new };
 
     /// `i32.atomic.rmw16.and_u`
     fn visit_i32_atomic_rmw16_and_u(&mut self, memarg: MemArg) -> Self::Output
-        requires { can_visit self.old (Op.Atomic (AtomicOp.AtomicRmw (AtomicAccess.Packed PackedInteger.I32Bits16) AtomicRmwOp.And memarg)) }
-        ensures { visits self.old (Op.Atomic (AtomicOp.AtomicRmw (AtomicAccess.Packed PackedInteger.I32Bits16) AtomicRmwOp.And memarg)) result self.new };
+        requires { can_visit self.old (Atomic (AtomicRmw (Packed I32Bits16) AtomicRmwOp.And memarg)) }
+        ensures { visits self.old
+            (Atomic (AtomicRmw (Packed I32Bits16) AtomicRmwOp.And memarg)) result self.new };
 
     /// `i64.atomic.rmw8.and_u`
     fn visit_i64_atomic_rmw8_and_u(&mut self, memarg: MemArg) -> Self::Output
-        requires { can_visit self.old (Op.Atomic (AtomicOp.AtomicRmw (AtomicAccess.Packed PackedInteger.I64Bits8) AtomicRmwOp.And memarg)) }
-        ensures { visits self.old (Op.Atomic (AtomicOp.AtomicRmw (AtomicAccess.Packed PackedInteger.I64Bits8) AtomicRmwOp.And memarg)) result self.new };
+        requires { can_visit self.old (Atomic (AtomicRmw (Packed I64Bits8) AtomicRmwOp.And memarg)) }
+        ensures { visits self.old
+            (Atomic (AtomicRmw (Packed I64Bits8) AtomicRmwOp.And memarg)) result self.new };
 
     /// `i64.atomic.rmw16.and_u`
     fn visit_i64_atomic_rmw16_and_u(&mut self, memarg: MemArg) -> Self::Output
-        requires { can_visit self.old (Op.Atomic (AtomicOp.AtomicRmw (AtomicAccess.Packed PackedInteger.I64Bits16) AtomicRmwOp.And memarg)) }
-        ensures { visits self.old (Op.Atomic (AtomicOp.AtomicRmw (AtomicAccess.Packed PackedInteger.I64Bits16) AtomicRmwOp.And memarg)) result self.new };
+        requires { can_visit self.old (Atomic (AtomicRmw (Packed I64Bits16) AtomicRmwOp.And memarg)) }
+        ensures { visits self.old
+            (Atomic (AtomicRmw (Packed I64Bits16) AtomicRmwOp.And memarg)) result self.new };
 
     /// `i64.atomic.rmw32.and_u`
     fn visit_i64_atomic_rmw32_and_u(&mut self, memarg: MemArg) -> Self::Output
-        requires { can_visit self.old (Op.Atomic (AtomicOp.AtomicRmw (AtomicAccess.Packed PackedInteger.I64Bits32) AtomicRmwOp.And memarg)) }
-        ensures { visits self.old (Op.Atomic (AtomicOp.AtomicRmw (AtomicAccess.Packed PackedInteger.I64Bits32) AtomicRmwOp.And memarg)) result self.new };
+        requires { can_visit self.old (Atomic (AtomicRmw (Packed I64Bits32) AtomicRmwOp.And memarg)) }
+        ensures { visits self.old
+            (Atomic (AtomicRmw (Packed I64Bits32) AtomicRmwOp.And memarg)) result self.new };
 
     /// `i32.atomic.rmw.or`
     fn visit_i32_atomic_rmw_or(&mut self, memarg: MemArg) -> Self::Output
-        requires { can_visit self.old (Op.Atomic (AtomicOp.AtomicRmw (AtomicAccess.Whole IntegerType.I32) AtomicRmwOp.Or memarg)) }
-        ensures { visits self.old (Op.Atomic (AtomicOp.AtomicRmw (AtomicAccess.Whole IntegerType.I32) AtomicRmwOp.Or memarg)) result self.new };
+        requires { can_visit self.old (Atomic (AtomicRmw (Whole IntegerType.I32) AtomicRmwOp.Or memarg)) }
+        ensures { visits self.old
+            (Atomic (AtomicRmw (Whole IntegerType.I32) AtomicRmwOp.Or memarg)) result self.new };
 
     /// `i64.atomic.rmw.or`
     fn visit_i64_atomic_rmw_or(&mut self, memarg: MemArg) -> Self::Output
-        requires { can_visit self.old (Op.Atomic (AtomicOp.AtomicRmw (AtomicAccess.Whole IntegerType.I64) AtomicRmwOp.Or memarg)) }
-        ensures { visits self.old (Op.Atomic (AtomicOp.AtomicRmw (AtomicAccess.Whole IntegerType.I64) AtomicRmwOp.Or memarg)) result self.new };
+        requires { can_visit self.old (Atomic (AtomicRmw (Whole IntegerType.I64) AtomicRmwOp.Or memarg)) }
+        ensures { visits self.old
+            (Atomic (AtomicRmw (Whole IntegerType.I64) AtomicRmwOp.Or memarg)) result self.new };
 
     /// `i32.atomic.rmw8.or_u`
     fn visit_i32_atomic_rmw8_or_u(&mut self, memarg: MemArg) -> Self::Output
-        requires { can_visit self.old (Op.Atomic (AtomicOp.AtomicRmw (AtomicAccess.Packed PackedInteger.I32Bits8) AtomicRmwOp.Or memarg)) }
-        ensures { visits self.old (Op.Atomic (AtomicOp.AtomicRmw (AtomicAccess.Packed PackedInteger.I32Bits8) AtomicRmwOp.Or memarg)) result self.new };
+        requires { can_visit self.old (Atomic (AtomicRmw (Packed I32Bits8) AtomicRmwOp.Or memarg)) }
+        ensures { visits self.old
+            (Atomic (AtomicRmw (Packed I32Bits8) AtomicRmwOp.Or memarg)) result self.new };
 
     /// `i32.atomic.rmw16.or_u`
     fn visit_i32_atomic_rmw16_or_u(&mut self, memarg: MemArg) -> Self::Output
-        requires { can_visit self.old (Op.Atomic (AtomicOp.AtomicRmw (AtomicAccess.Packed PackedInteger.I32Bits16) AtomicRmwOp.Or memarg)) }
-        ensures { visits self.old (Op.Atomic (AtomicOp.AtomicRmw (AtomicAccess.Packed PackedInteger.I32Bits16) AtomicRmwOp.Or memarg)) result self.new };
+        requires { can_visit self.old (Atomic (AtomicRmw (Packed I32Bits16) AtomicRmwOp.Or memarg)) }
+        ensures { visits self.old
+            (Atomic (AtomicRmw (Packed I32Bits16) AtomicRmwOp.Or memarg)) result self.new };
 
     /// `i64.atomic.rmw8.or_u`
     fn visit_i64_atomic_rmw8_or_u(&mut self, memarg: MemArg) -> Self::Output
-        requires { can_visit self.old (Op.Atomic (AtomicOp.AtomicRmw (AtomicAccess.Packed PackedInteger.I64Bits8) AtomicRmwOp.Or memarg)) }
-        ensures { visits self.old (Op.Atomic (AtomicOp.AtomicRmw (AtomicAccess.Packed PackedInteger.I64Bits8) AtomicRmwOp.Or memarg)) result self.new };
+        requires { can_visit self.old (Atomic (AtomicRmw (Packed I64Bits8) AtomicRmwOp.Or memarg)) }
+        ensures { visits self.old
+            (Atomic (AtomicRmw (Packed I64Bits8) AtomicRmwOp.Or memarg)) result self.new };
 
     /// `i64.atomic.rmw16.or_u`
     fn visit_i64_atomic_rmw16_or_u(&mut self, memarg: MemArg) -> Self::Output
-        requires { can_visit self.old (Op.Atomic (AtomicOp.AtomicRmw (AtomicAccess.Packed PackedInteger.I64Bits16) AtomicRmwOp.Or memarg)) }
-        ensures { visits self.old (Op.Atomic (AtomicOp.AtomicRmw (AtomicAccess.Packed PackedInteger.I64Bits16) AtomicRmwOp.Or memarg)) result self.new };
+        requires { can_visit self.old (Atomic (AtomicRmw (Packed I64Bits16) AtomicRmwOp.Or memarg)) }
+        ensures { visits self.old
+            (Atomic (AtomicRmw (Packed I64Bits16) AtomicRmwOp.Or memarg)) result self.new };
 
     /// `i64.atomic.rmw32.or_u`
     fn visit_i64_atomic_rmw32_or_u(&mut self, memarg: MemArg) -> Self::Output
-        requires { can_visit self.old (Op.Atomic (AtomicOp.AtomicRmw (AtomicAccess.Packed PackedInteger.I64Bits32) AtomicRmwOp.Or memarg)) }
-        ensures { visits self.old (Op.Atomic (AtomicOp.AtomicRmw (AtomicAccess.Packed PackedInteger.I64Bits32) AtomicRmwOp.Or memarg)) result self.new };
+        requires { can_visit self.old (Atomic (AtomicRmw (Packed I64Bits32) AtomicRmwOp.Or memarg)) }
+        ensures { visits self.old
+            (Atomic (AtomicRmw (Packed I64Bits32) AtomicRmwOp.Or memarg)) result self.new };
 
     /// `i32.atomic.rmw.xor`
     fn visit_i32_atomic_rmw_xor(&mut self, memarg: MemArg) -> Self::Output
-        requires { can_visit self.old (Op.Atomic (AtomicOp.AtomicRmw (AtomicAccess.Whole IntegerType.I32) AtomicRmwOp.Xor memarg)) }
-        ensures { visits self.old (Op.Atomic (AtomicOp.AtomicRmw (AtomicAccess.Whole IntegerType.I32) AtomicRmwOp.Xor memarg)) result self.new };
+        requires { can_visit self.old (Atomic (AtomicRmw (Whole IntegerType.I32) AtomicRmwOp.Xor memarg)) }
+        ensures { visits self.old
+            (Atomic (AtomicRmw (Whole IntegerType.I32) AtomicRmwOp.Xor memarg)) result self.new };
 
     /// `i64.atomic.rmw.xor`
     fn visit_i64_atomic_rmw_xor(&mut self, memarg: MemArg) -> Self::Output
-        requires { can_visit self.old (Op.Atomic (AtomicOp.AtomicRmw (AtomicAccess.Whole IntegerType.I64) AtomicRmwOp.Xor memarg)) }
-        ensures { visits self.old (Op.Atomic (AtomicOp.AtomicRmw (AtomicAccess.Whole IntegerType.I64) AtomicRmwOp.Xor memarg)) result self.new };
+        requires { can_visit self.old (Atomic (AtomicRmw (Whole IntegerType.I64) AtomicRmwOp.Xor memarg)) }
+        ensures { visits self.old
+            (Atomic (AtomicRmw (Whole IntegerType.I64) AtomicRmwOp.Xor memarg)) result self.new };
 
     /// `i32.atomic.rmw8.xor_u`
     fn visit_i32_atomic_rmw8_xor_u(&mut self, memarg: MemArg) -> Self::Output
-        requires { can_visit self.old (Op.Atomic (AtomicOp.AtomicRmw (AtomicAccess.Packed PackedInteger.I32Bits8) AtomicRmwOp.Xor memarg)) }
-        ensures { visits self.old (Op.Atomic (AtomicOp.AtomicRmw (AtomicAccess.Packed PackedInteger.I32Bits8) AtomicRmwOp.Xor memarg)) result self.new };
+        requires { can_visit self.old (Atomic (AtomicRmw (Packed I32Bits8) AtomicRmwOp.Xor memarg)) }
+        ensures { visits self.old
+            (Atomic (AtomicRmw (Packed I32Bits8) AtomicRmwOp.Xor memarg)) result self.new };
 
     /// `i32.atomic.rmw16.xor_u`
     fn visit_i32_atomic_rmw16_xor_u(&mut self, memarg: MemArg) -> Self::Output
-        requires { can_visit self.old (Op.Atomic (AtomicOp.AtomicRmw (AtomicAccess.Packed PackedInteger.I32Bits16) AtomicRmwOp.Xor memarg)) }
-        ensures { visits self.old (Op.Atomic (AtomicOp.AtomicRmw (AtomicAccess.Packed PackedInteger.I32Bits16) AtomicRmwOp.Xor memarg)) result self.new };
+        requires { can_visit self.old (Atomic (AtomicRmw (Packed I32Bits16) AtomicRmwOp.Xor memarg)) }
+        ensures { visits self.old
+            (Atomic (AtomicRmw (Packed I32Bits16) AtomicRmwOp.Xor memarg)) result self.new };
 
     /// `i64.atomic.rmw8.xor_u`
     fn visit_i64_atomic_rmw8_xor_u(&mut self, memarg: MemArg) -> Self::Output
-        requires { can_visit self.old (Op.Atomic (AtomicOp.AtomicRmw (AtomicAccess.Packed PackedInteger.I64Bits8) AtomicRmwOp.Xor memarg)) }
-        ensures { visits self.old (Op.Atomic (AtomicOp.AtomicRmw (AtomicAccess.Packed PackedInteger.I64Bits8) AtomicRmwOp.Xor memarg)) result self.new };
+        requires { can_visit self.old (Atomic (AtomicRmw (Packed I64Bits8) AtomicRmwOp.Xor memarg)) }
+        ensures { visits self.old
+            (Atomic (AtomicRmw (Packed I64Bits8) AtomicRmwOp.Xor memarg)) result self.new };
 
     /// `i64.atomic.rmw16.xor_u`
     fn visit_i64_atomic_rmw16_xor_u(&mut self, memarg: MemArg) -> Self::Output
-        requires { can_visit self.old (Op.Atomic (AtomicOp.AtomicRmw (AtomicAccess.Packed PackedInteger.I64Bits16) AtomicRmwOp.Xor memarg)) }
-        ensures { visits self.old (Op.Atomic (AtomicOp.AtomicRmw (AtomicAccess.Packed PackedInteger.I64Bits16) AtomicRmwOp.Xor memarg)) result self.new };
+        requires { can_visit self.old (Atomic (AtomicRmw (Packed I64Bits16) AtomicRmwOp.Xor memarg)) }
+        ensures { visits self.old
+            (Atomic (AtomicRmw (Packed I64Bits16) AtomicRmwOp.Xor memarg)) result self.new };
 
     /// `i64.atomic.rmw32.xor_u`
     fn visit_i64_atomic_rmw32_xor_u(&mut self, memarg: MemArg) -> Self::Output
-        requires { can_visit self.old (Op.Atomic (AtomicOp.AtomicRmw (AtomicAccess.Packed PackedInteger.I64Bits32) AtomicRmwOp.Xor memarg)) }
-        ensures { visits self.old (Op.Atomic (AtomicOp.AtomicRmw (AtomicAccess.Packed PackedInteger.I64Bits32) AtomicRmwOp.Xor memarg)) result self.new };
+        requires { can_visit self.old (Atomic (AtomicRmw (Packed I64Bits32) AtomicRmwOp.Xor memarg)) }
+        ensures { visits self.old
+            (Atomic (AtomicRmw (Packed I64Bits32) AtomicRmwOp.Xor memarg)) result self.new };
 
     /// `i32.atomic.rmw.xchg`
     fn visit_i32_atomic_rmw_xchg(&mut self, memarg: MemArg) -> Self::Output
-        requires { can_visit self.old (Op.Atomic (AtomicOp.AtomicRmw (AtomicAccess.Whole IntegerType.I32) AtomicRmwOp.Xchg memarg)) }
-        ensures { visits self.old (Op.Atomic (AtomicOp.AtomicRmw (AtomicAccess.Whole IntegerType.I32) AtomicRmwOp.Xchg memarg)) result self.new };
+        requires { can_visit self.old (Atomic (AtomicRmw (Whole IntegerType.I32) AtomicRmwOp.Xchg memarg)) }
+        ensures { visits self.old
+            (Atomic (AtomicRmw (Whole IntegerType.I32) AtomicRmwOp.Xchg memarg)) result self.new };
 
     /// `i64.atomic.rmw.xchg`
     fn visit_i64_atomic_rmw_xchg(&mut self, memarg: MemArg) -> Self::Output
-        requires { can_visit self.old (Op.Atomic (AtomicOp.AtomicRmw (AtomicAccess.Whole IntegerType.I64) AtomicRmwOp.Xchg memarg)) }
-        ensures { visits self.old (Op.Atomic (AtomicOp.AtomicRmw (AtomicAccess.Whole IntegerType.I64) AtomicRmwOp.Xchg memarg)) result self.new };
+        requires { can_visit self.old (Atomic (AtomicRmw (Whole IntegerType.I64) AtomicRmwOp.Xchg memarg)) }
+        ensures { visits self.old
+            (Atomic (AtomicRmw (Whole IntegerType.I64) AtomicRmwOp.Xchg memarg)) result self.new };
 
     /// `i32.atomic.rmw8.xchg_u`
     fn visit_i32_atomic_rmw8_xchg_u(&mut self, memarg: MemArg) -> Self::Output
-        requires { can_visit self.old (Op.Atomic (AtomicOp.AtomicRmw (AtomicAccess.Packed PackedInteger.I32Bits8) AtomicRmwOp.Xchg memarg)) }
-        ensures { visits self.old (Op.Atomic (AtomicOp.AtomicRmw (AtomicAccess.Packed PackedInteger.I32Bits8) AtomicRmwOp.Xchg memarg)) result self.new };
+        requires { can_visit self.old (Atomic (AtomicRmw (Packed I32Bits8) AtomicRmwOp.Xchg memarg)) }
+        ensures { visits self.old
+            (Atomic (AtomicRmw (Packed I32Bits8) AtomicRmwOp.Xchg memarg)) result self.new };
 
     /// `i32.atomic.rmw16.xchg_u`
     fn visit_i32_atomic_rmw16_xchg_u(&mut self, memarg: MemArg) -> Self::Output
-        requires { can_visit self.old (Op.Atomic (AtomicOp.AtomicRmw (AtomicAccess.Packed PackedInteger.I32Bits16) AtomicRmwOp.Xchg memarg)) }
-        ensures { visits self.old (Op.Atomic (AtomicOp.AtomicRmw (AtomicAccess.Packed PackedInteger.I32Bits16) AtomicRmwOp.Xchg memarg)) result self.new };
+        requires { can_visit self.old (Atomic (AtomicRmw (Packed I32Bits16) AtomicRmwOp.Xchg memarg)) }
+        ensures { visits self.old
+            (Atomic (AtomicRmw (Packed I32Bits16) AtomicRmwOp.Xchg memarg)) result self.new };
 
     /// `i64.atomic.rmw8.xchg_u`
     fn visit_i64_atomic_rmw8_xchg_u(&mut self, memarg: MemArg) -> Self::Output
-        requires { can_visit self.old (Op.Atomic (AtomicOp.AtomicRmw (AtomicAccess.Packed PackedInteger.I64Bits8) AtomicRmwOp.Xchg memarg)) }
-        ensures { visits self.old (Op.Atomic (AtomicOp.AtomicRmw (AtomicAccess.Packed PackedInteger.I64Bits8) AtomicRmwOp.Xchg memarg)) result self.new };
+        requires { can_visit self.old (Atomic (AtomicRmw (Packed I64Bits8) AtomicRmwOp.Xchg memarg)) }
+        ensures { visits self.old
+            (Atomic (AtomicRmw (Packed I64Bits8) AtomicRmwOp.Xchg memarg)) result self.new };
 
     /// `i64.atomic.rmw16.xchg_u`
     fn visit_i64_atomic_rmw16_xchg_u(&mut self, memarg: MemArg) -> Self::Output
-        requires { can_visit self.old (Op.Atomic (AtomicOp.AtomicRmw (AtomicAccess.Packed PackedInteger.I64Bits16) AtomicRmwOp.Xchg memarg)) }
-        ensures { visits self.old (Op.Atomic (AtomicOp.AtomicRmw (AtomicAccess.Packed PackedInteger.I64Bits16) AtomicRmwOp.Xchg memarg)) result self.new };
+        requires { can_visit self.old (Atomic (AtomicRmw (Packed I64Bits16) AtomicRmwOp.Xchg memarg)) }
+        ensures { visits self.old
+            (Atomic (AtomicRmw (Packed I64Bits16) AtomicRmwOp.Xchg memarg)) result self.new };
 
     /// `i64.atomic.rmw32.xchg_u`
     fn visit_i64_atomic_rmw32_xchg_u(&mut self, memarg: MemArg) -> Self::Output
-        requires { can_visit self.old (Op.Atomic (AtomicOp.AtomicRmw (AtomicAccess.Packed PackedInteger.I64Bits32) AtomicRmwOp.Xchg memarg)) }
-        ensures { visits self.old (Op.Atomic (AtomicOp.AtomicRmw (AtomicAccess.Packed PackedInteger.I64Bits32) AtomicRmwOp.Xchg memarg)) result self.new };
+        requires { can_visit self.old (Atomic (AtomicRmw (Packed I64Bits32) AtomicRmwOp.Xchg memarg)) }
+        ensures { visits self.old
+            (Atomic (AtomicRmw (Packed I64Bits32) AtomicRmwOp.Xchg memarg)) result self.new };
 
     /// `i32.atomic.rmw.cmpxchg`
     fn visit_i32_atomic_rmw_cmpxchg(&mut self, memarg: MemArg) -> Self::Output
-        requires { can_visit self.old (Op.Atomic (AtomicOp.AtomicCmpxchg (AtomicAccess.Whole IntegerType.I32) memarg)) }
-        ensures { visits self.old (Op.Atomic (AtomicOp.AtomicCmpxchg (AtomicAccess.Whole IntegerType.I32) memarg)) result self.new };
+        requires { can_visit self.old (Atomic (AtomicCmpxchg (Whole IntegerType.I32) memarg)) }
+        ensures { visits self.old (Atomic (AtomicCmpxchg (Whole IntegerType.I32) memarg)) result self.new };
 
     /// `i64.atomic.rmw.cmpxchg`
     fn visit_i64_atomic_rmw_cmpxchg(&mut self, memarg: MemArg) -> Self::Output
-        requires { can_visit self.old (Op.Atomic (AtomicOp.AtomicCmpxchg (AtomicAccess.Whole IntegerType.I64) memarg)) }
-        ensures { visits self.old (Op.Atomic (AtomicOp.AtomicCmpxchg (AtomicAccess.Whole IntegerType.I64) memarg)) result self.new };
+        requires { can_visit self.old (Atomic (AtomicCmpxchg (Whole IntegerType.I64) memarg)) }
+        ensures { visits self.old (Atomic (AtomicCmpxchg (Whole IntegerType.I64) memarg)) result self.new };
 
     /// `i32.atomic.rmw8.cmpxchg_u`
     fn visit_i32_atomic_rmw8_cmpxchg_u(&mut self, memarg: MemArg) -> Self::Output
-        requires { can_visit self.old (Op.Atomic (AtomicOp.AtomicCmpxchg (AtomicAccess.Packed PackedInteger.I32Bits8) memarg)) }
-        ensures { visits self.old (Op.Atomic (AtomicOp.AtomicCmpxchg (AtomicAccess.Packed PackedInteger.I32Bits8) memarg)) result self.new };
+        requires { can_visit self.old (Atomic (AtomicCmpxchg (Packed I32Bits8) memarg)) }
+        ensures { visits self.old (Atomic (AtomicCmpxchg (Packed I32Bits8) memarg)) result self.new };
 
     /// `i32.atomic.rmw16.cmpxchg_u`
     fn visit_i32_atomic_rmw16_cmpxchg_u(&mut self, memarg: MemArg) -> Self::Output
-        requires { can_visit self.old (Op.Atomic (AtomicOp.AtomicCmpxchg (AtomicAccess.Packed PackedInteger.I32Bits16) memarg)) }
-        ensures { visits self.old (Op.Atomic (AtomicOp.AtomicCmpxchg (AtomicAccess.Packed PackedInteger.I32Bits16) memarg)) result self.new };
+        requires { can_visit self.old (Atomic (AtomicCmpxchg (Packed I32Bits16) memarg)) }
+        ensures { visits self.old (Atomic (AtomicCmpxchg (Packed I32Bits16) memarg)) result self.new };
 
     /// `i64.atomic.rmw8.cmpxchg_u`
     fn visit_i64_atomic_rmw8_cmpxchg_u(&mut self, memarg: MemArg) -> Self::Output
-        requires { can_visit self.old (Op.Atomic (AtomicOp.AtomicCmpxchg (AtomicAccess.Packed PackedInteger.I64Bits8) memarg)) }
-        ensures { visits self.old (Op.Atomic (AtomicOp.AtomicCmpxchg (AtomicAccess.Packed PackedInteger.I64Bits8) memarg)) result self.new };
+        requires { can_visit self.old (Atomic (AtomicCmpxchg (Packed I64Bits8) memarg)) }
+        ensures { visits self.old (Atomic (AtomicCmpxchg (Packed I64Bits8) memarg)) result self.new };
 
     /// `i64.atomic.rmw16.cmpxchg_u`
     fn visit_i64_atomic_rmw16_cmpxchg_u(&mut self, memarg: MemArg) -> Self::Output
-        requires { can_visit self.old (Op.Atomic (AtomicOp.AtomicCmpxchg (AtomicAccess.Packed PackedInteger.I64Bits16) memarg)) }
-        ensures { visits self.old (Op.Atomic (AtomicOp.AtomicCmpxchg (AtomicAccess.Packed PackedInteger.I64Bits16) memarg)) result self.new };
+        requires { can_visit self.old (Atomic (AtomicCmpxchg (Packed I64Bits16) memarg)) }
+        ensures { visits self.old (Atomic (AtomicCmpxchg (Packed I64Bits16) memarg)) result self.new };
 
     /// `i64.atomic.rmw32.cmpxchg_u`
     fn visit_i64_atomic_rmw32_cmpxchg_u(&mut self, memarg: MemArg) -> Self::Output
-        requires { can_visit self.old (Op.Atomic (AtomicOp.AtomicCmpxchg (AtomicAccess.Packed PackedInteger.I64Bits32) memarg)) }
-        ensures { visits self.old (Op.Atomic (AtomicOp.AtomicCmpxchg (AtomicAccess.Packed PackedInteger.I64Bits32) memarg)) result self.new };
+        requires { can_visit self.old (Atomic (AtomicCmpxchg (Packed I64Bits32) memarg)) }
+        ensures { visits self.old (Atomic (AtomicCmpxchg (Packed I64Bits32) memarg)) result self.new };
 
     /// `pause`
     fn visit_pause(&mut self) -> Self::Output
-        requires { can_visit self.old (Op.Atomic AtomicOp.Pause) }
-        ensures { visits self.old (Op.Atomic AtomicOp.Pause) result self.new };
+        requires { can_visit self.old (Atomic Pause) }
+        ensures { visits self.old (Atomic Pause) result self.new };
 
     /// `ref.null`
     fn visit_ref_null(&mut self, heap_type: HeapType) -> Self::Output

@@ -2,7 +2,7 @@
 
 ghost use Rattle.std.specs.Prelude.{◌≡◌};
 ghost use Rattle.validate_visit.specs.declared.op.Op.{Op};
-ghost use Rattle.validation_rules.specs.Table.{operator};
+ghost use Rattle.validation_rules.specs.Operators.{operator};
 ghost use Rattle.validate_stacks.specs.Visits.{MayVisit, Meets};
 ghost use Rattle.validate_operators.specs.Memory.{TakesNoMemory};
 ghost use Rattle.validate_body.specs.Start.{state, stacks_of};
@@ -26,7 +26,11 @@ impl<'a, 'validator, 'resources, R: WasmModuleResources> VisitOperator<'a>
 
     ghost can_visit = { λ v op. MayVisit (R.context v.resources.now) (stacks_of v.inner.now) };
 
-    ghost visits = { λ v op answer w. (w.inner.ghost_name ≡ v.inner.ghost_name) × (w.offset ≡ v.offset) × (w.resources ≡ v.resources) × Meets (R.context v.resources.now) (λ cx. operator cx op) v.offset (state v.inner.now) answer (state w.inner.now) × TakesNoMemory (R.context v.resources.now) op (state v.inner.now) answer };
+    ghost visits = { λ v op answer w. (w.inner.ghost_name ≡ v.inner.ghost_name) × (w.offset ≡ v.offset)
+        × (w.resources ≡ v.resources)
+        × Meets (R.context v.resources.now) (λ cx. operator cx op) v.offset (state v.inner.now) answer
+        (state w.inner.now)
+        × TakesNoMemory (R.context v.resources.now) op (state v.inner.now) answer };
 
     fn visit_unreachable(&mut self) -> Result<(), Error> {
         self.check_control(ControlOp::Unreachable)

@@ -15,7 +15,7 @@ use Rattle.validation_rules.specs.Fits.{MaybeType, Bottom, Known}
 use Rattle.validation_rules.specs.Rows.{FrameKind, Block, Else, Loop, TryTable, LegacyCatch, LegacyCatchAll, Operator}
 use Rattle.validation_rules.specs.Static.{Frame, State, before, start, frame_count, operand_count, operands_found}
 use Rattle.validation_rules.specs.Pops.{frame_after_pops}
-use Rattle.validation_rules.specs.Table.{body}
+use Rattle.validation_rules.specs.Operators.{body}
 use Rattle.validation_rules.proofs.Handmade.{unreachable, a_block, a_loop, an_if, an_else, br, br_if, br_table, a_return, a_try_table, throw, a_try, a_catch, a_catch_all, delegate, rethrow}
 
 -- ---- a module of four types, and a function with two locals of which the first is set at entry

@@ -16,7 +16,7 @@ use Rattle.validation_rules.specs.Context.{SubType, ValType, I32, I64, F32, F64,
 use Rattle.validation_rules.specs.Fits.{MaybeType, Bottom, Known}
 use Rattle.validation_rules.specs.Rows.{FrameKind, Block, If, Else, Loop}
 use Rattle.validation_rules.specs.Static.{Frame, State, open_state, before, start, step, step_in}
-use Rattle.validation_rules.specs.Table.{plain_row, row_operator, checked_block, opener, operator, body}
+use Rattle.validation_rules.specs.Operators.{never_row, row_operator, checked_block, opener, operator, body}
 use Rattle.validation_rules.proofs.Handmade as hand
 
 -- ---- a module of three types, and a function without locals
@@ -266,7 +266,7 @@ typed_select_floats = refl
 typed_select_multi_refused : (c : Context) (ts : List ValType) (fs : List Frame) (left : List MaybeType) → step_in c (operator c (typed_select_multi ts)) fs left ≡ None
 typed_select_multi_refused c ts [] left = refl
 typed_select_multi_refused c ts (f ∷ fs) left =
-    ap (λ b. step_in c (row_operator (record (plain_row false [] []) { premise = b })) (f ∷ fs) left) (never (is_open c.features ReferenceTypes))
+    ap (λ b. step_in c (row_operator (record never_row { premise = b })) (f ∷ fs) left) (never (is_open c.features ReferenceTypes))
   where
     never : (b : Bool) → (b && false) ≡ false
     never true = refl

@@ -15,7 +15,7 @@ use Rattle.validation_rules.specs.Context.{SubType, ValType, I32, I64, F32, Bloc
 use Rattle.validation_rules.specs.Fits.{MaybeType, Known}
 use Rattle.validation_rules.specs.Rows.{Head, FrameKind, Block, Loop, body_head}
 use Rattle.validation_rules.specs.Static.{Frame, State, open_state, before, start}
-use Rattle.validation_rules.specs.Table.{row_operator, plain_row, operator, body}
+use Rattle.validation_rules.specs.Operators.{row_operator, plain_row, operator, body}
 
 -- ---- a module of six types, seven functions and three globals: function i has type i, and the last one
 -- has type 2
@@ -135,23 +135,23 @@ premises c ty ops = map (λ op. ((operator c op).row (body_head ty ∷ [])).prem
 
 -- ---- rows: what each operator wants and pushes, and nothing else
 
-call_of_two : operator cx (call 1) ≡ row_operator (plain_row true (I32 ∷ I64 ∷ []) (F32 ∷ []))
+call_of_two : operator cx (call 1) ≡ row_operator (plain_row (I32 ∷ I64 ∷ []) (F32 ∷ []))
 call_of_two = refl
 
-call_of_none : operator cx (call 4) ≡ row_operator (plain_row true [] (I32 ∷ I64 ∷ []))
+call_of_none : operator cx (call 4) ≡ row_operator (plain_row [] (I32 ∷ I64 ∷ []))
 call_of_none = refl
 
-get_of_each : map (operator cx) (global_get 0 ∷ global_get 1 ∷ global_get 2 ∷ []) ≡ map (λ t. row_operator (plain_row true [] (t ∷ []))) (I32 ∷ I64 ∷ F32 ∷ [])
+get_of_each : map (operator cx) (global_get 0 ∷ global_get 1 ∷ global_get 2 ∷ []) ≡ map (λ t. row_operator (plain_row [] (t ∷ []))) (I32 ∷ I64 ∷ F32 ∷ [])
 get_of_each = refl
 
-set_of_mutable : map (operator cx) (global_set 1 ∷ global_set 2 ∷ []) ≡ map (λ t. row_operator (plain_row true (t ∷ []) [])) (I64 ∷ F32 ∷ [])
+set_of_mutable : map (operator cx) (global_set 1 ∷ global_set 2 ∷ []) ≡ map (λ t. row_operator (plain_row (t ∷ []) [])) (I64 ∷ F32 ∷ [])
 set_of_mutable = refl
 
 -- a tail call pushes nothing: its results go to the outermost label, whatever it took
 abbrev inside : List Head
 inside = record { kind = Loop; block_type = Empty } ∷ record { kind = Block; block_type = Val I64 } ∷ body_head (Val F32) ∷ []
 
-tail_call_of_two : (operator cx (return_call 1)).row inside ≡ record (plain_row true (I32 ∷ I64 ∷ []) []) { targets = record { depth = 2; carried = λ found. F32 ∷ [] } ∷ []; ends_live = true }
+tail_call_of_two : (operator cx (return_call 1)).row inside ≡ record (plain_row (I32 ∷ I64 ∷ []) []) { targets = record { depth = 2; carried = λ found. F32 ∷ [] } ∷ []; ends_live = true }
 tail_call_of_two = refl
 
 -- ---- `call`

@@ -28,7 +28,7 @@ use Rattle.validation_rules.specs.Context.{ValType, I32, I64, F32, F64, V128, Bl
 use Rattle.validation_rules.specs.Fits.{MaybeType, Known}
 use Rattle.validation_rules.specs.Rows.{Block}
 use Rattle.validation_rules.specs.Static.{State, open_state, before, start}
-use Rattle.validation_rules.specs.Table.{row_operator, plain_row, operator, body}
+use Rattle.validation_rules.specs.Operators.{row_operator, plain_row, operator, body}
 
 -- ---- a module of two memories and two data segments: memory 0, which is shared, has addresses of 32
 -- bits, and memory 1 of 64; whether it is shared is nothing to any of these operators
@@ -92,7 +92,7 @@ NoneHolds ops = map (premise cx) ops ≡ map (λ op. false) ops
 -- else; without them, and with all others, no row holds, unless it needs none.
 abbrev Says : List Op → List ValType → List ValType → ℕ → Type 0
 Says ops wanted pushed needs =
-    (map (operator (under needs)) ops ≡ map (λ op. row_operator (plain_row true wanted pushed)) ops) × (map (premise (under (every - needs))) ops ≡ map (λ op. nat_eq needs 0) ops)
+    (map (operator (under needs)) ops ≡ map (λ op. row_operator (plain_row wanted pushed)) ops) × (map (premise (under (every - needs))) ops ≡ map (λ op. nat_eq needs 0) ops)
 
 -- Operators of an access that may be aligned less: over an address of either type, these above it and
 -- pushed, and never aligned more, nor to a memory that isn't there.

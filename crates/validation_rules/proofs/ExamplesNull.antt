@@ -20,7 +20,7 @@ use Rattle.validation_rules.specs.Context.{SubType, ValType, I32, I64, Ref, Bloc
 use Rattle.validation_rules.specs.Fits.{MaybeType, UnknownRef, Known}
 use Rattle.validation_rules.specs.Rows.{Head, FrameKind, Block, Loop, body_head, operands_wanted}
 use Rattle.validation_rules.specs.Static.{Frame, State, open_state, before, start}
-use Rattle.validation_rules.specs.Table.{row_operator, plain_row, operator, body}
+use Rattle.validation_rules.specs.Operators.{row_operator, plain_row, operator, body}
 
 abbrev func : HeapType
 func = Abstract false Func
@@ -168,7 +168,7 @@ carried hs op found = map (λ t. (t.depth, t.carried found)) ((operator cx op).r
 
 -- ---- `ref.null`
 
-null_of_func : operator (under reference_types) (ref_null func) ≡ row_operator (plain_row true [] (null func ∷ []))
+null_of_func : operator (under reference_types) (ref_null func) ≡ row_operator (plain_row [] (null func ∷ []))
 null_of_func = refl
 
 -- the index of the module becomes the id
@@ -196,7 +196,7 @@ nulls_closed = refl
 -- ---- `ref.func`
 
 -- a reference without null, to the type of the function and not that of its index
-func_of_each : map (operator (under reference_types)) (ref_func 0 ∷ ref_func 1 ∷ []) ≡ map (λ i. row_operator (plain_row true [] (no_null (concrete i) ∷ []))) (0 ∷ 3 ∷ [])
+func_of_each : map (operator (under reference_types)) (ref_func 0 ∷ ref_func 1 ∷ []) ≡ map (λ i. row_operator (plain_row [] (no_null (concrete i) ∷ []))) (0 ∷ 3 ∷ [])
 func_of_each = refl
 
 func_given : Done (Val (no_null func)) (ref_func 1 ∷ end ∷ []) (Known (no_null func) ∷ [])
@@ -334,7 +334,7 @@ null_below_carried : carried (record { kind = Block; block_type = to_two_funcref
 null_below_carried = (refl, refl)
 
 -- it wants the label's types, the last with null, and pushes those before it
-non_null_wants : map (λ bt. record ((operator (under function_references) (br_on_non_null 0)).row (record { kind = Block; block_type = bt } ∷ [])) { targets = [] }) (to_i32_and_funcref ∷ to_i32_and_func ∷ Val (no_null (concrete 0)) ∷ []) ≡ plain_row true (I32 ∷ null func ∷ []) (I32 ∷ []) ∷ plain_row true (I32 ∷ null func ∷ []) (I32 ∷ []) ∷ plain_row true (null (concrete 0) ∷ []) [] ∷ []
+non_null_wants : map (λ bt. record ((operator (under function_references) (br_on_non_null 0)).row (record { kind = Block; block_type = bt } ∷ [])) { targets = [] }) (to_i32_and_funcref ∷ to_i32_and_func ∷ Val (no_null (concrete 0)) ∷ []) ≡ plain_row (I32 ∷ null func ∷ []) (I32 ∷ []) ∷ plain_row (I32 ∷ null func ∷ []) (I32 ∷ []) ∷ plain_row (null (concrete 0) ∷ []) [] ∷ []
 non_null_wants = refl
 
 -- of a loop the parameters

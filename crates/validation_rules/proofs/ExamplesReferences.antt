@@ -18,7 +18,7 @@ use Rattle.validate_visit.specs.declared.op.Op.TheVariants.{Control, Numeric}
 use Rattle.validation_rules.specs.Context.{SubType, ValType, I32, I64, Ref, BlockType, Empty, Val, Context}
 use Rattle.validation_rules.specs.Fits.{MaybeType, Bottom, UnknownRef, Known, fits}
 use Rattle.validation_rules.specs.Static.{before, start}
-use Rattle.validation_rules.specs.Table.{select_result, body}
+use Rattle.validation_rules.specs.Operators.{select_result, body}
 
 -- ---- a module of four function types: 1 is declared below 0, 2 below 1, and 3 is shared
 

@@ -24,7 +24,7 @@ use Rattle.validation_rules.specs.Context.{SubType, ValType, I32, I64, F32, Ref,
 use Rattle.validation_rules.specs.Fits.{MaybeType, Known}
 use Rattle.validation_rules.specs.Rows.{Head, Block, Loop, body_head}
 use Rattle.validation_rules.specs.Static.{State, open_state, before, start}
-use Rattle.validation_rules.specs.Table.{row_operator, plain_row, operator, body}
+use Rattle.validation_rules.specs.Operators.{row_operator, plain_row, operator, body}
 
 -- ---- a module of six types, two functions, seven tables and five element segments
 
@@ -194,7 +194,7 @@ NoneHolds ops = map (premise cx) ops ≡ map (λ op. false) ops
 -- without them, and with all others, its row doesn't hold, unless it needs none.
 abbrev Says : Op → List ValType → List ValType → ℕ → Type 0
 Says op wanted pushed needs =
-    (operator (under needs false) op ≡ row_operator (plain_row true wanted pushed)) × (premise (under (every - needs) false) op ≡ nat_eq needs 0)
+    (operator (under needs false) op ≡ row_operator (plain_row wanted pushed)) × (premise (under (every - needs) false) op ≡ nat_eq needs 0)
 
 -- ---- rows
 
@@ -205,7 +205,7 @@ each = (0, I32, null func) ∷ (1, I64, null func) ∷ (2, I32, null extern) ∷
 -- by the types of addresses and elements; there is no eighth table
 abbrev EachTable : (ℕ → TableOp) → (ValType → ValType → List ValType) → (ValType → ValType → List ValType) → Type 0
 EachTable op wanted pushed =
-    (map (λ (k : ℕ × ValType × ValType). operator (under reference_types false) (Table (op k.0))) each ≡ map (λ (k : ℕ × ValType × ValType). row_operator (plain_row true (wanted k.1 k.2) (pushed k.1 k.2))) each) × (map (λ (k : ℕ × ValType × ValType). premise (under (every - reference_types) false) (Table (op k.0))) each ≡ map (λ (k : ℕ × ValType × ValType). false) each) × (premise cx (Table (op 7)) ≡ false)
+    (map (λ (k : ℕ × ValType × ValType). operator (under reference_types false) (Table (op k.0))) each ≡ map (λ (k : ℕ × ValType × ValType). row_operator (plain_row (wanted k.1 k.2) (pushed k.1 k.2))) each) × (map (λ (k : ℕ × ValType × ValType). premise (under (every - reference_types) false) (Table (op k.0))) each ≡ map (λ (k : ℕ × ValType × ValType). false) each) × (premise cx (Table (op 7)) ≡ false)
 
 get_of_each : EachTable TableGet (λ it t. it ∷ []) (λ it t. t ∷ [])
 get_of_each = (refl, refl, refl)
@@ -263,7 +263,7 @@ inside = record { kind = Loop; block_type = Empty } ∷ record { kind = Block; b
 -- with this proposal alone, and not without it
 abbrev TailSays : Op → List ValType → ℕ → Type 0
 TailSays op wanted needs =
-    ((operator (under needs false) op).row inside ≡ record (plain_row true wanted []) { targets = record { depth = 2; carried = λ found. F32 ∷ [] } ∷ []; ends_live = true }) × (((operator (under (every - needs) false) op).row inside).premise ≡ false)
+    ((operator (under needs false) op).row inside ≡ record (plain_row wanted []) { targets = record { depth = 2; carried = λ found. F32 ∷ [] } ∷ []; ends_live = true }) × (((operator (under (every - needs) false) op).row inside).premise ≡ false)
 
 tail_indirect_of_32 : TailSays (return_call_indirect 1 0) (I32 ∷ I64 ∷ I32 ∷ []) tail_call
 tail_indirect_of_32 = (refl, refl)

@@ -5,7 +5,7 @@ use Rattle.std.specs.Prelude.{ℕ, suc, Bool, true, false, List, [], ◌∷◌, 
 use Rattle.validation_rules.specs.Branches.{has_label, br_row, br_if_row, br_table_row, return_row}
 use Rattle.validation_rules.specs.Context.{ValType, I32, BlockType, Context, block_signature}
 use Rattle.validation_rules.specs.Rows.{FrameKind, Block, If, Loop, TryTable, LegacyTry, LegacyCatch, LegacyCatchAll, Head, Opens, BeginsElse, BeginsCatch, Ends, Delegates, Clause, Operator}
-use Rattle.validation_rules.specs.Table.{plain_row, ending_row, flat_operator, row_operator, delimiter_operator, opening_operator}
+use Rattle.validation_rules.specs.Operators.{plain_row, plain_row_if, ending_row, ending_row_if, flat_operator, row_operator, delimiter_operator, opening_operator}
 
 -- ---- rows
 
@@ -14,7 +14,7 @@ abbrev pub opening : Context → FrameKind → BlockType → List Clause → Ope
 opening cx kind bt clauses =
     record {
       form = Opens (record { kind = kind; block_type = bt });
-      row = λ hs. record (plain_row true (block_signature cx.of_module bt).params []) { clauses = clauses };
+      row = λ hs. record (plain_row (block_signature cx.of_module bt).params []) { clauses = clauses };
     }
 
 abbrev pub is_catch_part : FrameKind → Bool
@@ -29,7 +29,7 @@ catch_label (h ∷ hs) = is_catch_part h.kind
 -- ---- operators
 
 abbrev pub unreachable : Operator
-unreachable = row_operator (ending_row true [])
+unreachable = row_operator (ending_row [])
 
 abbrev pub a_block : Context → BlockType → Operator
 a_block cx bt = opening_operator cx Block [] true bt
@@ -41,10 +41,10 @@ abbrev pub an_if : Context → BlockType → Operator
 an_if cx bt = opening_operator cx If (I32 ∷ []) true bt
 
 abbrev pub an_else : Operator
-an_else = delimiter_operator BeginsElse true
+an_else = delimiter_operator BeginsElse
 
 abbrev pub an_end : Operator
-an_end = delimiter_operator Ends true
+an_end = delimiter_operator Ends
 
 abbrev pub br : Context → ℕ → Operator
 br cx d = flat_operator (λ hs. br_row cx hs d)
@@ -63,20 +63,20 @@ a_try_table cx bt clauses = opening cx TryTable bt clauses
 
 -- of a tag with these parameters
 abbrev pub throw : List ValType → Operator
-throw types = row_operator (ending_row true types)
+throw types = row_operator (ending_row types)
 
 abbrev pub a_try : Context → BlockType → Operator
 a_try cx bt = opening cx LegacyTry bt []
 
 abbrev pub a_catch : List ValType → Operator
-a_catch types = delimiter_operator (BeginsCatch false types) true
+a_catch types = delimiter_operator (BeginsCatch false types)
 
 abbrev pub a_catch_all : Operator
-a_catch_all = delimiter_operator (BeginsCatch true []) true
+a_catch_all = delimiter_operator (BeginsCatch true [])
 
 -- the label is counted outside the frame that it closes
 abbrev pub delegate : ℕ → Operator
-delegate d = record { form = Delegates; row = λ hs. plain_row (has_label hs (suc d)) [] [] }
+delegate d = record { form = Delegates; row = λ hs. plain_row_if (has_label hs (suc d)) [] [] }
 
 abbrev pub rethrow : ℕ → Operator
-rethrow d = flat_operator (λ hs. ending_row (catch_label (drop d hs)) [])
+rethrow d = flat_operator (λ hs. ending_row_if (catch_label (drop d hs)) [])

@@ -11,9 +11,9 @@ use Rattle.validation_rules.specs.Fits.{MaybeType}
 use Rattle.validation_rules.specs.Rows.{FrameKind, Block, If, Loop, Head, results, is_if, is_try, may_catch, Form, Flat, Opens, BeginsElse, BeginsCatch, Ends, Delegates, Row, Operator}
 use Rattle.validation_rules.specs.Static.{Frame, State, heads, locals_set, pushed_by_form, state_after_exit, state_after, step_in, before, start}
 use Rattle.validation_rules.specs.Order.{nesting_of, RowsHold, RowsAreOrdered, BodiesAreOrdered}
-use Rattle.validation_rules.specs.Table.{checked_block, opener, operator, control_operator, body}
+use Rattle.validation_rules.specs.Operators.{checked_block, opener, operator, control_operator, body}
 use Rattle.validation_rules.proofs.Below.{and_true, true_and}
-use Rattle.validation_rules.proofs.Steps.{guard_some, bind_some, stepped}
+use Rattle.validation_rules.proofs.Steps.{guard_some, and_then_given, stepped}
 
 abbrev kinds : List Frame → List FrameKind
 kinds fs = map (λ (f : Frame). f.head.kind) fs
@@ -41,7 +41,7 @@ ordered : (cx : Context) (code : List Operator) (fs : List Frame) (left : List M
 ordered cx [] fs left h = refl
 ordered cx (op ∷ code) [] left h = absurd cc
 ordered cx (op ∷ code) (f ∷ fs) left h =
-    let m = bind_some (step_in cx op (f ∷ fs) left) (λ v. before cx code v (length code)) _ h.1 in
+    let m = and_then_given (step_in cx op (f ∷ fs) left) (λ v. before cx code v (length code)) _ h.1 in
     let st = stepped cx op f fs left m.0 m.1 in
     order_by left cx (op.row (heads (f ∷ fs))) (heads (f ∷ fs)) (locals_set (f ∷ fs)) f fs op.form st.pushed (λ js. is_ordered_from js (nestings code)) st.holds
     (subst (λ (v : State). is_ordered_from (kinds v.frames) (nestings code) ≡ true) st.leaves (ordered cx code m.0.frames m.0.left (h.0, m.2)))

@@ -1,12 +1,13 @@
 -- Pops one at a time from the top come to the wanted list taken whole, over the padded operands.
-use Rattle.std.proofs.Common.{◌≡◌, ◌≢◌, ℕ, zero, suc, ◌+◌, Bool, true, false, ◌&&◌, nat_le, List, [], ◌∷◌, ◌++◌, reverse, length, drop, Option, Some, None, refl, sym, ap, ◌∙◌, arith, append_assoc, append-nil}
+use Rattle.std.proofs.Common.{◌≡◌, ◌≢◌, ℕ, zero, suc, ◌+◌, Bool, true, false, ◌&&◌, nat_le, List, [], ◌∷◌, ◌++◌, reverse, length, drop, Option, Some, refl, sym, ap, ◌∙◌, arith, append_assoc, append-nil}
 use Rattle.std.proofs.lemmas.List.{reverse-append, reverse-reverse, length-reverse}
 use Rattle.std.proofs.Math.Dec.{leb-zero, leb-suc-zero, leb-suc-suc}
+use Rattle.std.specs.Option.{option_and_then}
 use Rattle.validation_rules.specs.Context.{ValType, Context}
-use Rattle.validation_rules.specs.Fits.{MaybeType, Bottom, fits, all_fit}
+use Rattle.validation_rules.specs.Fits.{MaybeType, fits, all_fit}
 use Rattle.validation_rules.specs.Rows.{Head, results, guard}
-use Rattle.validation_rules.specs.Static.{Frame, onto, operands_on_top, operands_found, operands_below, may_close, bind}
-use Rattle.validation_rules.specs.Pops.{operand_on_top, frame_after_pops, PopsAreWhole}
+use Rattle.validation_rules.specs.Static.{Frame, onto, operands_on_top, operands_found, operands_below, may_close}
+use Rattle.validation_rules.specs.Pops.{frame_after_pops, PopsAreWhole}
 
 -- ---- lists turned
 
@@ -66,7 +67,7 @@ module _ (cx : Context) where
 
   -- ---- pops from the top
 
-  together : {A B : Type 0} (b c : Bool) (x : A) (z : B) (k : A → Option B) → k x ≡ guard c (Some z) → bind (guard b (Some x)) k ≡ guard (b && c) (Some z)
+  together : {A B : Type 0} (b c : Bool) (x : A) (z : B) (k : A → Option B) → k x ≡ guard c (Some z) → option_and_then k (guard b (Some x)) ≡ guard (b && c) (Some z)
   together true c x z k h = h
   together false c x z k h = refl
 

@@ -2,10 +2,11 @@
 use Rattle.std.proofs.Common.{◌≡◌, ◌≤◌, ℕ, zero, suc, Bool, true, false, List, [], ◌∷◌, ◌++◌, length, drop, map, Option, Some, None, refl, sym, ap, arith, ◌∙◌, slice_get}
 use Rattle.std.specs.Option.{option_map}
 use Rattle.std.specs.Prelude.{if◌then◌else◌}
+use Rattle.std.specs.Option.{option_and_then}
 use Rattle.validation_rules.specs.Context.{ValType, Context}
 use Rattle.validation_rules.specs.Fits.{MaybeType, Known, all_fit}
 use Rattle.validation_rules.specs.Rows.{Head, params, results, Form, Row, Operator, guard}
-use Rattle.validation_rules.specs.Static.{Frame, State, heads, locals_set, pushed_types, state_after_exit, state_after, state_if_pushed, bind, step, step_in, before}
+use Rattle.validation_rules.specs.Static.{Frame, State, heads, locals_set, pushed_types, state_after_exit, state_after, state_if_pushed, step, step_in, before}
 
 -- ---- what an operator of a body leaves, of which nothing is left yet
 
@@ -39,9 +40,9 @@ pub mapped_some : {A B : Type 0} (f : A → B) (o : Option A) (y : B) → option
 mapped_some f (Some x) y e = (x, refl, some_injective _ _ e)
 mapped_some f None y e = absurd cc
 
-pub bind_some : {A B : Type 0} → (o : Option A) (f : A → Option B) (y : B) → bind o f ≡ Some y → (x : A) × (o ≡ Some x) × (f x ≡ Some y)
-bind_some None f y h = absurd cc
-bind_some (Some x) f y h = (x, refl, h)
+pub and_then_given : {A B : Type 0} → (o : Option A) (f : A → Option B) (y : B) → option_and_then f o ≡ Some y → (x : A) × (o ≡ Some x) × (f x ≡ Some y)
+and_then_given None f y h = absurd cc
+and_then_given (Some x) f y h = (x, refl, h)
 
 pub get_of_drop : (code : List Operator) (k : ℕ) (op : Operator) (ops : List Operator) → drop k code ≡ op ∷ ops → slice_get code k ≡ Some op
 get_of_drop [] zero op ops h = cc
@@ -76,24 +77,24 @@ before_next cx (x ∷ code) s zero op t u b g h =
     let e : s ≡ t = cc in
     let d : x ≡ op = cc in
     let same : step cx x s ≡ step cx op t = ap (λ o. step cx o s) d ∙ ap (λ (v : State). step cx op v) e in
-    ap (λ o. bind o (λ v. before cx code v zero)) (same ∙ h)
+    ap (λ o. option_and_then (λ v. before cx code v zero) o) (same ∙ h)
 before_next cx (x ∷ code) s (suc k) op t u b g h =
-    let m = bind_some (step cx x s) (λ v. before cx code v k) t b in
-    ap (λ o. bind o (λ v. before cx code v (suc k))) m.1 ∙ before_next cx code m.0 k op t u m.2 g h
+    let m = and_then_given (step cx x s) (λ v. before cx code v k) t b in
+    ap (λ o. option_and_then (λ v. before cx code v (suc k)) o) m.1 ∙ before_next cx code m.0 k op t u m.2 g h
 
 -- ---- lists by their ends
 
-pub bind_each : {A B : Type 0} (o : Option A) (f g : A → Option B) → ((x : A) → f x ≡ g x) → bind o f ≡ bind o g
-bind_each None f g h = refl
-bind_each (Some x) f g h = h x
+pub and_then_each : {A B : Type 0} (o : Option A) (f g : A → Option B) → ((x : A) → f x ≡ g x) → option_and_then f o ≡ option_and_then g o
+and_then_each None f g h = refl
+and_then_each (Some x) f g h = h x
 
-pub bind_some_all : {A : Type 0} (o : Option A) → bind o (λ x. Some x) ≡ o
-bind_some_all None = refl
-bind_some_all (Some x) = refl
+pub and_then_some : {A : Type 0} (o : Option A) → option_and_then (λ x. Some x) o ≡ o
+and_then_some None = refl
+and_then_some (Some x) = refl
 
-pub bind_twice : {A B C : Type 0} (o : Option A) (f : A → Option B) (g : B → Option C) → bind (bind o f) g ≡ bind o (λ x. bind (f x) g)
-bind_twice None f g = refl
-bind_twice (Some x) f g = refl
+pub and_then_twice : {A B C : Type 0} (o : Option A) (f : A → Option B) (g : B → Option C) → option_and_then g (option_and_then f o) ≡ option_and_then (λ x. option_and_then g (f x)) o
+and_then_twice None f g = refl
+and_then_twice (Some x) f g = refl
 
 -- one place further, whether or not the row there holds
 pub before_then : (cx : Context) (code : List Operator) (s : State) (k : ℕ) (op : Operator) (t : State) → before cx code s k ≡ Some t → slice_get code k ≡ Some op → before cx code s (suc k) ≡ step cx op t
@@ -101,21 +102,21 @@ before_then cx [] s k op t b g = absurd cc
 before_then cx (x ∷ code) s zero op t b g =
     let e : s ≡ t = cc in
     let d : x ≡ op = cc in
-    bind_some_all (step cx x s) ∙ ap (λ o. step cx o s) d ∙ ap (λ (v : State). step cx op v) e
+    and_then_some (step cx x s) ∙ ap (λ o. step cx o s) d ∙ ap (λ (v : State). step cx op v) e
 before_then cx (x ∷ code) s (suc k) op t b g =
-    let m = bind_some (step cx x s) (λ v. before cx code v k) t b in
-    ap (λ o. bind o (λ v. before cx code v (suc k))) m.1 ∙ before_then cx code m.0 k op t m.2 g
+    let m = and_then_given (step cx x s) (λ v. before cx code v k) t b in
+    ap (λ o. option_and_then (λ v. before cx code v (suc k)) o) m.1 ∙ before_then cx code m.0 k op t m.2 g
 
 -- what follows doesn't change the state before a place
 pub before_append : (cx : Context) (code more : List Operator) (s : State) (k : ℕ) → k ≤ length code → before cx (code ++ more) s k ≡ before cx code s k
 before_append cx code more s zero h = refl
 before_append cx [] more s (suc k) h = absurd (omega (arith, h))
 before_append cx (x ∷ code) more s (suc k) h =
-    bind_each (step cx x s) (λ v. before cx (code ++ more) v k) (λ v. before cx code v k) (λ v. before_append cx code more v k (omega (arith, h)))
+    and_then_each (step cx x s) (λ v. before cx (code ++ more) v k) (λ v. before cx code v k) (λ v. before_append cx code more v k (omega (arith, h)))
 
 -- a list with one more operator at its end
-pub before_last : (cx : Context) (code : List Operator) (op : Operator) (s : State) → before cx (code ++ op ∷ []) s (suc (length code)) ≡ bind (before cx code s (length code)) (step cx op)
-before_last cx [] op s = bind_some_all (step cx op s)
+pub before_last : (cx : Context) (code : List Operator) (op : Operator) (s : State) → before cx (code ++ op ∷ []) s (suc (length code)) ≡ option_and_then (step cx op) (before cx code s (length code))
+before_last cx [] op s = and_then_some (step cx op s)
 before_last cx (x ∷ code) op s =
-    bind_each (step cx x s) (λ v. before cx (code ++ op ∷ []) v (suc (length code))) (λ v. bind (before cx code v (length code)) (step cx op)) (λ v. before_last cx code op v)
-    ∙ sym (bind_twice (step cx x s) (λ v. before cx code v (length code)) (step cx op))
+    and_then_each (step cx x s) (λ v. before cx (code ++ op ∷ []) v (suc (length code))) (λ v. option_and_then (step cx op) (before cx code v (length code))) (λ v. before_last cx code op v)
+    ∙ sym (and_then_twice (step cx x s) (λ v. before cx code v (length code)) (step cx op))

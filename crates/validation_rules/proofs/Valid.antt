@@ -1,7 +1,8 @@
 -- Every step keeps the state valid.
-use Rattle.std.proofs.Common.{◌≡◌, ℕ, zero, suc, pred, Bool, true, false, not, ◌&&◌, ◌||◌, List, [], ◌∷◌, ◌++◌, length, map, drop, Option, Some, None, refl, sym, ap, ◌∙◌, subst, slice_get}
+use Rattle.std.proofs.Common.{◌≡◌, ℕ, zero, suc, pred, Bool, true, false, not, ◌&&◌, ◌||◌, List, [], ◌∷◌, ◌++◌, length, map, drop, Option, Some, None, refl, sym, ap, ◌∙◌, if◌then◌else◌, subst, slice_get}
 use Rattle.std.specs.List.{AllByRecursion, list_all}
 use Rattle.std.specs.Option.{option_map}
+use Rattle.std.specs.Option.{option_and_then}
 use Rattle.validate_types.specs.Features.{has, multi_value}
 use Rattle.validate_types.specs.Gates.{is_open}
 use Rattle.validate_types.specs.Types.{index_type, table_index_type}
@@ -11,7 +12,7 @@ use Rattle.validate_types.specs.declared.types.MemoryType.{MemoryType}
 use Rattle.validate_types.specs.declared.types.TableType.{TableType}
 use Rattle.validate_types.specs.declared.refs.RefType.{RefType}
 use Rattle.validate_types.specs.declared.heap.HeapType.{HeapType}
-use Rattle.validate_resources.specs.Context.{IsLawful, Valid, is_index_type, is_number}
+use Rattle.validate_resources.specs.Context.{IsLawful, Valid, is_number}
 use Rattle.validate_visit.specs.Gates.{gate_of}
 use Rattle.validate_visit.specs.Numbers.{number_type, integer_type, float_type, packed_type, access_type}
 use Rattle.validate_visit.specs.declared.memory.AtomicAccess.{AtomicAccess}
@@ -40,7 +41,7 @@ use Rattle.validate_visit.specs.declared.op.ReferenceOp.{ReferenceOp}
 use Rattle.validate_visit.specs.declared.op.ReferenceOp.TheVariants.{RefNull, RefIsNull, RefFunc, RefAsNonNull, BrOnNull, BrOnNonNull}
 use Rattle.validate_visit.specs.declared.op.TableOp.{TableOp}
 use Rattle.validate_visit.specs.declared.op.TableOp.TheVariants.{TableGet, TableSet, TableGrow, TableSize, TableFill, TableInit, ElemDrop, TableCopy}
-use Rattle.validation_rules.specs.Access.{memory_address_type, address_type, atomic_address_type, access_row, memory_copy_row_for}
+use Rattle.validation_rules.specs.Access.{memory_address_type, address_types, atomic_address_types, access_row, memory_copy_row_for}
 use Rattle.validation_rules.specs.Context.{ModuleContext, Signature, SubType, ValType, I32, I64, F32, F64, V128, Ref, BlockType, Empty, Val, FuncType, Context, block_signature, declared_signature}
 use Rattle.validation_rules.specs.Branches.{first_label_types, label_types_at}
 use Rattle.validation_rules.specs.Calls.{may_access, accessible_global, global_type, accessible_signature, callee, tail_call_row}
@@ -49,12 +50,12 @@ use Rattle.validation_rules.specs.References.{without_null, null_test_pushes, no
 use Rattle.validation_rules.specs.Tables.{accessible_table, table_type, table_init_row_for, table_copy_row_for, table_row}
 use Rattle.validation_rules.specs.Fits.{MaybeType, Bottom, UnknownRef, Known, fits}
 use Rattle.validation_rules.specs.Rows.{FrameKind, Block, If, Loop, is_loop, Head, params, results, Form, Flat, Opens, BeginsElse, BeginsCatch, Ends, Delegates, Plain, Row, Operator, pushed_for, operands_wanted, guard}
-use Rattle.validation_rules.specs.Static.{Frame, State, bind, heads, locals_set, onto, operands_on_top, operands_found, operands_below, pushed_by_form, pushed_by_row, operands_after, state_after_exit, state_after, step, step_in, before, start}
-use Rattle.validation_rules.specs.Table.{plain_row, may_name, checked_block, opener, flat_operator, row_operator, delimiter_operator, looking_row, drop_pushes, select_result, select_pushes, lookup_row, gated_operator, control_operator, numeric_row, convert_row, memory_row, atomic_row, ungated, operator, body}
-use Rattle.validation_rules.specs.Valid.{OperandIsValid, Resolves, BlockIsValid, FrameIsValid, StateIsValid, TableKeepsValid}
+use Rattle.validation_rules.specs.Static.{Frame, State, heads, locals_set, onto, operands_on_top, operands_found, operands_below, pushed_by_form, pushed_by_row, operands_after, state_after_exit, state_after, step, step_in, before}
+use Rattle.validation_rules.specs.Operators.{plain_row, plain_row_if, may_access_type, checked_block, opener, flat_operator, row_operator, delimiter_operator, looking_row_if, drop_pushes, select_result, select_pushes, lookup_row, gated_operator, control_operator, numeric_row, convert_row, memory_row, atomic_row, ungated, operator, body}
+use Rattle.validation_rules.specs.Valid.{IsValidOperand, Resolves, IsValidBlock, IsValidFrame, IsValidStateIn, RowsKeepValid}
 use Rattle.validation_rules.proofs.Keeping.{HeadIsValid, PushesValid, StepsKeepValid}
 use Rattle.validation_rules.proofs.Below.{and_true}
-use Rattle.validation_rules.proofs.Steps.{label_by, some_injective, guard_some, bind_some, mapped_some, stepped}
+use Rattle.validation_rules.proofs.Steps.{label_by, some_injective, guard_some, and_then_given, mapped_some, stepped}
 
 -- ---- lists
 
@@ -68,45 +69,45 @@ all_drop P (suc n) [] h = tt
 all_drop P (suc n) (x ∷ xs) h = all_drop P n xs h.1
 
 module _ (md : ModuleContext) where
-  pub all_known : (ts : List ValType) → AllByRecursion (Valid md) ts → AllByRecursion (OperandIsValid md) (map Known ts)
+  pub all_known : (ts : List ValType) → AllByRecursion (Valid md) ts → AllByRecursion (IsValidOperand md) (map Known ts)
   all_known [] h = tt
   all_known (t ∷ ts) h = (h.0, all_known ts h.1)
 
-  on_top_valid : (n : ℕ) (dead : Bool) (own : List MaybeType) → AllByRecursion (OperandIsValid md) own → AllByRecursion (OperandIsValid md) (operands_on_top n dead own)
+  on_top_valid : (n : ℕ) (dead : Bool) (own : List MaybeType) → AllByRecursion (IsValidOperand md) own → AllByRecursion (IsValidOperand md) (operands_on_top n dead own)
   on_top_valid zero dead own h = tt
   on_top_valid (suc n) dead (x ∷ own) h = (h.0, on_top_valid n dead own h.1)
   on_top_valid (suc n) true [] h = (tt, on_top_valid n true [] tt)
   on_top_valid (suc n) false [] h = tt
 
   -- what is found in a frame of valid operands is valid
-  pub found_valid : (n : ℕ) (f : Frame) → AllByRecursion (OperandIsValid md) f.operands → AllByRecursion (OperandIsValid md) (operands_found n f)
-  found_valid n f h = all_onto (OperandIsValid md) (operands_on_top n f.dead f.operands) [] (on_top_valid n f.dead f.operands h) tt
+  pub found_valid : (n : ℕ) (f : Frame) → AllByRecursion (IsValidOperand md) f.operands → AllByRecursion (IsValidOperand md) (operands_found n f)
+  found_valid n f h = all_onto (IsValidOperand md) (operands_on_top n f.dead f.operands) [] (on_top_valid n f.dead f.operands h) tt
 
   declared_params : IsLawful md → (i : ℕ) (o : Option SubType) → md.type_at i ≡ o → AllByRecursion (Valid md) (declared_signature o).params
   declared_params laws i None e = tt
-  declared_params laws i (Some s) e = laws.params i s e
+  declared_params laws i (Some s) e = (laws.types i s e).params
 
   declared_results : IsLawful md → (i : ℕ) (o : Option SubType) → md.type_at i ≡ o → AllByRecursion (Valid md) (declared_signature o).results
   declared_results laws i None e = tt
-  declared_results laws i (Some s) e = laws.results i s e
+  declared_results laws i (Some s) e = (laws.types i s e).results
 
   -- what a block type stands for is valid
-  pub params_valid : IsLawful md → (shared : Bool) (bt : BlockType) → BlockIsValid md shared bt → AllByRecursion (Valid md) (block_signature md bt).params
+  pub params_valid : IsLawful md → (shared : Bool) (bt : BlockType) → IsValidBlock md shared bt → AllByRecursion (Valid md) (block_signature md bt).params
   params_valid laws shared Empty b = tt
   params_valid laws shared (Val t) b = tt
   params_valid laws shared (FuncType i) b = declared_params laws i (md.type_at i) refl
 
-  pub results_valid : IsLawful md → (shared : Bool) (bt : BlockType) → BlockIsValid md shared bt → AllByRecursion (Valid md) (block_signature md bt).results
+  pub results_valid : IsLawful md → (shared : Bool) (bt : BlockType) → IsValidBlock md shared bt → AllByRecursion (Valid md) (block_signature md bt).results
   results_valid laws shared Empty b = tt
   results_valid laws shared (Val t) b = (b, tt)
   results_valid laws shared (FuncType i) b = declared_results laws i (md.type_at i) refl
 
 module _ (cx : Context) (laws : IsLawful cx.of_module) where
   abbrev Operands : List MaybeType → Type 0
-  Operands xs = AllByRecursion (OperandIsValid cx.of_module) xs
+  Operands xs = AllByRecursion (IsValidOperand cx.of_module) xs
 
   abbrev Frames : List Frame → Type 0
-  Frames fs = AllByRecursion (FrameIsValid cx.of_module cx.shared) fs
+  Frames fs = AllByRecursion (IsValidFrame cx.of_module cx.shared) fs
 
   pub heads_valid : (fs : List Frame) → Frames fs → AllByRecursion (HeadIsValid cx) (heads fs)
   heads_valid [] h = tt
@@ -117,16 +118,16 @@ module _ (cx : Context) (laws : IsLawful cx.of_module) where
   Both s = Frames s.frames × Operands s.left
 
   given_valid : (left : List MaybeType) (types : List ValType) (fs : List Frame) → AllByRecursion (Valid cx.of_module) types → Frames fs → Operands left → Both (state_after_exit left types fs)
-  given_valid left types [] t h k = (tt, all_onto (OperandIsValid cx.of_module) (map Known types) left (all_known cx.of_module types t) k)
+  given_valid left types [] t h k = (tt, all_onto (IsValidOperand cx.of_module) (map Known types) left (all_known cx.of_module types t) k)
   given_valid left types (f ∷ fs) t h k =
-      ((record { block = h.0.block; operands = all_onto (OperandIsValid cx.of_module) (map Known types) f.operands (all_known cx.of_module types t) h.0.operands }, h.1), k)
+      ((record { block = h.0.block; operands = all_onto (IsValidOperand cx.of_module) (map Known types) f.operands (all_known cx.of_module types t) h.0.operands }, h.1), k)
 
   own_valid : (dead : Bool) (below pushed : List MaybeType) → Operands below → Operands pushed → Operands (operands_after dead below pushed)
   own_valid true below pushed b p = tt
-  own_valid false below pushed b p = all_onto (OperandIsValid cx.of_module) pushed below p b
+  own_valid false below pushed b p = all_onto (IsValidOperand cx.of_module) pushed below p b
 
   opened_valid : (types : List ValType) → AllByRecursion (Valid cx.of_module) types → Operands (onto (map Known types) [])
-  opened_valid types t = all_onto (OperandIsValid cx.of_module) (map Known types) [] (all_known cx.of_module types t) tt
+  opened_valid types t = all_onto (IsValidOperand cx.of_module) (map Known types) [] (all_known cx.of_module types t) tt
 
   -- what a row that holds gave: its premise, and its operands
   by_premise : (r : Row) (hs : List Head) (set : List ℕ) (f : Frame) (pushed : List MaybeType) → pushed_by_row cx r hs set f ≡ Some pushed → (r.premise ≡ true) × (pushed_for cx r.type (operands_found (operands_wanted r.type) f) ≡ Some pushed)
@@ -141,13 +142,13 @@ module _ (cx : Context) (laws : IsLawful cx.of_module) where
       let g = by_premise r (heads (f ∷ fs)) (locals_set (f ∷ fs)) f pushed p in
       let n = operands_wanted r.type in
       let q = v.pushed (heads (f ∷ fs)) (operands_found n f) pushed g.0 (heads_valid (f ∷ fs) h) (found_valid cx.of_module n f h.0.operands) g.1 in
-      ((record { block = h.0.block; operands = own_valid r.ends_live (operands_below n f) pushed (all_drop (OperandIsValid cx.of_module) n f.operands h.0.operands) q }, h.1), k)
+      ((record { block = h.0.block; operands = own_valid r.ends_live (operands_below n f) pushed (all_drop (IsValidOperand cx.of_module) n f.operands h.0.operands) q }, h.1), k)
   after_valid op v left f fs (Opens o) e pushed h k p =
       let r = op.row (heads (f ∷ fs)) in
       let g = by_premise r (heads (f ∷ fs)) (locals_set (f ∷ fs)) f pushed p in
       let n = operands_wanted r.type in
       let b = v.opened (heads (f ∷ fs)) o g.0 e in
-      ((record { block = b; operands = opened_valid (params cx o) (params_valid cx.of_module laws cx.shared o.block_type b) }, (record { block = h.0.block; operands = all_drop (OperandIsValid cx.of_module) n f.operands h.0.operands }, h.1)), k)
+      ((record { block = b; operands = opened_valid (params cx o) (params_valid cx.of_module laws cx.shared o.block_type b) }, (record { block = h.0.block; operands = all_drop (IsValidOperand cx.of_module) n f.operands h.0.operands }, h.1)), k)
   after_valid op v left f fs BeginsElse e pushed h k p =
       ((record { block = h.0.block; operands = opened_valid (params cx f.head) (params_valid cx.of_module laws cx.shared f.head.block_type h.0.block) }, h.1), k)
   after_valid op v left f fs (BeginsCatch all types) e pushed h k p =
@@ -176,7 +177,7 @@ module _ (cx : Context) (laws : IsLawful cx.of_module) where
   plain_valid premise reads sets wanted push dead h =
       record {
         pushed = λ hs xs pushed p v f g.
-            subst (λ ys. AllByRecursion (OperandIsValid cx.of_module) ys) (some_injective _ _ (guard_some _ _ _ g).1) (all_known cx.of_module push (h p));
+            subst (λ ys. AllByRecursion (IsValidOperand cx.of_module) ys) (some_injective _ _ (guard_some _ _ _ g).1) (all_known cx.of_module push (h p));
         opened = λ hs k p e. absurd cc;
         begun = λ hs all types p e. absurd cc;
       }
@@ -189,7 +190,7 @@ module _ (cx : Context) (laws : IsLawful cx.of_module) where
   nothing_pushed : (pushed : List MaybeType) (b : Bool) → guard b (Some []) ≡ Some pushed → Operands pushed
   nothing_pushed pushed b g = subst Operands (some_injective _ _ (guard_some _ _ _ g).1) tt
 
-  else_valid : PushesValid cx (delimiter_operator BeginsElse true)
+  else_valid : PushesValid cx (delimiter_operator BeginsElse)
   else_valid =
       record {
         pushed = λ hs xs pushed p v f g. nothing_pushed pushed _ g;
@@ -197,7 +198,7 @@ module _ (cx : Context) (laws : IsLawful cx.of_module) where
         begun = λ hs all types p e. absurd cc;
       }
 
-  end_valid : PushesValid cx (delimiter_operator Ends true)
+  end_valid : PushesValid cx (delimiter_operator Ends)
   end_valid =
       record {
         pushed = λ hs xs pushed p v f g. nothing_pushed pushed _ g;
@@ -206,7 +207,7 @@ module _ (cx : Context) (laws : IsLawful cx.of_module) where
       }
 
   -- an operator that looks at valid operands
-  looks_valid : (premise : Bool) (n : ℕ) (pushed_for : List MaybeType → Option (List MaybeType)) → ((xs pushed : List MaybeType) → Operands xs → pushed_for xs ≡ Some pushed → Operands pushed) → PushesValid cx (row_operator (looking_row premise n pushed_for))
+  looks_valid : (premise : Bool) (n : ℕ) (pushed_for : List MaybeType → Option (List MaybeType)) → ((xs pushed : List MaybeType) → Operands xs → pushed_for xs ≡ Some pushed → Operands pushed) → PushesValid cx (row_operator (looking_row_if premise n pushed_for))
   looks_valid premise n pushed_for h =
       record {
         pushed = λ hs xs pushed p v f g. h xs pushed f g;
@@ -214,13 +215,13 @@ module _ (cx : Context) (laws : IsLawful cx.of_module) where
         begun = λ hs all types p e. absurd cc;
       }
 
-  selected_valid : (a b : MaybeType) (o : Option MaybeType) (ys : List MaybeType) → OperandIsValid cx.of_module a → OperandIsValid cx.of_module b → select_result a b ≡ o → option_map (λ (x : MaybeType). x ∷ []) o ≡ Some ys → Operands ys
+  selected_valid : (a b : MaybeType) (o : Option MaybeType) (ys : List MaybeType) → IsValidOperand cx.of_module a → IsValidOperand cx.of_module b → select_result a b ≡ o → option_map (λ (x : MaybeType). x ∷ []) o ≡ Some ys → Operands ys
   selected_valid a b None ys v w e h = absurd cc
   selected_valid (UnknownRef a) b (Some x) ys v w e h = absurd cc
   selected_valid (Known t) (UnknownRef b) (Some x) ys v w e h = absurd cc
-  selected_valid Bottom b (Some x) ys v w e h = subst Operands (some_injective _ _ h) (subst (OperandIsValid cx.of_module) (some_injective _ _ (guard_some _ _ _ e).1) w, tt)
-  selected_valid (Known t) Bottom (Some x) ys v w e h = subst Operands (some_injective _ _ h) (subst (OperandIsValid cx.of_module) (some_injective _ _ (guard_some _ _ _ e).1) v, tt)
-  selected_valid (Known t) (Known u) (Some x) ys v w e h = subst Operands (some_injective _ _ h) (subst (OperandIsValid cx.of_module) (some_injective _ _ (guard_some _ _ _ e).1) v, tt)
+  selected_valid Bottom b (Some x) ys v w e h = subst Operands (some_injective _ _ h) (subst (IsValidOperand cx.of_module) (some_injective _ _ (guard_some _ _ _ e).1) w, tt)
+  selected_valid (Known t) Bottom (Some x) ys v w e h = subst Operands (some_injective _ _ h) (subst (IsValidOperand cx.of_module) (some_injective _ _ (guard_some _ _ _ e).1) v, tt)
+  selected_valid (Known t) (Known u) (Some x) ys v w e h = subst Operands (some_injective _ _ h) (subst (IsValidOperand cx.of_module) (some_injective _ _ (guard_some _ _ _ e).1) v, tt)
 
   selects_valid : (xs pushed : List MaybeType) → Operands xs → select_pushes cx xs ≡ Some pushed → Operands pushed
   selects_valid (a ∷ b ∷ c ∷ []) pushed v h = selected_valid a b (select_result a b) pushed v.0 v.1.0 refl (guard_some _ _ _ h).1
@@ -266,21 +267,21 @@ module _ (cx : Context) (laws : IsLawful cx.of_module) where
   shared_by true b h e = h
   shared_by false b h e = absurd cc
 
-  named_resolves : (i : ℕ) (o : Option SubType) → cx.of_module.type_at i ≡ o → may_name cx o ≡ true → Resolves cx.of_module cx.shared i
+  named_resolves : (i : ℕ) (o : Option SubType) → cx.of_module.type_at i ≡ o → may_access_type cx o ≡ true → Resolves cx.of_module cx.shared i
   named_resolves i (Some s) e h = record { type = s; is_there = e; is_shared = shared_by cx.shared s.composite_type.shared h }
   named_resolves i None e h = absurd cc
 
-  value_valid : (t : ValType) (o : Option ValType) → cx.of_module.canonical cx.features t ≡ o → (bt : BlockType) → option_map (λ u. Val u) o ≡ Some bt → BlockIsValid cx.of_module cx.shared bt
-  value_valid t (Some u) e bt h = subst (λ b. BlockIsValid cx.of_module cx.shared b) (some_injective _ _ h) (laws.checked cx.features t u e)
+  value_valid : (t : ValType) (o : Option ValType) → cx.of_module.canonical cx.features t ≡ o → (bt : BlockType) → option_map (λ u. Val u) o ≡ Some bt → IsValidBlock cx.of_module cx.shared bt
+  value_valid t (Some u) e bt h = subst (λ b. IsValidBlock cx.of_module cx.shared b) (some_injective _ _ h) (laws.checked cx.features t u e)
   value_valid t None e bt h = absurd cc
 
   -- a block type that passed its check
-  pub checked_valid : (declared bt : BlockType) → checked_block cx declared ≡ Some bt → BlockIsValid cx.of_module cx.shared bt
-  checked_valid Empty bt h = subst (λ b. BlockIsValid cx.of_module cx.shared b) (some_injective _ _ h) tt
+  pub checked_valid : (declared bt : BlockType) → checked_block cx declared ≡ Some bt → IsValidBlock cx.of_module cx.shared bt
+  checked_valid Empty bt h = subst (λ b. IsValidBlock cx.of_module cx.shared b) (some_injective _ _ h) tt
   checked_valid (Val t) bt h = value_valid t (cx.of_module.canonical cx.features t) refl bt h
   checked_valid (FuncType i) bt h =
       let g = guard_some _ _ _ h in
-      subst (λ b. BlockIsValid cx.of_module cx.shared b) (some_injective _ _ g.1) (named_resolves i (cx.of_module.type_at i) refl (and_true (has cx.features multi_value) _ g.0).1)
+      subst (λ b. IsValidBlock cx.of_module cx.shared b) (some_injective _ _ g.1) (named_resolves i (cx.of_module.type_at i) refl (and_true (has cx.features multi_value) _ g.0).1)
 
   opener_valid : (kind : FrameKind) (above : List ValType) (declared : BlockType) (o : Option BlockType) → checked_block cx declared ≡ o → PushesValid cx (opener cx kind above declared o)
   opener_valid kind above declared (Some bt) e =
@@ -288,7 +289,7 @@ module _ (cx : Context) (laws : IsLawful cx.of_module) where
         pushed = λ hs xs pushed p v f g. nothing_pushed pushed _ g;
         opened = λ hs k p i.
             let d : record { kind = kind; block_type = bt } ≡ k = cc in
-            subst (λ (h : Head). BlockIsValid cx.of_module cx.shared h.block_type) d (checked_valid declared bt e);
+            subst (λ (h : Head). IsValidBlock cx.of_module cx.shared h.block_type) d (checked_valid declared bt e);
         begun = λ hs all types p i. absurd cc;
       }
   opener_valid kind above declared None e =
@@ -302,26 +303,26 @@ module _ (cx : Context) (laws : IsLawful cx.of_module) where
 
   global_valid : (i : ℕ) (g : GlobalType) → global_type cx i ≡ Some g → Valid cx.of_module g.content_type
   global_valid i g e =
-      let b = bind_some (cx.of_module.global_at i) (accessible_global cx) g e in
+      let b = and_then_given (cx.of_module.global_at i) (accessible_global cx) g e in
       let k = guard_some (may_access cx b.0.shared) _ _ b.2 in
       subst (λ (h : GlobalType). Valid cx.of_module h.content_type) (some_injective _ _ k.1) (laws.globals i b.0 b.1)
 
   signature_valid : (f : ℕ) (s : Signature) → callee cx f ≡ Some s → AllByRecursion (Valid cx.of_module) s.results
   signature_valid f s e =
-      let b = bind_some (bind (cx.of_module.type_index_of f) cx.of_module.type_at) (accessible_signature cx) s e in
-      let i = bind_some (cx.of_module.type_index_of f) cx.of_module.type_at b.0 b.1 in
+      let b = and_then_given (option_and_then cx.of_module.type_at (cx.of_module.type_index_of f)) (accessible_signature cx) s e in
+      let i = and_then_given (cx.of_module.type_index_of f) cx.of_module.type_at b.0 b.1 in
       let k = guard_some (may_access cx b.0.composite_type.shared) _ _ b.2 in
-      subst (λ (t : Signature). AllByRecursion (Valid cx.of_module) t.results) (some_injective _ _ k.1) (laws.results i.0 b.0 i.2)
+      subst (λ (t : Signature). AllByRecursion (Valid cx.of_module) t.results) (some_injective _ _ k.1) (laws.types i.0 b.0 i.2).results
 
-  global_get_valid : (i : ℕ) (o : Option GlobalType) → global_type cx i ≡ o → PushesValid cx (row_operator (lookup_row o (λ g. plain_row true [] (g.content_type ∷ []))))
+  global_get_valid : (i : ℕ) (o : Option GlobalType) → global_type cx i ≡ o → PushesValid cx (row_operator (lookup_row o (λ g. plain_row [] (g.content_type ∷ []))))
   global_get_valid i None e = plain_valid _ _ _ _ _ _ (λ p. tt)
   global_get_valid i (Some g) e = plain_valid _ _ _ _ _ _ (λ p. (global_valid i g e, tt))
 
-  global_set_valid : (o : Option GlobalType) → PushesValid cx (row_operator (lookup_row o (λ g. plain_row g.mutable (g.content_type ∷ []) [])))
+  global_set_valid : (o : Option GlobalType) → PushesValid cx (row_operator (lookup_row o (λ g. plain_row_if g.mutable (g.content_type ∷ []) [])))
   global_set_valid None = plain_valid _ _ _ _ [] _ (λ p. tt)
   global_set_valid (Some g) = plain_valid _ _ _ _ [] _ (λ p. tt)
 
-  call_valid : (f : ℕ) (o : Option Signature) → callee cx f ≡ o → PushesValid cx (row_operator (lookup_row o (λ s. plain_row true s.params s.results)))
+  call_valid : (f : ℕ) (o : Option Signature) → callee cx f ≡ o → PushesValid cx (row_operator (lookup_row o (λ s. plain_row s.params s.results)))
   call_valid f None e = plain_valid _ _ _ _ [] _ (λ p. tt)
   call_valid f (Some s) e = plain_valid _ _ _ _ s.results _ (λ p. signature_valid f s e)
 
@@ -333,11 +334,11 @@ module _ (cx : Context) (laws : IsLawful cx.of_module) where
 
   typed_signature_valid : (i : ℕ) (s : Signature) → typed_callee cx i ≡ Some s → AllByRecursion (Valid cx.of_module) s.results
   typed_signature_valid i s e =
-      let b = bind_some (cx.of_module.type_at i) (accessible_signature cx) s e in
+      let b = and_then_given (cx.of_module.type_at i) (accessible_signature cx) s e in
       let k = guard_some (may_access cx b.0.composite_type.shared) _ _ b.2 in
-      subst (λ (t : Signature). AllByRecursion (Valid cx.of_module) t.results) (some_injective _ _ k.1) (laws.results i b.0 b.1)
+      subst (λ (t : Signature). AllByRecursion (Valid cx.of_module) t.results) (some_injective _ _ k.1) (laws.types i b.0 b.1).results
 
-  call_by_valid : (names : Option ValType) (i : ℕ) (o : Option Signature) → typed_callee cx i ≡ o → PushesValid cx (row_operator (lookup_row names (λ t. lookup_row o (λ s. plain_row true (s.params ++ t ∷ []) s.results))))
+  call_by_valid : (names : Option ValType) (i : ℕ) (o : Option Signature) → typed_callee cx i ≡ o → PushesValid cx (row_operator (lookup_row names (λ t. lookup_row o (λ s. plain_row (s.params ++ t ∷ []) s.results))))
   call_by_valid None i o e = plain_valid _ None None [] [] false (λ p. tt)
   call_by_valid (Some t) i None e = plain_valid _ None None [] [] false (λ p. tt)
   call_by_valid (Some t) i (Some s) e = plain_valid _ None None _ s.results false (λ p. typed_signature_valid i s e)
@@ -396,10 +397,9 @@ module _ (cx : Context) (laws : IsLawful cx.of_module) where
   numbers_pushed : (premise : Bool) (reads sets : Option ℕ) (wanted push : List ValType) (dead : Bool) → list_all is_number push ≡ true → PushesValid cx (row_operator (record { premise = premise; reads = reads; type = Plain wanted [] push; sets = sets; targets = []; clauses = []; ends_live = dead }))
   numbers_pushed premise reads sets wanted push dead h = plain_valid premise reads sets wanted push dead (λ p. numbers_valid push h)
 
-  index_is_number : (t : ValType) → is_index_type t ≡ true → is_number t ≡ true
-  index_is_number I32 h = refl
-  index_is_number I64 h = refl
-  index_is_number _ h = absurd cc
+  address_is_number : (has_64_bits : Bool) → is_number (if has_64_bits then I64 else I32) ≡ true
+  address_is_number true = refl
+  address_is_number false = refl
 
   number_is_valid : (t : NumberType) → Valid cx.of_module (number_type t)
   number_is_valid NumberI32 = refl
@@ -453,18 +453,18 @@ module _ (cx : Context) (laws : IsLawful cx.of_module) where
     where
       by : (o : Option MemoryType) → cx.of_module.memory_at m ≡ o → option_map index_type o ≡ Some t → Valid cx.of_module t
       by None k h = absurd cc
-      by (Some ty) k h = subst (Valid cx.of_module) (some_injective _ _ h) (number_valid (index_type ty) (index_is_number (index_type ty) (laws.memory_index m ty k)))
+      by (Some ty) k h = subst (Valid cx.of_module) (some_injective _ _ h) (number_valid (index_type ty) (address_is_number ty.memory64))
 
   -- accesses push what they read, if anything
-  access_valid : (o : Option ValType) (above push : List ValType) → AllByRecursion (Valid cx.of_module) push → PushesValid cx (row_operator (access_row o above push))
+  access_valid : (o : Option (List ValType)) (above push : List ValType) → AllByRecursion (Valid cx.of_module) push → PushesValid cx (row_operator (access_row o above push))
   access_valid None above push h = plain_valid _ None None [] [] false (λ p. tt)
-  access_valid (Some it) above push h = plain_valid _ None None (it ∷ above) push false (λ p. h)
+  access_valid (Some types) above push h = plain_valid _ None None (types ++ above) push false (λ p. h)
 
   memory_valid : (op : MemoryOp) → PushesValid cx (row_operator (memory_row cx op))
-  memory_valid (Load t arg) = access_valid (address_type cx.of_module arg) [] (number_type t ∷ []) (number_is_valid t, tt)
-  memory_valid (LoadPacked packed sign arg) = access_valid (address_type cx.of_module arg) [] (packed_type packed ∷ []) (packed_is_valid packed, tt)
-  memory_valid (Store t arg) = access_valid (address_type cx.of_module arg) (number_type t ∷ []) [] tt
-  memory_valid (StorePacked packed arg) = access_valid (address_type cx.of_module arg) (packed_type packed ∷ []) [] tt
+  memory_valid (Load t arg) = access_valid (address_types cx.of_module arg) [] (number_type t ∷ []) (number_is_valid t, tt)
+  memory_valid (LoadPacked packed sign arg) = access_valid (address_types cx.of_module arg) [] (packed_type packed ∷ []) (packed_is_valid packed, tt)
+  memory_valid (Store t arg) = access_valid (address_types cx.of_module arg) (number_type t ∷ []) [] tt
+  memory_valid (StorePacked packed arg) = access_valid (address_types cx.of_module arg) (packed_type packed ∷ []) [] tt
   memory_valid (MemorySize m) = by_lookup_valid (memory_address_type cx.of_module m) _ (λ t e. plain_valid _ _ _ _ _ _ (λ p. (index_valid m t e, tt)))
   memory_valid (MemoryGrow m) = by_lookup_valid (memory_address_type cx.of_module m) _ (λ t e. plain_valid _ _ _ _ _ _ (λ p. (index_valid m t e, tt)))
   memory_valid (MemoryInit segment m) = by_lookup_valid (memory_address_type cx.of_module m) _ (λ t e. numbers_pushed _ _ _ _ _ _ refl)
@@ -474,21 +474,21 @@ module _ (cx : Context) (laws : IsLawful cx.of_module) where
   memory_valid (MemoryDiscard m) = by_lookup_valid (memory_address_type cx.of_module m) _ (λ t e. numbers_pushed _ _ _ _ _ _ refl)
 
   atomic_valid : (op : AtomicOp) → PushesValid cx (row_operator (atomic_row cx op))
-  atomic_valid (AtomicNotify arg) = access_valid (atomic_address_type cx.of_module arg) (I32 ∷ []) (I32 ∷ []) (refl, tt)
-  atomic_valid (AtomicWait t arg) = access_valid (atomic_address_type cx.of_module arg) (integer_type t ∷ I64 ∷ []) (I32 ∷ []) (refl, tt)
+  atomic_valid (AtomicNotify arg) = access_valid (atomic_address_types cx.of_module arg) (I32 ∷ []) (I32 ∷ []) (refl, tt)
+  atomic_valid (AtomicWait t arg) = access_valid (atomic_address_types cx.of_module arg) (integer_type t ∷ I64 ∷ []) (I32 ∷ []) (refl, tt)
   atomic_valid (AtomicFence ordering) = numbers_pushed _ _ _ _ _ _ refl
-  atomic_valid (AtomicLoad access arg) = access_valid (atomic_address_type cx.of_module arg) [] (access_type access ∷ []) (access_is_valid access, tt)
-  atomic_valid (AtomicStore access arg) = access_valid (atomic_address_type cx.of_module arg) (access_type access ∷ []) [] tt
-  atomic_valid (AtomicRmw access op arg) = access_valid (atomic_address_type cx.of_module arg) (access_type access ∷ []) (access_type access ∷ []) (access_is_valid access, tt)
-  atomic_valid (AtomicCmpxchg access arg) = access_valid (atomic_address_type cx.of_module arg) (access_type access ∷ access_type access ∷ []) (access_type access ∷ []) (access_is_valid access, tt)
+  atomic_valid (AtomicLoad access arg) = access_valid (atomic_address_types cx.of_module arg) [] (access_type access ∷ []) (access_is_valid access, tt)
+  atomic_valid (AtomicStore access arg) = access_valid (atomic_address_types cx.of_module arg) (access_type access ∷ []) [] tt
+  atomic_valid (AtomicRmw access op arg) = access_valid (atomic_address_types cx.of_module arg) (access_type access ∷ []) (access_type access ∷ []) (access_is_valid access, tt)
+  atomic_valid (AtomicCmpxchg access arg) = access_valid (atomic_address_types cx.of_module arg) (access_type access ∷ access_type access ∷ []) (access_type access ∷ []) (access_is_valid access, tt)
   atomic_valid Pause = numbers_pushed _ _ _ _ _ _ refl
 
   -- ---- references
 
-  pub without_null_valid : (x y : MaybeType) → OperandIsValid cx.of_module x → without_null x ≡ Some y → OperandIsValid cx.of_module y
-  without_null_valid Bottom y v e = subst (OperandIsValid cx.of_module) (some_injective _ _ e) tt
-  without_null_valid (UnknownRef a) y v e = subst (OperandIsValid cx.of_module) (some_injective _ _ e) tt
-  without_null_valid (Known (Ref r)) y v e = subst (OperandIsValid cx.of_module) (some_injective _ _ e) v
+  pub without_null_valid : (x y : MaybeType) → IsValidOperand cx.of_module x → without_null x ≡ Some y → IsValidOperand cx.of_module y
+  without_null_valid Bottom y v e = subst (IsValidOperand cx.of_module) (some_injective _ _ e) tt
+  without_null_valid (UnknownRef a) y v e = subst (IsValidOperand cx.of_module) (some_injective _ _ e) tt
+  without_null_valid (Known (Ref r)) y v e = subst (IsValidOperand cx.of_module) (some_injective _ _ e) v
   without_null_valid (Known _) y v e = absurd cc
 
   is_null_valid : (xs pushed : List MaybeType) → Operands xs → null_test_pushes xs ≡ Some pushed → Operands pushed
@@ -548,12 +548,12 @@ module _ (cx : Context) (laws : IsLawful cx.of_module) where
   null_valid : (h : HeapType) → PushesValid cx (flat_operator (λ hs. reference_row cx hs (RefNull h)))
   null_valid h =
       by_lookup_valid (null_heap cx h) _
-      (λ k e. plain_valid _ _ _ _ _ _ (λ p. ((laws.checked_heap h k (guard_some (is_null_gate_open cx h) _ _ e).1).is_valid, tt)))
+      (λ k e. plain_valid _ _ _ _ _ _ (λ p. (laws.checked_heap h k (guard_some (is_null_gate_open cx h) _ _ e).1, tt)))
 
   reference_valid : (op : ReferenceOp) → PushesValid cx (flat_operator (λ hs. reference_row cx hs op))
   reference_valid (RefNull h) = null_valid h
   reference_valid RefIsNull = looks_valid _ 1 null_test_pushes is_null_valid
-  reference_valid (RefFunc f) = by_lookup_valid (cx.of_module.type_id_of f) _ (λ id e. plain_valid _ _ _ _ _ _ (λ p. ((laws.functions f id e).is_valid, tt)))
+  reference_valid (RefFunc f) = by_lookup_valid (cx.of_module.type_id_of f) _ (λ id e. plain_valid _ _ _ _ _ _ (λ p. (laws.functions f id e, tt)))
   reference_valid RefAsNonNull = looks_valid _ 1 (non_null_pushes cx []) (non_null_above_valid [] tt)
   reference_valid (BrOnNull d) = br_on_null_valid d
   reference_valid (BrOnNonNull d) = br_on_non_null_valid d
@@ -562,12 +562,12 @@ module _ (cx : Context) (laws : IsLawful cx.of_module) where
 
   table_found : (i : ℕ) (t : TableType) → table_type cx i ≡ Some t → cx.of_module.table_at i ≡ Some t
   table_found i t e =
-      let b = bind_some (cx.of_module.table_at i) (accessible_table cx) t e in
+      let b = and_then_given (cx.of_module.table_at i) (accessible_table cx) t e in
       let k = guard_some (may_access cx b.0.shared) _ _ b.2 in
       subst (λ u. cx.of_module.table_at i ≡ Some u) (some_injective _ _ k.1) b.1
 
   place_valid : (i : ℕ) (t : TableType) → table_type cx i ≡ Some t → Valid cx.of_module (table_index_type t)
-  place_valid i t e = number_valid _ (index_is_number _ (laws.table_index i t (table_found i t e)))
+  place_valid i t e = number_valid _ (address_is_number t.table64)
 
   table_valid : (op : TableOp) → PushesValid cx (row_operator (table_row cx op))
   table_valid (TableGet i) = by_lookup_valid (table_type cx i) _ (λ t e. plain_valid _ _ _ _ _ _ (λ p. (laws.tables i t (table_found i t e), tt)))
@@ -600,8 +600,8 @@ module _ (cx : Context) (laws : IsLawful cx.of_module) where
   pub operator_valid : (op : Op) → AllByRecursion (Valid cx.of_module) cx.locals → PushesValid cx (operator cx op)
   operator_valid op l = behind_valid (gate_of op) (ungated cx op) (ungated_valid op l)
 
-pub table_keeps_valid : (md : ModuleContext) → IsLawful md → TableKeepsValid md
-table_keeps_valid md laws cx op s u same h e =
+pub rows_keep_valid : (md : ModuleContext) → IsLawful md → RowsKeepValid md
+rows_keep_valid md laws cx op s u same h e =
     let l = subst IsLawful (sym same) laws in
     steps_keep_valid cx l (operator cx op) s u (operator_valid cx l op h.locals_valid) h e
 
@@ -609,11 +609,11 @@ table_keeps_valid md laws cx op s u same h e =
 
 module _ (cx : Context) (laws : IsLawful cx.of_module) where
   -- the state before each place of a list
-  pub before_valid : (code : List Operator) (s : State) (k : ℕ) (t : State) → ((j : ℕ) (op : Operator) → slice_get code j ≡ Some op → PushesValid cx op) → StateIsValid cx s → before cx code s k ≡ Some t → StateIsValid cx t
-  before_valid code s zero t each h e = subst (λ (v : State). StateIsValid cx v) (some_injective s t e) h
+  pub before_valid : (code : List Operator) (s : State) (k : ℕ) (t : State) → ((j : ℕ) (op : Operator) → slice_get code j ≡ Some op → PushesValid cx op) → IsValidStateIn cx s → before cx code s k ≡ Some t → IsValidStateIn cx t
+  before_valid code s zero t each h e = subst (λ (v : State). IsValidStateIn cx v) (some_injective s t e) h
   before_valid [] s (suc k) t each h e = absurd cc
   before_valid (op ∷ code) s (suc k) t each h e =
-      let m = bind_some (step cx op s) (λ v. before cx code v k) t e in
+      let m = and_then_given (step cx op s) (λ v. before cx code v k) t e in
       before_valid code m.0 k t (λ j o g. each (suc j) o g) (steps_keep_valid cx laws op s m.0 (each 0 op refl) h m.1) m.2
 
   body_each : (ops : List Op) → AllByRecursion (Valid cx.of_module) cx.locals → (j : ℕ) (op : Operator) → slice_get (body cx ops) j ≡ Some op → PushesValid cx op

@@ -1,6 +1,6 @@
 -- The rows of atomic operators on memories (the threads proposal, "Validation"; `pause` and the weaker
 -- fence are those of the shared-everything-threads proposal).
-use Rattle.std.specs.Prelude.{true, []}
+use Rattle.std.specs.Prelude.{[]}
 use Rattle.validate_visit.specs.Numbers.{integer_type, access_type}
 use Rattle.validate_visit.specs.declared.op.AtomicOp.{AtomicOp}
 use Rattle.validate_visit.specs.declared.op.AtomicOp.TheVariants.{AtomicNotify, AtomicWait, AtomicFence}
@@ -21,4 +21,4 @@ atomic_row cx (AtomicLoad access arg) = atomic_load_row cx arg (access_type acce
 atomic_row cx (AtomicStore access arg) = atomic_store_row cx arg (access_type access)
 atomic_row cx (AtomicRmw access op arg) = atomic_rmw_row cx arg (access_type access)
 atomic_row cx (AtomicCmpxchg access arg) = atomic_cmpxchg_row cx arg (access_type access)
-atomic_row cx Pause = plain_row true [] []
+atomic_row cx Pause = plain_row [] []

@@ -4,7 +4,7 @@ use Rattle.std.specs.Prelude.{ℕ, pred, Bool, true, false, ◌&&◌, List, [], 
 use Rattle.std.specs.Prelude.{drop}
 use Rattle.validation_rules.specs.Context.{ValType, I32, Context}
 use Rattle.validation_rules.specs.Rows.{Head, label_types, Plain, Target, Row}
-use Rattle.validation_rules.specs.Shapes.{plain_row, ending_row}
+use Rattle.validation_rules.specs.Shapes.{plain_row_if, ending_row_if}
 
 -- ---- labels, counted from the innermost
 
@@ -36,12 +36,12 @@ target cx hs d = record { depth = d; carried = take (length (label_types_at cx h
 
 abbrev pub br_row : Context → List Head → ℕ → Row
 br_row cx hs d =
-    record (ending_row (has_label hs d) (label_types_at cx hs d)) { targets = target cx hs d ∷ [] }
+    record (ending_row_if (has_label hs d) (label_types_at cx hs d)) { targets = target cx hs d ∷ [] }
 
 -- the test lies on top
 abbrev pub br_if_row : Context → List Head → ℕ → Row
 br_if_row cx hs d =
-    record (plain_row (has_label hs d) (label_types_at cx hs d ++ I32 ∷ []) (label_types_at cx hs d)) {
+    record (plain_row_if (has_label hs d) (label_types_at cx hs d ++ I32 ∷ []) (label_types_at cx hs d)) {
       targets = target cx hs d ∷ [];
     }
 

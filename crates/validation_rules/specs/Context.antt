@@ -8,7 +8,7 @@ pub use Rattle.validate_types.specs.declared.types.ValType.{ValType}
 pub use Rattle.validate_types.specs.declared.types.ValType.TheVariants.{I32, I64, F32, F64, V128, Ref}
 pub use Rattle.validate_visit.specs.declared.frame.BlockType.{BlockType}
 pub use Rattle.validate_visit.specs.declared.frame.BlockType.TheVariants.{Empty, Val, FuncType}
-use Rattle.std.specs.Prelude.{◌≡◌, ℕ, Bool, true, false, List, [], ◌∷◌, Option, Some, None, slice_index_or}
+use Rattle.std.specs.Prelude.{ℕ, Bool, false, List, [], ◌∷◌, Option, Some, None, slice_index_or}
 use Rattle.validate_resources.specs.Context.{signature_of, IsTypeBelow}
 
 pub record Context : Type 0 where

@@ -1,7 +1,8 @@
 -- The rows of calls of a function that an operand names: by its place in a table, or by a reference
 -- (WebAssembly core specification, "Validation: Control Instructions").
-use Rattle.std.specs.Prelude.{ℕ, true, false, List, [], ◌∷◌, ◌++◌, Option, Some}
+use Rattle.std.specs.Prelude.{ℕ, false, List, [], ◌∷◌, ◌++◌, Option, Some}
 use Rattle.std.specs.Option.{option_map}
+use Rattle.std.specs.Option.{option_and_then}
 use Rattle.validate_types.specs.Refs.{nullable_reference}
 use Rattle.validate_types.specs.Types.{table_index_type}
 use Rattle.validate_types.specs.declared.heap.AbstractHeapType.TheVariants.{Func}
@@ -12,7 +13,6 @@ use Rattle.validation_rules.specs.Calls.{accessible_signature, tail_call_row}
 use Rattle.validation_rules.specs.Context.{Signature, ValType, Ref, Context}
 use Rattle.validation_rules.specs.Rows.{Head, Row, guard}
 use Rattle.validation_rules.specs.Shapes.{plain_row, lookup_row}
-use Rattle.validation_rules.specs.Static.{bind}
 use Rattle.validation_rules.specs.Tables.{table_type, element_type}
 
 -- ---- the operand that names the function
@@ -26,7 +26,7 @@ place_type_of cx t = guard (cx.of_module.below (element_type t) funcref) (Some (
 
 -- a place in a table of functions that the function may access
 abbrev pub function_place : Context → ℕ → Option ValType
-function_place cx i = bind (table_type cx i) (place_type_of cx)
+function_place cx i = option_and_then (place_type_of cx) (table_type cx i)
 
 -- a reference, perhaps null, to the type at this index
 abbrev pub function_reference : Context → ℕ → Option ValType
@@ -35,14 +35,14 @@ function_reference cx i =
 
 -- what a function of the type at this index takes and gives
 abbrev pub typed_callee : Context → ℕ → Option Signature
-typed_callee cx i = bind (cx.of_module.type_at i) (accessible_signature cx)
+typed_callee cx i = option_and_then (accessible_signature cx) (cx.of_module.type_at i)
 
 -- ---- rows: what the function takes, and above it the operand that names it
 
 abbrev pub call_operand_row : Context → Option ValType → ℕ → Row
 call_operand_row cx names i =
     lookup_row names
-    (λ t. lookup_row (typed_callee cx i) (λ s. plain_row true (s.params ++ t ∷ []) s.results))
+    (λ t. lookup_row (typed_callee cx i) (λ s. plain_row (s.params ++ t ∷ []) s.results))
 
 abbrev pub return_call_operand_row : Context → List Head → Option ValType → ℕ → Row
 return_call_operand_row cx hs names i =

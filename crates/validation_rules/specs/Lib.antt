@@ -15,5 +15,5 @@ pub mod References
 pub mod Access
 pub mod Memory
 pub mod Atomic
-pub mod Table
+pub mod Operators
 pub mod Order

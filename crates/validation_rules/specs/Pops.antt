@@ -2,10 +2,11 @@
 -- "Validation Algorithm": pop_val).
 use Rattle.std.specs.Prelude.{◌≡◌, Bool, true, false, List, [], ◌∷◌, reverse, length, Option, Some, None}
 use Rattle.std.specs.Prelude.{drop}
+use Rattle.std.specs.Option.{option_and_then}
 use Rattle.validation_rules.specs.Context.{ValType, Context}
 use Rattle.validation_rules.specs.Fits.{MaybeType, Bottom, fits, all_fit}
 use Rattle.validation_rules.specs.Rows.{guard}
-use Rattle.validation_rules.specs.Static.{Frame, operands_found, operands_below, bind}
+use Rattle.validation_rules.specs.Static.{Frame, operands_found, operands_below}
 
 -- what a pop finds: the top operand; below those of a dead frame anything at all, of a live one nothing
 abbrev pub operand_on_top : Bool → List MaybeType → Option MaybeType
@@ -29,7 +30,7 @@ frame_after_pop cx w f = guard (found_fits cx w (operand_on_top f.dead f.operand
 -- one after the other, the first of the list first
 abbrev pub frame_after_pops : Context → List ValType → Frame → Option Frame
 frame_after_pops cx [] f = Some f
-frame_after_pops cx (w ∷ ws) f = bind (frame_after_pop cx w f) (frame_after_pops cx ws)
+frame_after_pops cx (w ∷ ws) f = option_and_then (frame_after_pops cx ws) (frame_after_pop cx w f)
 
 -- One at a time from the top, or taken whole: the pops of a row's wanted list, whose last type lies on
 -- top, pass exactly where what is found there fits it, and leave what lies below.

@@ -1,10 +1,11 @@
 -- The rows of operators on references, and of branches that look whether one is null (WebAssembly core
 -- specification, "Validation: Reference Instructions" and "Control Instructions").
-use Rattle.std.specs.Prelude.{ℕ, suc, Bool, true, false, not, ◌||◌, List, [], ◌∷◌, ◌++◌, Option, Some, None}
+use Rattle.std.specs.Prelude.{ℕ, suc, Bool, not, ◌||◌, List, [], ◌∷◌, ◌++◌, Option, Some, None}
 use Rattle.std.specs.Prelude.{length}
 use Rattle.std.specs.Option.{option_map}
-use Rattle.validate_types.specs.Features.{ref_gate}
-use Rattle.validate_types.specs.Refs.{fits_reference, non_null, with_null, nullable_reference, non_null_reference}
+use Rattle.validate_types.specs.Features.{is_ref_enabled}
+use Rattle.validate_types.specs.Refs.{fits_reference, non_null, with_null, nullable_reference}
+use Rattle.validate_types.specs.Refs.{non_null_reference}
 use Rattle.validate_types.specs.declared.heap.HeapType.{HeapType}
 use Rattle.validate_types.specs.declared.heap.HeapType.TheVariants.{Concrete}
 use Rattle.validate_types.specs.declared.heap.UnpackedIndex.TheVariants.{Id}
@@ -16,27 +17,27 @@ use Rattle.validation_rules.specs.Branches.{has_label, label_types_at, target}
 use Rattle.validation_rules.specs.Context.{ValType, I32, Ref, Context}
 use Rattle.validation_rules.specs.Fits.{MaybeType, Bottom, UnknownRef, Known, fits}
 use Rattle.validation_rules.specs.Rows.{Head, Row, guard}
-use Rattle.validation_rules.specs.Shapes.{plain_row, lookup_row, looking_row}
+use Rattle.validation_rules.specs.Shapes.{plain_row, plain_row_if, lookup_row, looking_row, looking_row_if}
 
 -- ---- null, and references to functions
 
 -- The gate of the type of null is open. To a type index of 2^20 or more no reference can be made, so
 -- that it has no gate; of at most 1,000,000 types none has such an index.
 abbrev pub is_null_gate_open : Context → HeapType → Bool
-is_null_gate_open cx h = not (fits_reference h) || ref_gate cx.features (nullable_reference h)
+is_null_gate_open cx h = not (fits_reference h) || is_ref_enabled cx.features (nullable_reference h)
 
 -- what null refers to, in canonical form
 abbrev pub null_heap : Context → HeapType → Option HeapType
 null_heap cx h = guard (is_null_gate_open cx h) (cx.of_module.canonical_heap h)
 
 abbrev pub ref_null_row : Context → HeapType → Row
-ref_null_row cx h = lookup_row (null_heap cx h) (λ k. plain_row true [] (Ref (nullable_reference k) ∷ []))
+ref_null_row cx h = lookup_row (null_heap cx h) (λ k. plain_row [] (Ref (nullable_reference k) ∷ []))
 
 -- a function that the module lets be referred to, by its type
 abbrev pub ref_func_row : Context → ℕ → Row
 ref_func_row cx f =
     lookup_row (cx.of_module.type_id_of f)
-    (λ id. plain_row (cx.of_module.is_referenced f) [] (Ref (non_null_reference (Concrete (Id id))) ∷ []))
+    (λ id. plain_row_if (cx.of_module.is_referenced f) [] (Ref (non_null_reference (Concrete (Id id))) ∷ []))
 
 -- ---- what is found of a reference
 
@@ -65,7 +66,7 @@ non_null_pushes cx _ _ = None
 abbrev pub br_on_null_row : Context → List Head → ℕ → Row
 br_on_null_row cx hs d =
     let ts = label_types_at cx hs d in
-    record (looking_row (has_label hs d) (suc (length ts)) (non_null_pushes cx ts)) {
+    record (looking_row_if (has_label hs d) (suc (length ts)) (non_null_pushes cx ts)) {
       targets = target cx hs d ∷ [];
     }
 
@@ -91,7 +92,7 @@ last_without_null (t ∷ u ∷ ts) = t ∷ last_without_null (u ∷ ts)
 -- to label d, whose types are these
 abbrev pub br_on_non_null_row_for : Context → List Head → ℕ → (List ValType × RefType) → Row
 br_on_non_null_row_for cx hs d p =
-    record (plain_row (has_label hs d) (p.0 ++ Ref (with_null p.1) ∷ []) p.0) {
+    record (plain_row_if (has_label hs d) (p.0 ++ Ref (with_null p.1) ∷ []) p.0) {
       targets = record { depth = d; carried = last_without_null } ∷ [];
     }
 
@@ -105,8 +106,8 @@ br_on_non_null_row cx hs d =
 
 abbrev pub reference_row : Context → List Head → ReferenceOp → Row
 reference_row cx hs (RefNull h) = ref_null_row cx h
-reference_row cx hs RefIsNull = looking_row true 1 null_test_pushes
+reference_row cx hs RefIsNull = looking_row 1 null_test_pushes
 reference_row cx hs (RefFunc f) = ref_func_row cx f
-reference_row cx hs RefAsNonNull = looking_row true 1 (non_null_pushes cx [])
+reference_row cx hs RefAsNonNull = looking_row 1 (non_null_pushes cx [])
 reference_row cx hs (BrOnNull d) = br_on_null_row cx hs d
 reference_row cx hs (BrOnNonNull d) = br_on_non_null_row cx hs d

@@ -7,9 +7,9 @@ use Rattle.validation_rules.specs.Context.{ValType, I32, I64, Context}
 use Rattle.validation_rules.specs.Fits.{MaybeType}
 use Rattle.validation_rules.specs.Rows.{Head, Form, Flat, Plain, Looks, Row, Operator}
 
--- wanted and pushed types; it neither reaches a label nor ends the live part
-abbrev pub plain_row : Bool → List ValType → List ValType → Row
-plain_row premise wanted pushed =
+-- wanted and pushed types, where the premise holds; it neither reaches a label nor ends the live part
+abbrev pub plain_row_if : Bool → List ValType → List ValType → Row
+plain_row_if premise wanted pushed =
     record {
       premise = premise;
       reads = None;
@@ -20,18 +20,32 @@ plain_row premise wanted pushed =
       ends_live = false;
     }
 
+-- one without a premise
+abbrev pub plain_row : List ValType → List ValType → Row
+plain_row wanted pushed = plain_row_if true wanted pushed
+
+-- a row that never holds
+abbrev pub never_row : Row
+never_row = plain_row_if false [] []
+
 -- the row for what a look-up found; where it found nothing, one that never holds
 abbrev pub lookup_row : {A : Type 0} → Option A → (A → Row) → Row
-lookup_row None row = plain_row false [] []
+lookup_row None row = never_row
 lookup_row (Some x) row = row x
 
 -- it ends the live part of its frame
-abbrev pub ending_row : Bool → List ValType → Row
-ending_row premise wanted = record (plain_row premise wanted []) { ends_live = true }
+abbrev pub ending_row_if : Bool → List ValType → Row
+ending_row_if premise wanted = record (plain_row_if premise wanted []) { ends_live = true }
+
+abbrev pub ending_row : List ValType → Row
+ending_row wanted = ending_row_if true wanted
 
 -- so many operands, and what is pushed for those found
-abbrev pub looking_row : Bool → ℕ → (List MaybeType → Option (List MaybeType)) → Row
-looking_row premise takes gives = record (plain_row premise [] []) { type = Looks takes gives }
+abbrev pub looking_row_if : Bool → ℕ → (List MaybeType → Option (List MaybeType)) → Row
+looking_row_if premise takes gives = record (plain_row_if premise [] []) { type = Looks takes gives }
+
+abbrev pub looking_row : ℕ → (List MaybeType → Option (List MaybeType)) → Row
+looking_row takes gives = looking_row_if true takes gives
 
 -- a row that depends on the open frames
 abbrev pub flat_operator : (List Head → Row) → Operator
@@ -42,34 +56,34 @@ abbrev pub row_operator : Row → Operator
 row_operator r = flat_operator (λ hs. r)
 
 -- an operator that closes a frame or a part of it
-abbrev pub delimiter_operator : Form → Bool → Operator
-delimiter_operator form premise = record { form = form; row = λ hs. plain_row premise [] [] }
+abbrev pub delimiter_operator : Form → Operator
+delimiter_operator form = record { form = form; row = λ hs. plain_row [] [] }
 
 abbrev pub constant_row : ValType → Row
-constant_row t = plain_row true [] (t ∷ [])
+constant_row t = plain_row [] (t ∷ [])
 
 abbrev pub test_row : ValType → Row
-test_row t = plain_row true (t ∷ []) (I32 ∷ [])
+test_row t = plain_row (t ∷ []) (I32 ∷ [])
 
 abbrev pub unary_row : ValType → Row
-unary_row t = plain_row true (t ∷ []) (t ∷ [])
+unary_row t = plain_row (t ∷ []) (t ∷ [])
 
 abbrev pub binary_row : ValType → Row
-binary_row t = plain_row true (t ∷ t ∷ []) (t ∷ [])
+binary_row t = plain_row (t ∷ t ∷ []) (t ∷ [])
 
 abbrev pub comparison_row : ValType → Row
-comparison_row t = plain_row true (t ∷ t ∷ []) (I32 ∷ [])
+comparison_row t = plain_row (t ∷ t ∷ []) (I32 ∷ [])
 
 abbrev pub conversion_row : ValType → ValType → Row
-conversion_row into from = plain_row true (from ∷ []) (into ∷ [])
+conversion_row into from = plain_row (from ∷ []) (into ∷ [])
 
 -- on numbers of 128 bits, each in two of 64
 abbrev pub wide_binary_row : Row
-wide_binary_row = plain_row true (I64 ∷ I64 ∷ I64 ∷ I64 ∷ []) (I64 ∷ I64 ∷ [])
+wide_binary_row = plain_row (I64 ∷ I64 ∷ I64 ∷ I64 ∷ []) (I64 ∷ I64 ∷ [])
 
 -- two numbers of 64 bits to one of 128
 abbrev pub wide_multiply_row : Row
-wide_multiply_row = plain_row true (I64 ∷ I64 ∷ []) (I64 ∷ I64 ∷ [])
+wide_multiply_row = plain_row (I64 ∷ I64 ∷ []) (I64 ∷ I64 ∷ [])
 
 -- the row holds where the gate is open too
 abbrev pub gated_row : Context → Gate → Row → Row

@@ -4,6 +4,8 @@
 use Rattle.std.specs.Prelude.{◌≡◌, ℕ, ◌+◌, zero, suc, nat_le, nat_eq, Bool, true, false, ◌&&◌, ◌||◌}
 use Rattle.std.specs.Prelude.{if◌then◌else◌}
 use Rattle.std.specs.Prelude.{List, [], ◌∷◌, ◌++◌, length, map, drop, Option, Some, None}
+use Rattle.std.specs.Option.{option_and_then}
+use Rattle.std.specs.List.{list_any}
 use Rattle.validation_rules.specs.Context.{ValType, BlockType, Context, is_set_at_entry}
 use Rattle.validation_rules.specs.Fits.{MaybeType, Bottom, Known, all_fit}
 use Rattle.validation_rules.specs.Rows.{Head, params, results, label_types, body_head}
@@ -40,10 +42,6 @@ heads fs = map (λ (f : Frame). f.head) fs
 
 -- ---- locals
 
-abbrev pub is_among : List ℕ → ℕ → Bool
-is_among [] i = false
-is_among (j ∷ js) i = nat_eq i j || is_among js i
-
 -- The locals that were first set in a frame that is still open (the algorithm's inits). Closing a
 -- frame, or beginning its next part, so unsets what was first set in it.
 abbrev pub locals_set : List Frame → List ℕ
@@ -52,7 +50,7 @@ locals_set (f ∷ fs) = f.first_set ++ locals_set fs
 
 -- the local is set: when the body began, or since
 abbrev pub is_set : Context → List ℕ → ℕ → Bool
-is_set cx set i = is_among set i || is_set_at_entry cx i
+is_set cx set i = list_any (nat_eq i) set || is_set_at_entry cx i
 
 -- the local that the operator reads, if it reads one, is set (Specification, "local.get")
 abbrev pub reads_set : Context → List ℕ → Option ℕ → Bool
@@ -200,10 +198,6 @@ state_if_pushed left cx r set f fs form (Some pushed) = Some (state_after left c
 
 -- ---- steps
 
-abbrev pub bind : {A B : Type 0} → Option A → (A → Option B) → Option B
-bind None f = None
-bind (Some x) f = f x
-
 abbrev pub step_in : Context → Operator → List Frame → List MaybeType → Option State
 step_in cx op [] left = None
 step_in cx op (f ∷ fs) left =
@@ -219,7 +213,7 @@ step cx op s = step_in cx op s.frames s.left
 abbrev pub before : Context → List Operator → State → ℕ → Option State
 before cx code s zero = Some s
 before cx [] s (suc k) = None
-before cx (op ∷ code) s (suc k) = bind (step cx op s) (λ s'. before cx code s' k)
+before cx (op ∷ code) s (suc k) = option_and_then (λ s'. before cx code s' k) (step cx op s)
 
 -- the state that a body of this type starts in (Specification, "Functions", "Expressions")
 abbrev pub start : BlockType → State

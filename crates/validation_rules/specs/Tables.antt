@@ -1,6 +1,7 @@
 -- The rows of operators on tables and element segments (WebAssembly core specification, "Validation:
 -- Table Instructions"; the shared marks are those of the shared-everything-threads proposal).
-use Rattle.std.specs.Prelude.{ℕ, true, [], ◌∷◌, Option, Some}
+use Rattle.std.specs.Prelude.{ℕ, [], ◌∷◌, Option, Some}
+use Rattle.std.specs.Option.{option_and_then}
 use Rattle.validate_types.specs.Types.{table_index_type}
 use Rattle.validate_types.specs.declared.refs.RefType.{RefType}
 use Rattle.validate_types.specs.declared.types.TableType.{TableType}
@@ -11,15 +12,14 @@ use Rattle.validation_rules.specs.Access.{narrower_type}
 use Rattle.validation_rules.specs.Calls.{may_access}
 use Rattle.validation_rules.specs.Context.{ValType, I32, Ref, Context}
 use Rattle.validation_rules.specs.Rows.{Row, guard}
-use Rattle.validation_rules.specs.Shapes.{plain_row, lookup_row}
-use Rattle.validation_rules.specs.Static.{bind}
+use Rattle.validation_rules.specs.Shapes.{plain_row, plain_row_if, lookup_row}
 
 abbrev pub accessible_table : Context → TableType → Option TableType
 accessible_table cx t = guard (may_access cx t.shared) (Some t)
 
 -- a table that the function may access
 abbrev pub table_type : Context → ℕ → Option TableType
-table_type cx i = bind (cx.of_module.table_at i) (accessible_table cx)
+table_type cx i = option_and_then (accessible_table cx) (cx.of_module.table_at i)
 
 -- what it holds
 abbrev pub element_type : TableType → ValType
@@ -27,31 +27,31 @@ element_type t = Ref t.element_type
 
 abbrev pub table_get_row : Context → ℕ → Row
 table_get_row cx i =
-    lookup_row (table_type cx i) (λ t. plain_row true (table_index_type t ∷ []) (element_type t ∷ []))
+    lookup_row (table_type cx i) (λ t. plain_row (table_index_type t ∷ []) (element_type t ∷ []))
 
 abbrev pub table_set_row : Context → ℕ → Row
 table_set_row cx i =
-    lookup_row (table_type cx i) (λ t. plain_row true (table_index_type t ∷ element_type t ∷ []) [])
+    lookup_row (table_type cx i) (λ t. plain_row (table_index_type t ∷ element_type t ∷ []) [])
 
 -- by so many places, each with this element
 abbrev pub table_grow_row : Context → ℕ → Row
 table_grow_row cx i =
     lookup_row (table_type cx i)
-    (λ t. plain_row true (element_type t ∷ table_index_type t ∷ []) (table_index_type t ∷ []))
+    (λ t. plain_row (element_type t ∷ table_index_type t ∷ []) (table_index_type t ∷ []))
 
 abbrev pub table_size_row : Context → ℕ → Row
-table_size_row cx i = lookup_row (table_type cx i) (λ t. plain_row true [] (table_index_type t ∷ []))
+table_size_row cx i = lookup_row (table_type cx i) (λ t. plain_row [] (table_index_type t ∷ []))
 
 -- from this place on, with this element, so many
 abbrev pub table_fill_row : Context → ℕ → Row
 table_fill_row cx i =
     lookup_row (table_type cx i)
-    (λ t. plain_row true (table_index_type t ∷ element_type t ∷ table_index_type t ∷ []) [])
+    (λ t. plain_row (table_index_type t ∷ element_type t ∷ table_index_type t ∷ []) [])
 
 -- to a place of the table, from one of the segment, so many
 abbrev pub table_init_row_for : Context → TableType → RefType → Row
 table_init_row_for cx t r =
-    plain_row (cx.of_module.below (Ref r) (element_type t)) (table_index_type t ∷ I32 ∷ I32 ∷ []) []
+    plain_row_if (cx.of_module.below (Ref r) (element_type t)) (table_index_type t ∷ I32 ∷ I32 ∷ []) []
 
 abbrev pub table_init_row : Context → ℕ → ℕ → Row
 table_init_row cx segment i =
@@ -59,14 +59,14 @@ table_init_row cx segment i =
     (λ t. lookup_row (cx.of_module.element_at segment) (table_init_row_for cx t))
 
 abbrev pub elem_drop_row : Context → ℕ → Row
-elem_drop_row cx segment = lookup_row (cx.of_module.element_at segment) (λ r. plain_row true [] [])
+elem_drop_row cx segment = lookup_row (cx.of_module.element_at segment) (λ r. plain_row [] [])
 
 -- to a place, from a place, so many: a number that fits both tables
 abbrev pub table_copy_row_for : Context → TableType → TableType → Row
 table_copy_row_for cx from to =
     let place = table_index_type to in
     let source = table_index_type from in
-    plain_row (cx.of_module.below (element_type from) (element_type to))
+    plain_row_if (cx.of_module.below (element_type from) (element_type to))
     (place ∷ source ∷ narrower_type place source ∷ []) []
 
 abbrev pub table_copy_row : Context → ℕ → ℕ → Row

@@ -4,7 +4,7 @@ ghost use Rattle.std.specs.Prelude.{◌≡◌};
 ghost use Rattle.validation_rules.specs.Context.{Context};
 ghost use Rattle.validation_rules.specs.Order.{RowsAreOrdered, BodiesAreOrdered};
 ghost use Rattle.validation_rules.specs.Pops.{PopsAreWhole};
-ghost use Rattle.validation_rules.specs.Valid.{TableKeepsValid};
+ghost use Rattle.validation_rules.specs.Valid.{RowsKeepValid};
 
 use validate_resources::WasmModuleResources;
 
@@ -24,5 +24,5 @@ pub fn order_law()
 
 /// Validity is kept: each step by an operator of the table keeps the state valid.
 pub fn validity_law<R: WasmModuleResources>(resources: &R)
-    ensures { TableKeepsValid (R.context resources.now) }
+    ensures { RowsKeepValid (R.context resources.now) }
 {}

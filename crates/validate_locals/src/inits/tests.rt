@@ -24,5 +24,17 @@ fn marks_from_the_first_local_without_a_default(rt: HostRuntime) -> Result<(), F
     inits.define_locals(1, ValType::I32)?;
     assert_eq!(rt; inits.first_non_default_local, 49_003);
     assert_eq!(rt; inits.local_inits.as_slice(), [false, true].as_slice());
+    assert!(rt; inits.is_uninit(49_003));
+    assert!(rt; !inits.is_uninit(49_004));
+    Ok(())
+}
+
+#[test]
+fn an_undeclared_local_is_not_uninitialized(rt: HostRuntime) -> Result<(), Fail> {
+    let mut inits = LocalInits::new(rt.alloc());
+    assert!(rt; !inits.is_uninit(0));
+    inits.define_locals(3, ValType::I32)?;
+    assert!(rt; !inits.is_uninit(3));
+    assert!(rt; !inits.is_uninit(u32::MAX));
     Ok(())
 }

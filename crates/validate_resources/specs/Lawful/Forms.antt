@@ -8,7 +8,6 @@ use Rattle.std.proofs.lemmas.Bool.{and_parts, and_from}
 use Rattle.std.proofs.lemmas.List.{length-map}
 use Rattle.std.proofs.lemmas.Option.{slice_get_cases, slice_get-map}
 use Rattle.validate_types.specs.Heap.{number_of}
-use Rattle.validate_types.specs.Refs.{fits_reference}
 use Rattle.validate_types.specs.declared.heap.TheConstants.PackedIndex.{LIMIT}
 use Rattle.validate_types.specs.declared.heap.HeapType.{HeapType}
 use Rattle.validate_types.specs.declared.heap.HeapType.TheVariants.{Abstract, Concrete}
@@ -21,12 +20,12 @@ use Rattle.validate_types.specs.declared.types.ValType.{ValType}
 use Rattle.validate_types.specs.declared.types.ValType.TheVariants.{I32, I64, F32, F64, V128, Ref}
 use Rattle.validate_resources.specs.declared.lists.FuncDecl.{FuncDecl}
 use Rattle.validate_resources.specs.declared.lists.TheConstants.{MAX_TYPES}
-use Rattle.validate_resources.specs.Context.{ModuleContext, IsCanonicalHeap, SupertypeIsValid, Valid}
+use Rattle.validate_resources.specs.Context.{ModuleContext, IsValidType, Valid, signature_of}
 use Rattle.validate_resources.specs.Context.{AllValid, is_valid, is_valid_index, is_valid_heap}
 use Rattle.validate_resources.specs.Context.{inner_signature}
 use Rattle.validate_resources.specs.Indices.{is_known, is_id, heap_test, type_test, supertype_test}
-use Rattle.validate_resources.specs.Indices.{inner_test, sub_test, index_form, heap_form, ref_form}
-use Rattle.validate_resources.specs.Indices.{type_form, table_form, global_form, inner_form, sub_form}
+use Rattle.validate_resources.specs.Indices.{inner_test, sub_test, index_with_id, heap_with_id, ref_with_id}
+use Rattle.validate_resources.specs.Indices.{type_with_id, table_with_id, global_with_id, inner_with_ids, sub_with_ids}
 use Rattle.validate_resources.specs.Order.{is_shared_type, is_shared_at, has_fitting_supertype}
 use Rattle.validate_resources.specs.Order.{have_fitting_supertypes}
 use Rattle.validate_resources.specs.Order.{type_below}
@@ -63,35 +62,33 @@ all-valid d small [] h = tt
 all-valid d small (t ∷ ts) h =
     let p = and_parts (type_test (is_id (length d.types)) t) _ h in (type-valid d small t ∙ p.0, all-valid d small ts p.1)
 
-pub inner-valid : (d : Declared) → length d.types ≤ MAX_TYPES → (i : CompositeInnerType) → inner_test (is_id (length d.types)) i ≡ true
+inner-valid : (d : Declared) → length d.types ≤ MAX_TYPES → (i : CompositeInnerType) → inner_test (is_id (length d.types)) i ≡ true
     → AllValid (context_of d) (inner_signature i).params × AllValid (context_of d) (inner_signature i).results
 inner-valid d small (Func f) h =
     let p = and_parts (list_all (type_test (is_id (length d.types))) f.params) _ h in (all-valid d small f.params p.0, all-valid d small f.results p.1)
 
-pub supertype-valid : (d : Declared) → length d.types ≤ MAX_TYPES → (s : SubType) → supertype_test (is_id (length d.types)) s.supertype_idx ≡ true → SupertypeIsValid (context_of d) s
-supertype-valid d small s h = λ u e. index-valid d small u ∙ (ap (supertype_test (is_id (length d.types))) (sym e) ∙ h)
+pub type-is-valid : (d : Declared) → length d.types ≤ MAX_TYPES → (s : SubType) → sub_test (is_id (length d.types)) s ≡ true → IsValidType (context_of d) s
+type-is-valid d small s h =
+    let p = and_parts (supertype_test (is_id (length d.types)) s.supertype_idx) _ h in
+    let q = inner-valid d small s.composite_type.inner p.1 in
+    record {
+      params = q.0;
+      results = q.1;
+      supertype = λ u e. index-valid d small u ∙ (ap (supertype_test (is_id (length d.types))) (sym e) ∙ p.0);
+    }
 
 -- of valid types the order is that of types
 pub below-valid : (d : Declared) → length d.types ≤ MAX_TYPES → (t u : ValType) → Valid (context_of d) t → Valid (context_of d) u → type_below d.types t u ≡ valid_below d.types t u
 below-valid d small t u h k = let v = sym (type-valid d small t) ∙ h in let w = sym (type-valid d small u) ∙ k in
     sym (ap (λ b. b && type_below d.types t u) (and_from _ _ v w))
 
--- a reference can be made to what is valid
-fits-valid : (md : ModuleContext) (h : HeapType) → is_valid_heap md h ≡ true → fits_reference h ≡ true
-fits-valid md (Abstract s a) e = refl
-fits-valid md (Concrete (Module i)) e = cc
-fits-valid md (Concrete (Id id)) e = (and_parts (is_some (md.type_of_id id)) _ e).1
-
-pub heap-canonical : (d : Declared) (h : HeapType) → length d.types ≤ MAX_TYPES → heap_test (is_id (length d.types)) h ≡ true → IsCanonicalHeap (context_of d) h
-heap-canonical d h small e = let v = heap-valid d small h ∙ e in record { is_valid = v; fits = fits-valid (context_of d) h v }
-
 -- ---- the indices of a canonical form are ids
 
-pub heap-ids : (n : ℕ) (h : HeapType) → heap_test (is_id n) (heap_form h) ≡ heap_test (is_known n) h
+pub heap-ids : (n : ℕ) (h : HeapType) → heap_test (is_id n) (heap_with_id h) ≡ heap_test (is_known n) h
 heap-ids n (Abstract s a) = refl
 heap-ids n (Concrete i) = refl
 
-pub type-ids : (n : ℕ) (t : ValType) → type_test (is_id n) (type_form t) ≡ type_test (is_known n) t
+pub type-ids : (n : ℕ) (t : ValType) → type_test (is_id n) (type_with_id t) ≡ type_test (is_known n) t
 type-ids n I32 = refl
 type-ids n I64 = refl
 type-ids n F32 = refl
@@ -105,24 +102,24 @@ all-same : {X Y : Type 0} (p : Y → Bool) (q : X → Bool) (f : X → Y) → ((
 all-same p q f same [] = refl
 all-same p q f same (x ∷ xs) = ap₂ (λ a b. a && b) (same x) (all-same p q f same xs)
 
-supertype-ids : (n : ℕ) (o : Option UnpackedIndex) → supertype_test (is_id n) (option_map index_form o) ≡ supertype_test (is_known n) o
+supertype-ids : (n : ℕ) (o : Option UnpackedIndex) → supertype_test (is_id n) (option_map index_with_id o) ≡ supertype_test (is_known n) o
 supertype-ids n None = refl
 supertype-ids n (Some i) = refl
 
-inner-ids : (n : ℕ) (i : CompositeInnerType) → inner_test (is_id n) (inner_form i) ≡ inner_test (is_known n) i
-inner-ids n (Func f) = ap₂ (λ a b. a && b) (all-same _ _ type_form (type-ids n) f.params) (all-same _ _ type_form (type-ids n) f.results)
+inner-ids : (n : ℕ) (i : CompositeInnerType) → inner_test (is_id n) (inner_with_ids i) ≡ inner_test (is_known n) i
+inner-ids n (Func f) = ap₂ (λ a b. a && b) (all-same _ _ type_with_id (type-ids n) f.params) (all-same _ _ type_with_id (type-ids n) f.results)
 
-sub-ids : (n : ℕ) (s : SubType) → sub_test (is_id n) (sub_form s) ≡ sub_test (is_known n) s
+sub-ids : (n : ℕ) (s : SubType) → sub_test (is_id n) (sub_with_ids s) ≡ sub_test (is_known n) s
 sub-ids n s = ap₂ (λ a b. a && b) (supertype-ids n s.supertype_idx) (inner-ids n s.composite_type.inner)
 
-marks-same : (o : Option SubType) → is_shared_type (option_map sub_form o) ≡ is_shared_type o
+marks-same : (o : Option SubType) → is_shared_type (option_map sub_with_ids o) ≡ is_shared_type o
 marks-same None = refl
 marks-same (Some s) = refl
 
-shared-same : (types : List SubType) (i : ℕ) → is_shared_at (map sub_form types) i ≡ is_shared_at types i
-shared-same types i = ap is_shared_type (slice_get-map sub_form types i) ∙ marks-same (slice_get types i)
+shared-same : (types : List SubType) (i : ℕ) → is_shared_at (map sub_with_ids types) i ≡ is_shared_at types i
+shared-same types i = ap is_shared_type (slice_get-map sub_with_ids types i) ∙ marks-same (slice_get types i)
 
-fits-same : (types : List SubType) (k : ℕ) (shared : Bool) (o : Option UnpackedIndex) → has_fitting_supertype (map sub_form types) k shared (option_map index_form o) ≡ has_fitting_supertype types k shared o
+fits-same : (types : List SubType) (k : ℕ) (shared : Bool) (o : Option UnpackedIndex) → has_fitting_supertype (map sub_with_ids types) k shared (option_map index_with_id o) ≡ has_fitting_supertype types k shared o
 fits-same types k shared None = refl
 fits-same types k shared (Some i) = ap (λ b. nat_lt (number_of i) k && beq b shared) (shared-same types (number_of i))
 
@@ -130,20 +127,20 @@ enumerated-same : {X Y : Type 0} (p : ℕ × Y → Bool) (q : ℕ × X → Bool)
 enumerated-same p q f same n [] = refl
 enumerated-same p q f same n (x ∷ xs) = ap₂ (λ a b. a && b) (same n x) (enumerated-same p q f same (n + 1) xs)
 
-supertypes-same : (types : List SubType) → have_fitting_supertypes (map sub_form types) ≡ have_fitting_supertypes types
-supertypes-same types = enumerated-same _ _ sub_form (λ k s. fits-same types k s.composite_type.shared s.supertype_idx) 0 types
+supertypes-same : (types : List SubType) → have_fitting_supertypes (map sub_with_ids types) ≡ have_fitting_supertypes types
+supertypes-same types = enumerated-same _ _ sub_with_ids (λ k s. fits-same types k s.composite_type.shared s.supertype_idx) 0 types
 
-indices-same : (n : ℕ) (d : Declared) → indices_test (is_id n) (map sub_form d.types) (map table_form d.tables) (map global_form d.globals) (map ref_form d.elements) ≡ indices_test (is_known n) d.types d.tables d.globals d.elements
+indices-same : (n : ℕ) (d : Declared) → indices_test (is_id n) (map sub_with_ids d.types) (map table_with_id d.tables) (map global_with_id d.globals) (map ref_with_id d.elements) ≡ indices_test (is_known n) d.types d.tables d.globals d.elements
 indices-same n d =
     ap₂ (λ a b. a && b)
     (ap₂ (λ a b. a && b)
-    (ap₂ (λ a b. a && b) (all-same _ _ sub_form (sub-ids n) d.types) (all-same _ _ table_form (λ t. heap-ids n t.element_type.heap_type) d.tables))
-    (all-same _ _ global_form (λ g. type-ids n g.content_type) d.globals))
-    (all-same _ _ ref_form (λ r. heap-ids n r.heap_type) d.elements)
+    (ap₂ (λ a b. a && b) (all-same _ _ sub_with_ids (sub-ids n) d.types) (all-same _ _ table_with_id (λ t. heap-ids n t.element_type.heap_type) d.tables))
+    (all-same _ _ global_with_id (λ g. type-ids n g.content_type) d.globals))
+    (all-same _ _ ref_with_id (λ r. heap-ids n r.heap_type) d.elements)
 
 pub module-same : (d : Declared) → is_module is_id (canonical_lists d) ≡ is_module is_known d
 module-same d =
     let n : ℕ = length d.types in
-    let at : ℕ → Bool = λ m. nat_le m MAX_TYPES && indices_test (is_id m) (map sub_form d.types) (map table_form d.tables) (map global_form d.globals) (map ref_form d.elements) && list_all (λ (f : FuncDecl). nat_lt f.type_index m) d.functions && have_fitting_supertypes (map sub_form d.types) in
-    ap at (length-map d.types sub_form)
+    let at : ℕ → Bool = λ m. nat_le m MAX_TYPES && indices_test (is_id m) (map sub_with_ids d.types) (map table_with_id d.tables) (map global_with_id d.globals) (map ref_with_id d.elements) && list_all (λ (f : FuncDecl). nat_lt f.type_index m) d.functions && have_fitting_supertypes (map sub_with_ids d.types) in
+    ap at (length-map d.types sub_with_ids)
     ∙ ap₂ (λ a b. nat_le n MAX_TYPES && a && have_known_types d && b) (indices-same n d) (supertypes-same d.types)

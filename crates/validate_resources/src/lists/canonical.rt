@@ -3,7 +3,7 @@
 ghost use Rattle.std.specs.Prelude.{◌≡◌, ◌≤◌, ℕ, Bool, true, false, map, length, Option, ok_or, IfOk, OnOk, OnErr, IfErr, option_map};
 ghost use Rattle.std.specs.List.{list_all};
 ghost use Rattle.validate_types.specs.Heap.{number_of};
-ghost use Rattle.validate_resources.specs.Indices.{is_known, type_test, ref_test, table_test, global_test, sub_test, inner_test, signature_test, supertype_test, type_form, ref_form, table_form, global_form, sub_form, inner_form, signature_form, index_form, canonical_index, canonical_heap, canonical_ref, canonical_type, heap_number, type_number};
+ghost use Rattle.validate_resources.specs.Indices.{is_known, type_test, ref_test, table_test, global_test, sub_test, inner_test, signature_test, supertype_test, type_with_id, ref_with_id, table_with_id, global_with_id, sub_with_ids, inner_with_ids, signature_with_ids, index_with_id, canonical_index, canonical_heap, canonical_ref, canonical_type, heap_number, type_number};
 ghost use Rattle.validate_resources.specs.Lists.{indices_test};
 ghost use Rattle.validate_resources.specs.declared.lists.TheConstants.{MAX_TYPES};
 
@@ -77,7 +77,7 @@ fn canonical_supertype(
 ) -> Result<Option<PackedIndex>, u32>
     requires { count ≤ MAX_TYPES }
     ensures known { OnOk result (supertype_test (is_known count) supertype ≡ true) }
-    ensures form { IfOk result (λ x. x ≡ option_map index_form supertype) }
+    ensures form { IfOk result (λ x. x ≡ option_map index_with_id supertype) }
     ensures refused { OnErr result (supertype_test (is_known count) supertype ≡ false) }
 {
     match supertype {
@@ -106,13 +106,13 @@ pub trait Canonical: Drop {
         requires { count ≤ MAX_TYPES }
         ensures known { OnOk result (known count self.now ≡ true) }
         ensures form { IfOk result (λ x. x ≡ form self.now) }
-        ensures refused { IfErr result (λ e. e.memory ≡ false → known count self.now ≡ false) }
+        ensures refused { IfErr result (λ e. e.wants_memory ≡ false → known count self.now ≡ false) }
         ensures offset { IfErr result (λ e. e.offset ≡ 0) };
 }
 
 /// The refusal of an index that is unknown.
 fn unknown_type() -> Error
-    ensures memory { result.memory ≡ false }
+    ensures memory { result.wants_memory ≡ false }
     ensures offset { result.offset ≡ 0 }
 {
     Error::new("unknown type", 0)
@@ -121,7 +121,7 @@ fn unknown_type() -> Error
 impl Canonical for ValType {
     ghost known = { λ n t. type_test (is_known n) t };
 
-    ghost form = { type_form };
+    ghost form = { type_with_id };
 
     fn canonical(&self, _alloc: Global, count: usize) -> Result<ValType, Error> {
         match canonical_type(*self, count) {
@@ -134,7 +134,7 @@ impl Canonical for ValType {
 impl Canonical for RefType {
     ghost known = { λ n r. ref_test (is_known n) r };
 
-    ghost form = { ref_form };
+    ghost form = { ref_with_id };
 
     fn canonical(&self, _alloc: Global, count: usize) -> Result<RefType, Error> {
         match canonical_ref(*self, count) {
@@ -147,7 +147,7 @@ impl Canonical for RefType {
 impl Canonical for TableType {
     ghost known = { λ n t. table_test (is_known n) t };
 
-    ghost form = { table_form };
+    ghost form = { table_with_id };
 
     fn canonical(&self, _alloc: Global, count: usize) -> Result<TableType, Error> {
         match canonical_ref(self.element_type, count) {
@@ -163,7 +163,7 @@ impl Canonical for TableType {
 impl Canonical for GlobalType {
     ghost known = { λ n g. global_test (is_known n) g };
 
-    ghost form = { global_form };
+    ghost form = { global_with_id };
 
     fn canonical(&self, _alloc: Global, count: usize) -> Result<GlobalType, Error> {
         match canonical_type(self.content_type, count) {
@@ -179,7 +179,7 @@ impl Canonical for GlobalType {
 impl Canonical for FuncType {
     ghost known = { λ n f. signature_test (is_known n) f };
 
-    ghost form = { signature_form };
+    ghost form = { signature_with_ids };
 
     fn canonical(&self, alloc: Global, count: usize) -> Result<FuncType, Error> {
         let params = canonical_all(alloc, self.params(), count)?;
@@ -191,7 +191,7 @@ impl Canonical for FuncType {
 impl Canonical for CompositeInnerType {
     ghost known = { λ n i. inner_test (is_known n) i };
 
-    ghost form = { inner_form };
+    ghost form = { inner_with_ids };
 
     fn canonical(&self, alloc: Global, count: usize) -> Result<CompositeInnerType, Error> {
         match self {
@@ -206,7 +206,7 @@ impl Canonical for CompositeInnerType {
 impl Canonical for SubType {
     ghost known = { λ n s. sub_test (is_known n) s };
 
-    ghost form = { sub_form };
+    ghost form = { sub_with_ids };
 
     #[tactic(auto, using(std::proofs::lemmas::Bool::and_left, std::proofs::lemmas::Bool::and_right))]
     fn canonical(&self, alloc: Global, count: usize) -> Result<SubType, Error> {
@@ -235,7 +235,8 @@ pub fn canonical_all<T: Canonical>(
     requires { count ≤ MAX_TYPES }
     ensures known { OnOk result (list_all (T.known count) items.now ≡ true) }
     ensures form { IfOk result (λ v. v.items ≡ map T.form items.now) }
-    ensures refused { IfErr result (λ e. e.memory ≡ false → list_all (T.known count) items.now ≡ false) }
+    ensures refused { IfErr result (λ e. e.wants_memory ≡ false
+        → list_all (T.known count) items.now ≡ false) }
     ensures offset { IfErr result (λ e. e.offset ≡ 0) }
 {
     let mut forms = Vec::new(alloc);
@@ -274,11 +275,11 @@ pub fn canonical_lists(
     requires { length types.now ≤ MAX_TYPES }
     ensures known { OnOk result (indices_test (is_known (length types.now)) types.now tables.now
         globals.now elements.now ≡ true) }
-    ensures types { IfOk result (λ f. f.types.items ≡ map sub_form types.now) }
-    ensures tables { IfOk result (λ f. f.tables.items ≡ map table_form tables.now) }
-    ensures globals { IfOk result (λ f. f.globals.items ≡ map global_form globals.now) }
-    ensures elements { IfOk result (λ f. f.elements.items ≡ map ref_form elements.now) }
-    ensures refused { IfErr result (λ e. e.memory ≡ false
+    ensures types { IfOk result (λ f. f.types.items ≡ map sub_with_ids types.now) }
+    ensures tables { IfOk result (λ f. f.tables.items ≡ map table_with_id tables.now) }
+    ensures globals { IfOk result (λ f. f.globals.items ≡ map global_with_id globals.now) }
+    ensures elements { IfOk result (λ f. f.elements.items ≡ map ref_with_id elements.now) }
+    ensures refused { IfErr result (λ e. e.wants_memory ≡ false
         → indices_test (is_known (length types.now)) types.now tables.now globals.now elements.now
         ≡ false) }
     ensures offset { IfErr result (λ e. e.offset ≡ 0) }

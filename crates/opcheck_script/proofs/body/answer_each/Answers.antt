@@ -28,7 +28,7 @@ returns-then-is_err-clause-runs g c =
       answered = answered;
       rows = accepted_rows (context md v) v.present ops marks c.loop-index.answers.items u.present answered;
       ends = ends_at (context md v) ops marks c.loop-index.answers.items i (get_or ops i _) c.is_attempted_at-attempted.result c.out_of_memory.result u.present c.loop-index.invariant.count (at_place ops i _ within) c.is_attempted_at-attempted.ensures.attempted
-          (short_of_memory (context md v) (get_or ops i _) c.is_attempted_at-attempted.result c.out_of_memory.result u.present (ap (λ (e : Refusal). e.offset) c.out_of_memory.ensures) (ap (λ (e : Refusal). e.memory) c.out_of_memory.ensures));
+          (short_of_memory (context md v) (get_or ops i _) c.is_attempted_at-attempted.result c.out_of_memory.result u.present (ap (λ (e : Refusal). e.offset) c.out_of_memory.ensures) (ap (λ (e : Refusal). e.wants_memory) c.out_of_memory.ensures));
     })
 
 pub returns-in-Err-clause-runs : goal.returns-in-Err-clause-runs

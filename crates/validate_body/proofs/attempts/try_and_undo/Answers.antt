@@ -3,7 +3,7 @@ use Rattle.validate_stacks.specs.Attempts.{body_state, Stacked}
 use Rattle.validate_stacks.specs.Pops.{IsKept}
 use Rattle.validate_stacks.specs.State.{BodyState}
 use Rattle.validate_stacks.specs.Visits.{MayVisit, Meets}
-use Rattle.validation_rules.specs.Table.{operator}
+use Rattle.validation_rules.specs.Operators.{operator}
 use Rattle.validate_body.proofs.Attempted.{accepted_begun, refused_begun}
 use Rattle.validate_stacks.proofs.Phases.{undone_whole}
 use Rattle.validate_body.specs.Start.{state, stacks_of}

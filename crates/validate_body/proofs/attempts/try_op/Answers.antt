@@ -3,7 +3,7 @@ use Rattle.validate_stacks.specs.Attempts.{Stacked}
 use Rattle.validate_stacks.specs.Pops.{IsKept}
 use Rattle.validate_stacks.specs.State.{BodyState}
 use Rattle.validate_stacks.specs.Visits.{MayVisit, Meets}
-use Rattle.validation_rules.specs.Table.{operator}
+use Rattle.validation_rules.specs.Operators.{operator}
 use Rattle.validate_body.specs.Start.{state, stacks_of}
 use Rattle.validate_body.proofs.Attempted.{meets_ended, back_ended}
 use Rattle.validate_body.proofs.Listed.{visit_kept}

@@ -1,12 +1,23 @@
-use Rattle.std.proofs.Common.{ltb, ltb-true, ltb-false, arith, rules}
-use Rattle.std.proofs.lemmas.List.Sorted.{IsPartitionPoint-from_clause, IsPartitionedBy-ltb}
-use Rattle.validate_locals.proofs.Runs.{type_at, rising_ends, Run}
+use Rattle.std.proofs.Common.{◌+◌, ◌/◌, arith, length}
+use Rattle.validate_locals.proofs.Runs.{between_all, between_wider, type_between, few_quarters}
 use Rattle.validate_locals.proofs.locals.run_at.Goals as goal
+
+pub loop-size-init : goal.loop-size-init
+loop-size-init c = record {
+  within = omega arith;
+  between = λ from rising. between_wider c.args.runs.now c.args.index 0 (length c.args.runs.now) 0 (0 + length c.args.runs.now) (between_all c.args.runs.now c.args.index) (omega arith) (omega arith);
+}
+
+pub loop-size-preserved : goal.loop-size-preserved
+loop-size-preserved c =
+    let size = c.loop-size.size in
+    let was = c.loop-size.invariant in
+    let few = few_quarters (size / 4) c.quarters_below.result c.quarters_below.ensures.few in
+    record {
+      within = omega (arith, was.within, few);
+      between = λ from rising. c.quarters_below.ensures.passed from size rising (omega arith) was.within (was.between from rising);
+    }
 
 pub returns : goal.returns
 returns c = λ from rising h.
-    let runs = c.args.runs.now in
-    let k = c.partition_point.result in
-    let parted = IsPartitionedBy-ltb (λ (r : Run). r.0) runs c.args.index (rising_ends from runs rising) in
-    let point = IsPartitionPoint-from_clause (λ (r : Run). ltb r.0 c.args.index) runs k c.partition_point.ensures.partitioned parted (λ a r q m. search rules) in
-    type_at runs k c.args.index from rising h (λ j d l. ltb-true _ _ (point.0 j d (omega arith) l)) (λ j d l m. ltb-false _ _ (point.1 j d l m))
+    type_between from c.args.runs.now c.args.index c.run_within.result rising h (c.run_within.ensures from rising (c.loop-size.invariant.between from rising))

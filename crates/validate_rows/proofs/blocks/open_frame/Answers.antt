@@ -1,14 +1,14 @@
 use Rattle.std.proofs.Common.{rules, ◌≡◌, reverse, None, Some, true, sym, ap, ◌∙◌}
 use Rattle.std.specs.Option.{option_map}
 use Rattle.validation_rules.specs.Context.{block_signature}
-use Rattle.validation_rules.specs.Table.{opening_operator}
+use Rattle.validation_rules.specs.Operators.{opening_operator}
 use Rattle.validate_stacks.specs.Blocks.{body_with_block}
 use Rattle.validate_stacks.specs.Pops.{body_popped_each}
 use Rattle.validate_stacks.specs.Visits.{step_body}
 use Rattle.validate_stacks.proofs.Validity.{kept_on}
 use Rattle.validate_stacks.proofs.Whole.{none_above, some_above}
 use Rattle.validate_rows.proofs.Opening.{opened_is}
-use Rattle.validate_rows.proofs.Meeting.{meets_last, meets_refused}
+use Rattle.validate_shapes.proofs.Meeting.{meets_last, meets_refused}
 use Rattle.validate_rows.proofs.blocks.open_frame.Goals as goal
 
 pub returns-in_err-pop_types : goal.returns-in_err-pop_types

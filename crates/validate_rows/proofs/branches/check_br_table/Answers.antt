@@ -1,14 +1,14 @@
 use Rattle.std.proofs.Common.{rules, ◌≡◌, None, reverse, refl, sym, ap, ◌∙◌}
 use Rattle.validation_rules.specs.Branches.{br_table_row}
-use Rattle.validation_rules.specs.Table.{flat_operator}
+use Rattle.validation_rules.specs.Operators.{flat_operator}
 use Rattle.validate_stacks.specs.Pops.{body_popped_each}
 use Rattle.validate_stacks.specs.Steps.{label_of, body_unreachable}
 use Rattle.validate_stacks.specs.Visits.{step_body}
 use Rattle.validate_stacks.specs.State.{context}
 use Rattle.validate_stacks.proofs.Validity.{kept_on}
-use Rattle.validate_rows.proofs.Branching.{label_valid}
+use Rattle.validate_shapes.proofs.Branching.{label_valid}
 use Rattle.validate_rows.proofs.BranchTables.{table_untested, table_none, types_table, table_refused, table_other_targets, table_passes}
-use Rattle.validate_rows.proofs.Meeting.{meets_none, meets_refused, meets_last}
+use Rattle.validate_shapes.proofs.Meeting.{meets_none, meets_refused, meets_last}
 use Rattle.validate_rows.proofs.branches.check_br_table.Goals as goal
 
 pub returns-in_err-pop_types-clause-visit : goal.returns-in_err-pop_types-clause-visit

@@ -6,7 +6,7 @@ use Rattle.validate_stacks.specs.State.{context}
 use Rattle.validate_stacks.specs.Steps.{body_unreachable}
 use Rattle.validate_stacks.proofs.Validity.{kept_on}
 use Rattle.validate_rows.proofs.Calling.{tail_of_others, tail_refused, tail_passes}
-use Rattle.validate_rows.proofs.Meeting.{meets_none, meets_refused, meets_last}
+use Rattle.validate_shapes.proofs.Meeting.{meets_none, meets_refused, meets_last}
 use Rattle.validate_rows.proofs.calls.check_return_call_ty.Goals as goal
 
 pub returns-in_err-check_func_type_same_results : goal.returns-in_err-check_func_type_same_results

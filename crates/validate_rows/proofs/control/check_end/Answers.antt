@@ -1,14 +1,14 @@
 use Rattle.std.proofs.Common.{rules, ◌≡◌, None, true, false, sym, ap, ◌∙◌}
 use Rattle.validation_rules.specs.Rows.{Ends}
-use Rattle.validation_rules.specs.Table.{delimiter_operator}
+use Rattle.validation_rules.specs.Operators.{delimiter_operator}
 use Rattle.validate_stacks.specs.Blocks.{may_close_as_if}
 use Rattle.validate_stacks.specs.Pops.{body_pushed_each}
 use Rattle.validate_stacks.specs.State.{BodyState}
 use Rattle.validate_stacks.specs.Visits.{step_body}
 use Rattle.validate_stacks.proofs.Closing.{wants_valid}
 use Rattle.validate_stacks.proofs.Validity.{kept_on}
-use Rattle.validate_rows.proofs.Rows.{end_none, end_refused_if, end_passes, if_by, same_context}
-use Rattle.validate_rows.proofs.Meeting.{meets_last, meets_refused}
+use Rattle.validate_shapes.proofs.Rows.{end_none, end_refused_if, end_passes, if_by, same_context}
+use Rattle.validate_shapes.proofs.Meeting.{meets_last, meets_refused}
 use Rattle.validate_stacks.proofs.Phases.{step_frame, step_unset}
 use Rattle.validate_rows.proofs.control.check_end.Goals as goal
 
@@ -25,7 +25,7 @@ returns-in_err-check_empty_else g c =
     let v = c.args.stacks.now.body in
     let f = c.in_ok-frame.frame in
     let there = c.in_ok-frame.ensures.frame in
-    let none : may_close_as_if md f c.pop_ctrl.new.self.body ≡ false → step_body md (λ cx. delimiter_operator Ends true) v ≡ None =
+    let none : may_close_as_if md f c.pop_ctrl.new.self.body ≡ false → step_body md (λ cx. delimiter_operator Ends) v ≡ None =
     λ n. end_refused_if md v f there (sym (ap (λ cx. if_by cx f) (same_context md v c.pop_ctrl.new.self.body c.pop_ctrl.ensures.kept)) ∙ n) in
     meets_refused md _ c.args.offset v c.check_empty_else.new.stacks.body _ (search rules) (search (rules, none)) (search rules) c.check_empty_else.ensures.valid (kept_on v c.pop_ctrl.new.self.body c.check_empty_else.new.stacks.body c.pop_ctrl.ensures.kept c.check_empty_else.ensures.kept)
 

@@ -1,7 +1,7 @@
 use Rattle.std.proofs.Common.{rules, true, [], ◌∷◌}
 use Rattle.validation_rules.specs.Calls.{global_set_row}
-use Rattle.validation_rules.specs.Table.{plain_row}
-use Rattle.validate_rows.proofs.Found.{meets_barred, meets_found}
+use Rattle.validation_rules.specs.Operators.{plain_row}
+use Rattle.validate_shapes.proofs.Found.{meets_barred, meets_found}
 use Rattle.validate_rows.proofs.globals.check_global_set.Goals as goal
 
 pub returns-in_err-global : goal.returns-in_err-global
@@ -17,4 +17,4 @@ returns-then-not-global g c =
 pub returns : goal.returns
 returns g c =
     let md = g.R.WasmModuleResources.context c.args.resources.now in
-    meets_found md c.args.stacks.now.body (λ cx hs. global_set_row cx c.args.global_index) c.args.offset (λ cx hs. plain_row true (c.in_ok-global.global.content_type ∷ []) []) _ _ (search rules) c.check_plain.ensures
+    meets_found md c.args.stacks.now.body (λ cx hs. global_set_row cx c.args.global_index) c.args.offset (λ cx hs. plain_row (c.in_ok-global.global.content_type ∷ []) []) _ _ (search rules) c.check_plain.ensures

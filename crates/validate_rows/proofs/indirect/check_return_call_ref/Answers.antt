@@ -1,6 +1,6 @@
 use Rattle.std.proofs.Common.{rules, Some}
 use Rattle.validation_rules.specs.Indirect.{return_call_ref_row, return_call_operand_row}
-use Rattle.validate_rows.proofs.Found.{meets_barred, meets_found}
+use Rattle.validate_shapes.proofs.Found.{meets_barred, meets_found}
 use Rattle.validate_rows.proofs.indirect.check_return_call_ref.Goals as goal
 
 pub returns-in_err-reference : goal.returns-in_err-reference
@@ -11,4 +11,4 @@ returns-in_err-reference g c =
 pub returns : goal.returns
 returns g c =
     let md = g.R.WasmModuleResources.context c.args.resources.now in
-    meets_found md c.args.stacks.now.body (λ cx hs. return_call_ref_row cx hs c.args.type_index) c.args.offset (λ cx hs. return_call_operand_row cx hs (Some c.in_ok-reference.reference) c.args.type_index) _ _ (search rules) c.check_return_call_by.ensures
+    meets_found md c.args.stacks.now.body (λ cx hs. return_call_ref_row cx hs c.args.type_index) c.args.offset (λ cx hs. return_call_operand_row cx hs (Some c.in_ok-reference.reference) c.args.type_index) _ _ (search rules) c.check_return_call_operand.ensures

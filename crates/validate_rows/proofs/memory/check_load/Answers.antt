@@ -1,7 +1,7 @@
 use Rattle.std.proofs.Common.{rules, true, [], ◌∷◌}
 use Rattle.validation_rules.specs.Access.{load_row}
-use Rattle.validation_rules.specs.Table.{plain_row}
-use Rattle.validate_rows.proofs.Found.{meets_barred, meets_found}
+use Rattle.validation_rules.specs.Operators.{plain_row}
+use Rattle.validate_shapes.proofs.Found.{meets_barred, meets_found}
 use Rattle.validate_rows.proofs.memory.check_load.Goals as goal
 
 pub returns-in_err-address : goal.returns-in_err-address
@@ -12,4 +12,4 @@ returns-in_err-address g c =
 pub returns : goal.returns
 returns g c =
     let md = g.R.WasmModuleResources.context c.args.resources.now in
-    meets_found md c.args.stacks.now.body (λ cx hs. load_row cx c.args.memarg c.args.ty) c.args.offset (λ cx hs. plain_row true (c.in_ok-address.address ∷ []) (c.args.ty ∷ [])) _ _ (search rules) c.check_plain.ensures
+    meets_found md c.args.stacks.now.body (λ cx hs. load_row cx c.args.memarg c.args.ty) c.args.offset (λ cx hs. plain_row (c.in_ok-address.address ∷ []) (c.args.ty ∷ [])) _ _ (search rules) c.check_plain.ensures

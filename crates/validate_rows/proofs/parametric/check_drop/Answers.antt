@@ -7,7 +7,7 @@ use Rattle.validate_stacks.specs.State.{IsValid, context}
 use Rattle.validate_stacks.specs.Steps.{found_in_body, body_popped}
 use Rattle.validate_stacks.specs.Visits.{Meets}
 use Rattle.validate_stacks.proofs.Validity.{popped_valid, popped_kept}
-use Rattle.validate_rows.proofs.Rows.{drop_is}
+use Rattle.validate_shapes.proofs.Rows.{drop_is}
 use Rattle.validate_rows.proofs.parametric.check_drop.Goals as goal
 
 pub returns-in-Ok-clause-visit : goal.returns-in-Ok-clause-visit

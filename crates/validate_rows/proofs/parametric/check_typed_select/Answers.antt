@@ -1,7 +1,7 @@
 use Rattle.std.proofs.Common.{rules, true, [], ◌∷◌}
 use Rattle.validation_rules.specs.Context.{I32}
-use Rattle.validation_rules.specs.Table.{plain_row, typed_select_row}
-use Rattle.validate_rows.proofs.Found.{meets_barred, meets_found}
+use Rattle.validation_rules.specs.Operators.{plain_row, typed_select_row}
+use Rattle.validate_shapes.proofs.Found.{meets_barred, meets_found}
 use Rattle.validate_rows.proofs.parametric.check_typed_select.Goals as goal
 
 pub returns-in_err-check_value_type : goal.returns-in_err-check_value_type
@@ -12,4 +12,4 @@ returns-in_err-check_value_type g c =
 pub returns : goal.returns
 returns g c =
     let md = g.R.WasmModuleResources.context c.args.resources.now in
-    meets_found md c.args.stacks.now.body (λ cx hs. typed_select_row cx c.args.ty) c.args.offset (λ cx hs. let u = c.check_value_type.new.ty in plain_row true (u ∷ u ∷ I32 ∷ []) (u ∷ [])) _ _ (search rules) c.check_plain.ensures
+    meets_found md c.args.stacks.now.body (λ cx hs. typed_select_row cx c.args.ty) c.args.offset (λ cx hs. let u = c.check_value_type.new.ty in plain_row (u ∷ u ∷ I32 ∷ []) (u ∷ [])) _ _ (search rules) c.check_plain.ensures

@@ -3,13 +3,13 @@ use Rattle.validate_types.specs.declared.refs.RefType.{RefType}
 use Rattle.validate_resources.specs.Context.{is_valid_heap}
 use Rattle.validation_rules.specs.References.{last_reference, br_on_non_null_row_for, br_on_non_null_row}
 use Rattle.validation_rules.specs.Static.{heads}
-use Rattle.validation_rules.specs.Table.{lookup_row}
+use Rattle.validation_rules.specs.Operators.{lookup_row}
 use Rattle.validation_rules.proofs.Valid.{before_last_valid, last_valid}
 use Rattle.validate_stacks.specs.State.{context}
-use Rattle.validate_rows.proofs.Branching.{label_there, no_label, no_types, label_valid}
-use Rattle.validate_rows.proofs.Found.{meets_barred}
-use Rattle.validate_rows.proofs.Looking.{on_non_null_missing, on_non_null_rest}
-use Rattle.validate_rows.proofs.Meeting.{meets_from, meets_refused}
+use Rattle.validate_shapes.proofs.Branching.{label_there, no_label, no_types, label_valid}
+use Rattle.validate_shapes.proofs.Found.{meets_barred}
+use Rattle.validate_shapes.proofs.Looking.{on_non_null_missing, on_non_null_rest}
+use Rattle.validate_shapes.proofs.Meeting.{meets_from, meets_refused}
 use Rattle.validate_rows.proofs.references.check_br_on_non_null.Goals as goal
 
 pub returns-in_err-block_type : goal.returns-in_err-block_type

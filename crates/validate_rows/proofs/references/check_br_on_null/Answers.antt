@@ -1,15 +1,16 @@
 use Rattle.std.proofs.Common.{rules, ◌≡◌, None, reverse, true, false, [], Some, refl, sym, ap, ◌∙◌}
+use Rattle.std.specs.Option.{option_and_then}
 use Rattle.validation_rules.specs.Branches.{has_label, label_types_at}
 use Rattle.validation_rules.specs.References.{without_null}
-use Rattle.validation_rules.specs.Static.{bind, heads}
+use Rattle.validation_rules.specs.Static.{heads}
 use Rattle.validate_stacks.specs.State.{BodyState, context}
 use Rattle.validate_stacks.specs.Pops.{body_popped_each}
 use Rattle.validate_stacks.specs.Steps as steps
 use Rattle.validate_stacks.specs.Steps.{body_pushed}
 use Rattle.validate_stacks.proofs.Validity.{kept_on}
-use Rattle.validate_rows.proofs.Branching.{label_there, no_label, label_valid}
-use Rattle.validate_rows.proofs.Looking.{on_null_is, unreferenced, above_missing, above_there, label_below}
-use Rattle.validate_rows.proofs.Meeting.{meets_none, meets_starved, meets_last, meets_refused}
+use Rattle.validate_shapes.proofs.Branching.{label_there, no_label, label_valid}
+use Rattle.validate_shapes.proofs.Looking.{on_null_is, unreferenced, above_missing, above_there, label_below}
+use Rattle.validate_shapes.proofs.Meeting.{meets_none, meets_starved, meets_last, meets_refused}
 use Rattle.validate_rows.proofs.references.check_br_on_null.Goals as goal
 
 pub returns-in_err-reference : goal.returns-in_err-reference
@@ -19,7 +20,7 @@ returns-in_err-reference g c =
     let cx = context md v in
     let hs = heads v.present.frames in
     let d = c.args.relative_depth in
-    let none = λ (n : bind (steps.found_in_body v) without_null ≡ None). on_null_is md v c.requires.open_frame d (has_label hs d) (label_types_at cx hs d) refl refl ∙ unreferenced md (has_label hs d) (label_types_at cx hs d) v n in
+    let none = λ (n : option_and_then without_null (steps.found_in_body v) ≡ None). on_null_is md v c.requires.open_frame d (has_label hs d) (label_types_at cx hs d) refl refl ∙ unreferenced md (has_label hs d) (label_types_at cx hs d) v n in
     meets_refused md _ c.args.offset v c.pop_non_null_ref.new.stacks.body _ (search rules) (search (rules, none)) (search rules) c.pop_non_null_ref.ensures.valid c.pop_non_null_ref.ensures.kept
 
 pub returns-in_err-block_type : goal.returns-in_err-block_type

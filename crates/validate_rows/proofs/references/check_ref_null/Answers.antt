@@ -6,9 +6,9 @@ use Rattle.validate_resources.specs.Context.{is_valid_heap}
 use Rattle.validation_rules.specs.Context.{Ref}
 use Rattle.validation_rules.specs.References.{ref_null_row}
 use Rattle.validation_rules.specs.Rows.{guard}
-use Rattle.validation_rules.specs.Table.{plain_row, lookup_row}
-use Rattle.validate_rows.proofs.Found.{meets_barred, meets_found}
-use Rattle.validate_rows.proofs.Reaching.{not_made, made_is}
+use Rattle.validation_rules.specs.Operators.{plain_row, lookup_row}
+use Rattle.validate_shapes.proofs.Found.{meets_barred, meets_found}
+use Rattle.validate_shapes.proofs.Reaching.{not_made, made_is}
 use Rattle.validate_rows.proofs.references.check_ref_null.Goals as goal
 
 pub returns-in_err-check_null_gate : goal.returns-in_err-check_null_gate
@@ -25,21 +25,22 @@ returns-in_err-check_heap_type g c =
 
 pub unreachable-requires : goal.unreachable-requires
 unreachable-requires g c =
+    let md = g.R.WasmModuleResources.context c.args.resources.now in
     let laws = g.met.R.WasmModuleResources.lawful c.args.resources.now in
-    let canonical = laws.checked_heap _ _ c.in_ok-check_heap_type.ensures.canonical in
-    not_made c.check_heap_type.new.ty true canonical.fits (sym c.new.ensures ∙ c.in_default.is)
+    let valid = laws.checked_heap _ _ c.in_ok-check_heap_type.ensures.canonical in
+    not_made md c.check_heap_type.new.ty true valid (sym c.new.ensures ∙ c.in_default.is)
 
 pub check_plain-requires-clause-pushed : goal.check_plain-requires-clause-pushed
 check_plain-requires-clause-pushed g c =
     let md = g.R.WasmModuleResources.context c.args.resources.now in
     let laws = g.met.R.WasmModuleResources.lawful c.args.resources.now in
-    let canonical = laws.checked_heap _ _ c.in_ok-check_heap_type.ensures.canonical in
-    (subst (λ (r : RefType). is_valid_heap md r.heap_type ≡ true) (made_is c.check_heap_type.new.ty true c.in-Some.ty canonical.fits (sym c.new.ensures ∙ c.in-Some.is)) canonical.is_valid, tt)
+    let valid = laws.checked_heap _ _ c.in_ok-check_heap_type.ensures.canonical in
+    (subst (λ (r : RefType). is_valid_heap md r.heap_type ≡ true) (made_is md c.check_heap_type.new.ty true c.in-Some.ty valid (sym c.new.ensures ∙ c.in-Some.is)) valid, tt)
 
 pub returns : goal.returns
 returns g c =
     let md = g.R.WasmModuleResources.context c.args.resources.now in
     let laws = g.met.R.WasmModuleResources.lawful c.args.resources.now in
-    let canonical = laws.checked_heap _ _ c.in_ok-check_heap_type.ensures.canonical in
-    let there = ap (λ b. lookup_row (guard b (md.canonical_heap c.args.heap_type)) (λ (k : HeapType). plain_row true [] (Ref (reference true k) ∷ []))) (c.in_ok-check_null_gate.ensures.open md) ∙ (ap (λ o. lookup_row o (λ (k : HeapType). plain_row true [] (Ref (reference true k) ∷ []))) c.in_ok-check_heap_type.ensures.canonical ∙ ap (λ (r : RefType). plain_row true [] (Ref r ∷ [])) (made_is c.check_heap_type.new.ty true c.in-Some.ty canonical.fits (sym c.new.ensures ∙ c.in-Some.is))) in
-    meets_found md c.args.stacks.now.body (λ cx hs. ref_null_row cx c.args.heap_type) c.args.offset (λ cx hs. plain_row true [] (Ref c.in-Some.ty ∷ [])) _ _ there c.check_plain.ensures
+    let valid = laws.checked_heap _ _ c.in_ok-check_heap_type.ensures.canonical in
+    let there = ap (λ b. lookup_row (guard b (md.canonical_heap c.args.heap_type)) (λ (k : HeapType). plain_row [] (Ref (reference true k) ∷ []))) (c.in_ok-check_null_gate.ensures.open md) ∙ (ap (λ o. lookup_row o (λ (k : HeapType). plain_row [] (Ref (reference true k) ∷ []))) c.in_ok-check_heap_type.ensures.canonical ∙ ap (λ (r : RefType). plain_row [] (Ref r ∷ [])) (made_is md c.check_heap_type.new.ty true c.in-Some.ty valid (sym c.new.ensures ∙ c.in-Some.is))) in
+    meets_found md c.args.stacks.now.body (λ cx hs. ref_null_row cx c.args.heap_type) c.args.offset (λ cx hs. plain_row [] (Ref c.in-Some.ty ∷ [])) _ _ there c.check_plain.ensures

@@ -1,12 +1,12 @@
 use Rattle.std.proofs.Common.{rules, ◌≡◌, [], ◌∷◌, Some, None, refl, sym, ap, ◌∙◌}
 use Rattle.std.specs.Option.{option_map}
-use Rattle.validation_rules.specs.Table.{row_operator, local_set_row}
+use Rattle.validation_rules.specs.Operators.{row_operator, local_set_row}
 use Rattle.validate_stacks.specs.Pops.{body_popped_each}
 use Rattle.validate_stacks.specs.Steps.{body_with_local_set}
 use Rattle.validate_stacks.specs.Visits.{step_body}
 use Rattle.validate_stacks.proofs.Validity.{kept_on}
-use Rattle.validate_rows.proofs.Rows.{no_local_set, local_set_is}
-use Rattle.validate_rows.proofs.Meeting.{meets_last, meets_refused}
+use Rattle.validate_shapes.proofs.Rows.{no_local_set, local_set_is}
+use Rattle.validate_shapes.proofs.Meeting.{meets_last, meets_refused}
 use Rattle.validate_rows.proofs.variables.check_local_set.Goals as goal
 
 pub returns-in_err-ty : goal.returns-in_err-ty

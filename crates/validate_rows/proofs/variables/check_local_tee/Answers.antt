@@ -1,14 +1,14 @@
 use Rattle.std.proofs.Common.{rules, ◌≡◌, [], ◌∷◌, Some, None, true, false, refl, sym, ap, ◌∙◌}
 use Rattle.std.specs.Option.{option_map}
 use Rattle.validate_resources.specs.Context.{Valid}
-use Rattle.validation_rules.specs.Table.{row_operator, local_tee_row}
+use Rattle.validation_rules.specs.Operators.{row_operator, local_tee_row}
 use Rattle.validate_stacks.specs.Pops.{body_popped_each, body_pushed_each}
 use Rattle.validate_stacks.specs.State.{BodyState}
 use Rattle.validate_stacks.specs.Steps.{body_with_local_set}
 use Rattle.validate_stacks.specs.Visits.{step_body}
 use Rattle.validate_stacks.proofs.Validity.{kept_on}
-use Rattle.validate_rows.proofs.Rows.{no_local_tee, local_tee_is}
-use Rattle.validate_rows.proofs.Meeting.{meets_last, meets_refused, all_get}
+use Rattle.validate_shapes.proofs.Rows.{no_local_tee, local_tee_is}
+use Rattle.validate_shapes.proofs.Meeting.{meets_last, meets_refused, all_get}
 use Rattle.validate_rows.proofs.variables.check_local_tee.Goals as goal
 
 pub returns-in_err-ty : goal.returns-in_err-ty

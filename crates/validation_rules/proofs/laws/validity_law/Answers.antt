@@ -1,5 +1,5 @@
-use Rattle.validation_rules.proofs.Valid.{table_keeps_valid}
+use Rattle.validation_rules.proofs.Valid.{rows_keep_valid}
 use Rattle.validation_rules.proofs.laws.validity_law.Goals as goal
 
 pub returns : goal.returns
-returns g c = table_keeps_valid _ (g.met.R.WasmModuleResources.lawful c.args.resources.now)
+returns g c = rows_keep_valid _ (g.met.R.WasmModuleResources.lawful c.args.resources.now)

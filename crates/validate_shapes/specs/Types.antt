@@ -1,0 +1,23 @@
+-- What an operator takes and gives, as a value (the crate's own).
+use Rattle.std.specs.Prelude.{true, List, [], ◌∷◌}
+use Rattle.std.specs.List.{AllByRecursion}
+use Rattle.validate_resources.specs.Context.{ModuleContext, Valid}
+use Rattle.validation_rules.specs.Context.{ValType}
+use Rattle.validation_rules.specs.Rows.{Row}
+use Rattle.validation_rules.specs.Operators.{plain_row}
+use Rattle.validate_shapes.specs.declared.types.Few.{Few}
+use Rattle.validate_shapes.specs.declared.types.Few.TheVariants.{Zero, One, Two, Three}
+use Rattle.validate_shapes.specs.declared.types.Types.{Types}
+
+abbrev pub few : Few → List ValType
+few Zero = []
+few (One a) = a ∷ []
+few (Two a b) = a ∷ b ∷ []
+few (Three a b c) = a ∷ b ∷ c ∷ []
+
+-- the row that takes and gives them
+abbrev pub types_row : Types → Row
+types_row t = plain_row (few t.wanted) (few t.pushed)
+
+abbrev pub AreValid : ModuleContext → Types → Type 0
+AreValid md t = AllByRecursion (Valid md) (few t.wanted) × AllByRecursion (Valid md) (few t.pushed)

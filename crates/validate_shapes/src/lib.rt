@@ -1,0 +1,13 @@
+//! What the checks of operators are made of: plain rows, look-ups with their refusals, labels, and
+//! references that are found.
+#![tactic(auto)]
+
+pub mod functions;
+pub mod globals;
+pub mod labels;
+pub mod memories;
+pub mod numbers;
+pub mod plain;
+pub mod references;
+pub mod tables;
+pub mod types;

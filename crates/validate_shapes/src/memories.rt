@@ -1,0 +1,139 @@
+//! The types of addresses in memories, and data segments, looked up (WebAssembly core specification,
+//! "Memory Instructions").
+
+ghost use Rattle.std.specs.Prelude.{◌≡◌, true, false, [], ◌∷◌, None, Some, IfOk, OnOk, OnErr, IfErr};
+ghost use Rattle.validate_resources.specs.Context.{is_index_type};
+ghost use Rattle.validation_rules.specs.Access.{memory_address_type as index_of_memory, address_types, narrower_type, is_segment, atomic_address_types};
+
+use validate_resources::WasmModuleResources;
+use validate_stacks::Stacks;
+use validate_types::{Error, ValType};
+use validate_visit::{MemArg, MemArgTarget};
+
+/// The type of the addresses of a memory, or the refusal of an index past the end (wasmparser's
+/// `check_memory_index`).
+#[inline(always)]
+pub fn check_memory_index<R: WasmModuleResources>(
+    stacks: &Stacks,
+    resources: &R,
+    offset: u64,
+    memory_index: u32,
+) -> Result<ValType, Error>
+    ensures found { IfOk result (λ it. index_of_memory (R.context resources.now) memory_index ≡ Some it) }
+    ensures index { IfOk result (λ it. is_index_type it ≡ true) }
+    ensures unknown { OnErr result (index_of_memory (R.context resources.now) memory_index ≡ None) }
+    ensures offset { IfErr result (λ e. e.offset ≡ offset) }
+{
+    match resources.memory_at(memory_index) {
+        Some(memory) => Ok(memory.index_type()),
+        None => Err(unknown_memory(stacks, offset, memory_index)),
+    }
+}
+
+#[cold]
+#[inline(never)]
+fn unknown_memory(stacks: &Stacks, offset: u64, memory_index: u32) -> Error
+    ensures { result.offset ≡ offset }
+{
+    match format!(in stacks.allocator(); "unknown memory {memory_index}") {
+        Ok(text) => Error::with_text(text, offset),
+        Err(_) => Error::out_of_memory(offset),
+    }
+}
+
+/// The type of the address of a load or a store: its alignment is at most the natural one, and its
+/// offset one that the address allows (wasmparser's `check_memarg_inner`).
+#[inline(always)]
+pub fn check_memarg<R: WasmModuleResources>(
+    stacks: &Stacks,
+    resources: &R,
+    offset: u64,
+    memarg: MemArg,
+) -> Result<ValType, Error>
+    ensures found { IfOk result (λ it. address_types (R.context resources.now) memarg ≡ Some (it ∷ [])) }
+    ensures index { IfOk result (λ it. is_index_type it ≡ true) }
+    ensures refused { OnErr result (address_types (R.context resources.now) memarg ≡ None) }
+    ensures offset { IfErr result (λ e. e.offset ≡ offset) }
+{
+    if memarg.align > memarg.max_align {
+        return Err(Error::new(
+            "invalid memop alignment: alignment must not be larger than natural",
+            offset,
+        ));
+    }
+    let MemArgTarget::Memory(memory_index) = memarg.target;
+    let index_type = check_memory_index(stacks, resources, offset, memory_index)?;
+    if index_type == ValType::I32 && memarg.offset > u64::from(u32::MAX) {
+        return Err(Error::new("offset out of range: must be <= 2**32", offset));
+    }
+    Ok(index_type)
+}
+
+/// The type of a length that fits both memories, or both tables.
+pub fn narrower_of(dst: ValType, src: ValType) -> ValType
+    requires dst { is_index_type dst ≡ true }
+    requires src { is_index_type src ≡ true }
+    ensures narrower { result ≡ narrower_type dst src }
+    ensures index { is_index_type result ≡ true }
+{
+    match src {
+        ValType::I32 => ValType::I32,
+        _ => dst,
+    }
+}
+
+/// Whether there is a data segment of this index (wasmparser's `check_data_segment`). It refuses where
+/// the module doesn't say how many there are, and an index past the end.
+pub fn check_data_segment<R: WasmModuleResources>(
+    stacks: &Stacks,
+    resources: &R,
+    offset: u64,
+    data_index: u32,
+) -> Result<(), Error>
+    ensures there { OnOk result (is_segment (R.context resources.now).data_count data_index ≡ true) }
+    ensures missing { OnErr result (is_segment (R.context resources.now).data_count data_index ≡ false) }
+    ensures offset { IfErr result (λ e. e.offset ≡ offset) }
+{
+    match resources.data_count() {
+        None => Err(Error::new("data count section required", offset)),
+        Some(count) => {
+            if data_index < count {
+                Ok(())
+            } else {
+                Err(unknown_data_segment(stacks, offset, data_index))
+            }
+        }
+    }
+}
+
+fn unknown_data_segment(stacks: &Stacks, offset: u64, data_index: u32) -> Error
+    ensures { result.offset ≡ offset }
+{
+    match format!(in stacks.allocator(); "unknown data segment {data_index}") {
+        Ok(text) => Error::with_text(text, offset),
+        Err(_) => Error::out_of_memory(offset),
+    }
+}
+
+/// The type of the address of an atomic access: its alignment is the natural one, and the rest as of any
+/// access (wasmparser's `check_shared_memarg`).
+pub fn check_shared_memarg<R: WasmModuleResources>(
+    stacks: &Stacks,
+    resources: &R,
+    offset: u64,
+    memarg: MemArg,
+) -> Result<ValType, Error>
+    ensures found { IfOk result (λ it. atomic_address_types (R.context resources.now) memarg
+        ≡ Some (it ∷ [])) }
+    ensures index { IfOk result (λ it. is_index_type it ≡ true) }
+    ensures refused { OnErr result (atomic_address_types (R.context resources.now) memarg ≡ None) }
+    ensures offset { IfErr result (λ e. e.offset ≡ offset) }
+{
+    if memarg.align != memarg.max_align {
+        return Err(Error::new(
+            "atomic instructions must always specify maximum alignment",
+            offset,
+        ));
+    }
+    check_memarg(stacks, resources, offset, memarg)
+}

@@ -1,0 +1,31 @@
+//! Operators whose wanted and pushed types don't depend on what is found.
+
+ghost use Rattle.std.specs.Prelude.{true};
+ghost use Rattle.std.specs.List.{AllByRecursion};
+ghost use Rattle.validate_resources.specs.Context.{Valid};
+ghost use Rattle.validation_rules.specs.Operators.{plain_row, row_operator};
+ghost use Rattle.validate_stacks.specs.Visits.{MayVisit, Meets};
+
+use validate_resources::WasmModuleResources;
+use validate_stacks::Stacks;
+use validate_types::{Error, ValType};
+
+/// `[wanted] -> [pushed]`, the last of each on top.
+#[inline(always)]
+pub fn check_plain<R: WasmModuleResources>(
+    stacks: &mut Stacks,
+    resources: &R,
+    offset: u64,
+    wanted: &[ValType],
+    pushed: &[ValType],
+) -> Result<(), Error>
+    requires visit { MayVisit (R.context resources.now) stacks.old }
+    requires wanted { AllByRecursion (Valid (R.context resources.now)) wanted.now }
+    requires pushed { AllByRecursion (Valid (R.context resources.now)) pushed.now }
+    ensures { Meets (R.context resources.now)
+        (λ cx. row_operator (plain_row wanted.now pushed.now)) offset stacks.old.body result
+        stacks.new.body }
+{
+    stacks.pop_types(resources, offset, wanted)?;
+    stacks.push_types(offset, pushed)
+}

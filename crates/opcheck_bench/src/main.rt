@@ -15,19 +15,18 @@ use crate::choice::{Choice, read_choice};
 use crate::failure::Failure;
 use crate::measure::{Subject, Way, best_time};
 use opcheck_script::module_lists;
-use script_reader::{Script, borrowed_ops, read_script};
+use script_reader::{Script, read_lists, read_script};
 use std::io::Read;
 use std::process::ExitCode;
 use std::str;
 
-/// Reads the script whole.
-fn read(rt: &HostRuntime) -> Result<Script, Failure> {
+/// Reads the input whole.
+fn read(rt: &HostRuntime) -> Result<Vec<u8>, Failure> {
     let mut bytes = Vec::new(rt.alloc());
     rt.stdin()
         .read_to_end(&mut bytes)
         .map_err(|_| Failure::Script)?;
-    let text = str::from_utf8(&bytes).map_err(|_| Failure::Script)?;
-    read_script(rt.alloc(), text).map_err(|_| Failure::Script)
+    Ok(bytes)
 }
 
 /// Prints the line of one way.
@@ -57,27 +56,29 @@ fn report(
 fn run(rt: &HostRuntime) -> Result<(), Failure> {
     let alloc = rt.alloc();
     let choice = read_choice(rt)?;
+    let bytes = read(rt)?;
+    let text = str::from_utf8(&bytes).map_err(|_| Failure::Script)?;
+    let lists = read_lists(alloc, text).map_err(|_| Failure::Host)?;
     let Script {
         features,
         declarations,
         body,
         locals,
         operators,
-    } = read(rt)?;
-    let lists = module_lists(alloc, declarations).map_err(|_| Failure::Script)?;
-    let ops = borrowed_ops(alloc, &operators).map_err(|_| Failure::Host)?;
+    } = read_script(alloc, &lists, text).map_err(|_| Failure::Script)?;
+    let module = module_lists(alloc, declarations).map_err(|_| Failure::Script)?;
     let subject = Subject {
         alloc,
-        lists: &lists,
+        module: &module,
         features: &features,
         body,
         locals: &locals,
-        written: &operators,
-        ops: &ops,
+        ops: &operators.ops,
+        attempts: &operators.attempts,
     };
     for way in [Way::CheckOps, Way::Visits] {
         let best = best_time(rt, way, subject, choice.runs)?;
-        report(rt, choice, way, best, ops.len())?;
+        report(rt, choice, way, best, operators.ops.len())?;
     }
     Ok(())
 }

@@ -2,9 +2,9 @@
 
 ghost use Rattle.std.specs.Prelude.{◌≡◌, true, None};
 ghost use Rattle.std.specs.List.{list_all};
-ghost use Rattle.validate_visit.specs.Immediates.{module_immediates};
+ghost use Rattle.validate_visit.specs.Immediates.{is_module_op};
 ghost use Rattle.validate_visit.specs.Order.{is_well_ordered_list};
-ghost use Rattle.validate_body.specs.Runs.{operators};
+ghost use Rattle.validate_body.specs.Runs.{without_offsets};
 ghost use Rattle.validate_body.specs.Start.{state, stacks_of};
 ghost use Rattle.validation_rules.specs.Operators.{operator};
 ghost use Rattle.validate_stacks.specs.Visits.{MayVisit, Meets};
@@ -12,7 +12,7 @@ ghost use Rattle.validate_stacks.specs.State.{IsStarting};
 
 use crate::failure::Failure;
 use opcheck_script::begin_body;
-use script_reader::{BodyLine, LocalLine, WrittenOp};
+use script_reader::{BodyLine, LocalLine};
 use std::alloc::Global;
 use std::time::Instant;
 use validate_body::{OperatorValidator, check_ops, try_op};
@@ -26,17 +26,17 @@ pub struct Subject<'a> {
     /// With what the validator is made.
     pub alloc: Global,
     /// The module.
-    pub lists: &'a ModuleLists,
+    pub module: &'a ModuleLists,
     /// The proposals that are on.
     pub features: &'a WasmFeatures,
     /// The `func` or `expr` line.
     pub body: BodyLine,
     /// The `local` lines.
     pub locals: &'a [LocalLine],
-    /// The operators, as they were written.
-    pub written: &'a [(WrittenOp, u64)],
     /// The operators.
     pub ops: &'a [(Op<'a>, u64)],
+    /// Of each whether it is attempted.
+    pub attempts: &'a [bool],
 }
 
 /// How a body is checked.
@@ -78,7 +78,7 @@ pub fn best_time(
 
 /// Whether the immediates are those of a module.
 fn have_module_immediates(ops: &[(Op<'_>, u64)]) -> bool
-    ensures { result ≡ list_all (λ (pair : _). module_immediates pair.0) ops.now }
+    ensures { result ≡ list_all (λ (pair : _). is_module_op pair.0) ops.now }
 {
     ops.iter().all(|pair| has_module_immediates(&pair.0))
 }
@@ -90,14 +90,14 @@ fn time(
     subject: Subject<'_>,
     heights: &mut Vec<(usize, usize)>,
 ) -> Result<u128, Failure>
-    requires ordered { is_well_ordered_list (operators subject.ops.now) ≡ true }
-    requires immediates { list_all (λ (pair : _). module_immediates pair.0) subject.ops.now ≡ true }
+    requires ordered { is_well_ordered_list (without_offsets subject.ops.now) ≡ true }
+    requires immediates { list_all (λ (pair : _). is_module_op pair.0) subject.ops.now ≡ true }
 {
     heights.clear();
     let since = Instant::now(rt).map_err(|_| Failure::Host)?;
     let Ok(mut validator) = begin_body(
         subject.alloc,
-        subject.lists,
+        subject.module,
         subject.features,
         subject.body,
         subject.locals,
@@ -107,11 +107,18 @@ fn time(
     let accepted = match way {
         Way::CheckOps => {
             matches!(
-                check_ops(&mut validator, subject.ops, subject.lists, heights),
+                check_ops(&mut validator, subject.ops, subject.module, heights),
                 Ok(true)
             )
         }
-        Way::Visits => visit_each(&mut validator, subject.ops, subject.written, subject.lists),
+        Way::Visits => {
+            visit_each(
+                &mut validator,
+                subject.ops,
+                subject.attempts,
+                subject.module,
+            )
+        }
     };
     let time = since.elapsed(rt).map_err(|_| Failure::Host)?.as_nanos();
     if !accepted {
@@ -125,17 +132,17 @@ fn time(
 fn visit_each<R: WasmModuleResources>(
     validator: &mut OperatorValidator,
     ops: &[(Op<'_>, u64)],
-    written: &[(WrittenOp, u64)],
+    attempts: &[bool],
     resources: &R,
 ) -> bool
     requires { IsStarting (R.context resources.now) (state validator.old) }
 {
-    for (pair, line) in ops.iter().zip(written) {
+    for (pair, attempted) in ops.iter().zip(attempts) {
         let (op, offset) = *pair;
         if validator.control_stack_height() == 0 {
             return false;
         }
-        if visit(validator, resources, offset, op, line.0.attempted).is_err() {
+        if visit(validator, resources, offset, op, *attempted).is_err() {
             return false;
         }
     }

@@ -1,21 +1,17 @@
 -- One answer further, and what the answers up to the end come to.
-use Rattle.std.proofs.Common.{◌≡◌, ◌↔◌, ℕ, zero, suc, Bool, true, false, IsTrue, nat_eq, List, [], ◌∷◌, ◌++◌, map, length, get_or, slice_get, Some, None, IfSome, Result, Ok, Err, IfOk, IfErr, refl, sym, ap, ◌∙◌, subst, arith}
+use Rattle.std.proofs.Common.{◌≡◌, ◌↔◌, ℕ, zero, suc, Bool, true, false, not, ◌&&◌, ◌||◌, IsTrue, nat_eq, List, [], ◌∷◌, ◌++◌, map, length, slice_get, Some, None, Result, Ok, Err, IfOk, IfErr, refl, sym, ap, ◌∙◌, subst, arith}
 use Rattle.std.proofs.lemmas.Bool.{eq-eqb, eqb-true}
 use Rattle.std.specs.Option.{option_and_then}
 use Rattle.validate_types.specs.Refusal.{Refusal}
-use Rattle.validate_visit.specs.Order.{Nesting, nesting, Flat, reads_on, is_ordered_from}
+use Rattle.validate_visit.specs.Order.{Nesting, nesting, Stays, may_read_on, is_ordered_from}
 use Rattle.validate_visit.specs.declared.op.Op.{Op}
-use Rattle.validate_visit.specs.declared.op.Op.TheVariants.{Control}
-use Rattle.validate_visit.specs.declared.op.ControlOp.TheVariants.{BrTable as OnTable, TypedSelectMulti as OnTypes}
 use Rattle.validation_rules.specs.Context.{Context}
-use Rattle.validation_rules.specs.Static.{Frame, State, step, before, frame_count}
-use Rattle.validation_rules.specs.Operators.{operator, body}
-use Rattle.validate_body.specs.Runs.{operators}
+use Rattle.validation_rules.specs.Static.{Frame, State, step, state_before, frame_count}
+use Rattle.validation_rules.specs.Operators.{operator, operators}
+use Rattle.validate_body.specs.Runs.{without_offsets}
 use Rattle.validate_body.proofs.Listed.{kinds, IsOrderedBelow, some_open, ordered_next}
 use Rattle.opcheck_script.specs.Attempts.{Answer, IsAnswer, Answered, EndsRun, Ends, accepted_of}
-use Rattle.script_reader.specs.Owned.{OpValue, op_value, owned_value, op_values, value_nesting, is_flat, may_be_attempted}
-use Rattle.script_reader.specs.Written.{written_values}
-use Rattle.script_reader.specs.declared.written.WrittenOp.{WrittenOp}
+use Rattle.script_parts.specs.Written.{is_staying, may_be_attempted, may_all_be_attempted}
 
 module _ (cx : Context) where
   -- the answers with one more
@@ -31,15 +27,15 @@ module _ (cx : Context) where
   answered_more s (q ∷ ops) (c ∷ bs) (x ∷ rs) a t u p b h g k i = (h.0, h.1, answered_more h.0 ops bs rs a t u p b h.2 g k i)
 
   -- the last state is that of the accepted operators alone
-  pub accepted_rows : (s : State) (ops : List (Op × ℕ)) (bs : List Bool) (rs : List Answer) (t : State) → Answered cx s ops bs rs t → before cx (body cx (operators (accepted_of ops rs))) s (length (accepted_of ops rs)) ≡ Some t
+  pub accepted_rows : (s : State) (ops : List (Op × ℕ)) (bs : List Bool) (rs : List Answer) (t : State) → Answered cx s ops bs rs t → state_before cx (operators cx (without_offsets (accepted_of ops rs))) s (length (accepted_of ops rs)) ≡ Some t
   accepted_rows s [] bs [] t h = ap Some h
   accepted_rows s (p ∷ ops) bs [] t h = ap Some h
   accepted_rows s [] bs (a ∷ rs) t h = absurd h
   accepted_rows s (p ∷ ops) [] (a ∷ rs) t h = absurd h
   accepted_rows s (p ∷ ops) (b ∷ bs) (Ok heights ∷ rs) t h =
-      ap (λ o. option_and_then (λ x. before cx (body cx (operators (accepted_of ops rs))) x (length (accepted_of ops rs))) o) h.1.0 ∙ accepted_rows h.0 ops bs rs t h.2
+      ap (λ o. option_and_then (λ x. state_before cx (operators cx (without_offsets (accepted_of ops rs))) x (length (accepted_of ops rs))) o) h.1.0 ∙ accepted_rows h.0 ops bs rs t h.2
   accepted_rows s (p ∷ ops) (b ∷ bs) (Err e ∷ rs) t h =
-      subst (λ x. before cx (body cx (operators (accepted_of ops rs))) x (length (accepted_of ops rs)) ≡ Some t) (sym h.1.4) (accepted_rows h.0 ops bs rs t h.2)
+      subst (λ x. state_before cx (operators cx (without_offsets (accepted_of ops rs))) x (length (accepted_of ops rs)) ≡ Some t) (sym h.1.4) (accepted_rows h.0 ops bs rs t h.2)
 
   -- the same at a place
   pub next_answered : (s : State) (ops : List (Op × ℕ)) (bs : List Bool) (rs : List Answer) (a : Answer) (t u : State) (i : ℕ) (p : Op × ℕ) (b : Bool) → length rs ≡ i → Answered cx s ops bs rs t → slice_get ops i ≡ Some p → slice_get bs i ≡ Some b → IsAnswer cx p b a t u → Answered cx s ops bs (rs ++ a ∷ []) u
@@ -47,11 +43,11 @@ module _ (cx : Context) where
 
   -- ---- the order of the rest
 
-  flat_next : (fs : List Frame) (p : Op × ℕ) (ops : List (Op × ℕ)) → nesting p.0 ≡ Flat → IsOrderedBelow fs (p ∷ ops) → IsOrderedBelow fs ops
+  flat_next : (fs : List Frame) (p : Op × ℕ) (ops : List (Op × ℕ)) → nesting p.0 ≡ Stays → IsOrderedBelow fs (p ∷ ops) → IsOrderedBelow fs ops
   flat_next [] p ops e h = absurd (some_open [] p ops h refl)
-  flat_next (f ∷ fs) p ops e h = subst (λ n. reads_on f.head.kind (kinds fs) n (λ js. is_ordered_from js (map nesting (operators ops))) ≡ true) e h
+  flat_next (f ∷ fs) p ops e h = subst (λ n. may_read_on f.head.kind (kinds fs) n (λ js. is_ordered_from js (map nesting (without_offsets ops))) ≡ true) e h
 
-  pub still_ordered : (s t : State) (p : Op × ℕ) (b : Bool) (a : Answer) (ops : List (Op × ℕ)) → IsAnswer cx p b a s t → (b ≡ true → nesting p.0 ≡ Flat) → IsOrderedBelow s.frames (p ∷ ops) → IsOrderedBelow t.frames ops
+  pub still_ordered : (s t : State) (p : Op × ℕ) (b : Bool) (a : Answer) (ops : List (Op × ℕ)) → IsAnswer cx p b a s t → (b ≡ true → nesting p.0 ≡ Stays) → IsOrderedBelow s.frames (p ∷ ops) → IsOrderedBelow t.frames ops
   still_ordered s t p b (Ok heights) ops i flat o = ordered_next cx s t p ops i.0 o
   still_ordered s t p b (Err e) ops i flat o = subst (λ (x : State). IsOrderedBelow x.frames ops) i.4 (flat_next s.frames p ops (flat i.0) o)
 
@@ -65,32 +61,30 @@ pub err_gives : {X Y : Type 0} (r : Result X Y) {P Q : Y → Type 0} → ((y : Y
 err_gives (Ok x) f p = tt
 err_gives (Err e) f p = f e p
 
--- ---- what is written, and what borrows its lists
+-- ---- what is attempted
 
-nests : (op : Op) → value_nesting (op_value op) ≡ nesting op
-nests (Control (OnTable table)) = refl
-nests (Control (OnTypes types)) = refl
-nests _ = refl
-
-flat_is : (n : Nesting) → is_flat n ≡ true → n ≡ Flat
-flat_is Flat h = refl
+flat_is : (n : Nesting) → is_staying n ≡ true → n ≡ Stays
+flat_is Stays h = refl
 flat_is _ h = absurd cc
 
-pub same_length : (ops : List (Op × ℕ)) (written : List (WrittenOp × ℕ)) → op_values ops ≡ written_values written → length written ≡ length ops
-same_length [] [] e = refl
-same_length [] (w ∷ ws) e = absurd cc
-same_length (p ∷ ops) [] e = absurd cc
-same_length (p ∷ ops) (w ∷ ws) e = let rest : op_values ops ≡ written_values ws = cc in ap suc (same_length ops ws rest)
-
--- what may be attempted nests nothing
-pub attempted_flat : (ops : List (Op × ℕ)) (written : List (WrittenOp × ℕ)) (i : ℕ) (p : Op × ℕ) → op_values ops ≡ written_values written → slice_get ops i ≡ Some p → IfSome (slice_get written i) (λ (w : WrittenOp × ℕ). may_be_attempted w.0.op ≡ true) → nesting p.0 ≡ Flat
-attempted_flat [] ws i p e g h = absurd cc
-attempted_flat (q ∷ ops) [] i p e g h = absurd cc
-attempted_flat (q ∷ ops) (w ∷ ws) zero p e g h =
-    let same : op_value q.0 ≡ owned_value w.0.op = ap (λ (l : List (OpValue × ℕ)). (get_or l 0 (op_value q.0, 0)).0) e in
+-- what is attempted nests nothing
+pub attempted_flat : (ops : List (Op × ℕ)) (bs : List Bool) (i : ℕ) (p : Op × ℕ) (b : Bool) → may_all_be_attempted ops bs ≡ true → slice_get ops i ≡ Some p → slice_get bs i ≡ Some b → b ≡ true → nesting p.0 ≡ Stays
+attempted_flat [] bs i p b h g k e = absurd cc
+attempted_flat (q ∷ ops) [] i p b h g k e = absurd cc
+attempted_flat (q ∷ ops) (c ∷ bs) zero p b h g k e =
     let there : q ≡ p = cc in
-    flat_is (nesting p.0) (ap is_flat (sym (nests p.0) ∙ ap value_nesting (ap (λ (x : Op × ℕ). op_value x.0) (sym there) ∙ same)) ∙ h)
-attempted_flat (q ∷ ops) (w ∷ ws) (suc i) p e g h = let rest : op_values ops ≡ written_values ws = cc in attempted_flat ops ws i p rest g h
+    let marked : c ≡ true = cc in
+    flat_is (nesting p.0) (subst (λ (x : Op × ℕ). may_be_attempted x.0 ≡ true) there (first c (may_be_attempted q.0) (may_all_be_attempted ops bs) marked h))
+  where
+    first : (a m rest : Bool) → a ≡ true → (not a || m) && rest ≡ true → m ≡ true
+    first true true rest e h = refl
+    first true false rest e h = absurd cc
+    first false m rest e h = absurd cc
+attempted_flat (q ∷ ops) (c ∷ bs) (suc i) p b h g k e = attempted_flat ops bs i p b (later (not c || may_be_attempted q.0) (may_all_be_attempted ops bs) h) g k e
+  where
+    later : (a rest : Bool) → a && rest ≡ true → rest ≡ true
+    later true rest h = h
+    later false rest h = absurd cc
 
 -- ---- the end
 

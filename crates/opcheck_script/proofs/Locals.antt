@@ -6,8 +6,8 @@ use Rattle.validate_resources.specs.Context.{ModuleContext}
 use Rattle.validate_stacks.specs.State.{BodyState}
 use Rattle.validate_body.specs.Start.{DefinesLocals}
 use Rattle.opcheck_script.specs.Begin.{DefinesEach, HasLocals}
-use Rattle.script_reader.specs.declared.script.Body.{Body}
-use Rattle.script_reader.specs.declared.script.LocalLine.{LocalLine}
+use Rattle.script_parts.specs.declared.script.Body.{Body}
+use Rattle.script_parts.specs.declared.script.LocalLine.{LocalLine}
 
 one_line_more : (md : ModuleContext) (ls : List LocalLine) (l : LocalLine) (v u w : BodyState) → DefinesEach md ls v u → DefinesLocals md l.count l.ty u w → DefinesEach md (ls ++ l ∷ []) v w
 one_line_more md [] l v u w e d = (w, subst (λ x. DefinesLocals md l.count l.ty x w) (sym e) d, refl)

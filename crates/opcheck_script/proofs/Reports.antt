@@ -5,7 +5,7 @@ use Rattle.validate_resources.specs.Context.{ModuleContext}
 use Rattle.validate_visit.specs.declared.op.Op.{Op}
 use Rattle.validate_stacks.specs.State.{BodyState}
 use Rattle.validation_rules.specs.Static.{State}
-use Rattle.validate_body.specs.Runs.{state_before, AreHeightsAfter, IsRefusedAt}
+use Rattle.validate_body.specs.Runs.{body_before, AreHeightsAfter, IsRefusedAt}
 use Rattle.opcheck_script.specs.Reports.{RunsThrough}
 
 -- what holds of the lists that are kept
@@ -13,7 +13,7 @@ pub of_module : {X : Type 0} (o : Option X) (x : X) (P : X → Type 0) → o ≡
 of_module o x P e p = subst (λ y. IfSome y P) (sym e) p
 
 module _ (md : ModuleContext) (v : BodyState) (ops : List (Op × ℕ)) (heights : List (ℕ × ℕ)) (outcome : Result Bool Refusal) where
-  pub ran_through : (s : State) (closed : Bool) → outcome ≡ Ok closed → state_before md v ops (length ops) ≡ Some s → (IsTrue closed ↔ (s.frames ≡ [])) → AreHeightsAfter md v ops (length ops) heights → RunsThrough md v ops heights outcome
+  pub ran_through : (s : State) (closed : Bool) → outcome ≡ Ok closed → body_before md v ops (length ops) ≡ Some s → (IsTrue closed ↔ (s.frames ≡ [])) → AreHeightsAfter md v ops (length ops) heights → RunsThrough md v ops heights outcome
   ran_through s closed eo rows ends noted = subst (RunsThrough md v ops heights) (sym eo) (s, rows, ends, noted)
 
   pub refused_at : (k : ℕ) (e : Refusal) → outcome ≡ Err e → IsRefusedAt md v ops k e → AreHeightsAfter md v ops k heights → RunsThrough md v ops heights outcome

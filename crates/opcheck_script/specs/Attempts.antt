@@ -7,8 +7,8 @@ use Rattle.validate_visit.specs.declared.op.Op.{Op}
 use Rattle.validation_rules.specs.Context.{Context}
 use Rattle.validation_rules.specs.Static.{State, step}
 use Rattle.validation_rules.specs.Operators.{operator}
-use Rattle.validate_stacks.specs.State.{BodyState, context}
-use Rattle.validate_body.specs.Runs.{heights_of, state_before}
+use Rattle.validate_stacks.specs.State.{BodyState, body_context}
+use Rattle.validate_body.specs.Runs.{heights_of, body_before}
 
 -- what is answered at one operator: the heights after it, or the refusal of an attempt
 abbrev pub Answer : Type 0
@@ -56,6 +56,6 @@ pub record RunsAttempts
     (md : ModuleContext) (v : BodyState) (ops : List (Op × ℕ)) (attempts : List Bool)
     (answers : List Answer) (outcome : Result Bool Refusal) : Type 0 where
   pub last : State
-  pub answered : Answered (context md v) v.present ops attempts answers last
-  pub rows : state_before md v (accepted_of ops answers) (length (accepted_of ops answers)) ≡ Some last
-  pub ends : Ends (context md v) ops attempts answers last outcome
+  pub answered : Answered (body_context md v) v.present ops attempts answers last
+  pub rows : body_before md v (accepted_of ops answers) (length (accepted_of ops answers)) ≡ Some last
+  pub ends : Ends (body_context md v) ops attempts answers last outcome

@@ -2,19 +2,19 @@
 use Rattle.std.specs.Prelude.{◌≡◌, ◌⊎◌, ℕ, List, [], ◌∷◌, Some, None, slice_get, take}
 use Rattle.validate_types.specs.declared.features.WasmFeatures.{WasmFeatures}
 use Rattle.validate_types.specs.declared.types.ValType.{ValType}
-use Rattle.validate_resources.specs.Context.{ModuleContext}
+use Rattle.validate_resources.specs.Context.{ModuleContext, func_type_at}
 use Rattle.validate_stacks.specs.State.{BodyState}
 use Rattle.validate_body.specs.Start.{const_start, IsFuncStart, HasTooManyParams, DefinesLocals, CannotDefine}
-use Rattle.script_reader.specs.declared.script.Body.{Body}
-use Rattle.script_reader.specs.declared.script.Body.TheVariants.{Function, Expression}
-use Rattle.script_reader.specs.declared.script.BodyLine.{BodyLine}
-use Rattle.script_reader.specs.declared.script.LocalLine.{LocalLine}
+use Rattle.script_parts.specs.declared.script.Body.{Body}
+use Rattle.script_parts.specs.declared.script.Body.TheVariants.{Function, Expression}
+use Rattle.script_parts.specs.declared.script.BodyLine.{BodyLine}
+use Rattle.script_parts.specs.declared.script.LocalLine.{LocalLine}
 
 -- a constant expression starts: its type passes the check, and the frame gives the canonical form
 pub record IsExpressionStart
     (md : ModuleContext) (features : WasmFeatures) (ty : ValType) (v : BodyState) : Type 0 where
   pub type : ValType
-  pub is_canonical : md.canonical features ty ≡ Some type
+  pub is_canonical : md.canonical_type features ty ≡ Some type
   pub starts : v ≡ const_start features type
 
 -- what the `func` or `expr` line begins starts in this state
@@ -22,11 +22,11 @@ abbrev pub IsBodyStart : ModuleContext → WasmFeatures → Body → BodyState �
 IsBodyStart md features (Function index) v = IsFuncStart md features index v
 IsBodyStart md features (Expression ty) v = IsExpressionStart md features ty v
 
--- Why the line is refused: the function's type is unknown or has too many parameters, or the
--- expression's type doesn't pass the check.
+-- Why the line is refused: the function's type is unknown, isn't one of functions or has too many
+-- parameters, or the expression's type doesn't pass the check.
 abbrev pub CannotStart : ModuleContext → WasmFeatures → Body → Type 0
-CannotStart md features (Function index) = (md.type_at index ≡ None) ⊎ HasTooManyParams md index
-CannotStart md features (Expression ty) = md.canonical features ty ≡ None
+CannotStart md features (Function index) = (func_type_at md index ≡ None) ⊎ HasTooManyParams md index
+CannotStart md features (Expression ty) = md.canonical_type features ty ≡ None
 
 -- these `local` lines define their locals one after another, from the state v on to the state w
 abbrev pub DefinesEach : ModuleContext → List LocalLine → BodyState → BodyState → Type 0

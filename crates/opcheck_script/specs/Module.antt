@@ -1,6 +1,6 @@
 -- What the module of a script declares.
 use Rattle.validate_resources.specs.Lists.{Declared}
-use Rattle.script_reader.specs.declared.script.Declarations.{Declarations}
+use Rattle.script_parts.specs.declared.script.Declarations.{Declarations}
 
 -- the lists themselves
 abbrev pub declared_by : Declarations → Declared

@@ -5,23 +5,24 @@ use Rattle.std.specs.List.{list_all, list_any}
 use Rattle.validate_types.specs.Refusal.{Refusal}
 use Rattle.validate_types.specs.declared.features.WasmFeatures.{WasmFeatures}
 use Rattle.validate_resources.specs.Context.{ModuleContext}
-use Rattle.validate_visit.specs.Immediates.{module_immediates}
+use Rattle.validate_visit.specs.Immediates.{is_module_op}
 use Rattle.validate_visit.specs.Order.{is_well_ordered_list}
 use Rattle.validate_visit.specs.declared.frame.BlockType.{BlockType}
 use Rattle.validate_visit.specs.declared.op.Op.{Op}
 use Rattle.validate_stacks.specs.State.{BodyState}
 use Rattle.validation_rules.specs.Static.{State, start}
-use Rattle.validate_body.specs.Runs.{operators, state_before, AreHeightsAfter, IsRefusedAt, IsSafeFrom}
+use Rattle.validate_body.specs.Runs.{without_offsets, body_before, AreHeightsAfter, IsRefusedAt, IsSafeFrom}
 use Rattle.opcheck_script.specs.Attempts.{RunsAttempts, accepted_of}
 use Rattle.opcheck_script.specs.Begin.{HasLocals, CannotBegin}
 use Rattle.opcheck_script.specs.declared.report.Answers.{Answers}
 use Rattle.opcheck_script.specs.declared.report.Answers.TheVariants.{Heights, Attempts}
-use Rattle.script_reader.specs.declared.script.BodyLine.{BodyLine}
-use Rattle.script_reader.specs.declared.script.LocalLine.{LocalLine}
+use Rattle.script_parts.specs.declared.script.BodyLine.{BodyLine}
+use Rattle.script_parts.specs.declared.script.LocalLine.{LocalLine}
 
 -- the operators can be those of a body: they are in order, and their immediates those of a module
 abbrev pub may_be_body : List (Op × ℕ) → Bool
-may_be_body ops = is_well_ordered_list (operators ops) && list_all (λ (p : Op × ℕ). module_immediates p.0) ops
+may_be_body ops =
+    is_well_ordered_list (without_offsets ops) && list_all (λ (p : Op × ℕ). is_module_op p.0) ops
 
 -- What a run of operators without attempts answers: whether the outermost frame is closed, where all
 -- rows hold; or the refusal of the first operator whose row doesn't. The heights are those after each
@@ -29,7 +30,7 @@ may_be_body ops = is_well_ordered_list (operators ops) && list_all (λ (p : Op �
 abbrev pub RunsThrough :
     ModuleContext → BodyState → List (Op × ℕ) → List (ℕ × ℕ) → Result Bool Refusal → Type 0
 RunsThrough md v ops heights (Ok closed) =
-    (s : State) × (state_before md v ops (length ops) ≡ Some s) × (IsTrue closed ↔ (s.frames ≡ []))
+    (s : State) × (body_before md v ops (length ops) ≡ Some s) × (IsTrue closed ↔ (s.frames ≡ []))
     × AreHeightsAfter md v ops (length ops) heights
 RunsThrough md v ops heights (Err refusal) =
     (k : ℕ) × IsRefusedAt md v ops k refusal × AreHeightsAfter md v ops k heights

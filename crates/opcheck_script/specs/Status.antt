@@ -1,7 +1,7 @@
 -- The statuses of the program.
 use Rattle.std.specs.Prelude.{ℕ, Bool, true, false, Result, Ok, Err}
-use Rattle.script_reader.specs.declared.failure.ScriptError.{ScriptError}
-use Rattle.script_reader.specs.declared.failure.ScriptError.TheVariants.{BadLine, OutOfMemory as NoMemory}
+use Rattle.script_parts.specs.declared.failure.ScriptError.{ScriptError}
+use Rattle.script_parts.specs.declared.failure.ScriptError.TheVariants.{BadLine, OutOfMemory as NoMemory}
 use Rattle.opcheck_script.specs.declared.failure.BadScript.TheVariants.{Line}
 use Rattle.opcheck_script.specs.declared.failure.Failure.{Failure}
 use Rattle.opcheck_script.specs.declared.failure.Failure.TheVariants.{BadScript, OutOfMemory, Output}

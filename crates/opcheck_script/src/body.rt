@@ -2,23 +2,21 @@
 
 ghost use Rattle.std.specs.Prelude.{◌≡◌, ◌<◌, true, false, [], None, Ok, Some, IfOk, IfErr, OnErr, IfSome, length, slice_get};
 ghost use Rattle.std.specs.List.{list_all, list_any};
-ghost use Rattle.validate_visit.specs.Immediates.{module_immediates};
+ghost use Rattle.validate_visit.specs.Immediates.{is_module_op};
 ghost use Rattle.validate_visit.specs.Order.{is_well_ordered_list};
 ghost use Rattle.validate_visit.specs.declared.frame.BlockType.{BlockType};
 ghost use Rattle.validation_rules.specs.Static.{start};
 ghost use Rattle.validation_rules.specs.Operators.{operator};
 ghost use Rattle.validate_stacks.specs.Pops.{IsKept};
-ghost use Rattle.validate_stacks.specs.State.{IsStarting, IsValid, context};
+ghost use Rattle.validate_stacks.specs.State.{IsStarting, IsValid, body_context};
 ghost use Rattle.validate_stacks.specs.Visits.{MayVisit, Meets};
-ghost use Rattle.validate_body.specs.Runs.{operators, IsSafeFrom};
+ghost use Rattle.validate_body.specs.Runs.{without_offsets, IsSafeFrom};
 ghost use Rattle.validate_body.specs.Start.{state, stacks_of};
 ghost use Rattle.opcheck_script.specs.Attempts.{IsAnswer, EndsRun, RunsAttempts, accepted_of};
-ghost use Rattle.script_reader.specs.Owned.{op_values, may_be_attempted};
+ghost use Rattle.script_parts.specs.Written.{may_all_be_attempted};
 ghost use Rattle.opcheck_script.specs.Reports.{Runs, accepted_in, is_attempted};
-ghost use Rattle.script_reader.specs.Written.{written_values, attempts_of};
 
 use crate::report::{Answers, Report};
-use script_reader::WrittenOp;
 use std::alloc::Global;
 use validate_body::{OperatorValidator, check_ops, try_op};
 use validate_resources::WasmModuleResources;
@@ -29,27 +27,28 @@ use validate_visit::Op;
 /// an attempt.
 type Answer = Result<(usize, usize), Error>;
 
-/// Runs the operators of a body, which borrow the lists of those that were written: by one check of the
-/// whole list, or, where a `try` line is among them, one by one.
+/// Runs the operators of a body: by one check of the whole list, or, where a `try` line is among them, one
+/// by one.
 pub fn run_operators<R: WasmModuleResources>(
     alloc: Global,
     v: &mut OperatorValidator,
     ops: &[(Op<'_>, u64)],
-    written: &[(WrittenOp, u64)],
+    attempts: &[bool],
     resources: &R,
 ) -> Report
     requires starting { IsStarting (R.context resources.now) (state v.old) }
-    requires ordered { is_well_ordered_list (operators ops.now) ≡ true }
-    requires immediates { list_all (λ (p : _). module_immediates p.0) ops.now ≡ true }
-    requires same { op_values ops.now ≡ written_values written.now }
-    ensures runs { Runs (R.context resources.now) (state v.old) ops.now (attempts_of written.now)
-        result.answers result.outcome }
+    requires ordered { is_well_ordered_list (without_offsets ops.now) ≡ true }
+    requires immediates { list_all (λ (p : _). is_module_op p.0) ops.now ≡ true }
+    requires each { length attempts.now ≡ length ops.now }
+    requires allowed { may_all_be_attempted ops.now attempts.now ≡ true }
+    ensures runs { Runs (R.context resources.now) (state v.old) ops.now attempts.now result.answers
+        result.outcome }
     ensures safe { result.outcome ≡ Ok true → (ty : BlockType) → (state v.old).present ≡ start ty
         → IsSafeFrom (R.context resources.now) (state v.old) (accepted_in ops.now result.answers) ty }
 {
-    if has_attempts(written) {
+    if has_attempts(attempts) {
         let mut answers = Vec::new(alloc);
-        let outcome = answer_each(v, ops, written, resources, &mut answers);
+        let outcome = answer_each(v, ops, attempts, resources, &mut answers);
         return Report {
             answers: Answers::Attempts(answers),
             outcome,
@@ -66,11 +65,11 @@ pub fn run_operators<R: WasmModuleResources>(
     }
 }
 
-/// Whether one of these operators is attempted.
-fn has_attempts(written: &[(WrittenOp, u64)]) -> bool
-    ensures { result ≡ list_any is_attempted (attempts_of written.now) }
+/// Whether one of the operators is attempted.
+fn has_attempts(attempts: &[bool]) -> bool
+    ensures { result ≡ list_any is_attempted attempts.now }
 {
-    written.iter().any(|line| line.0.attempted)
+    attempts.iter().any(|attempted| *attempted)
 }
 
 /// Visits the operators one by one, or attempts those of `try` lines, and notes the answers. It answers
@@ -78,23 +77,24 @@ fn has_attempts(written: &[(WrittenOp, u64)]) -> bool
 fn answer_each<R: WasmModuleResources>(
     v: &mut OperatorValidator,
     ops: &[(Op<'_>, u64)],
-    written: &[(WrittenOp, u64)],
+    attempts: &[bool],
     resources: &R,
     answers: &mut Vec<Answer>,
 ) -> Result<bool, Error>
     requires starting { IsStarting (R.context resources.now) (state v.old) }
-    requires ordered { is_well_ordered_list (operators ops.now) ≡ true }
-    requires same { op_values ops.now ≡ written_values written.now }
+    requires ordered { is_well_ordered_list (without_offsets ops.now) ≡ true }
+    requires each { length attempts.now ≡ length ops.now }
+    requires allowed { may_all_be_attempted ops.now attempts.now ≡ true }
     requires empty { answers.old.items ≡ [] }
-    ensures runs { RunsAttempts (R.context resources.now) (state v.old) ops.now
-        (attempts_of written.now) answers.new.items result }
+    ensures runs { RunsAttempts (R.context resources.now) (state v.old) ops.now attempts.now
+        answers.new.items result }
     ensures safe { result ≡ Ok true → (ty : BlockType) → (state v.old).present ≡ start ty
         → IsSafeFrom (R.context resources.now) (state v.old) (accepted_of ops.now answers.new.items)
         ty }
 {
     for (index, pair) in ops.iter().enumerate() {
         let (op, offset) = *pair;
-        let attempted = is_attempted_at(written, index);
+        let attempted = is_attempted_at(attempts, index);
         if answers.reserve(1).is_err() {
             return Err(Error::out_of_memory(offset));
         }
@@ -107,13 +107,11 @@ fn answer_each<R: WasmModuleResources>(
 }
 
 /// Whether the operator at this place is attempted.
-fn is_attempted_at(written: &[(WrittenOp, u64)], index: usize) -> bool
-    requires { index < length written.now }
-    ensures attempted { slice_get (attempts_of written.now) index ≡ Some result }
-    ensures flat { result ≡ true → IfSome (slice_get written.now index)
-        (λ line. may_be_attempted line.0.op ≡ true) }
+fn is_attempted_at(attempts: &[bool], index: usize) -> bool
+    requires { index < length attempts.now }
+    ensures { slice_get attempts.now index ≡ Some result }
 {
-    written[index].0.attempted
+    attempts[index]
 }
 
 /// The answer at one operator, or the refusal that ends the run: of a plain operator, or for want of
@@ -127,9 +125,9 @@ fn answer_at<R: WasmModuleResources>(
 ) -> Result<Answer, Error>
     requires idle { (state v.old).undone ≡ None }
     requires visit { MayVisit (R.context resources.now) (stacks_of v.old) }
-    ensures answered { IfOk result (λ answer. IsAnswer (context (R.context resources.now) (state v.old))
+    ensures answered { IfOk result (λ answer. IsAnswer (body_context (R.context resources.now) (state v.old))
         (op.entry, offset) attempted answer (state v.old).present (state v.new).present) }
-    ensures ended { IfErr result (λ refusal. EndsRun (context (R.context resources.now) (state v.old))
+    ensures ended { IfErr result (λ refusal. EndsRun (body_context (R.context resources.now) (state v.old))
         (op.entry, offset) attempted refusal (state v.old).present) }
     ensures valid { IsValid (R.context resources.now) (state v.new) }
     ensures kept { IsKept (state v.old) (state v.new) }

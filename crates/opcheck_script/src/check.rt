@@ -1,24 +1,23 @@
 //! Checking a script that was read.
 
-ghost use Rattle.std.specs.Prelude.{◌≡◌, ◌⊎◌, true, false, None, Some, IsSome, IfSome, IfOk, OnOk, IfErr};
+ghost use Rattle.std.specs.Prelude.{◌≡◌, ◌⊎◌, true, false, length, None, Some, IsSome, IfSome, IfOk, OnOk, IfErr};
 ghost use Rattle.std.specs.List.{list_all};
-ghost use Rattle.validate_visit.specs.Immediates.{module_immediates};
+ghost use Rattle.validate_visit.specs.Immediates.{is_module_op};
 ghost use Rattle.validate_resources.specs.Kept.{declared_lists};
 ghost use Rattle.validate_resources.specs.Lists.{context_of, module_of};
 ghost use Rattle.validate_stacks.specs.State.{IsStarting};
 ghost use Rattle.validate_body.specs.Start.{state};
 ghost use Rattle.opcheck_script.specs.Module.{declared_by};
 ghost use Rattle.opcheck_script.specs.Begin.{IsExpressionStart, IsBodyStart, CannotStart, HasLocals, CannotBegin};
-ghost use Rattle.script_reader.specs.Owned.{op_values};
-ghost use Rattle.script_reader.specs.Written.{written_values, attempts_of};
 ghost use Rattle.opcheck_script.specs.Reports.{IsReport, may_be_body};
+ghost use Rattle.script_parts.specs.Written.{may_all_be_attempted};
 ghost use Rattle.opcheck_script.specs.declared.failure.BadScript.{BadScript};
 ghost use Rattle.opcheck_script.specs.declared.failure.Failure.{Failure};
 
 use crate::body::run_operators;
 use crate::failure::{BadScript, Failure};
 use crate::report::{Answers, Report};
-use script_reader::{Body, BodyLine, Declarations, LocalLine, Script, WrittenOp, borrowed_ops};
+use script_reader::{Body, BodyLine, Declarations, LocalLine, Operators, Script};
 use std::alloc::Global;
 use validate_body::OperatorValidator;
 use validate_resources::uses::laws;
@@ -27,20 +26,19 @@ use validate_stacks::OperatorValidatorAllocations;
 use validate_types::{Error, ValType, WasmFeatures};
 use validate_visit::{Op, has_module_immediates, is_well_ordered};
 
-/// Checks a script: first its order, then its module, then its body. The operators that are checked
-/// are those of the script, with the same lists.
-pub fn check_script(alloc: Global, script: Script) -> Result<Report, Failure>
-    ensures module { OnOk result (IsSome (module_of (declared_by script.declarations))) }
-    ensures report { IfOk result (λ report. (ops : _)
-        × (op_values ops ≡ written_values script.operators.items) × (may_be_body ops ≡ true)
-        × IfSome (module_of (declared_by script.declarations))
-        (λ lists. IsReport (context_of lists) script.features script.body script.locals.items ops
-        (attempts_of script.operators.items) report.answers report.outcome)) }
+/// Checks a script: first its order, then its module, then its body.
+pub fn check_script(alloc: Global, script: Script<'_>) -> Result<Report, Failure>
+    ensures ordered { OnOk result (may_be_body script.entry.operators.ops.items ≡ true) }
+    ensures module { OnOk result (IsSome (module_of (declared_by script.entry.declarations))) }
+    ensures report { IfOk result (λ report. IfSome (module_of (declared_by script.entry.declarations))
+        (λ lists. IsReport (context_of lists) script.entry.features script.entry.body
+        script.entry.locals.items script.entry.operators.ops.items script.entry.operators.attempts.items
+        report.answers report.outcome)) }
     ensures cause { IfErr result (λ failure. (failure ≡ Failure.OutOfMemory)
         ⊎ ((failure ≡ Failure.BadScript BadScript.Order)
-        × ((ops : _) × (op_values ops ≡ written_values script.operators.items)
-        × (may_be_body ops ≡ false))) ⊎ ((failure ≡ Failure.BadScript BadScript.Module)
-        × (module_of (declared_by script.declarations) ≡ None))) }
+        × (may_be_body script.entry.operators.ops.items ≡ false))
+        ⊎ ((failure ≡ Failure.BadScript BadScript.Module)
+        × (module_of (declared_by script.entry.declarations) ≡ None))) }
 {
     let Script {
         features,
@@ -49,37 +47,36 @@ pub fn check_script(alloc: Global, script: Script) -> Result<Report, Failure>
         locals,
         operators,
     } = script;
-    let Ok(ops) = borrowed_ops(alloc, &operators) else {
-        return Err(Failure::OutOfMemory);
-    };
+    let Operators { ops, attempts } = operators;
     check_operators(
         alloc,
         features,
         declarations,
         body,
         &locals,
-        &operators,
         &ops,
+        &attempts,
     )
 }
 
-/// Checks the operators of a body, in the module of these declarations, with these proposals on. They
-/// borrow the lists of those that were written.
+/// Checks the operators of a body, some of them attempted, in the module of these declarations, with these
+/// proposals on.
 fn check_operators(
     alloc: Global,
     features: WasmFeatures,
     declarations: Declarations,
     line: BodyLine,
     locals: &[LocalLine],
-    operators: &[(WrittenOp, u64)],
     ops: &[(Op<'_>, u64)],
+    attempts: &[bool],
 ) -> Result<Report, Failure>
-    requires { op_values ops.now ≡ written_values operators.now }
+    requires each { length attempts.now ≡ length ops.now }
+    requires allowed { may_all_be_attempted ops.now attempts.now ≡ true }
     ensures ordered { OnOk result (may_be_body ops.now ≡ true) }
     ensures module { OnOk result (IsSome (module_of (declared_by declarations))) }
     ensures report { IfOk result (λ report. IfSome (module_of (declared_by declarations))
-        (λ lists. IsReport (context_of lists) features line locals.now ops.now
-        (attempts_of operators.now) report.answers report.outcome)) }
+        (λ lists. IsReport (context_of lists) features line locals.now ops.now attempts.now
+        report.answers report.outcome)) }
     ensures cause { IfErr result (λ failure. (failure ≡ Failure.OutOfMemory)
         ⊎ ((failure ≡ Failure.BadScript BadScript.Order) × (may_be_body ops.now ≡ false))
         ⊎ ((failure ≡ Failure.BadScript BadScript.Module)
@@ -90,7 +87,7 @@ fn check_operators(
     }
     let module = module_lists(alloc, declarations)?;
     match begin_body(alloc, &module, &features, line, locals) {
-        Ok(mut validator) => Ok(run_operators(alloc, &mut validator, ops, operators, &module)),
+        Ok(mut validator) => Ok(run_operators(alloc, &mut validator, ops, attempts, &module)),
         Err(refusal) => Ok(Report {
             answers: Answers::Heights(Vec::new(alloc)),
             outcome: Err(refusal),
@@ -108,7 +105,7 @@ fn may_be_body(operators: &[(Op<'_>, u64)]) -> bool
 
 /// Whether the immediates are those of a module, as they are of all operators that a script can write.
 fn have_module_immediates(operators: &[(Op<'_>, u64)]) -> bool
-    ensures { result ≡ list_all (λ (pair : _). module_immediates pair.0) operators.now }
+    ensures { result ≡ list_all (λ (pair : _). is_module_op pair.0) operators.now }
 {
     operators.iter().all(|pair| has_module_immediates(&pair.0))
 }
@@ -198,7 +195,7 @@ fn start_expression<R: WasmModuleResources>(
     ensures made { IfOk result (λ validator. IsExpressionStart (R.context resources.now) features.now ty
         (state validator)) }
     ensures refused { IfErr result (λ e. e.wants_memory ≡ false
-        → (R.context resources.now).canonical features.now ty ≡ None) }
+        → (R.context resources.now).canonical_type features.now ty ≡ None) }
     ensures offset { IfErr result (λ e. e.wants_memory ≡ false → e.offset ≡ offset) }
 {
     laws(resources);

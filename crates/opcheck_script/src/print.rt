@@ -43,7 +43,7 @@ fn print_heights<W: Write>(out: &mut W, heights: &[(usize, usize)]) -> Result<()
     ensures { IfErr result (λ failure. failure ≡ Failure.Output) }
 {
     for &(operands, frames) in heights {
-        printed(writeln!(out, "ok {operands} {frames}"))?;
+        printed(write_accepted(out, operands, frames))?;
     }
     Ok(())
 }
@@ -56,11 +56,17 @@ fn print_answers<W: Write>(
 {
     for answer in answers {
         match answer {
-            Ok((operands, frames)) => printed(writeln!(out, "ok {operands} {frames}"))?,
+            Ok((operands, frames)) => printed(write_accepted(out, *operands, *frames))?,
             Err(refusal) => print_refusal(out, refusal)?,
         }
     }
     Ok(())
+}
+
+/// Writes the line of an operator that is accepted: how many operands and frames there are after it. Of a
+/// long script most of what is printed are such lines.
+fn write_accepted<W: Write>(out: &mut W, operands: usize, frames: usize) -> io::Result<()> {
+    writeln!(out, "ok {operands} {frames}")
 }
 
 fn print_refusal<W: Write>(out: &mut W, refusal: &Error) -> Result<(), Failure>

@@ -7,8 +7,9 @@ use crate::check::check_script;
 use crate::failure::{BadScript, Failure};
 use crate::input::read_input;
 use crate::print::{print_failure, print_report};
+use crate::report::Report;
 use crate::verdict::{Verdict, status_of};
-use script_reader::read_script;
+use script_reader::{read_lists, read_script};
 use std::alloc::Global;
 use std::io::{BufWriter, Read, Write};
 use std::str;
@@ -43,13 +44,25 @@ fn run_script<R: Read, O: Write + Drop>(
 {
     // The buffer is taken first, so that printing takes no memory.
     let mut out = BufWriter::new(alloc, out).map_err(|_| Failure::OutOfMemory)?;
-    let input = read_input(alloc, reader)?;
-    let Ok(text) = str::from_utf8(&input) else {
-        return Err(Failure::BadScript(BadScript::Input));
-    };
-    let report = check_script(alloc, read_script(alloc, text)?)?;
+    let report = check_input(alloc, reader)?;
     let outcome = print_report(&mut out, &report);
     // The lines before want of memory are written too.
     out.flush().map_err(|_| Failure::Output)?;
     outcome
+}
+
+/// Reads the script whole, and checks it. The lists of its operators are read before the operators, which
+/// lend them.
+fn check_input<R: Read>(alloc: Global, reader: &mut R) -> Result<Report, Failure>
+    ensures text { IfSome (R.remaining reader.old) (λ bytes. ¬ (IsUtf8 bytes) → IsErr result) }
+{
+    let input = read_input(alloc, reader)?;
+    let Ok(text) = str::from_utf8(&input) else {
+        return Err(Failure::BadScript(BadScript::Input));
+    };
+    let lists = read_lists(alloc, text)?;
+    let script = read_script(alloc, &lists, text)?;
+    // The check needs no text.
+    drop(input);
+    check_script(alloc, script)
 }

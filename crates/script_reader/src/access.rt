@@ -1,10 +1,6 @@
-//! The immediates of loads and stores.
+//! Loads and stores with their immediates.
 
-ghost use Rattle.std.specs.Prelude.{◌≡◌, map};
-ghost use Rattle.std.specs.Option.{SomeIff, option_copied};
-ghost use Rattle.script_reader.specs.Access.{IsAccess, access_of, following};
-
-use crate::numbers::{read_index, read_u8, read_u64};
+use script_parts::access::read_access;
 use validate_visit::{AtomicOp, MemArg, MemArgTarget, MemoryOp, Op};
 
 /// An access to one byte of memory 0, at its natural alignment.
@@ -100,39 +96,4 @@ fn with_atomic_access(op: AtomicOp, access: MemArg) -> AtomicOp {
         AtomicOp::AtomicCmpxchg(part, _) => AtomicOp::AtomicCmpxchg(part, access),
         AtomicOp::AtomicFence(_) | AtomicOp::Pause => op,
     }
-}
-
-/// The immediates that these words write, if they do: `offset=N`, `align=N` and `mem=N`, in any order
-/// and each at most once. Without them the offset is 0, the alignment the natural one, and the memory
-/// the first.
-pub fn read_access(words: &[&str], natural: u8) -> Option<MemArg>
-    ensures { let texts = map (λ word. word.now) words.now in SomeIff result (IsAccess texts)
-        (access_of texts natural) }
-{
-    let offset = following(words, "offset=");
-    let align = following(words, "align=");
-    let memory = following(words, "mem=");
-    // Each word says one of the three, and no two say the same.
-    let said = usize::from(offset.is_some())
-        + usize::from(align.is_some())
-        + usize::from(memory.is_some());
-    if words.len() != said {
-        return None;
-    }
-    Some(MemArg {
-        align: align.map_or(Some(natural), read_u8)?,
-        max_align: natural,
-        offset: offset.map_or(Some(0), read_u64)?,
-        target: MemArgTarget::Memory(memory.map_or(Some(0), read_index)?),
-    })
-}
-
-/// What follows this name in the first word that begins with it, if one does.
-pub fn following<'a>(words: &[&'a str], name: &str) -> Option<&'a str>
-    ensures { option_copied result ≡ following name.now (map (λ word. word.now) words.now) }
-{
-    words
-        .iter()
-        .find(|word| word.starts_with(name))?
-        .strip_prefix(name)
 }

@@ -4,8 +4,8 @@ use self::Form::{Access, Block, Constant, Fence, Indexed, NullType, Plain, Selec
 use crate::atomic::ATOMIC_ACCESSES;
 use crate::conversions::CONVERSIONS;
 use crate::memory::LOADS_AND_STORES;
-use crate::names::named_in;
 use crate::numeric::numeric_operator;
+use script_parts::names::named_in;
 use validate_visit::Op::{Atomic, Control, Memory, Reference, Table};
 use validate_visit::{
     AtomicOp, BlockType, ControlOp, MemoryOp, NumberType, Op, ReferenceOp, TableOp,
@@ -138,6 +138,9 @@ const FORMS: &[(&str, Form)] = &[
 
 /// The form of the operator of this name, if it has no list.
 pub fn form_of(name: &str) -> Option<Form> {
+    if let Some(op) = numeric_operator(name) {
+        return Some(Plain(Op::Numeric(op)));
+    }
     if let Some(form) = named_in(FORMS, name) {
         return Some(form);
     }
@@ -147,9 +150,6 @@ pub fn form_of(name: &str) -> Option<Form> {
     if let Some(op) = named_in(ATOMIC_ACCESSES, name) {
         return Some(Access(Atomic(op)));
     }
-    if let Some(op) = named_in(CONVERSIONS, name) {
-        return Some(Plain(Op::Convert(op)));
-    }
-    let op = numeric_operator(name)?;
-    Some(Plain(Op::Numeric(op)))
+    let op = named_in(CONVERSIONS, name)?;
+    Some(Plain(Op::Convert(op)))
 }

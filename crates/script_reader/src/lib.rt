@@ -5,27 +5,18 @@
 pub mod access;
 pub mod atomic;
 pub mod conversions;
-pub mod failure;
 pub mod features;
 pub mod forms;
-pub mod functions;
-pub mod globals;
-pub mod indexed;
 pub mod lines;
+pub mod lists;
 pub mod memory;
-pub mod names;
-pub mod numbers;
 pub mod numeric;
 pub mod operators;
-pub mod owned;
-pub mod references;
 pub mod script;
-pub mod tables;
-pub mod types;
-pub mod words;
-pub mod written;
 
-pub use crate::failure::{LineError, ScriptError};
-pub use crate::owned::{OwnedOp, borrowed_ops};
-pub use crate::script::{Body, BodyLine, Declarations, LocalLine, Script, read_script};
-pub use crate::written::WrittenOp;
+pub use crate::lists::read_lists;
+pub use crate::script::read_script;
+pub use script_parts::{
+    Body, BodyLine, Declarations, LineError, LocalLine, OperatorList, Operators, Script,
+    ScriptError, WrittenOp,
+};

@@ -1,57 +1,36 @@
-//! The lines of a script, each for itself.
+//! Reading the lines of a script, each for itself.
 
-use crate::failure::LineError;
 use crate::features::read_feature;
-use crate::functions::read_function;
-use crate::globals::read_global_type;
-use crate::memory::read_memory_type;
-use crate::numbers::read_index;
-use crate::operators::read_owned_operator;
-use crate::references::read_reference;
-use crate::script::Body;
-use crate::tables::read_table_type;
-use crate::types::{read_type, read_value_type};
-use crate::written::{WrittenOp, read_attempt};
+use crate::operators::read_operator;
+use script_parts::functions::read_function;
+use script_parts::globals::read_global_type;
+use script_parts::memory::read_memory_type;
+use script_parts::numbers::read_index;
+use script_parts::references::read_reference;
+use script_parts::tables::read_table_type;
+use script_parts::types::{read_type, read_value_type};
+use script_parts::{Body, Line, LineError, OperatorList, WrittenOp};
 use std::alloc::Global;
-use validate_resources::FuncDecl;
-use validate_types::{GlobalType, MemoryType, RefType, SubType, TableType, ValType, WasmFeatures};
+use std::slice;
 
-/// What a line says that is neither blank nor a comment.
-#[derive(Drop)]
-pub enum Line {
-    /// `feature NAME`: these proposals are on.
-    Feature(WasmFeatures),
-    /// `type ..`: the module declares this type.
-    SubType(SubType),
-    /// `fn N ..`: the module declares this function.
-    Function(FuncDecl),
-    /// `table T ..`: the module declares a table of this type.
-    Table(TableType),
-    /// `memory ..`: the module declares a memory of this type.
-    Memory(MemoryType),
-    /// `global ..`: the module declares a global of this type.
-    Global(GlobalType),
-    /// `elem T`: the module declares an element segment of this type.
-    Element(RefType),
-    /// `data COUNT`: the module has this many data segments.
-    DataCount(u32),
-    /// `func N` or `expr T`: what the operators are the body of.
-    Body(Body),
-    /// `local N T`: the body has this many more locals of this type.
-    Locals(u32, ValType),
-    /// An operator of the body, or `try` and one.
-    Operator(WrittenOp),
-}
-
-/// Reads the words of a line, of which there is one at least.
-pub fn read_line(alloc: Global, words: &[&str]) -> Result<Line, LineError> {
+/// Reads the words of a line, of which there is one at least. An operator with a list takes the next of
+/// these.
+pub fn read_line<'a>(
+    alloc: Global,
+    lists: &mut slice::Iter<'a, OperatorList>,
+    words: &[&str],
+) -> Result<Line<'a>, LineError> {
     match words.split_first() {
         Some((&"type", rest)) => Ok(Line::SubType(read_type(alloc, rest)?)),
-        Some((&"try", rest)) => Ok(Line::Operator(read_attempt(alloc, rest)?)),
+        Some((&"try", rest)) => {
+            let op = read_operator(lists, rest).ok_or(LineError::Bad)?;
+            let written = WrittenOp::attempted(op).ok_or(LineError::Bad)?;
+            Ok(Line::Operator(written))
+        }
         _ => match read_flat_line(words) {
             Some(line) => Ok(line),
             None => {
-                let op = read_owned_operator(alloc, words)?;
+                let op = read_operator(lists, words).ok_or(LineError::Bad)?;
                 Ok(Line::Operator(WrittenOp::plain(op)))
             }
         },
@@ -59,7 +38,7 @@ pub fn read_line(alloc: Global, words: &[&str]) -> Result<Line, LineError> {
 }
 
 /// Reads the words of a line that takes no memory and is no operator.
-fn read_flat_line(words: &[&str]) -> Option<Line> {
+fn read_flat_line(words: &[&str]) -> Option<Line<'static>> {
     let (keyword, rest) = words.split_first()?;
     match *keyword {
         "memory" => Some(Line::Memory(read_memory_type(rest)?)),
@@ -70,7 +49,7 @@ fn read_flat_line(words: &[&str]) -> Option<Line> {
 }
 
 /// A line of this keyword, behind which stand a word and marks of what it declares.
-fn read_marked(keyword: &str, words: &[&str]) -> Option<Line> {
+fn read_marked(keyword: &str, words: &[&str]) -> Option<Line<'static>> {
     let (word, marks) = words.split_first()?;
     match keyword {
         "fn" => Some(Line::Function(read_function(read_index(word)?, marks)?)),
@@ -81,7 +60,7 @@ fn read_marked(keyword: &str, words: &[&str]) -> Option<Line> {
 }
 
 /// A line of this keyword, behind which stands one word.
-fn read_single(keyword: &str, words: &[&str]) -> Option<Line> {
+fn read_single(keyword: &str, words: &[&str]) -> Option<Line<'static>> {
     let [word] = *words else {
         return None;
     };
@@ -96,7 +75,7 @@ fn read_single(keyword: &str, words: &[&str]) -> Option<Line> {
 }
 
 /// A `local` line: how many locals, and their type.
-fn read_locals(words: &[&str]) -> Option<Line> {
+fn read_locals(words: &[&str]) -> Option<Line<'static>> {
     match *words {
         [count, ty] => Some(Line::Locals(read_index(count)?, read_value_type(ty)?)),
         _ => None,

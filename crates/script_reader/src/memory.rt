@@ -1,31 +1,11 @@
-//! Memories, and the loads and stores by their names.
-
-ghost use Rattle.std.specs.Prelude.{◌≡◌, ◌≢◌, IfNone, IfSome, map};
-ghost use Rattle.validate_types.specs.declared.types.MemoryType.{MemoryType};
-ghost use Rattle.script_reader.specs.Memory.{marks_of};
+//! Loads and stores by their names.
 
 use crate::access::{BYTES_1, BYTES_2, BYTES_4, BYTES_8};
-use validate_types::MemoryType;
 use validate_visit::MemoryOp;
 use validate_visit::MemoryOp::{Load, LoadPacked, Store, StorePacked};
 use validate_visit::NumberType::{F32, F64, I32, I64};
 use validate_visit::PackedInteger::{I32Bits8, I32Bits16, I64Bits8, I64Bits16, I64Bits32};
 use validate_visit::Sign::{Signed, Unsigned};
-
-/// The type of a memory with these marks, if they are those of one.
-pub fn read_memory_type(marks: &[&str]) -> Option<MemoryType>
-    ensures read { IfSome result (λ ty. map (λ mark. mark.now) marks.now ≡ marks_of ty) }
-    ensures other { IfNone result ((ty : MemoryType) → map (λ mark. mark.now) marks.now ≢ marks_of ty) }
-{
-    let (memory64, shared) = match *marks {
-        [] => (false, false),
-        ["64"] => (true, false),
-        ["shared"] => (false, true),
-        ["64", "shared"] => (true, true),
-        _ => return None,
-    };
-    Some(MemoryType { memory64, shared })
-}
 
 /// The loads and the stores, each with its natural alignment.
 pub const LOADS_AND_STORES: &[(&str, MemoryOp)] = &[

@@ -1,21 +1,15 @@
 //! Operators by their names.
 
-ghost use Rattle.std.specs.Prelude.{◌≡◌, ◌≢◌, [], All, IfOk, IsErrOf, OnOk, map};
-ghost use Rattle.std.specs.Str.Parse.{digits_value};
-ghost use Rattle.script_reader.specs.Numbers.{IsIndex};
-ghost use Rattle.script_reader.specs.Owned.{labels_of};
-ghost use Rattle.script_reader.specs.declared.failure.LineError.{LineError};
-
 use crate::access::with_access;
-use crate::failure::LineError;
 use crate::forms::{Form, form_of};
-use crate::indexed::read_indexed;
-use crate::names::named_in;
-use crate::numbers::{read_i32, read_i64, read_index, read_indices, read_u64};
-use crate::owned::OwnedOp;
-use crate::references::read_heap_type;
-use crate::types::{read_value_type, read_value_types};
-use std::alloc::Global;
+use script_parts::OperatorList;
+use script_parts::indexed::read_indexed;
+use script_parts::listed::has_list;
+use script_parts::names::named_in;
+use script_parts::numbers::{read_i32, read_i64, read_index, read_u64};
+use script_parts::references::read_heap_type;
+use script_parts::types::read_value_type;
+use std::slice;
 use validate_visit::{
     AtomicOp, BlockType, ControlOp, Ieee32, Ieee64, NumberType, NumericOp, Op, Ordering,
     ReferenceOp,
@@ -27,18 +21,22 @@ const ORDERINGS: &[(&str, Ordering)] = &[
     ("acq_rel", Ordering::AcqRel),
 ];
 
-/// The operator that a line's words write: its name, and its immediates after it.
-pub fn read_owned_operator(alloc: Global, words: &[&str]) -> Result<OwnedOp, LineError> {
-    match words.split_first() {
-        Some((&"br_table", labels)) => read_br_table(alloc, labels),
-        Some((&"select_multi", types)) => read_typed_select_multi(alloc, types),
-        _ => Ok(OwnedOp::Flat(read_operator(words).ok_or(LineError::Bad)?)),
+/// The operator that a line's words write, if they do: its name, and its immediates after it. One with a
+/// list takes the next of these, which were read before; where none is left its words are no list.
+pub fn read_operator<'a>(
+    lists: &mut slice::Iter<'a, OperatorList>,
+    words: &[&str],
+) -> Option<Op<'a>> {
+    let name = words.first()?;
+    if has_list(name) {
+        return Some(lists.next()?.op());
     }
+    read_flat_operator(words)
 }
 
 /// The operator that a line's words write, if they do, where it has no list: its name, and its
 /// immediates after it.
-fn read_operator(words: &[&str]) -> Option<Op<'static>> {
+fn read_flat_operator(words: &[&str]) -> Option<Op<'static>> {
     let (name, immediates) = words.split_first()?;
     let form = form_of(name)?;
     match (form, immediates) {
@@ -99,24 +97,4 @@ fn read_block_type(word: &str) -> Option<BlockType> {
         Some(ty) => Some(BlockType::Val(ty)),
         None => read_index(word).map(BlockType::FuncType),
     }
-}
-
-/// A `br_table` to these labels, of which the last is the default.
-fn read_br_table(alloc: Global, labels: &[&str]) -> Result<OwnedOp, LineError>
-    ensures labels { IfOk result (λ op. labels_of op ≡ map (λ label. digits_value 10 label.now) labels.now) }
-    ensures good { OnOk result (All (λ label. IsIndex label.now) labels.now) }
-    ensures bad { IsErrOf result LineError.Bad → labels.now ≢ []
-        → ¬ (All (λ label. IsIndex label.now) labels.now) }
-{
-    let (default, targets) = labels.split_last().ok_or(LineError::Bad)?;
-    let default = read_index(default).ok_or(LineError::Bad)?;
-    Ok(OwnedOp::BrTable {
-        targets: read_indices(alloc, targets)?,
-        default,
-    })
-}
-
-/// A `select` of several values, of these types.
-fn read_typed_select_multi(alloc: Global, types: &[&str]) -> Result<OwnedOp, LineError> {
-    Ok(OwnedOp::TypedSelectMulti(read_value_types(alloc, types)?))
 }

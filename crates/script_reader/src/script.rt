@@ -1,229 +1,44 @@
-//! A script, as it was read.
+//! Reading a whole script.
 
-ghost use Rattle.script_reader.specs.Lines.{all_features};
-ghost use Rattle.std.specs.Prelude.{◌≡◌, ◌↔◌, false, Some, IsSome, IfSome, IsErrOf, OnOk};
-
-use crate::failure::{LineError, ScriptError};
-use crate::lines::{Line, read_line};
-use crate::words::words_of;
-use crate::written::WrittenOp;
-use bitflags::Flags;
+use crate::lines::read_line;
+use script_parts::words::read_words;
+use script_parts::{Draft, LineError, OperatorList, Script, ScriptError};
 use std::alloc::Global;
-use validate_resources::FuncDecl;
-use validate_types::{GlobalType, MemoryType, RefType, SubType, TableType, ValType, WasmFeatures};
+use std::slice;
 
-/// What the operators of a script are the body of.
-#[derive(Clone, Copy, Debug, PartialEq, Eq)]
-pub enum Body {
-    /// A function of the type at this index.
-    Function(u32),
-    /// A constant expression that gives a value of this type.
-    Expression(ValType),
-}
-
-/// The `func` or `expr` line.
-#[derive(Clone, Copy, Debug, PartialEq, Eq)]
-pub struct BodyLine {
-    /// What it begins.
-    pub body: Body,
-    /// The number of the line.
-    pub offset: u64,
-}
-
-/// A `local` line.
-#[derive(Clone, Copy, Debug, PartialEq, Eq)]
-pub struct LocalLine {
-    /// How many locals it declares.
-    pub count: u32,
-    /// Their type.
-    pub ty: ValType,
-    /// The number of the line.
-    pub offset: u64,
-}
-
-/// What the module of a script declares.
-#[derive(Drop)]
-pub struct Declarations {
-    /// Its types.
-    pub types: Vec<SubType>,
-    /// Its functions.
-    pub functions: Vec<FuncDecl>,
-    /// Its tables.
-    pub tables: Vec<TableType>,
-    /// Its memories.
-    pub memories: Vec<MemoryType>,
-    /// Its globals.
-    pub globals: Vec<GlobalType>,
-    /// The types of its element segments.
-    pub elements: Vec<RefType>,
-    /// How many data segments it has, if it says so.
-    pub data_count: Option<u32>,
-}
-
-/// A script whose lines are all of the grammar, and in their places.
-#[derive(Drop)]
-pub struct Script {
-    /// The proposals that are on.
-    pub features: WasmFeatures,
-    /// The module.
-    pub declarations: Declarations,
-    /// The `func` or `expr` line.
-    pub body: BodyLine,
-    /// The `local` lines.
-    pub locals: Vec<LocalLine>,
-    /// The operators, each with the number of its line.
-    pub operators: Vec<(WrittenOp, u64)>,
-}
-
-/// What a script's first lines say.
-#[derive(Drop)]
-struct Draft {
-    features: Option<WasmFeatures>,
-    declarations: Declarations,
-    body: Option<BodyLine>,
-    locals: Vec<LocalLine>,
-    operators: Vec<(WrittenOp, u64)>,
-}
-
-/// The parts of a script, in their order.
-#[derive(Clone, Copy)]
-enum Part {
-    Module,
-    Locals,
-    Operators,
-}
-
-/// Reads a script.
-pub fn read_script(alloc: Global, text: &str) -> Result<Script, ScriptError> {
+/// Reads a script. The lists of its operators are these, as `read_lists` reads them from the same text.
+pub fn read_script<'a>(
+    alloc: Global,
+    lists: &'a [OperatorList],
+    text: &str,
+) -> Result<Script<'a>, ScriptError> {
+    let mut lists = lists.iter();
     let mut draft = Draft::new(alloc);
+    let mut words = Vec::new(alloc);
     let mut number: u64 = 1;
     for line in text.lines() {
-        draft
-            .read_line(alloc, number, line)
-            .map_err(|error| error.at(number))?;
+        if !line.starts_with('#') {
+            read_words(&mut words, line).map_err(|_| ScriptError::OutOfMemory)?;
+            add_words(alloc, &mut lists, &mut draft, &words, number).map_err(|error| error.at(
+                number,
+            ))?;
+        }
         number = number.saturating_add(1);
     }
     let script = draft.finish().ok_or(ScriptError::BadLine(number))?;
     Ok(script)
 }
 
-impl Draft {
-    ghost use Rattle.script_reader.specs.declared.failure.LineError.{LineError};
-    ghost use Rattle.script_reader.specs.Lines.{part_of, may_stand, features_or_all, AddsLine};
-
-    fn new(alloc: Global) -> Draft {
-        Draft {
-            features: None,
-            declarations: Declarations {
-                types: Vec::new(alloc),
-                functions: Vec::new(alloc),
-                tables: Vec::new(alloc),
-                memories: Vec::new(alloc),
-                globals: Vec::new(alloc),
-                elements: Vec::new(alloc),
-                data_count: None,
-            },
-            body: None,
-            locals: Vec::new(alloc),
-            operators: Vec::new(alloc),
-        }
+/// Adds the line of this number, which has these words. A blank one adds nothing.
+fn add_words<'a>(
+    alloc: Global,
+    lists: &mut slice::Iter<'a, OperatorList>,
+    draft: &mut Draft<'a>,
+    words: &[&str],
+    number: u64,
+) -> Result<(), LineError> {
+    if words.is_empty() {
+        return Ok(());
     }
-
-    /// The part that the last line stood in.
-    fn part(&self) -> Part
-        ensures { result ≡ part_of self.now }
-    {
-        if self.body.is_none() {
-            Part::Module
-        } else if self.operators.is_empty() {
-            Part::Locals
-        } else {
-            Part::Operators
-        }
-    }
-
-    /// Reads the next line.
-    fn read_line(&mut self, alloc: Global, number: u64, line: &str) -> Result<(), LineError> {
-        if line.starts_with('#') {
-            return Ok(());
-        }
-        let words = words_of(alloc, line)?;
-        if words.is_empty() {
-            return Ok(());
-        }
-        self.add(read_line(alloc, &words)?, number)
-    }
-
-    /// Adds a line, if this is its place.
-    fn add(&mut self, line: Line, offset: u64) -> Result<(), LineError>
-        ensures added { OnOk result (AddsLine self.old self.new line offset) }
-        ensures bad { IsErrOf result LineError.Bad
-            ↔ (may_stand line (part_of self.old) self.old.declarations.data_count ≡ false) }
-    {
-        match (line, self.part(), self.declarations.data_count) {
-            (Line::Feature(named), Part::Module, _) => {
-                let before = self.features.unwrap_or(WasmFeatures::empty());
-                self.features = Some(before.union(named));
-            }
-            (Line::SubType(ty), Part::Module, _) => self.declarations.types.push(ty)?,
-            (Line::Function(function), Part::Module, _) => {
-                self.declarations.functions.push(function)?;
-            }
-            (Line::Table(ty), Part::Module, _) => self.declarations.tables.push(ty)?,
-            (Line::Memory(ty), Part::Module, _) => self.declarations.memories.push(ty)?,
-            (Line::Global(ty), Part::Module, _) => self.declarations.globals.push(ty)?,
-            (Line::Element(ty), Part::Module, _) => self.declarations.elements.push(ty)?,
-            (Line::DataCount(count), Part::Module, None) => {
-                self.declarations.data_count = Some(count);
-            }
-            (Line::Body(body), Part::Module, _) => {
-                self.body = Some(BodyLine { body, offset });
-            }
-            (Line::Locals(count, ty), Part::Locals, _) => {
-                self.locals.push(LocalLine { count, ty, offset })?;
-            }
-            (Line::Operator(op), Part::Locals | Part::Operators, _) => {
-                self.operators.push((op, offset))?;
-            }
-            _ => return Err(LineError::Bad),
-        }
-        Ok(())
-    }
-
-    /// The whole script, if it has its `func` or `expr` line. Every proposal is on where no `feature`
-    /// line stands.
-    fn finish(self) -> Option<Script>
-        ensures whole { IsSome result ↔ IsSome self.body }
-        ensures features { IfSome result (λ script. script.features ≡ features_or_all self.features) }
-        ensures declarations { IfSome result (λ script. script.declarations ≡ self.declarations) }
-        ensures body { IfSome result (λ script. self.body ≡ Some script.body) }
-        ensures locals { IfSome result (λ script. script.locals ≡ self.locals) }
-        ensures operators { IfSome result (λ script. script.operators ≡ self.operators) }
-    {
-        let Draft {
-            features,
-            declarations,
-            body,
-            locals,
-            operators,
-        } = self;
-        let features = match features {
-            Some(features) => features,
-            None => every_proposal(),
-        };
-        Some(Script {
-            features,
-            declarations,
-            body: body?,
-            locals,
-            operators,
-        })
-    }
-}
-
-/// Every proposal.
-fn every_proposal() -> WasmFeatures
-    ensures { result ≡ all_features }
-{
-    WasmFeatures::all()
+    draft.add(read_line(alloc, lists, words)?, number)
 }

@@ -8,7 +8,7 @@ ghost use Rattle.validate_stacks.specs.Visits.{MayVisit, Meets};
 ghost use Rattle.validation_rules.specs.Operators.{operator};
 
 use opcheck_script::{begin_body, module_lists};
-use script_reader::{Script, borrowed_ops, read_script};
+use script_reader::{Script, read_lists, read_script};
 use std::process::Abort;
 use std::test::Fail;
 use validate_body::{OperatorValidator, try_op};
@@ -86,7 +86,8 @@ fn attempt_each<R: WasmModuleResources>(
 
 /// Attempts each operator of a script whose module and body can be made.
 pub fn expect_undone(rt: &(impl Abort + AllocGlobal), script: &str) -> Result<(), Fail> {
-    let Ok(read) = read_script(rt.alloc(), script) else {
+    let lists = read_lists(rt.alloc(), script)?;
+    let Ok(read) = read_script(rt.alloc(), &lists, script) else {
         return Ok(());
     };
     let Script {
@@ -96,12 +97,11 @@ pub fn expect_undone(rt: &(impl Abort + AllocGlobal), script: &str) -> Result<()
         locals,
         operators,
     } = read;
-    let Ok(lists) = module_lists(rt.alloc(), declarations) else {
+    let Ok(module) = module_lists(rt.alloc(), declarations) else {
         return Ok(());
     };
-    let ops = borrowed_ops(rt.alloc(), &operators)?;
-    let Ok(mut v) = begin_body(rt.alloc(), &lists, &features, body, &locals) else {
+    let Ok(mut v) = begin_body(rt.alloc(), &module, &features, body, &locals) else {
         return Ok(());
     };
-    attempt_each(rt, &mut v, &ops, &lists, script)
+    attempt_each(rt, &mut v, &operators.ops, &module, script)
 }

@@ -141,6 +141,50 @@ end             => ok 0 0
 local 50000 i32
 local 4294967295 i32 => refused 4: too many locals: locals exceed maximum
 => refused
+
+# A definition fills the first 50 locals, and goes on behind them.
+local 49 i32
+local 3 i64
+local.get 48 => ok 1 1
+i32.eqz      => ok 1 1
+local.get 49 => ok 2 1
+i64.eqz      => ok 2 1
+local.get 51 => ok 3 1
+i64.eqz      => ok 3 1
+local.get 52 => refused 12: unknown local 52: local index out of bounds
+=> refused
+
+local 50 i32
+local 1 i64
+local 1 f32
+local.get 49 => ok 1 1
+i32.eqz      => ok 1 1
+local.get 50 => ok 2 1
+i64.eqz      => ok 2 1
+local.get 51 => ok 3 1
+f32.neg      => ok 3 1
+local.get 52 => refused 12: unknown local 52: local index out of bounds
+=> refused
+
+# Neighbours of one type, and none between them.
+local 51 i32
+local 4 i32
+local 0 f32
+local 1 i32
+local 2 i64
+local 7 i32
+local.get 55 => ok 1 1
+i32.eqz      => ok 1 1
+local.get 56 => ok 2 1
+i64.eqz      => ok 2 1
+local.get 57 => ok 3 1
+i64.eqz      => ok 3 1
+local.get 58 => ok 4 1
+i32.eqz      => ok 4 1
+local.get 64 => ok 5 1
+i32.eqz      => ok 5 1
+local.get 65 => refused 20: unknown local 65: local index out of bounds
+=> refused
 ";
     expect_transcript(&rt, HEAD, transcript)
 }

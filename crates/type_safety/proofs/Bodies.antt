@@ -5,7 +5,7 @@ use Rattle.validate_resources.specs.Context.{ModuleContext, IsLawful}
 use Rattle.validation_rules.specs.Context.{BlockType, Context}
 use Rattle.validation_rules.specs.Rows.{Operator}
 use Rattle.validation_rules.specs.Static.{Frame, open_state, operand_count_in}
-use Rattle.validation_rules.specs.Operators.{body}
+use Rattle.validation_rules.specs.Operators.{operators}
 use Rattle.validation_rules.proofs.Below.{below-length, length-known}
 use Rattle.type_safety.specs.Machine.{Label, At}
 use Rattle.type_safety.specs.Theorem.{LabelsBelow, OperandsBelow, IsAsValidated, IsTypeSafe}
@@ -17,7 +17,7 @@ use Rattle.type_safety.proofs.Operators.{body_lawful}
 pub body_safety : (md : ModuleContext) → IsLawful md → BodySafety md
 body_safety md laws cx ops ty same accepted =
     let l = subst IsLawful (sym same) laws in
-    type_safety cx (body cx ops) ty l (body_lawful cx l ops) accepted
+    type_safety cx (operators cx ops) ty l (body_lawful cx l ops) accepted
 
 module _ (cx : Context) where
   own_counts : (l : Label) (f : Frame) → OperandsBelow cx l.operands f.operands → length l.operands ≡ length f.operands
@@ -59,4 +59,4 @@ heights_of_safe cx code ty safe n k labels set run = heights_of cx code ty k lab
 
 pub body_heights : (md : ModuleContext) → IsLawful md → BodyHeights md
 body_heights md laws cx ops ty same accepted =
-    heights_of_safe cx (body cx ops) ty (body_safety md laws cx ops ty same accepted)
+    heights_of_safe cx (operators cx ops) ty (body_safety md laws cx ops ty same accepted)

@@ -2,20 +2,20 @@
 use Rattle.std.proofs.Common.{◌≡◌, ◌≤◌, ℕ, zero, suc, Bool, true, false, List, [], ◌∷◌, ◌++◌, length, map, drop, Some, refl, sym, ap, arith, ◌∙◌, subst, slice_get}
 use Rattle.validation_rules.specs.Context.{ValType, Context}
 use Rattle.validation_rules.specs.Fits.{MaybeType, Known, all_fit}
-use Rattle.validation_rules.specs.Rows.{FrameKind, If, Else, Head, is_if, params, results, Form, Flat, Opens, BeginsElse, BeginsCatch, Ends, Delegates, Row, Operator, catch_kind}
-use Rattle.validation_rules.specs.Static.{Frame, State, onto, heads, locals_set, pushed_types, pushed_by_form, opened_frame, of_kind, frame_after, frame_below, frame_with, open_state, step, before, IsAccepted}
+use Rattle.validation_rules.specs.Rows.{FrameKind, If, Else, Head, is_if, params, results, Form, Stays, Opens, BeginsElse, BeginsCatch, Ends, Delegates, Row, Operator, catch_kind}
+use Rattle.validation_rules.specs.Static.{Frame, State, stack_with, heads, locals_set, pushed_types, pushed_by_form, opened_frame, of_kind, frame_after, frame_under, frame_with, open_state, step, state_before, IsAccepted}
 use Rattle.type_safety.specs.Machine.{Delimiter, delimiter, delimiters_from, forms_of, delimiters, has_no_else}
 use Rattle.validation_rules.proofs.Below.{and_true}
 use Rattle.validation_rules.proofs.Steps.{given, after, some_injective, guard_some, and_then_given, get_of_drop, drop_next, stepped, before_next}
 
-rest_accepted : (cx : Context) (code : List Operator) (s : State) (k : ℕ) (t : State) → before cx code s k ≡ Some t → IsAccepted cx code s → IsAccepted cx (drop k code) t
+rest_accepted : (cx : Context) (code : List Operator) (s : State) (k : ℕ) (t : State) → state_before cx code s k ≡ Some t → IsAccepted cx code s → IsAccepted cx (drop k code) t
 rest_accepted cx code s zero t b a = subst (λ v. IsAccepted cx code v) (some_injective s t b) a
 rest_accepted cx [] s (suc k) t b a = absurd cc
 rest_accepted cx (x ∷ code) s (suc k) t b a =
-    let m = and_then_given (step cx x s) (λ v. before cx code v k) t b in
-    let n = and_then_given (step cx x s) (λ v. before cx code v (length code)) _ a.1 in
+    let m = and_then_given (step cx x s) (λ v. state_before cx code v k) t b in
+    let n = and_then_given (step cx x s) (λ v. state_before cx code v (length code)) _ a.1 in
     let e : n.0 ≡ m.0 = some_injective n.0 m.0 (sym n.1 ∙ m.1) in
-    rest_accepted cx code m.0 k t m.2 (a.0, ap (λ v. before cx code v (length code)) (sym e) ∙ n.2)
+    rest_accepted cx code m.0 k t m.2 (a.0, ap (λ v. state_before cx code v (length code)) (sym e) ∙ n.2)
 
 -- an operator stands wherever a frame is open
 nothing_left : (cx : Context) (f : Frame) (fs : List Frame) → IsAccepted cx [] (open_state (f ∷ fs)) → ⊥
@@ -36,12 +36,12 @@ part kind h own dead first_set = record { head = of_kind kind h; operands = own;
 module _ (cx : Context) (code : List Operator) (s0 : State) where
   -- the state that follows a closer or the beginning of a part, of a frame with the head h
   abbrev pub AfterDelimiterOf : Head → List Frame → ℕ → Form → Type 0
-  AfterDelimiterOf h fs k Flat = Unit {0}
+  AfterDelimiterOf h fs k Stays = Unit {0}
   AfterDelimiterOf h fs k (Opens o) = Unit {0}
-  AfterDelimiterOf h fs k BeginsElse = before cx code s0 (suc k) ≡ Some (open_state (part Else h (onto (map Known (params cx h)) []) false [] ∷ fs))
-  AfterDelimiterOf h fs k (BeginsCatch all types) = before cx code s0 (suc k) ≡ Some (open_state (part (catch_kind all) h (onto (map Known types) []) false [] ∷ fs))
-  AfterDelimiterOf h fs k Ends = before cx code s0 (suc k) ≡ Some (given (results cx h) fs)
-  AfterDelimiterOf h fs k Delegates = before cx code s0 (suc k) ≡ Some (given (results cx h) fs)
+  AfterDelimiterOf h fs k BeginsElse = state_before cx code s0 (suc k) ≡ Some (open_state (part Else h (stack_with (map Known (params cx h)) []) false [] ∷ fs))
+  AfterDelimiterOf h fs k (BeginsCatch all types) = state_before cx code s0 (suc k) ≡ Some (open_state (part (catch_kind all) h (stack_with (map Known types) []) false [] ∷ fs))
+  AfterDelimiterOf h fs k Ends = state_before cx code s0 (suc k) ≡ Some (given (results cx h) fs)
+  AfterDelimiterOf h fs k Delegates = state_before cx code s0 (suc k) ≡ Some (given (results cx h) fs)
 
   abbrev pub AfterDelimiter : Head → List Frame → Delimiter → Type 0
   AfterDelimiter h fs m = AfterDelimiterOf h fs m.place m.form
@@ -50,14 +50,14 @@ module _ (cx : Context) (code : List Operator) (s0 : State) where
   -- follows, up to a last place, are followed by the right states
   abbrev Delimited : ℕ → List Operator → ℕ → Head → List Frame → Type 0
   Delimited last ops k h fs =
-      (inner : List Frame) (kind : FrameKind) (own : List MaybeType) (dead : Bool) (first_set : List ℕ) → before cx code s0 k ≡ Some (open_state (inner ++ part kind h own dead first_set ∷ fs)) → (j : ℕ) (m : Delimiter) → slice_get (delimiters_from (length inner) k (forms_of ops)) j ≡ Some m → m.place ≤ last → AfterDelimiter h fs m
+      (inner : List Frame) (kind : FrameKind) (own : List MaybeType) (dead : Bool) (first_set : List ℕ) → state_before cx code s0 k ≡ Some (open_state (inner ++ part kind h own dead first_set ∷ fs)) → (j : ℕ) (m : Delimiter) → slice_get (delimiters_from (length inner) k (forms_of ops)) j ≡ Some m → m.place ≤ last → AfterDelimiter h fs m
 
   at_delimiter : (h : Head) (fs : List Frame) (k : ℕ) (form : Form) (m : Delimiter) → Some (delimiter k form) ≡ Some m → AfterDelimiter h fs (delimiter k form) → AfterDelimiter h fs m
   at_delimiter h fs k form m e a = subst (λ n. AfterDelimiter h fs n) (some_injective _ _ e) a
 
   -- one operator in the frame itself
-  delimited_here : (last : ℕ) (ops : List Operator) (k : ℕ) (h : Head) (fs : List Frame) → Delimited last ops (suc k) h fs → (form : Form) (r : Row) (set : List ℕ) (pushed : List MaybeType) (kind : FrameKind) (own : List MaybeType) (dead : Bool) (first_set : List ℕ) → before cx code s0 (suc k) ≡ Some (after cx r set (part kind h own dead first_set) fs form pushed) → (j : ℕ) (m : Delimiter) → slice_get (delimiters_from 0 k (form ∷ forms_of ops)) j ≡ Some m → m.place ≤ last → AfterDelimiter h fs m
-  delimited_here last ops k h fs ih Flat r set pushed kind own dead first_set b j m e w = ih [] kind _ _ _ b j m e w
+  delimited_here : (last : ℕ) (ops : List Operator) (k : ℕ) (h : Head) (fs : List Frame) → Delimited last ops (suc k) h fs → (form : Form) (r : Row) (set : List ℕ) (pushed : List MaybeType) (kind : FrameKind) (own : List MaybeType) (dead : Bool) (first_set : List ℕ) → state_before cx code s0 (suc k) ≡ Some (after cx r set (part kind h own dead first_set) fs form pushed) → (j : ℕ) (m : Delimiter) → slice_get (delimiters_from 0 k (form ∷ forms_of ops)) j ≡ Some m → m.place ≤ last → AfterDelimiter h fs m
+  delimited_here last ops k h fs ih Stays r set pushed kind own dead first_set b j m e w = ih [] kind _ _ _ b j m e w
   delimited_here last ops k h fs ih (Opens o) r set pushed kind own dead first_set b j m e w = ih (opened_frame o (params cx o) ∷ []) kind _ _ _ b j m e w
   delimited_here last ops k h fs ih BeginsElse r set pushed kind own dead first_set b zero m e w = at_delimiter h fs k BeginsElse m e b
   delimited_here last ops k h fs ih BeginsElse r set pushed kind own dead first_set b (suc j) m e w = ih [] Else _ _ _ b j m e w
@@ -69,9 +69,9 @@ module _ (cx : Context) (code : List Operator) (s0 : State) where
   delimited_here last ops k h fs ih Delegates r set pushed kind own dead first_set b (suc j) m e w = absurd cc
 
   -- one operator in a frame inside it
-  delimited_inside : (last : ℕ) (ops : List Operator) (k : ℕ) (h : Head) (fs : List Frame) → Delimited last ops (suc k) h fs → (form : Form) (r : Row) (set : List ℕ) (pushed : List MaybeType) (f : Frame) (inner : List Frame) (kind : FrameKind) (own : List MaybeType) (dead : Bool) (first_set : List ℕ) → before cx code s0 (suc k) ≡ Some (after cx r set f (inner ++ part kind h own dead first_set ∷ fs) form pushed) → (j : ℕ) (m : Delimiter) → slice_get (delimiters_from (suc (length inner)) k (form ∷ forms_of ops)) j ≡ Some m → m.place ≤ last → AfterDelimiter h fs m
-  delimited_inside last ops k h fs ih Flat r set pushed f inner kind own dead first_set b j m e w = ih (frame_after cx r set pushed f ∷ inner) kind own dead first_set b j m e w
-  delimited_inside last ops k h fs ih (Opens o) r set pushed f inner kind own dead first_set b j m e w = ih (opened_frame o (params cx o) ∷ frame_below r f ∷ inner) kind own dead first_set b j m e w
+  delimited_inside : (last : ℕ) (ops : List Operator) (k : ℕ) (h : Head) (fs : List Frame) → Delimited last ops (suc k) h fs → (form : Form) (r : Row) (set : List ℕ) (pushed : List MaybeType) (f : Frame) (inner : List Frame) (kind : FrameKind) (own : List MaybeType) (dead : Bool) (first_set : List ℕ) → state_before cx code s0 (suc k) ≡ Some (after cx r set f (inner ++ part kind h own dead first_set ∷ fs) form pushed) → (j : ℕ) (m : Delimiter) → slice_get (delimiters_from (suc (length inner)) k (form ∷ forms_of ops)) j ≡ Some m → m.place ≤ last → AfterDelimiter h fs m
+  delimited_inside last ops k h fs ih Stays r set pushed f inner kind own dead first_set b j m e w = ih (frame_after cx r set pushed f ∷ inner) kind own dead first_set b j m e w
+  delimited_inside last ops k h fs ih (Opens o) r set pushed f inner kind own dead first_set b j m e w = ih (opened_frame o (params cx o) ∷ frame_under r f ∷ inner) kind own dead first_set b j m e w
   delimited_inside last ops k h fs ih BeginsElse r set pushed f inner kind own dead first_set b j m e w = ih (opened_frame (of_kind Else f.head) (params cx f.head) ∷ inner) kind own dead first_set b j m e w
   delimited_inside last ops k h fs ih (BeginsCatch c types) r set pushed f inner kind own dead first_set b j m e w = ih (opened_frame (of_kind (catch_kind c) f.head) types ∷ inner) kind own dead first_set b j m e w
   delimited_inside last ops k h fs ih Ends r set pushed f [] kind own dead first_set b j m e w = ih [] kind _ dead first_set b j m e w
@@ -85,7 +85,7 @@ at_place k form m e = let h : k ≡ m.place = ap (λ (d : Delimiter). d.place) (
 -- the delimiters that follow from a place on stand there or later
 pub later_place : (depth k : ℕ) (forms : List Form) (j : ℕ) (m : Delimiter) → slice_get (delimiters_from depth k forms) j ≡ Some m → k ≤ m.place
 later_place depth k [] j m e = absurd cc
-later_place depth k (Flat ∷ forms) j m e = let h = later_place depth (suc k) forms j m e in omega (arith, h)
+later_place depth k (Stays ∷ forms) j m e = let h = later_place depth (suc k) forms j m e in omega (arith, h)
 later_place depth k (Opens o ∷ forms) j m e = let h = later_place (suc depth) (suc k) forms j m e in omega (arith, h)
 later_place zero k (BeginsElse ∷ forms) zero m e = at_place k BeginsElse m e
 later_place zero k (BeginsElse ∷ forms) (suc j) m e = let h = later_place zero (suc k) forms j m e in omega (arith, h)
@@ -104,9 +104,9 @@ later_place (suc depth) k (Delegates ∷ forms) j m e = let h = later_place dept
 pub record RowHolds (cx : Context) (code : List Operator) (s0 : State) (k : ℕ) (op : Operator) (f : Frame) (fs : List Frame) : Type 0 where
   pub pushed : List MaybeType
   pub holds : pushed_types cx op (heads (f ∷ fs)) (locals_set (f ∷ fs)) f ≡ Some pushed
-  pub next : before cx code s0 (suc k) ≡ Some (after cx (op.row (heads (f ∷ fs))) (locals_set (f ∷ fs)) f fs op.form pushed)
+  pub next : state_before cx code s0 (suc k) ≡ Some (after cx (op.row (heads (f ∷ fs))) (locals_set (f ∷ fs)) f fs op.form pushed)
 
-pub row_of_step : (cx : Context) (code : List Operator) (s0 : State) (k : ℕ) (op : Operator) (more : List Operator) (f : Frame) (fs : List Frame) (t : State) → drop k code ≡ op ∷ more → before cx code s0 k ≡ Some (open_state (f ∷ fs)) → step cx op (open_state (f ∷ fs)) ≡ Some t → RowHolds cx code s0 k op f fs
+pub row_of_step : (cx : Context) (code : List Operator) (s0 : State) (k : ℕ) (op : Operator) (more : List Operator) (f : Frame) (fs : List Frame) (t : State) → drop k code ≡ op ∷ more → state_before cx code s0 k ≡ Some (open_state (f ∷ fs)) → step cx op (open_state (f ∷ fs)) ≡ Some t → RowHolds cx code s0 k op f fs
 row_of_step cx code s0 k op more f fs t d b e =
     let st = stepped cx op f fs [] t e in
     record {
@@ -116,7 +116,7 @@ row_of_step cx code s0 k op more f fs t d b e =
     }
 
 -- where the rows up to a last place hold
-module _ (cx : Context) (code : List Operator) (s0 : State) (last : ℕ) (rows : (k : ℕ) (op : Operator) (more : List Operator) (f : Frame) (fs : List Frame) → k ≤ last → drop k code ≡ op ∷ more → before cx code s0 k ≡ Some (open_state (f ∷ fs)) → RowHolds cx code s0 k op f fs) where
+module _ (cx : Context) (code : List Operator) (s0 : State) (last : ℕ) (rows : (k : ℕ) (op : Operator) (more : List Operator) (f : Frame) (fs : List Frame) → k ≤ last → drop k code ≡ op ∷ more → state_before cx code s0 k ≡ Some (open_state (f ∷ fs)) → RowHolds cx code s0 k op f fs) where
   delimited : (ops : List Operator) (k : ℕ) (h : Head) (fs : List Frame) → drop k code ≡ ops → Delimited cx code s0 last ops k h fs
   delimited [] k h fs d inner kind own dead first_set b j m e w = absurd cc
   delimited (op ∷ ops) k h fs d [] kind own dead first_set b j m e w =
@@ -131,31 +131,31 @@ module _ (cx : Context) (code : List Operator) (s0 : State) (last : ℕ) (rows :
       delimited_inside cx code s0 last ops k h fs (delimited ops (suc k) h fs (drop_next code k op ops d)) op.form (op.row (heads (f ∷ gs))) (locals_set (f ∷ gs)) a.pushed f inner kind own dead first_set a.next j m e w
 
   -- of a frame that has just been opened, or a part that has just begun, at place b
-  pub delimiter_within : (b : ℕ) (h : Head) (types : List ValType) (fs : List Frame) → before cx code s0 (suc b) ≡ Some (open_state (opened_frame h types ∷ fs)) → (j : ℕ) (m : Delimiter) → slice_get (delimiters code b) j ≡ Some m → m.place ≤ last → AfterDelimiter cx code s0 h fs m
-  delimiter_within b h types fs e = delimited (drop (suc b) code) (suc b) h fs refl [] h.kind (onto (map Known types) []) false [] e
+  pub delimiter_within : (b : ℕ) (h : Head) (types : List ValType) (fs : List Frame) → state_before cx code s0 (suc b) ≡ Some (open_state (opened_frame h types ∷ fs)) → (j : ℕ) (m : Delimiter) → slice_get (delimiters code b) j ≡ Some m → m.place ≤ last → AfterDelimiter cx code s0 h fs m
+  delimiter_within b h types fs e = delimited (drop (suc b) code) (suc b) h fs refl [] h.kind (stack_with (map Known types) []) false [] e
 
 module _ (cx : Context) (code : List Operator) (s0 : State) (accepted : IsAccepted cx code s0) where
-  pub operator_at : (k : ℕ) (f : Frame) (fs : List Frame) → before cx code s0 k ≡ Some (open_state (f ∷ fs)) → (op : Operator) × (more : List Operator) × (drop k code ≡ op ∷ more)
+  pub operator_at : (k : ℕ) (f : Frame) (fs : List Frame) → state_before cx code s0 k ≡ Some (open_state (f ∷ fs)) → (op : Operator) × (more : List Operator) × (drop k code ≡ op ∷ more)
   operator_at k f fs b = some_operator cx (drop k code) f fs (rest_accepted cx code s0 k _ b accepted)
 
-  pub row_at : (k : ℕ) (op : Operator) (more : List Operator) (f : Frame) (fs : List Frame) → drop k code ≡ op ∷ more → before cx code s0 k ≡ Some (open_state (f ∷ fs)) → RowHolds cx code s0 k op f fs
+  pub row_at : (k : ℕ) (op : Operator) (more : List Operator) (f : Frame) (fs : List Frame) → drop k code ≡ op ∷ more → state_before cx code s0 k ≡ Some (open_state (f ∷ fs)) → RowHolds cx code s0 k op f fs
   row_at k op more f fs d b =
       let a = subst (λ ops. IsAccepted cx ops (open_state (f ∷ fs))) d (rest_accepted cx code s0 k _ b accepted) in
-      let m = and_then_given (step cx op (open_state (f ∷ fs))) (λ v. before cx more v (length more)) _ a.1 in
+      let m = and_then_given (step cx op (open_state (f ∷ fs))) (λ v. state_before cx more v (length more)) _ a.1 in
       row_of_step cx code s0 k op more f fs m.0 d b m.1
 
   -- of a frame that has just been opened, or a part that has just begun, at place b
-  pub after_delimiter : (b : ℕ) (h : Head) (types : List ValType) (fs : List Frame) → before cx code s0 (suc b) ≡ Some (open_state (opened_frame h types ∷ fs)) → (j : ℕ) (m : Delimiter) → slice_get (delimiters code b) j ≡ Some m → AfterDelimiter cx code s0 h fs m
+  pub after_delimiter : (b : ℕ) (h : Head) (types : List ValType) (fs : List Frame) → state_before cx code s0 (suc b) ≡ Some (open_state (opened_frame h types ∷ fs)) → (j : ℕ) (m : Delimiter) → slice_get (delimiters code b) j ≡ Some m → AfterDelimiter cx code s0 h fs m
   after_delimiter b h types fs e j m g =
       delimiter_within cx code s0 m.place (λ k op more f fs' w d b'. row_at k op more f fs' d b') b h types fs e j m g (omega arith)
 
   -- ---- an `if` without `else`
   abbrev Balanced : List Operator → ℕ → Head → List Frame → Type 0
   Balanced ops k h fs =
-      (inner : List Frame) (own : List MaybeType) (dead : Bool) (first_set : List ℕ) → before cx code s0 k ≡ Some (open_state (inner ++ part If h own dead first_set ∷ fs)) → has_no_else (delimiters_from (length inner) k (forms_of ops)) ≡ true → all_fit cx (map Known (params cx h)) (results cx h) ≡ true
+      (inner : List Frame) (own : List MaybeType) (dead : Bool) (first_set : List ℕ) → state_before cx code s0 k ≡ Some (open_state (inner ++ part If h own dead first_set ∷ fs)) → has_no_else (delimiters_from (length inner) k (forms_of ops)) ≡ true → all_fit cx (map Known (params cx h)) (results cx h) ≡ true
 
-  balanced_here : (ops : List Operator) (k : ℕ) (h : Head) (fs : List Frame) → Balanced ops (suc k) h fs → (form : Form) (r : Row) (hs : List Head) (set : List ℕ) (pushed : List MaybeType) (own : List MaybeType) (dead : Bool) (first_set : List ℕ) → pushed_by_form cx r hs set (part If h own dead first_set) form ≡ Some pushed → before cx code s0 (suc k) ≡ Some (after cx r set (part If h own dead first_set) fs form pushed) → has_no_else (delimiters_from 0 k (form ∷ forms_of ops)) ≡ true → all_fit cx (map Known (params cx h)) (results cx h) ≡ true
-  balanced_here ops k h fs ih Flat r hs set pushed own dead first_set p b e = ih [] _ _ _ b e
+  balanced_here : (ops : List Operator) (k : ℕ) (h : Head) (fs : List Frame) → Balanced ops (suc k) h fs → (form : Form) (r : Row) (hs : List Head) (set : List ℕ) (pushed : List MaybeType) (own : List MaybeType) (dead : Bool) (first_set : List ℕ) → pushed_by_form cx r hs set (part If h own dead first_set) form ≡ Some pushed → state_before cx code s0 (suc k) ≡ Some (after cx r set (part If h own dead first_set) fs form pushed) → has_no_else (delimiters_from 0 k (form ∷ forms_of ops)) ≡ true → all_fit cx (map Known (params cx h)) (results cx h) ≡ true
+  balanced_here ops k h fs ih Stays r hs set pushed own dead first_set p b e = ih [] _ _ _ b e
   balanced_here ops k h fs ih (Opens o) r hs set pushed own dead first_set p b e = ih (opened_frame o (params cx o) ∷ []) _ _ _ b e
   balanced_here ops k h fs ih BeginsElse r hs set pushed own dead first_set p b e = cc
   balanced_here ops k h fs ih (BeginsCatch c types) r hs set pushed own dead first_set p b e =
@@ -171,9 +171,9 @@ module _ (cx : Context) (code : List Operator) (s0 : State) (accepted : IsAccept
       let i = and_true r.premise _ g.0 in
       cc
 
-  balanced_inside : (ops : List Operator) (k : ℕ) (h : Head) (fs : List Frame) → Balanced ops (suc k) h fs → (form : Form) (r : Row) (set : List ℕ) (pushed : List MaybeType) (f : Frame) (inner : List Frame) (own : List MaybeType) (dead : Bool) (first_set : List ℕ) → before cx code s0 (suc k) ≡ Some (after cx r set f (inner ++ part If h own dead first_set ∷ fs) form pushed) → has_no_else (delimiters_from (suc (length inner)) k (form ∷ forms_of ops)) ≡ true → all_fit cx (map Known (params cx h)) (results cx h) ≡ true
-  balanced_inside ops k h fs ih Flat r set pushed f inner own dead first_set b e = ih (frame_after cx r set pushed f ∷ inner) own dead first_set b e
-  balanced_inside ops k h fs ih (Opens o) r set pushed f inner own dead first_set b e = ih (opened_frame o (params cx o) ∷ frame_below r f ∷ inner) own dead first_set b e
+  balanced_inside : (ops : List Operator) (k : ℕ) (h : Head) (fs : List Frame) → Balanced ops (suc k) h fs → (form : Form) (r : Row) (set : List ℕ) (pushed : List MaybeType) (f : Frame) (inner : List Frame) (own : List MaybeType) (dead : Bool) (first_set : List ℕ) → state_before cx code s0 (suc k) ≡ Some (after cx r set f (inner ++ part If h own dead first_set ∷ fs) form pushed) → has_no_else (delimiters_from (suc (length inner)) k (form ∷ forms_of ops)) ≡ true → all_fit cx (map Known (params cx h)) (results cx h) ≡ true
+  balanced_inside ops k h fs ih Stays r set pushed f inner own dead first_set b e = ih (frame_after cx r set pushed f ∷ inner) own dead first_set b e
+  balanced_inside ops k h fs ih (Opens o) r set pushed f inner own dead first_set b e = ih (opened_frame o (params cx o) ∷ frame_under r f ∷ inner) own dead first_set b e
   balanced_inside ops k h fs ih BeginsElse r set pushed f inner own dead first_set b e = ih (opened_frame (of_kind Else f.head) (params cx f.head) ∷ inner) own dead first_set b e
   balanced_inside ops k h fs ih (BeginsCatch c types) r set pushed f inner own dead first_set b e = ih (opened_frame (of_kind (catch_kind c) f.head) types ∷ inner) own dead first_set b e
   balanced_inside ops k h fs ih Ends r set pushed f [] own dead first_set b e = ih [] _ dead first_set b e
@@ -181,7 +181,7 @@ module _ (cx : Context) (code : List Operator) (s0 : State) (accepted : IsAccept
   balanced_inside ops k h fs ih Delegates r set pushed f [] own dead first_set b e = ih [] _ dead first_set b e
   balanced_inside ops k h fs ih Delegates r set pushed f (g ∷ inner) own dead first_set b e = ih (frame_with (map Known (results cx f.head)) g ∷ inner) own dead first_set b e
 
-  still_open : (k : ℕ) (f : Frame) (fs : List Frame) → drop k code ≡ [] → before cx code s0 k ≡ Some (open_state (f ∷ fs)) → ⊥
+  still_open : (k : ℕ) (f : Frame) (fs : List Frame) → drop k code ≡ [] → state_before cx code s0 k ≡ Some (open_state (f ∷ fs)) → ⊥
   still_open k f fs d b = let o = operator_at k f fs b in let e : [] ≡ o.0 ∷ o.1 = sym d ∙ o.2 in cc
 
   balanced : (ops : List Operator) (k : ℕ) (h : Head) (fs : List Frame) → drop k code ≡ ops → Balanced ops k h fs
@@ -197,7 +197,7 @@ module _ (cx : Context) (code : List Operator) (s0 : State) (accepted : IsAccept
       balanced_inside ops k h fs (balanced ops (suc k) h fs (drop_next code k op ops d)) op.form (op.row (heads (f ∷ gs))) (locals_set (f ∷ gs)) a.pushed f inner own dead first_set a.next e
 
   -- an `if` at place b that no `else` belongs to has its parameters below its results
-  pub if_balanced : (b : ℕ) (h : Head) (types : List ValType) (fs : List Frame) → is_if h.kind ≡ true → before cx code s0 (suc b) ≡ Some (open_state (opened_frame h types ∷ fs)) → has_no_else (delimiters code b) ≡ true → all_fit cx (map Known (params cx h)) (results cx h) ≡ true
+  pub if_balanced : (b : ℕ) (h : Head) (types : List ValType) (fs : List Frame) → is_if h.kind ≡ true → state_before cx code s0 (suc b) ≡ Some (open_state (opened_frame h types ∷ fs)) → has_no_else (delimiters code b) ≡ true → all_fit cx (map Known (params cx h)) (results cx h) ≡ true
   if_balanced b h types fs i e w =
-      let e' = subst (λ kind. before cx code s0 (suc b) ≡ Some (open_state (part kind h (onto (map Known types) []) false [] ∷ fs))) (kind_is_if h.kind i) e in
-      balanced (drop (suc b) code) (suc b) h fs refl [] (onto (map Known types) []) false [] e' w
+      let e' = subst (λ kind. state_before cx code s0 (suc b) ≡ Some (open_state (part kind h (stack_with (map Known types) []) false [] ∷ fs))) (kind_is_if h.kind i) e in
+      balanced (drop (suc b) code) (suc b) h fs refl [] (stack_with (map Known types) []) false [] e' w

@@ -1,6 +1,6 @@
 -- Runs of small bodies, and a body that gets stuck: the definitions of the machine tried.
 use Rattle.std.proofs.Common.{◌≡◌, ℕ, zero, suc, pos, Bool, true, false, List, [], ◌∷◌, length, map, take, drop, Some, None, refl, sym, ap, ◌∙◌, subst, slice_get}
-use Rattle.validate_resources.specs.Context.{is_same_number}
+use Rattle.validate_resources.specs.Context.{is_same_number_or_vector}
 use Rattle.validate_resources.specs.Lists.{Declared, context_of}
 use Rattle.validate_resources.specs.Lawful.{lawful_lists}
 use Rattle.validate_types.specs.declared.types.CompositeInnerType.TheVariants.{Func}
@@ -12,8 +12,8 @@ use Rattle.validate_visit.specs.declared.op.NumericOp.TheVariants.{Eqz, IntegerB
 use Rattle.validation_rules.specs.Context.{SubType, WasmFeatures, ValType, I32, I64, BlockType, Empty, Val, FuncType, Context, AllBelow}
 use Rattle.validation_rules.specs.Fits.{MaybeType, Bottom, Known}
 use Rattle.validation_rules.specs.Static.{Frame}
-use Rattle.validation_rules.specs.Rows.{FrameKind, Block, If, Else, Loop, TryTable, LegacyTry, LegacyCatch, Head, params, results, is_if, Flat, Opens, BeginsElse, BeginsCatch, Ends, Delegates, Clause, Target, Operator}
-use Rattle.validation_rules.specs.Operators.{plain_row, looking_row, row_operator, body, operator}
+use Rattle.validation_rules.specs.Rows.{FrameKind, Block, If, Else, Loop, TryTable, LegacyTry, LegacyCatch, Head, params, results, is_if, Stays, Opens, BeginsElse, BeginsCatch, Ends, Delegates, Clause, Target, Operator}
+use Rattle.validation_rules.specs.Operators.{plain_row, looking_row, row_operator, operators, operator}
 use Rattle.validation_rules.specs.Branches.{target}
 use Rattle.validation_rules.proofs.Handmade.{a_block, a_loop, an_if, an_else, an_end, br, a_return, a_try_table, throw, a_try, a_catch, delegate}
 use Rattle.validation_rules.proofs.Steps.{some_injective}
@@ -87,7 +87,7 @@ module _ (features : WasmFeatures) where
 
   -- ---- a run of a body of the table, to its return
   abbrev adding : List Operator
-  adding = body cx (Control (LocalGet 0) ∷ Numeric (I32Const (pos 1)) ∷ Numeric (IntegerBinary IntegerI32 Add) ∷ Control End ∷ [])
+  adding = operators cx (Control (LocalGet 0) ∷ Numeric (I32Const (pos 1)) ∷ Numeric (IntegerBinary IntegerI32 Add) ∷ Control End ∷ [])
 
   abbrev adding_at : ℕ → List ValType → Machine
   adding_at k own = At k (outermost one_to_one own ∷ []) []
@@ -145,31 +145,31 @@ module _ (features : WasmFeatures) where
   -- ---- bodies that aren't accepted get stuck
 
   -- an operand is missing
-  stuck_at_once : IsNotStuck cx (body cx (Numeric (IntegerBinary IntegerI32 Add) ∷ [])) (initial_machine to_nothing) → ⊥
+  stuck_at_once : IsNotStuck cx (operators cx (Numeric (IntegerBinary IntegerI32 Add) ∷ [])) (initial_machine to_nothing) → ⊥
   stuck_at_once d =
       let e : operator cx (Numeric (IntegerBinary IntegerI32 Add)) ≡ d.0 = some_injective _ _ d.1 in
-      let d' = subst (λ op. Demand cx (body cx (Numeric (IntegerBinary IntegerI32 Add) ∷ [])) (configuration 0 (outermost to_nothing []) [] [] op)) (sym e) d.2 in
+      let d' = subst (λ op. Demand cx (operators cx (Numeric (IntegerBinary IntegerI32 Add) ∷ [])) (configuration 0 (outermost to_nothing []) [] [] op)) (sym e) d.2 in
       let r = d'.row.1 in
       absurd cc
 
   -- an operand has another type
-  stuck_on_type : IsNotStuck cx (body cx (Numeric (Eqz IntegerI32) ∷ [])) (At 0 (outermost to_nothing (I64 ∷ []) ∷ []) []) → ⊥
+  stuck_on_type : IsNotStuck cx (operators cx (Numeric (Eqz IntegerI32) ∷ [])) (At 0 (outermost to_nothing (I64 ∷ []) ∷ []) []) → ⊥
   stuck_on_type d =
       let e : operator cx (Numeric (Eqz IntegerI32)) ≡ d.0 = some_injective _ _ d.1 in
-      let d' = subst (λ op. Demand cx (body cx (Numeric (Eqz IntegerI32) ∷ [])) (configuration 0 (outermost to_nothing (I64 ∷ [])) [] [] op)) (sym e) d.2 in
+      let d' = subst (λ op. Demand cx (operators cx (Numeric (Eqz IntegerI32) ∷ [])) (configuration 0 (outermost to_nothing (I64 ∷ [])) [] [] op)) (sym e) d.2 in
       let r = d'.row.1 in
       absurd cc
 
   -- a local isn't set
-  stuck_on_local : IsNotStuck cx (body cx (Control (LocalGet 1) ∷ [])) (initial_machine to_nothing) → ⊥
+  stuck_on_local : IsNotStuck cx (operators cx (Control (LocalGet 1) ∷ [])) (initial_machine to_nothing) → ⊥
   stuck_on_local d =
       let e : operator cx (Control (LocalGet 1)) ≡ d.0 = some_injective _ _ d.1 in
-      let d' = subst (λ op. Demand cx (body cx (Control (LocalGet 1) ∷ [])) (configuration 0 (outermost to_nothing []) [] [] op)) (sym e) d.2 in
+      let d' = subst (λ op. Demand cx (operators cx (Control (LocalGet 1) ∷ [])) (configuration 0 (outermost to_nothing []) [] [] op)) (sym e) d.2 in
       let r = d'.row.1 in
       absurd cc
 
   -- once the machine has set it, it is set
-  reads_local : IsNotStuck cx (body cx (Control (LocalGet 1) ∷ [])) (At 0 (outermost to_nothing [] ∷ []) (1 ∷ []))
+  reads_local : IsNotStuck cx (operators cx (Control (LocalGet 1) ∷ [])) (At 0 (outermost to_nothing [] ∷ []) (1 ∷ []))
   reads_local = (
     operator cx (Control (LocalGet 1)),
     refl,
@@ -177,7 +177,7 @@ module _ (features : WasmFeatures) where
   )
 
   -- the list has ended, and a label is open
-  stuck_behind : IsNotStuck cx (body cx (Control Nop ∷ [])) (At 1 (outermost to_nothing [] ∷ []) []) → ⊥
+  stuck_behind : IsNotStuck cx (operators cx (Control Nop ∷ [])) (At 1 (outermost to_nothing [] ∷ []) []) → ⊥
   stuck_behind d = let e = d.1 in absurd cc
 
   -- a label is missing
@@ -436,7 +436,7 @@ module _ (features : WasmFeatures) where
 
   -- a branch to a loop that wants the loop's results, not its parameters
   abbrev br_by_results : Operator
-  br_by_results = record { form = Flat; row = λ hs. record (plain_row [] []) { ends_live = true; targets = record { depth = 0; carried = λ ys. ys } ∷ [] } }
+  br_by_results = record { form = Stays; row = λ hs. record (plain_row [] []) { ends_live = true; targets = record { depth = 0; carried = λ ys. ys } ∷ [] } }
 
   stuck_at_loop : IsNotStuck cx (i32_const ∷ a_loop cx takes_one ∷ br_by_results ∷ an_end ∷ an_end ∷ []) (At 2 (label 1 Loop takes_one [] ∷ outermost to_nothing [] ∷ []) []) → ⊥
   stuck_at_loop d = (the_demand _ 2 (label 1 Loop takes_one []) (outermost to_nothing [] ∷ []) [] br_by_results refl d).targets 0 _ refl
@@ -444,7 +444,7 @@ module _ (features : WasmFeatures) where
   -- a table of branches that looks at its default alone
   abbrev table_by_default : Operator
   table_by_default =
-      record { form = Flat; row = λ hs. record (plain_row (I32 ∷ []) []) { ends_live = true; targets = target cx hs 0 ∷ target cx hs 1 ∷ [] } }
+      record { form = Stays; row = λ hs. record (plain_row (I32 ∷ []) []) { ends_live = true; targets = target cx hs 0 ∷ target cx hs 1 ∷ [] } }
 
   stuck_at_table : IsNotStuck cx (table_by_default ∷ []) (At 0 (label 0 Block (Val I64) (I32 ∷ []) ∷ outermost to_nothing [] ∷ []) []) → ⊥
   stuck_at_table d =
@@ -496,7 +496,7 @@ module _ (features : WasmFeatures) where
 
   -- ---- what isn't type safe
 
-  not_safe : IsTypeSafe cx (body cx (Numeric (IntegerBinary IntegerI32 Add) ∷ [])) to_nothing → ⊥
+  not_safe : IsTypeSafe cx (operators cx (Numeric (IntegerBinary IntegerI32 Add) ∷ [])) to_nothing → ⊥
   not_safe safe = stuck_at_once (safe 0 (initial_machine to_nothing) refl).0
 
   -- a return without the result, or with another type
@@ -531,12 +531,12 @@ module _ (features : WasmFeatures) where
 -- an order in which i32 lies below i64
 abbrev tilted : ValType → ValType → Bool
 tilted I32 I64 = true
-tilted t u = is_same_number t u
+tilted t u = is_same_number_or_vector t u
 
 module _ (features : WasmFeatures) where
   abbrev tilted_context : Context
   tilted_context = record {
-    of_module = record { type_at = λ i. None; type_of_id = λ i. None; type_index_of = λ i. None; type_id_of = λ i. None; is_referenced = λ i. false; table_at = λ i. None; memory_at = λ i. None; global_at = λ i. None; element_at = λ i. None; data_count = None; below = tilted; is_shared = λ r. false; canonical = λ f t. None; canonical_ref = λ r. None; canonical_heap = λ h. None };
+    of_module = record { type_at = λ i. None; type_of_id = λ i. None; type_index_of = λ i. None; type_id_of = λ i. None; is_referenced = λ i. false; table_at = λ i. None; memory_at = λ i. None; global_at = λ i. None; element_at = λ i. None; data_count = None; below = tilted; is_shared = λ r. false; top_type = λ h. h; canonical_type = λ f t. None; canonical_ref = λ r. None; canonical_heap = λ h. None };
     features = features;
     shared = false;
     locals = [];

@@ -11,7 +11,7 @@ use Rattle.validate_visit.specs.declared.op.NumericOp.TheVariants.{I32Const, I64
 use Rattle.validation_rules.specs.Branches.{target}
 use Rattle.validation_rules.specs.Context.{SubType, ValType, I32, I64, BlockType, Empty, Val, FuncType, Context}
 use Rattle.validation_rules.specs.Rows.{FrameKind, Block, Loop, Ends, Target, Operator}
-use Rattle.validation_rules.specs.Operators.{body, operator}
+use Rattle.validation_rules.specs.Operators.{operators, operator}
 use Rattle.validation_rules.proofs.Steps.{some_injective}
 use Rattle.type_safety.specs.Machine.{Label, label_heads, At, Returned, LabelAccepts, Demand, configuration, Step}
 use Rattle.type_safety.proofs.Outcomes.{holding, by_going_on, by_jumping}
@@ -75,7 +75,7 @@ looping_ops =
     i32_const ∷ Control (LoopOp i32_to_i64) ∷ i32_const ∷ Control (BrIf 0) ∷ drops ∷ i64_const ∷ end ∷ drops ∷ end ∷ []
 
 abbrev looping : List Operator
-looping = body cx looping_ops
+looping = operators cx looping_ops
 
 abbrev in_loop : List ValType → List Label
 in_loop own = label 1 Loop i32_to_i64 own ∷ outermost to_nothing [] ∷ []
@@ -112,7 +112,7 @@ choosing_ops =
     Control (BlockOp (Val I64)) ∷ Control (BlockOp (Val I64)) ∷ i64_const ∷ i32_const ∷ br_table (1 ∷ []) 0 ∷ end ∷ drops ∷ i64_const ∷ end ∷ drops ∷ end ∷ []
 
 abbrev choosing : List Operator
-choosing = body cx choosing_ops
+choosing = operators cx choosing_ops
 
 abbrev outer_block : List ValType → List Label
 outer_block own = label 0 Block (Val I64) own ∷ outermost to_nothing [] ∷ []
@@ -154,7 +154,7 @@ returning_ops =
     Control (BlockOp (Val I64)) ∷ i64_const ∷ i32_const ∷ Control Return ∷ end ∷ drops ∷ i32_const ∷ end ∷ []
 
 abbrev returning : List Operator
-returning = body cx returning_ops
+returning = operators cx returning_ops
 
 returns : Step cx returning (At 3 (label 0 Block (Val I64) (I32 ∷ I64 ∷ []) ∷ outermost (Val I32) [] ∷ []) []) (Returned (I32 ∷ []))
 returns = (
@@ -171,7 +171,7 @@ returns = (
 
 -- ---- `select` takes its test and two operands, and leaves what lies below
 
-selects : Step cx (body cx (Control Select ∷ [])) (At 0 (outermost to_nothing (I32 ∷ I64 ∷ I64 ∷ I32 ∷ []) ∷ []) []) (At 1 (outermost to_nothing (I64 ∷ I32 ∷ []) ∷ []) [])
+selects : Step cx (operators cx (Control Select ∷ [])) (At 0 (outermost to_nothing (I32 ∷ I64 ∷ I64 ∷ I32 ∷ []) ∷ []) []) (At 1 (outermost to_nothing (I64 ∷ I32 ∷ []) ∷ []) [])
 selects = (
   operator cx (Control Select),
   refl,
@@ -185,5 +185,5 @@ abbrev mixing_ops : List Op
 mixing_ops =
     i32_const ∷ Control (IfOp Empty) ∷ Control Return ∷ end ∷ i32_const ∷ Control (IfOp (Val I64)) ∷ Control Unreachable ∷ Control Select ∷ Control ElseOp ∷ i64_const ∷ i64_const ∷ i32_const ∷ Control (TypedSelect I64) ∷ end ∷ drops ∷ end ∷ []
 
-mixing_safe : IsTypeSafe cx (body cx mixing_ops) to_nothing
+mixing_safe : IsTypeSafe cx (operators cx mixing_ops) to_nothing
 mixing_safe = body_safety (context_of declared) (lawful_lists declared refl) cx mixing_ops to_nothing refl ([], refl)

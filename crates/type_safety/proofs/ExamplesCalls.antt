@@ -12,7 +12,7 @@ use Rattle.validate_visit.specs.declared.op.Op.TheVariants.{Control, Numeric}
 use Rattle.validation_rules.specs.Context.{SubType, ValType, I32, I64, F32, BlockType, Empty, Val, Context}
 use Rattle.validation_rules.specs.Fits.{Known}
 use Rattle.validation_rules.specs.Rows.{Block, Target, Operator}
-use Rattle.validation_rules.specs.Operators.{body, operator}
+use Rattle.validation_rules.specs.Operators.{operators, operator}
 use Rattle.validation_rules.proofs.Steps.{some_injective}
 use Rattle.type_safety.specs.Machine.{Label, At, Returned, LabelAccepts, Demand, configuration, IsNotStuck, Step}
 use Rattle.type_safety.proofs.Outcomes.{holding, by_going_on, by_jumping}
@@ -53,7 +53,7 @@ leaving_ops =
     Control (BlockOp (Val F32)) ∷ Control (GlobalGet 0) ∷ Control (GlobalGet 0) ∷ return_call 0 ∷ end ∷ Control Drop ∷ i32_const ∷ call 0 ∷ end ∷ []
 
 abbrev leaving : List Operator
-leaving = body cx leaving_ops
+leaving = operators cx leaving_ops
 
 abbrev outermost : List Label
 outermost = label 0 (Val I64) [] ∷ []
@@ -102,7 +102,7 @@ calling_ops =
     call 1 ∷ Control (GlobalSet 1) ∷ Control (IfOp Empty) ∷ Control (GlobalGet 0) ∷ return_call 0 ∷ end ∷ Control (GlobalGet 0) ∷ call 0 ∷ end ∷ []
 
 abbrev calling : List Operator
-calling = body cx calling_ops
+calling = operators cx calling_ops
 
 calls : Step cx calling (At 0 outermost []) (At 1 (label 0 (Val I64) (I64 ∷ I32 ∷ []) ∷ []) [])
 calls = (

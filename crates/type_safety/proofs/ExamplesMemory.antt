@@ -13,7 +13,7 @@ use Rattle.validate_visit.specs.declared.op.Op.{Op}
 use Rattle.validate_visit.specs.declared.op.Op.TheVariants.{Control, Numeric, Memory}
 use Rattle.validation_rules.specs.Context.{ValType, I32, I64, Empty, Context}
 use Rattle.validation_rules.specs.Rows.{Block, Operator}
-use Rattle.validation_rules.specs.Operators.{body, operator}
+use Rattle.validation_rules.specs.Operators.{operators, operator}
 use Rattle.validation_rules.proofs.Steps.{some_injective}
 use Rattle.type_safety.specs.Machine.{Label, Machine, At, Trapped, Demand, configuration, IsNotStuck, Step}
 use Rattle.type_safety.specs.Machine.Outcome.{traps}
@@ -51,7 +51,7 @@ abbrev moving_ops : List Op
 moving_ops = i32_const ∷ i64_const ∷ load 1 ∷ store 0 ∷ end ∷ []
 
 abbrev moving : List Operator
-moving = body cx moving_ops
+moving = operators cx moving_ops
 
 abbrev outermost : List ValType → Label
 outermost own = record { began = 0; head = record { kind = Block; block_type = Empty }; operands = own }
@@ -102,5 +102,5 @@ moving_safe = body_safety (context_of declared) (lawful_lists declared refl) cx 
 abbrev copying_ops : List Op
 copying_ops = Memory (MemorySize 0) ∷ Memory (MemorySize 1) ∷ i32_const ∷ Memory (MemoryCopy 0 1) ∷ end ∷ []
 
-copying_safe : IsTypeSafe cx (body cx copying_ops) Empty
+copying_safe : IsTypeSafe cx (operators cx copying_ops) Empty
 copying_safe = body_safety (context_of declared) (lawful_lists declared refl) cx copying_ops Empty refl ([], refl)

@@ -19,7 +19,7 @@ use Rattle.validation_rules.specs.Branches.{target}
 use Rattle.validation_rules.specs.Context.{SubType, ValType, I32, I64, Ref, BlockType, Val, FuncType, Context}
 use Rattle.validation_rules.specs.References.{last_without_null}
 use Rattle.validation_rules.specs.Rows.{Block, Ends, Target, Operator}
-use Rattle.validation_rules.specs.Operators.{body, operator}
+use Rattle.validation_rules.specs.Operators.{operators, operator}
 use Rattle.validation_rules.proofs.Steps.{some_injective}
 use Rattle.type_safety.specs.Machine.{Label, label_heads, At, LabelAccepts, Demand, configuration, IsNotStuck, Step}
 use Rattle.type_safety.proofs.Outcomes.{holding, by_going_on, by_jumping}
@@ -95,7 +95,7 @@ abbrev testing_ops : List Op
 testing_ops = block (Val I32) ∷ i32_const ∷ ref_null func ∷ br_on_null 0 ∷ drops ∷ end ∷ drops ∷ end ∷ []
 
 abbrev testing : List Operator
-testing = body cx testing_ops
+testing = operators cx testing_ops
 
 abbrev in_block : List ValType → List Label
 in_block own = label 0 (Val I32) own ∷ outermost []
@@ -162,7 +162,7 @@ giving_ops =
     block to_i32_and_func ∷ i32_const ∷ ref_null func ∷ br_on_non_null 0 ∷ Reference (RefFunc 0) ∷ end ∷ drops ∷ drops ∷ end ∷ []
 
 abbrev giving : List Operator
-giving = body cx giving_ops
+giving = operators cx giving_ops
 
 abbrev in_giving : List ValType → List Label
 in_giving own = label 0 to_i32_and_func own ∷ outermost []
@@ -212,7 +212,7 @@ calling_ops =
     ref_null func ∷ Reference RefIsNull ∷ drops ∷ ref_null (Concrete (Module 0)) ∷ Reference RefAsNonNull ∷ Control (CallRef 0) ∷ end ∷ []
 
 abbrev calling : List Operator
-calling = body cx calling_ops
+calling = operators cx calling_ops
 
 tests : Step cx calling (At 1 (outermost (null func ∷ [])) []) (At 2 (outermost (I32 ∷ [])) [])
 tests = (

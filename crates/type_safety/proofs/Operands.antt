@@ -4,8 +4,8 @@ use Rattle.std.specs.List.{list_any}
 use Rattle.validate_resources.specs.Context.{IsLawful}
 use Rattle.validation_rules.specs.Context.{ValType, Context, AllBelow, is_set_at_entry}
 use Rattle.validation_rules.specs.Fits.{MaybeType, Known, all_fit}
-use Rattle.validation_rules.specs.Rows.{Head, results, is_if, is_try, may_catch, Form, Flat, Opens, BeginsElse, BeginsCatch, Ends, Delegates, Clause, Row, guard, operands_wanted, pushed_for, label_types}
-use Rattle.validation_rules.specs.Static.{Frame, is_set, reads_set, onto, operands_on_top, operands_found, operands_below, pushed_by_form, pushed_by_row, clauses_fit, clause_fits, label_accepts, first_set_after, may_close}
+use Rattle.validation_rules.specs.Rows.{Head, results, is_if, is_try, may_catch, Form, Stays, Opens, BeginsElse, BeginsCatch, Ends, Delegates, Clause, Row, guard, operands_wanted, pushed_for, label_types}
+use Rattle.validation_rules.specs.Static.{Frame, is_set, is_read_local_set, stack_with, operands_on_top, operands_found, operands_under, pushed_by_form, pushed_by_row, clauses_fit, clause_fits, label_accepts, first_set_after, may_close}
 use Rattle.type_safety.specs.Machine.{Label, live_frame, types_on_top, set_after}
 use Rattle.type_safety.proofs.Laws.{IsMonotoneAt, HeadAccepts, IsLawfulRow}
 use Rattle.validation_rules.proofs.Below.{and_true, true_and, below-length, below-trans, below-take, below-drop, below-onto, below_of_fit, fit_of_below, drop-known, on_top-known, onto-known, length-known}
@@ -80,7 +80,7 @@ is_set_within cx xs ys i w h =
       | inr e ↦ or_right (list_any (nat_eq i) ys) (is_set_at_entry cx i) e
     ]
 
-reads_within : (cx : Context) (xs ys : List ℕ) (o : Option ℕ) → IsWithin xs ys → reads_set cx xs o ≡ true → reads_set cx ys o ≡ true
+reads_within : (cx : Context) (xs ys : List ℕ) (o : Option ℕ) → IsWithin xs ys → is_read_local_set cx xs o ≡ true → is_read_local_set cx ys o ≡ true
 reads_within cx xs ys None w h = refl
 reads_within cx xs ys (Some i) w h = is_set_within cx xs ys i w h
 
@@ -88,12 +88,12 @@ reads_within cx xs ys (Some i) w h = is_set_within cx xs ys i w h
 
 pub found_known : (n : ℕ) (f : Frame) (us : List ValType) → f.dead ≡ false → f.operands ≡ map Known us → operands_found n f ≡ map Known (types_on_top n us)
 found_known n f us live own =
-    ap (λ d. onto (operands_on_top n d f.operands) []) live
-    ∙ ap (λ l. onto (operands_on_top n false l) []) own
-    ∙ ap (λ l. onto l []) (on_top-known n us)
+    ap (λ d. stack_with (operands_on_top n d f.operands) []) live
+    ∙ ap (λ l. stack_with (operands_on_top n false l) []) own
+    ∙ ap (λ l. stack_with l []) (on_top-known n us)
     ∙ onto-known (take n us) []
 
-pub below_top_known : (n : ℕ) (f : Frame) (us : List ValType) → f.operands ≡ map Known us → operands_below n f ≡ map Known (drop n us)
+pub below_top_known : (n : ℕ) (f : Frame) (us : List ValType) → f.operands ≡ map Known us → operands_under n f ≡ map Known (drop n us)
 below_top_known n f us own = ap (drop n) own ∙ drop-known n us
 
 module _ (cx : Context) where
@@ -118,7 +118,7 @@ module _ (cx : Context) where
       let b = and_true (clauses_fit cx hs row.clauses) _ a.1 in
       let n = operands_wanted row.type in
       let fall = laws.monotone (types_on_top n us) (types_on_top n l.operands) pushed (top_below n l.operands us below) (ap (pushed_for cx row.type) (sym (found_known n f us live own)) ∙ g.1) in
-      let test : (row.premise && (clauses_fit cx hs row.clauses && reads_set cx mset row.reads)) ≡ true = true_and _ _ a.0 (true_and _ _ b.0 (reads_within cx set mset row.reads within b.1)) in
+      let test : (row.premise && (clauses_fit cx hs row.clauses && is_read_local_set cx mset row.reads)) ≡ true = true_and _ _ a.0 (true_and _ _ b.0 (reads_within cx set mset row.reads within b.1)) in
       record {
         premise = a.0;
         clauses = b.0;
@@ -163,7 +163,7 @@ module _ (cx : Context) where
 
   -- any operator: its row holds over the label read as a live frame
   pub holds_below : (row : Row) (hs : List Head) (set mset : List ℕ) (l : Label) (f : Frame) (us : List ValType) (form : Form) (pushed : List MaybeType) → IsLawful cx.of_module → IsLawfulRow cx hs row → l.head ≡ f.head → f.dead ≡ false → f.operands ≡ map Known us → AllBelow cx l.operands us → IsWithin set mset → pushed_by_form cx row hs set f form ≡ Some pushed → (ps : List ValType) × (pushed_by_form cx row hs mset (live_frame l) form ≡ Some (map Known ps))
-  holds_below row hs set mset l f us Flat pushed laws rl head live own below within p =
+  holds_below row hs set mset l f us Stays pushed laws rl head live own below within p =
       let a = passes row hs set mset l f us pushed rl live own below within p in
       (a.monotone.lower, a.holds)
   holds_below row hs set mset l f us (Opens o) pushed laws rl head live own below within p =

@@ -1,7 +1,7 @@
 -- Every operator of the table keeps what the law asks of operators.
 use Rattle.std.proofs.Common.{◌≡◌, ℕ, zero, suc, pred, Bool, true, false, List, [], ◌∷◌, ◌++◌, length, map, take, Option, Some, None, refl, sym, ap, ◌∙◌, subst, slice_get}
 use Rattle.std.specs.Option.{option_map}
-use Rattle.validate_resources.specs.Context.{IsLawful, is_number, is_same_number}
+use Rattle.validate_resources.specs.Context.{IsLawful, is_number_or_vector, is_same_number_or_vector}
 use Rattle.validate_types.specs.declared.types.GlobalType.{GlobalType}
 use Rattle.validate_visit.specs.Gates.{gate_of}
 use Rattle.validate_visit.specs.Numbers.{number_type, integer_type, packed_type, access_type}
@@ -29,7 +29,7 @@ use Rattle.validation_rules.specs.Indirect.{function_place, function_reference, 
 use Rattle.validation_rules.specs.References.{null_heap, null_test_pushes, non_null_pushes}
 use Rattle.validation_rules.specs.Tables.{table_type, table_init_row_for, table_copy_row_for}
 use Rattle.validation_rules.specs.Rows.{FrameKind, Block, If, Loop, Head, params, BeginsElse, Ends, Plain, Looks, Row, Operator, guard}
-use Rattle.validation_rules.specs.Operators.{plain_row, plain_row_if, checked_block, opening_operator, opener, flat_operator, row_operator, lookup_row, drop_pushes, select_pushes, control_operator, numeric_row, convert_row, memory_row, atomic_row, reference_row, table_row, ungated, operator, body}
+use Rattle.validation_rules.specs.Operators.{plain_row, plain_row_if, checked_block, opening_operator, opener, staying_operator, row_operator, lookup_row, drop_pushes, select_pushes, control_operator, numeric_row, convert_row, memory_row, atomic_row, reference_row, table_row, ungated_operator, operator, operators}
 use Rattle.validation_rules.proofs.Steps.{some_injective, guard_some}
 use Rattle.type_safety.proofs.Laws.{IsMonotoneAt, IsLawfulOperator}
 use Rattle.type_safety.proofs.Branches.{br_lawful, br_if_lawful, br_table_lawful, tail_call_lawful}
@@ -47,7 +47,7 @@ module _ (cx : Context) (laws : IsLawful cx.of_module) where
   drop_monotone (x ∷ []) (y ∷ z ∷ ys) pushed b h = elim b.1 [ ]
 
   -- the number or vector types on both sides
-  number_twice : (t u : ValType) → is_same_number t u ≡ true → (is_number t ≡ true) × (is_number u ≡ true)
+  number_twice : (t u : ValType) → is_same_number_or_vector t u ≡ true → (is_number_or_vector t ≡ true) × (is_number_or_vector u ≡ true)
   number_twice I32 I32 h = (refl, refl)
   number_twice I64 I64 h = (refl, refl)
   number_twice F32 F32 h = (refl, refl)
@@ -58,7 +58,7 @@ module _ (cx : Context) (laws : IsLawful cx.of_module) where
   select_monotone : (xs ys : List ValType) (pushed : List MaybeType) → AllBelow cx ys xs → select_pushes cx (map Known xs) ≡ Some pushed → IsMonotoneAt cx (Looks 3 (select_pushes cx)) xs ys pushed
   select_monotone (a ∷ b ∷ c ∷ []) (a' ∷ b' ∷ c' ∷ []) pushed below h =
       let g = guard_some (cx.of_module.below c I32) _ _ h in
-      let k = select_one (is_same_number a b) a pushed g.1 in
+      let k = select_one (is_same_number_or_vector a b) a pushed g.1 in
       let n = number_twice a b k.0 in
       let ea = laws.number a' a below.0 n.0 in
       let eb = laws.number b' b below.1.0 n.1 in
@@ -67,7 +67,7 @@ module _ (cx : Context) (laws : IsLawful cx.of_module) where
         upper = a ∷ [];
         lower = a ∷ [];
         known = sym k.1;
-        passes = ap (λ t. guard t (option_map (λ (x : MaybeType). x ∷ []) (guard (is_same_number a' b') (Some (Known a'))))) ec ∙ ap (λ t. option_map (λ (x : MaybeType). x ∷ []) (guard (is_same_number t b') (Some (Known t)))) ea ∙ ap (λ t. option_map (λ (x : MaybeType). x ∷ []) (guard (is_same_number a t) (Some (Known a)))) eb ∙ ap (λ t. option_map (λ (x : MaybeType). x ∷ []) (guard t (Some (Known a)))) k.0;
+        passes = ap (λ t. guard t (option_map (λ (x : MaybeType). x ∷ []) (guard (is_same_number_or_vector a' b') (Some (Known a'))))) ec ∙ ap (λ t. option_map (λ (x : MaybeType). x ∷ []) (guard (is_same_number_or_vector t b') (Some (Known t)))) ea ∙ ap (λ t. option_map (λ (x : MaybeType). x ∷ []) (guard (is_same_number_or_vector a t) (Some (Known a)))) eb ∙ ap (λ t. option_map (λ (x : MaybeType). x ∷ []) (guard t (Some (Known a)))) k.0;
         below = λ us e. e;
       }
     where
@@ -128,11 +128,11 @@ module _ (cx : Context) (laws : IsLawful cx.of_module) where
       by_lookup_lawful names (λ t. lookup_row (typed_callee cx i) (λ s. plain_row (s.params ++ t ∷ []) s.results))
       (λ t. by_lookup_lawful (typed_callee cx i) (λ s. plain_row (s.params ++ t ∷ []) s.results) (λ s. plain_lawful cx laws _ _ _ _ _ _))
 
-  return_call_lawful : (o : Option Signature) → IsLawfulOperator cx (flat_operator (λ hs. lookup_row o (λ s. tail_call_row cx hs s.params s.results)))
+  return_call_lawful : (o : Option Signature) → IsLawfulOperator cx (staying_operator (λ hs. lookup_row o (λ s. tail_call_row cx hs s.params s.results)))
   return_call_lawful o =
       flat_lawful cx laws _ (λ hs. found_lawful cx laws hs o (λ s. tail_call_row cx hs s.params s.results) (λ s. tail_call_lawful cx laws hs s.params s.results))
 
-  return_call_by_lawful : (names : Option ValType) (i : ℕ) → IsLawfulOperator cx (flat_operator (λ hs. return_call_operand_row cx hs names i))
+  return_call_by_lawful : (names : Option ValType) (i : ℕ) → IsLawfulOperator cx (staying_operator (λ hs. return_call_operand_row cx hs names i))
   return_call_by_lawful names i =
       flat_lawful cx laws _
       (λ hs. found_lawful cx laws hs names (λ t. lookup_row (typed_callee cx i) (λ s. tail_call_row cx hs (s.params ++ t ∷ []) s.results))
@@ -158,7 +158,7 @@ module _ (cx : Context) (laws : IsLawful cx.of_module) where
   control_lawful (ReturnCallRef type) = return_call_by_lawful (function_reference cx type) type
   control_lawful Drop = looking_lawful cx laws true 1 drop_pushes drop_monotone
   control_lawful Select = looking_lawful cx laws true 3 (select_pushes cx) select_monotone
-  control_lawful (TypedSelect t) = typed_lawful true (cx.of_module.canonical cx.features t) None None (λ u. u ∷ u ∷ I32 ∷ []) (λ u. u ∷ [])
+  control_lawful (TypedSelect t) = typed_lawful true (cx.of_module.canonical_type cx.features t) None None (λ u. u ∷ u ∷ I32 ∷ []) (λ u. u ∷ [])
   control_lawful (TypedSelectMulti ts) = plain_lawful cx laws _ _ _ _ _ _
   control_lawful (LocalGet i) = typed_lawful true (slice_get cx.locals i) (Some i) None (λ t. []) (λ t. t ∷ [])
   control_lawful (LocalSet i) = typed_lawful true (slice_get cx.locals i) None (Some i) (λ t. t ∷ []) (λ t. [])
@@ -202,7 +202,7 @@ module _ (cx : Context) (laws : IsLawful cx.of_module) where
   atomic_lawful (AtomicCmpxchg access_row arg) = access_lawful (atomic_address_types cx.of_module arg) (access_type access_row ∷ access_type access_row ∷ []) (access_type access_row ∷ [])
   atomic_lawful Pause = plain_lawful cx laws _ _ _ _ _ _
 
-  reference_lawful : (op : ReferenceOp) → IsLawfulOperator cx (flat_operator (λ hs. reference_row cx hs op))
+  reference_lawful : (op : ReferenceOp) → IsLawfulOperator cx (staying_operator (λ hs. reference_row cx hs op))
   reference_lawful (RefNull h) = by_lookup_lawful (null_heap cx h) _ (λ k. plain_lawful cx laws _ _ _ _ _ _)
   reference_lawful RefIsNull = looking_lawful cx laws _ 1 null_test_pushes (is_null_monotone cx laws)
   reference_lawful (RefFunc f) = by_lookup_lawful (cx.of_module.type_id_of f) _ (λ id. plain_lawful cx laws _ _ _ _ _ _)
@@ -220,7 +220,7 @@ module _ (cx : Context) (laws : IsLawful cx.of_module) where
   table_lawful (TableSize i) = by_lookup_lawful (table_type cx i) _ (λ t. plain_lawful cx laws _ _ _ _ _ _)
   table_lawful (TableFill i) = by_lookup_lawful (table_type cx i) _ (λ t. plain_lawful cx laws _ _ _ _ _ _)
 
-  ungated_lawful : (op : Op) → IsLawfulOperator cx (ungated cx op)
+  ungated_lawful : (op : Op) → IsLawfulOperator cx (ungated_operator cx op)
   ungated_lawful (Control op) = control_lawful op
   ungated_lawful (Numeric op) = numeric_lawful op
   ungated_lawful (Convert op) = convert_lawful op
@@ -230,9 +230,9 @@ module _ (cx : Context) (laws : IsLawful cx.of_module) where
   ungated_lawful (Table op) = table_lawful op
 
   pub operator_lawful : (op : Op) → IsLawfulOperator cx (operator cx op)
-  operator_lawful op = behind_lawful cx laws (gate_of op) (ungated cx op) (ungated_lawful op)
+  operator_lawful op = behind_lawful cx laws (gate_of op) (ungated_operator cx op) (ungated_lawful op)
 
-  pub body_lawful : (ops : List Op) (j : ℕ) (op : Operator) → slice_get (body cx ops) j ≡ Some op → IsLawfulOperator cx op
+  pub body_lawful : (ops : List Op) (j : ℕ) (op : Operator) → slice_get (operators cx ops) j ≡ Some op → IsLawfulOperator cx op
   body_lawful [] j op e = absurd cc
   body_lawful (x ∷ ops) zero op e = subst (IsLawfulOperator cx) (some_injective _ _ e) (operator_lawful x)
   body_lawful (x ∷ ops) (suc j) op e = body_lawful ops j op e

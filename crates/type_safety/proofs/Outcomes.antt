@@ -3,9 +3,9 @@ use Rattle.std.specs.Prelude.{◌≡◌, ℕ, suc, Bool, List, [], ◌∷◌, Op
 use Rattle.std.proofs.Common.{sym, ap, ◌∙◌}
 use Rattle.validation_rules.specs.Context.{ValType, Context, AllBelow}
 use Rattle.validation_rules.specs.Fits.{MaybeType, Known}
-use Rattle.validation_rules.specs.Rows.{Head, params, results, is_if, is_try, is_try_table, Else, Flat, Opens, BeginsElse, BeginsCatch, Target, Clause, Operator, catch_kind}
+use Rattle.validation_rules.specs.Rows.{Head, params, results, is_if, is_try, is_try_table, Else, Stays, Opens, BeginsElse, BeginsCatch, Target, Clause, Operator, catch_kind}
 use Rattle.validation_rules.specs.Static.{of_kind}
-use Rattle.type_safety.specs.Machine.{Label, opened_label, label_with, Machine, At, Configuration, labels_at, row_in, row_at, operands_taken, label_below, pushed_types_at, is_closer, is_separator, IsDelimiter, IsCloser, HasNoElse, set_after, machine_after_exit, Branches, Outcome}
+use Rattle.type_safety.specs.Machine.{Label, opened_label, label_with, Machine, At, Configuration, labels_at, row_in, row_at, operands_taken, label_under, pushed_types_at, is_closing, is_separator, IsDelimiter, IsCloser, HasNoElse, set_after, machine_after_exit, Branches, Outcome}
 use Rattle.type_safety.specs.Machine.Outcome.{goes_on, enters, enters_else, skips_if, jumps, closes, ends_part, catches, catches_legacy}
 
 abbrev pub known_in : List MaybeType → List ValType
@@ -16,25 +16,25 @@ known_in _ = []
 pub holding : {o : Option (List MaybeType)} (pushed : List MaybeType) → o ≡ Some pushed → map Known (known_in pushed) ≡ pushed → (types : List ValType) × (o ≡ Some (map Known types))
 holding pushed e known = (known_in pushed, e ∙ ap Some (sym known))
 
-pub by_going_on : {cx : Context} {code : List Operator} {here : Configuration} {next : Machine} (pushed types : List ValType) → here.op.form ≡ Flat → IsFalse (row_at here).ends_live → pushed_types_at cx here ≡ Some (map Known pushed) → AllBelow cx types pushed → next ≡ At (suc here.place) (label_with types (label_below here) ∷ here.outer) (set_after (row_at here).sets here.set) → Outcome cx code here next
-by_going_on pushed types flat live p below is =
-    goes_on (record { flat = flat; live = live; pushed = pushed; pushes = p; types = types; below = below; is = is })
+pub by_going_on : {cx : Context} {code : List Operator} {here : Configuration} {next : Machine} (pushed types : List ValType) → here.op.form ≡ Stays → IsFalse (row_at here).ends_live → pushed_types_at cx here ≡ Some (map Known pushed) → AllBelow cx types pushed → next ≡ At (suc here.place) (label_with types (label_under here) ∷ here.outer) (set_after (row_at here).sets here.set) → Outcome cx code here next
+by_going_on pushed types stays live p below is =
+    goes_on (record { stays = stays; live = live; pushed = pushed; pushes = p; types = types; below = below; is = is })
 
-pub by_entering : {cx : Context} {code : List Operator} {here : Configuration} {next : Machine} (head : Head) (types : List ValType) → here.op.form ≡ Opens head → AllBelow cx types (params cx head) → next ≡ At (suc here.place) (opened_label here.place head types ∷ label_below here ∷ here.outer) here.set → Outcome cx code here next
+pub by_entering : {cx : Context} {code : List Operator} {here : Configuration} {next : Machine} (head : Head) (types : List ValType) → here.op.form ≡ Opens head → AllBelow cx types (params cx head) → next ≡ At (suc here.place) (opened_label here.place head types ∷ label_under here ∷ here.outer) here.set → Outcome cx code here next
 by_entering head types opens below is = enters (record { head = head; opens = opens; types = types; below = below; is = is })
 
-pub by_entering_else : {cx : Context} {code : List Operator} {here : Configuration} {next : Machine} (head : Head) (c : ℕ) (types : List ValType) → here.op.form ≡ Opens head → IsTrue (is_if head.kind) → IsDelimiter code here.place c BeginsElse → AllBelow cx types (params cx head) → next ≡ At (suc c) (opened_label c (of_kind Else head) types ∷ label_below here ∷ here.outer) here.set → Outcome cx code here next
+pub by_entering_else : {cx : Context} {code : List Operator} {here : Configuration} {next : Machine} (head : Head) (c : ℕ) (types : List ValType) → here.op.form ≡ Opens head → IsTrue (is_if head.kind) → IsDelimiter code here.place c BeginsElse → AllBelow cx types (params cx head) → next ≡ At (suc c) (opened_label c (of_kind Else head) types ∷ label_under here ∷ here.outer) here.set → Outcome cx code here next
 by_entering_else head c types opens kind d below is =
     enters_else (record { head = head; opens = opens; kind_is_if = kind; place = c; is_its_else = d; types = types; below = below; is = is })
 
-pub by_skipping : {cx : Context} {code : List Operator} {here : Configuration} {next : Machine} (head : Head) (c : ℕ) (types : List ValType) → here.op.form ≡ Opens head → IsTrue (is_if head.kind) → HasNoElse code here.place → IsCloser code here.place c → AllBelow cx types (results cx head) → next ≡ At (suc c) (label_with types (label_below here) ∷ here.outer) here.set → Outcome cx code here next
+pub by_skipping : {cx : Context} {code : List Operator} {here : Configuration} {next : Machine} (head : Head) (c : ℕ) (types : List ValType) → here.op.form ≡ Opens head → IsTrue (is_if head.kind) → HasNoElse code here.place → IsCloser code here.place c → AllBelow cx types (results cx head) → next ≡ At (suc c) (label_with types (label_under here) ∷ here.outer) here.set → Outcome cx code here next
 by_skipping head c types opens kind none d below is =
     skips_if (record { head = head; opens = opens; kind_is_if = kind; no_else = none; closer = c; is_its_closer = d; types = types; below = below; is = is })
 
-pub by_jumping : {cx : Context} {code : List Operator} {here : Configuration} {next : Machine} (j : ℕ) (t : Target) → here.op.form ≡ Flat → slice_get (row_at here).targets j ≡ Some t → Branches cx code (drop t.depth (labels_at here)) here.set (t.carried (operands_taken here)) next → Outcome cx code here next
-by_jumping j t flat is b = jumps (record { flat = flat; index = j; target = t; is_its_target = is; branches = b })
+pub by_jumping : {cx : Context} {code : List Operator} {here : Configuration} {next : Machine} (j : ℕ) (t : Target) → here.op.form ≡ Stays → slice_get (row_at here).targets j ≡ Some t → Branches cx code (drop t.depth (labels_at here)) here.set (t.carried (operands_taken here)) next → Outcome cx code here next
+by_jumping j t stays is b = jumps (record { stays = stays; index = j; target = t; is_its_target = is; branches = b })
 
-pub by_closing : {cx : Context} {code : List Operator} {here : Configuration} {next : Machine} (types : List ValType) → IsTrue (is_closer here.op.form) → AllBelow cx types (results cx here.label.head) → next ≡ machine_after_exit (suc here.place) types here.outer here.set → Outcome cx code here next
+pub by_closing : {cx : Context} {code : List Operator} {here : Configuration} {next : Machine} (types : List ValType) → IsTrue (is_closing here.op.form) → AllBelow cx types (results cx here.label.head) → next ≡ machine_after_exit (suc here.place) types here.outer here.set → Outcome cx code here next
 by_closing types c below is = closes (record { closes = c; types = types; below = below; is = is })
 
 pub by_ending_part : {cx : Context} {code : List Operator} {here : Configuration} {next : Machine} (c : ℕ) (types : List ValType) → IsTrue (is_separator here.op.form) → IsCloser code here.label.began c → AllBelow cx types (results cx here.label.head) → next ≡ machine_after_exit (suc c) types here.outer here.set → Outcome cx code here next

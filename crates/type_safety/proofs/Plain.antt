@@ -6,7 +6,7 @@ use Rattle.validate_types.specs.declared.gate.Gate.{Gate}
 use Rattle.validation_rules.specs.Context.{ValType, Context, AllBelow}
 use Rattle.validation_rules.specs.Fits.{MaybeType, Known, all_fit}
 use Rattle.validation_rules.specs.Rows.{Head, Form, Plain, Looks, Target, Row, Operator, guard, all_fit_each, pushed_for, is_instruction}
-use Rattle.validation_rules.specs.Operators.{lookup_row, looking_row_if, flat_operator, row_operator, delimiter_operator, gated_operator}
+use Rattle.validation_rules.specs.Operators.{lookup_row, looking_row_if, staying_operator, row_operator, delimiter_operator, gated_operator}
 use Rattle.validation_rules.proofs.Below.{and_true, true_and, below-trans, below_of_fit, fit_of_below}
 use Rattle.validation_rules.proofs.Steps.{some_injective, guard_some}
 use Rattle.type_safety.proofs.Laws.{IsMonotoneAt, IsLawfulRow, IsLawfulOperator}
@@ -56,7 +56,7 @@ module _ (cx : Context) (laws : IsLawful cx.of_module) where
   found_lawful hs (Some x) row h = h x
 
   -- an operator that neither opens nor closes a frame
-  pub flat_lawful : (row : List Head → Row) → ((hs : List Head) → IsLawfulRow cx hs (row hs)) → IsLawfulOperator cx (flat_operator row)
+  pub flat_lawful : (row : List Head → Row) → ((hs : List Head) → IsLawfulRow cx hs (row hs)) → IsLawfulOperator cx (staying_operator row)
   flat_lawful row h =
       record {
         row = h;

@@ -3,7 +3,7 @@
 use Rattle.std.proofs.Common.{◌≡◌, ℕ, suc, List, [], ◌∷◌, ◌++◌, length, map, take, Option, Some, None, drop, refl, sym, ap, ◌∙◌, subst}
 use Rattle.std.specs.Option.{option_map}
 use Rattle.validate_resources.specs.Context.{IsLawful}
-use Rattle.validate_types.specs.Refs.{non_null, with_null}
+use Rattle.validate_types.specs.Refs.{without_null, with_null}
 use Rattle.validate_types.specs.declared.refs.RefType.{RefType}
 use Rattle.validation_rules.specs.Branches.{label_types_at, target}
 use Rattle.validation_rules.specs.Context.{ValType, I32, Ref, Context, IsBelow, AllBelow}
@@ -45,11 +45,11 @@ module _ (cx : Context) (laws : IsLawful cx.of_module) where
       let l = laws.below_reference y r b.0 in
       let k = laws.non_null_keeps l.lower r (subst (λ t. IsBelow cx t (Ref r)) l.is b.0) in
       record {
-        upper = Ref (non_null r) ∷ [];
-        lower = Ref (non_null l.lower) ∷ [];
+        upper = Ref (without_null r) ∷ [];
+        lower = Ref (without_null l.lower) ∷ [];
         known = some_injective _ _ (sym h);
         passes = ap (λ t. non_null_pushes cx [] (Known t ∷ [])) l.is;
-        below = λ us e. below-trans cx laws us (Ref (non_null l.lower) ∷ []) (Ref (non_null r) ∷ []) e (k, tt);
+        below = λ us e. below-trans cx laws us (Ref (without_null l.lower) ∷ []) (Ref (without_null r) ∷ []) e (k, tt);
       }
   non_null_monotone n [] (Ref r ∷ []) [] pushed b h = elim b [ ]
   non_null_monotone n [] (Ref r ∷ []) (y ∷ z ∷ ys) pushed b h = elim b.1 [ ]

@@ -4,9 +4,9 @@ use Rattle.std.specs.Bool.{MatchBool}
 use Rattle.validate_resources.specs.Context.{IsLawful}
 use Rattle.validation_rules.specs.Context.{ValType, BlockType, Context, AllBelow}
 use Rattle.validation_rules.specs.Fits.{MaybeType, Known}
-use Rattle.validation_rules.specs.Rows.{params, results, body_head, Else, Head, is_loop, is_if, is_try, is_try_table, Form, Flat, Opens, BeginsElse, BeginsCatch, Ends, Delegates, Target, Clause, Row, Operator, catch_kind, operands_wanted, is_instruction, label_types}
-use Rattle.validation_rules.specs.Static.{Frame, onto, heads, locals_set, operands_below, pushed_types, pushed_by_form, pushed_by_row, clauses_fit, operands_after, frame_after, frame_below, of_kind, opened_frame, frame_with, open_state, start, before, IsAccepted}
-use Rattle.type_safety.specs.Machine.{Label, Machine, At, Returned, Trapped, LeftByException, LeftBySuspension, Delimiter, delimiter, delimiters, IsDelimiter, IsCloser, is_closer, HasNoElse, configuration, label_heads, live_frame, types_on_top, LabelAccepts, Demand, IsNotStuck, set_after, machine_after_exit, restart, Exits, Arrives, Branches, Outcome, Step, Run, initial_machine}
+use Rattle.validation_rules.specs.Rows.{params, results, body_head, Else, Head, is_loop, is_if, is_try, is_try_table, Form, Stays, Opens, BeginsElse, BeginsCatch, Ends, Delegates, Target, Clause, Row, Operator, catch_kind, operands_wanted, is_instruction, label_types}
+use Rattle.validation_rules.specs.Static.{Frame, stack_with, heads, locals_set, operands_under, pushed_types, pushed_by_form, pushed_by_row, clauses_fit, operands_after, frame_after, frame_under, of_kind, opened_frame, frame_with, open_state, start, state_before, IsAccepted}
+use Rattle.type_safety.specs.Machine.{Label, Machine, At, Returned, Trapped, LeftByException, LeftBySuspension, Delimiter, delimiter, delimiters, IsDelimiter, IsCloser, is_closing, HasNoElse, configuration, label_heads, live_frame, types_on_top, LabelAccepts, Demand, IsNotStuck, set_after, machine_after_exit, restart, Exits, Arrives, Branches, Outcome, Step, Run, initial_machine}
 use Rattle.type_safety.specs.Machine.Outcome.{goes_on, enters, enters_else, skips_if, jumps, closes, ends_part, catches, catches_legacy, traps, raises, suspends}
 use Rattle.type_safety.specs.Theorem.{OperandsBelow, LabelsBelow, IsAsValidated}
 use Rattle.type_safety.proofs.Laws.{HeadAccepts, IsLawfulOperator, TypeSafety}
@@ -17,8 +17,8 @@ use Rattle.type_safety.proofs.Operands as operands
 use Rattle.type_safety.proofs.Operands.{IsWithin, within_right, set_within, below_top_known, rest_below}
 
 -- operands just put on an empty label, below those of the frame
-own_opened : (cx : Context) (us types : List ValType) → AllBelow cx us types → OperandsBelow cx (onto us []) (onto (map Known types) [])
-own_opened cx us types below = (onto types [], onto-known types [], below-onto cx us types [] [] below tt)
+own_opened : (cx : Context) (us types : List ValType) → AllBelow cx us types → OperandsBelow cx (stack_with us []) (stack_with (map Known types) [])
+own_opened cx us types below = (stack_with types [], onto-known types [], below-onto cx us types [] [] below tt)
 
 -- ---- what a label still has before it
 
@@ -26,7 +26,7 @@ module _ (cx : Context) (code : List Operator) (ty : BlockType) where
   -- of a frame with the head h that began at place b, inside the frames fs
   record Exit (b : ℕ) (h : Head) (fs : List Frame) : Type 0 where
     delimiters_follow : (j : ℕ) (m : Delimiter) → slice_get (delimiters code b) j ≡ Some m → AfterDelimiter cx code (start ty) h fs m
-    again : is_loop h.kind ≡ true → before cx code (start ty) (suc b) ≡ Some (open_state (opened_frame h (params cx h) ∷ fs))
+    again : is_loop h.kind ≡ true → state_before cx code (start ty) (suc b) ≡ Some (open_state (opened_frame h (params cx h) ∷ fs))
     clauses : is_try_table h.kind ≡ true → (opener : Operator) → slice_get code b ≡ Some opener → (j : ℕ) (c : Clause) → slice_get (opener.row (heads fs)).clauses j ≡ Some c → HeadAccepts cx (drop c.depth (heads fs)) c.types
 
   -- the outermost frame has the body's results
@@ -49,7 +49,7 @@ module _ (cx : Context) (code : List Operator) (ty : BlockType) where
   record Standing (k : ℕ) (l : Label) (ls : List Label) (set : List ℕ) : Type 0 where
     f : Frame
     fs : List Frame
-    at : before cx code (start ty) k ≡ Some (open_state (f ∷ fs))
+    at : state_before cx code (start ty) k ≡ Some (open_state (f ∷ fs))
     agree : Agree l f fs
     stack : Stack ls fs
     within : IsWithin (locals_set (f ∷ fs)) set
@@ -88,16 +88,16 @@ module _ (cx : Context) (code : List Operator) (ty : BlockType) where
   reaches_of_heads (suc n) (l ∷ ls) types h = reaches_of_heads n ls types h
 
   -- what follows a closer
-  pub after_closer : (h : Head) (fs : List Frame) (c : ℕ) (form : Form) → is_closer form ≡ true → AfterDelimiterOf cx code (start ty) h fs c form → before cx code (start ty) (suc c) ≡ Some (given (results cx h) fs)
+  pub after_closer : (h : Head) (fs : List Frame) (c : ℕ) (form : Form) → is_closing form ≡ true → AfterDelimiterOf cx code (start ty) h fs c form → state_before cx code (start ty) (suc c) ≡ Some (given (results cx h) fs)
   after_closer h fs c Ends i a = a
   after_closer h fs c Delegates i a = a
   after_closer h fs c _ i a = absurd cc
 
-  closer_follows : (b c : ℕ) (h : Head) (fs : List Frame) → Exit b h fs → IsCloser code b c → before cx code (start ty) (suc c) ≡ Some (given (results cx h) fs)
+  closer_follows : (b c : ℕ) (h : Head) (fs : List Frame) → Exit b h fs → IsCloser code b c → state_before cx code (start ty) (suc c) ≡ Some (given (results cx h) fs)
   closer_follows b c h fs x k = after_closer h fs c k.0 k.2 (x.delimiters_follow k.1.0 (delimiter c k.0) k.1.1)
 
   -- results given to the next outer label
-  gives_out : (k : ℕ) (h : Head) (us : List ValType) (o : Label) (outer : List Label) (g : Frame) (gs : List Frame) (set : List ℕ) → before cx code (start ty) k ≡ Some (given (results cx h) (g ∷ gs)) → AllBelow cx us (results cx h) → Stack (o ∷ outer) (g ∷ gs) → IsWithin (locals_set (g ∷ gs)) set → Standing k (record o { operands = onto us o.operands }) outer set
+  gives_out : (k : ℕ) (h : Head) (us : List ValType) (o : Label) (outer : List Label) (g : Frame) (gs : List Frame) (set : List ℕ) → state_before cx code (start ty) k ≡ Some (given (results cx h) (g ∷ gs)) → AllBelow cx us (results cx h) → Stack (o ∷ outer) (g ∷ gs) → IsWithin (locals_set (g ∷ gs)) set → Standing k (record o { operands = stack_with us o.operands }) outer set
   gives_out k h us o outer g gs set b below s w =
       let a = s.0 in
       record {
@@ -107,7 +107,7 @@ module _ (cx : Context) (code : List Operator) (ty : BlockType) where
         agree = record {
           head = a.head;
           live = a.live;
-          operands = (onto (results cx h) a.operands.0, ap (onto (map Known (results cx h))) a.operands.1 ∙ onto-known (results cx h) a.operands.0, below-onto cx us (results cx h) o.operands a.operands.0 below a.operands.2);
+          operands = (stack_with (results cx h) a.operands.0, ap (stack_with (map Known (results cx h))) a.operands.1 ∙ onto-known (results cx h) a.operands.0, below-onto cx us (results cx h) o.operands a.operands.0 below a.operands.2);
           outside = a.outside;
         };
         stack = s.1;
@@ -145,13 +145,13 @@ module _ (cx : Context) (code : List Operator) (ty : BlockType) where
       let r' : AllBelow cx carried (label_types cx b.label.head) = subst (λ ls. LabelAccepts cx ls carried) b.is r in
       branch_to b.label b.outer b.types fs set next s' w (below-trans cx laws b.types carried (label_types cx b.label.head) b.below r') b.arrives
 
-after_closing : (cx : Context) (r : Row) (set : List ℕ) (f : Frame) (fs : List Frame) (form : Form) (pushed : List MaybeType) → is_closer form ≡ true → after cx r set f fs form pushed ≡ given (results cx f.head) fs
+after_closing : (cx : Context) (r : Row) (set : List ℕ) (f : Frame) (fs : List Frame) (form : Form) (pushed : List MaybeType) → is_closing form ≡ true → after cx r set f fs form pushed ≡ given (results cx f.head) fs
 after_closing cx r set f fs Ends pushed i = refl
 after_closing cx r set f fs Delegates pushed i = refl
 after_closing cx r set f fs _ pushed i = absurd cc
 
 by_row : (cx : Context) (r : Row) (hs : List Head) (set : List ℕ) (f : Frame) (form : Form) (o : Option (List MaybeType)) → is_instruction form ≡ true → pushed_by_form cx r hs set f form ≡ o → pushed_by_row cx r hs set f ≡ o
-by_row cx r hs set f Flat o i p = p
+by_row cx r hs set f Stays o i p = p
 by_row cx r hs set f (Opens h) o i p = p
 by_row cx r hs set f _ o i p = absurd cc
 
@@ -179,7 +179,7 @@ module _ (cx : Context) (laws : IsLawful cx.of_module) (code : List Operator) (t
     same : label_heads (l ∷ ls) ≡ heads (s.f ∷ s.fs)
     pushed : List MaybeType
     holds : pushed_by_form cx (op.row (label_heads (l ∷ ls))) (label_heads (l ∷ ls)) (locals_set (s.f ∷ s.fs)) s.f op.form ≡ Some pushed
-    next : before cx code (start ty) (suc k) ≡ Some (after cx (op.row (label_heads (l ∷ ls))) (locals_set (s.f ∷ s.fs)) s.f s.fs op.form pushed)
+    next : state_before cx code (start ty) (suc k) ≡ Some (after cx (op.row (label_heads (l ∷ ls))) (locals_set (s.f ∷ s.fs)) s.f s.fs op.form pushed)
 
   place_of : (k : ℕ) (l : Label) (ls : List Label) (set : List ℕ) → Standing cx code ty k l ls set → (op : Operator) × Place k l ls set op
   place_of k l ls set s =
@@ -194,7 +194,7 @@ module _ (cx : Context) (laws : IsLawful cx.of_module) (code : List Operator) (t
           same = same;
           pushed = a.pushed;
           holds = subst (λ hs. pushed_by_form cx (o.0.row hs) hs st s.f o.0.form ≡ Some a.pushed) (sym same) a.holds;
-          next = subst (λ hs. before cx code (start ty) (suc k) ≡ Some (after cx (o.0.row hs) st s.f s.fs o.0.form a.pushed)) (sym same) a.next;
+          next = subst (λ hs. state_before cx code (start ty) (suc k) ≡ Some (after cx (o.0.row hs) st s.f s.fs o.0.form a.pushed)) (sym same) a.next;
         },
       )
 
@@ -223,13 +223,13 @@ module _ (cx : Context) (laws : IsLawful cx.of_module) (code : List Operator) (t
         absurd cc
 
     -- the state in a frame that the operator opens
-    inside : (h : Head) → op.form ≡ Opens h → before cx code (start ty) (suc k) ≡ Some (open_state (opened_frame h (params cx h) ∷ frame_below (op.row (label_heads (l ∷ ls))) p.s.f ∷ p.s.fs))
+    inside : (h : Head) → op.form ≡ Opens h → state_before cx code (start ty) (suc k) ≡ Some (open_state (opened_frame h (params cx h) ∷ frame_under (op.row (label_heads (l ∷ ls))) p.s.f ∷ p.s.fs))
     inside h e = p.next ∙ ap (λ x. Some (after cx (op.row (label_heads (l ∷ ls))) (locals_set (p.s.f ∷ p.s.fs)) p.s.f p.s.fs x p.pushed)) e
 
     balances : (h : Head) → op.form ≡ Opens h → is_if h.kind ≡ true → HasNoElse code k → AllBelow cx (take (length (params cx h)) (types_on_top (operands_wanted (op.row (label_heads (l ∷ ls))).type) l.operands)) (results cx h)
     balances h e i w =
         let a = passes_here (ap is_instruction e) in
-        let fit = below_of_fit cx (params cx h) (results cx h) (if_balanced cx code (start ty) accepted k h (params cx h) (frame_below (op.row (label_heads (l ∷ ls))) p.s.f ∷ p.s.fs) i (inside h e) w) in
+        let fit = below_of_fit cx (params cx h) (results cx h) (if_balanced cx code (start ty) accepted k h (params cx h) (frame_under (op.row (label_heads (l ∷ ls))) p.s.f ∷ p.s.fs) i (inside h e) w) in
         below-trans cx laws _ (params cx h) (results cx h) ((lawful k op p.is).takes_params (label_heads (l ∷ ls)) h _ _ e i a.monotone.passes) fit
 
     demand : Demand cx code (configuration k l ls set op)
@@ -241,7 +241,7 @@ module _ (cx : Context) (laws : IsLawful cx.of_module) (code : List Operator) (t
     }
 
     -- ---- each outcome
-    agree_popped : Agree cx code ty (record l { operands = drop (operands_wanted (op.row (label_heads (l ∷ ls))).type) l.operands }) (frame_below (op.row (label_heads (l ∷ ls))) p.s.f) p.s.fs
+    agree_popped : Agree cx code ty (record l { operands = drop (operands_wanted (op.row (label_heads (l ∷ ls))).type) l.operands }) (frame_under (op.row (label_heads (l ∷ ls))) p.s.f) p.s.fs
     agree_popped =
         let a = p.s.agree in
         let n = operands_wanted (op.row (label_heads (l ∷ ls))).type in
@@ -252,7 +252,7 @@ module _ (cx : Context) (laws : IsLawful cx.of_module) (code : List Operator) (t
           outside = a.outside;
         }
 
-    keeps_going : (lower us : List ValType) → op.form ≡ Flat → (op.row (label_heads (l ∷ ls))).ends_live ≡ false → pushed_types cx op (label_heads (l ∷ ls)) set (live_frame l) ≡ Some (map Known lower) → AllBelow cx us lower → Standing cx code ty (suc k) (record l { operands = onto us (drop (operands_wanted (op.row (label_heads (l ∷ ls))).type) l.operands) }) ls (set_after (op.row (label_heads (l ∷ ls))).sets set)
+    keeps_going : (lower us : List ValType) → op.form ≡ Stays → (op.row (label_heads (l ∷ ls))).ends_live ≡ false → pushed_types cx op (label_heads (l ∷ ls)) set (live_frame l) ≡ Some (map Known lower) → AllBelow cx us lower → Standing cx code ty (suc k) (record l { operands = stack_with us (drop (operands_wanted (op.row (label_heads (l ∷ ls))).type) l.operands) }) ls (set_after (op.row (label_heads (l ∷ ls))).sets set)
     keeps_going lower us e live h below =
         let r = op.row (label_heads (l ∷ ls)) in
         let st = locals_set (p.s.f ∷ p.s.fs) in
@@ -270,8 +270,8 @@ module _ (cx : Context) (laws : IsLawful cx.of_module) (code : List Operator) (t
             head = i.head;
             live = ap (λ b. b || r.ends_live) i.live ∙ live;
             operands = (
-              onto a.monotone.upper i.operands.0,
-              ap (λ b. operands_after b (operands_below n p.s.f) p.pushed) live ∙ ap (onto p.pushed) i.operands.1 ∙ ap (λ x. onto x (map Known i.operands.0)) a.monotone.known ∙ onto-known a.monotone.upper i.operands.0,
+              stack_with a.monotone.upper i.operands.0,
+              ap (λ b. operands_after b (operands_under n p.s.f) p.pushed) live ∙ ap (stack_with p.pushed) i.operands.1 ∙ ap (λ x. stack_with x (map Known i.operands.0)) a.monotone.known ∙ onto-known a.monotone.upper i.operands.0,
               below-onto cx us a.monotone.upper (drop n l.operands) i.operands.0 upper i.operands.2,
             );
             outside = i.outside;
@@ -280,9 +280,9 @@ module _ (cx : Context) (laws : IsLawful cx.of_module) (code : List Operator) (t
           within = set_within cx st r.sets p.s.f.first_set (locals_set p.s.fs) set p.s.within;
         }
 
-    exit_opened : (h : Head) → op.form ≡ Opens h → Exit cx code ty k h (frame_below (op.row (label_heads (l ∷ ls))) p.s.f ∷ p.s.fs)
+    exit_opened : (h : Head) → op.form ≡ Opens h → Exit cx code ty k h (frame_under (op.row (label_heads (l ∷ ls))) p.s.f ∷ p.s.fs)
     exit_opened h e =
-        let fs' = frame_below (op.row (label_heads (l ∷ ls))) p.s.f ∷ p.s.fs in
+        let fs' = frame_under (op.row (label_heads (l ∷ ls))) p.s.f ∷ p.s.fs in
         let fit = subst (λ hs. clauses_fit cx hs (op.row hs).clauses ≡ true) p.same (passes_here (ap is_instruction e)).clauses in
         record {
           delimiters_follow = after_delimiter cx code (start ty) accepted k h (params cx h) fs' (inside h e);
@@ -292,20 +292,20 @@ module _ (cx : Context) (laws : IsLawful cx.of_module) (code : List Operator) (t
               operands.each_clause cx (heads fs') (opener.row (heads fs')).clauses (subst (λ (o : Operator). clauses_fit cx (heads fs') (o.row (heads fs')).clauses ≡ true) d fit) j c g;
         }
 
-    keeps_entering : (h : Head) (us : List ValType) → op.form ≡ Opens h → AllBelow cx us (params cx h) → Standing cx code ty (suc k) (record { began = k; head = h; operands = onto us [] }) (record l { operands = drop (operands_wanted (op.row (label_heads (l ∷ ls))).type) l.operands } ∷ ls) set
+    keeps_entering : (h : Head) (us : List ValType) → op.form ≡ Opens h → AllBelow cx us (params cx h) → Standing cx code ty (suc k) (record { began = k; head = h; operands = stack_with us [] }) (record l { operands = drop (operands_wanted (op.row (label_heads (l ∷ ls))).type) l.operands } ∷ ls) set
     keeps_entering h us e below =
         record {
           f = opened_frame h (params cx h);
-          fs = frame_below (op.row (label_heads (l ∷ ls))) p.s.f ∷ p.s.fs;
+          fs = frame_under (op.row (label_heads (l ∷ ls))) p.s.f ∷ p.s.fs;
           at = inside h e;
           agree = record { head = refl; live = refl; operands = own_opened cx us (params cx h) below; outside = exit_opened h e };
           stack = (agree_popped, p.s.stack);
           within = p.s.within;
         }
 
-    keeps_entering_else : (h : Head) (c : ℕ) (us : List ValType) → op.form ≡ Opens h → IsDelimiter code k c BeginsElse → AllBelow cx us (params cx h) → Standing cx code ty (suc c) (record { began = c; head = of_kind Else h; operands = onto us [] }) (record l { operands = drop (operands_wanted (op.row (label_heads (l ∷ ls))).type) l.operands } ∷ ls) set
+    keeps_entering_else : (h : Head) (c : ℕ) (us : List ValType) → op.form ≡ Opens h → IsDelimiter code k c BeginsElse → AllBelow cx us (params cx h) → Standing cx code ty (suc c) (record { began = c; head = of_kind Else h; operands = stack_with us [] }) (record l { operands = drop (operands_wanted (op.row (label_heads (l ∷ ls))).type) l.operands } ∷ ls) set
     keeps_entering_else h c us e m below =
-        let fs' = frame_below (op.row (label_heads (l ∷ ls))) p.s.f ∷ p.s.fs in
+        let fs' = frame_under (op.row (label_heads (l ∷ ls))) p.s.f ∷ p.s.fs in
         let b = (exit_opened h e).delimiters_follow m.0 (delimiter c BeginsElse) m.1 in
         record {
           f = opened_frame (of_kind Else h) (params cx h);
@@ -325,11 +325,11 @@ module _ (cx : Context) (laws : IsLawful cx.of_module) (code : List Operator) (t
           within = p.s.within;
         }
 
-    keeps_skipping : (h : Head) (c : ℕ) (us : List ValType) → op.form ≡ Opens h → IsCloser code k c → AllBelow cx us (results cx h) → Standing cx code ty (suc c) (record l { operands = onto us (drop (operands_wanted (op.row (label_heads (l ∷ ls))).type) l.operands) }) ls set
+    keeps_skipping : (h : Head) (c : ℕ) (us : List ValType) → op.form ≡ Opens h → IsCloser code k c → AllBelow cx us (results cx h) → Standing cx code ty (suc c) (record l { operands = stack_with us (drop (operands_wanted (op.row (label_heads (l ∷ ls))).type) l.operands) }) ls set
     keeps_skipping h c us e m below =
         let r = op.row (label_heads (l ∷ ls)) in
-        gives_out cx code ty (suc c) h us (record l { operands = drop (operands_wanted r.type) l.operands }) ls (frame_below r p.s.f) p.s.fs set
-        (closer_follows cx code ty k c h (frame_below r p.s.f ∷ p.s.fs) (exit_opened h e) m) below (agree_popped, p.s.stack) p.s.within
+        gives_out cx code ty (suc c) h us (record l { operands = drop (operands_wanted r.type) l.operands }) ls (frame_under r p.s.f) p.s.fs set
+        (closer_follows cx code ty k c h (frame_under r p.s.f ∷ p.s.fs) (exit_opened h e) m) below (agree_popped, p.s.stack) p.s.within
 
     keeps_jumping : (j : ℕ) (t : Target) (next : Machine) → slice_get (op.row (label_heads (l ∷ ls))).targets j ≡ Some t → Branches cx code (drop t.depth (l ∷ ls)) set (t.carried (types_on_top (operands_wanted (op.row (label_heads (l ∷ ls))).type) l.operands)) next → Keeps cx code ty next
     keeps_jumping j t next e b =
@@ -341,7 +341,7 @@ module _ (cx : Context) (laws : IsLawful cx.of_module) (code : List Operator) (t
     -- what follows the place k, where a frame that isn't the outermost one is closed
     abbrev AfterInner : ℕ → Head → List Frame → Type 0
     AfterInner c h [] = Unit {0}
-    AfterInner c h (g ∷ gs) = before cx code (start ty) c ≡ Some (given (results cx h) (g ∷ gs))
+    AfterInner c h (g ∷ gs) = state_before cx code (start ty) c ≡ Some (given (results cx h) (g ∷ gs))
 
     closes_to : (c b : ℕ) (h : Head) (us : List ValType) (outer : List Label) (fs : List Frame) → Outside cx code ty b h fs → AfterInner c h fs → AllBelow cx us (results cx h) → Stack cx code ty outer fs → IsWithin (locals_set fs) set → Keeps cx code ty (machine_after_exit c us outer set)
     closes_to c b h us [] [] x a below s w = subst (λ (k : Head). AllBelow cx us (results cx k)) x below
@@ -349,7 +349,7 @@ module _ (cx : Context) (laws : IsLawful cx.of_module) (code : List Operator) (t
     closes_to c b h us [] (g ∷ gs) x a below s w = elim s [ ]
     closes_to c b h us (o ∷ outer) [] x a below s w = elim s [ ]
 
-    after_inner : (c : ℕ) (h : Head) (fs : List Frame) → before cx code (start ty) c ≡ Some (given (results cx h) fs) → AfterInner c h fs
+    after_inner : (c : ℕ) (h : Head) (fs : List Frame) → state_before cx code (start ty) c ≡ Some (given (results cx h) fs) → AfterInner c h fs
     after_inner c h [] a = tt
     after_inner c h (g ∷ gs) a = a
 
@@ -376,7 +376,7 @@ module _ (cx : Context) (laws : IsLawful cx.of_module) (code : List Operator) (t
     keeps_catching label [] (g ∷ g' ∷ gs) opener j c next s w i o e b = elim s.1 [ ]
     keeps_catching label (o' ∷ outer) (g ∷ []) opener j c next s w i o e b = elim s.1 [ ]
 
-    keeps_catching_legacy : (label : Label) (outer : List Label) (F : List Frame) (c : ℕ) (all : Bool) (types us : List ValType) → Stack cx code ty (label ∷ outer) F → IsWithin (locals_set F) set → is_try label.head.kind ≡ true → IsDelimiter code label.began c (BeginsCatch all types) → AllBelow cx us types → Standing cx code ty (suc c) (record { began = c; head = of_kind (catch_kind all) label.head; operands = onto us [] }) outer set
+    keeps_catching_legacy : (label : Label) (outer : List Label) (F : List Frame) (c : ℕ) (all : Bool) (types us : List ValType) → Stack cx code ty (label ∷ outer) F → IsWithin (locals_set F) set → is_try label.head.kind ≡ true → IsDelimiter code label.began c (BeginsCatch all types) → AllBelow cx us types → Standing cx code ty (suc c) (record { began = c; head = of_kind (catch_kind all) label.head; operands = stack_with us [] }) outer set
     keeps_catching_legacy label [] (g ∷ []) c all types us s w i m below =
         let d : true ≡ false = sym i ∙ ap (λ (k : Head). is_try k.kind) (s.0.head ∙ s.0.outside) in
         absurd cc
@@ -405,7 +405,7 @@ module _ (cx : Context) (laws : IsLawful cx.of_module) (code : List Operator) (t
     keeps_catching_legacy label (o ∷ outer) (g ∷ []) c all types us s w i m below = elim s.1 [ ]
 
     keeps : (next : Machine) → Outcome cx code (configuration k l ls set op) next → Keeps cx code ty next
-    keeps next (goes_on o) = subst (Keeps cx code ty) (sym o.is) (keeps_going o.pushed o.types o.flat o.live o.pushes o.below)
+    keeps next (goes_on o) = subst (Keeps cx code ty) (sym o.is) (keeps_going o.pushed o.types o.stays o.live o.pushes o.below)
     keeps next (enters o) = subst (Keeps cx code ty) (sym o.is) (keeps_entering o.head o.types o.opens o.below)
     keeps next (enters_else o) = subst (Keeps cx code ty) (sym o.is) (keeps_entering_else o.head o.place o.types o.opens o.is_its_else o.below)
     keeps next (skips_if o) = subst (Keeps cx code ty) (sym o.is) (keeps_skipping o.head o.closer o.types o.opens o.is_its_closer o.below)

@@ -3,7 +3,7 @@
 use Rattle.std.specs.Prelude.{◌≡◌, ℕ, suc, List, Some, slice_get}
 use Rattle.validation_rules.specs.Context.{BlockType, Context}
 use Rattle.validation_rules.specs.Rows.{Head, Opens, Operator}
-use Rattle.validation_rules.specs.Static.{State, heads, locals_set, start, before}
+use Rattle.validation_rules.specs.Static.{State, heads, locals_set, start, state_before, RowsHoldBefore}
 use Rattle.type_safety.specs.Machine.{IsCloser}
 
 -- a block of the list: its opener at place k, and its closer at place c
@@ -14,16 +14,12 @@ pub record IsBlock (code : List Operator) (k c : ℕ) : Type 0 where
   pub opens : opener.form ≡ Opens head
   pub closes : IsCloser code k c
 
--- all rows before place n hold; the list may go on as it likes
-abbrev pub RowsHoldBefore : Context → List Operator → BlockType → ℕ → Type 0
-RowsHoldBefore cx code ty n = (s : State) × (before cx code (start ty) n ≡ Some s)
-
 -- before place n frames of the same heads are open as before place k, and the same locals are set
 pub record IsAsBefore (cx : Context) (code : List Operator) (ty : BlockType) (k n : ℕ) : Type 0 where
   pub opening : State
-  pub is_before : before cx code (start ty) k ≡ Some opening
+  pub is_before : state_before cx code (start ty) k ≡ Some opening
   pub closed : State
-  pub is_after : before cx code (start ty) n ≡ Some closed
+  pub is_after : state_before cx code (start ty) n ≡ Some closed
   pub same_heads : heads closed.frames ≡ heads opening.frames
   pub same_locals : locals_set closed.frames ≡ locals_set opening.frames
 
@@ -32,4 +28,4 @@ pub record IsAsBefore (cx : Context) (code : List Operator) (ty : BlockType) (k 
 abbrev pub BlocksKeepLocals : Context → Type 0
 BlocksKeepLocals cx =
     (code : List Operator) (ty : BlockType) (k c : ℕ) →
-    IsBlock code k c → RowsHoldBefore cx code ty (suc c) → IsAsBefore cx code ty k (suc c)
+    IsBlock code k c → RowsHoldBefore cx code (start ty) (suc c) → IsAsBefore cx code ty k (suc c)

@@ -4,8 +4,8 @@ use Rattle.validate_resources.specs.Context.{ModuleContext}
 use Rattle.validate_visit.specs.declared.op.Op.{Op}
 use Rattle.validation_rules.specs.Context.{BlockType, Context}
 use Rattle.validation_rules.specs.Rows.{Operator}
-use Rattle.validation_rules.specs.Static.{Frame, State, start, before, IsAccepted, operand_count, frame_count}
-use Rattle.validation_rules.specs.Operators.{body}
+use Rattle.validation_rules.specs.Static.{Frame, State, start, state_before, IsAccepted, operand_count, frame_count}
+use Rattle.validation_rules.specs.Operators.{operators}
 use Rattle.type_safety.specs.Machine.{Label, At, Run, initial_machine}
 use Rattle.type_safety.specs.Theorem.{IsTypeSafe}
 
@@ -14,7 +14,7 @@ use Rattle.type_safety.specs.Theorem.{IsTypeSafe}
 abbrev pub BodySafety : ModuleContext → Type 0
 BodySafety md =
     (cx : Context) (ops : List Op) (ty : BlockType) →
-    cx.of_module ≡ md → IsAccepted cx (body cx ops) (start ty) → IsTypeSafe cx (body cx ops) ty
+    cx.of_module ≡ md → IsAccepted cx (operators cx ops) (start ty) → IsTypeSafe cx (operators cx ops) ty
 
 -- how many operands the labels hold, all together
 abbrev pub operands_held : List Label → ℕ
@@ -26,7 +26,7 @@ operands_held (l ∷ ls) = length l.operands + operands_held ls
 pub record HasHeightsAt
     (cx : Context) (code : List Operator) (ty : BlockType) (k : ℕ) (labels : List Label) : Type 0 where
   pub state : State
-  pub is_before : before cx code (start ty) k ≡ Some state
+  pub is_before : state_before cx code (start ty) k ≡ Some state
   pub frames : length labels ≡ frame_count state
   pub operands : operands_held labels ≡ operand_count state
   pub each :
@@ -41,4 +41,4 @@ HasHeights cx code ty =
 abbrev pub BodyHeights : ModuleContext → Type 0
 BodyHeights md =
     (cx : Context) (ops : List Op) (ty : BlockType) →
-    cx.of_module ≡ md → IsAccepted cx (body cx ops) (start ty) → HasHeights cx (body cx ops) ty
+    cx.of_module ≡ md → IsAccepted cx (operators cx ops) (start ty) → HasHeights cx (operators cx ops) ty

@@ -3,15 +3,16 @@
 -- exceptions). It over-approximates the standard's reduction: values, callees, handlers and other
 -- continuations are free choices, and each value that comes has any type below the stated one.
 use Rattle.std.specs.Bool.{MatchBool}
+use Rattle.std.specs.List.{list_all}
 use Rattle.std.specs.Prelude.{◌≡◌, ℕ, zero, suc, Bool, true, false, not, ◌&&◌, IsTrue, IsFalse}
 use Rattle.std.specs.Prelude.{List, [], ◌∷◌, length, map, take, drop, slice_get, Option, Some, None}
 use Rattle.validation_rules.specs.Context.{ValType, BlockType, Context, AllBelow}
 use Rattle.validation_rules.specs.Fits.{MaybeType, Known}
 use Rattle.validation_rules.specs.Rows.{Head, params, results, label_types, body_head}
 use Rattle.validation_rules.specs.Rows.{is_loop, is_if, is_try, is_try_table, Else, catch_kind}
-use Rattle.validation_rules.specs.Rows.{Form, Flat, Opens, BeginsElse, BeginsCatch, Ends, Delegates}
+use Rattle.validation_rules.specs.Rows.{Form, Stays, Opens, BeginsElse, BeginsCatch, Ends, Delegates}
 use Rattle.validation_rules.specs.Rows.{Operator, Row, operands_wanted, Target, Clause}
-use Rattle.validation_rules.specs.Static.{Frame, onto, of_kind, pushed_types}
+use Rattle.validation_rules.specs.Static.{Frame, stack_with, of_kind, pushed_types}
 
 -- ---- states
 
@@ -35,11 +36,11 @@ pub data Machine : Type 0 where
 
 -- a label that begins at place b, with these types as its operands
 abbrev pub opened_label : ℕ → Head → List ValType → Label
-opened_label b h types = record { began = b; head = h; operands = onto types [] }
+opened_label b h types = record { began = b; head = h; operands = stack_with types [] }
 
 -- a label with these types on top of its operands
 abbrev pub label_with : List ValType → Label → Label
-label_with types l = record l { operands = onto types l.operands }
+label_with types l = record l { operands = stack_with types l.operands }
 
 -- place 0, one empty label, and no local set but those that are when the body begins
 -- (Specification, "Execution: Invocation")
@@ -58,10 +59,10 @@ pub record Delimiter : Type 0 where
 abbrev pub delimiter : ℕ → Form → Delimiter
 delimiter k form = record { place = k; form = form }
 
-abbrev pub is_closer : Form → Bool
-is_closer Ends = true
-is_closer Delegates = true
-is_closer _ = false
+abbrev pub is_closing : Form → Bool
+is_closing Ends = true
+is_closing Delegates = true
+is_closing _ = false
 
 abbrev pub is_else : Form → Bool
 is_else BeginsElse = true
@@ -76,7 +77,7 @@ is_separator _ = false
 -- open inside it: its separators, and then its closer
 abbrev pub delimiters_from : ℕ → ℕ → List Form → List Delimiter
 delimiters_from depth k [] = []
-delimiters_from depth k (Flat ∷ forms) = delimiters_from depth (suc k) forms
+delimiters_from depth k (Stays ∷ forms) = delimiters_from depth (suc k) forms
 delimiters_from depth k (Opens h ∷ forms) = delimiters_from (suc depth) (suc k) forms
 delimiters_from zero k (BeginsElse ∷ forms) = delimiter k BeginsElse ∷ delimiters_from zero (suc k) forms
 delimiters_from zero k (BeginsCatch all types ∷ forms) =
@@ -101,11 +102,10 @@ IsDelimiter code b c form = (j : ℕ) × (slice_get (delimiters code b) j ≡ So
 
 -- at place c stands the closer of what began at place b
 abbrev pub IsCloser : List Operator → ℕ → ℕ → Type 0
-IsCloser code b c = (form : Form) × IsDelimiter code b c form × IsTrue (is_closer form)
+IsCloser code b c = (form : Form) × IsDelimiter code b c form × IsTrue (is_closing form)
 
 abbrev pub has_no_else : List Delimiter → Bool
-has_no_else [] = true
-has_no_else (d ∷ ds) = not (is_else d.form) && has_no_else ds
+has_no_else ds = list_all (λ (d : Delimiter). not (is_else d.form)) ds
 
 -- what began at place b, an `if`, has no `else`
 abbrev pub HasNoElse : List Operator → ℕ → Type 0
@@ -140,23 +140,23 @@ row_at here = row_in (labels_at here) here.op
 
 -- the n operands on top, as a row writes its lists: the last on top
 abbrev pub types_on_top : ℕ → List ValType → List ValType
-types_on_top n own = onto (take n own) []
+types_on_top n own = stack_with (take n own) []
 
 abbrev pub operands_taken : Configuration → List ValType
 operands_taken here = types_on_top (operands_wanted (row_at here).type) here.label.operands
 
 -- the label without the operands that the operator takes
-abbrev pub label_below : Configuration → Label
-label_below here =
+abbrev pub label_under : Configuration → Label
+label_under here =
     record here.label { operands = drop (operands_wanted (row_at here).type) here.label.operands }
 
 -- the labels once the operator has taken its operands and left these types in their place
 abbrev pub labels_with : List ValType → Configuration → List Label
-labels_with types here = label_with types (label_below here) ∷ here.outer
+labels_with types here = label_with types (label_under here) ∷ here.outer
 
 -- the labels once the operator has taken its operands and opened this label
 abbrev pub labels_inside : Label → Configuration → List Label
-labels_inside l here = l ∷ label_below here ∷ here.outer
+labels_inside l here = l ∷ label_under here ∷ here.outer
 
 -- the label read as a frame of the validator: live, and all its operands known
 abbrev pub live_frame : Label → Frame
@@ -257,7 +257,7 @@ module _ (cx : Context) (code : List Operator) where
   -- (Specification, "Execution: Instructions", each instruction that neither begins, ends nor leaves
   -- a block).
   pub record GoesOn (here : Configuration) (next : Machine) : Type 0 where
-    pub flat : here.op.form ≡ Flat
+    pub stays : here.op.form ≡ Stays
     pub live : IsFalse (row_at here).ends_live
     pub pushed : List ValType
     pub pushes : pushed_types_at cx here ≡ Some (map Known pushed)
@@ -302,7 +302,7 @@ module _ (cx : Context) (code : List Operator) where
   -- A branch to any label that its row names, with what the row carries there: a return too, or a
   -- handler of a resumed continuation (Specification, "br", "br_if", "br_table", "return").
   pub record Jumps (here : Configuration) (next : Machine) : Type 0 where
-    pub flat : here.op.form ≡ Flat
+    pub stays : here.op.form ≡ Stays
     pub index : ℕ
     pub target : Target
     pub is_its_target : slice_get (row_at here).targets index ≡ Some target
@@ -312,7 +312,7 @@ module _ (cx : Context) (code : List Operator) where
   -- the end of a block: on after it, with any types below its results (Specification, "Execution:
   -- Blocks": exiting)
   pub record Closes (here : Configuration) (next : Machine) : Type 0 where
-    pub closes : IsTrue (is_closer here.op.form)
+    pub closes : IsTrue (is_closing here.op.form)
     pub types : List ValType
     pub below : AllBelow cx types (results cx here.label.head)
     pub is : next ≡ machine_after_exit (suc here.place) types here.outer here.set

@@ -4,7 +4,7 @@ use Rattle.std.specs.Prelude.{◌≡◌, ℕ, List, [], ◌∷◌, Some, IsFalse
 use Rattle.validation_rules.specs.Context.{ValType, BlockType, Context, AllBelow}
 use Rattle.validation_rules.specs.Fits.{MaybeType, Known}
 use Rattle.validation_rules.specs.Rows.{results, body_head, Operator}
-use Rattle.validation_rules.specs.Static.{Frame, open_state, start, before}
+use Rattle.validation_rules.specs.Static.{Frame, open_state, start, state_before}
 use Rattle.type_safety.specs.Machine.{Label, Machine, At, Returned, Trapped, LeftByException}
 use Rattle.type_safety.specs.Machine.{LeftBySuspension, IsNotStuck, Run, initial_machine}
 
@@ -29,7 +29,7 @@ LabelsBelow cx _ _ = ⊥
 -- returned lies below the results.
 abbrev pub IsAsValidated : Context → List Operator → BlockType → Machine → Type 0
 IsAsValidated cx code ty (At k labels set) =
-    (fs : List Frame) × (before cx code (start ty) k ≡ Some (open_state fs)) × LabelsBelow cx labels fs
+    (fs : List Frame) × (state_before cx code (start ty) k ≡ Some (open_state fs)) × LabelsBelow cx labels fs
 IsAsValidated cx code ty (Returned types) = AllBelow cx types (results cx (body_head ty))
 IsAsValidated cx code ty Trapped = Unit {0}
 IsAsValidated cx code ty LeftByException = Unit {0}

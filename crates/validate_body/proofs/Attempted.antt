@@ -7,9 +7,9 @@ use Rattle.validate_types.specs.Refusal.{Refusal}
 use Rattle.validation_rules.specs.Context.{Context}
 use Rattle.validation_rules.specs.Rows.{Operator}
 use Rattle.validation_rules.specs.Static.{State, step}
-use Rattle.validate_stacks.specs.Attempts.{Stacked, body_state, stacks_begun, stacks_committed, stacks_rolled_back}
+use Rattle.validate_stacks.specs.Attempts.{Stacked, body_of, stacks_begun, stacks_committed, stacks_rolled_back}
 use Rattle.validate_stacks.specs.Pops.{IsKept}
-use Rattle.validate_stacks.specs.State.{BodyState, context, IsValid}
+use Rattle.validate_stacks.specs.State.{BodyState, body_context, IsValid}
 use Rattle.validate_stacks.specs.Visits.{step_body, Meets}
 use Rattle.validate_stacks.proofs.Phases.{undone_whole}
 
@@ -31,20 +31,20 @@ some_unpended v w (Some s) h = refl
 -- whether the row holds, by what the visit within an attempt answers
 pub accepted_begun : (md : ModuleContext) (op : Context → Operator) (offset : ℕ) (v : Stacked) (w : BodyState) (r : Result (Unit {0}) Refusal) → Meets md op offset (stacks_begun v).body r w → OnOk r (IsSome (step_body md op v.body))
 unfolding Meets
-accepted_begun md op offset v w (Ok x) m = some_unpended v w (step (context md v.body) (op (context md v.body)) v.body.present) m.accepted
+accepted_begun md op offset v w (Ok x) m = some_unpended v w (step (body_context md v.body) (op (body_context md v.body)) v.body.present) m.accepted
 accepted_begun md op offset v w (Err e) m = tt
 
 pub refused_begun : (md : ModuleContext) (op : Context → Operator) (offset : ℕ) (v : Stacked) (w : BodyState) (r : Result (Unit {0}) Refusal) → Meets md op offset (stacks_begun v).body r w → IfErr r (λ e. e.wants_memory ≡ false → step_body md op v.body ≡ None)
 unfolding Meets
 refused_begun md op offset v w (Ok x) m = tt
-refused_begun md op offset v w (Err e) m = λ f. unpended_none v (step (context md v.body) (op (context md v.body)) v.body.present) (m.refused f)
+refused_begun md op offset v w (Err e) m = λ f. unpended_none v (step (body_context md v.body) (op (body_context md v.body)) v.body.present) (m.refused f)
 
 module _ (md : ModuleContext) (op : Context → Operator) (offset : ℕ) (v w : Stacked) (idle : v.body.undone ≡ None) where
   -- an accepted operator stays
   pub meets_committed : (x : Unit {0}) → Meets md op offset (stacks_begun v).body (Ok x) w.body → Meets md op offset v.body (Ok x) (stacks_committed w).body
   unfolding Meets
   meets_committed x m = record {
-    accepted = unpended v w (step (context md v.body) (op (context md v.body)) v.body.present) idle m.accepted;
+    accepted = unpended v w (step (body_context md v.body) (op (body_context md v.body)) v.body.present) idle m.accepted;
     refused = tt;
     at_offset = tt;
     valid = m.valid;
@@ -58,7 +58,7 @@ module _ (md : ModuleContext) (op : Context → Operator) (offset : ℕ) (v w : 
       let same : (stacks_rolled_back w).body ≡ v.body = undone_whole v w idle m.kept in
       record {
         accepted = tt;
-        refused = λ f. unpended_none v (step (context md v.body) (op (context md v.body)) v.body.present) (m.refused f);
+        refused = λ f. unpended_none v (step (body_context md v.body) (op (body_context md v.body)) v.body.present) (m.refused f);
         at_offset = m.at_offset;
         valid = subst (IsValid md) (sym same) valid;
         kept = subst (λ (y : BodyState). IsKept v.body y) (sym same) refl;
@@ -71,4 +71,4 @@ module _ (md : ModuleContext) (op : Context → Operator) (offset : ℕ) (v w : 
 
   pub back_ended : (x : Stacked) (r : Result (Unit {0}) Refusal) (b : Bool) → IsKept (stacks_begun v).body w.body → b ≡ is_ok r → (b ≡ false → x ≡ stacks_rolled_back w) → OnErr r (x.body ≡ v.body)
   back_ended x (Ok u) b k e goes = tt
-  back_ended x (Err f) b k e goes = ap body_state (goes e) ∙ undone_whole v w idle k
+  back_ended x (Err f) b k e goes = ap body_of (goes e) ∙ undone_whole v w idle k

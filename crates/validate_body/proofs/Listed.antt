@@ -4,24 +4,24 @@ use Rattle.std.specs.Option.{option_map}
 use Rattle.std.proofs.lemmas.List.{drop_more}
 use Rattle.validate_resources.specs.Context.{ModuleContext, IsLawful}
 use Rattle.validate_types.specs.Refusal.{Refusal}
-use Rattle.validate_visit.specs.Order.{nesting, is_if, is_try, may_catch, is_ordered_from, reads_on}
+use Rattle.validate_visit.specs.Order.{nesting, is_if, is_try, may_catch, is_ordered_from, may_read_on}
 use Rattle.validate_visit.specs.declared.frame.BlockType.{BlockType}
 use Rattle.validate_visit.specs.declared.frame.FrameKind.{FrameKind}
 use Rattle.validate_visit.specs.declared.op.Op.{Op}
 use Rattle.validation_rules.specs.Context.{ValType, Context}
 use Rattle.validation_rules.specs.Fits.{MaybeType}
 use Rattle.validation_rules.specs.Order.{nesting_of}
-use Rattle.validation_rules.specs.Rows.{results, Form, Flat, Opens, BeginsElse, BeginsCatch, Ends, Delegates, Row}
-use Rattle.validation_rules.specs.Static.{Frame, State, heads, locals_set, state_after_exit, state_after, step, step_in, before, start, operand_count, frame_count}
-use Rattle.validation_rules.specs.Operators.{operator, body}
+use Rattle.validation_rules.specs.Rows.{results, Form, Stays, Opens, BeginsElse, BeginsCatch, Ends, Delegates, Row}
+use Rattle.validation_rules.specs.Static.{Frame, State, heads, locals_set, state_after_exit, state_after, step, step_in, state_before, IsAccepted, start, operand_count, frame_count}
+use Rattle.validation_rules.specs.Operators.{operator, operators}
 use Rattle.validation_rules.proofs.Below.{and_true}
 use Rattle.validation_rules.proofs.Order.{operator_nests}
 use Rattle.validation_rules.proofs.Steps.{stepped, before_then}
 use Rattle.validate_stacks.specs.Pops.{IsKept}
-use Rattle.validate_stacks.specs.State.{BodyState, context, IsValid}
+use Rattle.validate_stacks.specs.State.{BodyState, body_context, IsValid}
 use Rattle.validate_stacks.specs.Visits.{Meets}
 use Rattle.type_safety.proofs.Bodies.{body_safety, body_heights}
-use Rattle.validate_body.specs.Runs.{IsAcceptedList, operators, body_of, state_before, heights_of, AreHeightsAfter, IsRefusedAt, IsSafeFrom}
+use Rattle.validate_body.specs.Runs.{IsAcceptedBody, without_offsets, body_operators, body_before, heights_of, AreHeightsAfter, IsRefusedAt, IsSafeFrom}
 
 -- ---- the order of the rest
 
@@ -32,8 +32,8 @@ given_kinds : (left : List MaybeType) (types : List ValType) (fs : List Frame) �
 given_kinds left types [] = refl
 given_kinds left types (f ∷ fs) = refl
 
-order_after : (left : List MaybeType) (cx : Context) (row : Row) (set : List ℕ) (f : Frame) (fs : List Frame) (form : Form) (pushed : List MaybeType) (next : List FrameKind → Bool) → reads_on f.head.kind (kinds fs) (nesting_of form) next ≡ true → next (kinds (state_after left cx row set f fs form pushed).frames) ≡ true
-order_after left cx row set f fs Flat pushed next h = h
+order_after : (left : List MaybeType) (cx : Context) (row : Row) (set : List ℕ) (f : Frame) (fs : List Frame) (form : Form) (pushed : List MaybeType) (next : List FrameKind → Bool) → may_read_on f.head.kind (kinds fs) (nesting_of form) next ≡ true → next (kinds (state_after left cx row set f fs form pushed).frames) ≡ true
+order_after left cx row set f fs Stays pushed next h = h
 order_after left cx row set f fs (Opens o) pushed next h = h
 order_after left cx row set f fs BeginsElse pushed next h = (and_true (is_if f.head.kind) _ h).1
 order_after left cx row set f fs (BeginsCatch all types) pushed next h = (and_true (may_catch f.head.kind) _ h).1
@@ -42,7 +42,7 @@ order_after left cx row set f fs Delegates pushed next h = subst (λ ks. next ks
 
 -- the rest of a list, in order below the open frames
 abbrev pub IsOrderedBelow : List Frame → List (Op × ℕ) → Type 0
-IsOrderedBelow fs ops = is_ordered_from (kinds fs) (map nesting (operators ops)) ≡ true
+IsOrderedBelow fs ops = is_ordered_from (kinds fs) (map nesting (without_offsets ops)) ≡ true
 
 pub some_open : (fs : List Frame) (p : Op × ℕ) (ops : List (Op × ℕ)) → IsOrderedBelow fs (p ∷ ops) → fs ≢ []
 some_open [] p ops h e = absurd cc
@@ -56,10 +56,10 @@ ordered_next cx s u p ops e h = by s.frames refl
     by (f ∷ fs) k =
         let st = stepped cx (operator cx p.0) f fs s.left u (subst (λ gs. step_in cx (operator cx p.0) gs s.left ≡ Some u) k e) in
         let here : IsOrderedBelow (f ∷ fs) (p ∷ ops) = subst (λ gs. IsOrderedBelow gs (p ∷ ops)) k h in
-        let formed : reads_on f.head.kind (kinds fs) (nesting_of (operator cx p.0).form) (λ js. is_ordered_from js (map nesting (operators ops))) ≡ true =
-        subst (λ n. reads_on f.head.kind (kinds fs) n (λ js. is_ordered_from js (map nesting (operators ops))) ≡ true) (sym (operator_nests cx p.0)) here in
+        let formed : may_read_on f.head.kind (kinds fs) (nesting_of (operator cx p.0).form) (λ js. is_ordered_from js (map nesting (without_offsets ops))) ≡ true =
+        subst (λ n. may_read_on f.head.kind (kinds fs) n (λ js. is_ordered_from js (map nesting (without_offsets ops))) ≡ true) (sym (operator_nests cx p.0)) here in
         subst (λ (w : State). IsOrderedBelow w.frames ops) (sym st.leaves)
-        (order_after s.left cx ((operator cx p.0).row (heads (f ∷ fs))) (locals_set (f ∷ fs)) f fs (operator cx p.0).form st.pushed (λ js. is_ordered_from js (map nesting (operators ops))) formed)
+        (order_after s.left cx ((operator cx p.0).row (heads (f ∷ fs))) (locals_set (f ∷ fs)) f fs (operator cx p.0).form st.pushed (λ js. is_ordered_from js (map nesting (without_offsets ops))) formed)
 
 -- ---- what a visit answered
 
@@ -71,13 +71,13 @@ step_none : (v : BodyState) (o : Option State) → option_map (λ (s : State). r
 step_none v None h = refl
 step_none v (Some s) h = absurd cc
 
-pub visited : (md : ModuleContext) (op : Op) (offset : ℕ) (v w : BodyState) (u : Unit {0}) → Meets md (λ cx. operator cx op) offset v (Ok u) w → step (context md v) (operator (context md v) op) v.present ≡ Some w.present
+pub visited : (md : ModuleContext) (op : Op) (offset : ℕ) (v w : BodyState) (u : Unit {0}) → Meets md (λ cx. operator cx op) offset v (Ok u) w → step (body_context md v) (operator (body_context md v) op) v.present ≡ Some w.present
 unfolding Meets
-visited md op offset v w u m = step_some v w (step (context md v) (operator (context md v) op) v.present) m.accepted
+visited md op offset v w u m = step_some v w (step (body_context md v) (operator (body_context md v) op) v.present) m.accepted
 
-pub not_visited : (md : ModuleContext) (op : Op) (offset : ℕ) (v w : BodyState) (e : Refusal) → Meets md (λ cx. operator cx op) offset v (Err e) w → e.wants_memory ≡ false → step (context md v) (operator (context md v) op) v.present ≡ None
+pub not_visited : (md : ModuleContext) (op : Op) (offset : ℕ) (v w : BodyState) (e : Refusal) → Meets md (λ cx. operator cx op) offset v (Err e) w → e.wants_memory ≡ false → step (body_context md v) (operator (body_context md v) op) v.present ≡ None
 unfolding Meets
-not_visited md op offset v w e m f = step_none v (step (context md v) (operator (context md v) op) v.present) (m.refused f)
+not_visited md op offset v w e m f = step_none v (step (body_context md v) (operator (body_context md v) op) v.present) (m.refused f)
 
 pub visit_offset : (md : ModuleContext) (op : Op) (offset : ℕ) (v w : BodyState) (e : Refusal) → Meets md (λ cx. operator cx op) offset v (Err e) w → e.offset ≡ offset
 unfolding Meets
@@ -102,29 +102,29 @@ at_place [] i d h = absurd (omega (arith, h))
 at_place (p ∷ ops) zero d h = refl
 at_place (p ∷ ops) (suc i) d h = at_place ops i d (omega (arith, h))
 
-code_at : (cx : Context) (ops : List (Op × ℕ)) (i : ℕ) (d : Op × ℕ) → i < length ops → slice_get (body cx (operators ops)) i ≡ Some (operator cx (get_or ops i d).0)
+code_at : (cx : Context) (ops : List (Op × ℕ)) (i : ℕ) (d : Op × ℕ) → i < length ops → slice_get (operators cx (without_offsets ops)) i ≡ Some (operator cx (get_or ops i d).0)
 code_at cx [] i d h = absurd (omega (arith, h))
 code_at cx (p ∷ ops) zero d h = refl
 code_at cx (p ∷ ops) (suc i) d h = code_at cx ops i d (omega (arith, h))
 
-length-body : (cx : Context) (ops : List (Op × ℕ)) → length (body cx (operators ops)) ≡ length ops
+length-body : (cx : Context) (ops : List (Op × ℕ)) → length (operators cx (without_offsets ops)) ≡ length ops
 length-body cx [] = refl
 length-body cx (p ∷ ops) = ap suc (length-body cx ops)
 
 -- where only operands and frames changed, an operator's step is the same
-same_step : (md : ModuleContext) (v u : BodyState) (op : Op) (s : State) → IsKept v u → step (context md u) (operator (context md u) op) s ≡ step (context md v) (operator (context md v) op) s
-same_step md v u op s k = ap (λ (w : BodyState). step (context md w) (operator (context md w) op) s) k
+same_step : (md : ModuleContext) (v u : BodyState) (op : Op) (s : State) → IsKept v u → step (body_context md u) (operator (body_context md u) op) s ≡ step (body_context md v) (operator (body_context md v) op) s
+same_step md v u op s k = ap (λ (w : BodyState). step (body_context md w) (operator (body_context md w) op) s) k
 
 pair_is : (p : Op × ℕ) (n : ℕ) → n ≡ p.1 → p ≡ (p.0, n)
 pair_is p n h = ap (λ m. (p.0, m)) (sym h)
 
 module _ (md : ModuleContext) (v : BodyState) (ops : List (Op × ℕ)) (i : ℕ) (d : Op × ℕ) (h : i < length ops) where
   -- its row, on the state before it
-  row_there : (s : State) → state_before md v ops i ≡ Some s → state_before md v ops (suc i) ≡ step (context md v) (operator (context md v) (get_or ops i d).0) s
-  row_there s r = before_then (context md v) (body_of md v ops) v.present i (operator (context md v) (get_or ops i d).0) s r (code_at (context md v) ops i d h)
+  row_there : (s : State) → body_before md v ops i ≡ Some s → body_before md v ops (suc i) ≡ step (body_context md v) (operator (body_context md v) (get_or ops i d).0) s
+  row_there s r = before_then (body_context md v) (body_operators md v ops) v.present i (operator (body_context md v) (get_or ops i d).0) s r (code_at (body_context md v) ops i d h)
 
   -- no memory was found at it
-  pub refused_memory : (s : State) (e : Refusal) → state_before md v ops i ≡ Some s → e.offset ≡ (get_or ops i d).1 → e.wants_memory ≡ true → IsRefusedAt md v ops i e
+  pub refused_memory : (s : State) (e : Refusal) → body_before md v ops i ≡ Some s → e.offset ≡ (get_or ops i d).1 → e.wants_memory ≡ true → IsRefusedAt md v ops i e
   refused_memory s e r o m = record {
     operator = (get_or ops i d).0;
     at_offset = at_place ops i d h ∙ ap Some (pair_is (get_or ops i d) e.offset o);
@@ -134,7 +134,7 @@ module _ (md : ModuleContext) (v : BodyState) (ops : List (Op × ℕ)) (i : ℕ)
   }
 
   -- it was visited and refused
-  pub refused_row : (u w : BodyState) (e : Refusal) → IsKept v u → state_before md v ops i ≡ Some u.present → Meets md (λ cx. operator cx (get_or ops i d).0) (get_or ops i d).1 u (Err e) w → IsRefusedAt md v ops i e
+  pub refused_row : (u w : BodyState) (e : Refusal) → IsKept v u → body_before md v ops i ≡ Some u.present → Meets md (λ cx. operator cx (get_or ops i d).0) (get_or ops i d).1 u (Err e) w → IsRefusedAt md v ops i e
   refused_row u w e k r m = record {
     operator = (get_or ops i d).0;
     at_offset = at_place ops i d h ∙ ap Some (pair_is (get_or ops i d) e.offset (visit_offset md (get_or ops i d).0 (get_or ops i d).1 u w e m));
@@ -143,17 +143,17 @@ module _ (md : ModuleContext) (v : BodyState) (ops : List (Op × ℕ)) (i : ℕ)
     row = λ f. row_there u.present r ∙ (sym (same_step md v u (get_or ops i d).0 u.present k) ∙ not_visited md (get_or ops i d).0 (get_or ops i d).1 u w e m f);
   }
 
-  module _ (u w : BodyState) (x : Unit {0}) (k : IsKept v u) (r : state_before md v ops i ≡ Some u.present) (m : Meets md (λ cx. operator cx (get_or ops i d).0) (get_or ops i d).1 u (Ok x) w) where
-    here : step (context md v) (operator (context md v) (get_or ops i d).0) u.present ≡ Some w.present
+  module _ (u w : BodyState) (x : Unit {0}) (k : IsKept v u) (r : body_before md v ops i ≡ Some u.present) (m : Meets md (λ cx. operator cx (get_or ops i d).0) (get_or ops i d).1 u (Ok x) w) where
+    here : step (body_context md v) (operator (body_context md v) (get_or ops i d).0) u.present ≡ Some w.present
     here = sym (same_step md v u (get_or ops i d).0 u.present k) ∙ visited md (get_or ops i d).0 (get_or ops i d).1 u w x m
 
     -- it was accepted
-    pub accepted_next : state_before md v ops (suc i) ≡ Some w.present
+    pub accepted_next : body_before md v ops (suc i) ≡ Some w.present
     accepted_next = row_there u.present r ∙ here
 
     pub ordered_on : IsOrderedBelow u.present.frames (drop i ops) → IsOrderedBelow w.present.frames (drop (i + 1) ops)
     ordered_on o =
-        ordered_next (context md v) u.present w.present (get_or ops i d) (drop (i + 1) ops) here (subst (IsOrderedBelow u.present.frames) (drop_more ops i d h) o)
+        ordered_next (body_context md v) u.present w.present (get_or ops i d) (drop (i + 1) ops) here (subst (IsOrderedBelow u.present.frames) (drop_more ops i d h) o)
 
 -- ---- heights
 
@@ -173,16 +173,16 @@ last_or_front (suc k) zero h = absurd (omega (arith, h))
 last_or_front (suc k) (suc i) h = elim (last_or_front k i (omega (arith, h))) [ inl a ↦ inl (omega (arith, a)) | inr b ↦ inr (ap suc b) ]
 
 -- the heights after one more operator
-pub noted_next : (md : ModuleContext) (v : BodyState) (ops : List (Op × ℕ)) (i : ℕ) (hs hs' : List (ℕ × ℕ)) (u : State) (a b : ℕ) → AreHeightsAfter md v ops i hs → state_before md v ops (suc i) ≡ Some u → a ≡ operand_count u → b ≡ frame_count u → hs' ≡ hs ++ (a, b) ∷ [] → AreHeightsAfter md v ops (i + 1) hs'
+pub noted_next : (md : ModuleContext) (v : BodyState) (ops : List (Op × ℕ)) (i : ℕ) (hs hs' : List (ℕ × ℕ)) (u : State) (a b : ℕ) → AreHeightsAfter md v ops i hs → body_before md v ops (suc i) ≡ Some u → a ≡ operand_count u → b ≡ frame_count u → hs' ≡ hs ++ (a, b) ∷ [] → AreHeightsAfter md v ops (i + 1) hs'
 noted_next md v ops i hs hs' u a b n r ea eb e =
     record {
       count = ap length e ∙ (length-append hs ((a, b) ∷ []) ∙ ap (λ m. m + 1) n.count);
       each = λ k s l t. ap (λ xs. slice_get xs k) e ∙ (elim (last_or_front k i (omega (arith, l))) [ inl f ↦ get_front hs (a, b) k (omega (arith, f, n.count)) ∙ n.each k s f t | inr q ↦ at_end k s q t ]);
     }
   where
-    at_end : (k : ℕ) (s : State) → k ≡ i → state_before md v ops (suc k) ≡ Some s → slice_get (hs ++ (a, b) ∷ []) k ≡ Some (heights_of s)
+    at_end : (k : ℕ) (s : State) → k ≡ i → body_before md v ops (suc k) ≡ Some s → slice_get (hs ++ (a, b) ∷ []) k ≡ Some (heights_of s)
     at_end k s q t =
-        let same : Some s ≡ Some u = sym t ∙ (ap (λ j. state_before md v ops (suc j)) q ∙ r) in
+        let same : Some s ≡ Some u = sym t ∙ (ap (λ j. body_before md v ops (suc j)) q ∙ r) in
         let su : s ≡ u = cc in
         let place : k ≡ length hs = q ∙ sym n.count in
         ap (λ j. slice_get (hs ++ (a, b) ∷ []) j) place ∙ (get_last hs (a, b) ∙ (ap (λ m. Some (m, b)) ea ∙ (ap (λ m. Some (operand_count u, m)) eb ∙ ap (λ (z : State). Some (heights_of z)) (sym su))))
@@ -194,18 +194,25 @@ no_frames [] h = refl
 no_frames (f ∷ fs) h = absurd (omega (arith, h))
 
 -- all rows hold and no frame is open: the list is type safe
-pub safe_list : (md : ModuleContext) (v w : BodyState) (ops : List (Op × ℕ)) (ty : BlockType) (i n : ℕ) → IsLawful md → i ≡ length ops → state_before md v ops i ≡ Some w.present → n ≡ frame_count w.present → n ≡ 0 → v.present ≡ start ty → IsSafeFrom md v ops ty
+pub safe_list : (md : ModuleContext) (v w : BodyState) (ops : List (Op × ℕ)) (ty : BlockType) (i n : ℕ) → IsLawful md → i ≡ length ops → body_before md v ops i ≡ Some w.present → n ≡ frame_count w.present → n ≡ 0 → v.present ≡ start ty → IsSafeFrom md v ops ty
 safe_list md v w ops ty i n laws e r c z s =
-    let cx = context md v in
-    let code = body_of md v ops in
+    let cx = body_context md v in
+    let code = body_operators md v ops in
     let none : w.present.frames ≡ [] = no_frames w.present.frames (sym c ∙ z) in
-    let accepted : before cx code (start ty) (length code) ≡ Some (record { frames = []; left = w.present.left }) =
-    ap (λ k. before cx code (start ty) k) (length-body cx ops ∙ sym e) ∙ (ap (λ (q : State). before cx code q i) (sym s) ∙ (r ∙ ap (λ fs. Some (record { frames = fs; left = w.present.left })) none)) in
+    let accepted : state_before cx code (start ty) (length code) ≡ Some (record { frames = []; left = w.present.left }) =
+    ap (λ k. state_before cx code (start ty) k) (length-body cx ops ∙ sym e) ∙ (ap (λ (q : State). state_before cx code q i) (sym s) ∙ (r ∙ ap (λ fs. Some (record { frames = fs; left = w.present.left })) none)) in
     record {
-      type_safe = body_safety md laws cx (operators ops) ty refl (w.present.left, accepted);
-      heights = body_heights md laws cx (operators ops) ty refl (w.present.left, accepted);
+      type_safe = body_safety md laws cx (without_offsets ops) ty refl (w.present.left, accepted);
+      heights = body_heights md laws cx (without_offsets ops) ty refl (w.present.left, accepted);
     }
 
 -- the same of any list whose rows all hold
-pub safe_accepted : (md : ModuleContext) (v : BodyState) (ops : List (Op × ℕ)) (ty : BlockType) → IsLawful md → v.present ≡ start ty → IsAcceptedList md v ops → IsSafeFrom md v ops ty
-safe_accepted md v ops ty laws s a = safe_list md v (record v { present = a.last }) ops ty (length ops) 0 laws refl a.rows (sym (ap length a.closed)) refl s
+pub safe_accepted : (md : ModuleContext) (v : BodyState) (ops : List (Op × ℕ)) (ty : BlockType) → IsLawful md → v.present ≡ start ty → IsAcceptedBody md v ops → IsSafeFrom md v ops ty
+safe_accepted md v ops ty laws s a =
+    let cx = body_context md v in
+    let code = body_operators md v ops in
+    let accepted = subst (λ q. IsAccepted cx code q) s a in
+    record {
+      type_safe = body_safety md laws cx (without_offsets ops) ty refl accepted;
+      heights = body_heights md laws cx (without_offsets ops) ty refl accepted;
+    }

@@ -1,6 +1,7 @@
 -- Parameters are declared one by one.
-use Rattle.std.proofs.Common.{◌≡◌, ℕ, refl, sym, subst, Some, Result, Ok, Err, IfOk}
-use Rattle.validate_resources.specs.Context.{ModuleContext, IsLawful, Valid}
+use Rattle.std.proofs.Common.{◌≡◌, ℕ, refl, sym, ap, subst, Some, is_some, Result, Ok, Err, IfOk}
+use Rattle.validate_resources.specs.Context.{ModuleContext, IsLawful, Valid, signature_of}
+use Rattle.validate_types.specs.Types.{Signature}
 use Rattle.validate_types.specs.Refusal.{Refusal}
 use Rattle.validate_types.specs.declared.features.WasmFeatures.{WasmFeatures}
 use Rattle.validate_types.specs.declared.types.SubType.{SubType}
@@ -11,22 +12,24 @@ use Rattle.validate_body.specs.Start.{state, func_start, const_start}
 use Rattle.validate_body.specs.declared.validator.OperatorValidator.{OperatorValidator}
 
 -- the state that a function's body starts in is a starting one
-pub func_starts : (md : ModuleContext) (features : WasmFeatures) (i : ℕ) (s : SubType) → IsLawful md → md.type_at i ≡ Some s → IsStarting md (func_start features i s)
-func_starts md features i s laws h =
+pub func_starts : (md : ModuleContext) (features : WasmFeatures) (i : ℕ) (s : SubType) (f : Signature) → IsLawful md → md.type_at i ≡ Some s → signature_of s ≡ Some f
+    → IsStarting md (func_start features i s.composite_type.shared f)
+func_starts md features i s f laws h k =
     record {
       block_type = FuncType i;
       one_frame = refl;
       none_pending = refl;
       is_valid = record {
-        locals_valid = (laws.types i s h).params;
-        frames = (record { block = record { type = s; is_there = h; is_shared = λ e. e }; operands = tt }, tt);
+        locals_valid = (laws.types i s h).params f k;
+        frames = (record { block = record { type = s; is_there = h; is_func = ap is_some k; is_shared = λ e. e }; operands = tt }, tt);
         left = tt;
       };
     }
 
-pub starting_func : (md : ModuleContext) (features : WasmFeatures) (i : ℕ) (s : SubType) (r : Result OperatorValidator Refusal) → IsLawful md → md.type_at i ≡ Some s → IfOk r (λ v. state v ≡ func_start features i s) → IfOk r (λ v. IsStarting md (state v))
-starting_func md features i s (Err e) laws h k = tt
-starting_func md features i s (Ok v) laws h k = subst (IsStarting md) (sym k) (func_starts md features i s laws h)
+pub starting_func : (md : ModuleContext) (features : WasmFeatures) (i : ℕ) (s : SubType) (f : Signature) (r : Result OperatorValidator Refusal) → IsLawful md → md.type_at i ≡ Some s → signature_of s ≡ Some f
+    → IfOk r (λ v. state v ≡ func_start features i s.composite_type.shared f) → IfOk r (λ v. IsStarting md (state v))
+starting_func md features i s f (Err e) laws h j k = tt
+starting_func md features i s f (Ok v) laws h j k = subst (IsStarting md) (sym k) (func_starts md features i s f laws h j)
 
 -- so is the state that a constant expression starts in
 pub const_starts : (md : ModuleContext) (features : WasmFeatures) (ty : ValType) (w : BodyState) → w ≡ const_start features ty → Valid md ty → IsStarting md w

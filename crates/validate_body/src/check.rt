@@ -2,13 +2,13 @@
 
 ghost use Rattle.std.specs.Prelude.{◌≡◌, ◌↔◌, [], true, length, IsTrue, IfOk, OnOk, IfErr, MatchResult, Some};
 ghost use Rattle.std.specs.List.{list_all};
-ghost use Rattle.validate_visit.specs.Immediates.{module_immediates};
+ghost use Rattle.validate_visit.specs.Immediates.{is_module_op};
 ghost use Rattle.validate_visit.specs.Order.{is_well_ordered_list};
 ghost use Rattle.validate_visit.specs.declared.frame.BlockType.{BlockType};
 ghost use Rattle.validation_rules.specs.Static.{start};
 ghost use Rattle.validate_stacks.specs.Pops.{IsKept};
 ghost use Rattle.validate_stacks.specs.State.{IsStarting, IsValid};
-ghost use Rattle.validate_body.specs.Runs.{operators, state_before, AreHeightsAfter, IsRefusedAt, IsSafeFrom};
+ghost use Rattle.validate_body.specs.Runs.{without_offsets, body_before, AreHeightsAfter, IsRefusedAt, IsSafeFrom};
 ghost use Rattle.validate_body.specs.Start.{state};
 
 use crate::validator::OperatorValidator;
@@ -34,12 +34,12 @@ pub fn check_ops<R: WasmModuleResources>(
     heights: &mut Vec<(usize, usize)>,
 ) -> Result<bool, (usize, Error)>
     requires starting { IsStarting (R.context resources.now) (state v.old) }
-    requires ordered { is_well_ordered_list (operators ops.now) ≡ true }
-    requires immediates { list_all (λ (p : _). module_immediates p.0) ops.now ≡ true }
+    requires ordered { is_well_ordered_list (without_offsets ops.now) ≡ true }
+    requires immediates { list_all (λ (p : _). is_module_op p.0) ops.now ≡ true }
     requires empty { heights.old.items ≡ [] }
 
     // All rows hold where it answers Ok, and the validator is in the last state of the run.
-    ensures rows { OnOk result (state_before (R.context resources.now) (state v.old) ops.now
+    ensures rows { OnOk result (body_before (R.context resources.now) (state v.old) ops.now
         (length ops.now) ≡ Some (state v.new).present) }
     ensures closed { IfOk result (λ closed. IsTrue closed ↔ ((state v.new).present.frames ≡ [])) }
     ensures refused { IfErr result (λ p. IsRefusedAt (R.context resources.now) (state v.old) ops.now p.0

@@ -4,7 +4,7 @@ ghost use Rattle.std.specs.Prelude.{◌≡◌};
 ghost use Rattle.validate_visit.specs.declared.op.Op.{Op};
 ghost use Rattle.validation_rules.specs.Static.{frame_count};
 ghost use Rattle.validation_rules.specs.Operators.{operator};
-ghost use Rattle.validate_stacks.specs.Steps.{label_of};
+ghost use Rattle.validate_stacks.specs.Steps.{label_at};
 ghost use Rattle.validate_stacks.specs.Visits.{MayVisit, Meets};
 ghost use Rattle.validate_operators.specs.Memory.{TakesNoMemory};
 ghost use Rattle.validate_body.specs.Start.{state, current_kind, stacks_of};
@@ -69,7 +69,7 @@ impl<'validator, 'resources, R: WasmModuleResources> ModuleArity
 
     ghost open_frames = { λ v. frame_count (state v.inner.now).present };
 
-    ghost label_at = { λ v. label_of (state v.inner.now) };
+    ghost label_at = { λ v. label_at (state v.inner.now) };
 
     fn type_index_of_function(&self, function_index: u32) -> Option<u32> {
         self.resources.type_index_of_function(function_index)
@@ -137,8 +137,6 @@ impl<'validator, 'resources, R: WasmModuleResources> WasmProposalValidator<
         ensures resources { self.new.resources ≡ self.old.resources }
         ensures row { Meets (R.context self.old.resources.now) (λ cx. operator cx (Op.Numeric op))
             self.old.offset (state self.old.inner.now) result (state self.new.inner.now) }
-        ensures memory { TakesNoMemory (R.context self.old.resources.now) (Op.Numeric op)
-            (state self.old.inner.now) result }
     {
         self.inner.check_numeric(self.resources, self.offset, op)
     }
@@ -152,8 +150,6 @@ impl<'validator, 'resources, R: WasmModuleResources> WasmProposalValidator<
         ensures resources { self.new.resources ≡ self.old.resources }
         ensures row { Meets (R.context self.old.resources.now) (λ cx. operator cx (Op.Convert op))
             self.old.offset (state self.old.inner.now) result (state self.new.inner.now) }
-        ensures memory { TakesNoMemory (R.context self.old.resources.now) (Op.Convert op)
-            (state self.old.inner.now) result }
     {
         self.inner.check_convert(self.resources, self.offset, op)
     }
@@ -167,8 +163,6 @@ impl<'validator, 'resources, R: WasmModuleResources> WasmProposalValidator<
         ensures resources { self.new.resources ≡ self.old.resources }
         ensures row { Meets (R.context self.old.resources.now) (λ cx. operator cx (Op.Memory op))
             self.old.offset (state self.old.inner.now) result (state self.new.inner.now) }
-        ensures memory { TakesNoMemory (R.context self.old.resources.now) (Op.Memory op)
-            (state self.old.inner.now) result }
     {
         self.inner.check_memory(self.resources, self.offset, op)
     }
@@ -182,8 +176,6 @@ impl<'validator, 'resources, R: WasmModuleResources> WasmProposalValidator<
         ensures resources { self.new.resources ≡ self.old.resources }
         ensures row { Meets (R.context self.old.resources.now) (λ cx. operator cx (Op.Atomic op))
             self.old.offset (state self.old.inner.now) result (state self.new.inner.now) }
-        ensures memory { TakesNoMemory (R.context self.old.resources.now) (Op.Atomic op)
-            (state self.old.inner.now) result }
     {
         self.inner.check_atomic(self.resources, self.offset, op)
     }
@@ -197,8 +189,6 @@ impl<'validator, 'resources, R: WasmModuleResources> WasmProposalValidator<
         ensures resources { self.new.resources ≡ self.old.resources }
         ensures row { Meets (R.context self.old.resources.now) (λ cx. operator cx (Op.Reference op))
             self.old.offset (state self.old.inner.now) result (state self.new.inner.now) }
-        ensures memory { TakesNoMemory (R.context self.old.resources.now) (Op.Reference op)
-            (state self.old.inner.now) result }
     {
         self.inner.check_reference(self.resources, self.offset, op)
     }
@@ -212,8 +202,6 @@ impl<'validator, 'resources, R: WasmModuleResources> WasmProposalValidator<
         ensures resources { self.new.resources ≡ self.old.resources }
         ensures row { Meets (R.context self.old.resources.now) (λ cx. operator cx (Op.Table op))
             self.old.offset (state self.old.inner.now) result (state self.new.inner.now) }
-        ensures memory { TakesNoMemory (R.context self.old.resources.now) (Op.Table op)
-            (state self.old.inner.now) result }
     {
         self.inner.check_table(self.resources, self.offset, op)
     }

@@ -1,7 +1,7 @@
 //! The validator's state: how it is made, what is declared in it, and what can be asked of it.
 
 ghost use Rattle.std.specs.Prelude.{◌≤◌, ◌≡◌, ◌⊎◌, ◌+◌, ◌<◌, true, false, None, length, is_some, IsSome, IfOk, OnOk, OnErr, IfErr};
-ghost use Rattle.std.specs.Option.{option_copied};
+ghost use Rattle.std.specs.Option.{option_copied, ForSome};
 ghost use Rattle.validation_rules.specs.Static.{operand_count, frame_count};
 ghost use Rattle.validate_locals.specs.Limit.{max_locals};
 ghost use Rattle.validate_stacks.specs.Attempts.{may_attempt, stacks_begun, stacks_committed, stacks_rolled_back};
@@ -10,8 +10,8 @@ ghost use Rattle.validate_stacks.specs.Visits.{MayVisit, Meets};
 ghost use Rattle.validate_operators.specs.Memory.{TakesNoMemory};
 ghost use Rattle.validate_visit.specs.declared.op.Op.{Op};
 ghost use Rattle.validation_rules.specs.Operators.{operator};
-ghost use Rattle.validate_resources.specs.Context.{ModuleContext, Valid, signature_of};
-ghost use Rattle.validate_stacks.specs.Steps.{type_at_depth, frame_at, label_of};
+ghost use Rattle.validate_resources.specs.Context.{ModuleContext, Valid, func_type_at};
+ghost use Rattle.validate_stacks.specs.Steps.{type_at_depth, frame_at, label_at};
 ghost use Rattle.validate_body.specs.Start.{state, stacks_of, func_start, const_start, IsFuncStart, HasTooManyParams, DefinesLocals, CannotDefine};
 
 use validate_locals::Locals;
@@ -20,8 +20,9 @@ use validate_operators::{
     check_reference, check_table,
 };
 use validate_resources::WasmModuleResources;
+use validate_resources::kinds::{expected_func_type, func_type_of};
 use validate_stacks::{OperatorValidatorAllocations, Stacks};
-use validate_types::{CompositeInnerType, Error, SubType, ValType, WasmFeatures};
+use validate_types::{Error, FuncType, ValType, WasmFeatures};
 use validate_visit::{
     AtomicOp, BlockType, ControlOp, ConvertOp, Frame, FrameKind, MemoryOp, NumericOp, Op,
     ReferenceOp, TableOp,
@@ -37,8 +38,9 @@ pub struct OperatorValidator {
 impl OperatorValidator {
     /// A validator of the body of a function whose type is the one at index `ty`: one frame of that
     /// type is open, and the parameters are locals that are set. It refuses, at the offset handed in:
-    /// `unknown type: type index out of bounds`, `too many locals: locals exceed maximum` for more
-    /// than 50,000 parameters, or want of memory. A refusal gives up the buffers.
+    /// `unknown type: type index out of bounds`, `expected func type at index N, found K` for a type of
+    /// another kind K, `too many locals: locals exceed maximum` for more than 50,000 parameters, or want
+    /// of memory. A refusal gives up the buffers.
     pub fn new_func<R: WasmModuleResources>(
         ty: u32,
         offset: u64,
@@ -49,14 +51,24 @@ impl OperatorValidator {
         ensures made { IfOk result (λ v. IsFuncStart (R.context resources.now) features.now ty (state v)) }
         ensures starting { IfOk result (λ v. IsStarting (R.context resources.now) (state v)) }
         ensures refused { IfErr result (λ e. e.wants_memory ≡ false
-            → ((R.context resources.now).type_at ty ≡ None)
+            → (func_type_at (R.context resources.now) ty ≡ None)
             ⊎ HasTooManyParams (R.context resources.now) ty) }
         ensures offset { IfErr result (λ e. e.offset ≡ offset) }
     {
-        match resources.sub_type_at(ty) {
-            Some(sub_type) => start_func(ty, sub_type, offset, *features, allocs),
-            None => Err(Error::new("unknown type: type index out of bounds", offset)),
-        }
+        let Some(sub_type) = resources.sub_type_at(ty) else {
+            return Err(Error::new("unknown type: type index out of bounds", offset));
+        };
+        let Some(func_type) = func_type_of(sub_type) else {
+            return Err(expected_func_type(allocs.allocator(), offset, ty, sub_type));
+        };
+        start_func(
+            ty,
+            func_type,
+            sub_type.composite_type.shared,
+            offset,
+            *features,
+            allocs,
+        )
     }
 
     /// A validator of a constant expression: one frame that gives a value of this type is open, and
@@ -242,9 +254,11 @@ impl OperatorValidator {
     }
 
     /// Whether an operator may be visited: no attempt is pending, or the pending one has nothing to
-    /// undo.
+    /// undo, so that taking it back comes to this very state.
     pub fn can_attempt(&self) -> bool
-        ensures { result ≡ may_attempt (stacks_of self.now) }
+        ensures answer { result ≡ may_attempt (stacks_of self.now) }
+        ensures unchanged { result ≡ true → ForSome (state self.now).undone
+            (λ s. s ≡ (state self.now).present) }
     {
         self.stacks.can_attempt()
     }
@@ -309,7 +323,7 @@ impl OperatorValidator {
     /// The block type and the kind of the frame that a branch of this depth names, the innermost at 0,
     /// or None past the end.
     pub fn jump(&self, depth: u32) -> Option<(BlockType, FrameKind)>
-        ensures { result ≡ label_of (state self.now) depth }
+        ensures { result ≡ label_at (state self.now) depth }
     {
         self.stacks.jump(depth)
     }
@@ -337,18 +351,18 @@ impl OperatorValidator {
 /// A validator of the body of a function of this type, which stands at this index.
 fn start_func(
     ty: u32,
-    sub_type: &SubType,
+    func_type: &FuncType,
+    shared: bool,
     offset: u64,
     features: WasmFeatures,
     allocs: OperatorValidatorAllocations,
 ) -> Result<OperatorValidator, Error>
-    ensures made { IfOk result (λ v. state v ≡ func_start features ty sub_type.now) }
-    ensures few { OnOk result (length (signature_of sub_type.now).params ≤ max_locals) }
+    ensures made { IfOk result (λ v. state v ≡ func_start features ty shared func_type.now) }
+    ensures within_limit { OnOk result (length func_type.now.params ≤ max_locals) }
     ensures refused { IfErr result (λ e. e.wants_memory ≡ false
-        → max_locals < length (signature_of sub_type.now).params) }
+        → max_locals < length func_type.now.params) }
     ensures offset { IfErr result (λ e. e.offset ≡ offset) }
 {
-    let CompositeInnerType::Func(func_type) = &sub_type.composite_type.inner;
     let mut stacks = Stacks::new(features, allocs);
     match stacks.define_params(func_type.params()) {
         Ok(true) => {}
@@ -357,7 +371,7 @@ fn start_func(
         }
         Err(_) => return Err(Error::out_of_memory(offset)),
     }
-    stacks.set_shared(sub_type.composite_type.shared);
+    stacks.set_shared(shared);
     match stacks.push_bare_ctrl(FrameKind::Block, BlockType::FuncType(ty)) {
         Ok(()) => Ok(OperatorValidator { stacks }),
         Err(_) => Err(Error::out_of_memory(offset)),

@@ -50,19 +50,19 @@ end-append n (q ∷ rs) r h = end-cons n q (rs ++ r ∷ []) h.0 ∙ end-append (
 
 -- a run of its own
 pub longer_pushed : (n k last : ℕ) (rs : List Run) (t : ValType) → AreRuns n rs → 0 < k → end_of n rs + k ≡ last + 1 → AreLongerRuns n rs (rs ++ (last, t) ∷ []) (replicate k t)
-longer_pushed n k last rs t h few e = record {
-  rising = runs-append n rs ((last, t) ∷ []) h (omega (arith, few, e), tt);
+longer_pushed n k last rs t h within_limit e = record {
+  rising = runs-append n rs ((last, t) ∷ []) h (omega (arith, within_limit, e), tt);
   types = types-append n rs ((last, t) ∷ []) h ∙ ap (λ ts. run_types n rs ++ ts) (one_run (end_of n rs) k last t e);
 }
 
 -- the last run reaches further
 longer_joined : (n k last m : ℕ) (rs : List Run) (t : ValType) → AreRuns n (rs ++ (m, t) ∷ []) → 0 < k → end_of n (rs ++ (m, t) ∷ []) + k ≡ last + 1 → AreLongerRuns n (rs ++ (m, t) ∷ []) (rs ++ (last, t) ∷ []) (replicate k t)
-longer_joined n k last m rs t h few e =
+longer_joined n k last m rs t h within_limit e =
     let front = runs-front n rs (m, t) h in
     let from = end_of n rs in
     let ended = end-append n rs (m, t) h in
     let all : from + (m + 1 - from + k) ≡ last + 1 = omega (arith, front.1, ended, e) in
-    let longer = longer_pushed n (m + 1 - from + k) last rs t front.0 (omega (arith, few)) all in
+    let longer = longer_pushed n (m + 1 - from + k) last rs t front.0 (omega (arith, within_limit)) all in
     let was = types-append n rs ((m, t) ∷ []) front.0 ∙ ap (λ ts. run_types n rs ++ ts) (one_run from (m + 1 - from) m t (omega (arith, front.1))) in
     record {
       rising = longer.rising;
@@ -82,13 +82,13 @@ type_of_last rs r t h =
 
 -- the last run, if there is one, is taken and added again
 pub longer_again : (n k last : ℕ) (rs front : List Run) (taken : Option Run) (t : ValType) → rs ≡ front ++ option_to_list taken → option_map (λ (run : Run). run.1) (slice_get rs (length rs - 1)) ≡ Some t → AreRuns n rs → 0 < k → end_of n rs + k ≡ last + 1 → AreLongerRuns n rs (front ++ (last, t) ∷ []) (replicate k t)
-longer_again n k last rs front None t e h rising few to =
+longer_again n k last rs front None t e h rising within_limit to =
     let same : front ≡ rs = sym (e ∙ append-nil front) in
-    rw same (longer_pushed n k last rs t rising few to)
-longer_again n k last rs front (Some r) t e h rising few to =
+    rw same (longer_pushed n k last rs t rising within_limit to)
+longer_again n k last rs front (Some r) t e h rising within_limit to =
     let ty = type_of_last front r t (rw e at h) in
     let same : rs ≡ front ++ (r.0, t) ∷ [] = e ∙ ap (λ u. front ++ (r.0, u) ∷ []) ty in
-    rw same (longer_joined n k last r.0 front t (rw same at rising) few (rw same at to))
+    rw same (longer_joined n k last r.0 front t (rw same at rising) within_limit (rw same at to))
 
 -- ---- more and more runs
 
@@ -119,7 +119,7 @@ near-grown first near count was room within =
       locals = record {
         rising = tt;
         counted = omega (arith, was.counted, ap length types, length-append (local_types first []) near);
-        few = omega (arith, l, room);
+        within_limit = omega (arith, l, room);
         full = λ _. refl;
         within = within;
       };
@@ -153,7 +153,7 @@ grown-far first rs rs' count far was order longer within =
       locals = record {
         rising = longer.rising;
         counted = omega (arith, was.counted, ap length types, length-append (local_types first rs) far);
-        few = was.few;
+        within_limit = was.within_limit;
         full = λ h. no-runs (length first) rs' longer.rising (longer.types ∙ ap₂ (λ qs ts. run_types (length first) qs ++ ts) (was.full h) (order h));
         within = within;
       };

@@ -40,6 +40,6 @@ pub record IsBetween (runs : List (ℕ × ValType)) (index below above : ℕ) : 
 pub record AreLocals (first : List ValType) (runs : List (ℕ × ValType)) (count : ℕ) : Type 0 where
   pub rising : AreRuns (length first) runs
   pub counted : count ≡ length (local_types first runs)
-  pub few : length first ≤ max_first
+  pub within_limit : length first ≤ max_first
   pub full : length first < max_first → runs ≡ []
   pub within : count ≤ max_locals

@@ -4,9 +4,6 @@ ghost use Rattle.std.specs.Prelude.{◌≡◌, ◌+◌, ◌<◌, ◌≤◌, ◌�
 ghost use Rattle.validate_types.specs.Types.{is_defaultable};
 ghost use Rattle.validate_locals.specs.Inits.{is_recorded_set, order_with, AreFresh};
 
-#[cfg(test)]
-mod tests;
-
 use std::alloc::Global;
 use std::marker::Model;
 use validate_types::{OutOfMemory, ValType};

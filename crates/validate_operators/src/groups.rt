@@ -3,7 +3,7 @@
 ghost use Rattle.std.specs.Prelude.{◌≡◌, true, false, OnOk, OnErr, IfErr};
 ghost use Rattle.validate_types.specs.Gates.{is_open};
 ghost use Rattle.validate_visit.specs.declared.op.Op.{Op};
-ghost use Rattle.validation_rules.specs.Operators.{operator, flat_operator, control_operator};
+ghost use Rattle.validation_rules.specs.Operators.{operator, staying_operator, control_operator};
 ghost use Rattle.validation_rules.specs.References.{reference_row};
 ghost use Rattle.validate_stacks.specs.Visits.{MayVisit, Meets};
 ghost use Rattle.validate_operators.specs.Memory.{TakesNoMemory};
@@ -213,7 +213,7 @@ fn check_reference_row<R: WasmModuleResources>(
     op: ReferenceOp,
 ) -> Result<(), Error>
     requires { MayVisit (R.context resources.now) stacks.old }
-    ensures { Meets (R.context resources.now) (λ cx. flat_operator (λ hs. reference_row cx hs op)) offset
+    ensures { Meets (R.context resources.now) (λ cx. staying_operator (λ hs. reference_row cx hs op)) offset
         stacks.old.body result stacks.new.body }
 {
     match op {

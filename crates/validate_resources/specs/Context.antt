@@ -1,11 +1,13 @@
 -- What a validator knows of a module: its meaning, and the laws of the order on types
 -- (WebAssembly core specification, "Types" and "Validation: Matching").
-use Rattle.std.specs.Prelude.{◌≡◌, ℕ, Bool, List, true, false, ◌&&◌, Option, Some, is_some}
+use Rattle.std.specs.Prelude.{◌≡◌, ℕ, Bool, List, [], ◌∷◌, true, false, ◌&&◌, Option, Some, None, is_some}
 use Rattle.std.specs.List.{AllByRecursion}
+use Rattle.std.specs.Option.{option_and_then}
 use Rattle.validate_types.specs.Heap.{is_small}
-use Rattle.validate_types.specs.Refs.{non_null, with_null}
-use Rattle.validate_types.specs.Types.{Signature}
+use Rattle.validate_types.specs.Refs.{without_null, with_null}
+use Rattle.validate_types.specs.Types.{Signature, unpacked_fields}
 use Rattle.validate_types.specs.declared.features.WasmFeatures.{WasmFeatures}
+use Rattle.validate_types.specs.declared.heap.AbstractHeapType.{AbstractHeapType}
 use Rattle.validate_types.specs.declared.heap.CoreTypeId.{CoreTypeId}
 use Rattle.validate_types.specs.declared.heap.HeapType.{HeapType}
 use Rattle.validate_types.specs.declared.heap.HeapType.TheVariants.{Abstract, Concrete}
@@ -13,7 +15,8 @@ use Rattle.validate_types.specs.declared.heap.UnpackedIndex.{UnpackedIndex}
 use Rattle.validate_types.specs.declared.heap.UnpackedIndex.TheVariants.{Module, Id}
 use Rattle.validate_types.specs.declared.refs.RefType.{RefType}
 use Rattle.validate_types.specs.declared.types.CompositeInnerType.{CompositeInnerType}
-use Rattle.validate_types.specs.declared.types.CompositeInnerType.TheVariants.{Func}
+use Rattle.validate_types.specs.declared.types.CompositeInnerType.TheVariants.{Func, Array, Struct}
+use Rattle.validate_types.specs.declared.types.FieldType.{FieldType}
 use Rattle.validate_types.specs.declared.types.GlobalType.{GlobalType}
 use Rattle.validate_types.specs.declared.types.MemoryType.{MemoryType}
 use Rattle.validate_types.specs.declared.types.SubType.{SubType}
@@ -21,8 +24,8 @@ use Rattle.validate_types.specs.declared.types.TableType.{TableType}
 use Rattle.validate_types.specs.declared.types.ValType.{ValType}
 use Rattle.validate_types.specs.declared.types.ValType.TheVariants.{I32, I64, F32, F64, V128, Ref}
 
--- The look-ups by index, the types that ids name, the order on types, and the canonical forms of types
--- of the module, of value types under some features.
+-- The look-ups by index, the types that ids name, the order on types, the top types of its hierarchies,
+-- and the canonical forms of types of the module, of value types under some features.
 pub record ModuleContext : Type 0 where
   pub type_at : ℕ → Option SubType
   -- the type that an id names, where the lookup knows the id
@@ -43,7 +46,9 @@ pub record ModuleContext : Type 0 where
   pub below : ValType → ValType → Bool
   -- the reference is to something shared
   pub is_shared : RefType → Bool
-  pub canonical : WasmFeatures → ValType → Option ValType
+  -- the top type of the hierarchy that a heap type is in
+  pub top_type : HeapType → HeapType
+  pub canonical_type : WasmFeatures → ValType → Option ValType
   pub canonical_ref : RefType → Option RefType
   pub canonical_heap : HeapType → Option HeapType
 
@@ -73,31 +78,46 @@ abbrev pub IsTypeBelow : ModuleContext → ValType → ValType → Type 0
 IsTypeBelow md t u = md.below t u ≡ true
 
 -- a number or vector type
-abbrev pub is_number : ValType → Bool
-is_number (Ref r) = false
-is_number _ = true
+abbrev pub is_number_or_vector : ValType → Bool
+is_number_or_vector (Ref r) = false
+is_number_or_vector _ = true
 
 -- twice the same number or vector type
-abbrev pub is_same_number : ValType → ValType → Bool
-is_same_number I32 I32 = true
-is_same_number I64 I64 = true
-is_same_number F32 F32 = true
-is_same_number F64 F64 = true
-is_same_number V128 V128 = true
-is_same_number _ _ = false
+abbrev pub is_same_number_or_vector : ValType → ValType → Bool
+is_same_number_or_vector I32 I32 = true
+is_same_number_or_vector I64 I64 = true
+is_same_number_or_vector F32 F32 = true
+is_same_number_or_vector F64 F64 = true
+is_same_number_or_vector V128 V128 = true
+is_same_number_or_vector _ _ = false
 
 -- a type of addresses
-abbrev pub is_index_type : ValType → Bool
-is_index_type I32 = true
-is_index_type I64 = true
-is_index_type _ = false
+abbrev pub is_address_type : ValType → Bool
+is_address_type I32 = true
+is_address_type I64 = true
+is_address_type _ = false
 
-abbrev pub inner_signature : CompositeInnerType → Signature
-inner_signature (Func f) = f
+-- what a type takes and gives, if it is one of functions
+abbrev pub inner_signature : CompositeInnerType → Option Signature
+inner_signature (Func f) = Some f
+inner_signature (Array a) = None
+inner_signature (Struct fields) = None
 
--- what a function type takes and gives
-abbrev pub signature_of : SubType → Signature
+abbrev pub signature_of : SubType → Option Signature
 signature_of s = inner_signature s.composite_type.inner
+
+-- the same of the type at an index
+abbrev pub func_type_at : ModuleContext → ℕ → Option Signature
+func_type_at md i = option_and_then signature_of (md.type_at i)
+
+-- the fields of a struct, or the one that an array has in each place; a function has none
+abbrev pub inner_fields : CompositeInnerType → List FieldType
+inner_fields (Func f) = []
+inner_fields (Array a) = a.0 ∷ []
+inner_fields (Struct fields) = fields
+
+abbrev pub fields_of : SubType → List FieldType
+fields_of s = inner_fields s.composite_type.inner
 
 -- ---- the laws of a lookup
 
@@ -108,11 +128,21 @@ pub record IsBelowReference (md : ModuleContext) (t : ValType) (r : RefType) : T
   pub same_sharedness : md.is_shared lower ≡ md.is_shared r
   pub without_null : r.nullable ≡ false → lower.nullable ≡ false
 
--- what a declared type is made of is valid and canonical: what it takes and gives, and its supertype
+-- what a declared type is made of is valid and canonical: what a function takes and gives, what fields
+-- hold, and its supertype
 pub record IsValidType (md : ModuleContext) (s : SubType) : Type 0 where
-  pub params : AllValid md (signature_of s).params
-  pub results : AllValid md (signature_of s).results
+  pub params : (f : Signature) → signature_of s ≡ Some f → AllValid md f.params
+  pub results : (f : Signature) → signature_of s ≡ Some f → AllValid md f.results
+  pub fields : AllValid md (unpacked_fields (fields_of s))
   pub supertype : (u : UnpackedIndex) → s.supertype_idx ≡ Some u → is_valid_index md u ≡ true
+
+-- what stands for the top type of the hierarchy of a reference's type: it is abstract, and a reference to
+-- it is of the same sharedness
+pub record IsTop (md : ModuleContext) (r : RefType) (top : HeapType) : Type 0 where
+  pub shared : Bool
+  pub ty : AbstractHeapType
+  pub is : top ≡ Abstract shared ty
+  pub same_sharedness : md.is_shared (record r { heap_type = top }) ≡ md.is_shared r
 
 pub record IsLawful (md : ModuleContext) : Type 0 where
   -- the order is one of valid and canonical types, reflexive and transitive
@@ -120,13 +150,14 @@ pub record IsLawful (md : ModuleContext) : Type 0 where
   pub reflexive : (t : ValType) → Valid md t → IsTypeBelow md t t
   pub transitive : (t u v : ValType) → IsTypeBelow md t u → IsTypeBelow md u v → IsTypeBelow md t v
   -- a number or vector type has only itself below it
-  pub number : (t u : ValType) → IsTypeBelow md t u → is_number u ≡ true → t ≡ u
+  pub number : (t u : ValType) → IsTypeBelow md t u → is_number_or_vector u ≡ true → t ≡ u
   pub below_reference : (t : ValType) (r : RefType) → IsTypeBelow md t (Ref r) → IsBelowReference md t r
   -- taking null away keeps the order and goes down, adding it goes up
   pub non_null_keeps : (r s : RefType) → IsTypeBelow md (Ref r) (Ref s)
-      → IsTypeBelow md (Ref (non_null r)) (Ref (non_null s))
-  pub non_null_below : (r : RefType) → Valid md (Ref r) → IsTypeBelow md (Ref (non_null r)) (Ref r)
+      → IsTypeBelow md (Ref (without_null r)) (Ref (without_null s))
+  pub non_null_below : (r : RefType) → Valid md (Ref r) → IsTypeBelow md (Ref (without_null r)) (Ref r)
   pub below_with_null : (r : RefType) → Valid md (Ref r) → IsTypeBelow md (Ref r) (Ref (with_null r))
+  pub top : (r : RefType) → Valid md (Ref r) → IsTop md r (md.top_type r.heap_type)
   -- whatever a look-up hands out is valid and canonical: a declared type, by its index or its id, and the
   -- types of functions, tables, globals and element segments
   pub types : (i : ℕ) (s : SubType) → md.type_at i ≡ Some s → IsValidType md s
@@ -136,6 +167,6 @@ pub record IsLawful (md : ModuleContext) : Type 0 where
   pub globals : (i : ℕ) (g : GlobalType) → md.global_at i ≡ Some g → Valid md g.content_type
   pub elements : (i : ℕ) (r : RefType) → md.element_at i ≡ Some r → Valid md (Ref r)
   -- where a check passes, it writes a valid and canonical form
-  pub checked : (features : WasmFeatures) (t u : ValType) → md.canonical features t ≡ Some u → Valid md u
+  pub checked : (features : WasmFeatures) (t u : ValType) → md.canonical_type features t ≡ Some u → Valid md u
   pub checked_ref : (r s : RefType) → md.canonical_ref r ≡ Some s → Valid md (Ref s)
   pub checked_heap : (h k : HeapType) → md.canonical_heap h ≡ Some k → is_valid_heap md k ≡ true

@@ -12,9 +12,13 @@ use Rattle.validate_types.specs.declared.heap.HeapType.TheVariants.{Abstract, Co
 use Rattle.validate_types.specs.declared.heap.UnpackedIndex.{UnpackedIndex}
 use Rattle.validate_types.specs.declared.heap.UnpackedIndex.TheVariants.{Module, Id}
 use Rattle.validate_types.specs.declared.refs.RefType.{RefType}
+use Rattle.validate_types.specs.declared.types.ArrayType.{ArrayType}
 use Rattle.validate_types.specs.declared.types.CompositeInnerType.{CompositeInnerType}
-use Rattle.validate_types.specs.declared.types.CompositeInnerType.TheVariants.{Func}
+use Rattle.validate_types.specs.declared.types.CompositeInnerType.TheVariants.{Func, Array, Struct}
+use Rattle.validate_types.specs.declared.types.FieldType.{FieldType}
 use Rattle.validate_types.specs.declared.types.GlobalType.{GlobalType}
+use Rattle.validate_types.specs.declared.types.StorageType.{StorageType}
+use Rattle.validate_types.specs.declared.types.StorageType.TheVariants.{I8, I16, Val}
 use Rattle.validate_types.specs.declared.types.SubType.{SubType}
 use Rattle.validate_types.specs.declared.types.TableType.{TableType}
 use Rattle.validate_types.specs.declared.types.ValType.{ValType}
@@ -31,35 +35,45 @@ is_id n (Id id) = nat_lt id.index n
 
 -- ---- a test of each index in a type (Specification, "Types")
 
-abbrev pub heap_test : (UnpackedIndex → Bool) → HeapType → Bool
-heap_test p (Abstract shared ty) = true
-heap_test p (Concrete i) = p i
+abbrev pub heap_indices_pass : (UnpackedIndex → Bool) → HeapType → Bool
+heap_indices_pass p (Abstract shared ty) = true
+heap_indices_pass p (Concrete i) = p i
 
-abbrev pub ref_test : (UnpackedIndex → Bool) → RefType → Bool
-ref_test p r = heap_test p r.heap_type
+abbrev pub ref_indices_pass : (UnpackedIndex → Bool) → RefType → Bool
+ref_indices_pass p r = heap_indices_pass p r.heap_type
 
-abbrev pub type_test : (UnpackedIndex → Bool) → ValType → Bool
-type_test p (Ref r) = ref_test p r
-type_test p _ = true
+abbrev pub type_indices_pass : (UnpackedIndex → Bool) → ValType → Bool
+type_indices_pass p (Ref r) = ref_indices_pass p r
+type_indices_pass p _ = true
 
-abbrev pub table_test : (UnpackedIndex → Bool) → TableType → Bool
-table_test p t = ref_test p t.element_type
+abbrev pub table_indices_pass : (UnpackedIndex → Bool) → TableType → Bool
+table_indices_pass p t = ref_indices_pass p t.element_type
 
-abbrev pub global_test : (UnpackedIndex → Bool) → GlobalType → Bool
-global_test p g = type_test p g.content_type
+abbrev pub global_indices_pass : (UnpackedIndex → Bool) → GlobalType → Bool
+global_indices_pass p g = type_indices_pass p g.content_type
 
-abbrev pub supertype_test : (UnpackedIndex → Bool) → Option UnpackedIndex → Bool
-supertype_test p None = true
-supertype_test p (Some i) = p i
+abbrev pub supertype_indices_pass : (UnpackedIndex → Bool) → Option UnpackedIndex → Bool
+supertype_indices_pass p None = true
+supertype_indices_pass p (Some i) = p i
 
-abbrev pub signature_test : (UnpackedIndex → Bool) → Signature → Bool
-signature_test p f = list_all (type_test p) f.params && list_all (type_test p) f.results
+abbrev pub signature_indices_pass : (UnpackedIndex → Bool) → Signature → Bool
+signature_indices_pass p f =
+    list_all (type_indices_pass p) f.params && list_all (type_indices_pass p) f.results
 
-abbrev pub inner_test : (UnpackedIndex → Bool) → CompositeInnerType → Bool
-inner_test p (Func f) = signature_test p f
+abbrev pub storage_indices_pass : (UnpackedIndex → Bool) → StorageType → Bool
+storage_indices_pass p (Val t) = type_indices_pass p t
+storage_indices_pass p _ = true
 
-abbrev pub sub_test : (UnpackedIndex → Bool) → SubType → Bool
-sub_test p s = supertype_test p s.supertype_idx && inner_test p s.composite_type.inner
+abbrev pub field_indices_pass : (UnpackedIndex → Bool) → FieldType → Bool
+field_indices_pass p f = storage_indices_pass p f.element_type
+
+abbrev pub inner_indices_pass : (UnpackedIndex → Bool) → CompositeInnerType → Bool
+inner_indices_pass p (Func f) = signature_indices_pass p f
+inner_indices_pass p (Array a) = field_indices_pass p a.0
+inner_indices_pass p (Struct fields) = list_all (field_indices_pass p) fields
+
+abbrev pub sub_indices_pass : (UnpackedIndex → Bool) → SubType → Bool
+sub_indices_pass p s = supertype_indices_pass p s.supertype_idx && inner_indices_pass p s.composite_type.inner
 
 -- ---- the form of a type with an id for each index (Specification, "Types")
 
@@ -90,8 +104,21 @@ global_with_id g = record g { content_type = type_with_id g.content_type }
 abbrev pub signature_with_ids : Signature → Signature
 signature_with_ids f = record { params = map type_with_id f.params; results = map type_with_id f.results }
 
+abbrev pub storage_with_id : StorageType → StorageType
+storage_with_id I8 = I8
+storage_with_id I16 = I16
+storage_with_id (Val t) = Val (type_with_id t)
+
+abbrev pub field_with_id : FieldType → FieldType
+field_with_id f = record f { element_type = storage_with_id f.element_type }
+
+abbrev pub array_with_id : ArrayType → ArrayType
+array_with_id a = record { 0 = field_with_id a.0 }
+
 abbrev pub inner_with_ids : CompositeInnerType → CompositeInnerType
 inner_with_ids (Func f) = Func (signature_with_ids f)
+inner_with_ids (Array a) = Array (array_with_id a)
+inner_with_ids (Struct fields) = Struct (map field_with_id fields)
 
 abbrev pub sub_with_ids : SubType → SubType
 sub_with_ids s = record s {
@@ -105,13 +132,13 @@ abbrev pub canonical_index : ℕ → UnpackedIndex → Option UnpackedIndex
 canonical_index n i = if is_known n i then Some (index_with_id i) else None
 
 abbrev pub canonical_heap : ℕ → HeapType → Option HeapType
-canonical_heap n h = if heap_test (is_known n) h then Some (heap_with_id h) else None
+canonical_heap n h = if heap_indices_pass (is_known n) h then Some (heap_with_id h) else None
 
 abbrev pub canonical_ref : ℕ → RefType → Option RefType
-canonical_ref n r = if ref_test (is_known n) r then Some (ref_with_id r) else None
+canonical_ref n r = if ref_indices_pass (is_known n) r then Some (ref_with_id r) else None
 
 abbrev pub canonical_type : ℕ → ValType → Option ValType
-canonical_type n t = if type_test (is_known n) t then Some (type_with_id t) else None
+canonical_type n t = if type_indices_pass (is_known n) t then Some (type_with_id t) else None
 
 -- ---- the number of the index in a type, or 0 where it has none
 

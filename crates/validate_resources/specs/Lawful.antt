@@ -5,13 +5,16 @@ pub mod Forms
 use Rattle.std.specs.Prelude.{◌≡◌, ℕ, ◌≤◌, Bool, true, false, ◌&&◌, ◌||◌, not, nat_le, length, slice_get}
 use Rattle.std.specs.Prelude.{option_map, Option, Some, None, refl, if◌then◌else◌}
 use Rattle.std.specs.List.{list_all}
-use Rattle.std.proofs.Common.{sym, ◌∙◌, subst, leb-true}
+use Rattle.std.proofs.Common.{sym, ap, ◌∙◌, subst, leb-true}
 use Rattle.std.proofs.lemmas.Bool.{and_parts, and_from, or_right}
 use Rattle.std.proofs.lemmas.Option.{cond_some}
+use Rattle.validate_types.specs.Abstract.{abstract_top}
 use Rattle.validate_types.specs.Features.{is_type_enabled}
+use Rattle.validate_types.specs.Heap.{number_of}
 use Rattle.validate_types.specs.declared.features.WasmFeatures.{WasmFeatures}
 use Rattle.validate_types.specs.declared.heap.CoreTypeId.{CoreTypeId}
-use Rattle.validate_types.specs.declared.heap.HeapType.TheVariants.{Concrete}
+use Rattle.validate_types.specs.declared.heap.HeapType.{HeapType}
+use Rattle.validate_types.specs.declared.heap.HeapType.TheVariants.{Abstract, Concrete}
 use Rattle.validate_types.specs.declared.heap.UnpackedIndex.TheVariants.{Id}
 use Rattle.validate_types.specs.declared.refs.RefType.{RefType}
 use Rattle.validate_types.specs.declared.types.SubType.{SubType}
@@ -19,14 +22,15 @@ use Rattle.validate_types.specs.declared.types.ValType.{ValType}
 use Rattle.validate_types.specs.declared.types.ValType.TheVariants.{I32, I64, Ref}
 use Rattle.validate_resources.specs.declared.lists.FuncDecl.{FuncDecl}
 use Rattle.validate_resources.specs.declared.lists.TheConstants.{MAX_TYPES}
-use Rattle.validate_resources.specs.Context.{ModuleContext, IsLawful, IsBelowReference, IsValidType}
+use Rattle.validate_resources.specs.Context.{ModuleContext, IsLawful, IsBelowReference, IsTop, IsValidType}
 use Rattle.validate_resources.specs.Context.{Valid, is_valid_index, is_valid_heap}
-use Rattle.validate_resources.specs.Indices.{is_id, is_known, heap_test, ref_test, type_test, table_test}
-use Rattle.validate_resources.specs.Indices.{global_test, sub_test, heap_with_id, ref_with_id, type_with_id}
-use Rattle.validate_resources.specs.Indices.{supertype_test}
-use Rattle.validate_resources.specs.Order.{heap_below, have_fitting_supertypes, type_below}
-use Rattle.validate_resources.specs.Lists.{Declared, is_module, indices_test, have_known_types, context_of}
-use Rattle.validate_resources.specs.Lists.{valid_below, canonical_under, type_id}
+use Rattle.validate_resources.specs.Indices.{is_id, is_known, heap_indices_pass, ref_indices_pass, type_indices_pass, table_indices_pass}
+use Rattle.validate_resources.specs.Indices.{global_indices_pass, sub_indices_pass, heap_with_id, ref_with_id, type_with_id}
+use Rattle.validate_resources.specs.Indices.{supertype_indices_pass}
+use Rattle.validate_resources.specs.Order.{is_heap_below, have_fitting_supertypes, is_type_below, heap_top, declared_top}
+use Rattle.validate_resources.specs.Order.{is_heap_shared, is_shared_at}
+use Rattle.validate_resources.specs.Lists.{Declared, is_module, list_indices_pass, have_known_types, context_of}
+use Rattle.validate_resources.specs.Lists.{is_valid_below, canonical_under, type_id}
 use Rattle.validate_resources.specs.Lawful.Matching.{passes-at, heap-shared, ref-reflexive, type-reflexive}
 use Rattle.validate_resources.specs.Lawful.Matching.{type-transitive, number-below, below-ref}
 use Rattle.validate_resources.specs.Lawful.Forms.{heap-valid, type-valid, type-is-valid}
@@ -34,49 +38,50 @@ use Rattle.validate_resources.specs.Lawful.Forms.{heap-ids, type-ids}
 
 -- a type below another: both are valid, and the one is below the other
 record Below (d : Declared) (t u : ValType) : Type 0 where
-  low : type_test (is_id (length d.types)) t ≡ true
-  high : type_test (is_id (length d.types)) u ≡ true
-  order : type_below d.types t u ≡ true
+  low : type_indices_pass (is_id (length d.types)) t ≡ true
+  high : type_indices_pass (is_id (length d.types)) u ≡ true
+  order : is_type_below d.types t u ≡ true
 
-parts : (d : Declared) (t u : ValType) → valid_below d.types t u ≡ true → Below d t u
+parts : (d : Declared) (t u : ValType) → is_valid_below d.types t u ≡ true → Below d t u
 parts d t u h =
-    let p = and_parts (type_test (is_id (length d.types)) t && type_test (is_id (length d.types)) u) _ h in
-    let q = and_parts (type_test (is_id (length d.types)) t) _ p.0 in
+    let p = and_parts (type_indices_pass (is_id (length d.types)) t && type_indices_pass (is_id (length d.types)) u) _ h in
+    let q = and_parts (type_indices_pass (is_id (length d.types)) t) _ p.0 in
     record { low = q.0; high = q.1; order = p.1 }
 
-from : (d : Declared) (t u : ValType) → type_test (is_id (length d.types)) t ≡ true → type_test (is_id (length d.types)) u ≡ true → type_below d.types t u ≡ true → valid_below d.types t u ≡ true
+from : (d : Declared) (t u : ValType) → type_indices_pass (is_id (length d.types)) t ≡ true → type_indices_pass (is_id (length d.types)) u ≡ true → is_type_below d.types t u ≡ true → is_valid_below d.types t u ≡ true
 from d t u h k e = and_from _ _ (and_from _ _ h k) e
 
 -- what a list that is a module says
 record Facts (d : Declared) : Type 0 where
   small : length d.types ≤ MAX_TYPES
-  types : list_all (sub_test (is_id (length d.types))) d.types ≡ true
-  tables : list_all (table_test (is_id (length d.types))) d.tables ≡ true
-  globals : list_all (global_test (is_id (length d.types))) d.globals ≡ true
-  elements : list_all (ref_test (is_id (length d.types))) d.elements ≡ true
+  types : list_all (sub_indices_pass (is_id (length d.types))) d.types ≡ true
+  tables : list_all (table_indices_pass (is_id (length d.types))) d.tables ≡ true
+  globals : list_all (global_indices_pass (is_id (length d.types))) d.globals ≡ true
+  elements : list_all (ref_indices_pass (is_id (length d.types))) d.elements ≡ true
   functions : have_known_types d ≡ true
   supertypes : have_fitting_supertypes d.types ≡ true
 
 facts : (d : Declared) → is_module is_id d ≡ true → Facts d
 facts d h =
-    let (a, supertypes) = and_parts (nat_le (length d.types) MAX_TYPES && indices_test (is_id (length d.types)) d.types d.tables d.globals d.elements && have_known_types d) _ h in
-    let (b, functions) = and_parts (nat_le (length d.types) MAX_TYPES && indices_test (is_id (length d.types)) d.types d.tables d.globals d.elements) _ a in
+    let (k, func_types) = and_parts (nat_le (length d.types) MAX_TYPES && list_indices_pass (is_id (length d.types)) d.types d.tables d.globals d.elements && have_known_types d && have_fitting_supertypes d.types) _ h in
+    let (a, supertypes) = and_parts (nat_le (length d.types) MAX_TYPES && list_indices_pass (is_id (length d.types)) d.types d.tables d.globals d.elements && have_known_types d) _ k in
+    let (b, functions) = and_parts (nat_le (length d.types) MAX_TYPES && list_indices_pass (is_id (length d.types)) d.types d.tables d.globals d.elements) _ a in
     let (small, e) = and_parts (nat_le (length d.types) MAX_TYPES) _ b in
-    let p = list_all (sub_test (is_id (length d.types))) d.types in
-    let q = list_all (table_test (is_id (length d.types))) d.tables in
-    let r = list_all (global_test (is_id (length d.types))) d.globals in
+    let p = list_all (sub_indices_pass (is_id (length d.types))) d.types in
+    let q = list_all (table_indices_pass (is_id (length d.types))) d.tables in
+    let r = list_all (global_indices_pass (is_id (length d.types))) d.globals in
     let (f, elements) = and_parts (p && q && r) _ e in
     let (g, globals) = and_parts (p && q) _ f in
     let (types, tables) = and_parts p _ g in
     record { small = leb-true _ _ small; types = types; tables = tables; globals = globals; elements = elements; functions = functions; supertypes = supertypes }
 
 type_valid : (d : Declared) → Facts d → (i : ℕ) (s : SubType) → slice_get d.types i ≡ Some s → IsValidType (context_of d) s
-type_valid d m i s h = type-is-valid d m.small s (passes-at (sub_test (is_id (length d.types))) i d.types s m.types h)
+type_valid d m i s h = type-is-valid d m.small s (passes-at (sub_indices_pass (is_id (length d.types))) i d.types s m.types h)
 
 below_parts : (d : Declared) → Facts d → (t : ValType) (r : RefType) → Below d t (Ref r) → IsBelowReference (context_of d) t r
 below_parts d m t r b =
     let (low, is, e) = below-ref d.types t r b.order in
-    let p = and_parts (heap_below d.types low.heap_type r.heap_type) _ e in
+    let p = and_parts (is_heap_below d.types low.heap_type r.heap_type) _ e in
     record { lower = low; is = is; same_sharedness = heap-shared d.types m.supertypes low.heap_type r.heap_type p.0; without_null = null_of low.nullable r.nullable p.1 }
   where
     null_of : (x y : Bool) → (y || not x) ≡ true → y ≡ false → x ≡ false
@@ -86,8 +91,8 @@ below_parts d m t r b =
 
 -- the order of references without null, or with it
 marked : (d : Declared) (r s : RefType) → Below d (Ref r) (Ref s) → (n m : Bool) → (m || not n) ≡ true
-    → valid_below d.types (Ref (record r { nullable = n })) (Ref (record s { nullable = m })) ≡ true
-marked d r s b n m e = from d (Ref (record r { nullable = n })) (Ref (record s { nullable = m })) b.low b.high (and_from _ _ (and_parts (heap_below d.types r.heap_type s.heap_type) _ b.order).0 e)
+    → is_valid_below d.types (Ref (record r { nullable = n })) (Ref (record s { nullable = m })) ≡ true
+marked d r s b n m e = from d (Ref (record r { nullable = n })) (Ref (record s { nullable = m })) b.low b.high (and_from _ _ (and_parts (is_heap_below d.types r.heap_type s.heap_type) _ b.order).0 e)
 
 itself : (d : Declared) → Facts d → (r : RefType) → Valid (context_of d) (Ref r) → Below d (Ref r) (Ref r)
 itself d m r h = let v = sym (heap-valid d m.small r.heap_type) ∙ h in record { low = v; high = v; order = ref-reflexive d.types r }
@@ -101,8 +106,19 @@ function_of d m f id (Some decl) is h =
 
 checked_type : (d : Declared) → Facts d → (features : WasmFeatures) (t u : ValType) → canonical_under (length d.types) features t ≡ Some u → Valid (context_of d) u
 checked_type d m features t u h =
-    let p = cond_some (is_type_enabled features t && type_test (is_known (length d.types)) t) (type_with_id t) u h in
+    let p = cond_some (is_type_enabled features t && type_indices_pass (is_known (length d.types)) t) (type_with_id t) u h in
     subst (Valid (context_of d)) p.1 (type-valid d m.small (type_with_id t) ∙ type-ids (length d.types) t ∙ (and_parts (is_type_enabled features t) _ p.0).1)
+
+top_of : (d : Declared) (r : RefType) (h : HeapType) → r.heap_type ≡ h → IsTop (context_of d) r (heap_top d.types h)
+top_of d r (Abstract shared ty) is =
+    record { shared = shared; ty = abstract_top ty; is = refl; same_sharedness = sym (ap (is_heap_shared d.types) is) }
+top_of d r (Concrete i) is =
+    record {
+      shared = is_shared_at d.types (number_of i);
+      ty = declared_top (slice_get d.types (number_of i));
+      is = refl;
+      same_sharedness = sym (ap (is_heap_shared d.types) is);
+    }
 
 pub lawful_lists : (d : Declared) → is_module is_id d ≡ true → IsLawful (context_of d)
 lawful_lists d h =
@@ -116,18 +132,19 @@ lawful_lists d h =
       non_null_keeps = λ r s e. marked d r s (parts d (Ref r) (Ref s) e) false false refl;
       non_null_below = λ r e. marked d r r (itself d m r e) false r.nullable (or_right r.nullable true refl);
       below_with_null = λ r e. marked d r r (itself d m r e) r.nullable true refl;
+      top = λ r e. top_of d r r.heap_type refl;
       types = type_valid d m;
       types_of_ids = λ id s e. type_valid d m id.index s e;
       functions = λ f id e. function_of d m f id (slice_get d.functions f) refl e;
-      tables = λ i t e. heap-valid d m.small t.element_type.heap_type ∙ passes-at (table_test (is_id (length d.types))) i d.tables t m.tables e;
-      globals = λ i g e. type-valid d m.small g.content_type ∙ passes-at (global_test (is_id (length d.types))) i d.globals g m.globals e;
-      elements = λ i r e. heap-valid d m.small r.heap_type ∙ passes-at (ref_test (is_id (length d.types))) i d.elements r m.elements e;
+      tables = λ i t e. heap-valid d m.small t.element_type.heap_type ∙ passes-at (table_indices_pass (is_id (length d.types))) i d.tables t m.tables e;
+      globals = λ i g e. type-valid d m.small g.content_type ∙ passes-at (global_indices_pass (is_id (length d.types))) i d.globals g m.globals e;
+      elements = λ i r e. heap-valid d m.small r.heap_type ∙ passes-at (ref_indices_pass (is_id (length d.types))) i d.elements r m.elements e;
       checked = checked_type d m;
       checked_ref = λ r s e.
-          let p = cond_some (ref_test (is_known (length d.types)) r) (ref_with_id r) s e in
+          let p = cond_some (ref_indices_pass (is_known (length d.types)) r) (ref_with_id r) s e in
           subst (λ x. Valid (context_of d) (Ref x)) p.1 (heap-valid d m.small (heap_with_id r.heap_type) ∙ heap-ids (length d.types) r.heap_type ∙ p.0);
       checked_heap = λ k l e.
-          let p = cond_some (heap_test (is_known (length d.types)) k) (heap_with_id k) l e in
+          let p = cond_some (heap_indices_pass (is_known (length d.types)) k) (heap_with_id k) l e in
           subst (λ h. is_valid_heap (context_of d) h ≡ true) p.1 (heap-valid d m.small (heap_with_id k) ∙ heap-ids (length d.types) k ∙ p.0);
     }
 

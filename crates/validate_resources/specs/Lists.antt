@@ -1,7 +1,7 @@
 -- What a module declares, as lists, and its context (WebAssembly core specification, "Modules", and
 -- "Conventions" of validation: contexts).
 use Rattle.std.specs.Prelude.{ℕ, Bool, List, false, ◌&&◌, map, nat_le, nat_lt, length, Option, Some, None}
-use Rattle.std.specs.Prelude.{slice_get, option_map, unwrap_or, if◌then◌else◌}
+use Rattle.std.specs.Prelude.{slice_get, option_map, unwrap_or, is_some, if◌then◌else◌}
 use Rattle.std.specs.List.{list_all}
 use Rattle.validate_types.specs.Features.{is_type_enabled}
 use Rattle.validate_types.specs.declared.features.WasmFeatures.{WasmFeatures}
@@ -15,12 +15,12 @@ use Rattle.validate_types.specs.declared.types.TableType.{TableType}
 use Rattle.validate_types.specs.declared.types.ValType.{ValType}
 use Rattle.validate_resources.specs.declared.lists.FuncDecl.{FuncDecl}
 use Rattle.validate_resources.specs.declared.lists.TheConstants.{MAX_TYPES}
-use Rattle.validate_resources.specs.Context.{ModuleContext}
-use Rattle.validate_resources.specs.Indices.{is_known, is_id, ref_test, type_test, table_test, global_test}
-use Rattle.validate_resources.specs.Indices.{sub_test, ref_with_id, table_with_id, global_with_id}
+use Rattle.validate_resources.specs.Context.{ModuleContext, signature_of}
+use Rattle.validate_resources.specs.Indices.{is_known, is_id, ref_indices_pass, type_indices_pass, table_indices_pass, global_indices_pass}
+use Rattle.validate_resources.specs.Indices.{sub_indices_pass, ref_with_id, table_with_id, global_with_id}
 use Rattle.validate_resources.specs.Indices.{sub_with_ids}
 use Rattle.validate_resources.specs.Indices.{type_with_id, canonical_heap, canonical_ref}
-use Rattle.validate_resources.specs.Order.{is_heap_shared, have_fitting_supertypes, type_below}
+use Rattle.validate_resources.specs.Order.{is_heap_shared, have_fitting_supertypes, is_type_below, heap_top}
 
 -- what a module declares
 pub record Declared : Type 0 where
@@ -48,26 +48,36 @@ declared_by types functions tables memories globals elements data_count = record
 -- ---- the causes of a refusal (Specification, "Validation: Modules")
 
 -- a test of each index in the lists
-abbrev pub indices_test : (UnpackedIndex → Bool)
+abbrev pub list_indices_pass : (UnpackedIndex → Bool)
     → List SubType → List TableType → List GlobalType → List RefType → Bool
-indices_test p types tables globals elements =
-    list_all (sub_test p) types
-    && list_all (table_test p) tables
-    && list_all (global_test p) globals
-    && list_all (ref_test p) elements
+list_indices_pass p types tables globals elements =
+    list_all (sub_indices_pass p) types
+    && list_all (table_indices_pass p) tables
+    && list_all (global_indices_pass p) globals
+    && list_all (ref_indices_pass p) elements
 
 -- each function is of one of the types
 abbrev pub have_known_types : Declared → Bool
 have_known_types d = list_all (λ (f : FuncDecl). nat_lt f.type_index (length d.types)) d.functions
 
+abbrev pub is_func_type : Option SubType → Bool
+is_func_type None = false
+is_func_type (Some s) = is_some (signature_of s)
+
+-- the type of each function is one of functions
+abbrev pub have_func_types : Declared → Bool
+have_func_types d = list_all (λ (f : FuncDecl). is_func_type (slice_get d.types f.type_index)) d.functions
+
 -- at most 1,000,000 types; each index passes the test, at their number; each function is of one of
--- them; each supertype is an earlier type of the same sharedness
+-- them; each supertype is an earlier type of the same kind and sharedness; each function is of one of
+-- functions
 abbrev pub is_module : (ℕ → UnpackedIndex → Bool) → Declared → Bool
 is_module p d =
     nat_le (length d.types) MAX_TYPES
-    && indices_test (p (length d.types)) d.types d.tables d.globals d.elements
+    && list_indices_pass (p (length d.types)) d.types d.tables d.globals d.elements
     && have_known_types d
     && have_fitting_supertypes d.types
+    && have_func_types d
 
 -- ---- the canonical lists
 
@@ -88,12 +98,13 @@ module_of d = if is_module is_known d then Some (canonical_lists d) else None
 -- the gate of the type is open, and each index in it known
 abbrev pub canonical_under : ℕ → WasmFeatures → ValType → Option ValType
 canonical_under n features t =
-    if is_type_enabled features t && type_test (is_known n) t then Some (type_with_id t) else None
+    if is_type_enabled features t && type_indices_pass (is_known n) t then Some (type_with_id t) else None
 
 -- both types are valid and canonical, and the one below the other
-abbrev pub valid_below : List SubType → ValType → ValType → Bool
-valid_below types t u =
-    type_test (is_id (length types)) t && type_test (is_id (length types)) u && type_below types t u
+abbrev pub is_valid_below : List SubType → ValType → ValType → Bool
+is_valid_below types t u =
+    type_indices_pass (is_id (length types)) t && type_indices_pass (is_id (length types)) u
+    && is_type_below types t u
 
 -- type i has id i
 abbrev pub type_id : ℕ → CoreTypeId
@@ -113,9 +124,10 @@ context_of d = record {
   global_at = slice_get d.globals;
   element_at = slice_get d.elements;
   data_count = d.data_count;
-  below = valid_below d.types;
+  below = is_valid_below d.types;
   is_shared = λ r. is_heap_shared d.types r.heap_type;
-  canonical = canonical_under (length d.types);
+  top_type = heap_top d.types;
+  canonical_type = canonical_under (length d.types);
   canonical_ref = canonical_ref (length d.types);
   canonical_heap = canonical_heap (length d.types);
 }

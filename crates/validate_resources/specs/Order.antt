@@ -3,13 +3,20 @@ use Rattle.std.specs.Prelude.{ℕ, Bool, List, [], ◌∷◌, ◌++◌, true, fa
 use Rattle.std.specs.Prelude.{nat_lt, slice_get, slice_index_or, Option, Some, None, if◌then◌else◌}
 use Rattle.std.specs.Bool.{beq}
 use Rattle.std.specs.List.{list_all, list_any, enumerate_from}
-use Rattle.validate_types.specs.Abstract.{abstract_below}
+use Rattle.validate_types.specs.Abstract.{is_abstract_below, abstract_top}
 use Rattle.validate_types.specs.Heap.{number_of}
-use Rattle.validate_types.specs.declared.heap.AbstractHeapType.TheVariants.{Func, NoFunc}
+use Rattle.validate_types.specs.declared.heap.AbstractHeapType.{AbstractHeapType}
+use Rattle.validate_types.specs.declared.heap.AbstractHeapType.TheVariants.{Func as AnyFunc, NoFunc}
+use Rattle.validate_types.specs.declared.heap.AbstractHeapType.TheVariants.{Array as AnyArray, Any}
+use Rattle.validate_types.specs.declared.heap.AbstractHeapType.TheVariants.{Struct as AnyStruct}
+use Rattle.validate_types.specs.declared.heap.AbstractHeapType.TheVariants.{None as NoAny}
 use Rattle.validate_types.specs.declared.heap.HeapType.{HeapType}
 use Rattle.validate_types.specs.declared.heap.HeapType.TheVariants.{Abstract, Concrete}
 use Rattle.validate_types.specs.declared.heap.UnpackedIndex.{UnpackedIndex}
 use Rattle.validate_types.specs.declared.refs.RefType.{RefType}
+use Rattle.validate_types.specs.declared.types.CompositeInnerType.{CompositeInnerType}
+use Rattle.validate_types.specs.declared.types.CompositeInnerType.TheVariants.{Func, Array, Struct}
+use Rattle.validate_types.specs.declared.types.CompositeType.{CompositeType}
 use Rattle.validate_types.specs.declared.types.SubType.{SubType}
 use Rattle.validate_types.specs.declared.types.ValType.{ValType}
 use Rattle.validate_types.specs.declared.types.ValType.TheVariants.{I32, I64, F32, F64, V128, Ref}
@@ -29,18 +36,44 @@ abbrev pub is_heap_shared : List SubType → HeapType → Bool
 is_heap_shared types (Abstract shared ty) = shared
 is_heap_shared types (Concrete i) = is_shared_at types (number_of i)
 
+-- ---- kinds (Specification, "Composite Types")
+
+-- both are of functions, of arrays or of structs
+abbrev pub is_same_kind : CompositeInnerType → CompositeInnerType → Bool
+is_same_kind (Func f) (Func g) = true
+is_same_kind (Array a) (Array b) = true
+is_same_kind (Struct fields) (Struct others) = true
+is_same_kind _ _ = false
+
+-- the abstract type that each type of the kind is below
+abbrev pub kind_of : CompositeInnerType → AbstractHeapType
+kind_of (Func f) = AnyFunc
+kind_of (Array a) = AnyArray
+kind_of (Struct fields) = AnyStruct
+
+-- the bottom type below each type of the kind
+abbrev pub kind_bottom : CompositeInnerType → AbstractHeapType
+kind_bottom (Func f) = NoFunc
+kind_bottom (Array a) = NoAny
+kind_bottom (Struct fields) = NoAny
+
 -- ---- supertypes (Specification, "Validation: Types", sub types)
 
--- the supertype of type k is an earlier one of the same sharedness, if it has one
-abbrev pub has_fitting_supertype : List SubType → ℕ → Bool → Option UnpackedIndex → Bool
-has_fitting_supertype types k shared None = true
-has_fitting_supertype types k shared (Some i) =
-    nat_lt (number_of i) k && beq (is_shared_at types (number_of i)) shared
+-- a type is declared, and is of this kind and sharedness
+abbrev pub is_same_sort : CompositeType → Option SubType → Bool
+is_same_sort c None = false
+is_same_sort c (Some s) =
+    is_same_kind c.inner s.composite_type.inner && beq c.shared s.composite_type.shared
+
+-- the supertype of type k is an earlier one of the same kind and sharedness, if it has one
+abbrev pub has_fitting_supertype : List SubType → ℕ → CompositeType → Option UnpackedIndex → Bool
+has_fitting_supertype types k c None = true
+has_fitting_supertype types k c (Some i) =
+    nat_lt (number_of i) k && is_same_sort c (slice_get types (number_of i))
 
 abbrev pub have_fitting_supertypes : List SubType → Bool
 have_fitting_supertypes types =
-    list_all
-    (λ (e : ℕ × SubType). has_fitting_supertype types e.0 e.1.composite_type.shared e.1.supertype_idx)
+    list_all (λ (e : ℕ × SubType). has_fitting_supertype types e.0 e.1.composite_type e.1.supertype_idx)
     (enumerate_from 0 types)
 
 -- the supertype that a type declares, where that is an earlier one than type k
@@ -80,31 +113,53 @@ abbrev pub is_on_chain : List SubType → ℕ → ℕ → Bool
 is_on_chain types i j = list_any (λ k. k == j) (supertypes types i)
 
 -- type i lies below type j where j is i or is on its chain of supertypes
-abbrev pub index_below : List SubType → ℕ → ℕ → Bool
-index_below types i j = i == j || is_on_chain types i j
+abbrev pub is_index_below : List SubType → ℕ → ℕ → Bool
+is_index_below types i j = i == j || is_on_chain types i j
 
 -- ---- matching
 
--- (Specification, "Matching: Heap Types") Every type of a module is one of functions: below what
--- `func` is below, and above what is below `nofunc`, which is `nofunc` itself.
-abbrev pub heap_below : List SubType → HeapType → HeapType → Bool
-heap_below types (Abstract s a) (Abstract z b) = beq s z && abstract_below a b
-heap_below types (Abstract s a) (Concrete j) =
-    beq s (is_shared_at types (number_of j)) && abstract_below a NoFunc
-heap_below types (Concrete i) (Abstract z b) =
-    beq (is_shared_at types (number_of i)) z && abstract_below Func b
-heap_below types (Concrete i) (Concrete j) = index_below types (number_of i) (number_of j)
+-- a declared type is below what the abstract type of its kind is below, in its sharedness
+abbrev pub is_declared_below : Option SubType → Bool → AbstractHeapType → Bool
+is_declared_below None z b = false
+is_declared_below (Some s) z b =
+    beq s.composite_type.shared z && is_abstract_below (kind_of s.composite_type.inner) b
+
+-- and above what is below the bottom type of its kind
+abbrev pub is_below_declared : Bool → AbstractHeapType → Option SubType → Bool
+is_below_declared s a None = false
+is_below_declared s a (Some d) =
+    beq s d.composite_type.shared && is_abstract_below a (kind_bottom d.composite_type.inner)
+
+-- (Specification, "Matching: Heap Types")
+abbrev pub is_heap_below : List SubType → HeapType → HeapType → Bool
+is_heap_below types (Abstract s a) (Abstract z b) = beq s z && is_abstract_below a b
+is_heap_below types (Abstract s a) (Concrete j) = is_below_declared s a (slice_get types (number_of j))
+is_heap_below types (Concrete i) (Abstract z b) = is_declared_below (slice_get types (number_of i)) z b
+is_heap_below types (Concrete i) (Concrete j) = is_index_below types (number_of i) (number_of j)
 
 -- (Specification, "Matching: Reference Types")
-abbrev pub ref_below : List SubType → RefType → RefType → Bool
-ref_below types r s = heap_below types r.heap_type s.heap_type && (s.nullable || not r.nullable)
+abbrev pub is_ref_below : List SubType → RefType → RefType → Bool
+is_ref_below types r s = is_heap_below types r.heap_type s.heap_type && (s.nullable || not r.nullable)
 
 -- (Specification, "Matching: Value Types")
-abbrev pub type_below : List SubType → ValType → ValType → Bool
-type_below types I32 I32 = true
-type_below types I64 I64 = true
-type_below types F32 F32 = true
-type_below types F64 F64 = true
-type_below types V128 V128 = true
-type_below types (Ref r) (Ref s) = ref_below types r s
-type_below types _ _ = false
+abbrev pub is_type_below : List SubType → ValType → ValType → Bool
+is_type_below types I32 I32 = true
+is_type_below types I64 I64 = true
+is_type_below types F32 F32 = true
+is_type_below types F64 F64 = true
+is_type_below types V128 V128 = true
+is_type_below types (Ref r) (Ref s) = is_ref_below types r s
+is_type_below types _ _ = false
+
+-- ---- top types (Specification, "Matching: Heap Types": the hierarchies)
+
+-- the top type of the hierarchy of a declared type's kind; `any`, where there is no such type
+abbrev pub declared_top : Option SubType → AbstractHeapType
+declared_top None = Any
+declared_top (Some s) = abstract_top (kind_of s.composite_type.inner)
+
+-- the top type of the hierarchy that a heap type is in, of its sharedness
+abbrev pub heap_top : List SubType → HeapType → HeapType
+heap_top types (Abstract shared ty) = Abstract shared (abstract_top ty)
+heap_top types (Concrete i) =
+    Abstract (is_shared_at types (number_of i)) (declared_top (slice_get types (number_of i)))

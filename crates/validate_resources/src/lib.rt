@@ -2,13 +2,14 @@
 //! lookup over lists.
 #![tactic(auto)]
 
+pub mod kinds;
 pub mod lists;
 pub mod uses;
 
 ghost use Rattle.std.specs.Prelude.{◌≡◌, true, false, None, Some, IsSome, OnOk, IfErr};
 ghost use Rattle.std.specs.Option.{option_copied};
 ghost use Rattle.validate_types.specs.declared.types.ValType.{ValType};
-ghost use Rattle.validate_resources.specs.Context.{ModuleContext, IsLawful, Valid};
+ghost use Rattle.validate_resources.specs.Context.{ModuleContext, IsLawful, Valid, is_valid_heap};
 
 pub use crate::lists::{FuncDecl, ModuleLists};
 use validate_types::{
@@ -77,6 +78,12 @@ pub trait WasmModuleResources {
     fn is_shared(&self, ty: RefType) -> bool
         ensures { Valid (context self.now) (ValType.Ref ty) → result ≡ (context self.now).is_shared ty };
 
+    /// The top type of the hierarchy that a heap type is in. Nothing is said of a type that isn't valid
+    /// and canonical.
+    fn top_type(&self, ty: &HeapType) -> HeapType
+        ensures { is_valid_heap (context self.now) ty.now ≡ true → result
+            ≡ (context self.now).top_type ty.now };
+
     /// Checks a heap type of a module and writes its canonical form. It refuses, at the offset handed
     /// in, where an index in it is unknown, or for want of memory.
     fn check_heap_type(&self, ty: &mut HeapType, offset: u64) -> Result<(), Error>
@@ -102,9 +109,10 @@ pub trait WasmModuleResources {
         features: &WasmFeatures,
         offset: u64,
     ) -> Result<(), Error>
-        ensures canonical { OnOk result ((context self.now).canonical features.now ty.old ≡ Some ty.new) }
+        ensures canonical { OnOk result ((context self.now).canonical_type features.now ty.old
+            ≡ Some ty.new) }
         ensures refused { IfErr result (λ e. e.wants_memory ≡ false
-            → (context self.now).canonical features.now ty.old ≡ None) }
+            → (context self.now).canonical_type features.now ty.old ≡ None) }
         ensures offset { IfErr result (λ e. e.offset ≡ offset) };
 
     /// The laws of a lookup.

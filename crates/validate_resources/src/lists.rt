@@ -3,16 +3,17 @@
 mod canonical;
 mod order;
 
-ghost use Rattle.std.specs.Prelude.{◌≡◌, ◌<◌, length, codes, Some, None, Ok, true, false, nat_lt, is_ok, IfOk, OnOk, OnErr, IfErr};
+ghost use Rattle.std.specs.Prelude.{◌≡◌, ◌<◌, ◌≤◌, length, codes, slice_get, Some, None, Ok, true, false, nat_lt, is_ok, IfOk, OnOk, OnErr, IfErr};
 ghost use Rattle.std.specs.List.{list_all};
 ghost use Rattle.validate_resources.specs.Indices.{is_id, unknown_text};
-ghost use Rattle.validate_resources.specs.Lists.{declared_by, is_module, module_of};
+ghost use Rattle.validate_resources.specs.Lists.{declared_by, is_module, is_func_type, module_of};
 
 use crate::WasmModuleResources;
+use crate::kinds::func_type_of;
 use crate::lists::canonical::{
     Forms, canonical_heap, canonical_lists, canonical_ref, canonical_type,
 };
-use crate::lists::order::{is_heap_shared, is_type_below, supertypes_fit};
+use crate::lists::order::{heap_top, is_heap_shared, is_type_below, supertypes_fit};
 use std::alloc::Global;
 use validate_types::{
     CoreTypeId, Error, GlobalType, HeapType, MemoryType, RefType, SubType, TableType, ValType,
@@ -56,8 +57,8 @@ impl ModuleLists {
     ///
     /// It refuses at offset 0: `too many types` for more than [`MAX_TYPES`]; else `unknown type` where
     /// there is no type for an index; else `invalid supertype` where a supertype isn't an earlier
-    /// type or is of another sharedness. It takes memory for the canonical lists, and refuses where
-    /// there is none.
+    /// type or is of another kind or sharedness; else `expected func type` where the type of a function
+    /// isn't one of functions. It takes memory for the canonical lists, and refuses where there is none.
     pub fn new(
         alloc: Global,
         types: Vec<SubType>,
@@ -81,15 +82,16 @@ impl ModuleLists {
             }) }
         ensures offset { IfErr result (λ e. e.offset ≡ 0) }
     {
-        if types.len() > MAX_TYPES {
-            return Err(Error::new("too many types", 0));
-        }
+        check_count(types.len())?;
         let forms = canonical_lists(alloc, &types, &tables, &globals, &elements)?;
         if !have_types(&functions, types.len()) {
             return Err(Error::new("unknown type", 0));
         }
         if !supertypes_fit(&types) {
             return Err(Error::new("invalid supertype", 0));
+        }
+        if !have_func_types(&types, &functions) {
+            return Err(Error::new("expected func type", 0));
         }
         Ok(ModuleLists::from_forms(alloc, forms, functions, memories, data_count))
     }
@@ -126,6 +128,22 @@ impl ModuleLists {
     }
 }
 
+/// A module has no more types than may be.
+fn check_count(count: usize) -> Result<(), Error>
+    ensures within { OnOk result (count ≤ MAX_TYPES) }
+    ensures too_many { IfErr result (λ e. MAX_TYPES < count) }
+    ensures refused { IfErr result (λ e. e ≡ record {
+      offset = 0;
+      text = codes "too many types";
+      wants_memory = false;
+    }) }
+{
+    if count > MAX_TYPES {
+        return Err(Error::new("too many types", 0));
+    }
+    Ok(())
+}
+
 /// Whether each function is of one of so many types.
 fn have_types(functions: &[FuncDecl], count: usize) -> bool
     ensures { result ≡ list_all (λ (f : _). nat_lt f.type_index count) functions.now }
@@ -133,6 +151,25 @@ fn have_types(functions: &[FuncDecl], count: usize) -> bool
     functions
         .iter()
         .all(|function| (function.type_index as usize) < count)
+}
+
+/// Whether the type at this index is there, and is one of functions.
+fn is_func_type(types: &[SubType], index: u32) -> bool
+    ensures { result ≡ is_func_type (slice_get types.now index) }
+{
+    match types.get(index as usize) {
+        Some(ty) => func_type_of(ty).is_some(),
+        None => false,
+    }
+}
+
+/// Whether the type of each function is one of functions.
+fn have_func_types(types: &[SubType], functions: &[FuncDecl]) -> bool
+    ensures { result ≡ list_all (λ (f : _). is_func_type (slice_get types.now f.type_index)) functions.now }
+{
+    functions
+        .iter()
+        .all(|function| is_func_type(types, function.type_index))
 }
 
 /// Writes a canonical form, or refuses where there is no type of the number handed in. The text of
@@ -222,6 +259,10 @@ impl WasmModuleResources for ModuleLists {
 
     fn is_shared(&self, ty: RefType) -> bool {
         is_heap_shared(&self.types, ty.heap_type())
+    }
+
+    fn top_type(&self, ty: &HeapType) -> HeapType {
+        heap_top(&self.types, *ty)
     }
 
     fn check_heap_type(&self, ty: &mut HeapType, offset: u64) -> Result<(), Error> {

@@ -4,12 +4,13 @@ ghost use Rattle.std.specs.Prelude.{◌≡◌, true, false, None, Some, ◌&&◌
 ghost use Rattle.std.specs.List.{AllByRecursion};
 ghost use Rattle.validate_resources.specs.Context.{Valid};
 ghost use Rattle.validate_types.specs.Features.{has, multi_value};
-ghost use Rattle.validation_rules.specs.Operators.{opener, opening_operator, checked_block, may_access_type};
+ghost use Rattle.validation_rules.specs.Operators.{opener, opening_operator, checked_block, is_accessible_func_type};
 ghost use Rattle.validation_rules.specs.Valid.{IsValidBlock};
-ghost use Rattle.validate_stacks.specs.State.{context};
+ghost use Rattle.validate_stacks.specs.State.{body_context};
 ghost use Rattle.validate_stacks.specs.Visits.{MayVisit, Meets};
 
 use validate_resources::WasmModuleResources;
+use validate_resources::kinds::{expected_func_type, func_type_of};
 use validate_stacks::Stacks;
 use validate_stacks::blocks::params;
 use validate_types::{Error, ValType};
@@ -18,20 +19,20 @@ use validate_visit::{BlockType, FrameKind};
 const NEEDS_MULTI_VALUE: &str =
     "blocks, loops, and ifs may only produce a resulttype when multi-value is not enabled";
 
-/// A function type that a block names: it needs `multi_value`, has to be declared, and in a shared
-/// function has to be shared.
+/// A function type that a block names: it needs `multi_value`, has to be declared and of functions, and
+/// in a shared function has to be shared.
 fn check_function_type<R: WasmModuleResources>(
     stacks: &Stacks,
     resources: &R,
     offset: u64,
     type_index: u32,
 ) -> Result<(), Error>
-    ensures accepted { OnOk result ((has stacks.now.body.features multi_value && may_access_type
-        (context (R.context resources.now) stacks.now.body)
+    ensures accepted { OnOk result ((has stacks.now.body.features multi_value && is_accessible_func_type
+        (body_context (R.context resources.now) stacks.now.body)
         ((R.context resources.now).type_at type_index)) ≡ true) }
     ensures refused { IfErr result (λ e. e.wants_memory ≡ false
-        → (has stacks.now.body.features multi_value && may_access_type
-        (context (R.context resources.now) stacks.now.body)
+        → (has stacks.now.body.features multi_value && is_accessible_func_type
+        (body_context (R.context resources.now) stacks.now.body)
         ((R.context resources.now).type_at type_index)) ≡ false) }
     ensures offset { IfErr result (λ e. e.offset ≡ offset) }
 {
@@ -41,6 +42,9 @@ fn check_function_type<R: WasmModuleResources>(
     let Some(sub_type) = resources.sub_type_at(type_index) else {
         return Err(Error::new("unknown type: type index out of bounds", offset));
     };
+    if func_type_of(sub_type).is_none() {
+        return Err(expected_func_type(stacks.allocator(), offset, type_index, sub_type));
+    }
     if stacks.is_shared() && !sub_type.composite_type.shared {
         return Err(Error::new("shared functions cannot access unshared functions", offset));
     }
@@ -49,7 +53,8 @@ fn check_function_type<R: WasmModuleResources>(
 
 /// The block type as a frame keeps it (wasmparser's `check_block_type`): a value type in its
 /// canonical form. It refuses a value type as the lookup does, and a function type where
-/// `multi_value` is off, where no type has its index, and an unshared one in a shared function.
+/// `multi_value` is off, where no type has its index or the type there is of another kind, and an
+/// unshared one in a shared function.
 #[inline(always)]
 fn check_block_type<R: WasmModuleResources>(
     stacks: &Stacks,
@@ -58,9 +63,9 @@ fn check_block_type<R: WasmModuleResources>(
     block_type: BlockType,
 ) -> Result<BlockType, Error>
     ensures checked { IfOk result (λ bt. checked_block
-        (context (R.context resources.now) stacks.now.body) block_type ≡ Some bt) }
+        (body_context (R.context resources.now) stacks.now.body) block_type ≡ Some bt) }
     ensures refused { IfErr result (λ e. e.wants_memory ≡ false
-        → checked_block (context (R.context resources.now) stacks.now.body) block_type ≡ None) }
+        → checked_block (body_context (R.context resources.now) stacks.now.body) block_type ≡ None) }
     ensures offset { IfErr result (λ e. e.offset ≡ offset) }
 {
     match block_type {

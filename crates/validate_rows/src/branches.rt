@@ -2,9 +2,9 @@
 
 ghost use Rattle.std.specs.Prelude.{◌≡◌, None, Some, true, false, OnOk, OnErr, IfErr};
 ghost use Rattle.validation_rules.specs.Branches.{br_row, br_if_row, br_table_row, return_row};
-ghost use Rattle.validation_rules.specs.Operators.{flat_operator};
+ghost use Rattle.validation_rules.specs.Operators.{staying_operator};
 ghost use Rattle.validate_stacks.specs.Pops.{IsKept};
-ghost use Rattle.validate_stacks.specs.State.{IsValid, context};
+ghost use Rattle.validate_stacks.specs.State.{IsValid, body_context};
 ghost use Rattle.validate_stacks.specs.Visits.{step_body, MayVisit, Meets};
 ghost use Rattle.validate_rows.specs.Targets.{is_target, are_targets};
 
@@ -26,11 +26,11 @@ pub fn check_br<R: WasmModuleResources>(
 ) -> Result<(), Error>
     requires { MayVisit (R.context resources.now) stacks.old }
     ensures visit { Meets (R.context resources.now)
-        (λ cx. flat_operator (λ hs. br_row cx hs relative_depth)) offset stacks.old.body result
+        (λ cx. staying_operator (λ hs. br_row cx hs relative_depth)) offset stacks.old.body result
         stacks.new.body }
     ensures memory { stacks.old.body.undone ≡ None
         → OnErr result (step_body (R.context resources.now)
-        (λ cx. flat_operator (λ hs. br_row cx hs relative_depth)) stacks.old.body ≡ None) }
+        (λ cx. staying_operator (λ hs. br_row cx hs relative_depth)) stacks.old.body ≡ None) }
 {
     let (block_type, kind) = label(stacks, offset, relative_depth)?;
     stacks.pop_types(resources, offset, label_types(resources, &block_type, kind))?;
@@ -47,7 +47,7 @@ pub fn check_br_if<R: WasmModuleResources>(
 ) -> Result<(), Error>
     requires { MayVisit (R.context resources.now) stacks.old }
     ensures { Meets (R.context resources.now)
-        (λ cx. flat_operator (λ hs. br_if_row cx hs relative_depth)) offset stacks.old.body result
+        (λ cx. staying_operator (λ hs. br_if_row cx hs relative_depth)) offset stacks.old.body result
         stacks.new.body }
 {
     stacks.pop_types(resources, offset, &[ValType::I32])?;
@@ -65,11 +65,11 @@ pub fn check_return<R: WasmModuleResources>(
     offset: u64,
 ) -> Result<(), Error>
     requires { MayVisit (R.context resources.now) stacks.old }
-    ensures visit { Meets (R.context resources.now) (λ cx. flat_operator (λ hs. return_row cx hs))
+    ensures visit { Meets (R.context resources.now) (λ cx. staying_operator (λ hs. return_row cx hs))
         offset stacks.old.body result stacks.new.body }
     ensures memory { stacks.old.body.undone ≡ None
         → OnErr result (step_body (R.context resources.now)
-        (λ cx. flat_operator (λ hs. return_row cx hs)) stacks.old.body ≡ None) }
+        (λ cx. staying_operator (λ hs. return_row cx hs)) stacks.old.body ≡ None) }
 {
     let outermost = stacks.control_stack_height() - 1;
     let Some(frame) = stacks.get_frame(outermost) else {
@@ -160,11 +160,11 @@ pub fn check_br_table<R: WasmModuleResources>(
 ) -> Result<(), Error>
     requires { MayVisit (R.context resources.now) stacks.old }
     ensures visit { Meets (R.context resources.now)
-        (λ cx. flat_operator (λ hs. br_table_row cx hs table.entry.complete table.entry.targets.now
+        (λ cx. staying_operator (λ hs. br_table_row cx hs table.entry.complete table.entry.targets.now
         table.entry.default)) offset stacks.old.body result stacks.new.body }
     ensures memory { stacks.old.body.undone ≡ None
         → OnErr result (step_body (R.context resources.now)
-        (λ cx. flat_operator (λ hs. br_table_row cx hs table.entry.complete table.entry.targets.now
+        (λ cx. staying_operator (λ hs. br_table_row cx hs table.entry.complete table.entry.targets.now
         table.entry.default)) stacks.old.body ≡ None) }
 {
     stacks.pop_types(resources, offset, &[ValType::I32])?;

@@ -7,8 +7,8 @@ ghost use Rattle.validation_rules.specs.Calls.{callee as called, call_row, may_r
 ghost use Rattle.validation_rules.specs.Context.{Context};
 ghost use Rattle.validation_rules.specs.Fits.{Known, all_fit};
 ghost use Rattle.validation_rules.specs.Static.{heads};
-ghost use Rattle.validation_rules.specs.Operators.{row_operator, flat_operator};
-ghost use Rattle.validate_stacks.specs.State.{context};
+ghost use Rattle.validation_rules.specs.Operators.{row_operator, staying_operator};
+ghost use Rattle.validate_stacks.specs.State.{body_context};
 ghost use Rattle.validate_stacks.specs.Visits.{MayVisit, Meets};
 
 use std::alloc::{AllocError, Global};
@@ -64,9 +64,9 @@ fn check_func_type_same_results<R: WasmModuleResources>(
 ) -> Result<(), Error>
     requires visit { MayVisit (R.context resources.now) stacks.now }
     requires results { AllByRecursion (Valid (R.context resources.now)) results.now }
-    ensures below { OnOk result (may_return (context (R.context resources.now) stacks.now.body)
+    ensures below { OnOk result (may_return (body_context (R.context resources.now) stacks.now.body)
         (heads stacks.now.body.present.frames) results.now ≡ true) }
-    ensures other { OnErr result (may_return (context (R.context resources.now) stacks.now.body)
+    ensures other { OnErr result (may_return (body_context (R.context resources.now) stacks.now.body)
         (heads stacks.now.body.present.frames) results.now ≡ false) }
     ensures offset { IfErr result (λ e. e.offset ≡ offset) }
 {
@@ -126,7 +126,7 @@ pub(crate) fn check_return_call_ty<R: WasmModuleResources>(
     requires params { AllByRecursion (Valid (R.context resources.now)) func_type.now.params }
     requires results { AllByRecursion (Valid (R.context resources.now)) func_type.now.results }
     ensures { Meets (R.context resources.now)
-        (λ cx. flat_operator (λ hs. tail_call_row cx hs func_type.now.params func_type.now.results))
+        (λ cx. staying_operator (λ hs. tail_call_row cx hs func_type.now.params func_type.now.results))
         offset stacks.old.body result stacks.new.body }
 {
     check_func_type_same_results(stacks, resources, offset, func_type.results())?;
@@ -144,7 +144,7 @@ pub fn check_return_call<R: WasmModuleResources>(
 ) -> Result<(), Error>
     requires { MayVisit (R.context resources.now) stacks.old }
     ensures { Meets (R.context resources.now)
-        (λ cx. flat_operator (λ hs. return_call_row cx hs function_index))
+        (λ cx. staying_operator (λ hs. return_call_row cx hs function_index))
         offset stacks.old.body result stacks.new.body }
 {
     let func_type = type_of_function(stacks, resources, offset, function_index)?;

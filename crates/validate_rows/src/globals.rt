@@ -2,7 +2,7 @@
 
 ghost use Rattle.validation_rules.specs.Calls.{global_get_row, global_set_row};
 ghost use Rattle.validation_rules.specs.Operators.{row_operator};
-ghost use Rattle.validate_stacks.specs.State.{context};
+ghost use Rattle.validate_stacks.specs.State.{body_context};
 ghost use Rattle.validate_stacks.specs.Visits.{MayVisit, Meets};
 
 use validate_resources::WasmModuleResources;

@@ -4,8 +4,8 @@
 ghost use Rattle.std.specs.Prelude.{◌≡◌, false, None, Some, IfOk, OnErr, IfErr};
 ghost use Rattle.validate_resources.specs.Context.{Valid};
 ghost use Rattle.validation_rules.specs.Indirect.{function_place as place_of_function, function_reference as reference_to_function, call_operand_row, return_call_operand_row, call_indirect_row, return_call_indirect_row, call_ref_row, return_call_ref_row};
-ghost use Rattle.validation_rules.specs.Operators.{row_operator, flat_operator};
-ghost use Rattle.validate_stacks.specs.State.{context};
+ghost use Rattle.validation_rules.specs.Operators.{row_operator, staying_operator};
+ghost use Rattle.validate_stacks.specs.State.{body_context};
 ghost use Rattle.validate_stacks.specs.Visits.{MayVisit, Meets};
 
 use crate::calls::check_return_call_ty;
@@ -25,10 +25,10 @@ fn function_place<R: WasmModuleResources>(
     table_index: u32,
 ) -> Result<ValType, Error>
     ensures found { IfOk result (λ t. place_of_function
-        (context (R.context resources.now) stacks.now.body) table_index ≡ Some t) }
+        (body_context (R.context resources.now) stacks.now.body) table_index ≡ Some t) }
     ensures valid { IfOk result (λ t. Valid (R.context resources.now) t) }
     ensures refused { OnErr result (place_of_function
-        (context (R.context resources.now) stacks.now.body) table_index ≡ None) }
+        (body_context (R.context resources.now) stacks.now.body) table_index ≡ None) }
     ensures offset { IfErr result (λ e. e.offset ≡ offset) }
 {
     let table = table_type_at(stacks, resources, offset, table_index)?;
@@ -49,10 +49,10 @@ fn function_reference<R: WasmModuleResources>(
     type_index: u32,
 ) -> Result<ValType, Error>
     ensures found { IfOk result (λ t. reference_to_function
-        (context (R.context resources.now) stacks.now.body) type_index ≡ Some t) }
+        (body_context (R.context resources.now) stacks.now.body) type_index ≡ Some t) }
     ensures valid { IfOk result (λ t. Valid (R.context resources.now) t) }
     ensures refused { IfErr result (λ e. e.wants_memory ≡ false
-        → reference_to_function (context (R.context resources.now) stacks.now.body) type_index ≡ None) }
+        → reference_to_function (body_context (R.context resources.now) stacks.now.body) type_index ≡ None) }
     ensures offset { IfErr result (λ e. e.offset ≡ offset) }
 {
     laws(resources);
@@ -97,7 +97,7 @@ fn check_return_call_operand<R: WasmModuleResources>(
 ) -> Result<(), Error>
     requires visit { MayVisit (R.context resources.now) stacks.old }
     requires names { Valid (R.context resources.now) names }
-    ensures { Meets (R.context resources.now) (λ cx. flat_operator
+    ensures { Meets (R.context resources.now) (λ cx. staying_operator
         (λ hs. return_call_operand_row cx hs (Some names) type_index)) offset stacks.old.body result
         stacks.new.body }
 {
@@ -135,7 +135,7 @@ pub fn check_return_call_indirect<R: WasmModuleResources>(
 ) -> Result<(), Error>
     requires { MayVisit (R.context resources.now) stacks.old }
     ensures { Meets (R.context resources.now)
-        (λ cx. flat_operator (λ hs. return_call_indirect_row cx hs type_index table_index)) offset
+        (λ cx. staying_operator (λ hs. return_call_indirect_row cx hs type_index table_index)) offset
         stacks.old.body result stacks.new.body }
 {
     let place = function_place(stacks, resources, offset, table_index)?;
@@ -167,7 +167,7 @@ pub fn check_return_call_ref<R: WasmModuleResources>(
 ) -> Result<(), Error>
     requires { MayVisit (R.context resources.now) stacks.old }
     ensures { Meets (R.context resources.now)
-        (λ cx. flat_operator (λ hs. return_call_ref_row cx hs type_index)) offset stacks.old.body result
+        (λ cx. staying_operator (λ hs. return_call_ref_row cx hs type_index)) offset stacks.old.body result
         stacks.new.body }
 {
     let reference = function_reference(stacks, resources, offset, type_index)?;

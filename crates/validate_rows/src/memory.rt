@@ -1,11 +1,11 @@
 //! Operators on memories, by shape (WebAssembly core specification, "Memory Instructions").
 
 ghost use Rattle.std.specs.Prelude.{◌≡◌, true, false, [], IfOk, OnErr, IfErr};
-ghost use Rattle.validate_resources.specs.Context.{is_number};
+ghost use Rattle.validate_resources.specs.Context.{is_number_or_vector};
 ghost use Rattle.validation_rules.specs.Access.{load_row, store_row};
 ghost use Rattle.validation_rules.specs.Memory.{memory_row};
 ghost use Rattle.validation_rules.specs.Operators.{row_operator};
-ghost use Rattle.validate_stacks.specs.State.{context};
+ghost use Rattle.validate_stacks.specs.State.{body_context};
 ghost use Rattle.validate_stacks.specs.Visits.{MayVisit, Meets};
 ghost use Rattle.validate_shapes.specs.Types.{types_row, AreValid};
 
@@ -27,11 +27,11 @@ fn memory_types<R: WasmModuleResources>(
     offset: u64,
     op: MemoryOp,
 ) -> Result<Types, Error>
-    ensures row { IfOk result (λ t. memory_row (context (R.context resources.now) stacks.now.body) op
+    ensures row { IfOk result (λ t. memory_row (body_context (R.context resources.now) stacks.now.body) op
         ≡ types_row t) }
     ensures valid { IfOk result (λ t. AreValid (R.context resources.now) t) }
     ensures refused { OnErr result
-        ((memory_row (context (R.context resources.now) stacks.now.body) op).premise ≡ false) }
+        ((memory_row (body_context (R.context resources.now) stacks.now.body) op).premise ≡ false) }
     ensures offset { IfErr result (λ e. e.offset ≡ offset) }
 {
     let (wanted, pushed) = match op {
@@ -110,7 +110,7 @@ fn check_load<R: WasmModuleResources>(
     ty: ValType,
 ) -> Result<(), Error>
     requires visit { MayVisit (R.context resources.now) stacks.old }
-    requires number { is_number ty ≡ true }
+    requires number { is_number_or_vector ty ≡ true }
     ensures { Meets (R.context resources.now) (λ cx. row_operator (load_row cx memarg ty)) offset
         stacks.old.body result stacks.new.body }
 {
@@ -128,7 +128,7 @@ fn check_store<R: WasmModuleResources>(
     ty: ValType,
 ) -> Result<(), Error>
     requires visit { MayVisit (R.context resources.now) stacks.old }
-    requires number { is_number ty ≡ true }
+    requires number { is_number_or_vector ty ≡ true }
     ensures { Meets (R.context resources.now) (λ cx. row_operator (store_row cx memarg ty)) offset
         stacks.old.body result stacks.new.body }
 {

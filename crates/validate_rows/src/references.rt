@@ -4,8 +4,8 @@
 ghost use Rattle.std.specs.Prelude.{◌≡◌, true, false, [], None, Some, IfOk, OnOk, OnErr, IfErr};
 ghost use Rattle.validate_resources.specs.Context.{ModuleContext};
 ghost use Rattle.validation_rules.specs.References.{is_null_gate_open, ref_null_row, ref_func_row, null_test_pushes, non_null_pushes, br_on_null_row, last_reference as ending, br_on_non_null_row};
-ghost use Rattle.validation_rules.specs.Operators.{looking_row, row_operator, flat_operator};
-ghost use Rattle.validate_stacks.specs.State.{context};
+ghost use Rattle.validation_rules.specs.Operators.{looking_row, row_operator, staying_operator};
+ghost use Rattle.validate_stacks.specs.State.{body_context};
 ghost use Rattle.validate_stacks.specs.Visits.{MayVisit, Meets};
 
 use validate_resources::WasmModuleResources;
@@ -22,9 +22,9 @@ use validate_types::{Error, HeapType, RefType, UnpackedIndex, ValType};
 /// a lookup of at most 1,000,000 types refuses it later on.
 fn check_null_gate(stacks: &Stacks, offset: u64, heap_type: HeapType) -> Result<(), Error>
     ensures open { OnOk result ((md : ModuleContext)
-        → is_null_gate_open (context md stacks.now.body) heap_type ≡ true) }
+        → is_null_gate_open (body_context md stacks.now.body) heap_type ≡ true) }
     ensures closed { OnErr result ((md : ModuleContext)
-        → is_null_gate_open (context md stacks.now.body) heap_type ≡ false) }
+        → is_null_gate_open (body_context md stacks.now.body) heap_type ≡ false) }
     ensures offset { IfErr result (λ e. e.offset ≡ offset) }
     ensures memory { IfErr result (λ e. e.wants_memory ≡ false) }
 {
@@ -123,7 +123,7 @@ pub fn check_br_on_null<R: WasmModuleResources>(
 ) -> Result<(), Error>
     requires { MayVisit (R.context resources.now) stacks.old }
     ensures { Meets (R.context resources.now)
-        (λ cx. flat_operator (λ hs. br_on_null_row cx hs relative_depth)) offset stacks.old.body result
+        (λ cx. staying_operator (λ hs. br_on_null_row cx hs relative_depth)) offset stacks.old.body result
         stacks.new.body }
 {
     let reference = pop_non_null_ref(stacks, resources, offset)?;
@@ -166,7 +166,7 @@ pub fn check_br_on_non_null<R: WasmModuleResources>(
 ) -> Result<(), Error>
     requires { MayVisit (R.context resources.now) stacks.old }
     ensures { Meets (R.context resources.now)
-        (λ cx. flat_operator (λ hs. br_on_non_null_row cx hs relative_depth)) offset
+        (λ cx. staying_operator (λ hs. br_on_non_null_row cx hs relative_depth)) offset
         stacks.old.body result stacks.new.body }
 {
     let (block_type, kind) = label(stacks, offset, relative_depth)?;

@@ -4,7 +4,7 @@ ghost use Rattle.std.specs.Prelude.{◌≡◌, true, false, IfOk, OnOk, OnErr, I
 ghost use Rattle.validate_resources.specs.Context.{Valid};
 ghost use Rattle.validation_rules.specs.Operators.{row_operator};
 ghost use Rattle.validation_rules.specs.Tables.{table_row};
-ghost use Rattle.validate_stacks.specs.State.{context};
+ghost use Rattle.validate_stacks.specs.State.{body_context};
 ghost use Rattle.validate_stacks.specs.Visits.{MayVisit, Meets};
 ghost use Rattle.validate_shapes.specs.Types.{types_row, AreValid};
 
@@ -45,11 +45,11 @@ fn table_types<R: WasmModuleResources>(
     offset: u64,
     op: TableOp,
 ) -> Result<Types, Error>
-    ensures row { IfOk result (λ t. table_row (context (R.context resources.now) stacks.now.body) op
+    ensures row { IfOk result (λ t. table_row (body_context (R.context resources.now) stacks.now.body) op
         ≡ types_row t) }
     ensures valid { IfOk result (λ t. AreValid (R.context resources.now) t) }
     ensures refused { OnErr result
-        ((table_row (context (R.context resources.now) stacks.now.body) op).premise ≡ false) }
+        ((table_row (body_context (R.context resources.now) stacks.now.body) op).premise ≡ false) }
     ensures offset { IfErr result (λ e. e.offset ≡ offset) }
 {
     let (wanted, pushed) = match op {

@@ -9,16 +9,16 @@ use Rattle.validate_visit.specs.declared.frame.Frame.{Frame as FlatFrame}
 use Rattle.validation_rules.specs.Branches.{has_label, label_types_at, target, br_row, br_if_row}
 use Rattle.validation_rules.specs.Context.{I32, Context}
 use Rattle.validation_rules.specs.Fits.{MaybeType, Known, all_fit}
-use Rattle.validation_rules.specs.Rows.{FrameKind, Head, label_types, Flat, Target, Row, guard, all_fit_each}
-use Rattle.validation_rules.specs.Static.{Frame, State, frame_count, heads, onto, operands_found, operands_below, operands_after, locals_set, state_if_pushed, step_in}
-use Rattle.validation_rules.specs.Operators.{ending_row, flat_operator}
+use Rattle.validation_rules.specs.Rows.{FrameKind, Head, label_types, Stays, Target, Row, guard, all_fit_each}
+use Rattle.validation_rules.specs.Static.{Frame, State, frame_count, heads, stack_with, operands_found, operands_under, operands_after, locals_set, state_if_pushed, step_in}
+use Rattle.validation_rules.specs.Operators.{ending_row, staying_operator}
 use Rattle.validation_rules.proofs.Rows.{row_with}
 use Rattle.validation_rules.proofs.Steps.{some_injective, guard_some}
 use Rattle.validation_rules.proofs.Valid.{label_at_valid, heads_valid}
-use Rattle.validate_stacks.specs.Blocks.{head_of}
+use Rattle.validate_stacks.specs.Steps.{head_of}
 use Rattle.validate_stacks.specs.Pops.{body_popped_each, body_pushed_each}
-use Rattle.validate_stacks.specs.State.{BodyState, IsValid, context}
-use Rattle.validate_stacks.specs.Steps.{frame_at, type_and_kind, label_of, body_unreachable}
+use Rattle.validate_stacks.specs.State.{BodyState, IsValid, body_context}
+use Rattle.validate_stacks.specs.Steps.{frame_at, type_and_kind, label_at, body_unreachable}
 use Rattle.validate_stacks.specs.Steps as steps
 use Rattle.validate_stacks.specs.Visits.{step_body}
 use Rattle.validate_stacks.specs.Flat.{with_heights}
@@ -62,18 +62,18 @@ no_types cx (h ∷ hs) (suc d) e = no_types cx hs d e
 
 module _ (md : ModuleContext) (v : BodyState) (f : Frame) (fs : List Frame) (e : v.present.frames ≡ f ∷ fs) where
   abbrev cx : Context
-  cx = context md v
+  cx = body_context md v
 
   abbrev frame_then : List ValType → List ValType → Bool → Frame
-  frame_then wanted push dead = record f { operands = operands_after dead (operands_below (length wanted) f) (map Known push); dead = f.dead || dead }
+  frame_then wanted push dead = record f { operands = operands_after dead (operands_under (length wanted) f) (map Known push); dead = f.dead || dead }
 
-  flat_in : (row : Context → List Head → Row) (p : Bool) (wanted : List ValType) (also : List (List ValType)) (push : List ValType) (targets : List Target) (dead : Bool) → row cx (heads v.present.frames) ≡ row_with p None wanted also push None targets [] dead → step_body md (λ c. flat_operator (row c)) v ≡ guard p (guard (all_fit cx (operands_found (length wanted) f) wanted && all_fit_each cx (operands_found (length wanted) f) also) (Some (with_frame v (frame_then wanted push dead) fs)))
+  flat_in : (row : Context → List Head → Row) (p : Bool) (wanted : List ValType) (also : List (List ValType)) (push : List ValType) (targets : List Target) (dead : Bool) → row cx (heads v.present.frames) ≡ row_with p None wanted also push None targets [] dead → step_body md (λ c. staying_operator (row c)) v ≡ guard p (guard (all_fit cx (operands_found (length wanted) f) wanted && all_fit_each cx (operands_found (length wanted) f) also) (Some (with_frame v (frame_then wanted push dead) fs)))
   flat_in row p wanted also push targets dead h =
-      ap (λ gs. option_map (λ (s : State). record v { present = s }) (step_in cx (flat_operator (row cx)) gs v.present.left)) e
-      ∙ ap (λ (r : Row). option_map (λ (s : State). record v { present = s }) (step_in cx (flat_operator (λ _. r)) (f ∷ fs) v.present.left)) (ap (λ gs. row cx (heads gs)) (sym e) ∙ h)
+      ap (λ gs. option_map (λ (s : State). record v { present = s }) (step_in cx (staying_operator (row cx)) gs v.present.left)) e
+      ∙ ap (λ (r : Row). option_map (λ (s : State). record v { present = s }) (step_in cx (staying_operator (λ _. r)) (f ∷ fs) v.present.left)) (ap (λ gs. row cx (heads gs)) (sym e) ∙ h)
       ∙ guarded p (all_fit cx (operands_found (length wanted) f) wanted && all_fit_each cx (operands_found (length wanted) f) also)
     where
-      guarded : (p q : Bool) → option_map (λ (s : State). record v { present = s }) (state_if_pushed v.present.left cx (row_with p None wanted also push None targets [] dead) (locals_set (f ∷ fs)) f fs Flat (guard (p && true) (guard q (Some (map Known push))))) ≡ guard p (guard q (Some (with_frame v (frame_then wanted push dead) fs)))
+      guarded : (p q : Bool) → option_map (λ (s : State). record v { present = s }) (state_if_pushed v.present.left cx (row_with p None wanted also push None targets [] dead) (locals_set (f ∷ fs)) f fs Stays (guard (p && true) (guard q (Some (map Known push))))) ≡ guard p (guard q (Some (with_frame v (frame_then wanted push dead) fs)))
       guarded true true = refl
       guarded true false = refl
       guarded false q = refl
@@ -91,82 +91,82 @@ each_fits c n (f ∷ fs) also = all_fit_each c (operands_found n f) also
 
 module _ (md : ModuleContext) (v : BodyState) (o : v.present.frames ≢ []) (row : Context → List Head → Row) (p : Bool) (wanted : List ValType) where
   -- a row that ends the live part: pops, and then the frame is dead
-  pub ends_is : (also : List (List ValType)) (targets : List Target) → row (context md v) (heads v.present.frames) ≡ row_with p None wanted also [] None targets [] true → step_body md (λ c. flat_operator (row c)) v ≡ guard p (guard (each_fits (context md v) (length wanted) v.present.frames also) (option_map body_unreachable (body_popped_each md (reverse wanted) v)))
+  pub ends_is : (also : List (List ValType)) (targets : List Target) → row (body_context md v) (heads v.present.frames) ≡ row_with p None wanted also [] None targets [] true → step_body md (λ c. staying_operator (row c)) v ≡ guard p (guard (each_fits (body_context md v) (length wanted) v.present.frames also) (option_map body_unreachable (body_popped_each md (reverse wanted) v)))
   ends_is also targets h = by v.present.frames refl
     where
-      by : (fs : List Frame) → v.present.frames ≡ fs → step_body md (λ c. flat_operator (row c)) v ≡ guard p (guard (each_fits (context md v) (length wanted) v.present.frames also) (option_map body_unreachable (body_popped_each md (reverse wanted) v)))
+      by : (fs : List Frame) → v.present.frames ≡ fs → step_body md (λ c. staying_operator (row c)) v ≡ guard p (guard (each_fits (body_context md v) (length wanted) v.present.frames also) (option_map body_unreachable (body_popped_each md (reverse wanted) v)))
       by [] e = absurd (o e)
       by (f ∷ fs) e =
           let n = length wanted in
-          let cx = context md v in
+          let cx = body_context md v in
           flat_in md v f fs e row p wanted also [] targets true h
           ∙ ap (λ b. guard p (guard (all_fit cx (operands_found n f) wanted && all_fit_each cx (operands_found n f) also) (Some (with_frame v (record f { operands = []; dead = b }) fs)))) (or_true f.dead)
-          ∙ through p (all_fit cx (operands_found n f) wanted) (all_fit_each cx (operands_found n f) also) body_unreachable (with_frame v (record f { operands = operands_below n f }) fs) (with_frame v (record f { operands = []; dead = true }) fs) refl
+          ∙ through p (all_fit cx (operands_found n f) wanted) (all_fit_each cx (operands_found n f) also) body_unreachable (with_frame v (record f { operands = operands_under n f }) fs) (with_frame v (record f { operands = []; dead = true }) fs) refl
           ∙ ap (λ q. guard p (guard (all_fit_each cx (operands_found n f) also) (option_map body_unreachable q))) (sym (popped_whole md v f fs wanted e))
           ∙ ap (λ gs. guard p (guard (each_fits cx n gs also) (option_map body_unreachable (body_popped_each md (reverse wanted) v)))) (sym e)
 
   -- a row that doesn't: pops, and then pushes
-  pub pushes_is : (push : List ValType) (targets : List Target) → row (context md v) (heads v.present.frames) ≡ row_with p None wanted [] push None targets [] false → step_body md (λ c. flat_operator (row c)) v ≡ guard p (option_map (λ u. body_pushed_each push u) (body_popped_each md (reverse wanted) v))
+  pub pushes_is : (push : List ValType) (targets : List Target) → row (body_context md v) (heads v.present.frames) ≡ row_with p None wanted [] push None targets [] false → step_body md (λ c. staying_operator (row c)) v ≡ guard p (option_map (λ u. body_pushed_each push u) (body_popped_each md (reverse wanted) v))
   pushes_is push targets h = by v.present.frames refl
     where
-      by : (fs : List Frame) → v.present.frames ≡ fs → step_body md (λ c. flat_operator (row c)) v ≡ guard p (option_map (λ u. body_pushed_each push u) (body_popped_each md (reverse wanted) v))
+      by : (fs : List Frame) → v.present.frames ≡ fs → step_body md (λ c. staying_operator (row c)) v ≡ guard p (option_map (λ u. body_pushed_each push u) (body_popped_each md (reverse wanted) v))
       by [] e = absurd (o e)
       by (f ∷ fs) e =
           let n = length wanted in
-          let cx = context md v in
-          let below : Frame = record f { operands = operands_below n f } in
+          let cx = body_context md v in
+          let below : Frame = record f { operands = operands_under n f } in
           flat_in md v f fs e row p wanted [] push targets false h
-          ∙ ap (λ b. guard p (guard (all_fit cx (operands_found n f) wanted && true) (Some (with_frame v (record below { operands = onto (map Known push) below.operands; dead = b }) fs)))) (or_false f.dead)
-          ∙ through p (all_fit cx (operands_found n f) wanted) true (λ u. body_pushed_each push u) (with_frame v below fs) (with_frame v (record below { operands = onto (map Known push) below.operands }) fs) (pushed_whole push (with_frame v below fs) below fs refl)
+          ∙ ap (λ b. guard p (guard (all_fit cx (operands_found n f) wanted && true) (Some (with_frame v (record below { operands = stack_with (map Known push) below.operands; dead = b }) fs)))) (or_false f.dead)
+          ∙ through p (all_fit cx (operands_found n f) wanted) true (λ u. body_pushed_each push u) (with_frame v below fs) (with_frame v (record below { operands = stack_with (map Known push) below.operands }) fs) (pushed_whole push (with_frame v below fs) below fs refl)
           ∙ ap (λ q. guard p (option_map (λ u. body_pushed_each push u) q)) (sym (popped_whole md v f fs wanted e))
 
 -- ---- the types of a label
 
 -- they are valid
-pub label_valid : (md : ModuleContext) (v : BodyState) (d : ℕ) (ts : List ValType) → IsLawful md → IsValid md v → ts ≡ label_types_at (context md v) (heads v.present.frames) d → AllByRecursion (Valid md) ts
+pub label_valid : (md : ModuleContext) (v : BodyState) (d : ℕ) (ts : List ValType) → IsLawful md → IsValid md v → ts ≡ label_types_at (body_context md v) (heads v.present.frames) d → AllByRecursion (Valid md) ts
 label_valid md v d ts laws valid e =
-    subst (AllByRecursion (Valid md)) (sym e) (label_at_valid (context md v) laws (heads v.present.frames) d (heads_valid (context md v) laws v.present.frames valid.frames))
+    subst (AllByRecursion (Valid md)) (sym e) (label_at_valid (body_context md v) laws (heads v.present.frames) d (heads_valid (body_context md v) laws v.present.frames valid.frames))
 
 -- ---- `br` and `return`
 
 -- a branch to label d, whose row may be written otherwise
-module _ (md : ModuleContext) (v : BodyState) (o : v.present.frames ≢ []) (row : Context → List Head → Row) (d : ℕ) (same : row (context md v) (heads v.present.frames) ≡ br_row (context md v) (heads v.present.frames) d) where
+module _ (md : ModuleContext) (v : BodyState) (o : v.present.frames ≢ []) (row : Context → List Head → Row) (d : ℕ) (same : row (body_context md v) (heads v.present.frames) ≡ br_row (body_context md v) (heads v.present.frames) d) where
   abbrev hs_now : List Head
   hs_now = heads v.present.frames
 
-  br_with : (b : Bool) (ts : List ValType) → has_label hs_now d ≡ b → label_types_at (context md v) hs_now d ≡ ts → step_body md (λ c. flat_operator (row c)) v ≡ guard b (option_map body_unreachable (body_popped_each md (reverse ts) v))
+  br_with : (b : Bool) (ts : List ValType) → has_label hs_now d ≡ b → label_types_at (body_context md v) hs_now d ≡ ts → step_body md (λ c. staying_operator (row c)) v ≡ guard b (option_map body_unreachable (body_popped_each md (reverse ts) v))
   br_with b ts hb ht =
-      ends_is md v o row b ts [] (target (context md v) hs_now d ∷ []) (same ∙ ap₂ (λ p ws. row_with p None ws [] [] None (target (context md v) hs_now d ∷ []) [] true) hb ht)
+      ends_is md v o row b ts [] (target (body_context md v) hs_now d ∷ []) (same ∙ ap₂ (λ p ws. row_with p None ws [] [] None (target (body_context md v) hs_now d ∷ []) [] true) hb ht)
       ∙ ap (guard b) (only v.present.frames refl)
     where
-      only : (fs : List Frame) → v.present.frames ≡ fs → guard (each_fits (context md v) (length ts) v.present.frames []) (option_map body_unreachable (body_popped_each md (reverse ts) v)) ≡ option_map body_unreachable (body_popped_each md (reverse ts) v)
+      only : (fs : List Frame) → v.present.frames ≡ fs → guard (each_fits (body_context md v) (length ts) v.present.frames []) (option_map body_unreachable (body_popped_each md (reverse ts) v)) ≡ option_map body_unreachable (body_popped_each md (reverse ts) v)
       only [] e = absurd (o e)
-      only (f ∷ fs) e = ap (λ gs. guard (each_fits (context md v) (length ts) gs []) (option_map body_unreachable (body_popped_each md (reverse ts) v))) e
+      only (f ∷ fs) e = ap (λ gs. guard (each_fits (body_context md v) (length ts) gs []) (option_map body_unreachable (body_popped_each md (reverse ts) v))) e
 
-  pub br_none : label_of v d ≡ None → step_body md (λ c. flat_operator (row c)) v ≡ None
-  br_none n = br_with false (label_types_at (context md v) hs_now d) (no_label hs_now d n) refl
+  pub br_none : label_at v d ≡ None → step_body md (λ c. staying_operator (row c)) v ≡ None
+  br_none n = br_with false (label_types_at (body_context md v) hs_now d) (no_label hs_now d n) refl
 
-  module _ (bt : BlockType) (kind : FrameKind) (ts : List ValType) (there : label_of v d ≡ Some (bt, kind)) (types : ts ≡ label_types (context md v) (head_of kind bt)) where
-    pub types_there : ts ≡ label_types_at (context md v) hs_now d
-    types_there = types ∙ sym (label_there (context md v) hs_now d bt kind there).1
+  module _ (bt : BlockType) (kind : FrameKind) (ts : List ValType) (there : label_at v d ≡ Some (bt, kind)) (types : ts ≡ label_types (body_context md v) (head_of kind bt)) where
+    pub types_there : ts ≡ label_types_at (body_context md v) hs_now d
+    types_there = types ∙ sym (label_there (body_context md v) hs_now d bt kind there).1
 
-    pub br_is : step_body md (λ c. flat_operator (row c)) v ≡ option_map body_unreachable (body_popped_each md (reverse ts) v)
-    br_is = br_with true ts (label_there (context md v) hs_now d bt kind there).0 (sym types_there)
+    pub br_is : step_body md (λ c. staying_operator (row c)) v ≡ option_map body_unreachable (body_popped_each md (reverse ts) v)
+    br_is = br_with true ts (label_there (body_context md v) hs_now d bt kind there).0 (sym types_there)
 
-    pub br_refused : body_popped_each md (reverse ts) v ≡ None → step_body md (λ c. flat_operator (row c)) v ≡ None
+    pub br_refused : body_popped_each md (reverse ts) v ≡ None → step_body md (λ c. staying_operator (row c)) v ≡ None
     br_refused n = br_is ∙ ap (option_map body_unreachable) n
 
-    pub br_passes : (u w : BodyState) → body_popped_each md (reverse ts) v ≡ Some u → w ≡ body_unreachable u → step_body md (λ c. flat_operator (row c)) v ≡ Some w
+    pub br_passes : (u w : BodyState) → body_popped_each md (reverse ts) v ≡ Some u → w ≡ body_unreachable u → step_body md (λ c. staying_operator (row c)) v ≡ Some w
     br_passes u w p q = br_is ∙ (ap (option_map body_unreachable) p ∙ ap Some (sym q))
 
 -- ---- `unreachable`
 
-pub unreachable_is : (md : ModuleContext) (v w : BodyState) → v.present.frames ≢ [] → w ≡ body_unreachable v → step_body md (λ c. flat_operator (λ hs. ending_row [])) v ≡ Some w
-unreachable_is md v w o e = ends_is md v o (λ c hs. ending_row []) true [] [] [] refl ∙ ap (λ o. guard (each_fits (context md v) 0 v.present.frames []) (option_map body_unreachable o)) (popped_none md v) ∙ (only v.present.frames refl ∙ ap Some (sym e))
+pub unreachable_is : (md : ModuleContext) (v w : BodyState) → v.present.frames ≢ [] → w ≡ body_unreachable v → step_body md (λ c. staying_operator (λ hs. ending_row [])) v ≡ Some w
+unreachable_is md v w o e = ends_is md v o (λ c hs. ending_row []) true [] [] [] refl ∙ ap (λ o. guard (each_fits (body_context md v) 0 v.present.frames []) (option_map body_unreachable o)) (popped_none md v) ∙ (only v.present.frames refl ∙ ap Some (sym e))
   where
-    only : (fs : List Frame) → v.present.frames ≡ fs → guard (each_fits (context md v) 0 v.present.frames []) (Some (body_unreachable v)) ≡ Some (body_unreachable v)
+    only : (fs : List Frame) → v.present.frames ≡ fs → guard (each_fits (body_context md v) 0 v.present.frames []) (Some (body_unreachable v)) ≡ Some (body_unreachable v)
     only [] h = absurd (o h)
-    only (f ∷ fs) h = ap (λ gs. guard (each_fits (context md v) 0 gs []) (Some (body_unreachable v))) h
+    only (f ∷ fs) h = ap (λ gs. guard (each_fits (body_context md v) 0 gs []) (Some (body_unreachable v))) h
 
 -- ---- pops leave the labels
 
@@ -199,14 +199,14 @@ module _ (md : ModuleContext) (v : BodyState) (o : v.present.frames ≢ []) (d :
   abbrev if_row : Context → List Head → Row
   if_row c hs = br_if_row c hs d
 
-  br_if_with : (b : Bool) (ts : List ValType) → has_label (heads v.present.frames) d ≡ b → label_types_at (context md v) (heads v.present.frames) d ≡ ts → step_body md (λ c. flat_operator (λ hs. br_if_row c hs d)) v ≡ guard b (option_map (λ u. body_pushed_each ts u) (body_popped_each md (reverse (ts ++ I32 ∷ [])) v))
+  br_if_with : (b : Bool) (ts : List ValType) → has_label (heads v.present.frames) d ≡ b → label_types_at (body_context md v) (heads v.present.frames) d ≡ ts → step_body md (λ c. staying_operator (λ hs. br_if_row c hs d)) v ≡ guard b (option_map (λ u. body_pushed_each ts u) (body_popped_each md (reverse (ts ++ I32 ∷ [])) v))
   br_if_with b ts hb ht =
-      pushes_is md v o if_row b (ts ++ I32 ∷ []) ts (target (context md v) (heads v.present.frames) d ∷ []) (ap₂ (λ p ws. row_with p None (ws ++ I32 ∷ []) [] ws None (target (context md v) (heads v.present.frames) d ∷ []) [] false) hb ht)
+      pushes_is md v o if_row b (ts ++ I32 ∷ []) ts (target (body_context md v) (heads v.present.frames) d ∷ []) (ap₂ (λ p ws. row_with p None (ws ++ I32 ∷ []) [] ws None (target (body_context md v) (heads v.present.frames) d ∷ []) [] false) hb ht)
 
   -- the test was not there
-  pub br_if_untested : body_popped_each md (reverse (I32 ∷ [])) v ≡ None → step_body md (λ c. flat_operator (λ hs. br_if_row c hs d)) v ≡ None
+  pub br_if_untested : body_popped_each md (reverse (I32 ∷ [])) v ≡ None → step_body md (λ c. staying_operator (λ hs. br_if_row c hs d)) v ≡ None
   br_if_untested n =
-      let ts = label_types_at (context md v) (heads v.present.frames) d in
+      let ts = label_types_at (body_context md v) (heads v.present.frames) d in
       br_if_with (has_label (heads v.present.frames) d) ts refl refl
       ∙ ap (λ q. guard (has_label (heads v.present.frames) d) (option_map (λ u. body_pushed_each ts u) q)) (none_above md ts (I32 ∷ []) v n)
       ∙ none_either (has_label (heads v.present.frames) d)
@@ -216,25 +216,25 @@ module _ (md : ModuleContext) (v : BodyState) (o : v.present.frames ≢ []) (d :
       none_either false = refl
 
   module _ (u : BodyState) (test : body_popped_each md (reverse (I32 ∷ [])) v ≡ Some u) where
-    label_same : label_of u d ≡ label_of v d
+    label_same : label_at u d ≡ label_at v d
     label_same = ap (λ hs. option_map type_and_kind (slice_get hs d)) (same_heads md (reverse (I32 ∷ [])) v u test)
 
-    pub br_if_none : label_of u d ≡ None → step_body md (λ c. flat_operator (λ hs. br_if_row c hs d)) v ≡ None
-    br_if_none n = br_if_with false (label_types_at (context md v) (heads v.present.frames) d) (no_label (heads v.present.frames) d (sym label_same ∙ n)) refl
+    pub br_if_none : label_at u d ≡ None → step_body md (λ c. staying_operator (λ hs. br_if_row c hs d)) v ≡ None
+    br_if_none n = br_if_with false (label_types_at (body_context md v) (heads v.present.frames) d) (no_label (heads v.present.frames) d (sym label_same ∙ n)) refl
 
-    module _ (bt : BlockType) (kind : FrameKind) (ts : List ValType) (there : label_of u d ≡ Some (bt, kind)) (types : ts ≡ label_types (context md v) (head_of kind bt)) where
-      pub types_if : ts ≡ label_types_at (context md v) (heads v.present.frames) d
-      types_if = types ∙ sym (label_there (context md v) (heads v.present.frames) d bt kind (sym label_same ∙ there)).1
+    module _ (bt : BlockType) (kind : FrameKind) (ts : List ValType) (there : label_at u d ≡ Some (bt, kind)) (types : ts ≡ label_types (body_context md v) (head_of kind bt)) where
+      pub types_if : ts ≡ label_types_at (body_context md v) (heads v.present.frames) d
+      types_if = types ∙ sym (label_there (body_context md v) (heads v.present.frames) d bt kind (sym label_same ∙ there)).1
 
-      br_if_is : step_body md (λ c. flat_operator (λ hs. br_if_row c hs d)) v ≡ option_map (λ w. body_pushed_each ts w) (body_popped_each md (reverse ts) u)
+      br_if_is : step_body md (λ c. staying_operator (λ hs. br_if_row c hs d)) v ≡ option_map (λ w. body_pushed_each ts w) (body_popped_each md (reverse ts) u)
       br_if_is =
-          br_if_with true ts (label_there (context md v) (heads v.present.frames) d bt kind (sym label_same ∙ there)).0 (sym types_if)
+          br_if_with true ts (label_there (body_context md v) (heads v.present.frames) d bt kind (sym label_same ∙ there)).0 (sym types_if)
           ∙ ap (option_map (λ w. body_pushed_each ts w)) (some_above md ts (I32 ∷ []) v u test)
 
-      pub br_if_refused : body_popped_each md (reverse ts) u ≡ None → step_body md (λ c. flat_operator (λ hs. br_if_row c hs d)) v ≡ None
+      pub br_if_refused : body_popped_each md (reverse ts) u ≡ None → step_body md (λ c. staying_operator (λ hs. br_if_row c hs d)) v ≡ None
       br_if_refused n = br_if_is ∙ ap (option_map (λ w. body_pushed_each ts w)) n
 
-      pub br_if_passes : (w : BodyState) → body_popped_each md (reverse ts) u ≡ Some w → step_body md (λ c. flat_operator (λ hs. br_if_row c hs d)) v ≡ Some (body_pushed_each ts w)
+      pub br_if_passes : (w : BodyState) → body_popped_each md (reverse ts) u ≡ Some w → step_body md (λ c. staying_operator (λ hs. br_if_row c hs d)) v ≡ Some (body_pushed_each ts w)
       br_if_passes w p = br_if_is ∙ ap (option_map (λ w. body_pushed_each ts w)) p
 
 -- ---- the outermost label
@@ -247,7 +247,7 @@ outermost_is (f ∷ fs) n m h k = omega (arith, h, k, length-heads fs)
     length-heads [] = refl
     length-heads (f ∷ fs) = ap suc (length-heads fs)
 
-pub label_at_frame : (v : BodyState) (n d : ℕ) (r : FlatFrame) → n ≡ d → frame_at v n ≡ Some r → label_of v d ≡ Some (r.block_type, r.kind)
+pub label_at_frame : (v : BodyState) (n d : ℕ) (r : FlatFrame) → n ≡ d → frame_at v n ≡ Some r → label_at v d ≡ Some (r.block_type, r.kind)
 label_at_frame v n d r e h =
     sym (label_found v.present.frames (length v.present.left) d)
     ∙ (ap (λ k. option_map (λ (r : FlatFrame). (r.block_type, r.kind)) (frame_at v k)) (sym e) ∙ ap (option_map (λ (r : FlatFrame). (r.block_type, r.kind))) h)
@@ -269,5 +269,5 @@ pub some_outermost : (v : BodyState) (n m : ℕ) → v.present.frames ≢ [] →
 some_outermost v n m o e k h =
     get_some (with_heights v.present.frames (length v.present.left)) m (omega (arith, e, k, length-some v.present.frames o, length-heights v.present.frames (length v.present.left))) h
 
-pub outermost_label : (v : BodyState) (n : ℕ) (r : FlatFrame) → n ≡ frame_count v.present → frame_at v (n - 1) ≡ Some r → label_of v (pred (length (heads v.present.frames))) ≡ Some (r.block_type, r.kind)
+pub outermost_label : (v : BodyState) (n : ℕ) (r : FlatFrame) → n ≡ frame_count v.present → frame_at v (n - 1) ≡ Some r → label_at v (pred (length (heads v.present.frames))) ≡ Some (r.block_type, r.kind)
 outermost_label v n r e h = label_at_frame v (n - 1) (pred (length (heads v.present.frames))) r (outermost_is v.present.frames n (n - 1) e refl) h

@@ -10,14 +10,14 @@ use Rattle.validate_types.specs.declared.types.ValType.{ValType}
 use Rattle.validation_rules.specs.Branches.{has_label, label_types_at, target}
 use Rattle.validation_rules.specs.Context.{I32, Ref, Context}
 use Rattle.validation_rules.specs.Fits.{MaybeType, Bottom, Known, fits, all_fit}
-use Rattle.validation_rules.specs.References.{without_null, null_test_pushes, non_null_pushes, br_on_null_row, last_reference, last_without_null, br_on_non_null_row_for, br_on_non_null_row}
-use Rattle.validation_rules.specs.Rows.{Head, Flat, Target, guard}
-use Rattle.validation_rules.specs.Static.{Frame, State, heads, onto, operands_on_top, locals_set, state_if_pushed}
-use Rattle.validation_rules.specs.Operators.{plain_row, lookup_row, looking_row, looking_row_if, row_operator, flat_operator}
+use Rattle.validation_rules.specs.References.{operand_without_null, null_test_pushes, non_null_pushes, br_on_null_row, last_reference, last_without_null, br_on_non_null_row_for, br_on_non_null_row}
+use Rattle.validation_rules.specs.Rows.{Head, Stays, Target, guard}
+use Rattle.validation_rules.specs.Static.{Frame, State, heads, stack_with, operands_on_top, locals_set, state_if_pushed}
+use Rattle.validation_rules.specs.Operators.{plain_row, lookup_row, looking_row, looking_row_if, row_operator, staying_operator}
 use Rattle.validation_rules.proofs.Rows.{row_with}
 use Rattle.validate_stacks.specs.Pops.{body_popped_each, body_pushed_each}
-use Rattle.validate_stacks.specs.State.{BodyState, context}
-use Rattle.validate_stacks.specs.Steps.{body_popped, body_pushed, label_of, type_and_kind}
+use Rattle.validate_stacks.specs.State.{BodyState, body_context}
+use Rattle.validate_stacks.specs.Steps.{body_popped, body_pushed, label_at, type_and_kind}
 use Rattle.validate_stacks.specs.Steps as steps
 use Rattle.validate_stacks.specs.Visits.{step_body}
 use Rattle.validate_stacks.proofs.Whole.{none_above, some_above, popped_whole, pushed_whole}
@@ -27,11 +27,11 @@ use Rattle.validate_shapes.proofs.Found.{at_labels}
 
 -- ---- lists
 
-onto_above : {A : Type 0} (xs below : List A) (x : A) → onto xs (below ++ x ∷ []) ≡ onto xs below ++ x ∷ []
+onto_above : {A : Type 0} (xs below : List A) (x : A) → stack_with xs (below ++ x ∷ []) ≡ stack_with xs below ++ x ∷ []
 onto_above [] below x = refl
 onto_above (y ∷ xs) below x = onto_above xs (y ∷ below) x
 
-onto_last : {A : Type 0} (xs below : List A) (x : A) → onto (xs ++ x ∷ []) below ≡ x ∷ onto xs below
+onto_last : {A : Type 0} (xs below : List A) (x : A) → stack_with (xs ++ x ∷ []) below ≡ x ∷ stack_with xs below
 onto_last [] below x = refl
 onto_last (y ∷ xs) below x = onto_last xs (y ∷ below) x
 
@@ -60,14 +60,14 @@ module _ (cx : Context) where
   regroup true false f g o = refl
   regroup false q f g o = refl
 
-  one_above : (ts : List ValType) (front : List MaybeType) (x : MaybeType) → non_null_pushes cx ts (front ++ x ∷ []) ≡ guard (all_fit cx front ts) (option_map (λ y. map Known ts ++ y ∷ []) (without_null x))
+  one_above : (ts : List ValType) (front : List MaybeType) (x : MaybeType) → non_null_pushes cx ts (front ++ x ∷ []) ≡ guard (all_fit cx front ts) (option_map (λ y. map Known ts ++ y ∷ []) (operand_without_null x))
   one_above [] [] x = refl
   one_above [] (a ∷ []) x = refl
   one_above [] (a ∷ b ∷ front) x = refl
   one_above (t ∷ ts) [] x = ap (λ o. guard (fits cx x t) (option_map (λ ys. Known t ∷ ys) o)) (nothing_above ts) ∙ none_either (fits cx x t)
   one_above (t ∷ ts) (a ∷ front) x =
       ap (λ o. guard (fits cx a t) (option_map (λ ys. Known t ∷ ys) o)) (one_above ts front x)
-      ∙ regroup (fits cx a t) (all_fit cx front ts) (λ ys. Known t ∷ ys) (λ y. map Known ts ++ y ∷ []) (without_null x)
+      ∙ regroup (fits cx a t) (all_fit cx front ts) (λ ys. Known t ∷ ys) (λ y. map Known ts ++ y ∷ []) (operand_without_null x)
 
 -- ---- the steps
 
@@ -78,10 +78,10 @@ module _ (md : ModuleContext) where
 
   -- what they leave of a reference on top: below it a list of types
   abbrev pub above_types : List ValType → BodyState → Option BodyState
-  above_types ts v = option_and_then (λ y. option_map (λ u. body_pushed y (body_pushed_each ts u)) (body_popped_each md (reverse ts) (body_popped v))) (option_and_then without_null (steps.found_in_body v))
+  above_types ts v = option_and_then (λ y. option_map (λ u. body_pushed y (body_pushed_each ts u)) (body_popped_each md (reverse ts) (body_popped v))) (option_and_then operand_without_null (steps.found_in_body v))
 
   abbrev pub null_tested : BodyState → Option BodyState
-  null_tested v = option_map (λ y. body_pushed (Known I32) (body_popped v)) (option_and_then without_null (steps.found_in_body v))
+  null_tested v = option_map (λ y. body_pushed (Known I32) (body_popped v)) (option_and_then operand_without_null (steps.found_in_body v))
 
   module _ (h : Head) (set : List ℕ) (fs : List Frame) (left : List MaybeType) (s : Bool) (n : WasmFeatures) (ls : List ValType) (en : List Bool) (un : Option State) where
     abbrev cx_of : Context
@@ -94,30 +94,30 @@ module _ (md : ModuleContext) where
     frame_of own dead = record { head = h; operands = own; dead = dead; first_set = set }
 
     -- a row that looks, by what it gives
-    looked : (b : Bool) (k : ℕ) (gives : Context → List MaybeType → Option (List MaybeType)) (targets : List Target) (own : List MaybeType) (dead : Bool) → step_body md (λ c. row_operator (record (looking_row_if b k (gives c)) { targets = targets })) (state_of own dead) ≡ guard b (option_map (λ ps. state_of (onto ps (drop k own)) dead) (gives cx_of (onto (operands_on_top k dead own) [])))
-    looked b k gives targets own dead = by b (gives cx_of (onto (operands_on_top k dead own) []))
+    looked : (b : Bool) (k : ℕ) (gives : Context → List MaybeType → Option (List MaybeType)) (targets : List Target) (own : List MaybeType) (dead : Bool) → step_body md (λ c. row_operator (record (looking_row_if b k (gives c)) { targets = targets })) (state_of own dead) ≡ guard b (option_map (λ ps. state_of (stack_with ps (drop k own)) dead) (gives cx_of (stack_with (operands_on_top k dead own) [])))
+    looked b k gives targets own dead = by b (gives cx_of (stack_with (operands_on_top k dead own) []))
       where
-        by : (b : Bool) (o : Option (List MaybeType)) → option_map (λ (u : State). record (state_of own dead) { present = u }) (state_if_pushed left cx_of (record (looking_row_if b k (gives cx_of)) { targets = targets }) (locals_set (frame_of own dead ∷ fs)) (frame_of own dead) fs Flat (guard (b && true) o)) ≡ guard b (option_map (λ ps. state_of (onto ps (drop k own)) dead) o)
-        by true (Some ps) = ap (λ d. Some (at h (onto ps (drop k own)) d set fs left s n ls en un)) (or_false dead)
+        by : (b : Bool) (o : Option (List MaybeType)) → option_map (λ (u : State). record (state_of own dead) { present = u }) (state_if_pushed left cx_of (record (looking_row_if b k (gives cx_of)) { targets = targets }) (locals_set (frame_of own dead ∷ fs)) (frame_of own dead) fs Stays (guard (b && true) o)) ≡ guard b (option_map (λ ps. state_of (stack_with ps (drop k own)) dead) o)
+        by true (Some ps) = ap (λ d. Some (at h (stack_with ps (drop k own)) d set fs left s n ls en un)) (or_false dead)
         by true None = refl
         by false o = refl
 
     -- with this operand on top of the rest
-    by_rest : (ts : List ValType) (x : MaybeType) (own : List MaybeType) (dead : Bool) → option_map (λ ps. state_of (onto ps (drop (length ts) own)) dead) (non_null_pushes cx_of ts (onto (operands_on_top (length ts) dead own) (x ∷ []))) ≡ option_and_then (λ y. option_map (λ u. body_pushed y (body_pushed_each ts u)) (body_popped_each md (reverse ts) (state_of own dead))) (without_null x)
+    by_rest : (ts : List ValType) (x : MaybeType) (own : List MaybeType) (dead : Bool) → option_map (λ ps. state_of (stack_with ps (drop (length ts) own)) dead) (non_null_pushes cx_of ts (stack_with (operands_on_top (length ts) dead own) (x ∷ []))) ≡ option_and_then (λ y. option_map (λ u. body_pushed y (body_pushed_each ts u)) (body_popped_each md (reverse ts) (state_of own dead))) (operand_without_null x)
     by_rest ts x own dead =
         let k = length ts in
-        let front = onto (operands_on_top k dead own) [] in
+        let front = stack_with (operands_on_top k dead own) [] in
         let below = state_of (drop k own) dead in
-        ap (option_map (λ ps. state_of (onto ps (drop k own)) dead)) (ap (non_null_pushes cx_of ts) (onto_above (operands_on_top k dead own) [] x) ∙ one_above cx_of ts front x)
-        ∙ (by (all_fit cx_of front ts) (without_null x)
-        ∙ ap (λ o. option_and_then (λ y. option_map (λ u. body_pushed y (body_pushed_each ts u)) o) (without_null x)) (sym (popped_whole md (state_of own dead) (frame_of own dead) fs ts refl)))
+        ap (option_map (λ ps. state_of (stack_with ps (drop k own)) dead)) (ap (non_null_pushes cx_of ts) (onto_above (operands_on_top k dead own) [] x) ∙ one_above cx_of ts front x)
+        ∙ (by (all_fit cx_of front ts) (operand_without_null x)
+        ∙ ap (λ o. option_and_then (λ y. option_map (λ u. body_pushed y (body_pushed_each ts u)) o) (operand_without_null x)) (sym (popped_whole md (state_of own dead) (frame_of own dead) fs ts refl)))
       where
-        then_pushed : (y : MaybeType) → state_of (onto (map Known ts ++ y ∷ []) (drop (length ts) own)) dead ≡ body_pushed y (body_pushed_each ts (state_of (drop (length ts) own) dead))
+        then_pushed : (y : MaybeType) → state_of (stack_with (map Known ts ++ y ∷ []) (drop (length ts) own)) dead ≡ body_pushed y (body_pushed_each ts (state_of (drop (length ts) own) dead))
         then_pushed y =
             ap (λ q. state_of q dead) (onto_last (map Known ts) (drop (length ts) own) y)
             ∙ sym (ap (body_pushed y) (pushed_whole ts (state_of (drop (length ts) own) dead) (frame_of (drop (length ts) own) dead) fs refl))
 
-        by : (b : Bool) (o : Option MaybeType) → option_map (λ ps. state_of (onto ps (drop (length ts) own)) dead) (guard b (option_map (λ y. map Known ts ++ y ∷ []) o)) ≡ option_and_then (λ y. option_map (λ u. body_pushed y (body_pushed_each ts u)) (guard b (Some (state_of (drop (length ts) own) dead)))) o
+        by : (b : Bool) (o : Option MaybeType) → option_map (λ ps. state_of (stack_with ps (drop (length ts) own)) dead) (guard b (option_map (λ y. map Known ts ++ y ∷ []) o)) ≡ option_and_then (λ y. option_map (λ u. body_pushed y (body_pushed_each ts u)) (guard b (Some (state_of (drop (length ts) own) dead)))) o
         by true (Some y) = ap Some (then_pushed y)
         by true None = refl
         by false (Some y) = refl
@@ -129,16 +129,16 @@ module _ (md : ModuleContext) where
     above_in b ts targets [] true =
         looked b (suc (length ts)) (λ c. non_null_pushes c ts) targets [] true
         ∙ ap (guard b)
-        (ap (λ q. option_map (λ ps. state_of (onto ps q) true) (non_null_pushes cx_of ts (onto (operands_on_top (length ts) true []) (Bottom ∷ [])))) (sym (drop_none (length ts)))
+        (ap (λ q. option_map (λ ps. state_of (stack_with ps q) true) (non_null_pushes cx_of ts (stack_with (operands_on_top (length ts) true []) (Bottom ∷ [])))) (sym (drop_none (length ts)))
         ∙ by_rest ts Bottom [] true)
     above_in b ts targets [] false =
         looked b (suc (length ts)) (λ c. non_null_pushes c ts) targets [] false
-        ∙ ap (λ o. guard b (option_map (λ ps. state_of (onto ps []) false) o)) (nothing_above cx_of ts)
+        ∙ ap (λ o. guard b (option_map (λ ps. state_of (stack_with ps []) false) o)) (nothing_above cx_of ts)
 
     null_in : (own : List MaybeType) (dead : Bool) → step_body md (λ c. row_operator (looking_row 1 null_test_pushes)) (state_of own dead) ≡ null_tested (state_of own dead)
-    null_in (x ∷ own) dead = looked true 1 (λ c. null_test_pushes) [] (x ∷ own) dead ∙ by (without_null x)
+    null_in (x ∷ own) dead = looked true 1 (λ c. null_test_pushes) [] (x ∷ own) dead ∙ by (operand_without_null x)
       where
-        by : (o : Option MaybeType) → option_map (λ ps. state_of (onto ps own) dead) (option_map (λ (y : MaybeType). Known I32 ∷ []) o) ≡ option_map (λ (y : MaybeType). state_of (Known I32 ∷ own) dead) o
+        by : (o : Option MaybeType) → option_map (λ ps. state_of (stack_with ps own) dead) (option_map (λ (y : MaybeType). Known I32 ∷ []) o) ≡ option_map (λ (y : MaybeType). state_of (Known I32 ∷ own) dead) o
         by None = refl
         by (Some y) = refl
     null_in [] true = looked true 1 (λ c. null_test_pushes) [] [] true
@@ -166,9 +166,9 @@ module _ (md : ModuleContext) where
             ∙ ap (λ gs. null_tested (record v { present = record { frames = gs; left = v.present.left } })) (sym e))
 
     -- a branch on null
-    pub on_null_is : (d : ℕ) (b : Bool) (ts : List ValType) → has_label (heads v.present.frames) d ≡ b → label_types_at (context md v) (heads v.present.frames) d ≡ ts → step_body md (λ c. flat_operator (λ hs. br_on_null_row c hs d)) v ≡ guard b (above_types ts v)
+    pub on_null_is : (d : ℕ) (b : Bool) (ts : List ValType) → has_label (heads v.present.frames) d ≡ b → label_types_at (body_context md v) (heads v.present.frames) d ≡ ts → step_body md (λ c. staying_operator (λ hs. br_on_null_row c hs d)) v ≡ guard b (above_types ts v)
     on_null_is d b ts hb ht =
-        let cx = context md v in
+        let cx = body_context md v in
         let targets = target cx (heads v.present.frames) d ∷ [] in
         at_labels md v (λ c hs. br_on_null_row c hs d)
         ∙ (same_row md v (λ c. row_operator (br_on_null_row c (heads v.present.frames) d)) (row_operator (record (looking_row_if b (suc (length ts)) (non_null_pushes cx ts)) { targets = targets }))
@@ -178,10 +178,10 @@ module _ (md : ModuleContext) where
   -- ---- by their pops
 
   -- the operand on top is no reference
-  pub unreferenced : (b : Bool) (ts : List ValType) (v : BodyState) → option_and_then without_null (steps.found_in_body v) ≡ None → guard b (above_types ts v) ≡ None
+  pub unreferenced : (b : Bool) (ts : List ValType) (v : BodyState) → option_and_then operand_without_null (steps.found_in_body v) ≡ None → guard b (above_types ts v) ≡ None
   unreferenced b ts v n = ap (λ o. guard b (option_and_then (λ y. option_map (λ u. body_pushed y (body_pushed_each ts u)) (body_popped_each md (reverse ts) (body_popped v))) o)) n ∙ none_either b
 
-  module _ (ts : List ValType) (v u : BodyState) (y : MaybeType) (given : option_and_then without_null (steps.found_in_body v) ≡ Some y) (e : u ≡ body_popped v) where
+  module _ (ts : List ValType) (v u : BodyState) (y : MaybeType) (given : option_and_then operand_without_null (steps.found_in_body v) ≡ Some y) (e : u ≡ body_popped v) where
     above_of : above_types ts v ≡ option_map (λ w. body_pushed y (body_pushed_each ts w)) (body_popped_each md (reverse ts) u)
     above_of =
         ap (λ o. option_and_then (λ y. option_map (λ w. body_pushed y (body_pushed_each ts w)) (body_popped_each md (reverse ts) (body_popped v))) o) given
@@ -194,28 +194,28 @@ module _ (md : ModuleContext) where
     above_there w p = above_of ∙ ap (option_map (λ w. body_pushed y (body_pushed_each ts w))) p
 
     -- a pop leaves the labels
-    pub label_below : (d : ℕ) → label_of u d ≡ label_of v d
+    pub label_below : (d : ℕ) → label_at u d ≡ label_at v d
     label_below d = ap (λ hs. option_map type_and_kind (slice_get hs d)) (ap (λ (q : BodyState). heads q.present.frames) e ∙ popped_heads v)
 
 -- ---- a branch where a reference isn't null: the reference is wanted, above types that stay
 
-module _ (md : ModuleContext) (v : BodyState) (o : v.present.frames ≢ []) (d : ℕ) (others : List ValType) (last with : RefType) (there : has_label (heads v.present.frames) d ≡ true) (ends : last_reference (label_types_at (context md v) (heads v.present.frames) d) ≡ Some (others, last)) (null : with ≡ with_null last) where
+module _ (md : ModuleContext) (v : BodyState) (o : v.present.frames ≢ []) (d : ℕ) (others : List ValType) (last with : RefType) (there : has_label (heads v.present.frames) d ≡ true) (ends : last_reference (label_types_at (body_context md v) (heads v.present.frames) d) ≡ Some (others, last)) (null : with ≡ with_null last) where
   abbrev targets_of : List Target
   targets_of = record { depth = d; carried = last_without_null } ∷ []
 
-  on_non_null_is : step_body md (λ c. flat_operator (λ hs. br_on_non_null_row c hs d)) v ≡ option_map (λ u. body_pushed_each others u) (body_popped_each md (reverse (others ++ Ref with ∷ [])) v)
+  on_non_null_is : step_body md (λ c. staying_operator (λ hs. br_on_non_null_row c hs d)) v ≡ option_map (λ u. body_pushed_each others u) (body_popped_each md (reverse (others ++ Ref with ∷ [])) v)
   on_non_null_is =
-      let cx = context md v in
+      let cx = body_context md v in
       let hs = heads v.present.frames in
       pushes_is md v o (λ c hs. br_on_non_null_row c hs d) true (others ++ Ref with ∷ []) others targets_of
       (ap (λ q. lookup_row q (br_on_non_null_row_for cx hs d)) ends
       ∙ (ap (λ b. row_with b None (others ++ Ref (with_null last) ∷ []) [] others None targets_of [] false) there
       ∙ ap (λ r. row_with true None (others ++ Ref r ∷ []) [] others None targets_of [] false) (sym null)))
 
-  pub on_non_null_missing : body_popped_each md (reverse (Ref with ∷ [])) v ≡ None → step_body md (λ c. flat_operator (λ hs. br_on_non_null_row c hs d)) v ≡ None
+  pub on_non_null_missing : body_popped_each md (reverse (Ref with ∷ [])) v ≡ None → step_body md (λ c. staying_operator (λ hs. br_on_non_null_row c hs d)) v ≡ None
   on_non_null_missing n = on_non_null_is ∙ ap (option_map (λ u. body_pushed_each others u)) (none_above md others (Ref with ∷ []) v n)
 
-  pub on_non_null_rest : (u : BodyState) → body_popped_each md (reverse (Ref with ∷ [])) v ≡ Some u → step_body md (λ c. flat_operator (λ hs. br_on_non_null_row c hs d)) v ≡ step_body md (λ c. row_operator (plain_row others others)) u
+  pub on_non_null_rest : (u : BodyState) → body_popped_each md (reverse (Ref with ∷ [])) v ≡ Some u → step_body md (λ c. staying_operator (λ hs. br_on_non_null_row c hs d)) v ≡ step_body md (λ c. row_operator (plain_row others others)) u
   on_non_null_rest u p =
       on_non_null_is
       ∙ (ap (option_map (λ u. body_pushed_each others u)) (some_above md others (Ref with ∷ []) v u p)

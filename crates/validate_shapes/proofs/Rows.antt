@@ -12,14 +12,15 @@ use Rattle.validate_visit.specs.declared.frame.BlockType.{BlockType}
 use Rattle.validate_visit.specs.declared.frame.Frame.{Frame as FlatFrame}
 use Rattle.validation_rules.specs.Context.{Context, block_signature, is_set_at_entry}
 use Rattle.validation_rules.specs.Fits.{MaybeType, Known, fits, all_fit}
-use Rattle.validation_rules.specs.Rows.{FrameKind, Else, is_if, Head, params, results, Flat, Ends, Row, Operator, guard}
-use Rattle.validation_rules.specs.Static.{Frame, State, onto, operands_on_top, operands_found, operands_below, may_close, opened_frame, state_after_exit, state_if_pushed, step, step_in, locals_set, is_set, reads_set, first_set_after}
+use Rattle.validation_rules.specs.Rows.{FrameKind, Else, is_if, Head, params, results, Stays, Ends, Row, Operator, guard}
+use Rattle.validation_rules.specs.Static.{Frame, State, stack_with, operands_on_top, operands_found, operands_under, may_close, opened_frame, state_after_exit, state_if_pushed, step, step_in, locals_set, is_set, is_read_local_set, first_set_after}
 use Rattle.validation_rules.proofs.Steps.{if_fits, joined}
 use Rattle.validation_rules.specs.Operators.{plain_row, plain_row_if, never_row, looking_row, drop_pushes, row_operator, delimiter_operator, lookup_row, local_get_row, local_set_row, local_tee_row}
 use Rattle.validation_rules.proofs.Pops.{and_false, fit_turned}
-use Rattle.validate_stacks.specs.Blocks.{closed_body, closed_body_in, body_with_block, head_of, may_close_as_if}
+use Rattle.validate_stacks.specs.Blocks.{closed_body, closed_body_in, body_with_block, may_close_as_if}
+use Rattle.validate_stacks.specs.Steps.{head_of}
 use Rattle.validate_stacks.specs.Pops.{body_popped_each, body_pushed_each, IsKept}
-use Rattle.validate_stacks.specs.State.{BodyState, context}
+use Rattle.validate_stacks.specs.State.{BodyState, body_context}
 use Rattle.validate_stacks.specs.Steps.{found_in_frames, frame_at, body_popped, is_set_in_body, body_with_local_set, frames_setting}
 use Rattle.validate_stacks.specs.Steps as steps
 use Rattle.validate_stacks.specs.Visits.{step_body}
@@ -38,27 +39,27 @@ local_row reads sets wanted ps = record (plain_row wanted ps) { reads = reads; s
 
 module _ (md : ModuleContext) (v : BodyState) (f : Frame) (fs : List Frame) (e : v.present.frames ≡ f ∷ fs) where
   abbrev cx : Context
-  cx = context md v
+  cx = body_context md v
 
   abbrev set_now : List ℕ
   set_now = locals_set (f ∷ fs)
 
   abbrev pub frame_then : List ValType → List ValType → Option ℕ → Frame
-  frame_then wanted ps sets = record f { operands = onto (map Known ps) (operands_below (length wanted) f); first_set = first_set_after cx set_now sets f.first_set }
+  frame_then wanted ps sets = record f { operands = stack_with (map Known ps) (operands_under (length wanted) f); first_set = first_set_after cx set_now sets f.first_set }
 
   stepped_in : (op : Context → Operator) → step_body md op v ≡ option_map (λ (s : State). record v { present = s }) (step_in cx (op cx) (f ∷ fs) v.present.left)
   stepped_in op = ap (λ gs. option_map (λ (s : State). record v { present = s }) (step_in cx (op cx) gs v.present.left)) e
 
-  guarded : (p q : Bool) (pushed : List MaybeType) (own : List MaybeType) (first : List ℕ) (r : Row) → r.ends_live ≡ false → option_map (λ (s : State). record v { present = s }) (state_if_pushed v.present.left cx r set_now f fs Flat (guard p (guard (q && true) (Some pushed)))) ≡ guard (p && q) (option_map (λ (s : State). record v { present = s }) (state_if_pushed v.present.left cx r set_now f fs Flat (Some pushed)))
+  guarded : (p q : Bool) (pushed : List MaybeType) (own : List MaybeType) (first : List ℕ) (r : Row) → r.ends_live ≡ false → option_map (λ (s : State). record v { present = s }) (state_if_pushed v.present.left cx r set_now f fs Stays (guard p (guard (q && true) (Some pushed)))) ≡ guard (p && q) (option_map (λ (s : State). record v { present = s }) (state_if_pushed v.present.left cx r set_now f fs Stays (Some pushed)))
   guarded true true pushed own first r d = refl
   guarded true false pushed own first r d = refl
   guarded false q pushed own first r d = refl
 
-  pub row_is : (reads sets : Option ℕ) (wanted ps : List ValType) → step_body md (λ c. row_operator (local_row reads sets wanted ps)) v ≡ guard (reads_set cx set_now reads && all_fit cx (operands_found (length wanted) f) wanted) (Some (with_frame v (frame_then wanted ps sets) fs))
+  pub row_is : (reads sets : Option ℕ) (wanted ps : List ValType) → step_body md (λ c. row_operator (local_row reads sets wanted ps)) v ≡ guard (is_read_local_set cx set_now reads && all_fit cx (operands_found (length wanted) f) wanted) (Some (with_frame v (frame_then wanted ps sets) fs))
   row_is reads sets wanted ps =
       stepped_in (λ c. row_operator (local_row reads sets wanted ps))
-      ∙ guarded (reads_set cx set_now reads) (all_fit cx (operands_found (length wanted) f) wanted) (map Known ps) [] [] (local_row reads sets wanted ps) refl
-      ∙ ap (λ b. guard (reads_set cx set_now reads && all_fit cx (operands_found (length wanted) f) wanted) (Some (with_frame v (record (frame_then wanted ps sets) { dead = b }) fs))) (or_false f.dead)
+      ∙ guarded (is_read_local_set cx set_now reads) (all_fit cx (operands_found (length wanted) f) wanted) (map Known ps) [] [] (local_row reads sets wanted ps) refl
+      ∙ ap (λ b. guard (is_read_local_set cx set_now reads && all_fit cx (operands_found (length wanted) f) wanted) (Some (with_frame v (record (frame_then wanted ps sets) { dead = b }) fs))) (or_false f.dead)
 
 -- a local that the row sets
 abbrev pub set_after : Option ℕ → BodyState → BodyState
@@ -76,21 +77,21 @@ split true false g y x h = refl
 split false q g y x h = refl
 
 module _ (md : ModuleContext) (v : BodyState) (f : Frame) (fs : List Frame) (e : v.present.frames ≡ f ∷ fs) where
-  then_pushed : (sets : Option ℕ) (wanted ps : List ValType) → body_pushed_each ps (set_after sets (with_frame v (record f { operands = operands_below (length wanted) f }) fs)) ≡ with_frame v (frame_then md v f fs e wanted ps sets) fs
-  then_pushed None wanted ps = pushed_whole ps (with_frame v (record f { operands = operands_below (length wanted) f }) fs) (record f { operands = operands_below (length wanted) f }) fs refl
+  then_pushed : (sets : Option ℕ) (wanted ps : List ValType) → body_pushed_each ps (set_after sets (with_frame v (record f { operands = operands_under (length wanted) f }) fs)) ≡ with_frame v (frame_then md v f fs e wanted ps sets) fs
+  then_pushed None wanted ps = pushed_whole ps (with_frame v (record f { operands = operands_under (length wanted) f }) fs) (record f { operands = operands_under (length wanted) f }) fs refl
   then_pushed (Some i) wanted ps =
-      let g : Frame = record f { operands = operands_below (length wanted) f; first_set = joined (is_set (context md v) (locals_set (f ∷ fs)) i) f.first_set i } in
+      let g : Frame = record f { operands = operands_under (length wanted) f; first_set = joined (is_set (body_context md v) (locals_set (f ∷ fs)) i) f.first_set i } in
       pushed_whole ps (with_frame v g fs) g fs refl
 
-  row_of : (reads sets : Option ℕ) (wanted ps : List ValType) → step_body md (λ c. row_operator (local_row reads sets wanted ps)) v ≡ guard (reads_set (context md v) (locals_set (f ∷ fs)) reads) (option_map (λ u. body_pushed_each ps (set_after sets u)) (body_popped_each md (reverse wanted) v))
+  row_of : (reads sets : Option ℕ) (wanted ps : List ValType) → step_body md (λ c. row_operator (local_row reads sets wanted ps)) v ≡ guard (is_read_local_set (body_context md v) (locals_set (f ∷ fs)) reads) (option_map (λ u. body_pushed_each ps (set_after sets u)) (body_popped_each md (reverse wanted) v))
   row_of reads sets wanted ps =
       row_is md v f fs e reads sets wanted ps
-      ∙ split (reads_set (context md v) (locals_set (f ∷ fs)) reads) (all_fit (context md v) (operands_found (length wanted) f) wanted) (λ u. body_pushed_each ps (set_after sets u)) (with_frame v (record f { operands = operands_below (length wanted) f }) fs) (with_frame v (frame_then md v f fs e wanted ps sets) fs) (then_pushed sets wanted ps)
-      ∙ ap (λ o. guard (reads_set (context md v) (locals_set (f ∷ fs)) reads) (option_map (λ u. body_pushed_each ps (set_after sets u)) o)) (sym (popped_whole md v f fs wanted e))
+      ∙ split (is_read_local_set (body_context md v) (locals_set (f ∷ fs)) reads) (all_fit (body_context md v) (operands_found (length wanted) f) wanted) (λ u. body_pushed_each ps (set_after sets u)) (with_frame v (record f { operands = operands_under (length wanted) f }) fs) (with_frame v (frame_then md v f fs e wanted ps sets) fs) (then_pushed sets wanted ps)
+      ∙ ap (λ o. guard (is_read_local_set (body_context md v) (locals_set (f ∷ fs)) reads) (option_map (λ u. body_pushed_each ps (set_after sets u)) o)) (sym (popped_whole md v f fs wanted e))
 
-  reads_same : (reads : Option ℕ) → reads_set (context md v) (locals_set (f ∷ fs)) reads ≡ reads_in v reads
+  reads_same : (reads : Option ℕ) → is_read_local_set (body_context md v) (locals_set (f ∷ fs)) reads ≡ reads_in v reads
   reads_same None = refl
-  reads_same (Some i) = ap (λ gs. list_any (nat_eq i) (locals_set gs) || is_set_at_entry (context md v) i) (sym e)
+  reads_same (Some i) = ap (λ gs. list_any (nat_eq i) (locals_set gs) || is_set_at_entry (body_context md v) i) (sym e)
 
 -- pops of the wanted types, perhaps the setting of a local, and pushes: the row's step
 pub row_then : (md : ModuleContext) (v : BodyState) (reads sets : Option ℕ) (wanted ps : List ValType) → v.present.frames ≢ [] → step_body md (λ c. row_operator (local_row reads sets wanted ps)) v ≡ guard (reads_in v reads) (option_map (λ u. body_pushed_each ps (set_after sets u)) (body_popped_each md (reverse wanted) v))
@@ -113,12 +114,12 @@ plain_refused md v wanted ps o p = row_then md v None None wanted ps o ∙ ap (o
 pub not_plain : (md : ModuleContext) (v : BodyState) (wanted ps : List ValType) → step_body md (λ c. row_operator (plain_row_if false wanted ps)) v ≡ None
 not_plain md v wanted ps = by v.present.frames
   where
-    by : (fs : List Frame) → option_map (λ (s : State). record v { present = s }) (step_in (context md v) (row_operator (plain_row_if false wanted ps)) fs v.present.left) ≡ None
+    by : (fs : List Frame) → option_map (λ (s : State). record v { present = s }) (step_in (body_context md v) (row_operator (plain_row_if false wanted ps)) fs v.present.left) ≡ None
     by [] = refl
     by (f ∷ fs) = refl
 
-pub same_row : (md : ModuleContext) (v : BodyState) (op : Context → Operator) (r : Operator) → op (context md v) ≡ r → step_body md op v ≡ step_body md (λ c. r) v
-same_row md v op r h = ap (λ (q : Operator). option_map (λ (s : State). record v { present = s }) (step (context md v) q v.present)) h
+pub same_row : (md : ModuleContext) (v : BodyState) (op : Context → Operator) (r : Operator) → op (body_context md v) ≡ r → step_body md op v ≡ step_body md (λ c. r) v
+same_row md v op r h = ap (λ (q : Operator). option_map (λ (s : State). record v { present = s }) (step (body_context md v) q v.present)) h
 
 -- ---- locals
 
@@ -165,7 +166,7 @@ module _ (md : ModuleContext) where
   drop_is v = by v.present.frames refl
     where
       by : (fs : List Frame) → v.present.frames ≡ fs → step_body md (λ c. row_operator (looking_row 1 drop_pushes)) v ≡ option_map (λ _. body_popped v) (steps.found_in_body v)
-      by [] e = ap (λ gs. option_map (λ (s : State). record v { present = s }) (step_in (context md v) (row_operator (looking_row 1 drop_pushes)) gs v.present.left)) e ∙ sym (ap (λ gs. option_map (λ _. body_popped v) (found_in_frames gs)) e)
+      by [] e = ap (λ gs. option_map (λ (s : State). record v { present = s }) (step_in (body_context md v) (row_operator (looking_row 1 drop_pushes)) gs v.present.left)) e ∙ sym (ap (λ gs. option_map (λ _. body_popped v) (found_in_frames gs)) e)
       by (f ∷ fs) e =
           ap (λ gs. step_body md (λ c. row_operator (looking_row 1 drop_pushes)) (record v { present = record { frames = gs; left = v.present.left } })) e
           ∙ drop_in f.head f.operands f.dead f.first_set fs v.present.left v.shared v.features v.locals v.entry v.undone
@@ -189,19 +190,19 @@ module _ (cx : Context) where
       ∙ and_pull (nat_le (length own) (length ws)) (fits cx x w) (all_fit cx (operands_on_top (length ws) false own) ws)
       ∙ ap (λ b. fits cx x w && b) (whole_top own ws)
 
-  onto_twice : (xs : List MaybeType) → onto (onto xs []) [] ≡ xs
+  onto_twice : (xs : List MaybeType) → stack_with (stack_with xs []) [] ≡ xs
   onto_twice xs = twice xs []
     where
-      twice : (xs ys : List MaybeType) → onto (onto xs ys) [] ≡ onto ys xs
+      twice : (xs ys : List MaybeType) → stack_with (stack_with xs ys) [] ≡ stack_with ys xs
       twice [] ys = refl
       twice (x ∷ xs) ys = twice xs (x ∷ ys)
 
   -- an empty part gives its parameters as its results
   pub else_closes : (h : Head) → may_close cx (opened_frame h (params cx h)) ≡ all_fit cx (map Known (params cx h)) (results cx h)
   else_closes h =
-      let own = onto (map Known (params cx h)) [] in
+      let own = stack_with (map Known (params cx h)) [] in
       let rs = results cx h in
-      ap (λ n. nat_le (length own) (length rs) && all_fit cx (onto (operands_on_top n false own) []) rs) refl
+      ap (λ n. nat_le (length own) (length rs) && all_fit cx (stack_with (operands_on_top n false own) []) rs) refl
       ∙ ap (λ b. nat_le (length own) (length rs) && b) (fit_turned cx (operands_on_top (length rs) false own) rs)
       ∙ ap (λ n. nat_le (length own) n && all_fit cx (operands_on_top n false own) (reverse rs)) (sym (length-reverse rs))
       ∙ whole_top own (reverse rs)
@@ -216,54 +217,54 @@ module _ (md : ModuleContext) (v : BodyState) (r : FlatFrame) (h : frame_at v 0 
   rs_now = (block_signature md r.block_type).results
 
   -- the row of `end`, by the frame that it closes
-  end_row : step_body md (λ c. delimiter_operator Ends) v ≡ guard (if_fits (context md v) (is_if inner.frame.head.kind) inner.frame.head && may_close (context md v) inner.frame) (Some (record v { present = state_after_exit v.present.left (results (context md v) inner.frame.head) inner.outer }))
+  end_row : step_body md (λ c. delimiter_operator Ends) v ≡ guard (if_fits (body_context md v) (is_if inner.frame.head.kind) inner.frame.head && may_close (body_context md v) inner.frame) (Some (record v { present = state_after_exit v.present.left (results (body_context md v) inner.frame.head) inner.outer }))
   end_row =
-      ap (λ gs. option_map (λ (s : State). record v { present = s }) (step_in (context md v) (delimiter_operator Ends) gs v.present.left)) inner.is
-      ∙ ended (if_fits (context md v) (is_if inner.frame.head.kind) inner.frame.head && may_close (context md v) inner.frame)
+      ap (λ gs. option_map (λ (s : State). record v { present = s }) (step_in (body_context md v) (delimiter_operator Ends) gs v.present.left)) inner.is
+      ∙ ended (if_fits (body_context md v) (is_if inner.frame.head.kind) inner.frame.head && may_close (body_context md v) inner.frame)
     where
-      ended : (b : Bool) → option_map (λ (s : State). record v { present = s }) (state_if_pushed v.present.left (context md v) (plain_row [] []) (locals_set (inner.frame ∷ inner.outer)) inner.frame inner.outer Ends (guard b (Some []))) ≡ guard b (Some (record v { present = state_after_exit v.present.left (results (context md v) inner.frame.head) inner.outer }))
+      ended : (b : Bool) → option_map (λ (s : State). record v { present = s }) (state_if_pushed v.present.left (body_context md v) (plain_row [] []) (locals_set (inner.frame ∷ inner.outer)) inner.frame inner.outer Ends (guard b (Some []))) ≡ guard b (Some (record v { present = state_after_exit v.present.left (results (body_context md v) inner.frame.head) inner.outer }))
       ended true = refl
       ended false = refl
 
-  closed_by : closed_body md v ≡ guard (may_close (context md v) inner.frame) (Some (record v { present = record { frames = inner.outer; left = v.present.left } }))
-  closed_by = ap (closed_body_in (context md v) v) inner.is
+  closed_by : closed_body md v ≡ guard (may_close (body_context md v) inner.frame) (Some (record v { present = record { frames = inner.outer; left = v.present.left } }))
+  closed_by = ap (closed_body_in (body_context md v) v) inner.is
 
   -- the frame doesn't close
   pub end_refused : closed_body md v ≡ None → step_body md (λ c. delimiter_operator Ends) v ≡ None
   end_refused n =
       end_row
-      ∙ ap (λ b. guard (if_fits (context md v) (is_if inner.frame.head.kind) inner.frame.head && b) (Some (record v { present = state_after_exit v.present.left (results (context md v) inner.frame.head) inner.outer }))) (guarded_none _ _ (sym closed_by ∙ n))
-      ∙ ap (λ b. guard b (Some (record v { present = state_after_exit v.present.left (results (context md v) inner.frame.head) inner.outer }))) (and_false (if_fits (context md v) (is_if inner.frame.head.kind) inner.frame.head))
+      ∙ ap (λ b. guard (if_fits (body_context md v) (is_if inner.frame.head.kind) inner.frame.head && b) (Some (record v { present = state_after_exit v.present.left (results (body_context md v) inner.frame.head) inner.outer }))) (guarded_none _ _ (sym closed_by ∙ n))
+      ∙ ap (λ b. guard b (Some (record v { present = state_after_exit v.present.left (results (body_context md v) inner.frame.head) inner.outer }))) (and_false (if_fits (body_context md v) (is_if inner.frame.head.kind) inner.frame.head))
 
-  if_of : (b : Bool) → is_if r.kind ≡ b → if_fits (context md v) (is_if inner.frame.head.kind) inner.frame.head ≡ if_fits (context md v) b (head_of r.kind r.block_type)
+  if_of : (b : Bool) → is_if r.kind ≡ b → if_fits (body_context md v) (is_if inner.frame.head.kind) inner.frame.head ≡ if_fits (body_context md v) b (head_of r.kind r.block_type)
   if_of b k =
-      ap (λ (q : FrameKind). if_fits (context md v) (is_if q) inner.frame.head) inner.kind
-      ∙ ap (λ b. if_fits (context md v) b inner.frame.head) k
-      ∙ ap₂ (λ q t. if_fits (context md v) b (head_of q t)) inner.kind inner.block_type
+      ap (λ (q : FrameKind). if_fits (body_context md v) (is_if q) inner.frame.head) inner.kind
+      ∙ ap (λ b. if_fits (body_context md v) b inner.frame.head) k
+      ∙ ap₂ (λ q t. if_fits (body_context md v) b (head_of q t)) inner.kind inner.block_type
 
   -- an `if` whose parameters aren't its results
   pub end_refused_if : may_close_as_if md r v ≡ false → step_body md (λ c. delimiter_operator Ends) v ≡ None
   end_refused_if n =
       end_row
-      ∙ ap (λ b. guard (b && may_close (context md v) inner.frame) (Some (record v { present = state_after_exit v.present.left (results (context md v) inner.frame.head) inner.outer }))) (if_of (is_if r.kind) refl ∙ n)
+      ∙ ap (λ b. guard (b && may_close (body_context md v) inner.frame) (Some (record v { present = state_after_exit v.present.left (results (body_context md v) inner.frame.head) inner.outer }))) (if_of (is_if r.kind) refl ∙ n)
 
   -- the frame closes, and its results are pushed outside
   pub end_passes : (u w : BodyState) → closed_body md v ≡ Some u → may_close_as_if md r v ≡ true → w ≡ body_pushed_each rs_now u → step_body md (λ c. delimiter_operator Ends) v ≡ Some w
   end_passes u w c i p =
       let s = guarded_some _ _ u (sym closed_by ∙ c) in
       end_row
-      ∙ ap₂ (λ b d. guard (b && d) (Some (record v { present = state_after_exit v.present.left (results (context md v) inner.frame.head) inner.outer }))) (if_of (is_if r.kind) refl ∙ i) s.0
+      ∙ ap₂ (λ b d. guard (b && d) (Some (record v { present = state_after_exit v.present.left (results (body_context md v) inner.frame.head) inner.outer }))) (if_of (is_if r.kind) refl ∙ i) s.0
       ∙ ap Some
       (ap (λ t. record v { present = state_after_exit v.present.left (block_signature md t).results inner.outer }) inner.block_type
       ∙ sym (p ∙ (ap (λ (x : BodyState). body_pushed_each rs_now x) (sym s.1) ∙ pushed_over rs_now (record v { present = record { frames = inner.outer; left = v.present.left } }) inner.outer refl)))
 
 -- an empty second part: it closes exactly where the parameters are the results
-pub else_closed : (md : ModuleContext) (bt : BlockType) (u : BodyState) → closed_body md (body_with_block md Else bt u) ≡ guard (all_fit (context md u) (map Known (block_signature md bt).params) (block_signature md bt).results) (Some u)
-else_closed md bt u = ap (λ b. guard b (Some u)) (else_closes (context md u) (head_of Else bt))
+pub else_closed : (md : ModuleContext) (bt : BlockType) (u : BodyState) → closed_body md (body_with_block md Else bt u) ≡ guard (all_fit (body_context md u) (map Known (block_signature md bt).params) (block_signature md bt).results) (Some u)
+else_closed md bt u = ap (λ b. guard b (Some u)) (else_closes (body_context md u) (head_of Else bt))
 
 -- as the row of `end` asks it of an `if`
 pub else_is : (md : ModuleContext) (f : FlatFrame) (u : BodyState) → is_if f.kind ≡ true → closed_body md (body_with_block md Else f.block_type u) ≡ guard (may_close_as_if md f u) (Some u)
-else_is md f u k = else_closed md f.block_type u ∙ ap (λ b. guard b (Some u)) (sym (ap (λ b. if_fits (context md u) b (head_of f.kind f.block_type)) k))
+else_is md f u k = else_closed md f.block_type u ∙ ap (λ b. guard b (Some u)) (sym (ap (λ b. if_fits (body_context md u) b (head_of f.kind f.block_type)) k))
 
 -- without a frame that closes the row of `end` doesn't hold
 pub end_none : (md : ModuleContext) (v : BodyState) → v.present.frames ≢ [] → closed_body md v ≡ None → step_body md (λ c. delimiter_operator Ends) v ≡ None
@@ -274,8 +275,8 @@ end_none md v o n = by (frame_at v 0) refl
     by (Some r) e = end_refused md v r e n
 
 -- where only operands and frames changed, the context is the same
-pub same_context : (md : ModuleContext) (v u : BodyState) → IsKept v u → context md v ≡ context md u
-same_context md v u k = sym (ap (λ (w : BodyState). context md w) k)
+pub same_context : (md : ModuleContext) (v u : BodyState) → IsKept v u → body_context md v ≡ body_context md u
+same_context md v u k = sym (ap (λ (w : BodyState). body_context md w) k)
 
 abbrev pub if_by : Context → FlatFrame → Bool
 if_by cx f = if_fits cx (is_if f.kind) (head_of f.kind f.block_type)

@@ -9,15 +9,16 @@ use Rattle.validate_shapes.specs.declared.types.Few.{Few}
 use Rattle.validate_shapes.specs.declared.types.Few.TheVariants.{Zero, One, Two, Three}
 use Rattle.validate_shapes.specs.declared.types.Types.{Types}
 
-abbrev pub few : Few → List ValType
-few Zero = []
-few (One a) = a ∷ []
-few (Two a b) = a ∷ b ∷ []
-few (Three a b c) = a ∷ b ∷ c ∷ []
+abbrev pub few_types : Few → List ValType
+few_types Zero = []
+few_types (One a) = a ∷ []
+few_types (Two a b) = a ∷ b ∷ []
+few_types (Three a b c) = a ∷ b ∷ c ∷ []
 
 -- the row that takes and gives them
 abbrev pub types_row : Types → Row
-types_row t = plain_row (few t.wanted) (few t.pushed)
+types_row t = plain_row (few_types t.wanted) (few_types t.pushed)
 
 abbrev pub AreValid : ModuleContext → Types → Type 0
-AreValid md t = AllByRecursion (Valid md) (few t.wanted) × AllByRecursion (Valid md) (few t.pushed)
+AreValid md t =
+    AllByRecursion (Valid md) (few_types t.wanted) × AllByRecursion (Valid md) (few_types t.pushed)

@@ -2,15 +2,16 @@
 
 ghost use Rattle.std.specs.Prelude.{◌≡◌, None, Some, IfOk, OnErr, IfErr};
 ghost use Rattle.std.specs.List.{AllByRecursion};
-ghost use Rattle.validate_resources.specs.Context.{Valid, signature_of};
+ghost use Rattle.validate_resources.specs.Context.{Valid};
 ghost use Rattle.validation_rules.specs.Calls.{callee as called};
 ghost use Rattle.validation_rules.specs.Indirect.{typed_callee};
-ghost use Rattle.validate_stacks.specs.State.{context};
+ghost use Rattle.validate_stacks.specs.State.{body_context};
 
 use std::alloc::Global;
 use validate_resources::WasmModuleResources;
+use validate_resources::kinds::{expected_func_type, func_type_of};
 use validate_stacks::Stacks;
-use validate_types::{CompositeInnerType, Error, FuncType, SubType};
+use validate_types::{Error, FuncType};
 
 /// The type of a function, which has to be declared, and in a shared function has to be shared
 /// (wasmparser's `type_of_function`).
@@ -21,11 +22,11 @@ pub fn type_of_function<'a, R: WasmModuleResources>(
     offset: u64,
     function_index: u32,
 ) -> Result<&'a FuncType, Error>
-    ensures found { IfOk result (λ f. called (context (R.context resources.now) stacks.now.body)
+    ensures found { IfOk result (λ f. called (body_context (R.context resources.now) stacks.now.body)
         function_index ≡ Some f.now) }
     ensures params { IfOk result (λ f. AllByRecursion (Valid (R.context resources.now)) f.now.params) }
     ensures results { IfOk result (λ f. AllByRecursion (Valid (R.context resources.now)) f.now.results) }
-    ensures refused { OnErr result (called (context (R.context resources.now) stacks.now.body)
+    ensures refused { OnErr result (called (body_context (R.context resources.now) stacks.now.body)
         function_index ≡ None) }
     ensures offset { IfErr result (λ e. e.offset ≡ offset) }
 {
@@ -36,37 +37,31 @@ pub fn type_of_function<'a, R: WasmModuleResources>(
 }
 
 /// The function type at an index, which has to be declared, and in a shared function has to be shared
-/// (wasmparser's `func_type_at`).
+/// (wasmparser's `func_type_at`). It refuses a type of another kind.
 pub fn func_type_at<'a, R: WasmModuleResources>(
     stacks: &Stacks,
     resources: &'a R,
     offset: u64,
     type_index: u32,
 ) -> Result<&'a FuncType, Error>
-    ensures found { IfOk result (λ f. typed_callee (context (R.context resources.now) stacks.now.body)
+    ensures found { IfOk result (λ f. typed_callee (body_context (R.context resources.now) stacks.now.body)
         type_index ≡ Some f.now) }
     ensures params { IfOk result (λ f. AllByRecursion (Valid (R.context resources.now)) f.now.params) }
     ensures results { IfOk result (λ f. AllByRecursion (Valid (R.context resources.now)) f.now.results) }
-    ensures refused { OnErr result (typed_callee (context (R.context resources.now) stacks.now.body)
+    ensures refused { OnErr result (typed_callee (body_context (R.context resources.now) stacks.now.body)
         type_index ≡ None) }
     ensures offset { IfErr result (λ e. e.offset ≡ offset) }
 {
     let Some(sub_type) = resources.sub_type_at(type_index) else {
         return Err(Error::new("unknown type: type index out of bounds", offset));
     };
+    let Some(func_type) = func_type_of(sub_type) else {
+        return Err(expected_func_type(stacks.allocator(), offset, type_index, sub_type));
+    };
     if stacks.is_shared() && !sub_type.composite_type.shared {
         return Err(Error::new("shared functions cannot access unshared functions", offset));
     }
-    Ok(func_type_of(sub_type))
-}
-
-/// What a type of a function takes and gives.
-fn func_type_of(sub_type: &SubType) -> &FuncType
-    ensures { result.now ≡ signature_of sub_type.now }
-{
-    match &sub_type.composite_type.inner {
-        CompositeInnerType::Func(func_type) => func_type,
-    }
+    Ok(func_type)
 }
 
 #[cold]

@@ -3,7 +3,7 @@
 ghost use Rattle.std.specs.Prelude.{◌≡◌, false, None, Some, IfOk, OnErr, IfErr};
 ghost use Rattle.validate_resources.specs.Context.{Valid};
 ghost use Rattle.validation_rules.specs.Calls.{global_type};
-ghost use Rattle.validate_stacks.specs.State.{context};
+ghost use Rattle.validate_stacks.specs.State.{body_context};
 
 use validate_resources::WasmModuleResources;
 use validate_resources::uses::laws;
@@ -18,10 +18,10 @@ pub fn global_type_at<R: WasmModuleResources>(
     offset: u64,
     global_index: u32,
 ) -> Result<GlobalType, Error>
-    ensures found { IfOk result (λ g. global_type (context (R.context resources.now) stacks.now.body)
+    ensures found { IfOk result (λ g. global_type (body_context (R.context resources.now) stacks.now.body)
         global_index ≡ Some g) }
     ensures valid { IfOk result (λ g. Valid (R.context resources.now) g.content_type) }
-    ensures refused { OnErr result (global_type (context (R.context resources.now) stacks.now.body)
+    ensures refused { OnErr result (global_type (body_context (R.context resources.now) stacks.now.body)
         global_index ≡ None) }
     ensures offset { IfErr result (λ e. e.offset ≡ offset) }
     ensures memory { IfErr result (λ e. e.wants_memory ≡ false) }

@@ -1,7 +1,7 @@
 //! Labels (WebAssembly core specification, "Control Instructions").
 
 ghost use Rattle.std.specs.Prelude.{◌≡◌, None, Some, false, IfOk, OnErr, IfErr};
-ghost use Rattle.validate_stacks.specs.Steps.{label_of};
+ghost use Rattle.validate_stacks.specs.Steps.{label_at};
 
 use validate_stacks::Stacks;
 use validate_types::Error;
@@ -14,8 +14,8 @@ pub fn label(
     offset: u64,
     relative_depth: u32,
 ) -> Result<(BlockType, FrameKind), Error>
-    ensures found { IfOk result (λ found. label_of stacks.now.body relative_depth ≡ Some found) }
-    ensures missing { OnErr result (label_of stacks.now.body relative_depth ≡ None) }
+    ensures found { IfOk result (λ found. label_at stacks.now.body relative_depth ≡ Some found) }
+    ensures missing { OnErr result (label_at stacks.now.body relative_depth ≡ None) }
     ensures offset { IfErr result (λ e. e.offset ≡ offset) }
     ensures memory { IfErr result (λ e. e.wants_memory ≡ false) }
 {

@@ -2,7 +2,7 @@
 //! "Memory Instructions").
 
 ghost use Rattle.std.specs.Prelude.{◌≡◌, true, false, [], ◌∷◌, None, Some, IfOk, OnOk, OnErr, IfErr};
-ghost use Rattle.validate_resources.specs.Context.{is_index_type};
+ghost use Rattle.validate_resources.specs.Context.{is_address_type};
 ghost use Rattle.validation_rules.specs.Access.{memory_address_type as index_of_memory, address_types, narrower_type, is_segment, atomic_address_types};
 
 use validate_resources::WasmModuleResources;
@@ -20,7 +20,7 @@ pub fn check_memory_index<R: WasmModuleResources>(
     memory_index: u32,
 ) -> Result<ValType, Error>
     ensures found { IfOk result (λ it. index_of_memory (R.context resources.now) memory_index ≡ Some it) }
-    ensures index { IfOk result (λ it. is_index_type it ≡ true) }
+    ensures index { IfOk result (λ it. is_address_type it ≡ true) }
     ensures unknown { OnErr result (index_of_memory (R.context resources.now) memory_index ≡ None) }
     ensures offset { IfErr result (λ e. e.offset ≡ offset) }
 {
@@ -51,7 +51,7 @@ pub fn check_memarg<R: WasmModuleResources>(
     memarg: MemArg,
 ) -> Result<ValType, Error>
     ensures found { IfOk result (λ it. address_types (R.context resources.now) memarg ≡ Some (it ∷ [])) }
-    ensures index { IfOk result (λ it. is_index_type it ≡ true) }
+    ensures index { IfOk result (λ it. is_address_type it ≡ true) }
     ensures refused { OnErr result (address_types (R.context resources.now) memarg ≡ None) }
     ensures offset { IfErr result (λ e. e.offset ≡ offset) }
 {
@@ -71,10 +71,10 @@ pub fn check_memarg<R: WasmModuleResources>(
 
 /// The type of a length that fits both memories, or both tables.
 pub fn narrower_of(dst: ValType, src: ValType) -> ValType
-    requires dst { is_index_type dst ≡ true }
-    requires src { is_index_type src ≡ true }
+    requires dst { is_address_type dst ≡ true }
+    requires src { is_address_type src ≡ true }
     ensures narrower { result ≡ narrower_type dst src }
-    ensures index { is_index_type result ≡ true }
+    ensures index { is_address_type result ≡ true }
 {
     match src {
         ValType::I32 => ValType::I32,
@@ -125,7 +125,7 @@ pub fn check_shared_memarg<R: WasmModuleResources>(
 ) -> Result<ValType, Error>
     ensures found { IfOk result (λ it. atomic_address_types (R.context resources.now) memarg
         ≡ Some (it ∷ [])) }
-    ensures index { IfOk result (λ it. is_index_type it ≡ true) }
+    ensures index { IfOk result (λ it. is_address_type it ≡ true) }
     ensures refused { OnErr result (atomic_address_types (R.context resources.now) memarg ≡ None) }
     ensures offset { IfErr result (λ e. e.offset ≡ offset) }
 {

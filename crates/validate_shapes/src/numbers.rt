@@ -1,7 +1,7 @@
 //! The types of numbers that operators name, as types of values.
 
 ghost use Rattle.std.specs.Prelude.{◌≡◌, true, [], ◌∷◌};
-ghost use Rattle.validate_resources.specs.Context.{is_number};
+ghost use Rattle.validate_resources.specs.Context.{is_number_or_vector};
 ghost use Rattle.validate_visit.specs.Numbers.{number_type, integer_type, float_type, packed_type, access_type};
 
 use validate_types::ValType;
@@ -11,7 +11,7 @@ use validate_visit::{AtomicAccess, FloatType, IntegerType, NumberType, PackedInt
 #[inline(always)]
 pub fn number(ty: NumberType) -> ValType
     ensures same { result ≡ number_type ty }
-    ensures number { is_number result ≡ true }
+    ensures number { is_number_or_vector result ≡ true }
 {
     match ty {
         NumberType::I32 => ValType::I32,
@@ -25,7 +25,7 @@ pub fn number(ty: NumberType) -> ValType
 #[inline(always)]
 pub fn integer(ty: IntegerType) -> ValType
     ensures same { result ≡ integer_type ty }
-    ensures number { is_number result ≡ true }
+    ensures number { is_number_or_vector result ≡ true }
 {
     match ty {
         IntegerType::I32 => ValType::I32,
@@ -37,7 +37,7 @@ pub fn integer(ty: IntegerType) -> ValType
 #[inline(always)]
 pub fn float(ty: FloatType) -> ValType
     ensures same { result ≡ float_type ty }
-    ensures number { is_number result ≡ true }
+    ensures number { is_number_or_vector result ≡ true }
 {
     match ty {
         FloatType::F32 => ValType::F32,
@@ -49,7 +49,7 @@ pub fn float(ty: FloatType) -> ValType
 #[inline(always)]
 pub fn packed(part: PackedInteger) -> ValType
     ensures same { result ≡ packed_type part }
-    ensures number { is_number result ≡ true }
+    ensures number { is_number_or_vector result ≡ true }
 {
     match part {
         PackedInteger::I32Bits8 | PackedInteger::I32Bits16 => ValType::I32,
@@ -63,7 +63,7 @@ pub fn packed(part: PackedInteger) -> ValType
 #[inline(always)]
 pub fn accessed(access: AtomicAccess) -> ValType
     ensures same { result ≡ access_type access }
-    ensures number { is_number result ≡ true }
+    ensures number { is_number_or_vector result ≡ true }
 {
     match access {
         AtomicAccess::Whole(ty) => integer(ty),
@@ -74,7 +74,7 @@ pub fn accessed(access: AtomicAccess) -> ValType
 /// A list of one number or vector type.
 #[inline(always)]
 pub fn once(ty: ValType) -> &'static [ValType]
-    requires { is_number ty ≡ true }
+    requires { is_number_or_vector ty ≡ true }
     ensures { result.now ≡ ty ∷ [] }
 {
     match ty {
@@ -90,7 +90,7 @@ pub fn once(ty: ValType) -> &'static [ValType]
 /// A list of one number or vector type, twice.
 #[inline(always)]
 pub fn twice(ty: ValType) -> &'static [ValType]
-    requires { is_number ty ≡ true }
+    requires { is_number_or_vector ty ≡ true }
     ensures { result.now ≡ ty ∷ ty ∷ [] }
 {
     match ty {

@@ -3,7 +3,7 @@
 ghost use Rattle.std.specs.Prelude.{◌≡◌, true, false, None, Some, IfOk, OnOk, OnErr, IfErr};
 ghost use Rattle.std.specs.Option.{option_and_then};
 ghost use Rattle.validate_resources.specs.Context.{ModuleContext};
-ghost use Rattle.validation_rules.specs.References.{without_null};
+ghost use Rattle.validation_rules.specs.References.{operand_without_null};
 ghost use Rattle.validation_rules.specs.Valid.{IsValidOperand};
 ghost use Rattle.validate_stacks.specs.Attempts.{phase_moved};
 ghost use Rattle.validate_stacks.specs.Pops.{IsKept};
@@ -33,8 +33,8 @@ fn reference_without_null(
     offset: u64,
     found: MaybeType,
 ) -> Result<MaybeType, Error>
-    ensures given { IfOk result (λ t. without_null found ≡ Some t) }
-    ensures refused { OnErr result (without_null found ≡ None) }
+    ensures given { IfOk result (λ t. operand_without_null found ≡ Some t) }
+    ensures refused { OnErr result (operand_without_null found ≡ None) }
     ensures offset { IfErr result (λ e. e.offset ≡ offset) }
 {
     match found {
@@ -54,11 +54,11 @@ pub fn pop_non_null_ref<R: WasmModuleResources>(
     offset: u64,
 ) -> Result<MaybeType, Error>
     requires { IsValid (R.context resources.now) stacks.old.body }
-    ensures given { IfOk result (λ t. option_and_then without_null (top stacks.old.body) ≡ Some t) }
+    ensures given { IfOk result (λ t. option_and_then operand_without_null (top stacks.old.body) ≡ Some t) }
     ensures operand { IfOk result (λ t. IsValidOperand (R.context resources.now) t) }
     ensures popped { OnOk result (stacks.new.body ≡ body_popped stacks.old.body) }
     ensures refused { IfErr result (λ e. e.wants_memory ≡ false
-        → option_and_then without_null (top stacks.old.body) ≡ None) }
+        → option_and_then operand_without_null (top stacks.old.body) ≡ None) }
     ensures phase { phase_moved stacks.new.phase ≡ phase_moved stacks.old.phase }
     ensures valid { IsValid (R.context resources.now) stacks.new.body }
     ensures kept { IsKept stacks.old.body stacks.new.body }

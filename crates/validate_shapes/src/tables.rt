@@ -2,10 +2,10 @@
 //! Instructions").
 
 ghost use Rattle.std.specs.Prelude.{◌≡◌, true, None, Some, IfOk, OnErr, IfErr};
-ghost use Rattle.validate_resources.specs.Context.{Valid, is_index_type};
-ghost use Rattle.validate_types.specs.Types.{table_index_type};
+ghost use Rattle.validate_resources.specs.Context.{Valid, is_address_type};
+ghost use Rattle.validate_types.specs.Types.{address_type_of_table};
 ghost use Rattle.validation_rules.specs.Tables.{table_type};
-ghost use Rattle.validate_stacks.specs.State.{context};
+ghost use Rattle.validate_stacks.specs.State.{body_context};
 
 use validate_resources::WasmModuleResources;
 use validate_resources::uses::laws;
@@ -20,11 +20,11 @@ pub fn table_type_at<R: WasmModuleResources>(
     offset: u64,
     table: u32,
 ) -> Result<TableType, Error>
-    ensures found { IfOk result (λ t. table_type (context (R.context resources.now) stacks.now.body)
+    ensures found { IfOk result (λ t. table_type (body_context (R.context resources.now) stacks.now.body)
         table ≡ Some t) }
     ensures element { IfOk result (λ t. Valid (R.context resources.now) (ValType.Ref t.element_type)) }
-    ensures index { IfOk result (λ t. is_index_type (table_index_type t) ≡ true) }
-    ensures refused { OnErr result (table_type (context (R.context resources.now) stacks.now.body) table
+    ensures index { IfOk result (λ t. is_address_type (address_type_of_table t) ≡ true) }
+    ensures refused { OnErr result (table_type (body_context (R.context resources.now) stacks.now.body) table
         ≡ None) }
     ensures offset { IfErr result (λ e. e.offset ≡ offset) }
 {

@@ -7,7 +7,7 @@ ghost use Rattle.validation_rules.specs.Operators.{row_operator};
 ghost use Rattle.validate_stacks.specs.Pops.{body_popped_each, body_pushed_each, IsKept};
 ghost use Rattle.validate_stacks.specs.State.{IsValid};
 ghost use Rattle.validate_stacks.specs.Visits.{MayVisit, Meets};
-ghost use Rattle.validate_shapes.specs.Types.{few, types_row, AreValid};
+ghost use Rattle.validate_shapes.specs.Types.{few_types, types_row, AreValid};
 
 use validate_resources::WasmModuleResources;
 use validate_stacks::Stacks;
@@ -43,12 +43,12 @@ fn pop_few<R: WasmModuleResources>(
     offset: u64,
     wanted: Few,
 ) -> Result<(), Error>
-    requires types { AllByRecursion (Valid (R.context resources.now)) (few wanted) }
+    requires types { AllByRecursion (Valid (R.context resources.now)) (few_types wanted) }
     requires state { IsValid (R.context resources.now) stacks.old.body }
-    ensures passed { OnOk result (body_popped_each (R.context resources.now) (reverse (few wanted))
+    ensures passed { OnOk result (body_popped_each (R.context resources.now) (reverse (few_types wanted))
         stacks.old.body ≡ Some stacks.new.body) }
     ensures refused { IfErr result (λ e. e.wants_memory ≡ false
-        → body_popped_each (R.context resources.now) (reverse (few wanted)) stacks.old.body ≡ None) }
+        → body_popped_each (R.context resources.now) (reverse (few_types wanted)) stacks.old.body ≡ None) }
     ensures offset { IfErr result (λ e. e.offset ≡ offset) }
     ensures valid { IsValid (R.context resources.now) stacks.new.body }
     ensures kept { IsKept stacks.old.body stacks.new.body }
@@ -64,10 +64,10 @@ fn pop_few<R: WasmModuleResources>(
 /// Pushes an operand of each of these types.
 #[inline(always)]
 fn push_few(stacks: &mut Stacks, offset: u64, types: Few) -> Result<(), Error>
-    ensures pushed { OnOk result (stacks.new.body ≡ body_pushed_each (few types) stacks.old.body) }
+    ensures pushed { OnOk result (stacks.new.body ≡ body_pushed_each (few_types types) stacks.old.body) }
     ensures memory { IfErr result (λ e. e.wants_memory ≡ true) }
     ensures offset { IfErr result (λ e. e.offset ≡ offset) }
-    ensures valid { (md : ModuleContext) → AllByRecursion (Valid md) (few types)
+    ensures valid { (md : ModuleContext) → AllByRecursion (Valid md) (few_types types)
         → IsValid md stacks.old.body → IsValid md stacks.new.body }
     ensures kept { IsKept stacks.old.body stacks.new.body }
 {

@@ -9,16 +9,16 @@ use Rattle.validate_visit.specs.declared.frame.FrameKind.{FrameKind}
 use Rattle.validation_rules.specs.Context.{block_signature}
 use Rattle.validation_rules.specs.Fits.{MaybeType, all_fit}
 use Rattle.validation_rules.specs.Rows.{results, guard}
-use Rattle.validation_rules.specs.Static.{Frame, operands_found, operands_below, may_close, opened_frame}
+use Rattle.validation_rules.specs.Static.{Frame, operands_found, operands_under, may_close, opened_frame}
 use Rattle.validation_rules.specs.Valid.{IsValidBlock}
 use Rattle.validation_rules.proofs.Pops.{and_false, is_empty, closes_whole}
 use Rattle.validation_rules.proofs.Valid.{params_valid, results_valid}
 use Rattle.validate_stacks.specs.Attempts.{innermost_first_set}
-use Rattle.validate_stacks.specs.Blocks.{closed_body_in, closed_body, head_of, body_with_block}
+use Rattle.validate_stacks.specs.Blocks.{closed_body_in, closed_body, body_with_block}
 use Rattle.validate_stacks.specs.Flat.{with_heights}
 use Rattle.validate_stacks.specs.Pops.{body_popped_each, body_pushed_each}
-use Rattle.validate_stacks.specs.State.{BodyState, context, IsValid}
-use Rattle.validate_stacks.specs.Steps.{innermost_operands, empty_frame, body_with_frame, body_without_frame, frame_at}
+use Rattle.validate_stacks.specs.State.{BodyState, body_context, IsValid}
+use Rattle.validate_stacks.specs.Steps.{innermost_operands, head_of, body_with_frame, body_without_frame, frame_at}
 use Rattle.validate_stacks.proofs.Whole.{with_frame, popped_whole, pushed_whole}
 
 -- an open frame is found
@@ -77,28 +77,28 @@ module _ (md : ModuleContext) (v : BodyState) (r : FlatFrame) (rs : List ValType
   abbrev inner : Innermost v r
   inner = innermost v r h
 
-  results_are : rs ≡ results (context md v) inner.frame.head
+  results_are : rs ≡ results (body_context md v) inner.frame.head
   results_are = e ∙ ap (λ bt. (block_signature md bt).results) (sym inner.block_type)
 
-  close_is : closed_body md v ≡ guard (may_close (context md v) inner.frame) (Some (record v { present = record { frames = inner.outer; left = v.present.left } }))
-  close_is = ap (closed_body_in (context md v) v) inner.is
+  close_is : closed_body md v ≡ guard (may_close (body_context md v) inner.frame) (Some (record v { present = record { frames = inner.outer; left = v.present.left } }))
+  close_is = ap (closed_body_in (body_context md v) v) inner.is
 
-  popped_is : body_popped_each md (reverse rs) v ≡ guard (all_fit (context md v) (operands_found (length rs) inner.frame) rs) (Some (with_frame v (record inner.frame { operands = operands_below (length rs) inner.frame }) inner.outer))
+  popped_is : body_popped_each md (reverse rs) v ≡ guard (all_fit (body_context md v) (operands_found (length rs) inner.frame) rs) (Some (with_frame v (record inner.frame { operands = operands_under (length rs) inner.frame }) inner.outer))
   popped_is = popped_whole md v inner.frame inner.outer rs inner.is
 
-  closes_is : may_close (context md v) inner.frame ≡ is_empty (operands_below (length rs) inner.frame) && all_fit (context md v) (operands_found (length rs) inner.frame) rs
+  closes_is : may_close (body_context md v) inner.frame ≡ is_empty (operands_under (length rs) inner.frame) && all_fit (body_context md v) (operands_found (length rs) inner.frame) rs
   closes_is =
-      closes_whole (context md v) inner.frame
-      ∙ ap (λ (ts : List ValType). is_empty (operands_below (length ts) inner.frame) && all_fit (context md v) (operands_found (length ts) inner.frame) ts) (sym results_are)
+      closes_whole (body_context md v) inner.frame
+      ∙ ap (λ (ts : List ValType). is_empty (operands_under (length ts) inner.frame) && all_fit (body_context md v) (operands_found (length ts) inner.frame) ts) (sym results_are)
 
   -- its results were popped, and nothing is left
   pub closed_passes : (u : BodyState) → body_popped_each md (reverse rs) v ≡ Some u → innermost_operands u.present.frames ≡ [] → closed_body md v ≡ Some (body_without_frame u)
   closed_passes u p n =
       let s = guarded_some _ _ u (sym popped_is ∙ p) in
-      let none : operands_below (length rs) inner.frame ≡ [] = ap (λ (w : BodyState). innermost_operands w.present.frames) s.1 ∙ n in
+      let none : operands_under (length rs) inner.frame ≡ [] = ap (λ (w : BodyState). innermost_operands w.present.frames) s.1 ∙ n in
       close_is
       ∙ ap (λ b. guard b (Some (record v { present = record { frames = inner.outer; left = v.present.left } })))
-      (closes_is ∙ ap (λ l. is_empty l && all_fit (context md v) (operands_found (length rs) inner.frame) rs) none ∙ s.0)
+      (closes_is ∙ ap (λ l. is_empty l && all_fit (body_context md v) (operands_found (length rs) inner.frame) rs) none ∙ s.0)
       ∙ ap (λ (w : BodyState). Some (body_without_frame w)) s.1
 
   -- its results were popped: the locals that were first set in it stay
@@ -112,16 +112,16 @@ module _ (md : ModuleContext) (v : BodyState) (r : FlatFrame) (rs : List ValType
   closed_refused p =
       close_is
       ∙ ap (λ b. guard b (Some (record v { present = record { frames = inner.outer; left = v.present.left } })))
-      (closes_is ∙ ap (λ b. is_empty (operands_below (length rs) inner.frame) && b) (guarded_none _ _ (sym popped_is ∙ p)) ∙ and_false (is_empty (operands_below (length rs) inner.frame)))
+      (closes_is ∙ ap (λ b. is_empty (operands_under (length rs) inner.frame) && b) (guarded_none _ _ (sym popped_is ∙ p)) ∙ and_false (is_empty (operands_under (length rs) inner.frame)))
 
   -- something was left
   pub closed_left_over : (u : BodyState) → body_popped_each md (reverse rs) v ≡ Some u → 0 < length (innermost_operands u.present.frames) → closed_body md v ≡ None
   closed_left_over u p n =
       let s = guarded_some _ _ u (sym popped_is ∙ p) in
-      let some : 0 < length (operands_below (length rs) inner.frame) = subst (λ (w : BodyState). 0 < length (innermost_operands w.present.frames)) (sym s.1) n in
+      let some : 0 < length (operands_under (length rs) inner.frame) = subst (λ (w : BodyState). 0 < length (innermost_operands w.present.frames)) (sym s.1) n in
       close_is
       ∙ ap (λ b. guard b (Some (record v { present = record { frames = inner.outer; left = v.present.left } })))
-      (closes_is ∙ ap (λ b. b && all_fit (context md v) (operands_found (length rs) inner.frame) rs) (empty_own _ some))
+      (closes_is ∙ ap (λ b. b && all_fit (body_context md v) (operands_found (length rs) inner.frame) rs) (empty_own _ some))
 
 -- ---- opening
 
@@ -129,7 +129,7 @@ module _ (md : ModuleContext) (v : BodyState) (r : FlatFrame) (rs : List ValType
 pub entered_is : (md : ModuleContext) (kind : FrameKind) (bt : BlockType) (v u : BodyState) (ps : List ValType) → ps ≡ (block_signature md bt).params → u ≡ body_with_frame kind bt v → body_pushed_each ps u ≡ body_with_block md kind bt v
 entered_is md kind bt v u ps e o =
     ap (λ (w : BodyState). body_pushed_each ps w) o
-    ∙ pushed_whole ps (body_with_frame kind bt v) (empty_frame kind bt) v.present.frames refl
+    ∙ pushed_whole ps (body_with_frame kind bt v) (opened_frame (head_of kind bt) []) v.present.frames refl
     ∙ ap (λ (ts : List ValType). record v { present = record { frames = opened_frame (head_of kind bt) ts ∷ v.present.frames; left = v.present.left } }) e
 
 pub opened_valid : (md : ModuleContext) (kind : FrameKind) (bt : BlockType) (v u : BodyState) → u ≡ body_with_frame kind bt v → IsValidBlock md v.shared bt → IsValid md v → IsValid md u

@@ -9,7 +9,7 @@ use Rattle.validation_rules.specs.Fits.{MaybeType, Bottom}
 use Rattle.validation_rules.specs.Static.{Frame, State, heads}
 use Rattle.validate_stacks.specs.Flat.{flat_state, with_heights}
 use Rattle.validation_rules.specs.Pops.{operand_on_top}
-use Rattle.validate_stacks.specs.Steps.{type_and_kind, found_below_in_frames, innermost_operands, body_without_first, frames_owning, body_popped, body_marked, frames_unreachable, body_unreachable}
+use Rattle.validate_stacks.specs.Steps.{type_and_kind, found_after_pops_in_frames, innermost_operands, body_without_first, frames_owning, body_popped, body_marked, frames_unreachable, body_unreachable}
 use Rattle.validate_stacks.specs.State.{BodyState}
 use Rattle.validate_stacks.proofs.Cuts.{state_of}
 
@@ -24,7 +24,7 @@ label_found (f ∷ fs) n (suc d) = label_found fs n d
 
 -- ---- what is found after some others
 
-pub none_found : (fs : List FlatFrame) (ops : List MaybeType) (is : List ℕ) (d : ℕ) → slice_get fs 0 ≡ None → None ≡ found_below_in_frames d (flat_state fs ops is).frames
+pub none_found : (fs : List FlatFrame) (ops : List MaybeType) (is : List ℕ) (d : ℕ) → slice_get fs 0 ≡ None → None ≡ found_after_pops_in_frames d (flat_state fs ops is).frames
 none_found [] ops is d h = refl
 none_found (g ∷ gs) ops is d h = cc
 
@@ -35,7 +35,7 @@ top_get zero (suc n) (x ∷ ops) dead h k = refl
 top_get (suc d) (suc n) (x ∷ ops) dead h k = top_get d n ops dead (omega (arith, h)) (omega (arith, k))
 
 -- an own operand
-pub own_found : (fs : List FlatFrame) (f : FlatFrame) (ops : List MaybeType) (is : List ℕ) (d : ℕ) → slice_get fs 0 ≡ Some f → d < length ops - f.height → slice_get ops d ≡ found_below_in_frames d (flat_state fs ops is).frames
+pub own_found : (fs : List FlatFrame) (f : FlatFrame) (ops : List MaybeType) (is : List ℕ) (d : ℕ) → slice_get fs 0 ≡ Some f → d < length ops - f.height → slice_get ops d ≡ found_after_pops_in_frames d (flat_state fs ops is).frames
 own_found [] f ops is d h k = cc
 own_found (g ∷ gs) f ops is d h k =
     let same : g ≡ f = cc in
@@ -47,7 +47,7 @@ top_none true = refl
 top_none false = refl
 
 -- below the own operands
-pub below_found : (fs : List FlatFrame) (f : FlatFrame) (ops : List MaybeType) (is : List ℕ) (d : ℕ) → slice_get fs 0 ≡ Some f → length ops - f.height ≤ d → cond f.unreachable (Some Bottom) None ≡ found_below_in_frames d (flat_state fs ops is).frames
+pub below_found : (fs : List FlatFrame) (f : FlatFrame) (ops : List MaybeType) (is : List ℕ) (d : ℕ) → slice_get fs 0 ≡ Some f → length ops - f.height ≤ d → cond f.unreachable (Some Bottom) None ≡ found_after_pops_in_frames d (flat_state fs ops is).frames
 below_found [] f ops is d h k = cc
 below_found (g ∷ gs) f ops is d h k =
     let same : g ≡ f = cc in

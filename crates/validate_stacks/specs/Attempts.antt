@@ -20,8 +20,8 @@ pub record Stacked : Type 0 where
   pub body : BodyState
   pub phase : Phase
 
-abbrev pub body_state : Stacked → BodyState
-body_state v = v.body
+abbrev pub body_of : Stacked → BodyState
+body_of v = v.body
 
 -- operands moved
 abbrev pub phase_moved : Phase → Phase

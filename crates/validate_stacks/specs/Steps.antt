@@ -14,7 +14,7 @@ use Rattle.validate_visit.specs.declared.frame.FrameKind.{FrameKind}
 use Rattle.validation_rules.specs.Fits.{MaybeType, Bottom, UnknownRef, Known}
 use Rattle.validation_rules.specs.Pops.{operand_on_top}
 use Rattle.validation_rules.specs.Rows.{Head}
-use Rattle.validation_rules.specs.Static.{Frame, State, state_with, open_state, heads, locals_set}
+use Rattle.validation_rules.specs.Static.{Frame, State, state_with, heads, locals_set, opened_frame}
 use Rattle.validate_stacks.specs.Flat.{with_heights}
 use Rattle.validate_stacks.specs.State.{BodyState, body_with_frames}
 
@@ -24,7 +24,7 @@ use Rattle.validate_stacks.specs.State.{BodyState, body_with_frames}
 abbrev pub empty_body : WasmFeatures → BodyState
 empty_body features =
     record {
-      present = open_state [];
+      present = state_with [] [];
       shared = false;
       features = features;
       locals = [];
@@ -68,16 +68,16 @@ abbrev pub type_and_kind : Head → BlockType × FrameKind
 type_and_kind h = (h.block_type, h.kind)
 
 -- those of the frame at this depth
-abbrev pub label_of : BodyState → ℕ → Option (BlockType × FrameKind)
-label_of v depth = option_map type_and_kind (slice_get (heads v.present.frames) depth)
+abbrev pub label_at : BodyState → ℕ → Option (BlockType × FrameKind)
+label_at v depth = option_map type_and_kind (slice_get (heads v.present.frames) depth)
 
 -- what a pop finds in the innermost frame, after so many others
-abbrev pub found_below_in_frames : ℕ → List Frame → Option MaybeType
-found_below_in_frames n [] = None
-found_below_in_frames n (f ∷ fs) = operand_on_top f.dead (drop n f.operands)
+abbrev pub found_after_pops_in_frames : ℕ → List Frame → Option MaybeType
+found_after_pops_in_frames n [] = None
+found_after_pops_in_frames n (f ∷ fs) = operand_on_top f.dead (drop n f.operands)
 
-abbrev pub found_below_in_body : ℕ → BodyState → Option MaybeType
-found_below_in_body n v = found_below_in_frames n v.present.frames
+abbrev pub found_after_pops_in_body : ℕ → BodyState → Option MaybeType
+found_after_pops_in_body n v = found_after_pops_in_frames n v.present.frames
 
 -- ---- operands
 
@@ -103,18 +103,13 @@ body_popped v = body_without_first (innermost_operands v.present.frames) v
 
 -- ---- frames
 
-abbrev pub empty_frame : FrameKind → BlockType → Frame
-empty_frame kind block_type =
-    record {
-      head = record { kind = kind; block_type = block_type };
-      operands = [];
-      dead = false;
-      first_set = [];
-    }
+abbrev pub head_of : FrameKind → BlockType → Head
+head_of kind block_type = record { kind = kind; block_type = block_type }
 
 -- with one more frame, live and without operands
 abbrev pub body_with_frame : FrameKind → BlockType → BodyState → BodyState
-body_with_frame kind block_type v = body_with_frames (empty_frame kind block_type ∷ v.present.frames) v
+body_with_frame kind block_type v =
+    body_with_frames (opened_frame (head_of kind block_type) [] ∷ v.present.frames) v
 
 abbrev pub frames_unreachable : List Frame → List Frame
 frames_unreachable [] = []

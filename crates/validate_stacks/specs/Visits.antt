@@ -8,16 +8,17 @@ use Rattle.validation_rules.specs.Rows.{Operator}
 use Rattle.validation_rules.specs.Static.{State, step}
 use Rattle.validate_stacks.specs.Pops.{IsKept}
 use Rattle.validate_stacks.specs.Attempts.{Stacked, may_step}
-use Rattle.validate_stacks.specs.State.{BodyState, context, IsValid}
+use Rattle.validate_stacks.specs.State.{BodyState, body_context, IsValid}
 
 -- the static step of an operator: None where its row doesn't hold
 abbrev pub step_body : ModuleContext → (Context → Operator) → BodyState → Option BodyState
 step_body md op v =
-    option_map (λ (s : State). record v { present = s }) (step (context md v) (op (context md v)) v.present)
+    let cx = body_context md v in
+    option_map (λ (s : State). record v { present = s }) (step cx (op cx) v.present)
 
 -- The answer of a visit in the state v, which leaves the state w: accepted exactly where the row holds,
 -- memory aside, and w is the static step then; a refusal carries the offset; the types stay valid, and
--- nothing but operands and frames changes, whatever the answer.
+-- nothing but the static state changes, whatever the answer.
 pub record Answers
     (md : ModuleContext) (op : Context → Operator) (offset : ℕ) (v : BodyState)
     (answer : Result (Unit {0}) Refusal) (w : BodyState) : Type 0 where

@@ -8,13 +8,15 @@ ghost use Rattle.validation_rules.specs.Valid.{IsValidBlock};
 ghost use Rattle.validate_stacks.specs.State.{IsValid};
 ghost use Rattle.validate_stacks.specs.Steps.{frame_at};
 ghost use Rattle.validate_stacks.specs.Pops.{IsKept};
-ghost use Rattle.validate_stacks.specs.Blocks.{closed_body, body_with_block, head_of};
+ghost use Rattle.validate_stacks.specs.Blocks.{closed_body, body_with_block};
+ghost use Rattle.validate_stacks.specs.Steps.{head_of};
 ghost use Rattle.validate_stacks.specs.Attempts.{may_frame, may_unset};
 
 use crate::stacks::Stacks;
 use std::slice;
 use validate_resources::WasmModuleResources;
-use validate_types::{CompositeInnerType, Error, ValType};
+use validate_resources::kinds::func_type_of;
+use validate_types::{Error, ValType};
 use validate_visit::{BlockType, Frame, FrameKind};
 
 /// What a block of this type takes; nothing, where it names no function type.
@@ -27,8 +29,9 @@ pub fn params<'a, R: WasmModuleResources>(
     match block_type {
         BlockType::Empty | BlockType::Val(_) => &[],
         BlockType::FuncType(index) => match resources.sub_type_at(*index) {
-            Some(sub_type) => match &sub_type.composite_type.inner {
-                CompositeInnerType::Func(func_type) => func_type.params(),
+            Some(sub_type) => match func_type_of(sub_type) {
+                Some(func_type) => func_type.params(),
+                None => &[],
             },
             None => &[],
         },
@@ -46,8 +49,9 @@ pub fn results<'a, R: WasmModuleResources>(
         BlockType::Empty => &[],
         BlockType::Val(ty) => slice::from_ref(ty),
         BlockType::FuncType(index) => match resources.sub_type_at(*index) {
-            Some(sub_type) => match &sub_type.composite_type.inner {
-                CompositeInnerType::Func(func_type) => func_type.results(),
+            Some(sub_type) => match func_type_of(sub_type) {
+                Some(func_type) => func_type.results(),
+                None => &[],
             },
             None => &[],
         },

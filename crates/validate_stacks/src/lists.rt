@@ -4,7 +4,7 @@ ghost use Rattle.std.specs.Prelude.{◌≡◌, ◌≢◌, ◌⊎◌, [], true, f
 ghost use Rattle.std.specs.List.{AllByRecursion};
 ghost use Rattle.validate_resources.specs.Context.{ModuleContext, Valid};
 ghost use Rattle.validate_stacks.specs.Attempts.{phase_moved};
-ghost use Rattle.validate_stacks.specs.State.{IsValid, context};
+ghost use Rattle.validate_stacks.specs.State.{IsValid, body_context};
 ghost use Rattle.validate_stacks.specs.Steps.{body_unreachable};
 ghost use Rattle.validate_stacks.specs.Pops.{body_popped_each, body_pushed_each, has_operands_fitting, IsKept};
 
@@ -92,13 +92,13 @@ impl Stacks {
         requires types { AllByRecursion (Valid (R.context resources.now)) wanted.now }
         requires state { IsValid (R.context resources.now) self.old.body }
         ensures passed { OnOk result (has_operands_fitting
-            (context (R.context resources.now) self.old.body) wanted.now self.old.body ≡ true) }
+            (body_context (R.context resources.now) self.old.body) wanted.now self.old.body ≡ true) }
         ensures same { OnOk result (self.new ≡ self.old) }
         ensures refused { IfErr result (λ e. e.wants_memory ≡ false
-            → has_operands_fitting (context (R.context resources.now) self.old.body) wanted.now
+            → has_operands_fitting (body_context (R.context resources.now) self.old.body) wanted.now
             self.old.body ≡ false) }
         ensures idle { self.old.body.undone ≡ None
-            → OnErr result (has_operands_fitting (context (R.context resources.now) self.old.body)
+            → OnErr result (has_operands_fitting (body_context (R.context resources.now) self.old.body)
             wanted.now self.old.body ≡ false) }
         ensures phase { phase_moved self.new.phase ≡ phase_moved self.old.phase }
         ensures offset { IfErr result (λ e. e.offset ≡ offset) }

@@ -6,7 +6,7 @@ ghost use Rattle.validate_resources.specs.Context.{Valid};
 ghost use Rattle.validation_rules.specs.Fits.{UnknownRef, fits};
 ghost use Rattle.validation_rules.specs.Valid.{IsValidOperand};
 ghost use Rattle.validate_stacks.specs.Attempts.{phase_moved};
-ghost use Rattle.validate_stacks.specs.State.{IsValid, context};
+ghost use Rattle.validate_stacks.specs.State.{IsValid, body_context};
 ghost use Rattle.validate_stacks.specs.Names.{place_of, type_name};
 ghost use Rattle.validate_stacks.specs.Pops.{may_pop, FitsAtOnce};
 ghost use Rattle.validate_stacks.specs.Steps.{found_in_body, body_popped};
@@ -127,11 +127,11 @@ impl Stacks {
         requires wanted { ForSome expected (Valid (R.context resources.now)) }
         requires state { IsValid (R.context resources.now) self.old.body }
         ensures value { IfOk result (λ t. found_in_body self.old.body ≡ Some t) }
-        ensures passed { OnOk result (may_pop (context (R.context resources.now) self.old.body)
+        ensures passed { OnOk result (may_pop (body_context (R.context resources.now) self.old.body)
             (found_in_body self.old.body) expected ≡ true) }
         ensures popped { OnOk result (self.new.body ≡ body_popped self.old.body) }
         ensures refused { IfErr result (λ e. e.wants_memory ≡ false
-            → may_pop (context (R.context resources.now) self.old.body) (found_in_body self.old.body)
+            → may_pop (body_context (R.context resources.now) self.old.body) (found_in_body self.old.body)
             expected ≡ false) }
         ensures left { OnErr result ((self.new.body ≡ self.old.body)
             ⊎ (self.new.body ≡ body_popped self.old.body)) }
@@ -141,7 +141,7 @@ impl Stacks {
         // Where no attempt is pending it is refused only where nothing fits, and a pop of any type
         // takes no memory.
         ensures idle { self.old.body.undone ≡ None
-            → OnErr result (may_pop (context (R.context resources.now) self.old.body)
+            → OnErr result (may_pop (body_context (R.context resources.now) self.old.body)
             (found_in_body self.old.body) expected ≡ false) }
         ensures memory { self.old.body.undone ≡ None → expected ≡ None
             → IfErr result (λ e. e.wants_memory ≡ false) }
@@ -164,7 +164,7 @@ impl Stacks {
         requires { ForSome expected (Valid (R.context resources.now)) }
         ensures exact { MatchOption result (self.new ≡ self.old) (λ t.
             (found_in_body self.old.body ≡ Some t) × (self.new.body ≡ body_popped self.old.body)) }
-        ensures passed { ForSome result (λ _. may_pop (context (R.context resources.now) self.old.body)
+        ensures passed { ForSome result (λ _. may_pop (body_context (R.context resources.now) self.old.body)
             (found_in_body self.old.body) expected ≡ true) }
         ensures phase { phase_moved self.new.phase ≡ phase_moved self.old.phase }
     {
@@ -191,18 +191,18 @@ impl Stacks {
         requires wanted { ForSome expected (Valid (R.context resources.now)) }
         requires state { IsValid (R.context resources.now) self.old.body }
         ensures value { IfOk result (λ t. found_in_body self.old.body ≡ Some t) }
-        ensures passed { OnOk result (may_pop (context (R.context resources.now) self.old.body)
+        ensures passed { OnOk result (may_pop (body_context (R.context resources.now) self.old.body)
             (found_in_body self.old.body) expected ≡ true) }
         ensures popped { OnOk result (self.new.body ≡ body_popped self.old.body) }
         ensures refused { IfErr result (λ e. e.wants_memory ≡ false
-            → may_pop (context (R.context resources.now) self.old.body) (found_in_body self.old.body)
+            → may_pop (body_context (R.context resources.now) self.old.body) (found_in_body self.old.body)
             expected ≡ false) }
         ensures left { OnErr result ((self.new.body ≡ self.old.body)
             ⊎ (self.new.body ≡ body_popped self.old.body)) }
         ensures phase { phase_moved self.new.phase ≡ phase_moved self.old.phase }
         ensures offset { IfErr result (λ e. e.offset ≡ offset) }
         ensures idle { self.old.body.undone ≡ None
-            → OnErr result (may_pop (context (R.context resources.now) self.old.body)
+            → OnErr result (may_pop (body_context (R.context resources.now) self.old.body)
             (found_in_body self.old.body) expected ≡ false) }
         ensures memory { self.old.body.undone ≡ None → expected ≡ None
             → IfErr result (λ e. e.wants_memory ≡ false) }
@@ -225,9 +225,9 @@ impl Stacks {
         requires wanted { ForSome expected (Valid (R.context resources.now)) }
         requires found { ForSome found (IsValidOperand (R.context resources.now)) }
         ensures value { IfOk result (λ t. found ≡ Some t) }
-        ensures passed { OnOk result (may_pop (context (R.context resources.now) self.now.body) found
+        ensures passed { OnOk result (may_pop (body_context (R.context resources.now) self.now.body) found
             expected ≡ true) }
-        ensures refused { OnErr result (may_pop (context (R.context resources.now) self.now.body) found
+        ensures refused { OnErr result (may_pop (body_context (R.context resources.now) self.now.body) found
             expected ≡ false) }
         ensures offset { IfErr result (λ e. e.offset ≡ offset) }
         ensures memory { expected ≡ None → IfErr result (λ e. e.wants_memory ≡ false) }
@@ -262,9 +262,9 @@ impl Stacks {
         wanted: ValType,
     ) -> Result<(), Error>
         requires { Valid (R.context resources.now) wanted }
-        ensures passed { OnOk result (fits (context (R.context resources.now) self.now.body)
+        ensures passed { OnOk result (fits (body_context (R.context resources.now) self.now.body)
             (UnknownRef found) wanted ≡ true) }
-        ensures refused { OnErr result (fits (context (R.context resources.now) self.now.body)
+        ensures refused { OnErr result (fits (body_context (R.context resources.now) self.now.body)
             (UnknownRef found) wanted ≡ false) }
         ensures offset { IfErr result (λ e. e.offset ≡ offset) }
     {

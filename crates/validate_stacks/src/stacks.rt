@@ -1,7 +1,7 @@
 //! The operands, the open frames and the locals.
 
 ghost use Rattle.std.specs.Prelude.{◌≡◌, ◌≢◌, ◌+◌, ◌<◌, ◌≤◌, true, None, Some, [], length, is_some, IfOk, OnOk, OnErr, IsOk, IsSome, MatchBool, MatchResult, IsTrue, not};
-ghost use Rattle.std.specs.Option.{option_copied};
+ghost use Rattle.std.specs.Option.{option_copied, ForSome};
 ghost use Rattle.validate_locals.specs.Limit.{max_locals};
 ghost use Rattle.validate_resources.specs.Context.{ModuleContext};
 ghost use Rattle.validate_transaction.specs.TakeBack.{items_taken_back, CanTakeBack};
@@ -10,7 +10,7 @@ ghost use Rattle.validate_stacks.specs.Attempts.{phase_moved, may_attempt, may_f
 ghost use Rattle.validate_stacks.specs.Flat.{frames_unmarked, inits_in_frames};
 ghost use Rattle.validate_stacks.specs.Pops.{IsKept};
 ghost use Rattle.validate_stacks.specs.State.{IsValid};
-ghost use Rattle.validate_stacks.specs.Steps.{empty_body, innermost_operands, found_in_body, known_type, type_at_depth, frame_at, label_of, found_below_in_body, body_marked, body_unreachable, body_pushed, body_popped, body_with_frame, body_without_frame, is_set_in_body, body_with_local_set, setting_order, body_with_locals, body_with_params};
+ghost use Rattle.validate_stacks.specs.Steps.{empty_body, innermost_operands, found_in_body, known_type, type_at_depth, frame_at, label_at, found_after_pops_in_body, body_marked, body_unreachable, body_pushed, body_popped, body_with_frame, body_without_frame, is_set_in_body, body_with_local_set, setting_order, body_with_locals, body_with_params};
 
 use crate::allocations::OperatorValidatorAllocations;
 use std::alloc::Global;
@@ -250,7 +250,7 @@ impl Stacks {
 
     /// The block type and the kind of the frame at this depth, the innermost at 0, or None past the end.
     pub fn jump(&self, depth: u32) -> Option<(BlockType, FrameKind)>
-        ensures { result ≡ label_of self.now.body depth }
+        ensures { result ≡ label_at self.now.body depth }
     {
         let frame = self.get_frame(depth as usize)?;
         Some((frame.block_type, frame.kind))
@@ -301,7 +301,7 @@ impl Stacks {
     /// What a pop would find below so many others, in the innermost frame.
     #[inline(always)]
     pub(crate) fn found_at(&self, depth: usize) -> Option<MaybeType>
-        ensures { result ≡ found_below_in_body depth self.now.body }
+        ensures { result ≡ found_after_pops_in_body depth self.now.body }
     {
         let frame = self.control.get(0)?;
         if depth < self.operands.len() - frame.height {
@@ -419,7 +419,8 @@ impl Stacks {
 
     /// Whether an operator may be visited: no attempt is pending, or the pending one has nothing to undo.
     pub fn can_attempt(&self) -> bool
-        ensures { result ≡ may_attempt self.now }
+        ensures answer { result ≡ may_attempt self.now }
+        ensures unchanged { result ≡ true → ForSome self.now.body.undone (λ s. s ≡ self.now.body.present) }
     {
         !self.transaction.has_changes(self.inits.height())
     }

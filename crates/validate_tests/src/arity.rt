@@ -6,13 +6,16 @@ use crate::expect::{expect, expect_same};
 use crate::setting::{FOUR_TYPES, Setting};
 use std::process::Abort;
 use std::test::Fail;
-use wasmparser_validate::types::{CompositeInnerType, RefType, SubType};
+use wasmparser_validate::resources::kinds::func_type_of;
+use wasmparser_validate::types::{RefType, SubType};
 use wasmparser_validate::visit::{BlockType, FrameKind, ModuleArity};
 
 /// How many operands a function of this type takes.
 fn param_count(ty: &SubType) -> usize {
-    let CompositeInnerType::Func(func_type) = &ty.composite_type.inner;
-    func_type.params().len()
+    match func_type_of(ty) {
+        Some(func_type) => func_type.params().len(),
+        None => 0,
+    }
 }
 
 /// What is asked of the types and the labels, through the trait: function 0 is of type 1, `[i32] -> []`,

@@ -11,8 +11,8 @@ ghost use Rattle.validate_stacks.specs.State.{IsStarting, IsValid};
 ghost use Rattle.validate_stacks.specs.Visits.{MayVisit, Meets};
 ghost use Rattle.wasmparser_validate.specs.Start.{state, stacks_of};
 
-use crate::expect::{expect, expect_same, expect_same_in};
-use crate::ops::read_op;
+use crate::expect::{expect, expect_same};
+use crate::ops::{list_of, read_op};
 use crate::run::left_on;
 use crate::seen::Seen;
 use crate::setting::{FOUR_TYPES, FUNC, Setting};
@@ -121,7 +121,7 @@ fn expect_visit<R: WasmModuleResources>(
 {
     let answer = visit(v, lists, op);
     let said = answer_of(rt, v, answer)?;
-    expect_same_in(rt, said.as_str(), wanted, &op);
+    expect_same(rt, said.as_str(), wanted);
     Ok(())
 }
 
@@ -146,8 +146,8 @@ fn expect_undone<R: WasmModuleResources>(
     let seen = seen_within(rt, v, answer);
     v.rollback();
     let (said, within) = seen?;
-    expect_same_in(rt, said.as_str(), wanted.0, &op);
-    expect_same_in(rt, within.as_str(), wanted.1, &op);
+    expect_same(rt, said.as_str(), wanted.0);
+    expect_same(rt, within.as_str(), wanted.1);
     before.expect(rt, v);
     Ok(())
 }
@@ -174,14 +174,15 @@ fn expect_line<R: WasmModuleResources>(
     if v.control_stack_height() == 0 {
         return Err(Fail::new("a line behind a closed body"));
     }
+    let list = list_of(rt, written)?;
     match written.strip_prefix("try ") {
         Some(written) => {
-            let op = read_op(rt, written)?;
-            expect_undone(rt, v, lists, op.as_op(), parts_of(answer))
+            let op = read_op(rt, &list, written)?;
+            expect_undone(rt, v, lists, op, parts_of(answer))
         }
         None => {
-            let op = read_op(rt, written)?;
-            expect_visit(rt, v, lists, op.as_op(), answer)
+            let op = read_op(rt, &list, written)?;
+            expect_visit(rt, v, lists, op, answer)
         }
     }
 }
@@ -404,14 +405,26 @@ local.set 0 => 0 2
 #[test]
 fn an_attempt_is_of_one_operator(rt: HostRuntime) -> Result<(), Fail> {
     let setting = Setting::read(&rt, FOUR_TYPES)?;
-    let mut v = setting.validator(&rt)?;
+    let new = OperatorValidatorAllocations::new(rt.alloc());
+    let used = expect_one_operator(&rt, &setting, new)?;
+    expect_one_operator(&rt, &setting, used)?;
+    Ok(())
+}
+
+/// An attempted `return`, in these buffers, which are given back.
+fn expect_one_operator(
+    rt: &(impl Abort + AllocGlobal),
+    setting: &Setting,
+    allocs: OperatorValidatorAllocations,
+) -> Result<OperatorValidatorAllocations, Fail> {
+    let mut v = setting.validator_in(allocs)?;
     v.begin_try_op();
     let answer = visit(&mut v, &setting.lists, Op::Control(ControlOp::Return));
-    expect(&rt, answer.is_ok() && v.is_pending() && !v.can_attempt());
+    expect(rt, answer.is_ok() && v.is_pending() && !v.can_attempt());
     v.commit();
-    expect(&rt, v.can_attempt() && !v.is_pending());
-    expect(&rt, v.get_frame(0).is_some_and(|frame| frame.unreachable));
-    Ok(())
+    expect(rt, v.can_attempt() && !v.is_pending());
+    expect(rt, v.get_frame(0).is_some_and(|frame| frame.unreachable));
+    Ok(v.into_allocations())
 }
 
 /// An attempt that is pending is not in the buffers of its validator.
@@ -422,9 +435,9 @@ fn a_pending_attempt_goes_with_its_validator(rt: HostRuntime) -> Result<(), Fail
     let mut v = setting.validator(&rt)?;
     v.begin_try_op();
     let answer = visit(&mut v, &setting.lists, Op::Control(ControlOp::Unreachable));
-    assert!(rt; answer.is_ok() && v.is_pending() && !v.can_attempt());
+    expect(&rt, answer.is_ok() && v.is_pending() && !v.can_attempt());
     let v = setting.validator_in(v.into_allocations())?;
-    assert!(rt; v.can_attempt() && !v.is_pending());
+    expect(&rt, v.can_attempt() && !v.is_pending());
     before.expect(&rt, &v);
     Ok(())
 }

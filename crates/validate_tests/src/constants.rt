@@ -2,9 +2,9 @@
 
 ghost use Rattle.std.specs.Prelude.{◌≡◌, IfOk, true, List};
 ghost use Rattle.std.specs.List.{list_all};
-ghost use Rattle.wasmparser_validate.specs.Immediates.{module_immediates};
+ghost use Rattle.wasmparser_validate.specs.Immediates.{is_module_op};
 ghost use Rattle.wasmparser_validate.specs.Order.{is_well_ordered_list};
-ghost use Rattle.wasmparser_validate.specs.Runs.{operators, IsAcceptedList, IsSafeFrom};
+ghost use Rattle.wasmparser_validate.specs.Runs.{without_offsets, IsAcceptedBody, IsSafeFrom};
 ghost use Rattle.wasmparser_validate.specs.Start.{state};
 ghost use Rattle.wasmparser_validate.specs.State.{BodyState, IsStarting};
 ghost use Rattle.wasmparser_validate.specs.Static.{start};
@@ -34,8 +34,8 @@ fn constant(
 fn lists_are_safe(lists: &ModuleLists)
     ensures { (v : BodyState) → (ty : _) → (ops : List _)
         → IsStarting (⟦<ModuleLists as WasmModuleResources>⟧.context lists.now) v → v.present ≡ start ty
-        → is_well_ordered_list (operators ops) ≡ true → list_all (λ (p : _). module_immediates p.0) ops
-        ≡ true → IsAcceptedList (⟦<ModuleLists as WasmModuleResources>⟧.context lists.now) v ops
+        → is_well_ordered_list (without_offsets ops) ≡ true → list_all (λ (p : _). is_module_op p.0) ops
+        ≡ true → IsAcceptedBody (⟦<ModuleLists as WasmModuleResources>⟧.context lists.now) v ops
         → IsSafeFrom (⟦<ModuleLists as WasmModuleResources>⟧.context lists.now) v ops ty }
 {
     safety_law(lists)

@@ -7,17 +7,16 @@ ghost use Rattle.std.specs.Prelude.{◌≡◌, true, None, []};
 ghost use Rattle.validation_rules.specs.Operators.{operator};
 ghost use Rattle.validate_stacks.specs.Visits.{MayVisit, Meets};
 ghost use Rattle.std.specs.List.{list_all};
-ghost use Rattle.wasmparser_validate.specs.Immediates.{module_immediates};
+ghost use Rattle.wasmparser_validate.specs.Immediates.{is_module_op};
 ghost use Rattle.wasmparser_validate.specs.Order.{is_well_ordered_list};
-ghost use Rattle.wasmparser_validate.specs.Runs.{operators};
+ghost use Rattle.wasmparser_validate.specs.Runs.{without_offsets};
 ghost use Rattle.wasmparser_validate.specs.Start.{state, stacks_of};
 ghost use Rattle.wasmparser_validate.specs.State.{IsStarting};
 
 use crate::expect::{expect, expect_same, expect_same_in};
-use crate::ops::read_ops;
+use crate::ops::{lists_of, read_ops};
 use crate::seen::Seen;
 use crate::setting::Setting;
-use script_reader::borrowed_ops;
 use std::process::Abort;
 use std::test::Fail;
 use wasmparser_validate::operators::{
@@ -29,7 +28,7 @@ use wasmparser_validate::visit::{Op, has_module_immediates, is_well_ordered};
 
 /// Whether the immediates of these operators are those of a module.
 pub fn all_have_module_immediates(ops: &[(Op<'_>, u64)]) -> bool
-    ensures { result ≡ list_all (λ (p : _). module_immediates p.0) ops.now }
+    ensures { result ≡ list_all (λ (p : _). is_module_op p.0) ops.now }
 {
     ops.iter().all(|pair| has_module_immediates(&pair.0))
 }
@@ -42,8 +41,8 @@ fn check_any<R: WasmModuleResources>(
     heights: &mut Vec<(usize, usize)>,
 ) -> Result<bool, (usize, Error)>
     requires starting { IsStarting (R.context resources.now) (state v.old) }
-    requires ordered { is_well_ordered_list (operators ops.now) ≡ true }
-    requires immediates { list_all (λ (p : _). module_immediates p.0) ops.now ≡ true }
+    requires ordered { is_well_ordered_list (without_offsets ops.now) ≡ true }
+    requires immediates { list_all (λ (p : _). is_module_op p.0) ops.now ≡ true }
     requires empty { heights.old.items ≡ [] }
 {
     check_ops(v, ops, resources, heights)
@@ -113,8 +112,8 @@ pub fn expect_line(
     requires { IsStarting (⟦<ModuleLists as WasmModuleResources>⟧.context lists.now) (state v.old) }
 {
     let (written, left) = line.split_once("=>").unwrap_or((line, ""));
-    let written = read_ops(rt, written)?;
-    let ops = borrowed_ops(rt.alloc(), &written)?;
+    let listed = lists_of(rt, written)?;
+    let ops = read_ops(rt, &listed, written)?;
     check_list(rt, v, lists, &ops, line)?;
     let operands = left_on(rt, v)?;
     expect_same_in(rt, operands.trim(), left.trim(), &line);
@@ -171,8 +170,8 @@ fn expect_attempts(
     requires { IsStarting (⟦<ModuleLists as WasmModuleResources>⟧.context lists.now) (state v.old) }
 {
     let (written, left) = line.split_once("=>").unwrap_or((line, ""));
-    let written = read_ops(rt, written)?;
-    let ops = borrowed_ops(rt.alloc(), &written)?;
+    let listed = lists_of(rt, written)?;
+    let ops = read_ops(rt, &listed, written)?;
     if attempt_each(rt, v, &ops, lists)? {
         let operands = left_on(rt, v)?;
         expect_same_in(rt, operands.trim(), left.trim(), &line);

@@ -8,8 +8,8 @@ ghost use Rattle.validate_stacks.specs.Pops.{IsKept};
 ghost use Rattle.validate_stacks.specs.State.{IsStarting, IsValid};
 ghost use Rattle.wasmparser_validate.specs.Start.{state};
 
-use crate::expect::{expect_in, expect_same_in};
-use crate::ops::read_op;
+use crate::expect::{expect, expect_same_in};
+use crate::ops::{list_of, read_op};
 use crate::seen::Seen;
 use crate::setting::{FUNC, Setting};
 use bitflags::Flags;
@@ -95,7 +95,7 @@ fn attempt_undone<R: WasmModuleResources>(
     ensures { state v.new ≡ state v.old }
 {
     if let Err(refusal) = try_and_undo(v, lists, 7, op) {
-        expect_in(rt, refusal.is_out_of_memory(), &op);
+        expect(rt, refusal.is_out_of_memory());
     }
 }
 
@@ -127,9 +127,9 @@ fn expect_step<R: WasmModuleResources>(
     attempt_undone(rt, v, lists, op);
     before.expect(rt, v);
     if let Err(refusal) = attempt(v, lists, op) {
-        expect_in(rt, refusal.is_out_of_memory(), &op);
+        expect(rt, refusal.is_out_of_memory());
         before.expect(rt, v);
-        expect_in(rt, attempt(v, lists, op).is_ok(), &op);
+        expect(rt, attempt(v, lists, op).is_ok());
     }
     Ok(())
 }
@@ -148,8 +148,9 @@ fn expect_line<R: WasmModuleResources>(
 {
     let (written, heights) = line.split_once("=>").unwrap_or((line, ""));
     let (operands, frames) = heights.trim().split_once(' ').unwrap_or(("", ""));
-    let op = read_op(rt, written)?;
-    expect_step(rt, v, lists, op.as_op())?;
+    let list = list_of(rt, written)?;
+    let op = read_op(rt, &list, written)?;
+    expect_step(rt, v, lists, op)?;
     expect_same_in(rt, operands.parse(), Ok(v.operand_stack_height()), &line);
     expect_same_in(rt, frames.parse(), Ok(v.control_stack_height()), &line);
     Ok(())

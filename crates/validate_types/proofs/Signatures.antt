@@ -1,6 +1,6 @@
 -- Lists of types, compared one by one.
 use Rattle.std.proofs.Common.{◌≡◌, ◌<◌, ◌≤◌, ℕ, zero, suc, pred, arith, Bool, true, false, ◌&&◌, List, [], ◌∷◌, drop, length, slice_get, slice_index_or, Some, refl, sym, ap, ◌∙◌}
-use Rattle.validate_types.specs.Signatures.{all_below}
+use Rattle.validate_types.specs.Signatures.{is_each_below}
 use Rattle.validate_types.specs.declared.types.ValType.{ValType}
 use Rattle.validate_types.specs.declared.types.ValType.TheVariants.{I32}
 
@@ -14,7 +14,7 @@ and_false : (b : Bool) → b && false ≡ false
 and_false true = refl
 and_false false = refl
 
-pub other_count : (below : ValType → ValType → Bool) (ts us : List ValType) → (length ts ≡ length us → ⊥) → false ≡ all_below below ts us
+pub other_count : (below : ValType → ValType → Bool) (ts us : List ValType) → (length ts ≡ length us → ⊥) → false ≡ is_each_below below ts us
 other_count below [] [] n = absurd (n refl)
 other_count below [] (u ∷ us) n = refl
 other_count below (t ∷ ts) [] n = refl
@@ -22,14 +22,14 @@ other_count below (t ∷ ts) (u ∷ us) n = sym (and_false (below t u)) ∙ ap (
 
 -- one more type is compared
 pub compared : (below : ValType → ValType → Bool) (b : Bool) (i : ℕ) (ts us : List ValType) → i < length ts → length ts ≡ length us → b ≡ below (slice_index_or ts i I32) (slice_index_or us i I32)
-    → all_below below (drop i ts) (drop i us) ≡ b && all_below below (drop (suc i) ts) (drop (suc i) us)
+    → is_each_below below (drop i ts) (drop i us) ≡ b && is_each_below below (drop (suc i) ts) (drop (suc i) us)
 compared below b i [] us l e h = absurd (omega (arith, l))
 compared below b i (t ∷ ts) [] l e h = absurd cc
-compared below b zero (t ∷ ts) (u ∷ us) l e h = ap (λ d. d && all_below below ts us) (sym h)
+compared below b zero (t ∷ ts) (u ∷ us) l e h = ap (λ d. d && is_each_below below ts us) (sym h)
 compared below b (suc i) (t ∷ ts) (u ∷ us) l e h = compared below b i ts us (omega (arith, l)) (ap pred e) h
 
 -- none is left
-pub all_compared : (below : ValType → ValType → Bool) (i : ℕ) (ts us : List ValType) → length ts ≤ i → length ts ≡ length us → true ≡ all_below below (drop i ts) (drop i us)
+pub all_compared : (below : ValType → ValType → Bool) (i : ℕ) (ts us : List ValType) → length ts ≤ i → length ts ≡ length us → true ≡ is_each_below below (drop i ts) (drop i us)
 all_compared below zero [] [] l e = refl
 all_compared below (suc i) [] [] l e = refl
 all_compared below i [] (u ∷ us) l e = absurd cc

@@ -11,38 +11,55 @@ use Rattle.validate_types.specs.declared.heap.AbstractHeapType.TheVariants.{NoCo
 --   any: eq, i31, struct, array, none     eq: i31, struct, array, none
 --   i31: none     struct: none            array: none
 --   func: nofunc  extern: noextern        exn: noexn       cont: nocont
-abbrev pub abstract_below : AbstractHeapType → AbstractHeapType → Bool
-abstract_below Any Any = true
-abstract_below Eq Any = true
-abstract_below I31 Any = true
-abstract_below Struct Any = true
-abstract_below Array Any = true
-abstract_below None Any = true
-abstract_below Eq Eq = true
-abstract_below I31 Eq = true
-abstract_below Struct Eq = true
-abstract_below Array Eq = true
-abstract_below None Eq = true
-abstract_below I31 I31 = true
-abstract_below None I31 = true
-abstract_below Struct Struct = true
-abstract_below None Struct = true
-abstract_below Array Array = true
-abstract_below None Array = true
-abstract_below None None = true
-abstract_below Func Func = true
-abstract_below NoFunc Func = true
-abstract_below NoFunc NoFunc = true
-abstract_below Extern Extern = true
-abstract_below NoExtern Extern = true
-abstract_below NoExtern NoExtern = true
-abstract_below Exn Exn = true
-abstract_below NoExn Exn = true
-abstract_below NoExn NoExn = true
-abstract_below Cont Cont = true
-abstract_below NoCont Cont = true
-abstract_below NoCont NoCont = true
-abstract_below _ _ = false
+abbrev pub is_abstract_below : AbstractHeapType → AbstractHeapType → Bool
+is_abstract_below Any Any = true
+is_abstract_below Eq Any = true
+is_abstract_below I31 Any = true
+is_abstract_below Struct Any = true
+is_abstract_below Array Any = true
+is_abstract_below None Any = true
+is_abstract_below Eq Eq = true
+is_abstract_below I31 Eq = true
+is_abstract_below Struct Eq = true
+is_abstract_below Array Eq = true
+is_abstract_below None Eq = true
+is_abstract_below I31 I31 = true
+is_abstract_below None I31 = true
+is_abstract_below Struct Struct = true
+is_abstract_below None Struct = true
+is_abstract_below Array Array = true
+is_abstract_below None Array = true
+is_abstract_below None None = true
+is_abstract_below Func Func = true
+is_abstract_below NoFunc Func = true
+is_abstract_below NoFunc NoFunc = true
+is_abstract_below Extern Extern = true
+is_abstract_below NoExtern Extern = true
+is_abstract_below NoExtern NoExtern = true
+is_abstract_below Exn Exn = true
+is_abstract_below NoExn Exn = true
+is_abstract_below NoExn NoExn = true
+is_abstract_below Cont Cont = true
+is_abstract_below NoCont Cont = true
+is_abstract_below NoCont NoCont = true
+is_abstract_below _ _ = false
+
+-- the top type of the hierarchy that each is in
+abbrev pub abstract_top : AbstractHeapType → AbstractHeapType
+abstract_top Any = Any
+abstract_top Eq = Any
+abstract_top I31 = Any
+abstract_top Struct = Any
+abstract_top Array = Any
+abstract_top None = Any
+abstract_top Func = Func
+abstract_top NoFunc = Func
+abstract_top Extern = Extern
+abstract_top NoExtern = Extern
+abstract_top Exn = Exn
+abstract_top NoExn = Exn
+abstract_top Cont = Cont
+abstract_top NoCont = Cont
 
 -- the name of a type in a text
 abbrev pub plain_name : AbstractHeapType → List ℕ

@@ -5,9 +5,13 @@ use Rattle.validate_types.specs.declared.heap.HeapType.{HeapType}
 use Rattle.validate_types.specs.declared.heap.HeapType.TheVariants.{Abstract, Concrete}
 use Rattle.validate_types.specs.declared.heap.UnpackedIndex.{UnpackedIndex}
 use Rattle.validate_types.specs.declared.heap.UnpackedIndex.TheVariants.{Module, Id}
+use Rattle.validate_types.specs.declared.types.CompositeInnerType.{CompositeInnerType}
+use Rattle.validate_types.specs.declared.types.CompositeInnerType.TheVariants.{Func, Array, Struct}
 use Rattle.validate_types.specs.declared.types.MaybeType.{MaybeType}
 use Rattle.validate_types.specs.declared.types.MaybeType.TheVariants.{Bottom, UnknownRef, Known}
 use Rattle.validate_types.specs.declared.refs.RefType.{RefType}
+use Rattle.validate_types.specs.declared.types.StorageType.{StorageType}
+use Rattle.validate_types.specs.declared.types.StorageType.TheVariants.{I8, I16, Val}
 use Rattle.validate_types.specs.declared.types.ValType.{ValType}
 use Rattle.validate_types.specs.declared.types.ValType.TheVariants.{I32, I64, F32, F64, V128, Ref}
 use Rattle.validate_types.specs.Abstract.{heap_name}
@@ -40,3 +44,14 @@ operand_text Bottom = codes "bot"
 operand_text (UnknownRef None) = codes "(ref shared? bot)"
 operand_text (UnknownRef (Some a)) = codes "(ref shared? " ++ heap_name true a ++ codes "bot)"
 operand_text (Known t) = value_text t
+
+abbrev pub storage_text : StorageType → List ℕ
+storage_text I8 = codes "i8"
+storage_text I16 = codes "i16"
+storage_text (Val t) = value_text t
+
+-- the kind of a declared type
+abbrev pub kind_text : CompositeInnerType → List ℕ
+kind_text (Func f) = codes "func"
+kind_text (Array a) = codes "array"
+kind_text (Struct fields) = codes "struct"

@@ -1,5 +1,4 @@
--- Abstract heap types and the indices of types (WebAssembly core specification, "Heap Types",
--- "Matching: Heap Types").
+-- The indices of types, by place in the module or by id (WebAssembly core specification, "Heap Types").
 use Rattle.std.specs.Prelude.{ℕ, Bool, Option, Some, None, nat_lt, if◌then◌else◌}
 use Rattle.validate_types.specs.declared.heap.TheConstants.PackedIndex.{LIMIT}
 use Rattle.validate_types.specs.declared.heap.CoreTypeId.{CoreTypeId}
@@ -21,7 +20,7 @@ abbrev pub id_of : UnpackedIndex → Option CoreTypeId
 id_of (Module n) = None
 id_of (Id id) = Some id
 
--- a reference packs it
+-- below 2^20: a reference can be made to it
 abbrev pub is_small : UnpackedIndex → Bool
 is_small i = nat_lt (number_of i) LIMIT
 

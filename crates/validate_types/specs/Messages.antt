@@ -9,6 +9,6 @@ text_of (Fixed t) = t.now
 text_of (Owned t) = string_bytes t
 text_of OutOfMemory = codes "out of memory"
 
-abbrev pub is_memory : Message → Bool
-is_memory OutOfMemory = true
-is_memory _ = false
+abbrev pub wants_memory : Message → Bool
+wants_memory OutOfMemory = true
+wants_memory _ = false

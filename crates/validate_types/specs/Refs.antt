@@ -1,7 +1,7 @@
 -- Reference types (WebAssembly core specification, "Reference Types").
 use Rattle.validate_types.specs.declared.refs.RefType.{RefType}
 use Rattle.std.specs.Prelude.{ℕ, Bool, true, false, List, ◌++◌, codes, Option, Some, None, if◌then◌else◌}
-use Rattle.validate_types.specs.declared.heap.AbstractHeapType.TheVariants.{None as Bottom}
+use Rattle.validate_types.specs.declared.heap.AbstractHeapType.TheVariants.{None as NoAny}
 use Rattle.validate_types.specs.declared.heap.HeapType.{HeapType}
 use Rattle.validate_types.specs.declared.heap.HeapType.TheVariants.{Abstract, Concrete}
 use Rattle.validate_types.specs.Abstract.{plain_name, heap_name}
@@ -28,8 +28,8 @@ abbrev pub reference_to : Bool → HeapType → Option RefType
 reference_to n h = if fits_reference h then Some (reference n h) else None
 
 -- null is no value of it
-abbrev pub non_null : RefType → RefType
-non_null r = record r { nullable = false }
+abbrev pub without_null : RefType → RefType
+without_null r = record r { nullable = false }
 
 -- null is a value of it
 abbrev pub with_null : RefType → RefType
@@ -37,16 +37,16 @@ with_null r = record r { nullable = true }
 
 -- what is left of the one without the values of the other (Specification, `br_on_cast`: t₁ ∖ t₂)
 abbrev pub difference : RefType → RefType → RefType
-difference a b = if b.nullable then non_null a else a
+difference a b = if b.nullable then without_null a else a
 
 abbrev pub is_concrete : HeapType → Bool
 is_concrete (Abstract shared ty) = false
 is_concrete (Concrete i) = true
 
 -- `none` or its shared copy
-abbrev pub is_none : HeapType → Bool
-is_none (Abstract shared Bottom) = true
-is_none _ = false
+abbrev pub is_none_heap : HeapType → Bool
+is_none_heap (Abstract shared NoAny) = true
+is_none_heap _ = false
 
 -- the reference to the shared copy of an abstract type
 abbrev pub shared_of : Bool → HeapType → Option RefType

@@ -3,15 +3,15 @@ use Rattle.std.specs.Prelude.{◌≡◌, ℕ, Bool, true, false, ◌&&◌, List,
 use Rattle.validate_types.specs.declared.types.ValType.{ValType}
 
 -- as many, and each below its place (Specification, "Matching: Result Types")
-abbrev pub all_below : (ValType → ValType → Bool) → List ValType → List ValType → Bool
-all_below below [] [] = true
-all_below below (t ∷ ts) (u ∷ us) = below t u && all_below below ts us
-all_below below _ _ = false
+abbrev pub is_each_below : (ValType → ValType → Bool) → List ValType → List ValType → Bool
+is_each_below below [] [] = true
+is_each_below below (t ∷ ts) (u ∷ us) = below t u && is_each_below below ts us
+is_each_below below _ _ = false
 
 -- what is taken the other way round, what is given in the order of value types
-abbrev pub signature_below :
+abbrev pub is_signature_below :
     (ValType → ValType → Bool) → List ValType → List ValType → List ValType → List ValType → Bool
-signature_below below p1 r1 p2 r2 = all_below below p2 p1 && all_below below r1 r2
+is_signature_below below p1 r1 p2 r2 = is_each_below below p2 p1 && is_each_below below r1 r2
 
 -- asked about the types at one place, a closure answers as `below` does
 abbrev pub AnswersBy :

@@ -2,11 +2,11 @@
 
 ghost use Rattle.std.specs.Prelude.{Some};
 ghost use Rattle.std.specs.Fmt.{DisplaysOnOk};
-ghost use Rattle.validate_types.specs.Display.{index_text, reference_text, value_text, operand_text};
+ghost use Rattle.validate_types.specs.Display.{index_text, reference_text, value_text, operand_text, storage_text, kind_text};
 
 use crate::heap::{HeapType, UnpackedIndex};
 use crate::refs::RefType;
-use crate::types::{MaybeType, ValType};
+use crate::types::{CompositeInnerType, MaybeType, StorageType, SubType, ValType};
 use std::fmt;
 
 /// `(module N)` or `(id N)`.
@@ -79,6 +79,35 @@ impl fmt::Display for MaybeType {
                 let ty = *ty;
                 write!(f, "{ty}")
             }
+        }
+    }
+}
+
+/// `i8`, `i16`, or the value type.
+impl fmt::Display for StorageType {
+    ghost output = { λ t. Some (storage_text t) };
+
+    fn fmt<W: fmt::Write>(&self, f: &mut fmt::Formatter<W>) -> fmt::Result {
+        match self {
+            StorageType::I8 => f.write_str("i8"),
+            StorageType::I16 => f.write_str("i16"),
+            StorageType::Val(ty) => {
+                let ty = *ty;
+                write!(f, "{ty}")
+            }
+        }
+    }
+}
+
+/// The kind of the type: `func`, `array` or `struct`.
+impl fmt::Display for SubType {
+    ghost output = { λ s. Some (kind_text s.composite_type.inner) };
+
+    fn fmt<W: fmt::Write>(&self, f: &mut fmt::Formatter<W>) -> fmt::Result {
+        match &self.composite_type.inner {
+            CompositeInnerType::Func(_) => f.write_str("func"),
+            CompositeInnerType::Array(_) => f.write_str("array"),
+            CompositeInnerType::Struct(_) => f.write_str("struct"),
         }
     }
 }

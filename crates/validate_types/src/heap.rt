@@ -2,7 +2,7 @@
 
 ghost use Rattle.std.specs.Prelude.{◌≡◌, true, false};
 ghost use Rattle.validate_types.specs.declared.heap.AbstractHeapType.{AbstractHeapType};
-ghost use Rattle.validate_types.specs.Abstract.{abstract_below, heap_name};
+ghost use Rattle.validate_types.specs.Abstract.{is_abstract_below, heap_name};
 ghost use Rattle.validate_types.specs.Heap.{module_index, id_of, packed_index};
 
 use std::marker::Model;
@@ -44,7 +44,7 @@ impl AbstractHeapType {
     /// Whether this type is below the other, both being unshared or both shared (WebAssembly core
     /// specification, "Matching: Heap Types").
     pub fn is_subtype_of(self, other: AbstractHeapType) -> bool
-        ensures { result ≡ abstract_below self other }
+        ensures { result ≡ is_abstract_below self other }
     {
         match other {
             AbstractHeapType::Any => self == other || self.is_subtype_of_eq(),
@@ -66,7 +66,7 @@ impl AbstractHeapType {
 
     /// Whether this type is below `eq`.
     fn is_subtype_of_eq(self) -> bool
-        ensures { result ≡ abstract_below self AbstractHeapType.Eq }
+        ensures { result ≡ is_abstract_below self AbstractHeapType.Eq }
     {
         matches!(
             &self,

@@ -18,6 +18,6 @@ pub use crate::heap::{AbstractHeapType, CoreTypeId, HeapType, PackedIndex, Unpac
 pub use crate::refs::RefType;
 pub use crate::signature::func_signature_matches;
 pub use crate::types::{
-    CompositeInnerType, CompositeType, FuncType, GlobalType, MaybeType, MemoryType, SubType,
-    TableType, ValType,
+    ArrayType, CompositeInnerType, CompositeType, FieldType, FuncType, GlobalType, MaybeType,
+    MemoryType, StorageType, StructType, SubType, TableType, ValType,
 };

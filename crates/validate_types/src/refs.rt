@@ -1,7 +1,7 @@
 //! Reference types (WebAssembly core specification, "Reference Types").
 
 ghost use Rattle.std.specs.Prelude.{◌≡◌, true, false};
-ghost use Rattle.validate_types.specs.Refs.{reference, reference_to, non_null, with_null, difference, is_concrete, is_none, shared_of, wat, wat_of};
+ghost use Rattle.validate_types.specs.Refs.{reference, reference_to, without_null, with_null, difference, is_concrete, is_none_heap, shared_of, wat, wat_of};
 ghost use Rattle.validate_types.specs.Heap.{index_in};
 ghost use Rattle.validate_types.specs.declared.heap.HeapType.{HeapType};
 
@@ -101,7 +101,7 @@ impl RefType {
 
     /// The same without null.
     pub fn as_non_null(self) -> RefType
-        ensures { result ≡ non_null self }
+        ensures { result ≡ without_null self }
     {
         RefType {
             nullable: false,
@@ -164,7 +164,7 @@ impl RefType {
 
     /// Whether it points to `none`, shared or not.
     pub fn is_none_ref(self) -> bool
-        ensures { result ≡ is_none self.heap_type }
+        ensures { result ≡ is_none_heap self.heap_type }
     {
         matches!(
             &self.heap_type,

@@ -1,7 +1,7 @@
 //! The order on function types (WebAssembly core specification, "Matching: Function Types").
 
 ghost use Rattle.std.specs.Prelude.{◌≡◌, Bool};
-ghost use Rattle.validate_types.specs.Signatures.{AnswersBy, all_below, signature_below};
+ghost use Rattle.validate_types.specs.Signatures.{AnswersBy, is_each_below, is_signature_below};
 ghost use Rattle.validate_types.specs.declared.types.ValType.{ValType};
 
 use crate::types::ValType;
@@ -19,7 +19,7 @@ pub fn func_signature_matches<F: Fn(ValType, ValType) -> bool>(
     requires { F.IsAlwaysCallable sub }
     ensures { (below : ValType → ValType → Bool) → AnswersBy (F.post sub) below p2.now p1.now
         → AnswersBy (F.post sub) below r1.now r2.now → result
-        ≡ signature_below below p1.now r1.now p2.now r2.now }
+        ≡ is_signature_below below p1.now r1.now p2.now r2.now }
 {
     are_below(p2, p1, &sub) && are_below(r1, r2, &sub)
 }
@@ -28,7 +28,7 @@ pub fn func_signature_matches<F: Fn(ValType, ValType) -> bool>(
 fn are_below<F: Fn(ValType, ValType) -> bool>(types: &[ValType], above: &[ValType], sub: &F) -> bool
     requires { F.IsAlwaysCallable sub.now }
     ensures { (below : ValType → ValType → Bool) → AnswersBy (F.post sub.now) below types.now above.now
-        → result ≡ all_below below types.now above.now }
+        → result ≡ is_each_below below types.now above.now }
 {
     if types.len() != above.len() {
         return false;

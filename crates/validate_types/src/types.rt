@@ -1,7 +1,7 @@
 //! Value types, and the types that a module declares (WebAssembly core specification, "Types").
 
 ghost use Rattle.std.specs.Prelude.{◌≡◌};
-ghost use Rattle.validate_types.specs.Types.{index_type as type_of_addresses, table_index_type, is_defaultable};
+ghost use Rattle.validate_types.specs.Types.{address_type_of_memory as type_of_addresses, address_type_of_table, is_defaultable, unpacked_type, is_packed};
 
 use crate::heap::{AbstractHeapType, PackedIndex};
 use crate::refs::RefType;
@@ -143,11 +143,82 @@ impl FuncType {
     }
 }
 
-/// What a type is made of. Structs, arrays and continuations are not there yet.
+/// What a field holds (wasmparser's `StorageType`; WebAssembly core specification, "Composite Types":
+/// storage types).
+#[derive(Clone, Copy, Debug, PartialEq, Eq)]
+pub enum StorageType {
+    /// `i8`: an integer packed into 8 bits.
+    I8,
+    /// `i16`: an integer packed into 16 bits.
+    I16,
+    /// A value of this type.
+    Val(ValType),
+}
+
+impl StorageType {
+    /// Whether it is a packed integer.
+    pub fn is_packed(self) -> bool
+        ensures { result ≡ is_packed self }
+    {
+        match self {
+            StorageType::I8 | StorageType::I16 => true,
+            StorageType::Val(_) => false,
+        }
+    }
+
+    /// The type of its value as an operand: `i32` for a packed integer.
+    pub fn unpack(self) -> ValType
+        ensures { result ≡ unpacked_type self }
+    {
+        match self {
+            StorageType::I8 | StorageType::I16 => ValType::I32,
+            StorageType::Val(ty) => ty,
+        }
+    }
+}
+
+/// A field of a struct, or what an array has in each place (wasmparser's `FieldType`; WebAssembly core
+/// specification, "Composite Types": field types).
+#[derive(Clone, Copy, Debug, PartialEq, Eq)]
+pub struct FieldType {
+    /// What it holds.
+    pub element_type: StorageType,
+    /// Whether it can be written.
+    pub mutable: bool,
+}
+
+/// The type of an array (wasmparser's `ArrayType`; WebAssembly core specification, "Composite Types"):
+/// that of each of its places.
+#[derive(Clone, Copy, Debug, PartialEq, Eq)]
+pub struct ArrayType(pub FieldType);
+
+/// The type of a struct (wasmparser's `StructType`; WebAssembly core specification, "Composite Types").
+/// Contracts see the list of its fields.
+#[derive(Debug, Drop)]
+pub struct StructType {
+    /// Its fields, the first at index 0.
+    pub fields: Vec<FieldType>,
+}
+
+impl Model for StructType {
+    ghost use Rattle.std.specs.Prelude.{List};
+    ghost use Rattle.validate_types.specs.declared.types.FieldType.{FieldType};
+
+    ghost Value = { List FieldType };
+
+    ghost view = { λ s. s.fields.items };
+}
+
+/// What a type is made of (wasmparser's `CompositeInnerType`; WebAssembly core specification, "Composite
+/// Types"). Continuations are not there yet.
 #[derive(Debug, Drop)]
 pub enum CompositeInnerType {
     /// A function type.
     Func(FuncType),
+    /// An array type.
+    Array(ArrayType),
+    /// A struct type.
+    Struct(StructType),
 }
 
 /// What a type is made of, and its mark as shared.
@@ -206,7 +277,7 @@ pub struct TableType {
 impl TableType {
     /// The type of its addresses: `i64` where it is marked as one of 64 bits, else `i32`.
     pub fn index_type(&self) -> ValType
-        ensures { result ≡ table_index_type self.now }
+        ensures { result ≡ address_type_of_table self.now }
     {
         if self.table64 {
             ValType::I64

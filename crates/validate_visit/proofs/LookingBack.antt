@@ -3,7 +3,7 @@ use Rattle.std.proofs.Common.{◌≡◌, ◌≢◌, ℕ, zero, suc, ◌+◌, ◌
 use Rattle.validate_visit.specs.declared.frame.FrameKind.{FrameKind}
 use Rattle.validate_visit.specs.declared.frame.FrameKind.TheVariants.{If, Else}
 use Rattle.validate_visit.specs.declared.op.Op.{Op}
-use Rattle.validate_visit.specs.Order.{Nesting, Flat, Opens, BeginsElse, BeginsCatch, Ends, Delegates, nesting, is_opening, is_closer, begins_else, is_if, catch_kind, part_begun, is_well_ordered_list}
+use Rattle.validate_visit.specs.Order.{Nesting, Stays, Opens, BeginsElse, BeginsCatch, Ends, Delegates, nesting, is_opening, is_closer, begins_else, is_if, catch_kind, part_begun, is_well_ordered_list}
 use Rattle.validate_visit.proofs.Reading.{operators, nestings, stands, parts-more, follows}
 use Rattle.validate_visit.specs.Parts.{outermost, after, parts, is_if_under}
 
@@ -36,7 +36,7 @@ back-begun (j ∷ ks) (BeginsCatch all) k e h = let eq : catch_kind all ≡ k = 
 back-begun ks _ k e h = absurd cc
 
 pub back-past : (d : ℕ) (ks : List FrameKind) (n : Nesting) → part_begun n ≡ None → is_closer n ≡ false → is_if_under d (after ks n) ≡ is_if_under d ks
-back-past d ks Flat e h = refl
+back-past d ks Stays e h = refl
 back-past d ks _ e h = absurd cc
 
 pub back-opened : (d : ℕ) (ks : List FrameKind) (n : Nesting) → d ≢ 0 → is_opening n ≡ true → is_if_under d (after ks n) ≡ is_if_under (d - 1) ks
@@ -46,7 +46,7 @@ back-opened (suc d) ks _ some h = absurd cc
 
 pub back-turned : (d : ℕ) (ks : List FrameKind) (n : Nesting) → d ≢ 0 → is_opening n ≡ false → is_closer n ≡ false → is_if_under d (after ks n) ≡ is_if_under d ks
 back-turned zero ks n some g h = absurd (some refl)
-back-turned (suc d) ks Flat some g h = refl
+back-turned (suc d) ks Stays some g h = refl
 back-turned (suc d) [] BeginsElse some g h = refl
 back-turned (suc d) (k ∷ ks) BeginsElse some g h = refl
 back-turned (suc d) [] (BeginsCatch all) some g h = refl

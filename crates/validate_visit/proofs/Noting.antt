@@ -2,21 +2,21 @@
 use Rattle.std.proofs.Common.{◌≡◌, ◌≢◌, ℕ, zero, suc, ◌+◌, ◌-◌, ◌<◌, inl, inr, min, Bool, true, false, Some, None, List, refl, ap, sym, subst, ◌∙◌, arith}
 use Rattle.std.proofs.lemmas.Bool.{cases_eq}
 use Rattle.validate_visit.specs.declared.frame.FrameKind.{FrameKind}
-use Rattle.validate_visit.specs.Order.{Nesting, Flat, Opens, BeginsElse, BeginsCatch, Ends, Delegates, is_opening, is_closer, is_if, part_begun}
-use Rattle.validate_visit.specs.Parts.{after, is_if_under, most_noted, noted_at, AreNoted}
+use Rattle.validate_visit.specs.Order.{Nesting, Stays, Opens, BeginsElse, BeginsCatch, Ends, Delegates, is_opening, is_closer, is_if, part_begun}
+use Rattle.validate_visit.specs.Parts.{after, is_if_under, most_noted, is_noted_at, AreNoted}
 use Rattle.validate_visit.proofs.Reading.{counted}
 use Rattle.validate_visit.proofs.LookingBack.{back-closed, back-begun, back-opened, back-turned}
 
 -- the notes of other parts stay
 abbrev pub OthersStay : ℕ → List ℕ → List ℕ → Type 0
-OthersStay depth ws ws' = (other : ℕ) → other ≢ depth → depth < other + most_noted → other < depth + most_noted → noted_at ws' other ≡ noted_at ws other
+OthersStay depth ws ws' = (other : ℕ) → other ≢ depth → depth < other + most_noted → other < depth + most_noted → is_noted_at ws' other ≡ is_noted_at ws other
 
 -- ---- what an operator does
 
 -- an operator that opens a part begins one, and one that closes a part doesn't open one
 pub none_opened : (op : Nesting) → part_begun op ≡ None → is_opening op ≡ false
 none_opened (Opens k) e = absurd cc
-none_opened Flat e = refl
+none_opened Stays e = refl
 none_opened BeginsElse e = refl
 none_opened (BeginsCatch all) e = refl
 none_opened Ends e = refl
@@ -24,7 +24,7 @@ none_opened Delegates e = refl
 
 pub closer_opens_none : (op : Nesting) → is_closer op ≡ true → is_opening op ≡ false
 closer_opens_none (Opens k) e = absurd cc
-closer_opens_none Flat e = refl
+closer_opens_none Stays e = refl
 closer_opens_none BeginsElse e = refl
 closer_opens_none (BeginsCatch all) e = refl
 closer_opens_none Ends e = refl
@@ -34,7 +34,7 @@ pub begins_no_closer : (op : Nesting) (k : FrameKind) → part_begun op ≡ Some
 begins_no_closer Ends k e = absurd cc
 begins_no_closer Delegates k e = absurd cc
 begins_no_closer (Opens j) k e = refl
-begins_no_closer Flat k e = refl
+begins_no_closer Stays k e = refl
 begins_no_closer BeginsElse k e = refl
 begins_no_closer (BeginsCatch all) k e = refl
 
@@ -44,49 +44,49 @@ pub noted-closed : (d n : ℕ) (ws : List ℕ) (ks : List FrameKind) (op : Nesti
 noted-closed d n ws ks op some h g v = record {
   counted = counted ks op d (d - 1) v.counted (λ o. absurd (cc (o, g))) (λ _. omega (arith, some)) (λ _ c. absurd (cc (c, h)));
   within = omega (arith, v.within);
-  few = omega (arith, v.few);
+  within_limit = omega (arith, v.within_limit);
   same = λ j l.
       let e : d - 1 - j ≡ d - suc j = omega arith in
-      ap (noted_at ws) e ∙ v.same (suc j) (omega (arith, l)) ∙ sym (back-closed j ks op h);
+      ap (is_noted_at ws) e ∙ v.same (suc j) (omega (arith, l)) ∙ sym (back-closed j ks op h);
 }
 
-pub noted-opened : (d n : ℕ) (ws ws' : List ℕ) (ks : List FrameKind) (op : Nesting) (k : FrameKind) → is_closer op ≡ false → is_opening op ≡ true → part_begun op ≡ Some k → noted_at ws' (d + 1) ≡ is_if k → OthersStay (d + 1) ws ws' → AreNoted d n ws ks → AreNoted (d + 1) (min (n + 1) most_noted) ws' (after ks op)
+pub noted-opened : (d n : ℕ) (ws ws' : List ℕ) (ks : List FrameKind) (op : Nesting) (k : FrameKind) → is_closer op ≡ false → is_opening op ≡ true → part_begun op ≡ Some k → is_noted_at ws' (d + 1) ≡ is_if k → OthersStay (d + 1) ws ws' → AreNoted d n ws ks → AreNoted (d + 1) (min (n + 1) most_noted) ws' (after ks op)
 noted-opened d n ws ws' ks op k h g p here others v = record {
   counted = counted ks op d (d + 1) v.counted (λ _. refl) (λ c. absurd (cc (c, h))) (λ o. absurd (cc (o, g)));
   within = omega (arith, v.within);
-  few = omega arith;
+  within_limit = omega arith;
   same = at;
 }
   where
-    at : (j : ℕ) → j < min (n + 1) most_noted → noted_at ws' (d + 1 - j) ≡ is_if_under j (after ks op)
+    at : (j : ℕ) → j < min (n + 1) most_noted → is_noted_at ws' (d + 1 - j) ≡ is_if_under j (after ks op)
     at zero l =
         let e : d + 1 - 0 ≡ d + 1 = omega arith in
-        ap (noted_at ws') e ∙ here ∙ sym (back-begun ks op k p h)
+        ap (is_noted_at ws') e ∙ here ∙ sym (back-begun ks op k p h)
     at (suc j) l =
         let e : d + 1 - suc j ≡ d - j = omega arith in
         let i : suc j - 1 ≡ j = omega arith in
         let w : d - j ≢ d + 1 = omega arith in
-        ap (noted_at ws') e ∙ others (d - j) w (omega (arith, l)) (omega arith) ∙ v.same j (omega (arith, l))
+        ap (is_noted_at ws') e ∙ others (d - j) w (omega (arith, l)) (omega arith) ∙ v.same j (omega (arith, l))
         ∙ ap (λ m. is_if_under m ks) (sym i) ∙ sym (back-opened (suc j) ks op (omega arith) g)
 
-pub noted-turned : (d n : ℕ) (ws ws' : List ℕ) (ks : List FrameKind) (op : Nesting) (k : FrameKind) → is_closer op ≡ false → is_opening op ≡ false → part_begun op ≡ Some k → noted_at ws' d ≡ is_if k → OthersStay d ws ws' → AreNoted d n ws ks → AreNoted d n ws' (after ks op)
+pub noted-turned : (d n : ℕ) (ws ws' : List ℕ) (ks : List FrameKind) (op : Nesting) (k : FrameKind) → is_closer op ≡ false → is_opening op ≡ false → part_begun op ≡ Some k → is_noted_at ws' d ≡ is_if k → OthersStay d ws ws' → AreNoted d n ws ks → AreNoted d n ws' (after ks op)
 noted-turned d n ws ws' ks op k h g p here others v = record {
   counted = counted ks op d d v.counted (λ o. absurd (cc (o, g))) (λ c. absurd (cc (c, h))) (λ _ _. refl);
   within = v.within;
-  few = v.few;
+  within_limit = v.within_limit;
   same = at;
 }
   where
-    at : (j : ℕ) → j < n → noted_at ws' (d - j) ≡ is_if_under j (after ks op)
+    at : (j : ℕ) → j < n → is_noted_at ws' (d - j) ≡ is_if_under j (after ks op)
     at zero l =
         let e : d - 0 ≡ d = omega arith in
-        ap (noted_at ws') e ∙ here ∙ sym (back-begun ks op k p h)
+        ap (is_noted_at ws') e ∙ here ∙ sym (back-begun ks op k p h)
     at (suc j) l =
         let w : d - suc j ≢ d = omega (arith, l, v.within) in
-        others (d - suc j) w (omega (arith, l, v.few)) (omega arith) ∙ v.same (suc j) l
+        others (d - suc j) w (omega (arith, l, v.within_limit)) (omega arith) ∙ v.same (suc j) l
         ∙ sym (back-turned (suc j) ks op (omega arith) g h)
 
-pub noted-begun : (d n o : ℕ) (ws ws' : List ℕ) (ks : List FrameKind) (op : Nesting) (k : FrameKind) → part_begun op ≡ Some k → (is_opening op ≡ true → o ≡ 1) → (is_opening op ≡ false → o ≡ 0) → noted_at ws' (d + o) ≡ is_if k → OthersStay (d + o) ws ws' → AreNoted d n ws ks → AreNoted (d + o) (min (n + o) most_noted) ws' (after ks op)
+pub noted-begun : (d n o : ℕ) (ws ws' : List ℕ) (ks : List FrameKind) (op : Nesting) (k : FrameKind) → part_begun op ≡ Some k → (is_opening op ≡ true → o ≡ 1) → (is_opening op ≡ false → o ≡ 0) → is_noted_at ws' (d + o) ≡ is_if k → OthersStay (d + o) ws ws' → AreNoted d n ws ks → AreNoted (d + o) (min (n + o) most_noted) ws' (after ks op)
 noted-begun d n o ws ws' ks op k p opens turns here others v = at (is_opening op) refl
   where
     h : is_closer op ≡ false
@@ -95,11 +95,11 @@ noted-begun d n o ws ws' ks op k p opens turns here others v = at (is_opening op
     at : (b : Bool) → is_opening op ≡ b → AreNoted (d + o) (min (n + o) most_noted) ws' (after ks op)
     at true g =
         let e = opens g in
-        subst (λ m. AreNoted (d + m) (min (n + m) most_noted) ws' (after ks op)) (sym e) (noted-opened d n ws ws' ks op k h g p (subst (λ m. noted_at ws' (d + m) ≡ is_if k) e here) (subst (λ m. OthersStay (d + m) ws ws') e others) v)
+        subst (λ m. AreNoted (d + m) (min (n + m) most_noted) ws' (after ks op)) (sym e) (noted-opened d n ws ws' ks op k h g p (subst (λ m. is_noted_at ws' (d + m) ≡ is_if k) e here) (subst (λ m. OthersStay (d + m) ws ws') e others) v)
     at false g =
         let e : d ≡ d + o = omega (arith, turns g) in
-        let m : n ≡ min (n + o) most_noted = omega (arith, turns g, v.few) in
-        subst (λ i. AreNoted i (min (n + o) most_noted) ws' (after ks op)) e (subst (λ i. AreNoted d i ws' (after ks op)) m (noted-turned d n ws ws' ks op k h g p (subst (λ i. noted_at ws' i ≡ is_if k) (sym e) here) (subst (λ i. OthersStay i ws ws') (sym e) others) v))
+        let m : n ≡ min (n + o) most_noted = omega (arith, turns g, v.within_limit) in
+        subst (λ i. AreNoted i (min (n + o) most_noted) ws' (after ks op)) e (subst (λ i. AreNoted d i ws' (after ks op)) m (noted-turned d n ws ws' ks op k h g p (subst (λ i. is_noted_at ws' i ≡ is_if k) (sym e) here) (subst (λ i. OthersStay i ws ws') (sym e) others) v))
 
 -- ---- taking an operator back
 
@@ -108,15 +108,15 @@ abbrev pub AreRest : ℕ → List FrameKind → ℕ → List FrameKind → Type 
 AreRest under ks noted whole = (j : ℕ) → is_if_under (under + j) ks ≡ is_if_under (noted + j) whole
 
 -- it begins the part to be noted next
-pub noted-found : (d n : ℕ) (ws ws' : List ℕ) (ks whole : List FrameKind) (op : Nesting) (k : FrameKind) → n < d → n < most_noted → is_closer op ≡ false → part_begun op ≡ Some k → noted_at ws' (d - n) ≡ is_if k → OthersStay (d - n) ws ws' → AreRest 0 (after ks op) n whole → AreNoted d n ws whole → AreNoted d (n + 1) ws' whole
+pub noted-found : (d n : ℕ) (ws ws' : List ℕ) (ks whole : List FrameKind) (op : Nesting) (k : FrameKind) → n < d → n < most_noted → is_closer op ≡ false → part_begun op ≡ Some k → is_noted_at ws' (d - n) ≡ is_if k → OthersStay (d - n) ws ws' → AreRest 0 (after ks op) n whole → AreNoted d n ws whole → AreNoted d (n + 1) ws' whole
 noted-found d n ws ws' ks whole op k deeper room h p here others rest v = record {
   counted = v.counted;
   within = omega (arith, deeper);
-  few = omega (arith, room);
+  within_limit = omega (arith, room);
   same = λ j l. elim (cases_eq j n) [
     | inl e ↦
         let z : n + 0 ≡ j = omega (arith, e) in
-        ap (λ i. noted_at ws' (d - i)) e ∙ here ∙ sym (back-begun ks op k p h) ∙ rest 0 ∙ ap (λ i. is_if_under i whole) z
+        ap (λ i. is_noted_at ws' (d - i)) e ∙ here ∙ sym (back-begun ks op k p h) ∙ rest 0 ∙ ap (λ i. is_if_under i whole) z
     | inr ne ↦
         let w : d - j ≢ d - n = omega (arith, l, deeper, ne) in
         others (d - j) w (omega (arith, l, room, deeper)) (omega (arith, l, room, deeper)) ∙ v.same j (omega (arith, l, ne))

@@ -8,8 +8,8 @@ use Rattle.validate_visit.specs.declared.frame.FrameKind.TheVariants.{Else}
 use Rattle.validate_visit.specs.declared.op.Op.{Op}
 use Rattle.validate_visit.specs.declared.op.Op.TheVariants.{Control, Numeric, Convert, Memory, Atomic, Reference, Table}
 use Rattle.validate_visit.specs.declared.op.ControlOp.TheVariants.{Nop, Block as BlockOp, Loop as LoopOp, If as IfOp, Else as ElseOp}
-use Rattle.validate_visit.specs.Parts.{outermost, turned, after, parts}
-use Rattle.validate_visit.specs.Order.{Nesting, Flat, Opens, BeginsElse, BeginsCatch, Ends, Delegates, nesting, is_opening, is_closer, begins_else, is_if, is_try, may_catch, catch_kind, is_ordered_from, is_well_ordered_list}
+use Rattle.validate_visit.specs.Parts.{outermost, with_innermost_kind, after, parts}
+use Rattle.validate_visit.specs.Order.{Nesting, Stays, Opens, BeginsElse, BeginsCatch, Ends, Delegates, nesting, is_opening, is_closer, begins_else, is_if, is_try, may_catch, catch_kind, is_ordered_from, is_well_ordered_list}
 
 -- the operators of a list with offsets, and what they do to the open parts
 abbrev pub operators : List (Op × ℕ) → List Op
@@ -30,7 +30,7 @@ stands (k ∷ ks) _ = true
 
 reads_one : (ks : List FrameKind) (n : Nesting) (ns : List Nesting) → is_ordered_from ks (n ∷ ns) ≡ stands ks n && is_ordered_from (after ks n) ns
 reads_one [] n ns = refl
-reads_one (k ∷ ks) Flat ns = refl
+reads_one (k ∷ ks) Stays ns = refl
 reads_one (k ∷ ks) (Opens kind) ns = refl
 reads_one (k ∷ ks) BeginsElse ns = refl
 reads_one (k ∷ ks) (BeginsCatch all) ns = refl
@@ -38,7 +38,7 @@ reads_one (k ∷ ks) Ends ns = refl
 reads_one (k ∷ ks) Delegates ns = refl
 
 -- an operator other than `else` stands wherever `nop` does
-as_nop : (ks : List FrameKind) (op : Op) → begins_else (nesting op) ≡ false → stands ks (nesting op) ≡ stands ks Flat
+as_nop : (ks : List FrameKind) (op : Op) → begins_else (nesting op) ≡ false → stands ks (nesting op) ≡ stands ks Stays
 as_nop [] op h = refl
 as_nop (k ∷ ks) (Control (BlockOp bt)) h = refl
 as_nop (k ∷ ks) (Control (LoopOp bt)) h = refl
@@ -52,7 +52,7 @@ as_nop (k ∷ ks) (Atomic op) h = refl
 as_nop (k ∷ ks) (Reference op) h = refl
 as_nop (k ∷ ks) (Table op) h = refl
 
-nop_stands : (ks : List FrameKind) (n : ℕ) → n ≡ length ks → n ≢ 0 → stands ks Flat ≡ true
+nop_stands : (ks : List FrameKind) (n : ℕ) → n ≡ length ks → n ≢ 0 → stands ks Stays ≡ true
 nop_stands [] n e some = absurd (some e)
 nop_stands (k ∷ ks) n e some = refl
 
@@ -60,13 +60,13 @@ none_stands : (ks : List FrameKind) (n : Nesting) → 0 ≡ length ks → stands
 none_stands [] n e = refl
 none_stands (k ∷ ks) n e = absurd (omega (arith, e))
 
-length-turned : (j : FrameKind) (ks : List FrameKind) → length ks ≡ length (turned j ks)
+length-turned : (j : FrameKind) (ks : List FrameKind) → length ks ≡ length (with_innermost_kind j ks)
 length-turned j [] = refl
 length-turned j (k ∷ ks) = refl
 
 -- so many parts are open after it
 pub counted : (ks : List FrameKind) (n : Nesting) (c m : ℕ) → c ≡ length ks → (is_opening n ≡ true → m ≡ c + 1) → (is_closer n ≡ true → m + 1 ≡ c) → (is_opening n ≡ false → is_closer n ≡ false → m ≡ c) → m ≡ length (after ks n)
-counted ks Flat c m e opens closes stays = stays refl refl ∙ e
+counted ks Stays c m e opens closes stays = stays refl refl ∙ e
 counted ks (Opens kind) c m e opens closes stays = let h = opens refl in omega (arith, e, h)
 counted ks BeginsElse c m e opens closes stays = stays refl refl ∙ e ∙ length-turned Else ks
 counted ks (BeginsCatch all) c m e opens closes stays = stays refl refl ∙ e ∙ length-turned (catch_kind all) ks

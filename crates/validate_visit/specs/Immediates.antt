@@ -52,116 +52,116 @@ is_signed bits (pos n) = nat_lt n (2 ^ bits)
 is_signed bits (negsuc n) = nat_lt n (2 ^ bits)
 
 -- a type of the module is named by its index, not by an id
-abbrev pub heap_immediates : HeapType → Bool
-heap_immediates (Concrete (Module i)) = is_index i
-heap_immediates (Concrete (Id id)) = false
-heap_immediates (Abstract shared ty) = true
+abbrev pub is_module_heap : HeapType → Bool
+is_module_heap (Concrete (Module i)) = is_index i
+is_module_heap (Concrete (Id id)) = false
+is_module_heap (Abstract shared ty) = true
 
-abbrev pub type_immediates : ValType → Bool
-type_immediates (Ref r) = heap_immediates r.heap_type
-type_immediates _ = true
+abbrev pub is_module_type : ValType → Bool
+is_module_type (Ref r) = is_module_heap r.heap_type
+is_module_type _ = true
 
 -- a block type is nothing, a type, or the index of a function type
-abbrev pub block_immediates : BlockType → Bool
-block_immediates Empty = true
-block_immediates (Val t) = type_immediates t
-block_immediates (FuncType i) = is_index i
+abbrev pub is_module_block_type : BlockType → Bool
+is_module_block_type Empty = true
+is_module_block_type (Val t) = is_module_type t
+is_module_block_type (FuncType i) = is_index i
 
 -- every target of a table is an index, and so is its default
-abbrev pub table_immediates : BrTable → Bool
-table_immediates t = list_all is_index t.targets.now && is_index t.default
+abbrev pub is_module_br_table : BrTable → Bool
+is_module_br_table t = list_all is_index t.targets.now && is_index t.default
 
-abbrev pub control_immediates : ControlOp → Bool
-control_immediates Unreachable = true
-control_immediates Nop = true
-control_immediates (Block bt) = block_immediates bt
-control_immediates (Loop bt) = block_immediates bt
-control_immediates (If bt) = block_immediates bt
-control_immediates Else = true
-control_immediates End = true
-control_immediates (Br i) = is_index i
-control_immediates (BrIf i) = is_index i
-control_immediates (BrTableOp t) = table_immediates t
-control_immediates Return = true
-control_immediates (Call i) = is_index i
-control_immediates (ReturnCall i) = is_index i
-control_immediates (CallIndirect i j) = is_index i && is_index j
-control_immediates (ReturnCallIndirect i j) = is_index i && is_index j
-control_immediates (CallRef i) = is_index i
-control_immediates (ReturnCallRef i) = is_index i
-control_immediates Drop = true
-control_immediates Select = true
-control_immediates (TypedSelect t) = type_immediates t
-control_immediates (TypedSelectMulti ts) = list_all type_immediates ts.now
-control_immediates (LocalGet i) = is_index i
-control_immediates (LocalSet i) = is_index i
-control_immediates (LocalTee i) = is_index i
-control_immediates (GlobalGet i) = is_index i
-control_immediates (GlobalSet i) = is_index i
+abbrev pub is_module_control : ControlOp → Bool
+is_module_control Unreachable = true
+is_module_control Nop = true
+is_module_control (Block bt) = is_module_block_type bt
+is_module_control (Loop bt) = is_module_block_type bt
+is_module_control (If bt) = is_module_block_type bt
+is_module_control Else = true
+is_module_control End = true
+is_module_control (Br i) = is_index i
+is_module_control (BrIf i) = is_index i
+is_module_control (BrTableOp t) = is_module_br_table t
+is_module_control Return = true
+is_module_control (Call i) = is_index i
+is_module_control (ReturnCall i) = is_index i
+is_module_control (CallIndirect i j) = is_index i && is_index j
+is_module_control (ReturnCallIndirect i j) = is_index i && is_index j
+is_module_control (CallRef i) = is_index i
+is_module_control (ReturnCallRef i) = is_index i
+is_module_control Drop = true
+is_module_control Select = true
+is_module_control (TypedSelect t) = is_module_type t
+is_module_control (TypedSelectMulti ts) = list_all is_module_type ts.now
+is_module_control (LocalGet i) = is_index i
+is_module_control (LocalSet i) = is_index i
+is_module_control (LocalTee i) = is_index i
+is_module_control (GlobalGet i) = is_index i
+is_module_control (GlobalSet i) = is_index i
 
-abbrev pub numeric_immediates : NumericOp → Bool
-numeric_immediates (I32Const n) = is_signed 31 n
-numeric_immediates (I64Const n) = is_signed 63 n
-numeric_immediates (F32Const x) = nat_lt x.0 (2 ^ 32)
-numeric_immediates (F64Const x) = nat_lt x.0 (2 ^ 64)
-numeric_immediates _ = true
+abbrev pub is_module_numeric : NumericOp → Bool
+is_module_numeric (I32Const n) = is_signed 31 n
+is_module_numeric (I64Const n) = is_signed 63 n
+is_module_numeric (F32Const x) = nat_lt x.0 (2 ^ 32)
+is_module_numeric (F64Const x) = nat_lt x.0 (2 ^ 64)
+is_module_numeric _ = true
 
 -- what is accessed
-abbrev pub target_immediates : MemArgTarget → Bool
-target_immediates (InMemory i) = is_index i
+abbrev pub is_module_target : MemArgTarget → Bool
+is_module_target (InMemory i) = is_index i
 
 -- two exponents of 2, what is added to an address, and what is accessed
-abbrev pub access_immediates : MemArg → Bool
-access_immediates arg =
+abbrev pub is_module_access : MemArg → Bool
+is_module_access arg =
     nat_lt arg.align (2 ^ 8)
-    && (nat_lt arg.max_align (2 ^ 8) && (nat_lt arg.offset (2 ^ 64) && target_immediates arg.target))
+    && (nat_lt arg.max_align (2 ^ 8) && (nat_lt arg.offset (2 ^ 64) && is_module_target arg.target))
 
-abbrev pub memory_immediates : MemoryOp → Bool
-memory_immediates (MemorySize i) = is_index i
-memory_immediates (MemoryGrow i) = is_index i
-memory_immediates (MemoryInit i j) = is_index i && is_index j
-memory_immediates (DataDrop i) = is_index i
-memory_immediates (MemoryCopy i j) = is_index i && is_index j
-memory_immediates (MemoryFill i) = is_index i
-memory_immediates (MemoryDiscard i) = is_index i
-memory_immediates (Load t arg) = access_immediates arg
-memory_immediates (LoadPacked packed sign arg) = access_immediates arg
-memory_immediates (Store t arg) = access_immediates arg
-memory_immediates (StorePacked packed arg) = access_immediates arg
+abbrev pub is_module_memory : MemoryOp → Bool
+is_module_memory (MemorySize i) = is_index i
+is_module_memory (MemoryGrow i) = is_index i
+is_module_memory (MemoryInit i j) = is_index i && is_index j
+is_module_memory (DataDrop i) = is_index i
+is_module_memory (MemoryCopy i j) = is_index i && is_index j
+is_module_memory (MemoryFill i) = is_index i
+is_module_memory (MemoryDiscard i) = is_index i
+is_module_memory (Load t arg) = is_module_access arg
+is_module_memory (LoadPacked packed sign arg) = is_module_access arg
+is_module_memory (Store t arg) = is_module_access arg
+is_module_memory (StorePacked packed arg) = is_module_access arg
 
-abbrev pub atomic_immediates : AtomicOp → Bool
-atomic_immediates (AtomicFence ordering) = true
-atomic_immediates Pause = true
-atomic_immediates (AtomicNotify arg) = access_immediates arg
-atomic_immediates (AtomicWait t arg) = access_immediates arg
-atomic_immediates (AtomicLoad access arg) = access_immediates arg
-atomic_immediates (AtomicStore access arg) = access_immediates arg
-atomic_immediates (AtomicRmw access op arg) = access_immediates arg
-atomic_immediates (AtomicCmpxchg access arg) = access_immediates arg
+abbrev pub is_module_atomic : AtomicOp → Bool
+is_module_atomic (AtomicFence ordering) = true
+is_module_atomic Pause = true
+is_module_atomic (AtomicNotify arg) = is_module_access arg
+is_module_atomic (AtomicWait t arg) = is_module_access arg
+is_module_atomic (AtomicLoad access arg) = is_module_access arg
+is_module_atomic (AtomicStore access arg) = is_module_access arg
+is_module_atomic (AtomicRmw access op arg) = is_module_access arg
+is_module_atomic (AtomicCmpxchg access arg) = is_module_access arg
 
-abbrev pub reference_immediates : ReferenceOp → Bool
-reference_immediates (RefNull h) = heap_immediates h
-reference_immediates RefIsNull = true
-reference_immediates (RefFunc i) = is_index i
-reference_immediates RefAsNonNull = true
-reference_immediates (BrOnNull i) = is_index i
-reference_immediates (BrOnNonNull i) = is_index i
+abbrev pub is_module_reference : ReferenceOp → Bool
+is_module_reference (RefNull h) = is_module_heap h
+is_module_reference RefIsNull = true
+is_module_reference (RefFunc i) = is_index i
+is_module_reference RefAsNonNull = true
+is_module_reference (BrOnNull i) = is_index i
+is_module_reference (BrOnNonNull i) = is_index i
 
-abbrev pub table_operator_immediates : TableOp → Bool
-table_operator_immediates (TableGet i) = is_index i
-table_operator_immediates (TableSet i) = is_index i
-table_operator_immediates (TableGrow i) = is_index i
-table_operator_immediates (TableSize i) = is_index i
-table_operator_immediates (TableFill i) = is_index i
-table_operator_immediates (TableInit i j) = is_index i && is_index j
-table_operator_immediates (ElemDrop i) = is_index i
-table_operator_immediates (TableCopy i j) = is_index i && is_index j
+abbrev pub is_module_table : TableOp → Bool
+is_module_table (TableGet i) = is_index i
+is_module_table (TableSet i) = is_index i
+is_module_table (TableGrow i) = is_index i
+is_module_table (TableSize i) = is_index i
+is_module_table (TableFill i) = is_index i
+is_module_table (TableInit i j) = is_index i && is_index j
+is_module_table (ElemDrop i) = is_index i
+is_module_table (TableCopy i j) = is_index i && is_index j
 
-abbrev pub module_immediates : Op → Bool
-module_immediates (Control op) = control_immediates op
-module_immediates (Numeric op) = numeric_immediates op
-module_immediates (Convert op) = true
-module_immediates (Memory op) = memory_immediates op
-module_immediates (Atomic op) = atomic_immediates op
-module_immediates (Reference op) = reference_immediates op
-module_immediates (Table op) = table_operator_immediates op
+abbrev pub is_module_op : Op → Bool
+is_module_op (Control op) = is_module_control op
+is_module_op (Numeric op) = is_module_numeric op
+is_module_op (Convert op) = true
+is_module_op (Memory op) = is_module_memory op
+is_module_op (Atomic op) = is_module_atomic op
+is_module_op (Reference op) = is_module_reference op
+is_module_op (Table op) = is_module_table op

@@ -14,7 +14,7 @@ use Rattle.validate_visit.specs.declared.op.ControlOp.TheVariants.{If as IfOp, E
 
 -- What an operator does to the open parts. A `catch` begins another part, a `catch_all` too (`all`).
 pub data Nesting : Type 0 where
-  Flat : Nesting
+  Stays : Nesting
   Opens : (kind : FrameKind) → Nesting
   BeginsElse : Nesting
   BeginsCatch : (all : Bool) → Nesting
@@ -67,19 +67,19 @@ part_begun _ = None
 
 -- Reading one operator in the innermost part k, with these parts outside it: whether it may stand
 -- there, and the open parts after it.
-abbrev pub reads_on : FrameKind → List FrameKind → Nesting → (List FrameKind → Bool) → Bool
-reads_on k ks Flat next = next (k ∷ ks)
-reads_on k ks (Opens kind) next = next (kind ∷ (k ∷ ks))
-reads_on k ks BeginsElse next = is_if k && next (Else ∷ ks)
-reads_on k ks (BeginsCatch all) next = may_catch k && next (catch_kind all ∷ ks)
-reads_on k ks Ends next = next ks
-reads_on k ks Delegates next = is_try k && next ks
+abbrev pub may_read_on : FrameKind → List FrameKind → Nesting → (List FrameKind → Bool) → Bool
+may_read_on k ks Stays next = next (k ∷ ks)
+may_read_on k ks (Opens kind) next = next (kind ∷ (k ∷ ks))
+may_read_on k ks BeginsElse next = is_if k && next (Else ∷ ks)
+may_read_on k ks (BeginsCatch all) next = may_catch k && next (catch_kind all ∷ ks)
+may_read_on k ks Ends next = next ks
+may_read_on k ks Delegates next = is_try k && next ks
 
 -- reading on from these open parts, the innermost first
 abbrev pub is_ordered_from : List FrameKind → List Nesting → Bool
 is_ordered_from ks [] = true
 is_ordered_from [] (n ∷ ns) = false
-is_ordered_from (k ∷ ks) (n ∷ ns) = reads_on k ks n (λ js. is_ordered_from js ns)
+is_ordered_from (k ∷ ks) (n ∷ ns) = may_read_on k ks n (λ js. is_ordered_from js ns)
 
 abbrev pub control_nesting : ControlOp → Nesting
 control_nesting (BlockOp bt) = Opens Block
@@ -87,17 +87,17 @@ control_nesting (LoopOp bt) = Opens Loop
 control_nesting (IfOp bt) = Opens If
 control_nesting ElseOp = BeginsElse
 control_nesting End = Ends
-control_nesting _ = Flat
+control_nesting _ = Stays
 
 -- what each operator does to the open parts
 abbrev pub nesting : Op → Nesting
 nesting (Control op) = control_nesting op
-nesting (Numeric op) = Flat
-nesting (Convert op) = Flat
-nesting (Memory op) = Flat
-nesting (Atomic op) = Flat
-nesting (Reference op) = Flat
-nesting (Table op) = Flat
+nesting (Numeric op) = Stays
+nesting (Convert op) = Stays
+nesting (Memory op) = Stays
+nesting (Atomic op) = Stays
+nesting (Reference op) = Stays
+nesting (Table op) = Stays
 
 -- Reading from an open outermost frame: openers nest, `else` stands in an `if` part, `catch` and
 -- `catch_all` in a `try` or `catch` part, `delegate` closes a `try` part, `end` closes any, and nothing

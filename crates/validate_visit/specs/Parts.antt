@@ -6,7 +6,7 @@ use Rattle.std.specs.Int.{bit_at}
 use Rattle.validate_visit.specs.declared.frame.FrameKind.{FrameKind}
 use Rattle.validate_visit.specs.declared.frame.FrameKind.TheVariants.{Block, Else}
 use Rattle.validate_visit.specs.declared.op.Op.{Op}
-use Rattle.validate_visit.specs.Order.{Nesting, Flat, Opens, BeginsElse, BeginsCatch, Ends, Delegates}
+use Rattle.validate_visit.specs.Order.{Nesting, Stays, Opens, BeginsElse, BeginsCatch, Ends, Delegates}
 use Rattle.validate_visit.specs.Order.{nesting, is_if, catch_kind}
 
 abbrev pub outermost : List FrameKind
@@ -16,16 +16,16 @@ abbrev pub tail : List FrameKind → List FrameKind
 tail [] = []
 tail (k ∷ ks) = ks
 
-abbrev pub turned : FrameKind → List FrameKind → List FrameKind
-turned j [] = []
-turned j (k ∷ ks) = j ∷ ks
+abbrev pub with_innermost_kind : FrameKind → List FrameKind → List FrameKind
+with_innermost_kind j [] = []
+with_innermost_kind j (k ∷ ks) = j ∷ ks
 
 -- the open parts after an operator, wherever it stands
 abbrev pub after : List FrameKind → Nesting → List FrameKind
-after ks Flat = ks
+after ks Stays = ks
 after ks (Opens kind) = kind ∷ ks
-after ks BeginsElse = turned Else ks
-after ks (BeginsCatch all) = turned (catch_kind all) ks
+after ks BeginsElse = with_innermost_kind Else ks
+after ks (BeginsCatch all) = with_innermost_kind (catch_kind all) ks
 after ks Ends = tail ks
 after ks Delegates = tail ks
 
@@ -51,12 +51,12 @@ abbrev pub most_noted : ℕ
 most_noted = 65536
 
 -- whether the part at this depth is noted as the first part of an `if`
-abbrev pub noted_at : List ℕ → ℕ → Bool
-noted_at words depth = nat_eq (bit_at (slice_index words (depth / 64 % 1024)) (depth % 64)) 1
+abbrev pub is_noted_at : List ℕ → ℕ → Bool
+is_noted_at words depth = nat_eq (bit_at (slice_index words (depth / 64 % 1024)) (depth % 64)) 1
 
 -- so many parts are open, and of so many of the innermost it is noted what they are
 pub record AreNoted (depth noted : ℕ) (words : List ℕ) (kinds : List FrameKind) : Type 0 where
   pub counted : depth ≡ length kinds
   pub within : noted ≤ depth
-  pub few : noted ≤ most_noted
-  pub same : (j : ℕ) → j < noted → noted_at words (depth - j) ≡ is_if_under j kinds
+  pub within_limit : noted ≤ most_noted
+  pub same : (j : ℕ) → j < noted → is_noted_at words (depth - j) ≡ is_if_under j kinds

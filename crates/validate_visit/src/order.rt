@@ -3,7 +3,7 @@
 ghost use Rattle.std.specs.Prelude.{◌≡◌, ◌≢◌, ℕ, ◌+◌, ◌-◌, ◌<◌, ◌≤◌, ◌^◌, ◌++◌, [], ◌∷◌, List, Bool, None, true, false, map, length, cond};
 ghost use Rattle.std.specs.Int.{bit_at};
 ghost use Rattle.validate_visit.specs.Order.{is_well_ordered_list, is_opening, is_closer, is_if, begins_else, part_begun, nesting};
-ghost use Rattle.validate_visit.specs.Parts.{after, parts_left, is_if_under, most_noted, noted_at, AreNoted};
+ghost use Rattle.validate_visit.specs.Parts.{after, parts_left, is_if_under, most_noted, is_noted_at, AreNoted};
 ghost use Rattle.validate_visit.specs.declared.frame.FrameKind.{FrameKind};
 ghost use Rattle.validate_visit.specs.declared.op.Op.{Op};
 ghost use Rattle.validate_visit.specs.declared.op.ControlOp.{ControlOp};
@@ -78,7 +78,7 @@ impl OpenParts {
     #[inline(always)]
     fn read(&mut self, op: Op<'_>)
         requires some { 0 < self.old.depth }
-        requires few { self.old.depth < 2 ^ 63 }
+        requires within_limit { self.old.depth < 2 ^ 63 }
         ensures at_most { self.new.depth ≤ self.old.depth + 1 }
         ensures noted { (kinds : List FrameKind) → AreNoted self.old.depth self.old.noted self.old.firsts
             kinds → AreNoted self.new.depth self.new.noted self.new.firsts
@@ -129,7 +129,7 @@ impl OpenParts {
     fn take_back(&mut self, op: Op<'_>, under: usize) -> usize
         requires deeper { self.old.noted < self.old.depth }
         requires room { self.old.noted < most_noted }
-        requires few { under < 2 ^ 63 }
+        requires within_limit { under < 2 ^ 63 }
         ensures depth { self.new.depth ≡ self.old.depth }
         ensures at_most { result ≤ under + 1 }
         ensures noted { (kinds whole : List FrameKind) → AreNoted self.old.depth self.old.noted
@@ -156,7 +156,7 @@ impl OpenParts {
 /// Whether the part at this depth is noted as the first part of an `if`.
 #[inline(always)]
 fn is_noted(firsts: &[u64; WORDS], depth: usize) -> bool
-    ensures { result ≡ noted_at firsts.now depth }
+    ensures { result ≡ is_noted_at firsts.now depth }
 {
     (firsts[depth / 64 % WORDS] >> (depth % 64)) & 1 == 1
 }
@@ -165,9 +165,9 @@ fn is_noted(firsts: &[u64; WORDS], depth: usize) -> bool
 /// the others that can be noted beside it.
 #[inline(always)]
 fn note(firsts: &mut [u64; WORDS], depth: usize, is_first: bool)
-    ensures same { noted_at firsts.new depth ≡ is_first }
+    ensures same { is_noted_at firsts.new depth ≡ is_first }
     ensures others { (other : ℕ) → other ≢ depth → depth < other + most_noted → other < depth + most_noted
-        → noted_at firsts.new other ≡ noted_at firsts.old other }
+        → is_noted_at firsts.new other ≡ is_noted_at firsts.old other }
 {
     let place = depth / 64 % WORDS;
     firsts[place] = with_bit(firsts[place], depth % 64, is_first);

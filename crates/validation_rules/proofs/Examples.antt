@@ -1,7 +1,7 @@
 -- Small bodies, computed: good ones are accepted and bad ones refused. What is expected is what the
 -- standard's rules say of them.
 use Rattle.std.proofs.Common.{◌≡◌, ℕ, pos, Bool, true, false, List, [], ◌∷◌, ◌++◌, length, Option, Some, None, refl, slice_get}
-use Rattle.validate_resources.specs.Context.{is_same_number}
+use Rattle.validate_resources.specs.Context.{is_same_number_or_vector}
 use Rattle.validate_resources.specs.Lists.{Declared, context_of}
 use Rattle.validate_types.specs.declared.types.CompositeInnerType.TheVariants.{Func}
 use Rattle.validate_visit.specs.declared.numbers.IntegerType.TheVariants.{I32 as IntegerI32, I64 as IntegerI64}
@@ -13,9 +13,9 @@ use Rattle.validate_visit.specs.declared.op.NumericOp.TheVariants.{Eqz, IntegerB
 use Rattle.validation_rules.specs.Context.{SubType, WasmFeatures, ValType, I32, I64, BlockType, Empty, Val, FuncType, Context}
 use Rattle.validation_rules.specs.Fits.{MaybeType, Bottom, Known}
 use Rattle.validation_rules.specs.Rows.{FrameKind, Block, Else, Loop, TryTable, LegacyCatch, LegacyCatchAll, Operator}
-use Rattle.validation_rules.specs.Static.{Frame, State, before, start, frame_count, operand_count, operands_found}
+use Rattle.validation_rules.specs.Static.{Frame, State, state_before, start, frame_count, operand_count, operands_found}
 use Rattle.validation_rules.specs.Pops.{frame_after_pops}
-use Rattle.validation_rules.specs.Operators.{body}
+use Rattle.validation_rules.specs.Operators.{operators}
 use Rattle.validation_rules.proofs.Handmade.{unreachable, a_block, a_loop, an_if, an_else, br, br_if, br_table, a_return, a_try_table, throw, a_try, a_catch, a_catch_all, delegate, rethrow}
 
 -- ---- a module of four types, and a function with two locals of which the first is set at entry
@@ -50,7 +50,7 @@ module _ (features : WasmFeatures) where
   -- ---- operators, as the rules see them
 
   abbrev table_op : Op → List Operator
-  table_op op = body cx (op ∷ [])
+  table_op op = operators cx (op ∷ [])
 
   abbrev i32_const : List Operator
   i32_const = table_op (Numeric (I32Const (pos 0)))
@@ -92,7 +92,7 @@ module _ (features : WasmFeatures) where
 
   -- the state after the whole list
   abbrev after_all : BlockType → List Operator → Option State
-  after_all ty code = before cx code (start ty) (length code)
+  after_all ty code = state_before cx code (start ty) (length code)
 
   abbrev Refused : BlockType → List Operator → Type 0
   Refused ty code = after_all ty code ≡ None
@@ -112,7 +112,7 @@ module _ (features : WasmFeatures) where
 
   -- the body of a function from i32 to i32 that adds, place by place
   abbrev adding : List Operator
-  adding = body cx (Control (LocalGet 0) ∷ Numeric (I32Const (pos 1)) ∷ Numeric (IntegerBinary IntegerI32 Add) ∷ Control End ∷ [])
+  adding = operators cx (Control (LocalGet 0) ∷ Numeric (I32Const (pos 1)) ∷ Numeric (IntegerBinary IntegerI32 Add) ∷ Control End ∷ [])
 
   abbrev body_frame : List MaybeType → Frame
   body_frame own = frame Block one_to_one own false
@@ -120,23 +120,23 @@ module _ (features : WasmFeatures) where
   abbrev standing : List MaybeType → Option State
   standing own = Some (record { frames = body_frame own ∷ []; left = [] })
 
-  adding_0 : before cx adding (start one_to_one) 0 ≡ standing []
+  adding_0 : state_before cx adding (start one_to_one) 0 ≡ standing []
   adding_0 = refl
 
-  adding_1 : before cx adding (start one_to_one) 1 ≡ standing (Known I32 ∷ [])
+  adding_1 : state_before cx adding (start one_to_one) 1 ≡ standing (Known I32 ∷ [])
   adding_1 = refl
 
-  adding_2 : before cx adding (start one_to_one) 2 ≡ standing (Known I32 ∷ Known I32 ∷ [])
+  adding_2 : state_before cx adding (start one_to_one) 2 ≡ standing (Known I32 ∷ Known I32 ∷ [])
   adding_2 = refl
 
-  adding_3 : before cx adding (start one_to_one) 3 ≡ standing (Known I32 ∷ [])
+  adding_3 : state_before cx adding (start one_to_one) 3 ≡ standing (Known I32 ∷ [])
   adding_3 = refl
 
-  adding_4 : before cx adding (start one_to_one) 4 ≡ Some (record { frames = []; left = Known I32 ∷ [] })
+  adding_4 : state_before cx adding (start one_to_one) 4 ≡ Some (record { frames = []; left = Known I32 ∷ [] })
   adding_4 = refl
 
   -- there is no place behind the last
-  adding_5 : before cx adding (start one_to_one) 5 ≡ None
+  adding_5 : state_before cx adding (start one_to_one) 5 ≡ None
   adding_5 = refl
 
   -- operands and frames, counted
@@ -144,19 +144,19 @@ module _ (features : WasmFeatures) where
   heights_of None = None
   heights_of (Some s) = Some (operand_count s, frame_count s)
 
-  heights_0 : heights_of (before cx adding (start one_to_one) 0) ≡ Some (0, 1)
+  heights_0 : heights_of (state_before cx adding (start one_to_one) 0) ≡ Some (0, 1)
   heights_0 = refl
 
-  heights_1 : heights_of (before cx adding (start one_to_one) 1) ≡ Some (1, 1)
+  heights_1 : heights_of (state_before cx adding (start one_to_one) 1) ≡ Some (1, 1)
   heights_1 = refl
 
-  heights_2 : heights_of (before cx adding (start one_to_one) 2) ≡ Some (2, 1)
+  heights_2 : heights_of (state_before cx adding (start one_to_one) 2) ≡ Some (2, 1)
   heights_2 = refl
 
-  heights_3 : heights_of (before cx adding (start one_to_one) 3) ≡ Some (1, 1)
+  heights_3 : heights_of (state_before cx adding (start one_to_one) 3) ≡ Some (1, 1)
   heights_3 = refl
 
-  heights_4 : heights_of (before cx adding (start one_to_one) 4) ≡ Some (1, 0)
+  heights_4 : heights_of (state_before cx adding (start one_to_one) 4) ≡ Some (1, 0)
   heights_4 = refl
 
   -- nothing to add
@@ -573,12 +573,12 @@ module _ (features : WasmFeatures) where
 
 abbrev tilted : ValType → ValType → Bool
 tilted I32 I64 = true
-tilted t u = is_same_number t u
+tilted t u = is_same_number_or_vector t u
 
 module _ (features : WasmFeatures) where
   abbrev tilted_context : Context
   tilted_context = record {
-    of_module = record { type_at = slice_get (a_type (I32 ∷ []) (I64 ∷ []) ∷ a_type (I64 ∷ []) (I32 ∷ []) ∷ []); type_of_id = λ i. None; type_index_of = λ i. None; type_id_of = λ i. None; is_referenced = λ i. false; table_at = λ i. None; memory_at = λ i. None; global_at = λ i. None; element_at = λ i. None; data_count = None; below = tilted; is_shared = λ r. false; canonical = λ f t. None; canonical_ref = λ r. None; canonical_heap = λ h. None };
+    of_module = record { type_at = slice_get (a_type (I32 ∷ []) (I64 ∷ []) ∷ a_type (I64 ∷ []) (I32 ∷ []) ∷ []); type_of_id = λ i. None; type_index_of = λ i. None; type_id_of = λ i. None; is_referenced = λ i. false; table_at = λ i. None; memory_at = λ i. None; global_at = λ i. None; element_at = λ i. None; data_count = None; below = tilted; is_shared = λ r. false; top_type = λ h. h; canonical_type = λ f t. None; canonical_ref = λ r. None; canonical_heap = λ h. None };
     features = features;
     shared = false;
     locals = [];
@@ -586,13 +586,13 @@ module _ (features : WasmFeatures) where
   }
 
   abbrev TiltedDone : BlockType → List Operator → List MaybeType → Type 0
-  TiltedDone ty code left = before tilted_context code (start ty) (length code) ≡ Some (record { frames = []; left = left })
+  TiltedDone ty code left = state_before tilted_context code (start ty) (length code) ≡ Some (record { frames = []; left = left })
 
   abbrev TiltedRefused : BlockType → List Operator → Type 0
-  TiltedRefused ty code = before tilted_context code (start ty) (length code) ≡ None
+  TiltedRefused ty code = state_before tilted_context code (start ty) (length code) ≡ None
 
   abbrev tilted_ops : List Op → List Operator
-  tilted_ops ops = body tilted_context ops
+  tilted_ops ops = operators tilted_context ops
 
   -- what is found lies below what is wanted, and what is pushed is the row's type
   found_below : TiltedDone (Val I64) (tilted_ops (Numeric (I32Const (pos 0)) ∷ Numeric (I64Const (pos 0)) ∷ Numeric (IntegerBinary IntegerI64 Add) ∷ Control End ∷ [])) (Known I64 ∷ [])
@@ -616,7 +616,7 @@ module _ (features : WasmFeatures) where
   if_above = refl
 
   -- what a clause carries lies below the types of its label
-  clause_below : before tilted_context (a_try_table tilted_context Empty (record { depth = 0; types = I32 ∷ [] } ∷ []) ∷ []) (start (Val I64)) 1 ≡ Some (record { frames = record { head = record { kind = TryTable; block_type = Empty }; operands = []; dead = false; first_set = [] } ∷ record { head = record { kind = Block; block_type = Val I64 }; operands = []; dead = false; first_set = [] } ∷ []; left = [] })
+  clause_below : state_before tilted_context (a_try_table tilted_context Empty (record { depth = 0; types = I32 ∷ [] } ∷ []) ∷ []) (start (Val I64)) 1 ≡ Some (record { frames = record { head = record { kind = TryTable; block_type = Empty }; operands = []; dead = false; first_set = [] } ∷ record { head = record { kind = Block; block_type = Val I64 }; operands = []; dead = false; first_set = [] } ∷ []; left = [] })
   clause_below = refl
 
   clause_above : TiltedRefused (Val I32) (a_try_table tilted_context Empty (record { depth = 0; types = I64 ∷ [] } ∷ []) ∷ [])

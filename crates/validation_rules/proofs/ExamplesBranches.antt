@@ -15,8 +15,8 @@ use Rattle.validate_visit.specs.declared.op.NumericOp.TheVariants.{Eqz, IntegerB
 use Rattle.validation_rules.specs.Context.{SubType, ValType, I32, I64, F32, F64, BlockType, Empty, Val, FuncType, Context}
 use Rattle.validation_rules.specs.Fits.{MaybeType, Bottom, Known}
 use Rattle.validation_rules.specs.Rows.{FrameKind, Block, If, Else, Loop}
-use Rattle.validation_rules.specs.Static.{Frame, State, open_state, before, start, step, step_in}
-use Rattle.validation_rules.specs.Operators.{never_row, row_operator, checked_block, opener, operator, body}
+use Rattle.validation_rules.specs.Static.{Frame, State, open_state, state_before, start, step, step_in}
+use Rattle.validation_rules.specs.Operators.{never_row, row_operator, checked_block, opener, operator, operators}
 use Rattle.validation_rules.proofs.Handmade as hand
 
 -- ---- a module of three types, and a function without locals
@@ -110,7 +110,7 @@ typed_select_multi ts = Control (TypedSelectMulti (record { ref_ptr = (0, 0); no
 
 -- the state after the whole list
 abbrev after_all : Context → BlockType → List Op → Option State
-after_all c ty ops = before c (body c ops) (start ty) (length ops)
+after_all c ty ops = state_before c (operators c ops) (start ty) (length ops)
 
 abbrev RefusedUnder : Context → BlockType → List Op → Type 0
 RefusedUnder c ty ops = after_all c ty ops ≡ None
@@ -509,7 +509,7 @@ written F32 = F64
 written t = t
 
 abbrev writing : Context
-writing = record cx { of_module = record (context_of declared) { canonical = λ f t. Some (written t) } }
+writing = record cx { of_module = record (context_of declared) { canonical_type = λ f t. Some (written t) } }
 
 typed_select_written : OpenUnder writing to_nothing (unreachable ∷ typed_select F32 ∷ []) (frame Block to_nothing (Known F64 ∷ []) true ∷ [])
 typed_select_written = refl

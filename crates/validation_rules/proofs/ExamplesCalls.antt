@@ -14,8 +14,8 @@ use Rattle.validate_visit.specs.declared.op.Op.TheVariants.{Control, Numeric}
 use Rattle.validation_rules.specs.Context.{SubType, ValType, I32, I64, F32, BlockType, Empty, Val, FuncType, Context}
 use Rattle.validation_rules.specs.Fits.{MaybeType, Known}
 use Rattle.validation_rules.specs.Rows.{Head, FrameKind, Block, Loop, body_head}
-use Rattle.validation_rules.specs.Static.{Frame, State, open_state, before, start}
-use Rattle.validation_rules.specs.Operators.{row_operator, plain_row, operator, body}
+use Rattle.validation_rules.specs.Static.{Frame, State, open_state, state_before, start}
+use Rattle.validation_rules.specs.Operators.{row_operator, plain_row, operator, operators}
 
 -- ---- a module of six types, seven functions and three globals: function i has type i, and the last one
 -- has type 2
@@ -99,7 +99,7 @@ global_set i = Control (GlobalSet i)
 
 -- the state after the whole list
 abbrev after_all : Context → BlockType → List Op → Option State
-after_all c ty ops = before c (body c ops) (start ty) (length ops)
+after_all c ty ops = state_before c (operators c ops) (start ty) (length ops)
 
 abbrev Refused : BlockType → List Op → Type 0
 Refused ty ops = after_all cx ty ops ≡ None

@@ -1,7 +1,7 @@
 -- Small bodies of the table's operators on memories, and every row of these operators, computed. What
 -- is expected is what the standard's rules say of them, and for atomic operators the threads proposal.
 use Rattle.std.proofs.Common.{◌≡◌, ◌+◌, ◌-◌, ℕ, pos, nat_eq, Bool, true, false, List, [], ◌∷◌, ◌++◌, length, map, Option, Some, None, refl}
-use Rattle.validate_resources.specs.Context.{is_index_type}
+use Rattle.validate_resources.specs.Context.{is_address_type}
 use Rattle.validate_resources.specs.Lists.{Declared, context_of}
 use Rattle.validate_types.specs.Features.{floats, bulk_memory, bulk_memory_opt, threads, memory_control, acquire_release_atomics}
 use Rattle.validate_types.specs.declared.types.MemoryType.{MemoryType}
@@ -27,8 +27,8 @@ use Rattle.validate_visit.specs.declared.op.Op.TheVariants.{Control, Numeric, Me
 use Rattle.validation_rules.specs.Context.{ValType, I32, I64, F32, F64, V128, BlockType, Empty, Val, Context}
 use Rattle.validation_rules.specs.Fits.{MaybeType, Known}
 use Rattle.validation_rules.specs.Rows.{Block}
-use Rattle.validation_rules.specs.Static.{State, open_state, before, start}
-use Rattle.validation_rules.specs.Operators.{row_operator, plain_row, operator, body}
+use Rattle.validation_rules.specs.Static.{State, open_state, state_before, start}
+use Rattle.validation_rules.specs.Operators.{row_operator, plain_row, operator, operators}
 
 -- ---- a module of two memories and two data segments: memory 0, which is shared, has addresses of 32
 -- bits, and memory 1 of 64; whether it is shared is nothing to any of these operators
@@ -54,7 +54,7 @@ abbrev cx : Context
 cx = under every
 
 -- a type of addresses is an i32 or an i64
-index_types : map is_index_type (I32 ∷ I64 ∷ F32 ∷ F64 ∷ V128 ∷ []) ≡ true ∷ true ∷ false ∷ false ∷ false ∷ []
+index_types : map is_address_type (I32 ∷ I64 ∷ F32 ∷ F64 ∷ V128 ∷ []) ≡ true ∷ true ∷ false ∷ false ∷ false ∷ []
 index_types = refl
 
 -- ---- accesses
@@ -331,7 +331,7 @@ abbrev i64_store : MemArg → Op
 i64_store arg = Memory (Store NumberI64 arg)
 
 abbrev after_all : BlockType → List Op → Option State
-after_all ty ops = before cx (body cx ops) (start ty) (length ops)
+after_all ty ops = state_before cx (operators cx ops) (start ty) (length ops)
 
 abbrev Refused : List Op → Type 0
 Refused ops = after_all Empty ops ≡ None

@@ -19,8 +19,8 @@ use Rattle.validate_visit.specs.declared.op.ReferenceOp.TheVariants.{RefNull, Re
 use Rattle.validation_rules.specs.Context.{SubType, ValType, I32, I64, Ref, BlockType, Empty, Val, FuncType, Context}
 use Rattle.validation_rules.specs.Fits.{MaybeType, UnknownRef, Known}
 use Rattle.validation_rules.specs.Rows.{Head, FrameKind, Block, Loop, body_head, operands_wanted}
-use Rattle.validation_rules.specs.Static.{Frame, State, open_state, before, start}
-use Rattle.validation_rules.specs.Operators.{row_operator, plain_row, operator, body}
+use Rattle.validation_rules.specs.Static.{Frame, State, open_state, state_before, start}
+use Rattle.validation_rules.specs.Operators.{row_operator, plain_row, operator, operators}
 
 abbrev func : HeapType
 func = Abstract false Func
@@ -133,7 +133,7 @@ br_on_non_null d = Reference (BrOnNonNull d)
 
 -- the state after the whole list
 abbrev after_all : Context → BlockType → List Op → Option State
-after_all c ty ops = before c (body c ops) (start ty) (length ops)
+after_all c ty ops = state_before c (operators c ops) (start ty) (length ops)
 
 -- each of these bodies alone
 abbrev AllRefused : BlockType → List (List Op) → Type 0

@@ -17,8 +17,8 @@ use Rattle.validate_visit.specs.declared.op.Op.{Op}
 use Rattle.validate_visit.specs.declared.op.Op.TheVariants.{Control, Numeric}
 use Rattle.validation_rules.specs.Context.{SubType, ValType, I32, I64, Ref, BlockType, Empty, Val, Context}
 use Rattle.validation_rules.specs.Fits.{MaybeType, Bottom, UnknownRef, Known, fits}
-use Rattle.validation_rules.specs.Static.{before, start}
-use Rattle.validation_rules.specs.Operators.{select_result, body}
+use Rattle.validation_rules.specs.Static.{state_before, start}
+use Rattle.validation_rules.specs.Operators.{select_result, operators}
 
 -- ---- a module of four function types: 1 is declared below 0, 2 below 1, and 3 is shared
 
@@ -146,10 +146,10 @@ abbrev local_set : ℕ → Op
 local_set i = Control (LocalSet i)
 
 abbrev Done : BlockType → List Op → List MaybeType → Type 0
-Done ty ops left = before cx (body cx ops) (start ty) (length ops) ≡ Some (record { frames = []; left = left })
+Done ty ops left = state_before cx (operators cx ops) (start ty) (length ops) ≡ Some (record { frames = []; left = left })
 
 abbrev Refused : BlockType → List Op → Type 0
-Refused ty ops = before cx (body cx ops) (start ty) (length ops) ≡ None
+Refused ty ops = state_before cx (operators cx ops) (start ty) (length ops) ≡ None
 
 read_with_default : Done (Val (null (heap Func))) (local_get 0 ∷ end ∷ []) (Known (null (heap Func)) ∷ [])
 read_with_default = refl
@@ -200,8 +200,8 @@ calling = record { of_module = context_of givers; features = record { 0 = 209715
 abbrev return_call : ℕ → Op
 return_call f = Control (ReturnCall f)
 
-results_below : before calling (body calling (return_call 0 ∷ end ∷ [])) (start (Val (null (heap Func)))) 2 ≡ Some (record { frames = []; left = Known (null (heap Func)) ∷ [] })
+results_below : state_before calling (operators calling (return_call 0 ∷ end ∷ [])) (start (Val (null (heap Func)))) 2 ≡ Some (record { frames = []; left = Known (null (heap Func)) ∷ [] })
 results_below = refl
 
-results_above : before calling (body calling (return_call 1 ∷ [])) (start (Val (no_null (heap Func)))) 1 ≡ None
+results_above : state_before calling (operators calling (return_call 1 ∷ [])) (start (Val (no_null (heap Func)))) 1 ≡ None
 results_above = refl

@@ -23,8 +23,8 @@ use Rattle.validate_visit.specs.declared.op.TableOp.TheVariants.{TableGet, Table
 use Rattle.validation_rules.specs.Context.{SubType, ValType, I32, I64, F32, Ref, BlockType, Empty, Val, FuncType, Context}
 use Rattle.validation_rules.specs.Fits.{MaybeType, Known}
 use Rattle.validation_rules.specs.Rows.{Head, Block, Loop, body_head}
-use Rattle.validation_rules.specs.Static.{State, open_state, before, start}
-use Rattle.validation_rules.specs.Operators.{row_operator, plain_row, operator, body}
+use Rattle.validation_rules.specs.Static.{State, open_state, state_before, start}
+use Rattle.validation_rules.specs.Operators.{row_operator, plain_row, operator, operators}
 
 -- ---- a module of six types, two functions, seven tables and five element segments
 
@@ -164,7 +164,7 @@ return_call_ref type = Control (ReturnCallRef type)
 
 -- the state after the whole list
 abbrev after_all : Context → BlockType → List Op → Option State
-after_all c ty ops = before c (body c ops) (start ty) (length ops)
+after_all c ty ops = state_before c (operators c ops) (start ty) (length ops)
 
 -- each of these bodies alone
 abbrev AllRefusedUnder : Context → BlockType → List (List Op) → Type 0

@@ -5,7 +5,7 @@ use Rattle.std.specs.Prelude.{ℕ, suc, Bool, true, false, List, [], ◌∷◌, 
 use Rattle.validation_rules.specs.Branches.{has_label, br_row, br_if_row, br_table_row, return_row}
 use Rattle.validation_rules.specs.Context.{ValType, I32, BlockType, Context, block_signature}
 use Rattle.validation_rules.specs.Rows.{FrameKind, Block, If, Loop, TryTable, LegacyTry, LegacyCatch, LegacyCatchAll, Head, Opens, BeginsElse, BeginsCatch, Ends, Delegates, Clause, Operator}
-use Rattle.validation_rules.specs.Operators.{plain_row, plain_row_if, ending_row, ending_row_if, flat_operator, row_operator, delimiter_operator, opening_operator}
+use Rattle.validation_rules.specs.Operators.{plain_row, plain_row_if, ending_row, ending_row_if, staying_operator, row_operator, delimiter_operator, opening_operator}
 
 -- ---- rows
 
@@ -47,16 +47,16 @@ abbrev pub an_end : Operator
 an_end = delimiter_operator Ends
 
 abbrev pub br : Context → ℕ → Operator
-br cx d = flat_operator (λ hs. br_row cx hs d)
+br cx d = staying_operator (λ hs. br_row cx hs d)
 
 abbrev pub br_if : Context → ℕ → Operator
-br_if cx d = flat_operator (λ hs. br_if_row cx hs d)
+br_if cx d = staying_operator (λ hs. br_if_row cx hs d)
 
 abbrev pub br_table : Context → List ℕ → ℕ → Operator
-br_table cx ds d = flat_operator (λ hs. br_table_row cx hs true ds d)
+br_table cx ds d = staying_operator (λ hs. br_table_row cx hs true ds d)
 
 abbrev pub a_return : Context → Operator
-a_return cx = flat_operator (λ hs. return_row cx hs)
+a_return cx = staying_operator (λ hs. return_row cx hs)
 
 abbrev pub a_try_table : Context → BlockType → List Clause → Operator
 a_try_table cx bt clauses = opening cx TryTable bt clauses
@@ -79,4 +79,4 @@ abbrev pub delegate : ℕ → Operator
 delegate d = record { form = Delegates; row = λ hs. plain_row_if (has_label hs (suc d)) [] [] }
 
 abbrev pub rethrow : ℕ → Operator
-rethrow d = flat_operator (λ hs. ending_row_if (catch_label (drop d hs)) [])
+rethrow d = staying_operator (λ hs. ending_row_if (catch_label (drop d hs)) [])

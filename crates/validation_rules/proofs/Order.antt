@@ -1,17 +1,17 @@
 -- A list whose rows all hold is well ordered: the rows of `else`, `catch`, `catch_all` and `delegate`
 -- ask for the kind of the innermost frame, so type safety needs no premise on the order.
 use Rattle.std.proofs.Common.{◌≡◌, ℕ, Bool, true, List, [], ◌∷◌, length, map, Option, Some, None, refl, sym, ap, ◌∙◌, subst}
-use Rattle.validate_visit.specs.Order.{Nesting, is_ordered_from, nesting, reads_on, control_nesting}
+use Rattle.validate_visit.specs.Order.{Nesting, is_ordered_from, nesting, may_read_on, control_nesting}
 use Rattle.validate_visit.specs.declared.op.Op.{Op}
 use Rattle.validate_visit.specs.declared.op.Op.TheVariants.{Control}
 use Rattle.validate_visit.specs.declared.op.ControlOp.{ControlOp}
 use Rattle.validate_visit.specs.declared.op.ControlOp.TheVariants.{Block as BlockOp, Loop as LoopOp, If as IfOp, Else as ElseOp, End}
 use Rattle.validation_rules.specs.Context.{ValType, I32, BlockType, Context}
 use Rattle.validation_rules.specs.Fits.{MaybeType}
-use Rattle.validation_rules.specs.Rows.{FrameKind, Block, If, Loop, Head, results, is_if, is_try, may_catch, Form, Flat, Opens, BeginsElse, BeginsCatch, Ends, Delegates, Row, Operator}
-use Rattle.validation_rules.specs.Static.{Frame, State, heads, locals_set, pushed_by_form, state_after_exit, state_after, step_in, before, start}
+use Rattle.validation_rules.specs.Rows.{FrameKind, Block, If, Loop, Head, results, is_if, is_try, may_catch, Form, Stays, Opens, BeginsElse, BeginsCatch, Ends, Delegates, Row, Operator}
+use Rattle.validation_rules.specs.Static.{Frame, State, heads, locals_set, pushed_by_form, state_after_exit, state_after, step_in, state_before, start}
 use Rattle.validation_rules.specs.Order.{nesting_of, RowsHold, RowsAreOrdered, BodiesAreOrdered}
-use Rattle.validation_rules.specs.Operators.{checked_block, opener, operator, control_operator, body}
+use Rattle.validation_rules.specs.Operators.{checked_block, opener, operator, control_operator, operators}
 use Rattle.validation_rules.proofs.Below.{and_true, true_and}
 use Rattle.validation_rules.proofs.Steps.{guard_some, and_then_given, stepped}
 
@@ -22,8 +22,8 @@ given_kinds : (left : List MaybeType) (types : List ValType) (fs : List Frame) �
 given_kinds left types [] = refl
 given_kinds left types (f ∷ fs) = refl
 
-order_by : (left : List MaybeType) (cx : Context) (row : Row) (hs : List Head) (set : List ℕ) (f : Frame) (fs : List Frame) (form : Form) (pushed : List MaybeType) (next : List FrameKind → Bool) → pushed_by_form cx row hs set f form ≡ Some pushed → next (kinds (state_after left cx row set f fs form pushed).frames) ≡ true → reads_on f.head.kind (kinds fs) (nesting_of form) next ≡ true
-order_by left cx row hs set f fs Flat pushed next p h = h
+order_by : (left : List MaybeType) (cx : Context) (row : Row) (hs : List Head) (set : List ℕ) (f : Frame) (fs : List Frame) (form : Form) (pushed : List MaybeType) (next : List FrameKind → Bool) → pushed_by_form cx row hs set f form ≡ Some pushed → next (kinds (state_after left cx row set f fs form pushed).frames) ≡ true → may_read_on f.head.kind (kinds fs) (nesting_of form) next ≡ true
+order_by left cx row hs set f fs Stays pushed next p h = h
 order_by left cx row hs set f fs (Opens o) pushed next p h = h
 order_by left cx row hs set f fs BeginsElse pushed next p h =
     true_and _ _ (and_true (is_if f.head.kind) _ (and_true row.premise _ (guard_some _ _ _ p).0).1).0 h
@@ -41,7 +41,7 @@ ordered : (cx : Context) (code : List Operator) (fs : List Frame) (left : List M
 ordered cx [] fs left h = refl
 ordered cx (op ∷ code) [] left h = absurd cc
 ordered cx (op ∷ code) (f ∷ fs) left h =
-    let m = and_then_given (step_in cx op (f ∷ fs) left) (λ v. before cx code v (length code)) _ h.1 in
+    let m = and_then_given (step_in cx op (f ∷ fs) left) (λ v. state_before cx code v (length code)) _ h.1 in
     let st = stepped cx op f fs left m.0 m.1 in
     order_by left cx (op.row (heads (f ∷ fs))) (heads (f ∷ fs)) (locals_set (f ∷ fs)) f fs op.form st.pushed (λ js. is_ordered_from js (nestings code)) st.holds
     (subst (λ (v : State). is_ordered_from (kinds v.frames) (nestings code) ≡ true) st.leaves (ordered cx code m.0.frames m.0.left (h.0, m.2)))
@@ -68,11 +68,11 @@ pub operator_nests : (cx : Context) (op : Op) → nesting_of (operator cx op).fo
 operator_nests cx (Control op) = control_nests cx op
 operator_nests cx _ = refl
 
-body_nests : (cx : Context) (ops : List Op) → nestings (body cx ops) ≡ map nesting ops
+body_nests : (cx : Context) (ops : List Op) → nestings (operators cx ops) ≡ map nesting ops
 body_nests cx [] = refl
 body_nests cx (op ∷ ops) =
-    ap (λ n. n ∷ nestings (body cx ops)) (operator_nests cx op) ∙ ap (λ ns. nesting op ∷ ns) (body_nests cx ops)
+    ap (λ n. n ∷ nestings (operators cx ops)) (operator_nests cx op) ∙ ap (λ ns. nesting op ∷ ns) (body_nests cx ops)
 
 pub bodies_are_ordered : (cx : Context) → BodiesAreOrdered cx
 bodies_are_ordered cx ops ty h =
-    sym (ap (λ ns. is_ordered_from (Block ∷ []) ns) (body_nests cx ops)) ∙ rows_are_ordered cx (body cx ops) ty h
+    sym (ap (λ ns. is_ordered_from (Block ∷ []) ns) (body_nests cx ops)) ∙ rows_are_ordered cx (operators cx ops) ty h

@@ -6,7 +6,7 @@ use Rattle.std.specs.Option.{option_and_then}
 use Rattle.validation_rules.specs.Context.{ValType, Context}
 use Rattle.validation_rules.specs.Fits.{MaybeType, fits, all_fit}
 use Rattle.validation_rules.specs.Rows.{Head, results, guard}
-use Rattle.validation_rules.specs.Static.{Frame, onto, operands_on_top, operands_found, operands_below, may_close}
+use Rattle.validation_rules.specs.Static.{Frame, stack_with, operands_on_top, operands_found, operands_under, may_close}
 use Rattle.validation_rules.specs.Pops.{frame_after_pops, PopsAreWhole}
 
 -- ---- lists turned
@@ -29,16 +29,16 @@ pub drop_none : {A : Type 0} (n : ℕ) → drop {A = A} n [] ≡ []
 drop_none zero = refl
 drop_none (suc n) = refl
 
-pub length-onto : {A : Type 0} (xs ys : List A) → length (onto xs ys) ≡ length xs + length ys
+pub length-onto : {A : Type 0} (xs ys : List A) → length (stack_with xs ys) ≡ length xs + length ys
 length-onto [] ys = omega arith
 length-onto (x ∷ xs) ys = length-onto xs (x ∷ ys) ∙ omega arith
 
-pub onto-reverse : {A : Type 0} (xs ys : List A) → onto xs ys ≡ reverse xs ++ ys
+pub onto-reverse : {A : Type 0} (xs ys : List A) → stack_with xs ys ≡ reverse xs ++ ys
 onto-reverse [] ys = refl
 onto-reverse (x ∷ xs) ys =
     onto-reverse xs (x ∷ ys) ∙ sym (ap (λ l. l ++ ys) (reverse-append (x ∷ []) xs) ∙ append_assoc (reverse xs) (x ∷ []) ys)
 
-pub onto-turned : {A : Type 0} (xs : List A) → onto (reverse xs) [] ≡ xs
+pub onto-turned : {A : Type 0} (xs : List A) → stack_with (reverse xs) [] ≡ xs
 onto-turned xs = onto-reverse (reverse xs) [] ∙ append-nil (reverse (reverse xs)) ∙ reverse-reverse xs
 
 -- ---- what is found on top
@@ -51,17 +51,17 @@ module _ (cx : Context) where
   no_fit (x ∷ xs) [] h = refl
   no_fit (x ∷ xs) (w ∷ ws) h = ap (λ b. fits cx x w && b) (no_fit xs ws (λ e. h (ap suc e))) ∙ and_false (fits cx x w)
 
-  fit_onto : (xs ps : List MaybeType) (ws qs : List ValType) → length ps ≡ length qs → all_fit cx (onto xs ps) (onto ws qs) ≡ all_fit cx xs ws && all_fit cx ps qs
+  fit_onto : (xs ps : List MaybeType) (ws qs : List ValType) → length ps ≡ length qs → all_fit cx (stack_with xs ps) (stack_with ws qs) ≡ all_fit cx xs ws && all_fit cx ps qs
   fit_onto [] ps [] qs h = refl
   fit_onto (x ∷ xs) ps (w ∷ ws) qs h =
       fit_onto xs (x ∷ ps) ws (w ∷ qs) (ap suc h) ∙ and_swap (all_fit cx xs ws) (fits cx x w) (all_fit cx ps qs)
-  fit_onto [] ps (w ∷ ws) qs h = no_fit ps (onto ws (w ∷ qs)) (λ e. omega (arith, h, e, length-onto ws (w ∷ qs)))
-  fit_onto (x ∷ xs) ps [] qs h = no_fit (onto xs (x ∷ ps)) qs (λ e. omega (arith, h, e, length-onto xs (x ∷ ps)))
+  fit_onto [] ps (w ∷ ws) qs h = no_fit ps (stack_with ws (w ∷ qs)) (λ e. omega (arith, h, e, length-onto ws (w ∷ qs)))
+  fit_onto (x ∷ xs) ps [] qs h = no_fit (stack_with xs (x ∷ ps)) qs (λ e. omega (arith, h, e, length-onto xs (x ∷ ps)))
 
   -- the top first on both sides, or the last on top on both
-  pub fit_turned : (xs : List MaybeType) (ws : List ValType) → all_fit cx (onto xs []) ws ≡ all_fit cx xs (reverse ws)
+  pub fit_turned : (xs : List MaybeType) (ws : List ValType) → all_fit cx (stack_with xs []) ws ≡ all_fit cx xs (reverse ws)
   fit_turned xs ws =
-      ap (all_fit cx (onto xs [])) (sym (onto-turned ws))
+      ap (all_fit cx (stack_with xs [])) (sym (onto-turned ws))
       ∙ fit_onto xs [] (reverse ws) [] refl
       ∙ and_true_right (all_fit cx xs (reverse ws))
 
@@ -84,15 +84,15 @@ module _ (cx : Context) where
   pops_in (w ∷ ws) h [] false set = refl
 
   -- a list with the top first
-  pub pops_from_top : (ws : List ValType) (f : Frame) → frame_after_pops cx ws f ≡ guard (all_fit cx (operands_on_top (length ws) f.dead f.operands) ws) (Some (record f { operands = operands_below (length ws) f }))
+  pub pops_from_top : (ws : List ValType) (f : Frame) → frame_after_pops cx ws f ≡ guard (all_fit cx (operands_on_top (length ws) f.dead f.operands) ws) (Some (record f { operands = operands_under (length ws) f }))
   pops_from_top ws f = pops_in ws f.head f.operands f.dead f.first_set
 
   -- a row's wanted list, whose last lies on top and is popped first
   pub pops_whole : PopsAreWhole cx
   pops_whole wanted f =
       pops_from_top (reverse wanted) f
-      ∙ ap (λ n. guard (all_fit cx (operands_on_top n f.dead f.operands) (reverse wanted)) (Some (record f { operands = operands_below n f }))) (length-reverse wanted)
-      ∙ ap (λ b. guard b (Some (record f { operands = operands_below (length wanted) f }))) (sym (fit_turned (operands_on_top (length wanted) f.dead f.operands) wanted))
+      ∙ ap (λ n. guard (all_fit cx (operands_on_top n f.dead f.operands) (reverse wanted)) (Some (record f { operands = operands_under n f }))) (length-reverse wanted)
+      ∙ ap (λ b. guard b (Some (record f { operands = operands_under (length wanted) f }))) (sym (fit_turned (operands_on_top (length wanted) f.dead f.operands) wanted))
 
 -- ---- nothing left below
 
@@ -106,6 +106,6 @@ few_left (x ∷ xs) zero = leb-suc-zero (length xs)
 few_left (x ∷ xs) (suc n) = leb-suc-suc (length xs) n ∙ few_left xs n
 
 -- a frame closes where its results are found and nothing is left below them
-pub closes_whole : (cx : Context) (f : Frame) → may_close cx f ≡ is_empty (operands_below (length (results cx f.head)) f) && all_fit cx (operands_found (length (results cx f.head)) f) (results cx f.head)
+pub closes_whole : (cx : Context) (f : Frame) → may_close cx f ≡ is_empty (operands_under (length (results cx f.head)) f) && all_fit cx (operands_found (length (results cx f.head)) f) (results cx f.head)
 closes_whole cx f =
     ap (λ b. b && all_fit cx (operands_found (length (results cx f.head)) f) (results cx f.head)) (few_left f.operands (length (results cx f.head)))

@@ -6,7 +6,7 @@ use Rattle.std.specs.Option.{option_and_then}
 use Rattle.validation_rules.specs.Context.{ValType, Context}
 use Rattle.validation_rules.specs.Fits.{MaybeType, Known, all_fit}
 use Rattle.validation_rules.specs.Rows.{Head, params, results, Form, Row, Operator, guard}
-use Rattle.validation_rules.specs.Static.{Frame, State, heads, locals_set, pushed_types, state_after_exit, state_after, state_if_pushed, step, step_in, before}
+use Rattle.validation_rules.specs.Static.{Frame, State, heads, locals_set, pushed_types, state_after_exit, state_after, state_if_pushed, step, step_in, state_before}
 
 -- ---- what an operator of a body leaves, of which nothing is left yet
 
@@ -71,16 +71,16 @@ stepped cx op f fs left u h =
     let e = then_after_some left cx (op.row (heads (f ∷ fs))) (locals_set (f ∷ fs)) f fs op.form (pushed_types cx op (heads (f ∷ fs)) (locals_set (f ∷ fs)) f) u h in
     record { pushed = e.0; holds = e.1; leaves = e.2 }
 
-pub before_next : (cx : Context) (code : List Operator) (s : State) (k : ℕ) (op : Operator) (t u : State) → before cx code s k ≡ Some t → slice_get code k ≡ Some op → step cx op t ≡ Some u → before cx code s (suc k) ≡ Some u
+pub before_next : (cx : Context) (code : List Operator) (s : State) (k : ℕ) (op : Operator) (t u : State) → state_before cx code s k ≡ Some t → slice_get code k ≡ Some op → step cx op t ≡ Some u → state_before cx code s (suc k) ≡ Some u
 before_next cx [] s k op t u b g h = absurd cc
 before_next cx (x ∷ code) s zero op t u b g h =
     let e : s ≡ t = cc in
     let d : x ≡ op = cc in
     let same : step cx x s ≡ step cx op t = ap (λ o. step cx o s) d ∙ ap (λ (v : State). step cx op v) e in
-    ap (λ o. option_and_then (λ v. before cx code v zero) o) (same ∙ h)
+    ap (λ o. option_and_then (λ v. state_before cx code v zero) o) (same ∙ h)
 before_next cx (x ∷ code) s (suc k) op t u b g h =
-    let m = and_then_given (step cx x s) (λ v. before cx code v k) t b in
-    ap (λ o. option_and_then (λ v. before cx code v (suc k)) o) m.1 ∙ before_next cx code m.0 k op t u m.2 g h
+    let m = and_then_given (step cx x s) (λ v. state_before cx code v k) t b in
+    ap (λ o. option_and_then (λ v. state_before cx code v (suc k)) o) m.1 ∙ before_next cx code m.0 k op t u m.2 g h
 
 -- ---- lists by their ends
 
@@ -97,26 +97,26 @@ and_then_twice None f g = refl
 and_then_twice (Some x) f g = refl
 
 -- one place further, whether or not the row there holds
-pub before_then : (cx : Context) (code : List Operator) (s : State) (k : ℕ) (op : Operator) (t : State) → before cx code s k ≡ Some t → slice_get code k ≡ Some op → before cx code s (suc k) ≡ step cx op t
+pub before_then : (cx : Context) (code : List Operator) (s : State) (k : ℕ) (op : Operator) (t : State) → state_before cx code s k ≡ Some t → slice_get code k ≡ Some op → state_before cx code s (suc k) ≡ step cx op t
 before_then cx [] s k op t b g = absurd cc
 before_then cx (x ∷ code) s zero op t b g =
     let e : s ≡ t = cc in
     let d : x ≡ op = cc in
     and_then_some (step cx x s) ∙ ap (λ o. step cx o s) d ∙ ap (λ (v : State). step cx op v) e
 before_then cx (x ∷ code) s (suc k) op t b g =
-    let m = and_then_given (step cx x s) (λ v. before cx code v k) t b in
-    ap (λ o. option_and_then (λ v. before cx code v (suc k)) o) m.1 ∙ before_then cx code m.0 k op t m.2 g
+    let m = and_then_given (step cx x s) (λ v. state_before cx code v k) t b in
+    ap (λ o. option_and_then (λ v. state_before cx code v (suc k)) o) m.1 ∙ before_then cx code m.0 k op t m.2 g
 
 -- what follows doesn't change the state before a place
-pub before_append : (cx : Context) (code more : List Operator) (s : State) (k : ℕ) → k ≤ length code → before cx (code ++ more) s k ≡ before cx code s k
+pub before_append : (cx : Context) (code more : List Operator) (s : State) (k : ℕ) → k ≤ length code → state_before cx (code ++ more) s k ≡ state_before cx code s k
 before_append cx code more s zero h = refl
 before_append cx [] more s (suc k) h = absurd (omega (arith, h))
 before_append cx (x ∷ code) more s (suc k) h =
-    and_then_each (step cx x s) (λ v. before cx (code ++ more) v k) (λ v. before cx code v k) (λ v. before_append cx code more v k (omega (arith, h)))
+    and_then_each (step cx x s) (λ v. state_before cx (code ++ more) v k) (λ v. state_before cx code v k) (λ v. before_append cx code more v k (omega (arith, h)))
 
 -- a list with one more operator at its end
-pub before_last : (cx : Context) (code : List Operator) (op : Operator) (s : State) → before cx (code ++ op ∷ []) s (suc (length code)) ≡ option_and_then (step cx op) (before cx code s (length code))
+pub before_last : (cx : Context) (code : List Operator) (op : Operator) (s : State) → state_before cx (code ++ op ∷ []) s (suc (length code)) ≡ option_and_then (step cx op) (state_before cx code s (length code))
 before_last cx [] op s = and_then_some (step cx op s)
 before_last cx (x ∷ code) op s =
-    and_then_each (step cx x s) (λ v. before cx (code ++ op ∷ []) v (suc (length code))) (λ v. option_and_then (step cx op) (before cx code v (length code))) (λ v. before_last cx code op v)
-    ∙ sym (and_then_twice (step cx x s) (λ v. before cx code v (length code)) (step cx op))
+    and_then_each (step cx x s) (λ v. state_before cx (code ++ op ∷ []) v (suc (length code))) (λ v. option_and_then (step cx op) (state_before cx code v (length code))) (λ v. before_last cx code op v)
+    ∙ sym (and_then_twice (step cx x s) (λ v. state_before cx code v (length code)) (step cx op))

@@ -1,18 +1,18 @@
 -- Every step keeps the state valid.
-use Rattle.std.proofs.Common.{◌≡◌, ℕ, zero, suc, pred, Bool, true, false, not, ◌&&◌, ◌||◌, List, [], ◌∷◌, ◌++◌, length, map, drop, Option, Some, None, refl, sym, ap, ◌∙◌, if◌then◌else◌, subst, slice_get}
+use Rattle.std.proofs.Common.{◌≡◌, ℕ, zero, suc, pred, Bool, true, false, not, ◌&&◌, ◌||◌, List, [], ◌∷◌, ◌++◌, length, map, drop, Option, Some, None, refl, sym, ap, ◌∙◌, if◌then◌else◌, subst, slice_get, is_some, unwrap_or}
 use Rattle.std.specs.List.{AllByRecursion, list_all}
 use Rattle.std.specs.Option.{option_map}
 use Rattle.std.specs.Option.{option_and_then}
 use Rattle.validate_types.specs.Features.{has, multi_value}
 use Rattle.validate_types.specs.Gates.{is_open}
-use Rattle.validate_types.specs.Types.{index_type, table_index_type}
+use Rattle.validate_types.specs.Types.{address_type_of_memory, address_type_of_table}
 use Rattle.validate_types.specs.declared.gate.Gate.{Gate}
 use Rattle.validate_types.specs.declared.types.GlobalType.{GlobalType}
 use Rattle.validate_types.specs.declared.types.MemoryType.{MemoryType}
 use Rattle.validate_types.specs.declared.types.TableType.{TableType}
 use Rattle.validate_types.specs.declared.refs.RefType.{RefType}
 use Rattle.validate_types.specs.declared.heap.HeapType.{HeapType}
-use Rattle.validate_resources.specs.Context.{IsLawful, Valid, is_number}
+use Rattle.validate_resources.specs.Context.{IsLawful, IsValidType, Valid, is_number_or_vector, signature_of}
 use Rattle.validate_visit.specs.Gates.{gate_of}
 use Rattle.validate_visit.specs.Numbers.{number_type, integer_type, float_type, packed_type, access_type}
 use Rattle.validate_visit.specs.declared.memory.AtomicAccess.{AtomicAccess}
@@ -42,16 +42,16 @@ use Rattle.validate_visit.specs.declared.op.ReferenceOp.TheVariants.{RefNull, Re
 use Rattle.validate_visit.specs.declared.op.TableOp.{TableOp}
 use Rattle.validate_visit.specs.declared.op.TableOp.TheVariants.{TableGet, TableSet, TableGrow, TableSize, TableFill, TableInit, ElemDrop, TableCopy}
 use Rattle.validation_rules.specs.Access.{memory_address_type, address_types, atomic_address_types, access_row, memory_copy_row_for}
-use Rattle.validation_rules.specs.Context.{ModuleContext, Signature, SubType, ValType, I32, I64, F32, F64, V128, Ref, BlockType, Empty, Val, FuncType, Context, block_signature, declared_signature}
+use Rattle.validation_rules.specs.Context.{ModuleContext, Signature, SubType, ValType, I32, I64, F32, F64, V128, Ref, BlockType, Empty, Val, FuncType, Context, empty_signature, block_signature}
 use Rattle.validation_rules.specs.Branches.{first_label_types, label_types_at}
 use Rattle.validation_rules.specs.Calls.{may_access, accessible_global, global_type, accessible_signature, callee, tail_call_row}
 use Rattle.validation_rules.specs.Indirect.{function_place, function_reference, typed_callee}
-use Rattle.validation_rules.specs.References.{without_null, null_test_pushes, non_null_pushes, br_on_null_row, last_reference, br_on_non_null_row_for, br_on_non_null_row, null_heap, is_null_gate_open, reference_row}
+use Rattle.validation_rules.specs.References.{operand_without_null, null_test_pushes, non_null_pushes, br_on_null_row, last_reference, br_on_non_null_row_for, br_on_non_null_row, null_heap, is_null_gate_open, reference_row}
 use Rattle.validation_rules.specs.Tables.{accessible_table, table_type, table_init_row_for, table_copy_row_for, table_row}
 use Rattle.validation_rules.specs.Fits.{MaybeType, Bottom, UnknownRef, Known, fits}
-use Rattle.validation_rules.specs.Rows.{FrameKind, Block, If, Loop, is_loop, Head, params, results, Form, Flat, Opens, BeginsElse, BeginsCatch, Ends, Delegates, Plain, Row, Operator, pushed_for, operands_wanted, guard}
-use Rattle.validation_rules.specs.Static.{Frame, State, heads, locals_set, onto, operands_on_top, operands_found, operands_below, pushed_by_form, pushed_by_row, operands_after, state_after_exit, state_after, step, step_in, before}
-use Rattle.validation_rules.specs.Operators.{plain_row, plain_row_if, may_access_type, checked_block, opener, flat_operator, row_operator, delimiter_operator, looking_row_if, drop_pushes, select_result, select_pushes, lookup_row, gated_operator, control_operator, numeric_row, convert_row, memory_row, atomic_row, ungated, operator, body}
+use Rattle.validation_rules.specs.Rows.{FrameKind, Block, If, Loop, is_loop, Head, params, results, Form, Stays, Opens, BeginsElse, BeginsCatch, Ends, Delegates, Plain, Row, Operator, pushed_for, operands_wanted, guard}
+use Rattle.validation_rules.specs.Static.{Frame, State, heads, locals_set, stack_with, operands_on_top, operands_found, operands_under, pushed_by_form, pushed_by_row, operands_after, state_after_exit, state_after, step, step_in, state_before}
+use Rattle.validation_rules.specs.Operators.{plain_row, plain_row_if, is_accessible_func_type, checked_block, opener, staying_operator, row_operator, delimiter_operator, looking_row_if, drop_pushes, select_result, select_pushes, lookup_row, gated_operator, control_operator, numeric_row, convert_row, memory_row, atomic_row, ungated_operator, operator, operators}
 use Rattle.validation_rules.specs.Valid.{IsValidOperand, Resolves, IsValidBlock, IsValidFrame, IsValidStateIn, RowsKeepValid}
 use Rattle.validation_rules.proofs.Keeping.{HeadIsValid, PushesValid, StepsKeepValid}
 use Rattle.validation_rules.proofs.Below.{and_true}
@@ -59,7 +59,7 @@ use Rattle.validation_rules.proofs.Steps.{label_by, some_injective, guard_some, 
 
 -- ---- lists
 
-pub all_onto : {A : Type 0} (P : A → Type 0) (xs ys : List A) → AllByRecursion P xs → AllByRecursion P ys → AllByRecursion P (onto xs ys)
+pub all_onto : {A : Type 0} (P : A → Type 0) (xs ys : List A) → AllByRecursion P xs → AllByRecursion P ys → AllByRecursion P (stack_with xs ys)
 all_onto P [] ys h k = k
 all_onto P (x ∷ xs) ys h k = all_onto P xs (x ∷ ys) h.1 (h.0, k)
 
@@ -83,13 +83,22 @@ module _ (md : ModuleContext) where
   pub found_valid : (n : ℕ) (f : Frame) → AllByRecursion (IsValidOperand md) f.operands → AllByRecursion (IsValidOperand md) (operands_found n f)
   found_valid n f h = all_onto (IsValidOperand md) (operands_on_top n f.dead f.operands) [] (on_top_valid n f.dead f.operands h) tt
 
-  declared_params : IsLawful md → (i : ℕ) (o : Option SubType) → md.type_at i ≡ o → AllByRecursion (Valid md) (declared_signature o).params
-  declared_params laws i None e = tt
-  declared_params laws i (Some s) e = (laws.types i s e).params
+  -- what a type takes and gives, if it is one of functions, is valid; nothing is
+  params_of_valid : (s : SubType) → IsValidType md s → (o : Option Signature) → signature_of s ≡ o → AllByRecursion (Valid md) (unwrap_or o empty_signature).params
+  params_of_valid s v None e = tt
+  params_of_valid s v (Some f) e = v.params f e
 
-  declared_results : IsLawful md → (i : ℕ) (o : Option SubType) → md.type_at i ≡ o → AllByRecursion (Valid md) (declared_signature o).results
+  results_of_valid : (s : SubType) → IsValidType md s → (o : Option Signature) → signature_of s ≡ o → AllByRecursion (Valid md) (unwrap_or o empty_signature).results
+  results_of_valid s v None e = tt
+  results_of_valid s v (Some f) e = v.results f e
+
+  declared_params : IsLawful md → (i : ℕ) (o : Option SubType) → md.type_at i ≡ o → AllByRecursion (Valid md) (unwrap_or (option_and_then signature_of o) empty_signature).params
+  declared_params laws i None e = tt
+  declared_params laws i (Some s) e = params_of_valid s (laws.types i s e) (signature_of s) refl
+
+  declared_results : IsLawful md → (i : ℕ) (o : Option SubType) → md.type_at i ≡ o → AllByRecursion (Valid md) (unwrap_or (option_and_then signature_of o) empty_signature).results
   declared_results laws i None e = tt
-  declared_results laws i (Some s) e = (laws.types i s e).results
+  declared_results laws i (Some s) e = results_of_valid s (laws.types i s e) (signature_of s) refl
 
   -- what a block type stands for is valid
   pub params_valid : IsLawful md → (shared : Bool) (bt : BlockType) → IsValidBlock md shared bt → AllByRecursion (Valid md) (block_signature md bt).params
@@ -126,7 +135,7 @@ module _ (cx : Context) (laws : IsLawful cx.of_module) where
   own_valid true below pushed b p = tt
   own_valid false below pushed b p = all_onto (IsValidOperand cx.of_module) pushed below p b
 
-  opened_valid : (types : List ValType) → AllByRecursion (Valid cx.of_module) types → Operands (onto (map Known types) [])
+  opened_valid : (types : List ValType) → AllByRecursion (Valid cx.of_module) types → Operands (stack_with (map Known types) [])
   opened_valid types t = all_onto (IsValidOperand cx.of_module) (map Known types) [] (all_known cx.of_module types t) tt
 
   -- what a row that holds gave: its premise, and its operands
@@ -137,12 +146,12 @@ module _ (cx : Context) (laws : IsLawful cx.of_module) where
   closing_premise premise rest pushed p = (and_true premise rest (guard_some _ _ _ p).0).0
 
   after_valid : (op : Operator) → PushesValid cx op → (left : List MaybeType) (f : Frame) (fs : List Frame) (form : Form) → op.form ≡ form → (pushed : List MaybeType) → Frames (f ∷ fs) → Operands left → pushed_by_form cx (op.row (heads (f ∷ fs))) (heads (f ∷ fs)) (locals_set (f ∷ fs)) f form ≡ Some pushed → Both (state_after left cx (op.row (heads (f ∷ fs))) (locals_set (f ∷ fs)) f fs form pushed)
-  after_valid op v left f fs Flat e pushed h k p =
+  after_valid op v left f fs Stays e pushed h k p =
       let r = op.row (heads (f ∷ fs)) in
       let g = by_premise r (heads (f ∷ fs)) (locals_set (f ∷ fs)) f pushed p in
       let n = operands_wanted r.type in
       let q = v.pushed (heads (f ∷ fs)) (operands_found n f) pushed g.0 (heads_valid (f ∷ fs) h) (found_valid cx.of_module n f h.0.operands) g.1 in
-      ((record { block = h.0.block; operands = own_valid r.ends_live (operands_below n f) pushed (all_drop (IsValidOperand cx.of_module) n f.operands h.0.operands) q }, h.1), k)
+      ((record { block = h.0.block; operands = own_valid r.ends_live (operands_under n f) pushed (all_drop (IsValidOperand cx.of_module) n f.operands h.0.operands) q }, h.1), k)
   after_valid op v left f fs (Opens o) e pushed h k p =
       let r = op.row (heads (f ∷ fs)) in
       let g = by_premise r (heads (f ∷ fs)) (locals_set (f ∷ fs)) f pushed p in
@@ -231,7 +240,7 @@ module _ (cx : Context) (laws : IsLawful cx.of_module) where
   selects_valid (a ∷ b ∷ c ∷ d ∷ xs) pushed v h = absurd cc
 
   -- an operator whose row is plain and depends on the open frames, where what it pushes is valid
-  flat_valid : (row : List Head → Row) (wanted push : List Head → List ValType) (also : List Head → List (List ValType)) → ((hs : List Head) → (row hs).type ≡ Plain (wanted hs) (also hs) (push hs)) → ((hs : List Head) → AllByRecursion (HeadIsValid cx) hs → AllByRecursion (Valid cx.of_module) (push hs)) → PushesValid cx (flat_operator row)
+  flat_valid : (row : List Head → Row) (wanted push : List Head → List ValType) (also : List Head → List (List ValType)) → ((hs : List Head) → (row hs).type ≡ Plain (wanted hs) (also hs) (push hs)) → ((hs : List Head) → AllByRecursion (HeadIsValid cx) hs → AllByRecursion (Valid cx.of_module) (push hs)) → PushesValid cx (staying_operator row)
   flat_valid row wanted push also is h =
       record {
         pushed = λ hs xs pushed p v f g.
@@ -267,18 +276,20 @@ module _ (cx : Context) (laws : IsLawful cx.of_module) where
   shared_by true b h e = h
   shared_by false b h e = absurd cc
 
-  named_resolves : (i : ℕ) (o : Option SubType) → cx.of_module.type_at i ≡ o → may_access_type cx o ≡ true → Resolves cx.of_module cx.shared i
-  named_resolves i (Some s) e h = record { type = s; is_there = e; is_shared = shared_by cx.shared s.composite_type.shared h }
+  named_resolves : (i : ℕ) (o : Option SubType) → cx.of_module.type_at i ≡ o → is_accessible_func_type cx o ≡ true → Resolves cx.of_module cx.shared i
+  named_resolves i (Some s) e h =
+      let p = and_true (is_some (signature_of s)) _ h in
+      record { type = s; is_there = e; is_func = p.0; is_shared = shared_by cx.shared s.composite_type.shared p.1 }
   named_resolves i None e h = absurd cc
 
-  value_valid : (t : ValType) (o : Option ValType) → cx.of_module.canonical cx.features t ≡ o → (bt : BlockType) → option_map (λ u. Val u) o ≡ Some bt → IsValidBlock cx.of_module cx.shared bt
+  value_valid : (t : ValType) (o : Option ValType) → cx.of_module.canonical_type cx.features t ≡ o → (bt : BlockType) → option_map (λ u. Val u) o ≡ Some bt → IsValidBlock cx.of_module cx.shared bt
   value_valid t (Some u) e bt h = subst (λ b. IsValidBlock cx.of_module cx.shared b) (some_injective _ _ h) (laws.checked cx.features t u e)
   value_valid t None e bt h = absurd cc
 
   -- a block type that passed its check
   pub checked_valid : (declared bt : BlockType) → checked_block cx declared ≡ Some bt → IsValidBlock cx.of_module cx.shared bt
   checked_valid Empty bt h = subst (λ b. IsValidBlock cx.of_module cx.shared b) (some_injective _ _ h) tt
-  checked_valid (Val t) bt h = value_valid t (cx.of_module.canonical cx.features t) refl bt h
+  checked_valid (Val t) bt h = value_valid t (cx.of_module.canonical_type cx.features t) refl bt h
   checked_valid (FuncType i) bt h =
       let g = guard_some _ _ _ h in
       subst (λ b. IsValidBlock cx.of_module cx.shared b) (some_injective _ _ g.1) (named_resolves i (cx.of_module.type_at i) refl (and_true (has cx.features multi_value) _ g.0).1)
@@ -312,7 +323,7 @@ module _ (cx : Context) (laws : IsLawful cx.of_module) where
       let b = and_then_given (option_and_then cx.of_module.type_at (cx.of_module.type_index_of f)) (accessible_signature cx) s e in
       let i = and_then_given (cx.of_module.type_index_of f) cx.of_module.type_at b.0 b.1 in
       let k = guard_some (may_access cx b.0.composite_type.shared) _ _ b.2 in
-      subst (λ (t : Signature). AllByRecursion (Valid cx.of_module) t.results) (some_injective _ _ k.1) (laws.types i.0 b.0 i.2).results
+      (laws.types i.0 b.0 i.2).results s k.1
 
   global_get_valid : (i : ℕ) (o : Option GlobalType) → global_type cx i ≡ o → PushesValid cx (row_operator (lookup_row o (λ g. plain_row [] (g.content_type ∷ []))))
   global_get_valid i None e = plain_valid _ _ _ _ _ _ (λ p. tt)
@@ -326,7 +337,7 @@ module _ (cx : Context) (laws : IsLawful cx.of_module) where
   call_valid f None e = plain_valid _ _ _ _ [] _ (λ p. tt)
   call_valid f (Some s) e = plain_valid _ _ _ _ s.results _ (λ p. signature_valid f s e)
 
-  return_call_valid : (o : Option Signature) → PushesValid cx (flat_operator (λ hs. lookup_row o (λ s. tail_call_row cx hs s.params s.results)))
+  return_call_valid : (o : Option Signature) → PushesValid cx (staying_operator (λ hs. lookup_row o (λ s. tail_call_row cx hs s.params s.results)))
   return_call_valid None = flat_valid _ (λ hs. []) (λ hs. []) (λ hs. []) (λ hs. refl) (λ hs v. tt)
   return_call_valid (Some s) = flat_valid _ (λ hs. s.params) (λ hs. []) (λ hs. []) (λ hs. refl) (λ hs v. tt)
 
@@ -336,14 +347,14 @@ module _ (cx : Context) (laws : IsLawful cx.of_module) where
   typed_signature_valid i s e =
       let b = and_then_given (cx.of_module.type_at i) (accessible_signature cx) s e in
       let k = guard_some (may_access cx b.0.composite_type.shared) _ _ b.2 in
-      subst (λ (t : Signature). AllByRecursion (Valid cx.of_module) t.results) (some_injective _ _ k.1) (laws.types i b.0 b.1).results
+      (laws.types i b.0 b.1).results s k.1
 
   call_by_valid : (names : Option ValType) (i : ℕ) (o : Option Signature) → typed_callee cx i ≡ o → PushesValid cx (row_operator (lookup_row names (λ t. lookup_row o (λ s. plain_row (s.params ++ t ∷ []) s.results))))
   call_by_valid None i o e = plain_valid _ None None [] [] false (λ p. tt)
   call_by_valid (Some t) i None e = plain_valid _ None None [] [] false (λ p. tt)
   call_by_valid (Some t) i (Some s) e = plain_valid _ None None _ s.results false (λ p. typed_signature_valid i s e)
 
-  return_call_by_valid : (names : Option ValType) (o : Option Signature) → PushesValid cx (flat_operator (λ hs. lookup_row names (λ t. lookup_row o (λ s. tail_call_row cx hs (s.params ++ t ∷ []) s.results))))
+  return_call_by_valid : (names : Option ValType) (o : Option Signature) → PushesValid cx (staying_operator (λ hs. lookup_row names (λ t. lookup_row o (λ s. tail_call_row cx hs (s.params ++ t ∷ []) s.results))))
   return_call_by_valid None o = flat_valid _ (λ hs. []) (λ hs. []) (λ hs. []) (λ hs. refl) (λ hs v. tt)
   return_call_by_valid (Some t) None = flat_valid _ (λ hs. []) (λ hs. []) (λ hs. []) (λ hs. refl) (λ hs v. tt)
   return_call_by_valid (Some t) (Some s) = flat_valid _ (λ hs. s.params ++ t ∷ []) (λ hs. []) (λ hs. []) (λ hs. refl) (λ hs v. tt)
@@ -370,7 +381,7 @@ module _ (cx : Context) (laws : IsLawful cx.of_module) where
   control_valid Drop l = looks_valid true 1 drop_pushes drops_valid
   control_valid Select l = looks_valid true 3 (select_pushes cx) selects_valid
   control_valid (TypedSelect t) l =
-      typed_valid true (cx.of_module.canonical cx.features t) None None (λ u. u ∷ u ∷ I32 ∷ []) (λ u. u ∷ []) (λ u e. (laws.checked cx.features t u e, tt))
+      typed_valid true (cx.of_module.canonical_type cx.features t) None None (λ u. u ∷ u ∷ I32 ∷ []) (λ u. u ∷ []) (λ u e. (laws.checked cx.features t u e, tt))
   control_valid (TypedSelectMulti ts) l = plain_valid _ _ _ _ [] _ (λ p. tt)
   control_valid (LocalGet i) l = typed_valid true (slice_get cx.locals i) (Some i) None (λ t. []) (λ t. t ∷ []) (λ t e. (get_valid cx.locals i t l e, tt))
   control_valid (LocalSet i) l = typed_valid true (slice_get cx.locals i) None (Some i) (λ t. t ∷ []) (λ t. []) (λ t e. tt)
@@ -379,7 +390,7 @@ module _ (cx : Context) (laws : IsLawful cx.of_module) where
   control_valid (GlobalSet i) l = global_set_valid (global_type cx i)
 
   -- a number or vector type has no index
-  number_valid : (t : ValType) → is_number t ≡ true → Valid cx.of_module t
+  number_valid : (t : ValType) → is_number_or_vector t ≡ true → Valid cx.of_module t
   number_valid (Ref r) h = absurd cc
   number_valid I32 h = refl
   number_valid I64 h = refl
@@ -388,16 +399,16 @@ module _ (cx : Context) (laws : IsLawful cx.of_module) where
   number_valid V128 h = refl
 
   -- a list of numbers
-  numbers_valid : (ts : List ValType) → list_all is_number ts ≡ true → AllByRecursion (Valid cx.of_module) ts
+  numbers_valid : (ts : List ValType) → list_all is_number_or_vector ts ≡ true → AllByRecursion (Valid cx.of_module) ts
   numbers_valid [] h = tt
   numbers_valid (t ∷ ts) h =
-      let a = and_true (is_number t) _ h in
+      let a = and_true (is_number_or_vector t) _ h in
       (number_valid t a.0, numbers_valid ts a.1)
 
-  numbers_pushed : (premise : Bool) (reads sets : Option ℕ) (wanted push : List ValType) (dead : Bool) → list_all is_number push ≡ true → PushesValid cx (row_operator (record { premise = premise; reads = reads; type = Plain wanted [] push; sets = sets; targets = []; clauses = []; ends_live = dead }))
+  numbers_pushed : (premise : Bool) (reads sets : Option ℕ) (wanted push : List ValType) (dead : Bool) → list_all is_number_or_vector push ≡ true → PushesValid cx (row_operator (record { premise = premise; reads = reads; type = Plain wanted [] push; sets = sets; targets = []; clauses = []; ends_live = dead }))
   numbers_pushed premise reads sets wanted push dead h = plain_valid premise reads sets wanted push dead (λ p. numbers_valid push h)
 
-  address_is_number : (has_64_bits : Bool) → is_number (if has_64_bits then I64 else I32) ≡ true
+  address_is_number : (has_64_bits : Bool) → is_number_or_vector (if has_64_bits then I64 else I32) ≡ true
   address_is_number true = refl
   address_is_number false = refl
 
@@ -451,9 +462,9 @@ module _ (cx : Context) (laws : IsLawful cx.of_module) where
   index_valid : (m : ℕ) (t : ValType) → memory_address_type cx.of_module m ≡ Some t → Valid cx.of_module t
   index_valid m t e = by (cx.of_module.memory_at m) refl e
     where
-      by : (o : Option MemoryType) → cx.of_module.memory_at m ≡ o → option_map index_type o ≡ Some t → Valid cx.of_module t
+      by : (o : Option MemoryType) → cx.of_module.memory_at m ≡ o → option_map address_type_of_memory o ≡ Some t → Valid cx.of_module t
       by None k h = absurd cc
-      by (Some ty) k h = subst (Valid cx.of_module) (some_injective _ _ h) (number_valid (index_type ty) (address_is_number ty.memory64))
+      by (Some ty) k h = subst (Valid cx.of_module) (some_injective _ _ h) (number_valid (address_type_of_memory ty) (address_is_number ty.memory64))
 
   -- accesses push what they read, if anything
   access_valid : (o : Option (List ValType)) (above push : List ValType) → AllByRecursion (Valid cx.of_module) push → PushesValid cx (row_operator (access_row o above push))
@@ -485,20 +496,20 @@ module _ (cx : Context) (laws : IsLawful cx.of_module) where
 
   -- ---- references
 
-  pub without_null_valid : (x y : MaybeType) → IsValidOperand cx.of_module x → without_null x ≡ Some y → IsValidOperand cx.of_module y
+  pub without_null_valid : (x y : MaybeType) → IsValidOperand cx.of_module x → operand_without_null x ≡ Some y → IsValidOperand cx.of_module y
   without_null_valid Bottom y v e = subst (IsValidOperand cx.of_module) (some_injective _ _ e) tt
   without_null_valid (UnknownRef a) y v e = subst (IsValidOperand cx.of_module) (some_injective _ _ e) tt
   without_null_valid (Known (Ref r)) y v e = subst (IsValidOperand cx.of_module) (some_injective _ _ e) v
   without_null_valid (Known _) y v e = absurd cc
 
   is_null_valid : (xs pushed : List MaybeType) → Operands xs → null_test_pushes xs ≡ Some pushed → Operands pushed
-  is_null_valid (x ∷ []) pushed v e = subst Operands (mapped_some _ (without_null x) pushed e).2 (refl, tt)
+  is_null_valid (x ∷ []) pushed v e = subst Operands (mapped_some _ (operand_without_null x) pushed e).2 (refl, tt)
   is_null_valid [] pushed v e = absurd cc
   is_null_valid (x ∷ y ∷ xs) pushed v e = absurd cc
 
   non_null_above_valid : (ts : List ValType) → AllByRecursion (Valid cx.of_module) ts → (xs pushed : List MaybeType) → Operands xs → non_null_pushes cx ts xs ≡ Some pushed → Operands pushed
   non_null_above_valid [] h (x ∷ []) pushed v e =
-      let m = mapped_some _ (without_null x) pushed e in
+      let m = mapped_some _ (operand_without_null x) pushed e in
       subst Operands m.2 (without_null_valid x m.0 v.0 m.1, tt)
   non_null_above_valid [] h [] pushed v e = absurd cc
   non_null_above_valid [] h (x ∷ y ∷ xs) pushed v e = absurd cc
@@ -524,7 +535,7 @@ module _ (cx : Context) (laws : IsLawful cx.of_module) where
       subst (λ (q : List ValType × RefType). Valid cx.of_module (Ref q.1)) m.2 (last_valid (u ∷ ts) m.0 h.1 m.1)
   last_valid (t ∷ []) p h e = absurd cc
 
-  br_on_null_valid : (d : ℕ) → PushesValid cx (flat_operator (λ hs. br_on_null_row cx hs d))
+  br_on_null_valid : (d : ℕ) → PushesValid cx (staying_operator (λ hs. br_on_null_row cx hs d))
   br_on_null_valid d =
       record {
         pushed = λ hs xs pushed p v f g. non_null_above_valid (label_types_at cx hs d) (label_at_valid hs d v) xs pushed f g;
@@ -532,7 +543,7 @@ module _ (cx : Context) (laws : IsLawful cx.of_module) where
         begun = λ hs all types p e. absurd cc;
       }
 
-  br_on_non_null_valid : (d : ℕ) → PushesValid cx (flat_operator (λ hs. br_on_non_null_row cx hs d))
+  br_on_non_null_valid : (d : ℕ) → PushesValid cx (staying_operator (λ hs. br_on_non_null_row cx hs d))
   br_on_non_null_valid d =
       record {
         pushed = λ hs xs pushed p v f g. by hs xs pushed (label_at_valid hs d v) (last_reference (label_types_at cx hs d)) refl g;
@@ -545,12 +556,12 @@ module _ (cx : Context) (laws : IsLawful cx.of_module) where
       by hs xs pushed v (Some p) k g =
           subst Operands (some_injective _ _ (guard_some _ _ _ g).1) (all_known cx.of_module p.0 (before_last_valid (label_types_at cx hs d) p v k))
 
-  null_valid : (h : HeapType) → PushesValid cx (flat_operator (λ hs. reference_row cx hs (RefNull h)))
+  null_valid : (h : HeapType) → PushesValid cx (staying_operator (λ hs. reference_row cx hs (RefNull h)))
   null_valid h =
       by_lookup_valid (null_heap cx h) _
       (λ k e. plain_valid _ _ _ _ _ _ (λ p. (laws.checked_heap h k (guard_some (is_null_gate_open cx h) _ _ e).1, tt)))
 
-  reference_valid : (op : ReferenceOp) → PushesValid cx (flat_operator (λ hs. reference_row cx hs op))
+  reference_valid : (op : ReferenceOp) → PushesValid cx (staying_operator (λ hs. reference_row cx hs op))
   reference_valid (RefNull h) = null_valid h
   reference_valid RefIsNull = looks_valid _ 1 null_test_pushes is_null_valid
   reference_valid (RefFunc f) = by_lookup_valid (cx.of_module.type_id_of f) _ (λ id e. plain_valid _ _ _ _ _ _ (λ p. (laws.functions f id e, tt)))
@@ -566,7 +577,7 @@ module _ (cx : Context) (laws : IsLawful cx.of_module) where
       let k = guard_some (may_access cx b.0.shared) _ _ b.2 in
       subst (λ u. cx.of_module.table_at i ≡ Some u) (some_injective _ _ k.1) b.1
 
-  place_valid : (i : ℕ) (t : TableType) → table_type cx i ≡ Some t → Valid cx.of_module (table_index_type t)
+  place_valid : (i : ℕ) (t : TableType) → table_type cx i ≡ Some t → Valid cx.of_module (address_type_of_table t)
   place_valid i t e = number_valid _ (address_is_number t.table64)
 
   table_valid : (op : TableOp) → PushesValid cx (row_operator (table_row cx op))
@@ -579,7 +590,7 @@ module _ (cx : Context) (laws : IsLawful cx.of_module) where
   table_valid (TableSet i) = by_lookup_valid (table_type cx i) _ (λ t e. numbers_pushed _ _ _ _ _ _ refl)
   table_valid (TableFill i) = by_lookup_valid (table_type cx i) _ (λ t e. numbers_pushed _ _ _ _ _ _ refl)
 
-  ungated_valid : (op : Op) → AllByRecursion (Valid cx.of_module) cx.locals → PushesValid cx (ungated cx op)
+  ungated_valid : (op : Op) → AllByRecursion (Valid cx.of_module) cx.locals → PushesValid cx (ungated_operator cx op)
   ungated_valid (Control op) l = control_valid op l
   ungated_valid (Numeric op) l = numeric_valid op
   ungated_valid (Convert op) l = convert_valid op
@@ -598,7 +609,7 @@ module _ (cx : Context) (laws : IsLawful cx.of_module) where
       }
 
   pub operator_valid : (op : Op) → AllByRecursion (Valid cx.of_module) cx.locals → PushesValid cx (operator cx op)
-  operator_valid op l = behind_valid (gate_of op) (ungated cx op) (ungated_valid op l)
+  operator_valid op l = behind_valid (gate_of op) (ungated_operator cx op) (ungated_valid op l)
 
 pub rows_keep_valid : (md : ModuleContext) → IsLawful md → RowsKeepValid md
 rows_keep_valid md laws cx op s u same h e =
@@ -609,14 +620,14 @@ rows_keep_valid md laws cx op s u same h e =
 
 module _ (cx : Context) (laws : IsLawful cx.of_module) where
   -- the state before each place of a list
-  pub before_valid : (code : List Operator) (s : State) (k : ℕ) (t : State) → ((j : ℕ) (op : Operator) → slice_get code j ≡ Some op → PushesValid cx op) → IsValidStateIn cx s → before cx code s k ≡ Some t → IsValidStateIn cx t
+  pub before_valid : (code : List Operator) (s : State) (k : ℕ) (t : State) → ((j : ℕ) (op : Operator) → slice_get code j ≡ Some op → PushesValid cx op) → IsValidStateIn cx s → state_before cx code s k ≡ Some t → IsValidStateIn cx t
   before_valid code s zero t each h e = subst (λ (v : State). IsValidStateIn cx v) (some_injective s t e) h
   before_valid [] s (suc k) t each h e = absurd cc
   before_valid (op ∷ code) s (suc k) t each h e =
-      let m = and_then_given (step cx op s) (λ v. before cx code v k) t e in
+      let m = and_then_given (step cx op s) (λ v. state_before cx code v k) t e in
       before_valid code m.0 k t (λ j o g. each (suc j) o g) (steps_keep_valid cx laws op s m.0 (each 0 op refl) h m.1) m.2
 
-  body_each : (ops : List Op) → AllByRecursion (Valid cx.of_module) cx.locals → (j : ℕ) (op : Operator) → slice_get (body cx ops) j ≡ Some op → PushesValid cx op
+  body_each : (ops : List Op) → AllByRecursion (Valid cx.of_module) cx.locals → (j : ℕ) (op : Operator) → slice_get (operators cx ops) j ≡ Some op → PushesValid cx op
   body_each [] l j op e = absurd cc
   body_each (x ∷ ops) l zero op e = subst (PushesValid cx) (some_injective _ _ e) (operator_valid cx laws x l)
   body_each (x ∷ ops) l (suc j) op e = body_each ops l j op e

@@ -4,7 +4,7 @@ use Rattle.std.specs.Prelude.{ℕ, Bool, true, false, ◌^◌, nat_eq, nat_le, n
 use Rattle.std.specs.Prelude.{Some, None, ◌++◌}
 use Rattle.std.specs.List.{list_all}
 use Rattle.std.specs.Option.{option_map}
-use Rattle.validate_types.specs.Types.{index_type}
+use Rattle.validate_types.specs.Types.{address_type_of_memory}
 use Rattle.validate_types.specs.declared.gate.Gate.TheVariants.{AcquireReleaseAtomics}
 use Rattle.validate_types.specs.Gates.{is_open}
 use Rattle.validate_visit.specs.declared.memory.MemArg.{MemArg}
@@ -18,7 +18,7 @@ use Rattle.validation_rules.specs.Shapes.{plain_row, plain_row_if, lookup_row}
 
 -- the type of the addresses of a memory, where there is one
 abbrev pub memory_address_type : ModuleContext → ℕ → Option ValType
-memory_address_type md m = option_map index_type (md.memory_at m)
+memory_address_type md m = option_map address_type_of_memory (md.memory_at m)
 
 -- what an access takes as the address of what it accesses, the last on top
 abbrev pub target_address_types : ModuleContext → MemArgTarget → Option (List ValType)

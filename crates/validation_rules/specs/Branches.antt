@@ -2,6 +2,7 @@
 -- specification, "Validation: Control Instructions").
 use Rattle.std.specs.Prelude.{ℕ, pred, Bool, true, false, ◌&&◌, List, [], ◌∷◌, ◌++◌, None, length, map, take}
 use Rattle.std.specs.Prelude.{drop}
+use Rattle.std.specs.List.{list_all}
 use Rattle.validation_rules.specs.Context.{ValType, I32, Context}
 use Rattle.validation_rules.specs.Rows.{Head, label_types, Plain, Target, Row}
 use Rattle.validation_rules.specs.Shapes.{plain_row_if, ending_row_if}
@@ -21,8 +22,7 @@ abbrev pub has_label : List Head → ℕ → Bool
 has_label hs d = has_first_label (drop d hs)
 
 abbrev pub has_labels : List Head → List ℕ → Bool
-has_labels hs [] = true
-has_labels hs (d ∷ ds) = has_label hs d && has_labels hs ds
+has_labels hs ds = list_all (has_label hs) ds
 
 -- the types that a branch to label d carries
 abbrev pub label_types_at : Context → List Head → ℕ → List ValType

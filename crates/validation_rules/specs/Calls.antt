@@ -32,8 +32,9 @@ global_set_row cx i = lookup_row (global_type cx i) (λ g. plain_row_if g.mutabl
 
 -- ---- calls
 
+-- what a type takes and gives, where it is one of functions that may be called
 abbrev pub accessible_signature : Context → SubType → Option Signature
-accessible_signature cx s = guard (may_access cx s.composite_type.shared) (Some (signature_of s))
+accessible_signature cx s = guard (may_access cx s.composite_type.shared) (signature_of s)
 
 -- what function f takes and gives, where it is there and may be called
 abbrev pub callee : Context → ℕ → Option Signature

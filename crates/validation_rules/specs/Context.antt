@@ -8,8 +8,8 @@ pub use Rattle.validate_types.specs.declared.types.ValType.{ValType}
 pub use Rattle.validate_types.specs.declared.types.ValType.TheVariants.{I32, I64, F32, F64, V128, Ref}
 pub use Rattle.validate_visit.specs.declared.frame.BlockType.{BlockType}
 pub use Rattle.validate_visit.specs.declared.frame.BlockType.TheVariants.{Empty, Val, FuncType}
-use Rattle.std.specs.Prelude.{ℕ, Bool, false, List, [], ◌∷◌, Option, Some, None, slice_index_or}
-use Rattle.validate_resources.specs.Context.{signature_of, IsTypeBelow}
+use Rattle.std.specs.Prelude.{ℕ, Bool, false, List, [], ◌∷◌, Option, Some, None, unwrap_or, slice_index_or}
+use Rattle.validate_resources.specs.Context.{func_type_at, IsTypeBelow}
 
 pub record Context : Type 0 where
   -- the module's look-ups, and the order on its types: false where either side isn't valid
@@ -37,15 +37,12 @@ AllBelow cx _ _ = ⊥
 abbrev pub empty_signature : Signature
 empty_signature = record { params = []; results = [] }
 
-abbrev pub declared_signature : Option SubType → Signature
-declared_signature (Some s) = signature_of s
-declared_signature None = empty_signature
-
--- what a block type stands for (Specification, "Validation: Block Types"); nothing, where it names no type
+-- what a block type stands for (Specification, "Validation: Block Types"); nothing, where it names no
+-- type of functions
 abbrev pub block_signature : ModuleContext → BlockType → Signature
 block_signature md Empty = empty_signature
 block_signature md (Val t) = record { params = []; results = t ∷ [] }
-block_signature md (FuncType i) = declared_signature (md.type_at i)
+block_signature md (FuncType i) = unwrap_or (func_type_at md i) empty_signature
 
 -- the local is set when the body begins
 abbrev pub is_set_at_entry : Context → ℕ → Bool

@@ -4,7 +4,7 @@ use Rattle.std.specs.Prelude.{ℕ, false, List, [], ◌∷◌, ◌++◌, Option,
 use Rattle.std.specs.Option.{option_map}
 use Rattle.std.specs.Option.{option_and_then}
 use Rattle.validate_types.specs.Refs.{nullable_reference}
-use Rattle.validate_types.specs.Types.{table_index_type}
+use Rattle.validate_types.specs.Types.{address_type_of_table}
 use Rattle.validate_types.specs.declared.heap.AbstractHeapType.TheVariants.{Func}
 use Rattle.validate_types.specs.declared.heap.HeapType.TheVariants.{Abstract, Concrete}
 use Rattle.validate_types.specs.declared.heap.UnpackedIndex.TheVariants.{Module}
@@ -22,7 +22,7 @@ funcref = Ref (nullable_reference (Abstract false Func))
 
 -- where the table holds functions, a place in it
 abbrev pub place_type_of : Context → TableType → Option ValType
-place_type_of cx t = guard (cx.of_module.below (element_type t) funcref) (Some (table_index_type t))
+place_type_of cx t = guard (cx.of_module.below (element_type t) funcref) (Some (address_type_of_table t))
 
 -- a place in a table of functions that the function may access
 abbrev pub function_place : Context → ℕ → Option ValType

@@ -2,14 +2,14 @@
 -- "Validation: Instructions").
 pub use Rattle.validation_rules.specs.Shapes.{lookup_row, plain_row, plain_row_if, never_row}
 pub use Rattle.validation_rules.specs.Shapes.{ending_row, ending_row_if}
-pub use Rattle.validation_rules.specs.Shapes.{looking_row, looking_row_if, flat_operator}
+pub use Rattle.validation_rules.specs.Shapes.{looking_row, looking_row_if, staying_operator}
 pub use Rattle.validation_rules.specs.Shapes.{row_operator, delimiter_operator, constant_row, test_row}
 pub use Rattle.validation_rules.specs.Shapes.{unary_row, binary_row, comparison_row, conversion_row}
 pub use Rattle.validation_rules.specs.Shapes.{wide_binary_row, wide_multiply_row, gated_row, gated_operator}
 use Rattle.std.specs.Prelude.{ℕ, Bool, true, false, ◌&&◌, List, [], ◌∷◌, ◌++◌, Option, Some}
-use Rattle.std.specs.Prelude.{None, map, slice_get}
+use Rattle.std.specs.Prelude.{None, is_some, map, slice_get}
 use Rattle.std.specs.Option.{option_map}
-use Rattle.validate_resources.specs.Context.{is_number, is_same_number}
+use Rattle.validate_resources.specs.Context.{is_number_or_vector, is_same_number_or_vector, signature_of}
 use Rattle.validate_types.specs.Features.{has, multi_value}
 use Rattle.validate_visit.specs.Gates.{gate_of}
 use Rattle.validate_visit.specs.declared.op.Op.{Op}
@@ -65,16 +65,16 @@ drop_pushes _ = None
 abbrev pub is_selectable : MaybeType → Bool
 is_selectable Bottom = true
 is_selectable (UnknownRef a) = false
-is_selectable (Known t) = is_number t
+is_selectable (Known t) = is_number_or_vector t
 
 -- what `select` gives for its two operands: an unknown one gives way to the other, and known ones
 -- have to be of one type
 abbrev pub select_result : MaybeType → MaybeType → Option MaybeType
 select_result Bottom b = guard (is_selectable b) (Some b)
 select_result (UnknownRef a) b = None
-select_result (Known t) Bottom = guard (is_number t) (Some (Known t))
+select_result (Known t) Bottom = guard (is_number_or_vector t) (Some (Known t))
 select_result (Known t) (UnknownRef b) = None
-select_result (Known t) (Known u) = guard (is_same_number t u) (Some (Known t))
+select_result (Known t) (Known u) = guard (is_same_number_or_vector t u) (Some (Known t))
 
 -- the test lies on top
 abbrev pub select_pushes : Context → List MaybeType → Option (List MaybeType)
@@ -84,22 +84,22 @@ select_pushes cx _ = None
 -- with its type written, which has to pass the check of value types
 abbrev pub typed_select_row : Context → ValType → Row
 typed_select_row cx t =
-    lookup_row (cx.of_module.canonical cx.features t) (λ u. plain_row (u ∷ u ∷ I32 ∷ []) (u ∷ []))
+    lookup_row (cx.of_module.canonical_type cx.features t) (λ u. plain_row (u ∷ u ∷ I32 ∷ []) (u ∷ []))
 
 -- ---- blocks
 
--- the type is declared, and the function may access it
-abbrev pub may_access_type : Context → Option SubType → Bool
-may_access_type cx (Some s) = may_access cx s.composite_type.shared
-may_access_type cx None = false
+-- the type is declared, it is one of functions, and the function may access it
+abbrev pub is_accessible_func_type : Context → Option SubType → Bool
+is_accessible_func_type cx (Some s) = is_some (signature_of s) && may_access cx s.composite_type.shared
+is_accessible_func_type cx None = false
 
 -- A block type as a frame keeps it, if it passes: a value type in its canonical form, a function type
 -- where `multi_value` is on.
 abbrev pub checked_block : Context → BlockType → Option BlockType
 checked_block cx Empty = Some Empty
-checked_block cx (Val t) = option_map (λ u. Val u) (cx.of_module.canonical cx.features t)
+checked_block cx (Val t) = option_map (λ u. Val u) (cx.of_module.canonical_type cx.features t)
 checked_block cx (FuncType i) =
-    guard (has cx.features multi_value && may_access_type cx (cx.of_module.type_at i)) (Some (FuncType i))
+    guard (has cx.features multi_value && is_accessible_func_type cx (cx.of_module.type_at i)) (Some (FuncType i))
 
 -- an operator that takes the parameters, with these operands above them, and opens a frame over them
 abbrev pub opening_operator : Context → FrameKind → List ValType → Bool → BlockType → Operator
@@ -124,18 +124,18 @@ control_operator cx (LoopOp bt) = opener cx Loop [] bt (checked_block cx bt)
 control_operator cx (IfOp bt) = opener cx If (I32 ∷ []) bt (checked_block cx bt)
 control_operator cx ElseOp = delimiter_operator BeginsElse
 control_operator cx End = delimiter_operator Ends
-control_operator cx (Br d) = flat_operator (λ hs. br_row cx hs d)
-control_operator cx (BrIf d) = flat_operator (λ hs. br_if_row cx hs d)
+control_operator cx (Br d) = staying_operator (λ hs. br_row cx hs d)
+control_operator cx (BrIf d) = staying_operator (λ hs. br_if_row cx hs d)
 control_operator cx (BrTable table) =
-    flat_operator (λ hs. br_table_row cx hs table.complete table.targets.now table.default)
-control_operator cx Return = flat_operator (λ hs. return_row cx hs)
+    staying_operator (λ hs. br_table_row cx hs table.complete table.targets.now table.default)
+control_operator cx Return = staying_operator (λ hs. return_row cx hs)
 control_operator cx (Call f) = row_operator (call_row cx f)
-control_operator cx (ReturnCall f) = flat_operator (λ hs. return_call_row cx hs f)
+control_operator cx (ReturnCall f) = staying_operator (λ hs. return_call_row cx hs f)
 control_operator cx (CallIndirect type table) = row_operator (call_indirect_row cx type table)
 control_operator cx (ReturnCallIndirect type table) =
-    flat_operator (λ hs. return_call_indirect_row cx hs type table)
+    staying_operator (λ hs. return_call_indirect_row cx hs type table)
 control_operator cx (CallRef type) = row_operator (call_ref_row cx type)
-control_operator cx (ReturnCallRef type) = flat_operator (λ hs. return_call_ref_row cx hs type)
+control_operator cx (ReturnCallRef type) = staying_operator (λ hs. return_call_ref_row cx hs type)
 control_operator cx Drop = row_operator (looking_row 1 drop_pushes)
 control_operator cx Select = row_operator (looking_row 3 (select_pushes cx))
 control_operator cx (TypedSelect t) = row_operator (typed_select_row cx t)
@@ -147,18 +147,18 @@ control_operator cx (GlobalGet i) = row_operator (global_get_row cx i)
 control_operator cx (GlobalSet i) = row_operator (global_set_row cx i)
 
 -- the row of each, but for its gate
-abbrev pub ungated : Context → Op → Operator
-ungated cx (Control op) = control_operator cx op
-ungated cx (Numeric op) = row_operator (numeric_row op)
-ungated cx (Convert op) = row_operator (convert_row op)
-ungated cx (Memory op) = row_operator (memory_row cx op)
-ungated cx (Atomic op) = row_operator (atomic_row cx op)
-ungated cx (Reference op) = flat_operator (λ hs. reference_row cx hs op)
-ungated cx (Table op) = row_operator (table_row cx op)
+abbrev pub ungated_operator : Context → Op → Operator
+ungated_operator cx (Control op) = control_operator cx op
+ungated_operator cx (Numeric op) = row_operator (numeric_row op)
+ungated_operator cx (Convert op) = row_operator (convert_row op)
+ungated_operator cx (Memory op) = row_operator (memory_row cx op)
+ungated_operator cx (Atomic op) = row_operator (atomic_row cx op)
+ungated_operator cx (Reference op) = staying_operator (λ hs. reference_row cx hs op)
+ungated_operator cx (Table op) = row_operator (table_row cx op)
 
 abbrev pub operator : Context → Op → Operator
-operator cx op = gated_operator cx (gate_of op) (ungated cx op)
+operator cx op = gated_operator cx (gate_of op) (ungated_operator cx op)
 
 -- a body, as the rules see it
-abbrev pub body : Context → List Op → List Operator
-body cx ops = map (operator cx) ops
+abbrev pub operators : Context → List Op → List Operator
+operators cx ops = map (operator cx) ops

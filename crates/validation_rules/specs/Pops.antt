@@ -6,7 +6,7 @@ use Rattle.std.specs.Option.{option_and_then}
 use Rattle.validation_rules.specs.Context.{ValType, Context}
 use Rattle.validation_rules.specs.Fits.{MaybeType, Bottom, fits, all_fit}
 use Rattle.validation_rules.specs.Rows.{guard}
-use Rattle.validation_rules.specs.Static.{Frame, operands_found, operands_below}
+use Rattle.validation_rules.specs.Static.{Frame, operands_found, operands_under}
 
 -- what a pop finds: the top operand; below those of a dead frame anything at all, of a live one nothing
 abbrev pub operand_on_top : Bool → List MaybeType → Option MaybeType
@@ -39,4 +39,4 @@ PopsAreWhole cx =
     (wanted : List ValType) (f : Frame) →
     frame_after_pops cx (reverse wanted) f
     ≡ guard (all_fit cx (operands_found (length wanted) f) wanted)
-    (Some (record f { operands = operands_below (length wanted) f }))
+    (Some (record f { operands = operands_under (length wanted) f }))

@@ -4,7 +4,7 @@ use Rattle.std.specs.Prelude.{ℕ, suc, Bool, not, ◌||◌, List, [], ◌∷◌
 use Rattle.std.specs.Prelude.{length}
 use Rattle.std.specs.Option.{option_map}
 use Rattle.validate_types.specs.Features.{is_ref_enabled}
-use Rattle.validate_types.specs.Refs.{fits_reference, non_null, with_null, nullable_reference}
+use Rattle.validate_types.specs.Refs.{fits_reference, without_null, with_null, nullable_reference}
 use Rattle.validate_types.specs.Refs.{non_null_reference}
 use Rattle.validate_types.specs.declared.heap.HeapType.{HeapType}
 use Rattle.validate_types.specs.declared.heap.HeapType.TheVariants.{Concrete}
@@ -42,20 +42,20 @@ ref_func_row cx f =
 -- ---- what is found of a reference
 
 -- the operand without its null, if it is a reference
-abbrev pub without_null : MaybeType → Option MaybeType
-without_null Bottom = Some (UnknownRef None)
-without_null (UnknownRef a) = Some (UnknownRef a)
-without_null (Known (Ref r)) = Some (Known (Ref (non_null r)))
-without_null (Known _) = None
+abbrev pub operand_without_null : MaybeType → Option MaybeType
+operand_without_null Bottom = Some (UnknownRef None)
+operand_without_null (UnknownRef a) = Some (UnknownRef a)
+operand_without_null (Known (Ref r)) = Some (Known (Ref (without_null r)))
+operand_without_null (Known _) = None
 
 abbrev pub null_test_pushes : List MaybeType → Option (List MaybeType)
-null_test_pushes (x ∷ []) = option_map (λ y. Known I32 ∷ []) (without_null x)
+null_test_pushes (x ∷ []) = option_map (λ y. Known I32 ∷ []) (operand_without_null x)
 null_test_pushes _ = None
 
 -- Operands that fit these types, and above them a reference, which goes on without its null. With no
 -- types it is what `ref.as_non_null` does.
 abbrev pub non_null_pushes : Context → List ValType → List MaybeType → Option (List MaybeType)
-non_null_pushes cx [] (x ∷ []) = option_map (λ y. y ∷ []) (without_null x)
+non_null_pushes cx [] (x ∷ []) = option_map (λ y. y ∷ []) (operand_without_null x)
 non_null_pushes cx (t ∷ ts) (x ∷ xs) =
     guard (fits cx x t) (option_map (λ ys. Known t ∷ ys) (non_null_pushes cx ts xs))
 non_null_pushes cx _ _ = None
@@ -80,7 +80,7 @@ last_reference (t ∷ u ∷ ts) =
 
 -- a reference without its null
 abbrev pub without_null_known : ValType → ValType
-without_null_known (Ref r) = Ref (non_null r)
+without_null_known (Ref r) = Ref (without_null r)
 without_null_known t = t
 
 -- the last of these without its null

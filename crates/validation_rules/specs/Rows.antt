@@ -9,6 +9,7 @@ pub use Rattle.validate_visit.specs.declared.frame.FrameKind.TheVariants.{Legacy
 pub use Rattle.validate_visit.specs.Order.{is_if, is_try, may_catch, catch_kind}
 use Rattle.std.specs.Prelude.{ℕ, Bool, true, false, ◌&&◌, List, [], ◌∷◌, Option, Some, None, length, map}
 use Rattle.std.specs.Prelude.{if◌then◌else◌}
+use Rattle.std.specs.List.{list_all}
 use Rattle.validation_rules.specs.Context.{ValType, BlockType, Context, block_signature}
 use Rattle.validation_rules.specs.Fits.{MaybeType, Known, all_fit}
 
@@ -45,7 +46,7 @@ label_types cx h = if is_loop h.kind then params cx h else results cx h
 -- What an operator does to the open frames: nothing, opens one, begins its next part, or closes it.
 -- A `catch` or `catch_all` has the types that the part which it begins starts with.
 pub data Form : Type 0 where
-  Flat : Form
+  Stays : Form
   Opens : (head : Head) → Form
   BeginsElse : Form
   BeginsCatch : (all : Bool) (types : List ValType) → Form
@@ -98,8 +99,7 @@ operands_wanted (Looks n gives) = n
 
 -- the found operands, taken whole, fit each of the lists
 abbrev pub all_fit_each : Context → List MaybeType → List (List ValType) → Bool
-all_fit_each cx found [] = true
-all_fit_each cx found (wanted ∷ more) = all_fit cx found wanted && all_fit_each cx found more
+all_fit_each cx found lists = list_all (all_fit cx found) lists
 
 -- x where the test holds
 abbrev pub guard : {A : Type 0} → Bool → Option A → Option A
@@ -115,6 +115,6 @@ pushed_for cx (Looks n looked) found = looked found
 -- an instruction, and not one of the pseudo-instructions that delimit a block (Specification,
 -- "Structure: Control Instructions")
 abbrev pub is_instruction : Form → Bool
-is_instruction Flat = true
+is_instruction Stays = true
 is_instruction (Opens h) = true
 is_instruction _ = false

@@ -5,7 +5,7 @@ use Rattle.validate_types.specs.Gates.{is_open}
 use Rattle.validate_types.specs.declared.gate.Gate.{Gate}
 use Rattle.validation_rules.specs.Context.{ValType, I32, I64, Context}
 use Rattle.validation_rules.specs.Fits.{MaybeType}
-use Rattle.validation_rules.specs.Rows.{Head, Form, Flat, Plain, Looks, Row, Operator}
+use Rattle.validation_rules.specs.Rows.{Head, Form, Stays, Plain, Looks, Row, Operator}
 
 -- wanted and pushed types, where the premise holds; it neither reaches a label nor ends the live part
 abbrev pub plain_row_if : Bool → List ValType → List ValType → Row
@@ -48,12 +48,12 @@ abbrev pub looking_row : ℕ → (List MaybeType → Option (List MaybeType)) �
 looking_row takes gives = looking_row_if true takes gives
 
 -- a row that depends on the open frames
-abbrev pub flat_operator : (List Head → Row) → Operator
-flat_operator row = record { form = Flat; row = row }
+abbrev pub staying_operator : (List Head → Row) → Operator
+staying_operator row = record { form = Stays; row = row }
 
 -- a row that doesn't
 abbrev pub row_operator : Row → Operator
-row_operator r = flat_operator (λ hs. r)
+row_operator r = staying_operator (λ hs. r)
 
 -- an operator that closes a frame or a part of it
 abbrev pub delimiter_operator : Form → Operator

@@ -5,12 +5,12 @@ use Rattle.std.specs.Prelude.{◌≡◌, ℕ, ◌+◌, zero, suc, nat_le, nat_eq
 use Rattle.std.specs.Prelude.{if◌then◌else◌}
 use Rattle.std.specs.Prelude.{List, [], ◌∷◌, ◌++◌, length, map, drop, Option, Some, None}
 use Rattle.std.specs.Option.{option_and_then}
-use Rattle.std.specs.List.{list_any}
+use Rattle.std.specs.List.{list_all, list_any}
 use Rattle.validation_rules.specs.Context.{ValType, BlockType, Context, is_set_at_entry}
 use Rattle.validation_rules.specs.Fits.{MaybeType, Bottom, Known, all_fit}
 use Rattle.validation_rules.specs.Rows.{Head, params, results, label_types, body_head}
 use Rattle.validation_rules.specs.Rows.{FrameKind, Else, is_if, is_try, may_catch, catch_kind}
-use Rattle.validation_rules.specs.Rows.{Form, Flat, Opens, BeginsElse, BeginsCatch, Ends, Delegates}
+use Rattle.validation_rules.specs.Rows.{Form, Stays, Opens, BeginsElse, BeginsCatch, Ends, Delegates}
 use Rattle.validation_rules.specs.Rows.{Operator, Row, Clause, operands_wanted, pushed_for, guard}
 
 -- ---- states
@@ -53,9 +53,9 @@ abbrev pub is_set : Context → List ℕ → ℕ → Bool
 is_set cx set i = list_any (nat_eq i) set || is_set_at_entry cx i
 
 -- the local that the operator reads, if it reads one, is set (Specification, "local.get")
-abbrev pub reads_set : Context → List ℕ → Option ℕ → Bool
-reads_set cx set None = true
-reads_set cx set (Some i) = is_set cx set i
+abbrev pub is_read_local_set : Context → List ℕ → Option ℕ → Bool
+is_read_local_set cx set None = true
+is_read_local_set cx set (Some i) = is_set cx set i
 
 -- the local that the operator sets, if it sets one, joins the frame's list unless it is set (set_local of
 -- the algorithm)
@@ -65,10 +65,11 @@ first_set_after cx set (Some i) first_set = if is_set cx set i then first_set el
 
 -- ---- operands
 
--- a row's list put on operands, from its first: its last comes to lie on top (push_vals of the algorithm)
-abbrev pub onto : {A : Type 0} → List A → List A → List A
-onto [] below = below
-onto (x ∷ xs) below = onto xs (x ∷ below)
+-- a stack, its top first, with a row's list put on it: the list's last comes to lie on top (push_vals of the
+-- algorithm)
+abbrev pub stack_with : {A : Type 0} → List A → List A → List A
+stack_with [] stack = stack
+stack_with (x ∷ xs) stack = stack_with xs (x ∷ stack)
 
 -- The n operands on top, the top first; below those of a dead frame lie unknown ones (pop_val of the
 -- algorithm). Operands below the frame are never among them.
@@ -80,17 +81,18 @@ operands_on_top (suc n) false [] = []
 
 -- what n pops find, turned as a row writes its lists: the last on top (pop_vals of the algorithm)
 abbrev pub operands_found : ℕ → Frame → List MaybeType
-operands_found n f = onto (operands_on_top n f.dead f.operands) []
+operands_found n f = stack_with (operands_on_top n f.dead f.operands) []
 
 -- what n pops leave of the frame's own operands
-abbrev pub operands_below : ℕ → Frame → List MaybeType
-operands_below n f = drop n f.operands
+abbrev pub operands_under : ℕ → Frame → List MaybeType
+operands_under n f = drop n f.operands
 
 -- ---- frames
 
 -- a frame that has just been opened, or a part that has just begun (push_ctrl of the algorithm)
 abbrev pub opened_frame : Head → List ValType → Frame
-opened_frame h types = record { head = h; operands = onto (map Known types) []; dead = false; first_set = [] }
+opened_frame h types =
+    record { head = h; operands = stack_with (map Known types) []; dead = false; first_set = [] }
 
 -- the same block, in its next part
 abbrev pub of_kind : FrameKind → Head → Head
@@ -98,22 +100,22 @@ of_kind kind h = record h { kind = kind }
 
 -- the frame with a row's list on its operands
 abbrev pub frame_with : List MaybeType → Frame → Frame
-frame_with types f = record f { operands = onto types f.operands }
+frame_with types f = record f { operands = stack_with types f.operands }
 
 -- the frame without the operands that the operator takes
-abbrev pub frame_below : Row → Frame → Frame
-frame_below r f = record f { operands = operands_below (operands_wanted r.type) f }
+abbrev pub frame_under : Row → Frame → Frame
+frame_under r f = record f { operands = operands_under (operands_wanted r.type) f }
 
 -- an operator that ends the live part leaves no operand (unreachable of the algorithm)
 abbrev pub operands_after : Bool → List MaybeType → List MaybeType → List MaybeType
-operands_after ends_live below pushed = if ends_live then [] else onto pushed below
+operands_after ends_live under pushed = if ends_live then [] else stack_with pushed under
 
 -- the innermost frame after an operator that neither opens nor closes one
 abbrev pub frame_after : Context → Row → List ℕ → List MaybeType → Frame → Frame
 frame_after cx r set pushed f =
     record {
       head = f.head;
-      operands = operands_after r.ends_live (operands_below (operands_wanted r.type) f) pushed;
+      operands = operands_after r.ends_live (operands_under (operands_wanted r.type) f) pushed;
       dead = f.dead || r.ends_live;
       first_set = first_set_after cx set r.sets f.first_set;
     }
@@ -130,13 +132,12 @@ abbrev pub clause_fits : Context → List Head → Clause → Bool
 clause_fits cx hs c = label_accepts cx (drop c.depth hs) c.types
 
 abbrev pub clauses_fit : Context → List Head → List Clause → Bool
-clauses_fit cx hs [] = true
-clauses_fit cx hs (c ∷ cs) = clause_fits cx hs c && clauses_fit cx hs cs
+clauses_fit cx hs clauses = list_all (clause_fits cx hs) clauses
 
 -- an instruction: its premises, its clauses and the local that it reads hold, and its operands pass
 abbrev pub pushed_by_row : Context → Row → List Head → List ℕ → Frame → Option (List MaybeType)
 pushed_by_row cx r hs set f =
-    guard (r.premise && (clauses_fit cx hs r.clauses && reads_set cx set r.reads))
+    guard (r.premise && (clauses_fit cx hs r.clauses && is_read_local_set cx set r.reads))
     (pushed_for cx r.type (operands_found (operands_wanted r.type) f))
 
 -- the frame's operands are its results, and nothing is left below them (pop_ctrl of the algorithm)
@@ -155,7 +156,7 @@ abbrev pub pushed_by_delimiter : Context → Row → Frame → Bool → Option (
 pushed_by_delimiter cx r f fits_frame = guard (r.premise && (fits_frame && may_close cx f)) (Some [])
 
 abbrev pub pushed_by_form : Context → Row → List Head → List ℕ → Frame → Form → Option (List MaybeType)
-pushed_by_form cx r hs set f Flat = pushed_by_row cx r hs set f
+pushed_by_form cx r hs set f Stays = pushed_by_row cx r hs set f
 pushed_by_form cx r hs set f (Opens h) = pushed_by_row cx r hs set f
 pushed_by_form cx r hs set f BeginsElse = pushed_by_delimiter cx r f (is_if f.head.kind)
 pushed_by_form cx r hs set f (BeginsCatch all types) = pushed_by_delimiter cx r f (may_catch f.head.kind)
@@ -172,16 +173,16 @@ pushed_types cx op hs set f = pushed_by_form cx (op.row hs) hs set f op.form
 -- a closed frame gives its results to the next outer one, or leaves them where none is open (pop_ctrl of
 -- the algorithm, and the push after it)
 abbrev pub state_after_exit : List MaybeType → List ValType → List Frame → State
-state_after_exit left types [] = state_with (onto (map Known types) left) []
+state_after_exit left types [] = state_with (stack_with (map Known types) left) []
 state_after_exit left types (f ∷ fs) = state_with left (frame_with (map Known types) f ∷ fs)
 
 -- What an operator leaves that pushes these types in the innermost frame f. A frame that is opened, or
 -- a part that begins, is live and owns its first types.
 abbrev pub state_after :
     List MaybeType → Context → Row → List ℕ → Frame → List Frame → Form → List MaybeType → State
-state_after left cx r set f fs Flat pushed = state_with left (frame_after cx r set pushed f ∷ fs)
+state_after left cx r set f fs Stays pushed = state_with left (frame_after cx r set pushed f ∷ fs)
 state_after left cx r set f fs (Opens h) pushed =
-    state_with left (opened_frame h (params cx h) ∷ frame_below r f ∷ fs)
+    state_with left (opened_frame h (params cx h) ∷ frame_under r f ∷ fs)
 state_after left cx r set f fs BeginsElse pushed =
     state_with left (opened_frame (of_kind Else f.head) (params cx f.head) ∷ fs)
 state_after left cx r set f fs (BeginsCatch all types) pushed =
@@ -210,18 +211,23 @@ abbrev pub step : Context → Operator → State → Option State
 step cx op s = step_in cx op s.frames s.left
 
 -- the state before place k, if the rows of all operators before it hold
-abbrev pub before : Context → List Operator → State → ℕ → Option State
-before cx code s zero = Some s
-before cx [] s (suc k) = None
-before cx (op ∷ code) s (suc k) = option_and_then (λ s'. before cx code s' k) (step cx op s)
+abbrev pub state_before : Context → List Operator → State → ℕ → Option State
+state_before cx code s zero = Some s
+state_before cx [] s (suc k) = None
+state_before cx (op ∷ code) s (suc k) = option_and_then (λ s'. state_before cx code s' k) (step cx op s)
 
 -- the state that a body of this type starts in (Specification, "Functions", "Expressions")
 abbrev pub start : BlockType → State
 start ty = open_state (opened_frame (body_head ty) [] ∷ [])
 
+-- all rows before place n hold; the list may go on as it likes
+abbrev pub RowsHoldBefore : Context → List Operator → State → ℕ → Type 0
+RowsHoldBefore cx code s n = (t : State) × (state_before cx code s n ≡ Some t)
+
 -- all rows hold, and no frame is left open
 abbrev pub IsAccepted : Context → List Operator → State → Type 0
-IsAccepted cx code s = (left : List MaybeType) × (before cx code s (length code) ≡ Some (state_with left []))
+IsAccepted cx code s =
+    (left : List MaybeType) × (state_before cx code s (length code) ≡ Some (state_with left []))
 
 -- ---- heights
 

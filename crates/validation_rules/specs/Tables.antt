@@ -2,7 +2,7 @@
 -- Table Instructions"; the shared marks are those of the shared-everything-threads proposal).
 use Rattle.std.specs.Prelude.{ℕ, [], ◌∷◌, Option, Some}
 use Rattle.std.specs.Option.{option_and_then}
-use Rattle.validate_types.specs.Types.{table_index_type}
+use Rattle.validate_types.specs.Types.{address_type_of_table}
 use Rattle.validate_types.specs.declared.refs.RefType.{RefType}
 use Rattle.validate_types.specs.declared.types.TableType.{TableType}
 use Rattle.validate_visit.specs.declared.op.TableOp.{TableOp}
@@ -27,31 +27,31 @@ element_type t = Ref t.element_type
 
 abbrev pub table_get_row : Context → ℕ → Row
 table_get_row cx i =
-    lookup_row (table_type cx i) (λ t. plain_row (table_index_type t ∷ []) (element_type t ∷ []))
+    lookup_row (table_type cx i) (λ t. plain_row (address_type_of_table t ∷ []) (element_type t ∷ []))
 
 abbrev pub table_set_row : Context → ℕ → Row
 table_set_row cx i =
-    lookup_row (table_type cx i) (λ t. plain_row (table_index_type t ∷ element_type t ∷ []) [])
+    lookup_row (table_type cx i) (λ t. plain_row (address_type_of_table t ∷ element_type t ∷ []) [])
 
 -- by so many places, each with this element
 abbrev pub table_grow_row : Context → ℕ → Row
 table_grow_row cx i =
     lookup_row (table_type cx i)
-    (λ t. plain_row (element_type t ∷ table_index_type t ∷ []) (table_index_type t ∷ []))
+    (λ t. plain_row (element_type t ∷ address_type_of_table t ∷ []) (address_type_of_table t ∷ []))
 
 abbrev pub table_size_row : Context → ℕ → Row
-table_size_row cx i = lookup_row (table_type cx i) (λ t. plain_row [] (table_index_type t ∷ []))
+table_size_row cx i = lookup_row (table_type cx i) (λ t. plain_row [] (address_type_of_table t ∷ []))
 
 -- from this place on, with this element, so many
 abbrev pub table_fill_row : Context → ℕ → Row
 table_fill_row cx i =
     lookup_row (table_type cx i)
-    (λ t. plain_row (table_index_type t ∷ element_type t ∷ table_index_type t ∷ []) [])
+    (λ t. plain_row (address_type_of_table t ∷ element_type t ∷ address_type_of_table t ∷ []) [])
 
 -- to a place of the table, from one of the segment, so many
 abbrev pub table_init_row_for : Context → TableType → RefType → Row
 table_init_row_for cx t r =
-    plain_row_if (cx.of_module.below (Ref r) (element_type t)) (table_index_type t ∷ I32 ∷ I32 ∷ []) []
+    plain_row_if (cx.of_module.below (Ref r) (element_type t)) (address_type_of_table t ∷ I32 ∷ I32 ∷ []) []
 
 abbrev pub table_init_row : Context → ℕ → ℕ → Row
 table_init_row cx segment i =
@@ -64,8 +64,8 @@ elem_drop_row cx segment = lookup_row (cx.of_module.element_at segment) (λ r. p
 -- to a place, from a place, so many: a number that fits both tables
 abbrev pub table_copy_row_for : Context → TableType → TableType → Row
 table_copy_row_for cx from to =
-    let place = table_index_type to in
-    let source = table_index_type from in
+    let place = address_type_of_table to in
+    let source = address_type_of_table from in
     plain_row_if (cx.of_module.below (element_type from) (element_type to))
     (place ∷ source ∷ narrower_type place source ∷ []) []
 

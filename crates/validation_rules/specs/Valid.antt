@@ -1,8 +1,8 @@
 -- A state whose types are valid: the premise of every visit, which every step keeps (the crate's own;
 -- the standard states validity of a context once, outside its algorithm).
-use Rattle.std.specs.Prelude.{◌≡◌, ℕ, Bool, true, List, Some}
+use Rattle.std.specs.Prelude.{◌≡◌, ℕ, Bool, true, List, Some, is_some}
 use Rattle.std.specs.List.{AllByRecursion}
-use Rattle.validate_resources.specs.Context.{Valid}
+use Rattle.validate_resources.specs.Context.{Valid, signature_of}
 use Rattle.validate_visit.specs.declared.op.Op.{Op}
 use Rattle.validation_rules.specs.Context.{ModuleContext, SubType, ValType, BlockType, Empty, Val, FuncType}
 use Rattle.validation_rules.specs.Context.{Context}
@@ -16,10 +16,11 @@ IsValidOperand md Bottom = Unit {0}
 IsValidOperand md (UnknownRef a) = Unit {0}
 IsValidOperand md (Known t) = Valid md t
 
--- the type that a block type names is there, and shared in a shared function
+-- the type that a block type names is there and is one of functions, and shared in a shared function
 pub record Resolves (md : ModuleContext) (shared : Bool) (i : ℕ) : Type 0 where
   pub type : SubType
   pub is_there : md.type_at i ≡ Some type
+  pub is_func : is_some (signature_of type) ≡ true
   pub is_shared : shared ≡ true → type.composite_type.shared ≡ true
 
 abbrev pub IsValidBlock : ModuleContext → Bool → BlockType → Type 0

@@ -13,11 +13,12 @@ use Rattle.std.proofs.Math.ListN.{get_or, get_or-append}
 use Rattle.std.proofs.Math.Seq.{get_or-append_seam}
 use Rattle.validate_types.specs.Heap.{number_of}
 use Rattle.validate_types.specs.declared.heap.UnpackedIndex.{UnpackedIndex}
+use Rattle.validate_types.specs.declared.types.CompositeType.{CompositeType}
 use Rattle.validate_types.specs.declared.types.SubType.{SubType}
-use Rattle.validate_resources.specs.Order.{is_shared_type, is_shared_at, has_fitting_supertype}
+use Rattle.validate_resources.specs.Order.{is_same_sort, has_fitting_supertype}
 use Rattle.validate_resources.specs.Order.{have_fitting_supertypes}
 use Rattle.validate_resources.specs.Order.{earlier_index, declared_supertype, supertype_of, chain_by}
-use Rattle.validate_resources.specs.Order.{chains, supertypes, is_on_chain, index_below}
+use Rattle.validate_resources.specs.Order.{chains, supertypes, is_on_chain, is_index_below}
 
 pub beq-equal : (a b : Bool) → beq a b ≡ true → a ≡ b
 beq-equal true true h = refl
@@ -64,42 +65,42 @@ chain-end : (types : List SubType) (i : ℕ) → supertype_of types i ≡ None �
 chain-end types i e = ap (chain_by (chains types i)) e
 
 -- one step of a chain
-step : (types : List SubType) (i u k : ℕ) → supertype_of types i ≡ Some u → index_below types i k ≡ ((i == k) || index_below types u k)
+step : (types : List SubType) (i u k : ℕ) → supertype_of types i ≡ Some u → is_index_below types i k ≡ ((i == k) || is_index_below types u k)
 step types i u k e = ap (λ c. (i == k) || list_any (λ v. v == k) c) (chain-step types i u e)
 
 -- the same, where the chain hasn't come to its end
-pub step-on : (types : List SubType) (i u k : ℕ) → supertype_of types i ≡ Some u → (i ≡ k → ⊥) → index_below types u k ≡ index_below types i k
-step-on types i u k e f = sym (step types i u k e ∙ ap (λ b. b || index_below types u k) (ne_eqb i k f))
+pub step-on : (types : List SubType) (i u k : ℕ) → supertype_of types i ≡ Some u → (i ≡ k → ⊥) → is_index_below types u k ≡ is_index_below types i k
+step-on types i u k e f = sym (step types i u k e ∙ ap (λ b. b || is_index_below types u k) (ne_eqb i k f))
 
 -- the end of a chain
-pub step-off : (types : List SubType) (i k : ℕ) → supertype_of types i ≡ None → (i ≡ k → ⊥) → index_below types i k ≡ false
+pub step-off : (types : List SubType) (i k : ℕ) → supertype_of types i ≡ None → (i ≡ k → ⊥) → is_index_below types i k ≡ false
 step-off types i k e f = ap (λ c. (i == k) || list_any (λ v. v == k) c) (chain-end types i e) ∙ ap (λ b. b || false) (ne_eqb i k f)
 
-pub index-reflexive : (types : List SubType) (i : ℕ) → index_below types i i ≡ true
+pub index-reflexive : (types : List SubType) (i : ℕ) → is_index_below types i i ≡ true
 index-reflexive types i = or_left (i == i) _ (eq-eqb i i refl)
 
 -- ---- two chains make one
 
 -- what is on the chain of a type has its supertype below it
-on-chain : (types : List SubType) (i j : ℕ) → is_on_chain types i j ≡ true → (u : ℕ) × (supertype_of types i ≡ Some u) × (index_below types u j ≡ true)
+on-chain : (types : List SubType) (i j : ℕ) → is_on_chain types i j ≡ true → (u : ℕ) × (supertype_of types i ≡ Some u) × (is_index_below types u j ≡ true)
 on-chain types i j h = by (supertype_of types i) refl
   where
-    by : (o : Option ℕ) → supertype_of types i ≡ o → (u : ℕ) × (supertype_of types i ≡ Some u) × (index_below types u j ≡ true)
+    by : (o : Option ℕ) → supertype_of types i ≡ o → (u : ℕ) × (supertype_of types i ≡ Some u) × (is_index_below types u j ≡ true)
     by None e = let off = ap (list_any (λ v. v == j)) (chain-end types i e) in cc
     by (Some u) e = (u, e, sym (ap (list_any (λ v. v == j)) (chain-step types i u e)) ∙ h)
 
-further : (types : List SubType) (m i j k : ℕ) → i < m → index_below types i j ≡ true → index_below types j k ≡ true → index_below types i k ≡ true
+further : (types : List SubType) (m i j k : ℕ) → i < m → is_index_below types i j ≡ true → is_index_below types j k ≡ true → is_index_below types i k ≡ true
 further types zero i j k l h g = absurd (omega arith)
 further types (suc m) i j k l h g =
-    ⊎_elim (λ e. subst (λ n. index_below types n k ≡ true) (sym (eqb-true i j e)) g)
+    ⊎_elim (λ e. subst (λ n. is_index_below types n k ≡ true) (sym (eqb-true i j e)) g)
     (λ e. let (u, is, on) = on-chain types i j e in let b : u < i = supertype-below types i u is in
     step types i u k is ∙ or_right (i == k) _ (further types m u j k (omega arith) on g))
     (or_cases (i == j) _ h)
 
-pub index-transitive : (types : List SubType) (i j k : ℕ) → index_below types i j ≡ true → index_below types j k ≡ true → index_below types i k ≡ true
+pub index-transitive : (types : List SubType) (i j k : ℕ) → is_index_below types i j ≡ true → is_index_below types j k ≡ true → is_index_below types i k ≡ true
 index-transitive types i j k h g = further types (suc i) i j k (omega arith) h g
 
--- ---- a chain keeps the sharedness
+-- ---- a chain keeps the kind and the sharedness
 
 -- what holds of each element and its place, holds of the one at i
 pub enumerated : {X : Type 0} (p : ℕ × X → Bool) (n i : ℕ) (xs : List X) (x : X) → list_all p (enumerate_from n xs) ≡ true → slice_get xs i ≡ Some x → p (n + i, x) ≡ true
@@ -109,26 +110,35 @@ enumerated p n zero (y ∷ ys) x h e = let is : y ≡ x = cc in let at : n ≡ n
 enumerated p n (suc i) (y ∷ ys) x h e = let at : (n + 1) + i ≡ n + suc i = omega arith in
     rw (← at) (enumerated p (n + 1) i ys x (and_parts (p (n, y)) _ h).1 e)
 
-fits-shared : (types : List SubType) (k u : ℕ) (shared : Bool) (x : Option UnpackedIndex) → has_fitting_supertype types k shared x ≡ true → earlier_index k x ≡ Some u → is_shared_at types u ≡ shared
-fits-shared types k u shared None h e = cc
-fits-shared types k u shared (Some i) h e =
+fits-sort : (types : List SubType) (k u : ℕ) (c : CompositeType) (x : Option UnpackedIndex) → has_fitting_supertype types k c x ≡ true → earlier_index k x ≡ Some u → is_same_sort c (slice_get types u) ≡ true
+fits-sort types k u c None h e = cc
+fits-sort types k u c (Some i) h e =
     let is = cond_some (nat_lt (number_of i) k) (number_of i) u e in
-    subst (λ n. is_shared_at types n ≡ shared) is.1 (beq-equal _ _ (and_parts (nat_lt (number_of i) k) _ h).1)
+    subst (λ n. is_same_sort c (slice_get types n) ≡ true) is.1 (and_parts (nat_lt (number_of i) k) _ h).1
 
-declared-shared : (types : List SubType) (k u : ℕ) (o : Option SubType) → slice_get types k ≡ o → have_fitting_supertypes types ≡ true → declared_supertype k o ≡ Some u → is_shared_at types k ≡ is_shared_at types u
-declared-shared types k u None is h e = cc
-declared-shared types k u (Some s) is h e =
+-- two types of the same kind and sharedness show the same
+abbrev pub KeepsSort : {X : Type 0} → (Option SubType → X) → Type 0
+KeepsSort shown = (s t : SubType) → is_same_sort s.composite_type (Some t) ≡ true → shown (Some s) ≡ shown (Some t)
+
+declared-sort : {X : Type 0} (shown : Option SubType → X) → KeepsSort shown → (types : List SubType) (k u : ℕ) (o : Option SubType) → slice_get types k ≡ o → have_fitting_supertypes types ≡ true → declared_supertype k o ≡ Some u → shown o ≡ shown (slice_get types u)
+declared-sort shown keeps types k u None is h e = cc
+declared-sort shown keeps types k u (Some s) is h e =
     let zero_more : 0 + k ≡ k = omega arith in
-    let fits = enumerated (λ (e : ℕ × SubType). has_fitting_supertype types e.0 e.1.composite_type.shared e.1.supertype_idx) 0 k types s h is in
-    ap is_shared_type is ∙ sym (fits-shared types k u s.composite_type.shared s.supertype_idx (rw zero_more at fits) e)
+    let fits = enumerated (λ (e : ℕ × SubType). has_fitting_supertype types e.0 e.1.composite_type e.1.supertype_idx) 0 k types s h is in
+    same (slice_get types u) (fits-sort types k u s.composite_type s.supertype_idx (rw zero_more at fits) e)
+  where
+    same : (p : Option SubType) → is_same_sort s.composite_type p ≡ true → shown (Some s) ≡ shown p
+    same None f = cc
+    same (Some t) f = keeps s t f
 
-below-shared : (types : List SubType) (m i j : ℕ) → have_fitting_supertypes types ≡ true → i < m → index_below types i j ≡ true → is_shared_at types i ≡ is_shared_at types j
-below-shared types zero i j h l g = absurd (omega arith)
-below-shared types (suc m) i j h l g =
-    ⊎_elim (λ e. ap (is_shared_at types) (eqb-true i j e))
+below-sort : {X : Type 0} (shown : Option SubType → X) → KeepsSort shown → (types : List SubType) (m i j : ℕ) → have_fitting_supertypes types ≡ true → i < m → is_index_below types i j ≡ true → shown (slice_get types i) ≡ shown (slice_get types j)
+below-sort shown keeps types zero i j h l g = absurd (omega arith)
+below-sort shown keeps types (suc m) i j h l g =
+    ⊎_elim (λ e. ap (λ n. shown (slice_get types n)) (eqb-true i j e))
     (λ e. let (u, is, on) = on-chain types i j e in let b : u < i = supertype-below types i u is in
-    declared-shared types i u (slice_get types i) refl h is ∙ below-shared types m u j h (omega arith) on)
+    declared-sort shown keeps types i u (slice_get types i) refl h is ∙ below-sort shown keeps types m u j h (omega arith) on)
     (or_cases (i == j) _ g)
 
-pub index-shared : (types : List SubType) (i j : ℕ) → have_fitting_supertypes types ≡ true → index_below types i j ≡ true → is_shared_at types i ≡ is_shared_at types j
-index-shared types i j h g = below-shared types (suc i) i j h (omega arith) g
+-- what two types of the same kind and sharedness show alike, types on one chain do
+pub index-sort : {X : Type 0} (shown : Option SubType → X) → KeepsSort shown → (types : List SubType) (i j : ℕ) → have_fitting_supertypes types ≡ true → is_index_below types i j ≡ true → shown (slice_get types i) ≡ shown (slice_get types j)
+index-sort shown keeps types i j h g = below-sort shown keeps types (suc i) i j h (omega arith) g

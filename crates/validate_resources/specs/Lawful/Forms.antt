@@ -3,7 +3,7 @@ use Rattle.std.specs.Prelude.{◌≡◌, ℕ, ◌+◌, ◌≤◌, Bool, List, []
 use Rattle.std.specs.Prelude.{length, is_some, slice_get, option_map, Option, Some, None, refl}
 use Rattle.std.specs.Bool.{beq}
 use Rattle.std.specs.List.{list_all, enumerate_from}
-use Rattle.std.proofs.Common.{arith, ap, ap₂, sym, ◌∙◌, ⊎_elim, lt-ltb, le-ltb}
+use Rattle.std.proofs.Common.{arith, ap, ap₂, sym, subst, ◌∙◌, ⊎_elim, lt-ltb, le-ltb}
 use Rattle.std.proofs.lemmas.Bool.{and_parts, and_from}
 use Rattle.std.proofs.lemmas.List.{length-map}
 use Rattle.std.proofs.lemmas.Option.{slice_get_cases, slice_get-map}
@@ -14,23 +14,27 @@ use Rattle.validate_types.specs.declared.heap.HeapType.TheVariants.{Abstract, Co
 use Rattle.validate_types.specs.declared.heap.UnpackedIndex.{UnpackedIndex}
 use Rattle.validate_types.specs.declared.heap.UnpackedIndex.TheVariants.{Module, Id}
 use Rattle.validate_types.specs.declared.types.CompositeInnerType.{CompositeInnerType}
-use Rattle.validate_types.specs.declared.types.CompositeInnerType.TheVariants.{Func}
+use Rattle.validate_types.specs.declared.types.CompositeInnerType.TheVariants.{Func, Array, Struct}
+use Rattle.validate_types.specs.declared.types.FieldType.{FieldType}
+use Rattle.validate_types.specs.declared.types.StorageType.{StorageType}
+use Rattle.validate_types.specs.declared.types.StorageType.TheVariants.{I8, I16, Val}
 use Rattle.validate_types.specs.declared.types.SubType.{SubType}
 use Rattle.validate_types.specs.declared.types.ValType.{ValType}
 use Rattle.validate_types.specs.declared.types.ValType.TheVariants.{I32, I64, F32, F64, V128, Ref}
 use Rattle.validate_resources.specs.declared.lists.FuncDecl.{FuncDecl}
 use Rattle.validate_resources.specs.declared.lists.TheConstants.{MAX_TYPES}
-use Rattle.validate_resources.specs.Context.{ModuleContext, IsValidType, Valid, signature_of}
+use Rattle.validate_resources.specs.Context.{IsValidType, Valid}
 use Rattle.validate_resources.specs.Context.{AllValid, is_valid, is_valid_index, is_valid_heap}
-use Rattle.validate_resources.specs.Context.{inner_signature}
-use Rattle.validate_resources.specs.Indices.{is_known, is_id, heap_test, type_test, supertype_test}
-use Rattle.validate_resources.specs.Indices.{inner_test, sub_test, index_with_id, heap_with_id, ref_with_id}
+use Rattle.validate_resources.specs.Context.{inner_signature, inner_fields}
+use Rattle.validate_types.specs.Types.{Signature, unpacked_type, unpacked_fields}
+use Rattle.validate_resources.specs.Indices.{is_known, is_id, heap_indices_pass, type_indices_pass, supertype_indices_pass}
+use Rattle.validate_resources.specs.Indices.{storage_indices_pass, field_indices_pass, storage_with_id, field_with_id, inner_indices_pass, sub_indices_pass, index_with_id, heap_with_id, ref_with_id}
 use Rattle.validate_resources.specs.Indices.{type_with_id, table_with_id, global_with_id, inner_with_ids, sub_with_ids}
-use Rattle.validate_resources.specs.Order.{is_shared_type, is_shared_at, has_fitting_supertype}
+use Rattle.validate_resources.specs.Order.{is_same_kind, is_same_sort, has_fitting_supertype}
 use Rattle.validate_resources.specs.Order.{have_fitting_supertypes}
-use Rattle.validate_resources.specs.Order.{type_below}
-use Rattle.validate_resources.specs.Lists.{Declared, context_of, valid_below, indices_test, have_known_types}
-use Rattle.validate_resources.specs.Lists.{is_module, canonical_lists}
+use Rattle.validate_resources.specs.Order.{is_type_below}
+use Rattle.validate_resources.specs.Lists.{Declared, context_of, is_valid_below, list_indices_pass, have_known_types}
+use Rattle.validate_resources.specs.Lists.{is_module, canonical_lists, is_func_type, have_func_types}
 
 -- ---- validity in a context of lists
 
@@ -45,11 +49,11 @@ pub index-valid : (d : Declared) → length d.types ≤ MAX_TYPES → (i : Unpac
 index-valid d small (Module i) = refl
 index-valid d small (Id id) = id-valid d small id.index
 
-pub heap-valid : (d : Declared) → length d.types ≤ MAX_TYPES → (h : HeapType) → is_valid_heap (context_of d) h ≡ heap_test (is_id (length d.types)) h
+pub heap-valid : (d : Declared) → length d.types ≤ MAX_TYPES → (h : HeapType) → is_valid_heap (context_of d) h ≡ heap_indices_pass (is_id (length d.types)) h
 heap-valid d small (Abstract s a) = refl
 heap-valid d small (Concrete i) = index-valid d small i
 
-pub type-valid : (d : Declared) → length d.types ≤ MAX_TYPES → (t : ValType) → is_valid (context_of d) t ≡ type_test (is_id (length d.types)) t
+pub type-valid : (d : Declared) → length d.types ≤ MAX_TYPES → (t : ValType) → is_valid (context_of d) t ≡ type_indices_pass (is_id (length d.types)) t
 type-valid d small I32 = refl
 type-valid d small I64 = refl
 type-valid d small F32 = refl
@@ -57,38 +61,58 @@ type-valid d small F64 = refl
 type-valid d small V128 = refl
 type-valid d small (Ref r) = heap-valid d small r.heap_type
 
-all-valid : (d : Declared) → length d.types ≤ MAX_TYPES → (ts : List ValType) → list_all (type_test (is_id (length d.types))) ts ≡ true → AllValid (context_of d) ts
+all-valid : (d : Declared) → length d.types ≤ MAX_TYPES → (ts : List ValType) → list_all (type_indices_pass (is_id (length d.types))) ts ≡ true → AllValid (context_of d) ts
 all-valid d small [] h = tt
 all-valid d small (t ∷ ts) h =
-    let p = and_parts (type_test (is_id (length d.types)) t) _ h in (type-valid d small t ∙ p.0, all-valid d small ts p.1)
+    let p = and_parts (type_indices_pass (is_id (length d.types)) t) _ h in (type-valid d small t ∙ p.0, all-valid d small ts p.1)
 
-inner-valid : (d : Declared) → length d.types ≤ MAX_TYPES → (i : CompositeInnerType) → inner_test (is_id (length d.types)) i ≡ true
-    → AllValid (context_of d) (inner_signature i).params × AllValid (context_of d) (inner_signature i).results
-inner-valid d small (Func f) h =
-    let p = and_parts (list_all (type_test (is_id (length d.types))) f.params) _ h in (all-valid d small f.params p.0, all-valid d small f.results p.1)
+signature-valid : (d : Declared) → length d.types ≤ MAX_TYPES → (i : CompositeInnerType) → inner_indices_pass (is_id (length d.types)) i ≡ true
+    → (s : Signature) → inner_signature i ≡ Some s → AllValid (context_of d) s.params × AllValid (context_of d) s.results
+signature-valid d small (Func f) h s is =
+    let p = and_parts (list_all (type_indices_pass (is_id (length d.types))) f.params) _ h in
+    let same : f ≡ s = cc in
+    subst (λ (t : Signature). AllValid (context_of d) t.params × AllValid (context_of d) t.results) same
+    (all-valid d small f.params p.0, all-valid d small f.results p.1)
+signature-valid d small (Array a) h s is = cc
+signature-valid d small (Struct fields) h s is = cc
 
-pub type-is-valid : (d : Declared) → length d.types ≤ MAX_TYPES → (s : SubType) → sub_test (is_id (length d.types)) s ≡ true → IsValidType (context_of d) s
+storage-valid : (d : Declared) → length d.types ≤ MAX_TYPES → (t : StorageType) → storage_indices_pass (is_id (length d.types)) t ≡ true → Valid (context_of d) (unpacked_type t)
+storage-valid d small I8 h = refl
+storage-valid d small I16 h = refl
+storage-valid d small (Val t) h = type-valid d small t ∙ h
+
+fields-valid : (d : Declared) → length d.types ≤ MAX_TYPES → (fields : List FieldType) → list_all (field_indices_pass (is_id (length d.types))) fields ≡ true → AllValid (context_of d) (unpacked_fields fields)
+fields-valid d small [] h = tt
+fields-valid d small (f ∷ fields) h =
+    let p = and_parts (field_indices_pass (is_id (length d.types)) f) _ h in (storage-valid d small f.element_type p.0, fields-valid d small fields p.1)
+
+inner-fields-valid : (d : Declared) → length d.types ≤ MAX_TYPES → (i : CompositeInnerType) → inner_indices_pass (is_id (length d.types)) i ≡ true → AllValid (context_of d) (unpacked_fields (inner_fields i))
+inner-fields-valid d small (Func f) h = tt
+inner-fields-valid d small (Array a) h = (storage-valid d small a.0.element_type h, tt)
+inner-fields-valid d small (Struct fields) h = fields-valid d small fields h
+
+pub type-is-valid : (d : Declared) → length d.types ≤ MAX_TYPES → (s : SubType) → sub_indices_pass (is_id (length d.types)) s ≡ true → IsValidType (context_of d) s
 type-is-valid d small s h =
-    let p = and_parts (supertype_test (is_id (length d.types)) s.supertype_idx) _ h in
-    let q = inner-valid d small s.composite_type.inner p.1 in
+    let p = and_parts (supertype_indices_pass (is_id (length d.types)) s.supertype_idx) _ h in
     record {
-      params = q.0;
-      results = q.1;
-      supertype = λ u e. index-valid d small u ∙ (ap (supertype_test (is_id (length d.types))) (sym e) ∙ p.0);
+      params = λ f is. (signature-valid d small s.composite_type.inner p.1 f is).0;
+      results = λ f is. (signature-valid d small s.composite_type.inner p.1 f is).1;
+      fields = inner-fields-valid d small s.composite_type.inner p.1;
+      supertype = λ u e. index-valid d small u ∙ (ap (supertype_indices_pass (is_id (length d.types))) (sym e) ∙ p.0);
     }
 
 -- of valid types the order is that of types
-pub below-valid : (d : Declared) → length d.types ≤ MAX_TYPES → (t u : ValType) → Valid (context_of d) t → Valid (context_of d) u → type_below d.types t u ≡ valid_below d.types t u
+pub below-valid : (d : Declared) → length d.types ≤ MAX_TYPES → (t u : ValType) → Valid (context_of d) t → Valid (context_of d) u → is_type_below d.types t u ≡ is_valid_below d.types t u
 below-valid d small t u h k = let v = sym (type-valid d small t) ∙ h in let w = sym (type-valid d small u) ∙ k in
-    sym (ap (λ b. b && type_below d.types t u) (and_from _ _ v w))
+    sym (ap (λ b. b && is_type_below d.types t u) (and_from _ _ v w))
 
 -- ---- the indices of a canonical form are ids
 
-pub heap-ids : (n : ℕ) (h : HeapType) → heap_test (is_id n) (heap_with_id h) ≡ heap_test (is_known n) h
+pub heap-ids : (n : ℕ) (h : HeapType) → heap_indices_pass (is_id n) (heap_with_id h) ≡ heap_indices_pass (is_known n) h
 heap-ids n (Abstract s a) = refl
 heap-ids n (Concrete i) = refl
 
-pub type-ids : (n : ℕ) (t : ValType) → type_test (is_id n) (type_with_id t) ≡ type_test (is_known n) t
+pub type-ids : (n : ℕ) (t : ValType) → type_indices_pass (is_id n) (type_with_id t) ≡ type_indices_pass (is_known n) t
 type-ids n I32 = refl
 type-ids n I64 = refl
 type-ids n F32 = refl
@@ -102,35 +126,67 @@ all-same : {X Y : Type 0} (p : Y → Bool) (q : X → Bool) (f : X → Y) → ((
 all-same p q f same [] = refl
 all-same p q f same (x ∷ xs) = ap₂ (λ a b. a && b) (same x) (all-same p q f same xs)
 
-supertype-ids : (n : ℕ) (o : Option UnpackedIndex) → supertype_test (is_id n) (option_map index_with_id o) ≡ supertype_test (is_known n) o
+supertype-ids : (n : ℕ) (o : Option UnpackedIndex) → supertype_indices_pass (is_id n) (option_map index_with_id o) ≡ supertype_indices_pass (is_known n) o
 supertype-ids n None = refl
 supertype-ids n (Some i) = refl
 
-inner-ids : (n : ℕ) (i : CompositeInnerType) → inner_test (is_id n) (inner_with_ids i) ≡ inner_test (is_known n) i
-inner-ids n (Func f) = ap₂ (λ a b. a && b) (all-same _ _ type_with_id (type-ids n) f.params) (all-same _ _ type_with_id (type-ids n) f.results)
+storage-ids : (n : ℕ) (t : StorageType) → storage_indices_pass (is_id n) (storage_with_id t) ≡ storage_indices_pass (is_known n) t
+storage-ids n I8 = refl
+storage-ids n I16 = refl
+storage-ids n (Val t) = type-ids n t
 
-sub-ids : (n : ℕ) (s : SubType) → sub_test (is_id n) (sub_with_ids s) ≡ sub_test (is_known n) s
+inner-ids : (n : ℕ) (i : CompositeInnerType) → inner_indices_pass (is_id n) (inner_with_ids i) ≡ inner_indices_pass (is_known n) i
+inner-ids n (Func f) = ap₂ (λ a b. a && b) (all-same _ _ type_with_id (type-ids n) f.params) (all-same _ _ type_with_id (type-ids n) f.results)
+inner-ids n (Array a) = storage-ids n a.0.element_type
+inner-ids n (Struct fields) = all-same _ _ field_with_id (λ f. storage-ids n f.element_type) fields
+
+sub-ids : (n : ℕ) (s : SubType) → sub_indices_pass (is_id n) (sub_with_ids s) ≡ sub_indices_pass (is_known n) s
 sub-ids n s = ap₂ (λ a b. a && b) (supertype-ids n s.supertype_idx) (inner-ids n s.composite_type.inner)
 
-marks-same : (o : Option SubType) → is_shared_type (option_map sub_with_ids o) ≡ is_shared_type o
-marks-same None = refl
-marks-same (Some s) = refl
+kinds-same : (a b : CompositeInnerType) → is_same_kind (inner_with_ids a) (inner_with_ids b) ≡ is_same_kind a b
+kinds-same (Func f) (Func g) = refl
+kinds-same (Func f) (Array b) = refl
+kinds-same (Func f) (Struct t) = refl
+kinds-same (Array a) (Func g) = refl
+kinds-same (Array a) (Array b) = refl
+kinds-same (Array a) (Struct t) = refl
+kinds-same (Struct s) (Func g) = refl
+kinds-same (Struct s) (Array b) = refl
+kinds-same (Struct s) (Struct t) = refl
 
-shared-same : (types : List SubType) (i : ℕ) → is_shared_at (map sub_with_ids types) i ≡ is_shared_at types i
-shared-same types i = ap is_shared_type (slice_get-map sub_with_ids types i) ∙ marks-same (slice_get types i)
+sort-same : (s : SubType) (o : Option SubType) → is_same_sort (sub_with_ids s).composite_type (option_map sub_with_ids o) ≡ is_same_sort s.composite_type o
+sort-same s None = refl
+sort-same s (Some t) = ap (λ b. b && beq s.composite_type.shared t.composite_type.shared) (kinds-same s.composite_type.inner t.composite_type.inner)
 
-fits-same : (types : List SubType) (k : ℕ) (shared : Bool) (o : Option UnpackedIndex) → has_fitting_supertype (map sub_with_ids types) k shared (option_map index_with_id o) ≡ has_fitting_supertype types k shared o
-fits-same types k shared None = refl
-fits-same types k shared (Some i) = ap (λ b. nat_lt (number_of i) k && beq b shared) (shared-same types (number_of i))
+fits-same : (types : List SubType) (k : ℕ) (s : SubType) (o : Option UnpackedIndex) → has_fitting_supertype (map sub_with_ids types) k (sub_with_ids s).composite_type (option_map index_with_id o) ≡ has_fitting_supertype types k s.composite_type o
+fits-same types k s None = refl
+fits-same types k s (Some i) =
+    ap (λ b. nat_lt (number_of i) k && b)
+    (ap (is_same_sort (sub_with_ids s).composite_type) (slice_get-map sub_with_ids types (number_of i)) ∙ sort-same s (slice_get types (number_of i)))
+
+func-same : (o : Option SubType) → is_func_type (option_map sub_with_ids o) ≡ is_func_type o
+func-same None = refl
+func-same (Some s) = inner_same s.composite_type.inner
+  where
+    inner_same : (i : CompositeInnerType) → is_some (inner_signature (inner_with_ids i)) ≡ is_some (inner_signature i)
+    inner_same (Func f) = refl
+    inner_same (Array a) = refl
+    inner_same (Struct fields) = refl
+
+functions-same : (types : List SubType) (functions : List FuncDecl)
+    → list_all (λ (f : FuncDecl). is_func_type (slice_get (map sub_with_ids types) f.type_index)) functions ≡ list_all (λ (f : FuncDecl). is_func_type (slice_get types f.type_index)) functions
+functions-same types [] = refl
+functions-same types (f ∷ functions) =
+    ap₂ (λ a b. a && b) (ap is_func_type (slice_get-map sub_with_ids types f.type_index) ∙ func-same (slice_get types f.type_index)) (functions-same types functions)
 
 enumerated-same : {X Y : Type 0} (p : ℕ × Y → Bool) (q : ℕ × X → Bool) (f : X → Y) → ((k : ℕ) (x : X) → p (k, f x) ≡ q (k, x)) → (n : ℕ) (xs : List X) → list_all p (enumerate_from n (map f xs)) ≡ list_all q (enumerate_from n xs)
 enumerated-same p q f same n [] = refl
 enumerated-same p q f same n (x ∷ xs) = ap₂ (λ a b. a && b) (same n x) (enumerated-same p q f same (n + 1) xs)
 
 supertypes-same : (types : List SubType) → have_fitting_supertypes (map sub_with_ids types) ≡ have_fitting_supertypes types
-supertypes-same types = enumerated-same _ _ sub_with_ids (λ k s. fits-same types k s.composite_type.shared s.supertype_idx) 0 types
+supertypes-same types = enumerated-same _ _ sub_with_ids (λ k s. fits-same types k s s.supertype_idx) 0 types
 
-indices-same : (n : ℕ) (d : Declared) → indices_test (is_id n) (map sub_with_ids d.types) (map table_with_id d.tables) (map global_with_id d.globals) (map ref_with_id d.elements) ≡ indices_test (is_known n) d.types d.tables d.globals d.elements
+indices-same : (n : ℕ) (d : Declared) → list_indices_pass (is_id n) (map sub_with_ids d.types) (map table_with_id d.tables) (map global_with_id d.globals) (map ref_with_id d.elements) ≡ list_indices_pass (is_known n) d.types d.tables d.globals d.elements
 indices-same n d =
     ap₂ (λ a b. a && b)
     (ap₂ (λ a b. a && b)
@@ -141,6 +197,7 @@ indices-same n d =
 pub module-same : (d : Declared) → is_module is_id (canonical_lists d) ≡ is_module is_known d
 module-same d =
     let n : ℕ = length d.types in
-    let at : ℕ → Bool = λ m. nat_le m MAX_TYPES && indices_test (is_id m) (map sub_with_ids d.types) (map table_with_id d.tables) (map global_with_id d.globals) (map ref_with_id d.elements) && list_all (λ (f : FuncDecl). nat_lt f.type_index m) d.functions && have_fitting_supertypes (map sub_with_ids d.types) in
+    let at : ℕ → Bool = λ m. nat_le m MAX_TYPES && list_indices_pass (is_id m) (map sub_with_ids d.types) (map table_with_id d.tables) (map global_with_id d.globals) (map ref_with_id d.elements) && list_all (λ (f : FuncDecl). nat_lt f.type_index m) d.functions && have_fitting_supertypes (map sub_with_ids d.types) && have_func_types (canonical_lists d) in
     ap at (length-map d.types sub_with_ids)
-    ∙ ap₂ (λ a b. nat_le n MAX_TYPES && a && have_known_types d && b) (indices-same n d) (supertypes-same d.types)
+    ∙ ap₂ (λ a b. nat_le n MAX_TYPES && a && have_known_types d && b && have_func_types (canonical_lists d)) (indices-same n d) (supertypes-same d.types)
+    ∙ ap (λ b. nat_le n MAX_TYPES && list_indices_pass (is_known n) d.types d.tables d.globals d.elements && have_known_types d && have_fitting_supertypes d.types && b) (functions-same d.types d.functions)

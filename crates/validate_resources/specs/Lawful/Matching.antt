@@ -1,28 +1,33 @@
 -- Proofs, which need no belief: the laws of the order on types.
-use Rattle.std.specs.Prelude.{◌≡◌, ℕ, Bool, List, [], ◌∷◌, true, false, ◌&&◌, ◌||◌, not, slice_get, Some}
-use Rattle.std.specs.Prelude.{refl}
+use Rattle.std.specs.Prelude.{◌≡◌, ℕ, Bool, List, [], ◌∷◌, true, false, ◌&&◌, ◌||◌, not, slice_get}
+use Rattle.std.specs.Prelude.{Option, Some, None, refl}
 use Rattle.std.specs.Bool.{beq}
 use Rattle.std.specs.List.{list_all}
-use Rattle.std.proofs.Common.{zero, suc, sym, ◌∙◌, subst}
+use Rattle.std.proofs.Common.{zero, suc, sym, ◌∙◌, subst, ap₂}
 use Rattle.std.proofs.lemmas.Bool.{and_parts, and_from}
-use Rattle.validate_types.specs.Abstract.{abstract_below}
+use Rattle.validate_types.specs.Abstract.{is_abstract_below}
 use Rattle.validate_types.specs.Heap.{number_of}
 use Rattle.validate_types.specs.declared.heap.AbstractHeapType.{AbstractHeapType}
-use Rattle.validate_types.specs.declared.heap.AbstractHeapType.TheVariants.{Func, Extern, Any, None}
+use Rattle.validate_types.specs.declared.heap.AbstractHeapType.TheVariants.{Func, Extern, Any, None as NoAny}
 use Rattle.validate_types.specs.declared.heap.AbstractHeapType.TheVariants.{NoExtern, NoFunc, Eq, Struct}
 use Rattle.validate_types.specs.declared.heap.AbstractHeapType.TheVariants.{Array, I31, Exn, NoExn, Cont}
 use Rattle.validate_types.specs.declared.heap.AbstractHeapType.TheVariants.{NoCont}
 use Rattle.validate_types.specs.declared.heap.HeapType.{HeapType}
 use Rattle.validate_types.specs.declared.heap.HeapType.TheVariants.{Abstract, Concrete}
 use Rattle.validate_types.specs.declared.refs.RefType.{RefType}
+use Rattle.validate_types.specs.declared.types.CompositeInnerType.{CompositeInnerType}
+use Rattle.validate_types.specs.declared.types.CompositeInnerType.TheVariants.{Func as FuncOf}
+use Rattle.validate_types.specs.declared.types.CompositeInnerType.TheVariants.{Array as ArrayOf}
+use Rattle.validate_types.specs.declared.types.CompositeInnerType.TheVariants.{Struct as StructOf}
 use Rattle.validate_types.specs.declared.types.SubType.{SubType}
 use Rattle.validate_types.specs.declared.types.ValType.{ValType}
 use Rattle.validate_types.specs.declared.types.ValType.TheVariants.{I32, I64, F32, F64, V128, Ref}
-use Rattle.validate_resources.specs.Context.{is_number}
-use Rattle.validate_resources.specs.Order.{is_heap_shared, is_shared_at, have_fitting_supertypes}
-use Rattle.validate_resources.specs.Order.{heap_below, ref_below}
-use Rattle.validate_resources.specs.Order.{type_below}
-use Rattle.validate_resources.specs.Lawful.Chains.{beq-equal, index-reflexive, index-transitive, index-shared}
+use Rattle.validate_resources.specs.Context.{is_number_or_vector}
+use Rattle.validate_resources.specs.Order.{is_shared_type, is_heap_shared, have_fitting_supertypes}
+use Rattle.validate_resources.specs.Order.{is_same_kind, kind_of, kind_bottom}
+use Rattle.validate_resources.specs.Order.{is_declared_below, is_below_declared, is_heap_below, is_ref_below}
+use Rattle.validate_resources.specs.Order.{is_type_below}
+use Rattle.validate_resources.specs.Lawful.Chains.{beq-equal, index-reflexive, index-transitive, index-sort, KeepsSort}
 
 beq-reflexive : (a : Bool) → beq a a ≡ true
 beq-reflexive true = refl
@@ -37,13 +42,13 @@ passes-at p (suc i) (y ∷ ys) x h e = passes-at p i ys x (and_parts (p y) _ h).
 -- ---- abstract heap types, by going through all
 
 abbrev all_abstract : List AbstractHeapType
-all_abstract = Func ∷ Extern ∷ Any ∷ None ∷ NoExtern ∷ NoFunc ∷ Eq ∷ Struct ∷ Array ∷ I31 ∷ Exn ∷ NoExn ∷ Cont ∷ NoCont ∷ []
+all_abstract = Func ∷ Extern ∷ Any ∷ NoAny ∷ NoExtern ∷ NoFunc ∷ Eq ∷ Struct ∷ Array ∷ I31 ∷ Exn ∷ NoExn ∷ Cont ∷ NoCont ∷ []
 
 abbrev place : AbstractHeapType → ℕ
 place Func = 0
 place Extern = 1
 place Any = 2
-place None = 3
+place NoAny = 3
 place NoExtern = 4
 place NoFunc = 5
 place Eq = 6
@@ -59,7 +64,7 @@ placed : (a : AbstractHeapType) → slice_get all_abstract (place a) ≡ Some a
 placed Func = refl
 placed Extern = refl
 placed Any = refl
-placed None = refl
+placed NoAny = refl
 placed NoExtern = refl
 placed NoFunc = refl
 placed Eq = refl
@@ -75,59 +80,132 @@ for_all : (p : AbstractHeapType → Bool) → list_all p all_abstract ≡ true �
 for_all p h a = passes-at p (place a) all_abstract a h (placed a)
 
 abbrev chain_test : AbstractHeapType → AbstractHeapType → AbstractHeapType → Bool
-chain_test a b c = not (abstract_below a b && abstract_below b c) || abstract_below a c
+chain_test a b c = not (is_abstract_below a b && is_abstract_below b c) || is_abstract_below a c
 
 chains_pass : (a b c : AbstractHeapType) → chain_test a b c ≡ true
 chains_pass a b c =
     for_all (λ z. chain_test a b z) (for_all (λ y. list_all (λ z. chain_test a y z) all_abstract)
     (for_all (λ x. list_all (λ y. list_all (λ z. chain_test x y z) all_abstract) all_abstract) refl a) b) c
 
-abstract-reflexive : (a : AbstractHeapType) → abstract_below a a ≡ true
-abstract-reflexive a = for_all (λ x. abstract_below x x) refl a
+abstract-reflexive : (a : AbstractHeapType) → is_abstract_below a a ≡ true
+abstract-reflexive a = for_all (λ x. is_abstract_below x x) refl a
 
 chain-read : (x y : Bool) → x ≡ true → (not x || y) ≡ true → y ≡ true
 chain-read true y h g = g
 chain-read false y h g = cc
 
-abstract-transitive : (a b c : AbstractHeapType) → abstract_below a b ≡ true → abstract_below b c ≡ true → abstract_below a c ≡ true
-abstract-transitive a b c h k = chain-read (abstract_below a b && abstract_below b c) _ (and_from _ _ h k) (chains_pass a b c)
+abstract-transitive : (a b c : AbstractHeapType) → is_abstract_below a b ≡ true → is_abstract_below b c ≡ true → is_abstract_below a c ≡ true
+abstract-transitive a b c h k = chain-read (is_abstract_below a b && is_abstract_below b c) _ (and_from _ _ h k) (chains_pass a b c)
 
 -- ---- heap types
 
-pub heap-reflexive : (types : List SubType) (h : HeapType) → heap_below types h h ≡ true
+pub heap-reflexive : (types : List SubType) (h : HeapType) → is_heap_below types h h ≡ true
 heap-reflexive types (Abstract s a) = and_from _ _ (beq-reflexive s) (abstract-reflexive a)
 heap-reflexive types (Concrete i) = index-reflexive types (number_of i)
 
-pub heap-shared : (types : List SubType) → have_fitting_supertypes types ≡ true → (h k : HeapType) → heap_below types h k ≡ true → is_heap_shared types h ≡ is_heap_shared types k
+-- ---- declared types
+
+kind-same : (a b : CompositeInnerType) → is_same_kind a b ≡ true → kind_of a ≡ kind_of b
+kind-same (FuncOf f) (FuncOf g) h = refl
+kind-same (ArrayOf a) (ArrayOf b) h = refl
+kind-same (StructOf s) (StructOf t) h = refl
+kind-same _ _ h = cc
+
+bottom-same : (a b : CompositeInnerType) → is_same_kind a b ≡ true → kind_bottom a ≡ kind_bottom b
+bottom-same (FuncOf f) (FuncOf g) h = refl
+bottom-same (ArrayOf a) (ArrayOf b) h = refl
+bottom-same (StructOf s) (StructOf t) h = refl
+bottom-same _ _ h = cc
+
+bottom-below : (a : CompositeInnerType) → is_abstract_below (kind_bottom a) (kind_of a) ≡ true
+bottom-below (FuncOf f) = refl
+bottom-below (ArrayOf a) = refl
+bottom-below (StructOf s) = refl
+
+kind-above : (a b : CompositeInnerType) → is_abstract_below (kind_of a) (kind_bottom b) ≡ false
+kind-above (FuncOf f) (FuncOf g) = refl
+kind-above (FuncOf f) (ArrayOf b) = refl
+kind-above (FuncOf f) (StructOf t) = refl
+kind-above (ArrayOf a) (FuncOf g) = refl
+kind-above (ArrayOf a) (ArrayOf b) = refl
+kind-above (ArrayOf a) (StructOf t) = refl
+kind-above (StructOf s) (FuncOf g) = refl
+kind-above (StructOf s) (ArrayOf b) = refl
+kind-above (StructOf s) (StructOf t) = refl
+
+-- what shows of a declared type, of the same kind and sharedness
+shared-kept : KeepsSort is_shared_type
+shared-kept s t h = beq-equal _ _ (and_parts (is_same_kind s.composite_type.inner t.composite_type.inner) _ h).1
+
+declared-kept : (z : Bool) (b : AbstractHeapType) → KeepsSort (λ o. is_declared_below o z b)
+declared-kept z b s t h =
+    let p = and_parts (is_same_kind s.composite_type.inner t.composite_type.inner) _ h in
+    ap₂ (λ x y. beq x z && is_abstract_below y b) (beq-equal _ _ p.1) (kind-same _ _ p.0)
+
+below-kept : (z : Bool) (a : AbstractHeapType) → KeepsSort (is_below_declared z a)
+below-kept z a s t h =
+    let p = and_parts (is_same_kind s.composite_type.inner t.composite_type.inner) _ h in
+    ap₂ (λ x y. beq z x && is_abstract_below a y) (beq-equal _ _ p.1) (bottom-same _ _ p.0)
+
+-- the marks are the same
+declared-shared : (o : Option SubType) (z : Bool) (b : AbstractHeapType) → is_declared_below o z b ≡ true → is_shared_type o ≡ z
+declared-shared None z b h = cc
+declared-shared (Some s) z b h = beq-equal _ _ (and_parts (beq s.composite_type.shared z) _ h).0
+
+below-shared : (z : Bool) (a : AbstractHeapType) (o : Option SubType) → is_below_declared z a o ≡ true → z ≡ is_shared_type o
+below-shared z a None h = cc
+below-shared z a (Some s) h = beq-equal _ _ (and_parts (beq z s.composite_type.shared) _ h).0
+
+pub heap-shared : (types : List SubType) → have_fitting_supertypes types ≡ true → (h k : HeapType) → is_heap_below types h k ≡ true → is_heap_shared types h ≡ is_heap_shared types k
 heap-shared types fit (Abstract s a) (Abstract z b) e = beq-equal s z (and_parts (beq s z) _ e).0
-heap-shared types fit (Abstract s a) (Concrete j) e = beq-equal s _ (and_parts (beq s (is_shared_at types (number_of j))) _ e).0
-heap-shared types fit (Concrete i) (Abstract z b) e = beq-equal _ z (and_parts (beq (is_shared_at types (number_of i)) z) _ e).0
-heap-shared types fit (Concrete i) (Concrete j) e = index-shared types (number_of i) (number_of j) fit e
+heap-shared types fit (Abstract s a) (Concrete j) e = below-shared s a (slice_get types (number_of j)) e
+heap-shared types fit (Concrete i) (Abstract z b) e = declared-shared (slice_get types (number_of i)) z b e
+heap-shared types fit (Concrete i) (Concrete j) e = index-sort is_shared_type shared-kept types (number_of i) (number_of j) fit e
 
--- the test of the marks and that of the kinds, along a chain
-both : (x y z : Bool) (a b c : AbstractHeapType) → x ≡ y → y ≡ z → abstract_below a b ≡ true → abstract_below b c ≡ true → (beq x z && abstract_below a c) ≡ true
-both x y z a b c e f h k = and_from _ _ (subst (λ w. beq x w ≡ true) (e ∙ f) (beq-reflexive x)) (abstract-transitive a b c h k)
+-- ---- chains through abstract and declared types
 
-pub heap-transitive : (types : List SubType) → have_fitting_supertypes types ≡ true → (h k l : HeapType) → heap_below types h k ≡ true → heap_below types k l ≡ true → heap_below types h l ≡ true
-heap-transitive types fit (Abstract s a) (Abstract z b) (Abstract w c) e f =
-    both s z w a b c (heap-shared types fit (Abstract s a) (Abstract z b) e) (heap-shared types fit (Abstract z b) (Abstract w c) f) (and_parts (beq s z) _ e).1 (and_parts (beq z w) _ f).1
-heap-transitive types fit (Abstract s a) (Abstract z b) (Concrete l) e f =
-    both s z (is_shared_at types (number_of l)) a b NoFunc (heap-shared types fit (Abstract s a) (Abstract z b) e) (heap-shared types fit (Abstract z b) (Concrete l) f) (and_parts (beq s z) _ e).1 (and_parts (beq z (is_shared_at types (number_of l))) _ f).1
-heap-transitive types fit (Abstract s a) (Concrete j) (Abstract w c) e f =
-    both s (is_shared_at types (number_of j)) w a NoFunc c (heap-shared types fit (Abstract s a) (Concrete j) e) (heap-shared types fit (Concrete j) (Abstract w c) f)
-    (and_parts (beq s (is_shared_at types (number_of j))) _ e).1 (abstract-transitive NoFunc Func c refl (and_parts (beq (is_shared_at types (number_of j)) w) _ f).1)
+-- the test of the marks and that of the abstract types, along a chain
+both : (x y z : Bool) (a b c : AbstractHeapType) → (beq x y && is_abstract_below a b) ≡ true → (beq y z && is_abstract_below b c) ≡ true → (beq x z && is_abstract_below a c) ≡ true
+both x y z a b c h k =
+    let p = and_parts (beq x y) _ h in
+    let q = and_parts (beq y z) _ k in
+    and_from _ _ (subst (λ w. beq x w ≡ true) (beq-equal x y p.0 ∙ beq-equal y z q.0) (beq-reflexive x)) (abstract-transitive a b c p.1 q.1)
+
+abstract-declared : (s z : Bool) (a b : AbstractHeapType) (o : Option SubType) → (beq s z && is_abstract_below a b) ≡ true → is_below_declared z b o ≡ true → is_below_declared s a o ≡ true
+abstract-declared s z a b None h k = cc
+abstract-declared s z a b (Some d) h k = both s z d.composite_type.shared a b (kind_bottom d.composite_type.inner) h k
+
+declared-abstract : (o : Option SubType) (z w : Bool) (b c : AbstractHeapType) → is_declared_below o z b ≡ true → (beq z w && is_abstract_below b c) ≡ true → is_declared_below o w c ≡ true
+declared-abstract None z w b c h k = cc
+declared-abstract (Some d) z w b c h k = both d.composite_type.shared z w (kind_of d.composite_type.inner) b c h k
+
+through-declared : (s w : Bool) (a c : AbstractHeapType) (o : Option SubType) → is_below_declared s a o ≡ true → is_declared_below o w c ≡ true → (beq s w && is_abstract_below a c) ≡ true
+through-declared s w a c None h k = cc
+through-declared s w a c (Some d) h k =
+    both s d.composite_type.shared w a (kind_of d.composite_type.inner) c
+    (both s d.composite_type.shared d.composite_type.shared a (kind_bottom d.composite_type.inner) (kind_of d.composite_type.inner) h
+    (and_from _ _ (beq-reflexive d.composite_type.shared) (bottom-below d.composite_type.inner))) k
+
+through-abstract : (o p : Option SubType) (z : Bool) (b : AbstractHeapType) → is_declared_below o z b ≡ true → is_below_declared z b p ≡ true → ⊥
+through-abstract None p z b h k = cc
+through-abstract (Some s) None z b h k = cc
+through-abstract (Some s) (Some t) z b h k =
+    let on = both s.composite_type.shared z t.composite_type.shared (kind_of s.composite_type.inner) b (kind_bottom t.composite_type.inner) h k in
+    let off = kind-above s.composite_type.inner t.composite_type.inner in
+    let holds = (and_parts (beq s.composite_type.shared t.composite_type.shared) _ on).1 in
+    cc
+
+pub heap-transitive : (types : List SubType) → have_fitting_supertypes types ≡ true → (h k l : HeapType) → is_heap_below types h k ≡ true → is_heap_below types k l ≡ true → is_heap_below types h l ≡ true
+heap-transitive types fit (Abstract s a) (Abstract z b) (Abstract w c) e f = both s z w a b c e f
+heap-transitive types fit (Abstract s a) (Abstract z b) (Concrete l) e f = abstract-declared s z a b (slice_get types (number_of l)) e f
+heap-transitive types fit (Abstract s a) (Concrete j) (Abstract w c) e f = through-declared s w a c (slice_get types (number_of j)) e f
 heap-transitive types fit (Abstract s a) (Concrete j) (Concrete l) e f =
-    both s (is_shared_at types (number_of j)) (is_shared_at types (number_of l)) a NoFunc NoFunc (heap-shared types fit (Abstract s a) (Concrete j) e) (heap-shared types fit (Concrete j) (Concrete l) f)
-    (and_parts (beq s (is_shared_at types (number_of j))) _ e).1 refl
-heap-transitive types fit (Concrete i) (Abstract z b) (Abstract w c) e f =
-    both (is_shared_at types (number_of i)) z w Func b c (heap-shared types fit (Concrete i) (Abstract z b) e) (heap-shared types fit (Abstract z b) (Abstract w c) f)
-    (and_parts (beq (is_shared_at types (number_of i)) z) _ e).1 (and_parts (beq z w) _ f).1
+    sym (index-sort (is_below_declared s a) (below-kept s a) types (number_of j) (number_of l) fit f) ∙ e
+heap-transitive types fit (Concrete i) (Abstract z b) (Abstract w c) e f = declared-abstract (slice_get types (number_of i)) z w b c e f
 heap-transitive types fit (Concrete i) (Abstract z b) (Concrete l) e f =
-    let no : abstract_below Func NoFunc ≡ true =
-    abstract-transitive Func b NoFunc (and_parts (beq (is_shared_at types (number_of i)) z) _ e).1 (and_parts (beq z (is_shared_at types (number_of l))) _ f).1 in cc
+    absurd (through-abstract (slice_get types (number_of i)) (slice_get types (number_of l)) z b e f)
 heap-transitive types fit (Concrete i) (Concrete j) (Abstract w c) e f =
-    both (is_shared_at types (number_of i)) (is_shared_at types (number_of j)) w Func Func c (heap-shared types fit (Concrete i) (Concrete j) e) (heap-shared types fit (Concrete j) (Abstract w c) f)
-    refl (and_parts (beq (is_shared_at types (number_of j)) w) _ f).1
+    index-sort (λ o. is_declared_below o w c) (declared-kept w c) types (number_of i) (number_of j) fit e ∙ f
 heap-transitive types fit (Concrete i) (Concrete j) (Concrete l) e f = index-transitive types (number_of i) (number_of j) (number_of l) e f
 
 -- ---- references
@@ -142,18 +220,18 @@ null-transitive true false z h k = cc
 null-transitive false y true h k = refl
 null-transitive false y false h k = refl
 
-pub ref-reflexive : (types : List SubType) (r : RefType) → ref_below types r r ≡ true
+pub ref-reflexive : (types : List SubType) (r : RefType) → is_ref_below types r r ≡ true
 ref-reflexive types r = and_from _ _ (heap-reflexive types r.heap_type) (null-reflexive r.nullable)
 
-ref-transitive : (types : List SubType) → have_fitting_supertypes types ≡ true → (r s t : RefType) → ref_below types r s ≡ true → ref_below types s t ≡ true → ref_below types r t ≡ true
+ref-transitive : (types : List SubType) → have_fitting_supertypes types ≡ true → (r s t : RefType) → is_ref_below types r s ≡ true → is_ref_below types s t ≡ true → is_ref_below types r t ≡ true
 ref-transitive types fit r s t e f =
-    let p = and_parts (heap_below types r.heap_type s.heap_type) _ e in
-    let q = and_parts (heap_below types s.heap_type t.heap_type) _ f in
+    let p = and_parts (is_heap_below types r.heap_type s.heap_type) _ e in
+    let q = and_parts (is_heap_below types s.heap_type t.heap_type) _ f in
     and_from _ _ (heap-transitive types fit r.heap_type s.heap_type t.heap_type p.0 q.0) (null-transitive r.nullable s.nullable t.nullable p.1 q.1)
 
 -- ---- value types
 
-pub type-reflexive : (types : List SubType) (t : ValType) → type_below types t t ≡ true
+pub type-reflexive : (types : List SubType) (t : ValType) → is_type_below types t t ≡ true
 type-reflexive types I32 = refl
 type-reflexive types I64 = refl
 type-reflexive types F32 = refl
@@ -162,7 +240,7 @@ type-reflexive types V128 = refl
 type-reflexive types (Ref r) = ref-reflexive types r
 
 -- only a number type is below itself
-pub number-below : (types : List SubType) (t u : ValType) → type_below types t u ≡ true → is_number u ≡ true → t ≡ u
+pub number-below : (types : List SubType) (t u : ValType) → is_type_below types t u ≡ true → is_number_or_vector u ≡ true → t ≡ u
 number-below types I32 I32 h k = refl
 number-below types I64 I64 h k = refl
 number-below types F32 F32 h k = refl
@@ -172,7 +250,7 @@ number-below types (Ref r) (Ref s) h k = cc
 number-below types _ _ h k = cc
 
 -- only a reference is below a reference
-pub below-ref : (types : List SubType) (t : ValType) (s : RefType) → type_below types t (Ref s) ≡ true → (r : RefType) × (t ≡ Ref r) × (ref_below types r s ≡ true)
+pub below-ref : (types : List SubType) (t : ValType) (s : RefType) → is_type_below types t (Ref s) ≡ true → (r : RefType) × (t ≡ Ref r) × (is_ref_below types r s ≡ true)
 below-ref types (Ref r) s h = (r, refl, h)
 below-ref types I32 s h = cc
 below-ref types I64 s h = cc
@@ -180,14 +258,14 @@ below-ref types F32 s h = cc
 below-ref types F64 s h = cc
 below-ref types V128 s h = cc
 
-below-number : (types : List SubType) (t u v : ValType) → is_number v ≡ true → type_below types t u ≡ true → type_below types u v ≡ true → type_below types t v ≡ true
-below-number types t u v n h k = subst (λ w. type_below types t w ≡ true) (number-below types u v k n) h
+below-number : (types : List SubType) (t u v : ValType) → is_number_or_vector v ≡ true → is_type_below types t u ≡ true → is_type_below types u v ≡ true → is_type_below types t v ≡ true
+below-number types t u v n h k = subst (λ w. is_type_below types t w ≡ true) (number-below types u v k n) h
 
-pub type-transitive : (types : List SubType) → have_fitting_supertypes types ≡ true → (t u v : ValType) → type_below types t u ≡ true → type_below types u v ≡ true → type_below types t v ≡ true
+pub type-transitive : (types : List SubType) → have_fitting_supertypes types ≡ true → (t u v : ValType) → is_type_below types t u ≡ true → is_type_below types u v ≡ true → is_type_below types t v ≡ true
 type-transitive types fit t u (Ref v) h k =
     let (s, is, e) = below-ref types u v k in
-    let (r, was, f) = below-ref types t s (subst (λ w. type_below types t w ≡ true) is h) in
-    subst (λ w. type_below types w (Ref v) ≡ true) (sym was) (ref-transitive types fit r s v f e)
+    let (r, was, f) = below-ref types t s (subst (λ w. is_type_below types t w ≡ true) is h) in
+    subst (λ w. is_type_below types w (Ref v) ≡ true) (sym was) (ref-transitive types fit r s v f e)
 type-transitive types fit t u I32 h k = below-number types t u I32 refl h k
 type-transitive types fit t u I64 h k = below-number types t u I64 refl h k
 type-transitive types fit t u F32 h k = below-number types t u F32 refl h k

@@ -3,14 +3,15 @@
 ghost use Rattle.std.specs.Prelude.{◌≡◌, ◌≤◌, ℕ, Bool, true, false, map, length, Option, ok_or, IfOk, OnOk, OnErr, IfErr, option_map};
 ghost use Rattle.std.specs.List.{list_all};
 ghost use Rattle.validate_types.specs.Heap.{number_of};
-ghost use Rattle.validate_resources.specs.Indices.{is_known, type_test, ref_test, table_test, global_test, sub_test, inner_test, signature_test, supertype_test, type_with_id, ref_with_id, table_with_id, global_with_id, sub_with_ids, inner_with_ids, signature_with_ids, index_with_id, canonical_index, canonical_heap, canonical_ref, canonical_type, heap_number, type_number};
-ghost use Rattle.validate_resources.specs.Lists.{indices_test};
+ghost use Rattle.validate_resources.specs.Indices.{is_known, type_indices_pass, ref_indices_pass, table_indices_pass, global_indices_pass, sub_indices_pass, inner_indices_pass, storage_indices_pass, field_indices_pass, signature_indices_pass, supertype_indices_pass, type_with_id, ref_with_id, table_with_id, global_with_id, sub_with_ids, inner_with_ids, storage_with_id, field_with_id, array_with_id, signature_with_ids, index_with_id, canonical_index, canonical_heap, canonical_ref, canonical_type, heap_number, type_number};
+ghost use Rattle.validate_resources.specs.Lists.{list_indices_pass};
 ghost use Rattle.validate_resources.specs.declared.lists.TheConstants.{MAX_TYPES};
 
 use std::alloc::Global;
 use validate_types::{
-    CompositeInnerType, CompositeType, CoreTypeId, Error, FuncType, GlobalType, HeapType,
-    PackedIndex, RefType, SubType, TableType, UnpackedIndex, ValType,
+    ArrayType, CompositeInnerType, CompositeType, CoreTypeId, Error, FieldType, FuncType,
+    GlobalType, HeapType, PackedIndex, RefType, StorageType, StructType, SubType, TableType,
+    UnpackedIndex, ValType,
 };
 
 /// The number of an index of either kind.
@@ -76,9 +77,9 @@ fn canonical_supertype(
     count: usize,
 ) -> Result<Option<PackedIndex>, u32>
     requires { count ≤ MAX_TYPES }
-    ensures known { OnOk result (supertype_test (is_known count) supertype ≡ true) }
+    ensures known { OnOk result (supertype_indices_pass (is_known count) supertype ≡ true) }
     ensures form { IfOk result (λ x. x ≡ option_map index_with_id supertype) }
-    ensures refused { OnErr result (supertype_test (is_known count) supertype ≡ false) }
+    ensures refused { OnErr result (supertype_indices_pass (is_known count) supertype ≡ false) }
 {
     match supertype {
         None => Ok(None),
@@ -119,7 +120,7 @@ fn unknown_type() -> Error
 }
 
 impl Canonical for ValType {
-    ghost known = { λ n t. type_test (is_known n) t };
+    ghost known = { λ n t. type_indices_pass (is_known n) t };
 
     ghost form = { type_with_id };
 
@@ -132,7 +133,7 @@ impl Canonical for ValType {
 }
 
 impl Canonical for RefType {
-    ghost known = { λ n r. ref_test (is_known n) r };
+    ghost known = { λ n r. ref_indices_pass (is_known n) r };
 
     ghost form = { ref_with_id };
 
@@ -145,7 +146,7 @@ impl Canonical for RefType {
 }
 
 impl Canonical for TableType {
-    ghost known = { λ n t. table_test (is_known n) t };
+    ghost known = { λ n t. table_indices_pass (is_known n) t };
 
     ghost form = { table_with_id };
 
@@ -161,7 +162,7 @@ impl Canonical for TableType {
 }
 
 impl Canonical for GlobalType {
-    ghost known = { λ n g. global_test (is_known n) g };
+    ghost known = { λ n g. global_indices_pass (is_known n) g };
 
     ghost form = { global_with_id };
 
@@ -177,7 +178,7 @@ impl Canonical for GlobalType {
 }
 
 impl Canonical for FuncType {
-    ghost known = { λ n f. signature_test (is_known n) f };
+    ghost known = { λ n f. signature_indices_pass (is_known n) f };
 
     ghost form = { signature_with_ids };
 
@@ -188,8 +189,60 @@ impl Canonical for FuncType {
     }
 }
 
+impl Canonical for StorageType {
+    ghost known = { λ n t. storage_indices_pass (is_known n) t };
+
+    ghost form = { storage_with_id };
+
+    fn canonical(&self, alloc: Global, count: usize) -> Result<StorageType, Error> {
+        match self {
+            StorageType::Val(ty) => {
+                let ty = ty.canonical(alloc, count)?;
+                Ok(StorageType::Val(ty))
+            }
+            StorageType::I8 | StorageType::I16 => Ok(*self),
+        }
+    }
+}
+
+impl Canonical for FieldType {
+    ghost known = { λ n f. field_indices_pass (is_known n) f };
+
+    ghost form = { field_with_id };
+
+    fn canonical(&self, alloc: Global, count: usize) -> Result<FieldType, Error> {
+        let element_type = self.element_type.canonical(alloc, count)?;
+        Ok(FieldType {
+            element_type,
+            ..*self
+        })
+    }
+}
+
+impl Canonical for ArrayType {
+    ghost known = { λ n a. field_indices_pass (is_known n) a.0 };
+
+    ghost form = { array_with_id };
+
+    fn canonical(&self, alloc: Global, count: usize) -> Result<ArrayType, Error> {
+        let field = self.0.canonical(alloc, count)?;
+        Ok(ArrayType(field))
+    }
+}
+
+impl Canonical for StructType {
+    ghost known = { λ n fields. list_all (field_indices_pass (is_known n)) fields };
+
+    ghost form = { λ fields. map field_with_id fields };
+
+    fn canonical(&self, alloc: Global, count: usize) -> Result<StructType, Error> {
+        let fields = canonical_all(alloc, &self.fields, count)?;
+        Ok(StructType { fields })
+    }
+}
+
 impl Canonical for CompositeInnerType {
-    ghost known = { λ n i. inner_test (is_known n) i };
+    ghost known = { λ n i. inner_indices_pass (is_known n) i };
 
     ghost form = { inner_with_ids };
 
@@ -199,12 +252,20 @@ impl Canonical for CompositeInnerType {
                 let func = func.canonical(alloc, count)?;
                 Ok(CompositeInnerType::Func(func))
             }
+            CompositeInnerType::Array(array) => {
+                let array = array.canonical(alloc, count)?;
+                Ok(CompositeInnerType::Array(array))
+            }
+            CompositeInnerType::Struct(fields) => {
+                let fields = fields.canonical(alloc, count)?;
+                Ok(CompositeInnerType::Struct(fields))
+            }
         }
     }
 }
 
 impl Canonical for SubType {
-    ghost known = { λ n s. sub_test (is_known n) s };
+    ghost known = { λ n s. sub_indices_pass (is_known n) s };
 
     ghost form = { sub_with_ids };
 
@@ -273,14 +334,14 @@ pub fn canonical_lists(
     elements: &[RefType],
 ) -> Result<Forms, Error>
     requires { length types.now ≤ MAX_TYPES }
-    ensures known { OnOk result (indices_test (is_known (length types.now)) types.now tables.now
+    ensures known { OnOk result (list_indices_pass (is_known (length types.now)) types.now tables.now
         globals.now elements.now ≡ true) }
     ensures types { IfOk result (λ f. f.types.items ≡ map sub_with_ids types.now) }
     ensures tables { IfOk result (λ f. f.tables.items ≡ map table_with_id tables.now) }
     ensures globals { IfOk result (λ f. f.globals.items ≡ map global_with_id globals.now) }
     ensures elements { IfOk result (λ f. f.elements.items ≡ map ref_with_id elements.now) }
     ensures refused { IfErr result (λ e. e.wants_memory ≡ false
-        → indices_test (is_known (length types.now)) types.now tables.now globals.now elements.now
+        → list_indices_pass (is_known (length types.now)) types.now tables.now globals.now elements.now
         ≡ false) }
     ensures offset { IfErr result (λ e. e.offset ≡ 0) }
 {

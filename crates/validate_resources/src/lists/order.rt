@@ -1,11 +1,13 @@
 //! The order on the types of a module.
 
 ghost use Rattle.std.specs.Prelude.{◌≡◌, true, false, slice_get};
-ghost use Rattle.validate_resources.specs.Order.{is_shared_at, is_heap_shared, has_fitting_supertype, have_fitting_supertypes, supertype_of, index_below, heap_below, ref_below, type_below};
+ghost use Rattle.validate_resources.specs.Order.{is_shared_at, is_heap_shared, is_same_kind, kind_of, kind_bottom, is_same_sort, has_fitting_supertype, have_fitting_supertypes, supertype_of, is_index_below, is_declared_below, is_below_declared, declared_top, heap_top, is_heap_below, is_ref_below, is_type_below};
+ghost use Rattle.validate_types.specs.Abstract.{abstract_top};
 
 use crate::lists::canonical::number;
 use validate_types::{
-    AbstractHeapType, HeapType, PackedIndex, RefType, SubType, UnpackedIndex, ValType,
+    AbstractHeapType, CompositeInnerType, CompositeType, HeapType, PackedIndex, RefType, SubType,
+    UnpackedIndex, ValType,
 };
 
 /// Whether the type at this index is marked as shared; false where there is none.
@@ -28,31 +30,77 @@ pub fn is_heap_shared(types: &[SubType], ty: HeapType) -> bool
     }
 }
 
-/// Whether the supertype of the type at an index, if it has one, is an earlier type of the same
-/// sharedness.
+/// Whether both are of functions, of arrays or of structs.
+fn is_same_kind(a: &CompositeInnerType, b: &CompositeInnerType) -> bool
+    ensures { result ≡ is_same_kind a.now b.now }
+{
+    match (a, b) {
+        (CompositeInnerType::Func(_), CompositeInnerType::Func(_))
+        | (CompositeInnerType::Array(_), CompositeInnerType::Array(_))
+        | (CompositeInnerType::Struct(_), CompositeInnerType::Struct(_)) => true,
+        _ => false,
+    }
+}
+
+/// The abstract type that each type of the kind is below.
+fn kind_of(inner: &CompositeInnerType) -> AbstractHeapType
+    ensures { result ≡ kind_of inner.now }
+{
+    match inner {
+        CompositeInnerType::Func(_) => AbstractHeapType::Func,
+        CompositeInnerType::Array(_) => AbstractHeapType::Array,
+        CompositeInnerType::Struct(_) => AbstractHeapType::Struct,
+    }
+}
+
+/// The bottom type below each type of the kind.
+fn kind_bottom(inner: &CompositeInnerType) -> AbstractHeapType
+    ensures { result ≡ kind_bottom inner.now }
+{
+    match inner {
+        CompositeInnerType::Func(_) => AbstractHeapType::NoFunc,
+        CompositeInnerType::Array(_) | CompositeInnerType::Struct(_) => AbstractHeapType::None,
+    }
+}
+
+/// Whether the type at this index is there, and is of this kind and sharedness.
+fn is_same_sort(types: &[SubType], index: u32, composite_type: &CompositeType) -> bool
+    ensures { result ≡ is_same_sort composite_type.now (slice_get types.now index) }
+{
+    match types.get(index as usize) {
+        Some(other) => {
+            is_same_kind(&composite_type.inner, &other.composite_type.inner)
+                && composite_type.shared == other.composite_type.shared
+        }
+        None => false,
+    }
+}
+
+/// Whether the supertype of the type at an index, if it has one, is an earlier type of the same kind
+/// and sharedness.
 fn supertype_fits(
     types: &[SubType],
     index: usize,
-    shared: bool,
+    composite_type: &CompositeType,
     supertype: Option<PackedIndex>,
 ) -> bool
-    ensures { result ≡ has_fitting_supertype types.now index shared supertype }
+    ensures { result ≡ has_fitting_supertype types.now index composite_type.now supertype }
 {
     match supertype {
         None => true,
         Some(supertype) => {
             let supertype = number(supertype.unpack());
-            (supertype as usize) < index && is_shared_at(types, supertype) == shared
+            (supertype as usize) < index && is_same_sort(types, supertype, composite_type)
         }
     }
 }
 
-/// Whether each declared supertype is an earlier type of the same sharedness.
+/// Whether each declared supertype is an earlier type of the same kind and sharedness.
 pub fn supertypes_fit(types: &[SubType]) -> bool
     ensures { result ≡ have_fitting_supertypes types.now }
 {
     types.iter().enumerate().all(|(index, ty)| {
-        supertype_fits(types, index, ty.composite_type.shared, ty.supertype_idx)
+        supertype_fits(types, index, &ty.composite_type, ty.supertype_idx)
     })
 }
 
@@ -71,7 +119,7 @@ fn supertype_of(types: &[SubType], index: u32) -> Option<u32>
 
 /// Whether a chain of supertypes leads from a type to another. It costs the length of the chain.
 fn is_index_below(types: &[SubType], low: u32, high: u32) -> bool
-    ensures { result ≡ index_below types.now low high }
+    ensures { result ≡ is_index_below types.now low high }
 {
     let mut at = low;
     while at != high {
@@ -83,20 +131,45 @@ fn is_index_below(types: &[SubType], low: u32, high: u32) -> bool
     true
 }
 
+/// Whether the type at this index is there, and is below an abstract one or the shared copy of it.
+fn is_declared_below(types: &[SubType], index: u32, shared: bool, above: AbstractHeapType) -> bool
+    ensures { result ≡ is_declared_below (slice_get types.now index) shared above }
+{
+    match types.get(index as usize) {
+        Some(ty) => {
+            ty.composite_type.shared == shared
+                && kind_of(&ty.composite_type.inner).is_subtype_of(above)
+        }
+        None => false,
+    }
+}
+
+/// Whether the type at this index is there, and is above an abstract one or the shared copy of it.
+fn is_below_declared(types: &[SubType], shared: bool, below: AbstractHeapType, index: u32) -> bool
+    ensures { result ≡ is_below_declared shared below (slice_get types.now index) }
+{
+    match types.get(index as usize) {
+        Some(ty) => {
+            shared == ty.composite_type.shared
+                && below.is_subtype_of(kind_bottom(&ty.composite_type.inner))
+        }
+        None => false,
+    }
+}
+
 /// Whether a heap type is below another.
 fn is_heap_below(types: &[SubType], a: HeapType, b: HeapType) -> bool
-    ensures { result ≡ heap_below types.now a b }
+    ensures { result ≡ is_heap_below types.now a b }
 {
     match (a, b) {
         (HeapType::Concrete(low), HeapType::Concrete(high)) => {
             is_index_below(types, number(low), number(high))
         }
         (HeapType::Concrete(low), HeapType::Abstract { shared, ty }) => {
-            is_shared_at(types, number(low)) == shared && AbstractHeapType::Func.is_subtype_of(ty)
+            is_declared_below(types, number(low), shared, ty)
         }
         (HeapType::Abstract { shared, ty }, HeapType::Concrete(high)) => {
-            shared == is_shared_at(types, number(high))
-                && ty.is_subtype_of(AbstractHeapType::NoFunc)
+            is_below_declared(types, shared, ty, number(high))
         }
         (
             HeapType::Abstract {
@@ -111,7 +184,7 @@ fn is_heap_below(types: &[SubType], a: HeapType, b: HeapType) -> bool
 /// Whether a reference type is below another.
 #[inline(never)]
 fn is_ref_below(types: &[SubType], a: RefType, b: RefType) -> bool
-    ensures { result ≡ ref_below types.now a b }
+    ensures { result ≡ is_ref_below types.now a b }
 {
     is_heap_below(types, a.heap_type(), b.heap_type()) && (b.is_nullable() || !a.is_nullable())
 }
@@ -120,7 +193,7 @@ fn is_ref_below(types: &[SubType], a: RefType, b: RefType) -> bool
 /// costs the length of a chain of supertypes, and takes no memory.
 #[inline(always)]
 pub fn is_type_below(types: &[SubType], a: ValType, b: ValType) -> bool
-    ensures { result ≡ type_below types.now a b }
+    ensures { result ≡ is_type_below types.now a b }
 {
     match (a, b) {
         (ValType::I32, ValType::I32)
@@ -130,5 +203,50 @@ pub fn is_type_below(types: &[SubType], a: ValType, b: ValType) -> bool
         | (ValType::V128, ValType::V128) => true,
         (ValType::Ref(a), ValType::Ref(b)) => is_ref_below(types, a, b),
         _ => false,
+    }
+}
+
+/// The top type of the hierarchy that an abstract type is in.
+fn abstract_top(ty: AbstractHeapType) -> AbstractHeapType
+    ensures { result ≡ abstract_top ty }
+{
+    match ty {
+        AbstractHeapType::Func | AbstractHeapType::NoFunc => AbstractHeapType::Func,
+        AbstractHeapType::Extern | AbstractHeapType::NoExtern => AbstractHeapType::Extern,
+        AbstractHeapType::Exn | AbstractHeapType::NoExn => AbstractHeapType::Exn,
+        AbstractHeapType::Cont | AbstractHeapType::NoCont => AbstractHeapType::Cont,
+        AbstractHeapType::Any
+        | AbstractHeapType::None
+        | AbstractHeapType::Eq
+        | AbstractHeapType::Struct
+        | AbstractHeapType::Array
+        | AbstractHeapType::I31 => AbstractHeapType::Any,
+    }
+}
+
+/// The top type of the hierarchy of the kind of the type at this index; `any`, where there is none.
+fn declared_top(types: &[SubType], index: u32) -> AbstractHeapType
+    ensures { result ≡ declared_top (slice_get types.now index) }
+{
+    match types.get(index as usize) {
+        Some(ty) => abstract_top(kind_of(&ty.composite_type.inner)),
+        None => AbstractHeapType::Any,
+    }
+}
+
+/// The top type of the hierarchy that a heap type is in, of its sharedness.
+pub fn heap_top(types: &[SubType], ty: HeapType) -> HeapType
+    ensures { result ≡ heap_top types.now ty }
+{
+    match ty {
+        HeapType::Abstract { shared, ty } => {
+            let ty = abstract_top(ty);
+            HeapType::Abstract { shared, ty }
+        }
+        HeapType::Concrete(index) => {
+            let shared = is_shared_at(types, number(index));
+            let ty = declared_top(types, number(index));
+            HeapType::Abstract { shared, ty }
+        }
     }
 }

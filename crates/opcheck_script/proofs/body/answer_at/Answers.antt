@@ -1,7 +1,7 @@
 use Rattle.std.proofs.Common.{ℕ, sym, ap, subst, ◌∙◌}
 use Rattle.validate_types.specs.Refusal.{Refusal}
 use Rattle.validation_rules.specs.Static.{operand_count}
-use Rattle.validate_stacks.specs.State.{BodyState, context}
+use Rattle.validate_stacks.specs.State.{BodyState, body_context}
 use Rattle.validate_body.specs.Start.{state}
 use Rattle.validate_body.proofs.Listed.{visited, not_visited, visit_offset, visit_valid, visit_kept}
 use Rattle.opcheck_script.specs.Attempts.{Answer, IsAnswer, EndsRun}
@@ -27,7 +27,7 @@ returns-in-Err-clause-answered g c =
     let md = g.R.WasmModuleResources.context c.args.resources.now in
     let v = state c.args.v.now in
     let w = state c.visit_or_try.new.v in
-    ok_gives c.after_refusal.result (λ (a : Answer) h. subst (λ (x : Answer). IsAnswer (context md v) (c.args.op, c.args.offset) c.args.attempted x v.present w.present) (sym h.0) (
+    ok_gives c.after_refusal.result (λ (a : Answer) h. subst (λ (x : Answer). IsAnswer (body_context md v) (c.args.op, c.args.offset) c.args.attempted x v.present w.present) (sym h.0) (
       h.1,
       visit_offset md c.args.op c.args.offset v w c.in-Err.refusal c.in-Err.ensures.meets,
       h.2,
@@ -40,7 +40,7 @@ returns-in-Err-clause-ended g c =
     let md = g.R.WasmModuleResources.context c.args.resources.now in
     let v = state c.args.v.now in
     let w = state c.visit_or_try.new.v in
-    err_gives c.after_refusal.result (λ (e : Refusal) h. subst (λ (x : Refusal). EndsRun (context md v) (c.args.op, c.args.offset) c.args.attempted x v.present) (sym h.0) (record {
+    err_gives c.after_refusal.result (λ (e : Refusal) h. subst (λ (x : Refusal). EndsRun (body_context md v) (c.args.op, c.args.offset) c.args.attempted x v.present) (sym h.0) (record {
       at_offset = visit_offset md c.args.op c.args.offset v w c.in-Err.refusal c.in-Err.ensures.meets;
       is_plain = h.1;
       row = λ f. not_visited md c.args.op c.args.offset v w c.in-Err.refusal c.in-Err.ensures.meets f;

@@ -1,5 +1,5 @@
 use Rattle.std.proofs.Common.{IsSome, refl, sym, ap, ◌∙◌, subst}
-use Rattle.validate_stacks.specs.Attempts.{body_state, Stacked}
+use Rattle.validate_stacks.specs.Attempts.{body_of, Stacked}
 use Rattle.validate_stacks.specs.Pops.{IsKept}
 use Rattle.validate_stacks.specs.State.{BodyState}
 use Rattle.validate_stacks.specs.Visits.{MayVisit, Meets}
@@ -25,7 +25,7 @@ pub returns-clause-same : goal.returns-clause-same
 returns-clause-same g c =
     let md = g.R.WasmModuleResources.context c.args.resources.now in
     let kept = visit_kept md _ _ (state c.begin_try_op.new.self) (state c.check-answer.new.self) _ c.check-answer.ensures.row in
-    ap body_state c.rollback.ensures.back ∙ undone_whole (stacks_of c.args.v.now) (stacks_of c.check-answer.new.self) c.requires.idle (subst (λ (x : Stacked). IsKept x.body (state c.check-answer.new.self)) c.begin_try_op.ensures.begun kept)
+    ap body_of c.rollback.ensures.back ∙ undone_whole (stacks_of c.args.v.now) (stacks_of c.check-answer.new.self) c.requires.idle (subst (λ (x : Stacked). IsKept x.body (state c.check-answer.new.self)) c.begin_try_op.ensures.begun kept)
 
 pub returns-clause-offset : goal.returns-clause-offset
 returns-clause-offset g c =

@@ -12,9 +12,9 @@ pub loop-size-preserved : goal.loop-size-preserved
 loop-size-preserved c =
     let size = c.loop-size.size in
     let was = c.loop-size.invariant in
-    let few = few_quarters (size / 4) c.quarters_below.result c.quarters_below.ensures.few in
+    let within_limit = few_quarters (size / 4) c.quarters_below.result c.quarters_below.ensures.within_limit in
     record {
-      within = omega (arith, was.within, few);
+      within = omega (arith, was.within, within_limit);
       between = λ from rising. c.quarters_below.ensures.passed from size rising (omega arith) was.within (was.between from rising);
     }
 

@@ -12,7 +12,7 @@ loop-left-preserved c =
     let was = c.loop-left.invariant in
     let one = c.one_if_below-place in
     record {
-      within = omega (arith, was.within, one.ensures.few);
+      within = omega (arith, was.within, one.ensures.within_limit);
       between = λ from rising is.
           let next = between_one from runs index place above one.result (0, I32) rising (was.between from rising is) (omega arith) was.within record { below = one.ensures.below; above = one.ensures.above } in
           between_wider runs index (place + one.result) _ _ _ next (omega arith) (omega arith);

@@ -5,6 +5,7 @@ use Rattle.validation_rules.specs.Operators.{opening_operator}
 use Rattle.validate_stacks.specs.Blocks.{body_with_block}
 use Rattle.validate_stacks.specs.Pops.{body_popped_each}
 use Rattle.validate_stacks.specs.Visits.{step_body}
+use Rattle.validate_stacks.proofs.Closing.{takes_valid}
 use Rattle.validate_stacks.proofs.Validity.{kept_on}
 use Rattle.validate_stacks.proofs.Whole.{none_above, some_above}
 use Rattle.validate_rows.proofs.Opening.{opened_is}
@@ -20,6 +21,11 @@ returns-in_err-pop_types g c =
     let none : body_popped_each md (reverse above) v ≡ None → step_body md (λ cx. opening_operator cx c.args.kind above true c.args.block_type) v ≡ None =
     λ n. opened_is md v c.args.kind above c.args.block_type c.requires.visit.open_frame ∙ ap (option_map (λ u. body_with_block md c.args.kind c.args.block_type u)) (none_above md ps above v n) in
     meets_refused md _ c.args.offset v c.pop_types.new.self.body _ (search rules) (search (rules, none)) (search rules) c.pop_types.ensures.valid c.pop_types.ensures.kept
+
+pub pop_types-requires-2-clause-types : goal.pop_types-requires-2-clause-types
+pop_types-requires-2-clause-types g c =
+    takes_valid (g.R.WasmModuleResources.context c.args.resources.now) c.args.stacks.now.body.shared c.args.block_type c.params.result.now
+    (g.met.R.WasmModuleResources.lawful c.args.resources.now) c.requires.block c.params.ensures
 
 pub returns-in_err-pop_types-2 : goal.returns-in_err-pop_types-2
 returns-in_err-pop_types-2 g c =

@@ -1,10 +1,10 @@
 use Rattle.std.proofs.Common.{rules, ◌≡◌, None, reverse, refl, sym, ap, ◌∙◌}
 use Rattle.validation_rules.specs.Branches.{br_table_row}
-use Rattle.validation_rules.specs.Operators.{flat_operator}
+use Rattle.validation_rules.specs.Operators.{staying_operator}
 use Rattle.validate_stacks.specs.Pops.{body_popped_each}
-use Rattle.validate_stacks.specs.Steps.{label_of, body_unreachable}
+use Rattle.validate_stacks.specs.Steps.{label_at, body_unreachable}
 use Rattle.validate_stacks.specs.Visits.{step_body}
-use Rattle.validate_stacks.specs.State.{context}
+use Rattle.validate_stacks.specs.State.{body_context}
 use Rattle.validate_stacks.proofs.Validity.{kept_on}
 use Rattle.validate_shapes.proofs.Branching.{label_valid}
 use Rattle.validate_rows.proofs.BranchTables.{table_untested, table_none, types_table, table_refused, table_other_targets, table_passes}
@@ -33,8 +33,8 @@ returns-in_err-block_type-clause-visit g c =
     let v = c.args.stacks.now.body in
     let u = c.pop_types.new.self.body in
     let t = c.args.table in
-    let none : label_of u c.default.result ≡ None → step_body md (λ cx. flat_operator (λ hs. br_table_row cx hs t.complete t.targets.now t.default)) v ≡ None =
-    λ n. table_none md v c.requires.open_frame t.complete t.targets.now t.default u c.in_ok-pop_types.ensures.passed (ap (label_of u) (sym c.default.ensures) ∙ n) in
+    let none : label_at u c.default.result ≡ None → step_body md (λ cx. staying_operator (λ hs. br_table_row cx hs t.complete t.targets.now t.default)) v ≡ None =
+    λ n. table_none md v c.requires.open_frame t.complete t.targets.now t.default u c.in_ok-pop_types.ensures.passed (ap (label_at u) (sym c.default.ensures) ∙ n) in
     meets_none md _ c.args.offset v u _ (search rules) (search (rules, none)) (search rules) c.pop_types.ensures.valid c.pop_types.ensures.kept
 
 pub returns-in_err-block_type-clause-memory : goal.returns-in_err-block_type-clause-memory
@@ -43,8 +43,8 @@ returns-in_err-block_type-clause-memory g c =
     let v = c.args.stacks.now.body in
     let u = c.pop_types.new.self.body in
     let t = c.args.table in
-    let none : label_of u c.default.result ≡ None → step_body md (λ cx. flat_operator (λ hs. br_table_row cx hs t.complete t.targets.now t.default)) v ≡ None =
-    λ n. table_none md v c.requires.open_frame t.complete t.targets.now t.default u c.in_ok-pop_types.ensures.passed (ap (label_of u) (sym c.default.ensures) ∙ n) in
+    let none : label_at u c.default.result ≡ None → step_body md (λ cx. staying_operator (λ hs. br_table_row cx hs t.complete t.targets.now t.default)) v ≡ None =
+    λ n. table_none md v c.requires.open_frame t.complete t.targets.now t.default u c.in_ok-pop_types.ensures.passed (ap (label_at u) (sym c.default.ensures) ∙ n) in
     search (rules, none)
 
 pub returns-in_err-check_targets-clause-visit : goal.returns-in_err-check_targets-clause-visit
@@ -53,7 +53,7 @@ returns-in_err-check_targets-clause-visit g c =
     let v = c.args.stacks.now.body in
     let u = c.pop_types.new.self.body in
     let t = c.args.table in
-    let none = table_other_targets md v c.requires.open_frame t.complete t.targets.now t.default c.pop_types.new.self.body c.in_ok-pop_types.ensures.passed c.in_ok-block_type.block_type c.in_ok-block_type.kind c.label_types-types.result.now (ap (label_of u) (sym c.default.ensures) ∙ c.in_ok-block_type.ensures.found) (c.label_types-types.ensures (context md v) refl) in
+    let none = table_other_targets md v c.requires.open_frame t.complete t.targets.now t.default c.pop_types.new.self.body c.in_ok-pop_types.ensures.passed c.in_ok-block_type.block_type c.in_ok-block_type.kind c.label_types-types.result.now (ap (label_at u) (sym c.default.ensures) ∙ c.in_ok-block_type.ensures.found) (c.label_types-types.ensures (body_context md v) refl) in
     let s = c.check_targets.new.stacks.body in
     meets_refused md _ c.args.offset v s _ (search rules) (search (rules, none)) (search rules) c.check_targets.ensures.valid (kept_on v u s c.pop_types.ensures.kept c.check_targets.ensures.kept)
 
@@ -63,7 +63,7 @@ returns-in_err-check_targets-clause-memory g c =
     let v = c.args.stacks.now.body in
     let u = c.pop_types.new.self.body in
     let t = c.args.table in
-    let none = table_other_targets md v c.requires.open_frame t.complete t.targets.now t.default c.pop_types.new.self.body c.in_ok-pop_types.ensures.passed c.in_ok-block_type.block_type c.in_ok-block_type.kind c.label_types-types.result.now (ap (label_of u) (sym c.default.ensures) ∙ c.in_ok-block_type.ensures.found) (c.label_types-types.ensures (context md v) refl) in
+    let none = table_other_targets md v c.requires.open_frame t.complete t.targets.now t.default c.pop_types.new.self.body c.in_ok-pop_types.ensures.passed c.in_ok-block_type.block_type c.in_ok-block_type.kind c.label_types-types.result.now (ap (label_at u) (sym c.default.ensures) ∙ c.in_ok-block_type.ensures.found) (c.label_types-types.ensures (body_context md v) refl) in
     search (rules, none)
 
 pub pop_types-requires-2-clause-types : goal.pop_types-requires-2-clause-types
@@ -73,7 +73,7 @@ pop_types-requires-2-clause-types g c =
     let u = c.pop_types.new.self.body in
     let t = c.args.table in
     let laws = g.met.R.WasmModuleResources.lawful c.args.resources.now in
-    label_valid md v t.default c.label_types-types.result.now laws c.requires.valid (types_table md v c.requires.open_frame t.complete t.targets.now t.default c.pop_types.new.self.body c.in_ok-pop_types.ensures.passed c.in_ok-block_type.block_type c.in_ok-block_type.kind c.label_types-types.result.now (ap (label_of u) (sym c.default.ensures) ∙ c.in_ok-block_type.ensures.found) (c.label_types-types.ensures (context md v) refl))
+    label_valid md v t.default c.label_types-types.result.now laws c.requires.valid (types_table md v c.requires.open_frame t.complete t.targets.now t.default c.pop_types.new.self.body c.in_ok-pop_types.ensures.passed c.in_ok-block_type.block_type c.in_ok-block_type.kind c.label_types-types.result.now (ap (label_at u) (sym c.default.ensures) ∙ c.in_ok-block_type.ensures.found) (c.label_types-types.ensures (body_context md v) refl))
 
 pub returns-in_err-pop_types-2-clause-visit : goal.returns-in_err-pop_types-2-clause-visit
 returns-in_err-pop_types-2-clause-visit g c =
@@ -83,7 +83,7 @@ returns-in_err-pop_types-2-clause-visit g c =
     let t = c.args.table in
     let s = c.check_targets.new.stacks.body in
     let w = c.pop_types-2.new.self.body in
-    let none = table_refused md v c.requires.open_frame t.complete t.targets.now t.default c.pop_types.new.self.body c.in_ok-pop_types.ensures.passed c.in_ok-block_type.block_type c.in_ok-block_type.kind c.label_types-types.result.now (ap (label_of u) (sym c.default.ensures) ∙ c.in_ok-block_type.ensures.found) (c.label_types-types.ensures (context md v) refl) in
+    let none = table_refused md v c.requires.open_frame t.complete t.targets.now t.default c.pop_types.new.self.body c.in_ok-pop_types.ensures.passed c.in_ok-block_type.block_type c.in_ok-block_type.kind c.label_types-types.result.now (ap (label_at u) (sym c.default.ensures) ∙ c.in_ok-block_type.ensures.found) (c.label_types-types.ensures (body_context md v) refl) in
     meets_refused md _ c.args.offset v w _ (search rules) (search (rules, none)) (search rules) c.pop_types-2.ensures.valid (kept_on v s w (kept_on v u s c.pop_types.ensures.kept c.check_targets.ensures.kept) c.pop_types-2.ensures.kept)
 
 pub returns-in_err-pop_types-2-clause-memory : goal.returns-in_err-pop_types-2-clause-memory
@@ -92,7 +92,7 @@ returns-in_err-pop_types-2-clause-memory g c =
     let v = c.args.stacks.now.body in
     let u = c.pop_types.new.self.body in
     let t = c.args.table in
-    let none = table_refused md v c.requires.open_frame t.complete t.targets.now t.default c.pop_types.new.self.body c.in_ok-pop_types.ensures.passed c.in_ok-block_type.block_type c.in_ok-block_type.kind c.label_types-types.result.now (ap (label_of u) (sym c.default.ensures) ∙ c.in_ok-block_type.ensures.found) (c.label_types-types.ensures (context md v) refl) in
+    let none = table_refused md v c.requires.open_frame t.complete t.targets.now t.default c.pop_types.new.self.body c.in_ok-pop_types.ensures.passed c.in_ok-block_type.block_type c.in_ok-block_type.kind c.label_types-types.result.now (ap (label_at u) (sym c.default.ensures) ∙ c.in_ok-block_type.ensures.found) (c.label_types-types.ensures (body_context md v) refl) in
     search (rules, none)
 
 pub returns-clause-visit : goal.returns-clause-visit
@@ -106,5 +106,5 @@ returns-clause-visit g c =
     let passed = sym (ap (body_popped_each md (reverse c.label_types-types.result.now)) same) ∙ c.in_ok-pop_types-2.ensures.passed in
     let w = c.pop_types-2.new.self.body in
     let x = c.end_live_part.new.self.body in
-    meets_last md _ c.args.offset v x (body_unreachable w) c.end_live_part.result (λ q. table_passes md v c.requires.open_frame t.complete t.targets.now t.default c.pop_types.new.self.body c.in_ok-pop_types.ensures.passed c.in_ok-block_type.block_type c.in_ok-block_type.kind c.label_types-types.result.now (ap (label_of u) (sym c.default.ensures) ∙ c.in_ok-block_type.ensures.found) (c.label_types-types.ensures (context md v) refl) w x c.in_ok-check_targets.ensures.fits passed q) c.end_live_part.ensures.ended c.end_live_part.ensures.memory c.end_live_part.ensures.offset
+    meets_last md _ c.args.offset v x (body_unreachable w) c.end_live_part.result (λ q. table_passes md v c.requires.open_frame t.complete t.targets.now t.default c.pop_types.new.self.body c.in_ok-pop_types.ensures.passed c.in_ok-block_type.block_type c.in_ok-block_type.kind c.label_types-types.result.now (ap (label_at u) (sym c.default.ensures) ∙ c.in_ok-block_type.ensures.found) (c.label_types-types.ensures (body_context md v) refl) w x c.in_ok-check_targets.ensures.fits passed q) c.end_live_part.ensures.ended c.end_live_part.ensures.memory c.end_live_part.ensures.offset
     (c.end_live_part.ensures.valid md c.pop_types-2.ensures.valid) (kept_on v w x (kept_on v s w (kept_on v u s c.pop_types.ensures.kept c.check_targets.ensures.kept) c.pop_types-2.ensures.kept) c.end_live_part.ensures.kept)

@@ -2,7 +2,7 @@ use Rattle.std.proofs.Common.{rules, pred, length, refl, sym, ap, ◌∙◌}
 use Rattle.std.specs.Option.{option_copied}
 use Rattle.validation_rules.specs.Branches.{return_row}
 use Rattle.validation_rules.specs.Static.{heads}
-use Rattle.validate_stacks.specs.State.{context}
+use Rattle.validate_stacks.specs.State.{body_context}
 use Rattle.validate_stacks.specs.Steps.{body_unreachable}
 use Rattle.validate_stacks.proofs.Validity.{kept_on}
 use Rattle.validate_shapes.proofs.Branching.{label_valid, types_there, br_refused, br_passes, some_outermost, outermost_label}
@@ -21,7 +21,7 @@ pop_types-requires-clause-types g c =
     let f = c.in-Some.frame.now in
     let there = outermost_label v c.control_stack_height-outermost.result f c.control_stack_height-outermost.ensures (sym c.get_frame.ensures ∙ ap option_copied c.in-Some.is) in
     let laws = g.met.R.WasmModuleResources.lawful c.args.resources.now in
-    label_valid md v d c.label_types-results.result.now laws c.requires.valid (types_there md v c.requires.open_frame (λ cx hs. return_row cx hs) d refl f.block_type f.kind c.label_types-results.result.now there (c.label_types-results.ensures (context md v) refl))
+    label_valid md v d c.label_types-results.result.now laws c.requires.valid (types_there md v c.requires.open_frame (λ cx hs. return_row cx hs) d refl f.block_type f.kind c.label_types-results.result.now there (c.label_types-results.ensures (body_context md v) refl))
 
 pub returns-in_err-pop_types-clause-visit : goal.returns-in_err-pop_types-clause-visit
 returns-in_err-pop_types-clause-visit g c =
@@ -30,7 +30,7 @@ returns-in_err-pop_types-clause-visit g c =
     let d = pred (length (heads v.present.frames)) in
     let f = c.in-Some.frame.now in
     let there = outermost_label v c.control_stack_height-outermost.result f c.control_stack_height-outermost.ensures (sym c.get_frame.ensures ∙ ap option_copied c.in-Some.is) in
-    let none = br_refused md v c.requires.open_frame (λ cx hs. return_row cx hs) d refl f.block_type f.kind c.label_types-results.result.now there (c.label_types-results.ensures (context md v) refl) in
+    let none = br_refused md v c.requires.open_frame (λ cx hs. return_row cx hs) d refl f.block_type f.kind c.label_types-results.result.now there (c.label_types-results.ensures (body_context md v) refl) in
     meets_refused md _ c.args.offset v c.pop_types.new.self.body _ (search rules) (search (rules, none)) (search rules) c.pop_types.ensures.valid c.pop_types.ensures.kept
 
 pub returns-in_err-pop_types-clause-memory : goal.returns-in_err-pop_types-clause-memory
@@ -40,7 +40,7 @@ returns-in_err-pop_types-clause-memory g c =
     let d = pred (length (heads v.present.frames)) in
     let f = c.in-Some.frame.now in
     let there = outermost_label v c.control_stack_height-outermost.result f c.control_stack_height-outermost.ensures (sym c.get_frame.ensures ∙ ap option_copied c.in-Some.is) in
-    let none = br_refused md v c.requires.open_frame (λ cx hs. return_row cx hs) d refl f.block_type f.kind c.label_types-results.result.now there (c.label_types-results.ensures (context md v) refl) in
+    let none = br_refused md v c.requires.open_frame (λ cx hs. return_row cx hs) d refl f.block_type f.kind c.label_types-results.result.now there (c.label_types-results.ensures (body_context md v) refl) in
     search (rules, none)
 
 pub returns-clause-visit : goal.returns-clause-visit
@@ -52,5 +52,5 @@ returns-clause-visit g c =
     let d = pred (length (heads v.present.frames)) in
     let f = c.in-Some.frame.now in
     let there = outermost_label v c.control_stack_height-outermost.result f c.control_stack_height-outermost.ensures (sym c.get_frame.ensures ∙ ap option_copied c.in-Some.is) in
-    meets_last md _ c.args.offset v w (body_unreachable u) c.end_live_part.result (λ q. br_passes md v c.requires.open_frame (λ cx hs. return_row cx hs) d refl f.block_type f.kind c.label_types-results.result.now there (c.label_types-results.ensures (context md v) refl) u w c.in_ok-pop_types.ensures.passed q) c.end_live_part.ensures.ended c.end_live_part.ensures.memory c.end_live_part.ensures.offset
+    meets_last md _ c.args.offset v w (body_unreachable u) c.end_live_part.result (λ q. br_passes md v c.requires.open_frame (λ cx hs. return_row cx hs) d refl f.block_type f.kind c.label_types-results.result.now there (c.label_types-results.ensures (body_context md v) refl) u w c.in_ok-pop_types.ensures.passed q) c.end_live_part.ensures.ended c.end_live_part.ensures.memory c.end_live_part.ensures.offset
     (c.end_live_part.ensures.valid md c.pop_types.ensures.valid) (kept_on v u w c.pop_types.ensures.kept c.end_live_part.ensures.kept)

@@ -3,7 +3,7 @@ use Rattle.std.specs.Option.{option_map}
 use Rattle.validation_rules.specs.Context.{Context}
 use Rattle.validation_rules.specs.Fits.{MaybeType}
 use Rattle.validate_stacks.specs.Pops.{may_pop, IsKept}
-use Rattle.validate_stacks.specs.State.{IsValid, context}
+use Rattle.validate_stacks.specs.State.{IsValid, body_context}
 use Rattle.validate_stacks.specs.Steps.{found_in_body, body_popped}
 use Rattle.validate_stacks.specs.Visits.{Meets}
 use Rattle.validate_stacks.proofs.Validity.{popped_valid, popped_kept}
@@ -38,7 +38,7 @@ returns-in-Err-clause-visit g c =
     let kept : IsKept v w = elim c.in-Err.ensures.left [ inl e ↦ subst (IsKept v) (sym e) refl | inr e ↦ subst (IsKept v) (sym e) (popped_kept v) ] in
     record {
       accepted = tt;
-      refused = λ m. drop_is md v ∙ ap (option_map (λ _. body_popped v)) (no_found (context md v) (found_in_body v) (c.in-Err.ensures.refused m));
+      refused = λ m. drop_is md v ∙ ap (option_map (λ _. body_popped v)) (no_found (body_context md v) (found_in_body v) (c.in-Err.ensures.refused m));
       at_offset = c.in-Err.ensures.offset;
       valid = valid;
       kept = kept;
@@ -48,4 +48,4 @@ pub returns-in-Err-clause-memory : goal.returns-in-Err-clause-memory
 returns-in-Err-clause-memory g c =
     let md = g.R.WasmModuleResources.context c.args.resources.now in
     let v = c.args.stacks.now.body in
-    λ idle. drop_is md v ∙ ap (option_map (λ _. body_popped v)) (no_found (context md v) (found_in_body v) (c.in-Err.ensures.idle idle))
+    λ idle. drop_is md v ∙ ap (option_map (λ _. body_popped v)) (no_found (body_context md v) (found_in_body v) (c.in-Err.ensures.idle idle))

@@ -2,8 +2,8 @@ use Rattle.std.proofs.Common.{rules, ◌≡◌, inr, true, false, Some, None, sy
 use Rattle.validation_rules.specs.Operators.{looking_row, select_pushes, row_operator}
 use Rattle.validation_rules.specs.Valid.{IsValidOperand}
 use Rattle.validate_stacks.specs.Pops.{may_pop, IsKept}
-use Rattle.validate_stacks.specs.Attempts.{body_state}
-use Rattle.validate_stacks.specs.State.{BodyState, IsValid, context}
+use Rattle.validate_stacks.specs.Attempts.{body_of}
+use Rattle.validate_stacks.specs.State.{BodyState, IsValid, body_context}
 use Rattle.validate_stacks.specs.Steps.{found_in_body, body_pushed}
 use Rattle.validate_stacks.specs.Visits.{step_body}
 use Rattle.validate_stacks.proofs.Validity.{kept_on, pushed_valid, pushed_kept}
@@ -26,8 +26,8 @@ returns-in_err-upper g c =
     let u = c.pop_operand.new.self.body in
     let w = c.pop_operand-2.new.self.body in
     let e = c.in_ok-pop_operand.ensures.popped in
-    let none : may_pop (context md u) (found_in_body u) None ≡ false → step_body md (λ cx. row_operator (looking_row 3 (select_pushes cx))) v ≡ None =
-    λ n. upper_missing md v c.requires.open_frame u c.in_ok-pop_operand.ensures.passed e (no_found (context md u) (found_in_body u) n) in
+    let none : may_pop (body_context md u) (found_in_body u) None ≡ false → step_body md (λ cx. row_operator (looking_row 3 (select_pushes cx))) v ≡ None =
+    λ n. upper_missing md v c.requires.open_frame u c.in_ok-pop_operand.ensures.passed e (no_found (body_context md u) (found_in_body u) n) in
     let valid = after_valid md v u c.requires.valid (inr e) in
     meets_refused md _ c.args.offset v w _ (search rules) (search (rules, none)) (search rules) (after_valid md u w valid c.in_err-upper.ensures.left) (kept_on v u w (after_kept v u (inr e)) (after_kept u w c.in_err-upper.ensures.left))
 
@@ -40,8 +40,8 @@ returns-in_err-lower g c =
     let x = c.pop_operand-3.new.self.body in
     let e = c.in_ok-pop_operand.ensures.popped in
     let f = c.in_ok-upper.ensures.popped in
-    let none : may_pop (context md w) (found_in_body w) None ≡ false → step_body md (λ cx. row_operator (looking_row 3 (select_pushes cx))) v ≡ None =
-    λ n. lower_missing md v c.requires.open_frame u c.in_ok-pop_operand.ensures.passed e w c.in_ok-upper.upper c.in_ok-upper.ensures.value f (no_found (context md w) (found_in_body w) n) in
+    let none : may_pop (body_context md w) (found_in_body w) None ≡ false → step_body md (λ cx. row_operator (looking_row 3 (select_pushes cx))) v ≡ None =
+    λ n. lower_missing md v c.requires.open_frame u c.in_ok-pop_operand.ensures.passed e w c.in_ok-upper.upper c.in_ok-upper.ensures.value f (no_found (body_context md w) (found_in_body w) n) in
     let valid = after_valid md u w (after_valid md v u c.requires.valid (inr e)) (inr f) in
     meets_refused md _ c.args.offset v x _ (search rules) (search (rules, none)) (search rules) (after_valid md w x valid c.in_err-lower.ensures.left) (kept_on v w x (kept_on v u w (after_kept v u (inr e)) (after_kept u w (inr f))) (after_kept w x c.in_err-lower.ensures.left))
 
@@ -98,7 +98,7 @@ returns-in-Err g c =
     let kept = kept_on v w x (kept_on v u w (after_kept v u (inr e)) (after_kept u w (inr f))) (after_kept w x (inr h)) in
     let full : c.out_of_memory.result.wants_memory ≡ true = search rules in
     let none : c.out_of_memory.result.wants_memory ≡ false → step_body md (λ cx. row_operator (looking_row 3 (select_pushes cx))) v ≡ None = λ n. (let clash : true ≡ false = sym full ∙ n in absurd cc) in
-    meets_refused md _ c.args.offset v y _ (search rules) none (search rules) (subst (IsValid md) (ap body_state (sym q)) valid) (subst (IsKept v) (ap body_state (sym q)) kept)
+    meets_refused md _ c.args.offset v y _ (search rules) none (search rules) (subst (IsValid md) (ap body_of (sym q)) valid) (subst (IsKept v) (ap body_of (sym q)) kept)
 
 pub pop_operand-requires-3-clause-state : goal.pop_operand-requires-3-clause-state
 pop_operand-requires-3-clause-state g c =

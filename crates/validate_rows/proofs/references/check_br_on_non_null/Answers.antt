@@ -5,7 +5,7 @@ use Rattle.validation_rules.specs.References.{last_reference, br_on_non_null_row
 use Rattle.validation_rules.specs.Static.{heads}
 use Rattle.validation_rules.specs.Operators.{lookup_row}
 use Rattle.validation_rules.proofs.Valid.{before_last_valid, last_valid}
-use Rattle.validate_stacks.specs.State.{context}
+use Rattle.validate_stacks.specs.State.{body_context}
 use Rattle.validate_shapes.proofs.Branching.{label_there, no_label, no_types, label_valid}
 use Rattle.validate_shapes.proofs.Found.{meets_barred}
 use Rattle.validate_shapes.proofs.Looking.{on_non_null_missing, on_non_null_rest}
@@ -16,7 +16,7 @@ pub returns-in_err-block_type : goal.returns-in_err-block_type
 returns-in_err-block_type g c =
     let md = g.R.WasmModuleResources.context c.args.resources.now in
     let v = c.args.stacks.now.body in
-    let cx = context md v in
+    let cx = body_context md v in
     let hs = heads v.present.frames in
     let d = c.args.relative_depth in
     let none = ap (λ ts. (lookup_row (last_reference ts) (br_on_non_null_row_for cx hs d)).premise) (no_types cx hs d (no_label hs d c.in_err-block_type.ensures.missing)) in
@@ -26,7 +26,7 @@ pub returns-in_err-others : goal.returns-in_err-others
 returns-in_err-others g c =
     let md = g.R.WasmModuleResources.context c.args.resources.now in
     let v = c.args.stacks.now.body in
-    let cx = context md v in
+    let cx = body_context md v in
     let hs = heads v.present.frames in
     let d = c.args.relative_depth in
     let label = label_there cx hs d c.in_ok-block_type.block_type c.in_ok-block_type.kind c.in_ok-block_type.ensures.found in
@@ -38,7 +38,7 @@ pub pop_types-requires-clause-types : goal.pop_types-requires-clause-types
 pop_types-requires-clause-types g c =
     let md = g.R.WasmModuleResources.context c.args.resources.now in
     let v = c.args.stacks.now.body in
-    let cx = context md v in
+    let cx = body_context md v in
     let hs = heads v.present.frames in
     let d = c.args.relative_depth in
     let laws = g.met.R.WasmModuleResources.lawful c.args.resources.now in
@@ -54,7 +54,7 @@ pub returns-in_err-pop_types : goal.returns-in_err-pop_types
 returns-in_err-pop_types g c =
     let md = g.R.WasmModuleResources.context c.args.resources.now in
     let v = c.args.stacks.now.body in
-    let cx = context md v in
+    let cx = body_context md v in
     let hs = heads v.present.frames in
     let d = c.args.relative_depth in
     let label = label_there cx hs d c.in_ok-block_type.block_type c.in_ok-block_type.kind c.in_ok-block_type.ensures.found in
@@ -71,7 +71,7 @@ pub check_plain-requires-clause-wanted : goal.check_plain-requires-clause-wanted
 check_plain-requires-clause-wanted g c =
     let md = g.R.WasmModuleResources.context c.args.resources.now in
     let v = c.args.stacks.now.body in
-    let cx = context md v in
+    let cx = body_context md v in
     let hs = heads v.present.frames in
     let d = c.args.relative_depth in
     let laws = g.met.R.WasmModuleResources.lawful c.args.resources.now in
@@ -87,7 +87,7 @@ pub check_plain-requires-clause-pushed : goal.check_plain-requires-clause-pushed
 check_plain-requires-clause-pushed g c =
     let md = g.R.WasmModuleResources.context c.args.resources.now in
     let v = c.args.stacks.now.body in
-    let cx = context md v in
+    let cx = body_context md v in
     let hs = heads v.present.frames in
     let d = c.args.relative_depth in
     let laws = g.met.R.WasmModuleResources.lawful c.args.resources.now in
@@ -103,7 +103,7 @@ pub returns : goal.returns
 returns g c =
     let md = g.R.WasmModuleResources.context c.args.resources.now in
     let v = c.args.stacks.now.body in
-    let cx = context md v in
+    let cx = body_context md v in
     let hs = heads v.present.frames in
     let d = c.args.relative_depth in
     let label = label_there cx hs d c.in_ok-block_type.block_type c.in_ok-block_type.kind c.in_ok-block_type.ensures.found in

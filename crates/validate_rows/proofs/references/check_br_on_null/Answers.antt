@@ -1,9 +1,9 @@
 use Rattle.std.proofs.Common.{rules, ◌≡◌, None, reverse, true, false, [], Some, refl, sym, ap, ◌∙◌}
 use Rattle.std.specs.Option.{option_and_then}
 use Rattle.validation_rules.specs.Branches.{has_label, label_types_at}
-use Rattle.validation_rules.specs.References.{without_null}
+use Rattle.validation_rules.specs.References.{operand_without_null}
 use Rattle.validation_rules.specs.Static.{heads}
-use Rattle.validate_stacks.specs.State.{BodyState, context}
+use Rattle.validate_stacks.specs.State.{BodyState, body_context}
 use Rattle.validate_stacks.specs.Pops.{body_popped_each}
 use Rattle.validate_stacks.specs.Steps as steps
 use Rattle.validate_stacks.specs.Steps.{body_pushed}
@@ -17,17 +17,17 @@ pub returns-in_err-reference : goal.returns-in_err-reference
 returns-in_err-reference g c =
     let md = g.R.WasmModuleResources.context c.args.resources.now in
     let v = c.args.stacks.now.body in
-    let cx = context md v in
+    let cx = body_context md v in
     let hs = heads v.present.frames in
     let d = c.args.relative_depth in
-    let none = λ (n : option_and_then without_null (steps.found_in_body v) ≡ None). on_null_is md v c.requires.open_frame d (has_label hs d) (label_types_at cx hs d) refl refl ∙ unreferenced md (has_label hs d) (label_types_at cx hs d) v n in
+    let none = λ (n : option_and_then operand_without_null (steps.found_in_body v) ≡ None). on_null_is md v c.requires.open_frame d (has_label hs d) (label_types_at cx hs d) refl refl ∙ unreferenced md (has_label hs d) (label_types_at cx hs d) v n in
     meets_refused md _ c.args.offset v c.pop_non_null_ref.new.stacks.body _ (search rules) (search (rules, none)) (search rules) c.pop_non_null_ref.ensures.valid c.pop_non_null_ref.ensures.kept
 
 pub returns-in_err-block_type : goal.returns-in_err-block_type
 returns-in_err-block_type g c =
     let md = g.R.WasmModuleResources.context c.args.resources.now in
     let v = c.args.stacks.now.body in
-    let cx = context md v in
+    let cx = body_context md v in
     let hs = heads v.present.frames in
     let d = c.args.relative_depth in
     let u = c.pop_non_null_ref.new.stacks.body in
@@ -38,7 +38,7 @@ pub pop_types-requires-clause-types : goal.pop_types-requires-clause-types
 pop_types-requires-clause-types g c =
     let md = g.R.WasmModuleResources.context c.args.resources.now in
     let v = c.args.stacks.now.body in
-    let cx = context md v in
+    let cx = body_context md v in
     let hs = heads v.present.frames in
     let d = c.args.relative_depth in
     let u = c.pop_non_null_ref.new.stacks.body in
@@ -53,7 +53,7 @@ pub returns-in_err-pop_types : goal.returns-in_err-pop_types
 returns-in_err-pop_types g c =
     let md = g.R.WasmModuleResources.context c.args.resources.now in
     let v = c.args.stacks.now.body in
-    let cx = context md v in
+    let cx = body_context md v in
     let hs = heads v.present.frames in
     let d = c.args.relative_depth in
     let u = c.pop_non_null_ref.new.stacks.body in
@@ -69,7 +69,7 @@ pub returns-in_err-push_types : goal.returns-in_err-push_types
 returns-in_err-push_types g c =
     let md = g.R.WasmModuleResources.context c.args.resources.now in
     let v = c.args.stacks.now.body in
-    let cx = context md v in
+    let cx = body_context md v in
     let hs = heads v.present.frames in
     let d = c.args.relative_depth in
     let u = c.pop_non_null_ref.new.stacks.body in
@@ -87,7 +87,7 @@ pub returns : goal.returns
 returns g c =
     let md = g.R.WasmModuleResources.context c.args.resources.now in
     let v = c.args.stacks.now.body in
-    let cx = context md v in
+    let cx = body_context md v in
     let hs = heads v.present.frames in
     let d = c.args.relative_depth in
     let u = c.pop_non_null_ref.new.stacks.body in

@@ -1,6 +1,6 @@
 use Rattle.std.proofs.Common.{rules, ◌≡◌, None, true, [], Some, refl, sym, ap, ◌∙◌}
 use Rattle.std.specs.Option.{option_and_then}
-use Rattle.validation_rules.specs.References.{without_null}
+use Rattle.validation_rules.specs.References.{operand_without_null}
 use Rattle.validate_stacks.specs.Steps as steps
 use Rattle.validate_stacks.specs.Steps.{body_pushed}
 use Rattle.validate_stacks.proofs.Validity.{kept_on}
@@ -13,7 +13,7 @@ pub returns-in_err-reference : goal.returns-in_err-reference
 returns-in_err-reference g c =
     let md = g.R.WasmModuleResources.context c.args.resources.now in
     let v = c.args.stacks.now.body in
-    let none = λ (n : option_and_then without_null (steps.found_in_body v) ≡ None). above_is md v c.requires.open_frame true [] [] ∙ unreferenced md true [] v n in
+    let none = λ (n : option_and_then operand_without_null (steps.found_in_body v) ≡ None). above_is md v c.requires.open_frame true [] [] ∙ unreferenced md true [] v n in
     meets_refused md _ c.args.offset v c.pop_non_null_ref.new.stacks.body _ (search rules) (search (rules, none)) (search rules) c.pop_non_null_ref.ensures.valid c.pop_non_null_ref.ensures.kept
 
 pub returns : goal.returns

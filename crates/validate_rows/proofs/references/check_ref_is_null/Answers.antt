@@ -3,7 +3,7 @@ use Rattle.std.specs.Option.{option_map}
 use Rattle.std.specs.Option.{option_and_then}
 use Rattle.validation_rules.specs.Context.{I32}
 use Rattle.validation_rules.specs.Fits.{MaybeType, Known}
-use Rattle.validation_rules.specs.References.{without_null}
+use Rattle.validation_rules.specs.References.{operand_without_null}
 use Rattle.validate_stacks.specs.State.{BodyState}
 use Rattle.validate_stacks.specs.Steps as steps
 use Rattle.validate_stacks.specs.Steps.{body_popped, body_pushed}
@@ -16,7 +16,7 @@ pub returns-in_err-pop_non_null_ref : goal.returns-in_err-pop_non_null_ref
 returns-in_err-pop_non_null_ref g c =
     let md = g.R.WasmModuleResources.context c.args.resources.now in
     let v = c.args.stacks.now.body in
-    let none = λ (n : option_and_then without_null (steps.found_in_body v) ≡ None). null_is md v c.requires.open_frame ∙ ap (option_map (λ (y : MaybeType). body_pushed (Known I32) (body_popped v))) n in
+    let none = λ (n : option_and_then operand_without_null (steps.found_in_body v) ≡ None). null_is md v c.requires.open_frame ∙ ap (option_map (λ (y : MaybeType). body_pushed (Known I32) (body_popped v))) n in
     meets_refused md _ c.args.offset v c.pop_non_null_ref.new.stacks.body _ (search rules) (search (rules, none)) (search rules) c.pop_non_null_ref.ensures.valid c.pop_non_null_ref.ensures.kept
 
 pub returns : goal.returns

@@ -1,20 +1,15 @@
-use Rattle.std.proofs.Common.{sym, ap, ◌∙◌, subst}
-use Rattle.std.specs.List.{AllByRecursion}
+use Rattle.std.proofs.Common.{sym, ap, ◌∙◌}
 use Rattle.std.specs.Option.{option_copied}
-use Rattle.validate_types.specs.Types.{Signature}
-use Rattle.validate_resources.specs.Context.{Valid}
 use Rattle.validate_shapes.proofs.functions.func_type_at.Goals as goal
 
 pub returns-clause-params : goal.returns-clause-params
 returns-clause-params g c =
-    let md = g.R.WasmModuleResources.context c.args.resources.now in
     let there = sym c.sub_type_at.ensures ∙ ap option_copied c.in-Some.is in
-    subst (λ (s : Signature). AllByRecursion (Valid md) s.params) (sym c.func_type_of.ensures)
-    ((g.met.R.WasmModuleResources.lawful c.args.resources.now).types c.args.type_index c.in-Some.sub_type.now there).params
+    let is_func = sym c.func_type_of.ensures ∙ ap option_copied c.in-Some-func_type_of.is in
+    ((g.met.R.WasmModuleResources.lawful c.args.resources.now).types c.args.type_index c.in-Some.sub_type.now there).params c.in-Some-func_type_of.func_type.now is_func
 
 pub returns-clause-results : goal.returns-clause-results
 returns-clause-results g c =
-    let md = g.R.WasmModuleResources.context c.args.resources.now in
     let there = sym c.sub_type_at.ensures ∙ ap option_copied c.in-Some.is in
-    subst (λ (s : Signature). AllByRecursion (Valid md) s.results) (sym c.func_type_of.ensures)
-    ((g.met.R.WasmModuleResources.lawful c.args.resources.now).types c.args.type_index c.in-Some.sub_type.now there).results
+    let is_func = sym c.func_type_of.ensures ∙ ap option_copied c.in-Some-func_type_of.is in
+    ((g.met.R.WasmModuleResources.lawful c.args.resources.now).types c.args.type_index c.in-Some.sub_type.now there).results c.in-Some-func_type_of.func_type.now is_func

@@ -1,6 +1,6 @@
 -- What was kept is undone.
 use Rattle.std.proofs.Common.{IsSome, refl, sym, ap, ◌∙◌, subst}
-use Rattle.validate_stacks.specs.Attempts.{Stacked, body_state}
+use Rattle.validate_stacks.specs.Attempts.{Stacked, body_of}
 use Rattle.validate_stacks.specs.Pops.{IsKept}
 use Rattle.validate_stacks.specs.State.{BodyState}
 use Rattle.validate_stacks.proofs.Phases.{undone_whole}
@@ -14,4 +14,4 @@ rollback-requires g c =
 pub returns : goal.returns
 returns g c =
     let kept = subst (λ (x : Stacked). IsKept x.body (state c.visit-answer.new.v)) c.begin_try_op.ensures.begun c.visit-answer.ensures.kept in
-    record { same = ap body_state c.rollback.ensures.back ∙ undone_whole (stacks_of c.args.v.now) (stacks_of c.visit-answer.new.v) c.requires.idle kept }
+    record { same = ap body_of c.rollback.ensures.back ∙ undone_whole (stacks_of c.args.v.now) (stacks_of c.visit-answer.new.v) c.requires.idle kept }

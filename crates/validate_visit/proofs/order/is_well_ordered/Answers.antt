@@ -24,7 +24,7 @@ loop-index-preserved c =
     let v = c.loop-index.invariant in
     let e = c.may_follow.ensures in
     record {
-      few = omega (arith, c.read.ensures.at_most, e.depth);
+      within_limit = omega (arith, c.read.ensures.at_most, e.depth);
       ordered = one_further c.args.ops.now c.loop-index.index _ c.loop-index-test.true v.ordered (sym e.answer ∙ c.if-not-may_follow.false);
       noted = subst (AreNoted c.read.new.self.depth c.read.new.self.noted c.read.new.self.firsts) (sym (parts-more c.args.ops.now c.loop-index.index _ c.loop-index-test.true)) (c.read.ensures.noted _ e.noted);
     }

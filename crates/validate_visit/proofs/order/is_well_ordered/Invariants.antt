@@ -7,7 +7,7 @@ use Rattle.validate_visit.proofs.order.is_well_ordered.Given as goal
 
 abbrev pub invariant-loop-index : goal.invariant-loop-index
 invariant-loop-index l = record {
-  few : l.parts.depth ≤ l.index + 1;
+  within_limit : l.parts.depth ≤ l.index + 1;
   ordered : is_ordered_from outermost (nestings (take l.index l.ops)) ≡ true;
   noted : AreNoted l.parts.depth l.parts.noted l.parts.firsts (parts outermost (nestings (take l.index l.ops)));
 }

@@ -19,17 +19,17 @@ more c =
     let a = c.self.inside in
     let ty = c.args.ty in
     let count = c.args.count in
-    let few = c.if-further.true in
+    let within_limit = c.if-further.true in
     let l = length-replicate (near c) ty in
     let r = length-replicate (count - near c) ty in
-    let room : length a.first.items + length (replicate (near c) ty) ≡ 50 = omega (arith, l, c.min-near.ensures, c.len-len.ensures, a.first.ok.0, c.self.invariant.few, few) in
-    let all : replicate (near c) ty ++ replicate (count - near c) ty ≡ replicate count ty = replicate-append-replicate (near c) (count - near c) ty ∙ ap (λ k. replicate k ty) (omega (arith, few)) in
+    let room : length a.first.items + length (replicate (near c) ty) ≡ 50 = omega (arith, l, c.min-near.ensures, c.len-len.ensures, a.first.ok.0, c.self.invariant.within_limit, within_limit) in
+    let all : replicate (near c) ty ++ replicate (count - near c) ty ≡ replicate count ty = replicate-append-replicate (near c) (count - near c) ty ∙ ap (λ k. replicate k ty) (omega (arith, within_limit)) in
     let longer = rw c.in_ok-reserve.ensures.items at c.add_run.ensures.added in
     rw (held c, ← all) (grown a.first.items a.uncached.items c.add_run.new.runs.items a.num_locals (replicate (near c) ty) (replicate (count - near c) ty) c.self.invariant
     (omega (arith, room))
     (λ h. absurd (omega (arith, room, h)))
-    (λ rising e. longer (length (a.first.items ++ replicate (near c) ty)) (count - near c) rising (omega (arith, few)) (omega (arith, e, l, few)))
-    (omega (arith, l, r, few, c.if-not-may_define.ensures.0 refl, ap length c.self.view_is, c.self.invariant.counted)))
+    (λ rising e. longer (length (a.first.items ++ replicate (near c) ty)) (count - near c) rising (omega (arith, within_limit)) (omega (arith, e, l, within_limit)))
+    (omega (arith, l, r, within_limit, c.if-not-may_define.ensures.0 refl, ap length c.self.view_is, c.self.invariant.counted)))
 
 pub invariant_of-self-then-further : goal.invariant_of-self-then-further
 invariant_of-self-then-further c =

@@ -1,6 +1,6 @@
 use Rattle.std.proofs.Common.{◌≡◌, Some, sym, ap, ◌∙◌}
 use Rattle.validation_rules.specs.Fits.{Known}
-use Rattle.validate_stacks.specs.State.{context}
+use Rattle.validate_stacks.specs.State.{body_context}
 use Rattle.validate_stacks.specs.Pops.{may_pop}
 use Rattle.validate_stacks.proofs.stacks.Stacks.check_found.Goals as goal
 
@@ -8,7 +8,7 @@ use Rattle.validate_stacks.proofs.stacks.Stacks.check_found.Goals as goal
 pub returns-then-is_subtype-clause-passed : goal.returns-then-is_subtype-clause-passed
 returns-then-is_subtype-clause-passed g c =
     let md = g.R.WasmModuleResources.context c.args.resources.now in
-    let cx = context md c.args.self.now.body in
+    let cx = body_context md c.args.self.now.body in
     let t = c.in-Known-Some.found in
     let w = c.in-Known-Some.wanted in
     let known : c.args.found ≡ Some (Known t) = c.in-Some.is ∙ ap Some c.in-Known-Some.is-0 in

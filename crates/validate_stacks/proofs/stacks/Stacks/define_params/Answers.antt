@@ -1,5 +1,5 @@
 use Rattle.std.proofs.Common.{◌++◌, replicate, true, length, refl, ◌∙◌, ap}
-use Rattle.validate_stacks.specs.Attempts.{body_state}
+use Rattle.validate_stacks.specs.Attempts.{body_of}
 use Rattle.validate_stacks.specs.Flat.{undone_pending}
 use Rattle.validate_stacks.proofs.Cuts.{state_of}
 use Rattle.validate_stacks.proofs.Marks.{all_declared, params_state}
@@ -13,4 +13,4 @@ returns-clause-defined c =
     let marks = rw c.unwrap.ensures at c.define_params-2.ensures.declared ∙ ap (λ base. base ++ replicate (length params) true) c.in_ok-reserve.ensures.base in
     let order = c.define_params-2.ensures.order ∙ c.in_ok-reserve.ensures.order in
     ap (λ u. state_of s.control.items s.operands.items c.define_params-2.new.self.order s.shared s.features c.define_params.new.self c.define_params-2.new.self.base u) (ap (λ is. undone_pending s.control.items s.operands.items is s.transaction) order)
-    ∙ params_state s.control.items s.operands.items s.inits c.define_params-2.new.self s.shared s.features s.locals c.define_params.new.self params (undone_pending s.control.items s.operands.items s.inits.order s.transaction) c.args.self.now.body order marks types (ap body_state c.self.view_is)
+    ∙ params_state s.control.items s.operands.items s.inits c.define_params-2.new.self s.shared s.features s.locals c.define_params.new.self params (undone_pending s.control.items s.operands.items s.inits.order s.transaction) c.args.self.now.body order marks types (ap body_of c.self.view_is)

@@ -1,7 +1,7 @@
 use Rattle.std.proofs.Common.{length, sym, ap, ◌∙◌, arith}
 use Rattle.std.specs.Option.{option_copied}
-use Rattle.validate_stacks.specs.Attempts.{body_state}
-use Rattle.validate_stacks.specs.Steps.{found_below_in_body}
+use Rattle.validate_stacks.specs.Attempts.{body_of}
+use Rattle.validate_stacks.specs.Steps.{found_after_pops_in_body}
 use Rattle.validate_stacks.proofs.Cuts.{height_within}
 use Rattle.validate_stacks.proofs.Looks.{none_found, own_found, below_found}
 use Rattle.validate_stacks.proofs.stacks.Stacks.found_at.Goals as goal
@@ -10,7 +10,7 @@ pub returns-in_err-frame : goal.returns-in_err-frame
 returns-in_err-frame c =
     let s = c.self.inside in
     let there = sym c.get.ensures ∙ ap option_copied c.in_err-frame.was in
-    c.from_residual.ensures ∙ (none_found s.control.items s.operands.items s.inits.order c.args.depth there ∙ ap (found_below_in_body c.args.depth) (ap body_state c.self.view_is))
+    c.from_residual.ensures ∙ (none_found s.control.items s.operands.items s.inits.order c.args.depth there ∙ ap (found_after_pops_in_body c.args.depth) (ap body_of c.self.view_is))
 
 pub overflow_sub-len : goal.overflow_sub-len
 overflow_sub-len c =
@@ -22,18 +22,18 @@ pub returns-then-depth-len : goal.returns-then-depth-len
 returns-then-depth-len c =
     let s = c.self.inside in
     let there = sym c.get.ensures ∙ ap option_copied c.in_ok-frame.was in
-    c.copied.ensures ∙ (c.get-then-depth-len.ensures ∙ (own_found s.control.items c.in_ok-frame.frame.now s.operands.items s.inits.order c.args.depth there (omega (arith, c.len.ensures.value, c.if-depth-len.true)) ∙ ap (found_below_in_body c.args.depth) (ap body_state c.self.view_is)))
+    c.copied.ensures ∙ (c.get-then-depth-len.ensures ∙ (own_found s.control.items c.in_ok-frame.frame.now s.operands.items s.inits.order c.args.depth there (omega (arith, c.len.ensures.value, c.if-depth-len.true)) ∙ ap (found_after_pops_in_body c.args.depth) (ap body_of c.self.view_is)))
 
 pub returns-then-frame : goal.returns-then-frame
 returns-then-frame c =
     let s = c.self.inside in
     let there = sym c.get.ensures ∙ ap option_copied c.in_ok-frame.was in
     let e = below_found s.control.items c.in_ok-frame.frame.now s.operands.items s.inits.order c.args.depth there (omega (arith, c.len.ensures.value, c.if-depth-len.false)) in
-    rw c.if-frame.true at e ∙ ap (found_below_in_body c.args.depth) (ap body_state c.self.view_is)
+    rw c.if-frame.true at e ∙ ap (found_after_pops_in_body c.args.depth) (ap body_of c.self.view_is)
 
 pub returns-else-frame : goal.returns-else-frame
 returns-else-frame c =
     let s = c.self.inside in
     let there = sym c.get.ensures ∙ ap option_copied c.in_ok-frame.was in
     let e = below_found s.control.items c.in_ok-frame.frame.now s.operands.items s.inits.order c.args.depth there (omega (arith, c.len.ensures.value, c.if-depth-len.false)) in
-    rw c.if-frame.false at e ∙ ap (found_below_in_body c.args.depth) (ap body_state c.self.view_is)
+    rw c.if-frame.false at e ∙ ap (found_after_pops_in_body c.args.depth) (ap body_of c.self.view_is)

@@ -1,6 +1,6 @@
 use Rattle.std.proofs.Common.{sym, ◌∙◌, ap}
 use Rattle.std.specs.Option.{option_copied}
-use Rattle.validate_stacks.specs.Attempts.{body_state}
+use Rattle.validate_stacks.specs.Attempts.{body_of}
 use Rattle.validate_stacks.specs.Flat.{undone_pending}
 use Rattle.validate_stacks.specs.Steps.{body_marked}
 use Rattle.validate_stacks.proofs.Looks.{mark_none, mark_dead}
@@ -25,4 +25,4 @@ invariant_of-self c =
 pub returns : goal.returns
 returns c =
     let s = c.self.inside in
-    rw c.set_unreachable.ensures (marked_is s.control.items c.replace_top.new.self.items c.in-Some.innermost.now s.operands.items s.inits.order s.transaction s.shared s.features s.locals s.inits.base (sym c.get.ensures ∙ ap option_copied c.in-Some.is) c.if-innermost.false c.replace_top.ensures.items ∙ ap body_marked (ap body_state c.self.view_is))
+    rw c.set_unreachable.ensures (marked_is s.control.items c.replace_top.new.self.items c.in-Some.innermost.now s.operands.items s.inits.order s.transaction s.shared s.features s.locals s.inits.base (sym c.get.ensures ∙ ap option_copied c.in-Some.is) c.if-innermost.false c.replace_top.ensures.items ∙ ap body_marked (ap body_of c.self.view_is))

@@ -1,11 +1,11 @@
 use Rattle.std.proofs.Common.{arith, rules, refl, sym, ap, ◌∙◌}
-use Rattle.validate_stacks.specs.State.{context}
+use Rattle.validate_stacks.specs.State.{body_context}
 use Rattle.validate_stacks.proofs.Matching.{matching_starts, goes_on_there, stops_there, none_popped, on_ok, on_err}
 use Rattle.validate_stacks.proofs.stacks.Stacks.match_operands.Goals as goal
 
 pub loop-left-init : goal.loop-left-init
 loop-left-init g c =
-    let cx = context (g.R.WasmModuleResources.context c.args.resources.now) c.args.self.now.body in
+    let cx = body_context (g.R.WasmModuleResources.context c.args.resources.now) c.args.self.now.body in
     record { same = refl; within = omega arith; rest = matching_starts cx c.args.wanted.now c.args.self.now.body }
 
 pub loop-left-preserved : goal.loop-left-preserved

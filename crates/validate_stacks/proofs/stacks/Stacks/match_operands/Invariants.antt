@@ -1,7 +1,7 @@
 -- What is left to match fits exactly where all of the list does.
 use Rattle.std.proofs.Common.{◌≡◌, ◌≤◌, ◌-◌, length, take, reverse}
 use Rattle.validation_rules.specs.Fits.{all_fit}
-use Rattle.validate_stacks.specs.State.{context}
+use Rattle.validate_stacks.specs.State.{body_context}
 use Rattle.validate_stacks.specs.Pops.{has_operands_fitting}
 use Rattle.validate_stacks.proofs.Matching.{after_in}
 use Rattle.validate_stacks.proofs.stacks.Stacks.match_operands.Given as goal
@@ -11,7 +11,7 @@ decreases-loop-left g l = l.left
 
 abbrev pub invariant-loop-left : goal.invariant-loop-left
 invariant-loop-left g l =
-    let cx = context (g.R.WasmModuleResources.context l.resources) l.initial.self.body in
+    let cx = body_context (g.R.WasmModuleResources.context l.resources) l.initial.self.body in
     record {
       same : l.self ≡ l.initial.self;
       within : l.left ≤ length l.wanted;

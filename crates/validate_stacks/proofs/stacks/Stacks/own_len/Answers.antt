@@ -1,6 +1,6 @@
 use Rattle.std.proofs.Common.{length, sym, ◌∙◌, ap, arith}
 use Rattle.std.specs.Option.{option_copied}
-use Rattle.validate_stacks.specs.Attempts.{body_state}
+use Rattle.validate_stacks.specs.Attempts.{body_of}
 use Rattle.validate_stacks.specs.State.{BodyState}
 use Rattle.validate_stacks.specs.Steps.{innermost_operands}
 use Rattle.validate_stacks.proofs.Cuts.{own-cut, own_none, height_within}
@@ -16,10 +16,10 @@ pub returns-in-Some : goal.returns-in-Some
 returns-in-Some c =
     let s = c.self.inside in
     let e = own-cut s.control.items c.in-Some.frame.now s.operands.items s.inits.order (sym c.get.ensures ∙ ap option_copied c.in-Some.is) in
-    let k = ap (λ (v : BodyState). length (innermost_operands v.present.frames)) (ap body_state c.self.view_is) in
+    let k = ap (λ (v : BodyState). length (innermost_operands v.present.frames)) (ap body_of c.self.view_is) in
     omega (arith, e, k)
 
 pub returns-in-None : goal.returns-in-None
 returns-in-None c =
     let s = c.self.inside in
-    own_none s.control.items s.operands.items s.inits.order (sym c.get.ensures ∙ ap option_copied c.in-None.is) ∙ ap (λ (v : BodyState). length (innermost_operands v.present.frames)) (ap body_state c.self.view_is)
+    own_none s.control.items s.operands.items s.inits.order (sym c.get.ensures ∙ ap option_copied c.in-None.is) ∙ ap (λ (v : BodyState). length (innermost_operands v.present.frames)) (ap body_of c.self.view_is)

@@ -1,5 +1,5 @@
 use Rattle.std.proofs.Common.{arith, ◌∙◌, ap}
-use Rattle.validate_stacks.specs.Attempts.{body_state}
+use Rattle.validate_stacks.specs.Attempts.{body_of}
 use Rattle.validate_stacks.specs.Steps.{body_with_frame}
 use Rattle.validate_stacks.proofs.Undoing.{sound_open, sound_room, state_open, frames_open}
 use Rattle.validate_stacks.proofs.stacks.Stacks.push_bare_ctrl.Goals as goal
@@ -26,7 +26,7 @@ returns-clause-exact c =
     let s = c.self.inside in
     let may = rw (← c.self.view_is) at c.requires in
     rw (c.put.ensures.items, c.take_room.ensures.items, c.in_ok-push_ctrl.ensures.exact, c.len-height.ensures.value, c.height-init_height.ensures.value)
-    (state_open c.args.kind c.args.block_type s.control.items s.operands.items s.inits.order s.transaction s.shared s.features s.locals s.inits.base may ∙ ap (body_with_frame c.args.kind c.args.block_type) (ap body_state c.self.view_is))
+    (state_open c.args.kind c.args.block_type s.control.items s.operands.items s.inits.order s.transaction s.shared s.features s.locals s.inits.base may ∙ ap (body_with_frame c.args.kind c.args.block_type) (ap body_of c.self.view_is))
 
 pub returns-clause-frames : goal.returns-clause-frames
 returns-clause-frames c =

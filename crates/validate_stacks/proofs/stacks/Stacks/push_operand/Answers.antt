@@ -1,7 +1,7 @@
 use Rattle.std.proofs.Common.{◌∷◌, length, ◌∙◌, ap, arith}
 use Rattle.validate_transaction.specs.Recorded.{with_push}
 use Rattle.validation_rules.specs.Static.{State}
-use Rattle.validate_stacks.specs.Attempts.{body_state, Stacked, phase_moved}
+use Rattle.validate_stacks.specs.Attempts.{body_of, Stacked, phase_moved}
 use Rattle.validate_stacks.specs.Flat.{undone_pending}
 use Rattle.validate_stacks.specs.Steps.{body_pushed}
 use Rattle.validate_stacks.proofs.Cuts.{cut-push, state_of}
@@ -30,7 +30,7 @@ returns-clause-exact c =
     rw (c.put.ensures.items, c.take_room.ensures.items, c.in_ok-record_push.ensures.exact)
     (ap (λ (p : State). record { present = p; shared = s.shared; features = s.features; locals = s.locals; entry = s.inits.base; undone = undone_pending s.control.items (c.args.ty ∷ s.operands.items) s.inits.order (with_push s.transaction) }) (cut-push s.control.items c.args.ty s.operands.items s.inits.order (length s.inits.order) c.self.invariant.shape)
     ∙ ap (λ u. body_pushed c.args.ty (state_of s.control.items s.operands.items s.inits.order s.shared s.features s.locals s.inits.base u)) (undone_push s.control.items c.args.ty s.operands.items s.inits.order s.transaction)
-    ∙ ap (body_pushed c.args.ty) (ap body_state c.self.view_is))
+    ∙ ap (body_pushed c.args.ty) (ap body_of c.self.view_is))
 
 pub returns-clause-phase : goal.returns-clause-phase
 returns-clause-phase c =

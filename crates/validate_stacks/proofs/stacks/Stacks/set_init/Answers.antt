@@ -1,6 +1,6 @@
 use Rattle.std.proofs.Common.{length, sym, ap, ◌∙◌, arith}
 use Rattle.validate_locals.specs.Inits.{is_recorded_set}
-use Rattle.validate_stacks.specs.Attempts.{body_state}
+use Rattle.validate_stacks.specs.Attempts.{body_of}
 use Rattle.validate_stacks.specs.Flat.{undone_pending}
 use Rattle.validate_stacks.specs.Steps.{body_with_local_set}
 use Rattle.validate_stacks.proofs.Cuts.{state_of}
@@ -27,5 +27,5 @@ returns c =
       exact = rw c.set_init.ensures.base
           (ap (λ u. state_of s.control.items s.operands.items c.set_init.new.self.order s.shared s.features s.locals s.inits.base u) un
           ∙ set_state s.control.items s.operands.items s.inits c.set_init.new.self.order s.shared s.features s.locals (undone_pending s.control.items s.operands.items s.inits.order s.transaction) c.args.local_index (omega arith) c.self.invariant.shape c.in_ok-set_init.ensures.set
-          ∙ ap (body_with_local_set c.args.local_index) (ap body_state c.self.view_is));
+          ∙ ap (body_with_local_set c.args.local_index) (ap body_of c.self.view_is));
     }

@@ -1,5 +1,5 @@
 use Rattle.std.proofs.Common.{sym, ap, ◌∙◌, subst}
-use Rattle.validate_stacks.specs.Attempts.{body_state}
+use Rattle.validate_stacks.specs.Attempts.{body_of}
 use Rattle.validate_stacks.specs.Pops.{IsKept}
 use Rattle.validate_stacks.specs.State.{IsValid}
 use Rattle.validate_stacks.specs.Steps.{body_unreachable}
@@ -8,7 +8,7 @@ use Rattle.validate_stacks.proofs.Validity.{popped_valid, popped_kept, kept_on}
 use Rattle.validate_stacks.proofs.stacks.Stacks.unreachable.Goals as goal
 
 pub returns-in_err-pop_any-clause-valid : goal.returns-in_err-pop_any-clause-valid
-returns-in_err-pop_any-clause-valid c = λ md h. subst (IsValid md) (ap body_state (sym c.in_err-pop_any.ensures.exact)) (c.loop-self.invariant.valid md h)
+returns-in_err-pop_any-clause-valid c = λ md h. subst (IsValid md) (ap body_of (sym c.in_err-pop_any.ensures.exact)) (c.loop-self.invariant.valid md h)
 
 pub loop-self-preserved : goal.loop-self-preserved
 loop-self-preserved c =

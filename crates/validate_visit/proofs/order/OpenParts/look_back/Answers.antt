@@ -13,7 +13,7 @@ loop-index-preserved c =
     let t = e.noted (parts outermost (nestings (take (i - 1) ps))) (parts outermost (nestings ps)) v.noted (λ j. ap (is_if_under (c.loop-index.under + j)) (sym (one_back ps i _ c.loop-index-test.true c.loop-index.auto.index)) ∙ v.rest j) in
     record {
       depth = e.depth ∙ v.depth;
-      few = omega (arith, e.at_most);
+      within_limit = omega (arith, e.at_most);
       noted = t.0;
       rest = t.1;
     }

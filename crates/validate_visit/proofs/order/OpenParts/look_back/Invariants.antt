@@ -8,7 +8,7 @@ use Rattle.validate_visit.proofs.order.OpenParts.look_back.Given as goal
 abbrev pub invariant-loop-index : goal.invariant-loop-index
 invariant-loop-index l = record {
   depth : l.self.depth ≡ l.fn.self.depth;
-  few : l.under + l.index ≤ length l.before;
+  within_limit : l.under + l.index ≤ length l.before;
   noted : AreNoted l.self.depth l.self.noted l.self.firsts (parts outermost (nestings l.before));
   rest : AreRest l.under (parts outermost (nestings (take l.index l.before))) l.self.noted (parts outermost (nestings l.before));
 }

@@ -1,0 +1,49 @@
+-- The immediates of a load or a store, as a script writes them.
+use Rattle.std.specs.Prelude.{◌≡◌, ◌+◌, ℕ, List, Option, IfSome, find, drop, length, codes, is_some}
+use Rattle.std.specs.Prelude.{unwrap_or, nat_eq, if◌then◌else◌}
+use Rattle.std.specs.List.{starts_with}
+use Rattle.std.specs.Option.{option_map}
+use Rattle.std.specs.Str.Parse.{digits_value}
+use Rattle.validate_visit.specs.declared.memory.MemArg.{MemArg}
+use Rattle.validate_visit.specs.declared.memory.MemArgTarget.TheVariants.{Memory}
+use Rattle.script_parts.specs.Numbers.{IsIndex, IsExponent, IsLongNumber}
+
+-- what follows this name in the first word that begins with it
+abbrev pub following : List ℕ → List (List ℕ) → Option (List ℕ)
+following name words =
+    option_map (λ word. drop (length name) word) (find (λ word. starts_with nat_eq word name) words)
+
+abbrev pub offset_in : List (List ℕ) → Option (List ℕ)
+offset_in words = following (codes "offset=") words
+
+abbrev pub align_in : List (List ℕ) → Option (List ℕ)
+align_in words = following (codes "align=") words
+
+abbrev pub memory_in : List (List ℕ) → Option (List ℕ)
+memory_in words = following (codes "mem=") words
+
+abbrev pub one_if_some : Option (List ℕ) → ℕ
+one_if_some said = if is_some said then 1 else 0
+
+-- Words that write the immediates of an access. Each says one of the three, and no two say the same:
+-- there are as many words as are said of the three.
+pub record IsAccess (words : List (List ℕ)) : Type 0 where
+  pub known :
+      length words
+      ≡ one_if_some (offset_in words) + one_if_some (align_in words) + one_if_some (memory_in words)
+  pub offset : IfSome (offset_in words) IsLongNumber
+  pub align : IfSome (align_in words) IsExponent
+  pub memory : IfSome (memory_in words) IsIndex
+
+-- the number that is said, or else this one
+abbrev pub number_or : ℕ → Option (List ℕ) → ℕ
+number_or default said = unwrap_or (option_map (λ digits. digits_value 10 digits) said) default
+
+-- the access that the words write, of an operator of this natural alignment
+abbrev pub access_of : List (List ℕ) → ℕ → MemArg
+access_of words natural = record {
+  align = number_or natural (align_in words);
+  max_align = natural;
+  offset = number_or 0 (offset_in words);
+  target = Memory (number_or 0 (memory_in words));
+}

@@ -1,0 +1,12 @@
+pub mod Numbers
+pub mod Written
+pub mod References
+pub mod Types
+pub mod Functions
+pub mod Tables
+pub mod Memory
+pub mod Globals
+pub mod Access
+pub mod Indices
+pub mod Lines
+pub mod Listed

@@ -1,0 +1,136 @@
+-- The words of lines, and the order of lines.
+use Rattle.std.specs.Prelude.{◌≡◌, ◌==◌, ◌++◌, ℕ, List, [], ◌∷◌, Bool, true, false, not, Option, Some, None}
+use Rattle.std.specs.Prelude.{◌^◌, ◌-◌, length, is_some, if◌then◌else◌, vec_len}
+use Rattle.std.specs.List.{filter, slice_split}
+use Rattle.std.specs.Int.RustNames.{bit_or}
+use Rattle.validate_types.specs.declared.features.WasmFeatures.{WasmFeatures}
+use Rattle.validate_types.specs.declared.refs.RefType.{RefType}
+use Rattle.validate_types.specs.declared.types.GlobalType.{GlobalType}
+use Rattle.validate_types.specs.declared.types.MemoryType.{MemoryType}
+use Rattle.validate_types.specs.declared.types.SubType.{SubType}
+use Rattle.validate_types.specs.declared.types.TableType.{TableType}
+use Rattle.validate_resources.specs.declared.lists.FuncDecl.{FuncDecl}
+use Rattle.script_parts.specs.declared.script.BodyLine.{BodyLine}
+use Rattle.script_parts.specs.declared.script.LocalLine.{LocalLine}
+use Rattle.script_parts.specs.declared.script.Draft.{Draft}
+use Rattle.script_parts.specs.declared.script.Part.{Part}
+use Rattle.script_parts.specs.declared.script.Part.TheVariants.{Module, Locals, Operators}
+use Rattle.validate_visit.specs.declared.op.Op.{Op}
+use Rattle.script_parts.specs.declared.line.Line.{Line}
+use Rattle.script_parts.specs.declared.line.Line.TheVariants.{Feature as OnFeature}
+use Rattle.script_parts.specs.declared.line.Line.TheVariants.{SubType as OnType}
+use Rattle.script_parts.specs.declared.line.Line.TheVariants.{Function as OnFunction}
+use Rattle.script_parts.specs.declared.line.Line.TheVariants.{Table as OnTable}
+use Rattle.script_parts.specs.declared.line.Line.TheVariants.{Memory as OnMemory}
+use Rattle.script_parts.specs.declared.line.Line.TheVariants.{Global as OnGlobal}
+use Rattle.script_parts.specs.declared.line.Line.TheVariants.{Element as OnElement}
+use Rattle.script_parts.specs.declared.line.Line.TheVariants.{DataCount as OnDataCount}
+use Rattle.script_parts.specs.declared.line.Line.TheVariants.{Body as OnBody, Locals as OnLocals}
+use Rattle.script_parts.specs.declared.line.Line.TheVariants.{Operator as OnOperator}
+
+-- the words of a line: what lies between spaces (32) and isn't empty
+abbrev pub words_in : List ℕ → List (List ℕ)
+words_in line = filter (λ word. not (length word == 0)) (slice_split (λ b. b == 32) line)
+
+-- the part of a script that the lines so far have come to
+abbrev pub part_of : Draft → Part
+part_of d = if is_some d.body then (if vec_len d.operators.ops == 0 then Locals else Operators) else Module
+
+-- Whether a line may stand after lines that have come to this part and have said how many data segments
+-- there are, if they have: proposals and declarations before the `func` or `expr` line, that number once,
+-- locals after the line, and operators last.
+abbrev pub may_stand : Line → Part → Option ℕ → Bool
+may_stand (OnFeature named) Module _ = true
+may_stand (OnType ty) Module _ = true
+may_stand (OnFunction function) Module _ = true
+may_stand (OnTable ty) Module _ = true
+may_stand (OnMemory ty) Module _ = true
+may_stand (OnGlobal ty) Module _ = true
+may_stand (OnElement ty) Module _ = true
+may_stand (OnDataCount count) Module None = true
+may_stand (OnBody body) Module _ = true
+may_stand (OnLocals n ty) Locals _ = true
+may_stand (OnOperator op) Locals _ = true
+may_stand (OnOperator op) Operators _ = true
+may_stand _ _ _ = false
+
+-- every proposal
+abbrev pub all_features : WasmFeatures
+all_features = record { 0 = 2 ^ 21 - 1 }
+
+-- all, where no `feature` line stands
+abbrev pub features_or_all : Option WasmFeatures → WasmFeatures
+features_or_all (Some features) = features
+features_or_all None = all_features
+
+-- the proposals of two sets
+abbrev pub both : WasmFeatures → WasmFeatures → WasmFeatures
+both a b = record { 0 = bit_or a.0 b.0 }
+
+-- those that are named, after a line: it adds its own
+abbrev pub features_after : Line → Option WasmFeatures → Option WasmFeatures
+features_after (OnFeature named) None = Some named
+features_after (OnFeature named) (Some before) = Some (both before named)
+features_after _ before = before
+
+-- what a line, the one of this number, adds to each list
+abbrev pub types_of : Line → List SubType
+types_of (OnType ty) = ty ∷ []
+types_of _ = []
+
+abbrev pub functions_of : Line → List FuncDecl
+functions_of (OnFunction function) = function ∷ []
+functions_of _ = []
+
+abbrev pub tables_of : Line → List TableType
+tables_of (OnTable ty) = ty ∷ []
+tables_of _ = []
+
+abbrev pub memories_of : Line → List MemoryType
+memories_of (OnMemory ty) = ty ∷ []
+memories_of _ = []
+
+abbrev pub globals_of : Line → List GlobalType
+globals_of (OnGlobal ty) = ty ∷ []
+globals_of _ = []
+
+abbrev pub elements_of : Line → List RefType
+elements_of (OnElement ty) = ty ∷ []
+elements_of _ = []
+
+abbrev pub locals_of : Line → ℕ → List LocalLine
+locals_of (OnLocals n t) number = record { count = n; ty = t; offset = number } ∷ []
+locals_of _ number = []
+
+abbrev pub operators_of : Line → ℕ → List (Op × ℕ)
+operators_of (OnOperator written) number = (written.op, number) ∷ []
+operators_of _ number = []
+
+abbrev pub attempts_of : Line → List Bool
+attempts_of (OnOperator written) = written.attempted ∷ []
+attempts_of _ = []
+
+-- the `func` or `expr` line after a line
+abbrev pub body_after : Line → ℕ → Option BodyLine → Option BodyLine
+body_after (OnBody body) number before = Some (record { body = body; offset = number })
+body_after _ number before = before
+
+-- how many data segments the lines up to this one say that there are, if they do
+abbrev pub data_count_after : Line → Option ℕ → Option ℕ
+data_count_after (OnDataCount count) before = Some count
+data_count_after _ before = before
+
+-- the draft with a line, the one of this number, added to it
+pub record AddsLine (old new : Draft) (line : Line) (number : ℕ) : Type 0 where
+  pub features : new.features ≡ features_after line old.features
+  pub types : new.declarations.types.items ≡ old.declarations.types.items ++ types_of line
+  pub functions : new.declarations.functions.items ≡ old.declarations.functions.items ++ functions_of line
+  pub tables : new.declarations.tables.items ≡ old.declarations.tables.items ++ tables_of line
+  pub memories : new.declarations.memories.items ≡ old.declarations.memories.items ++ memories_of line
+  pub globals : new.declarations.globals.items ≡ old.declarations.globals.items ++ globals_of line
+  pub elements : new.declarations.elements.items ≡ old.declarations.elements.items ++ elements_of line
+  pub data_count : new.declarations.data_count ≡ data_count_after line old.declarations.data_count
+  pub body : new.body ≡ body_after line number old.body
+  pub locals : new.locals.items ≡ old.locals.items ++ locals_of line number
+  pub operators : new.operators.ops.items ≡ old.operators.ops.items ++ operators_of line number
+  pub attempts : new.operators.attempts.items ≡ old.operators.attempts.items ++ attempts_of line

@@ -1,0 +1,36 @@
+-- Operators as a script writes them: plain, or in a `try` line.
+use Rattle.std.specs.Prelude.{ℕ, Bool, true, false, not, ◌&&◌, ◌||◌, List, [], ◌∷◌, ◌++◌}
+use Rattle.validate_visit.specs.Order.{Nesting, nesting, Stays}
+use Rattle.validate_types.specs.declared.types.ValType.{ValType}
+use Rattle.validate_visit.specs.declared.op.ControlOp.TheVariants.{BrTable, TypedSelectMulti}
+use Rattle.validate_visit.specs.declared.op.Op.{Op}
+use Rattle.validate_visit.specs.declared.op.Op.TheVariants.{Control}
+
+abbrev pub is_staying : Nesting → Bool
+is_staying Stays = true
+is_staying _ = false
+
+-- it opens no part of a body, and ends or begins none: only such an operator may be attempted
+abbrev pub may_be_attempted : Op → Bool
+may_be_attempted op = is_staying (nesting op)
+
+-- each of these operators that is attempted may be
+abbrev pub may_all_be_attempted : List (Op × ℕ) → List Bool → Bool
+may_all_be_attempted (p ∷ ops) (attempted ∷ attempts) =
+    (not attempted || may_be_attempted p.0) && may_all_be_attempted ops attempts
+may_all_be_attempted _ _ = true
+
+-- the labels of a table, the default last
+abbrev pub labels_of : Op → List ℕ
+labels_of (Control (BrTable table)) = table.targets.now ++ table.default ∷ []
+labels_of _ = []
+
+-- the types of a `select` of several values
+abbrev pub types_of : Op → List ValType
+types_of (Control (TypedSelectMulti types)) = types.now
+types_of _ = []
+
+-- none of the labels of a table is missing
+abbrev pub is_complete : Op → Bool
+is_complete (Control (BrTable table)) = table.complete
+is_complete _ = true

@@ -1,0 +1,90 @@
+//! Operators whose immediates are indices.
+
+ghost use Rattle.std.specs.Prelude.{◌≡◌, [], ◌∷◌, IfSome, map};
+ghost use Rattle.std.specs.Str.Parse.{digits_value};
+ghost use Rattle.script_parts.specs.Indices.{op_indices};
+
+use crate::numbers::read_index;
+use validate_visit::{ControlOp, MemoryOp, Op, ReferenceOp, TableOp};
+
+/// The operator with the indices that these words write in the place of its own, if it has so many.
+pub fn read_indexed(op: Op<'static>, words: &[&str]) -> Option<Op<'static>>
+    ensures { IfSome result (λ op. map (λ word. digits_value 10 word.now) words.now ≡ op_indices op) }
+{
+    match *words {
+        [index] => with_index(op, read_index(index)?),
+        [first, second] => with_indices(op, read_index(first)?, read_index(second)?),
+        _ => None,
+    }
+}
+
+/// The operator with this index, if it has one index alone.
+fn with_index(op: Op<'static>, index: u32) -> Option<Op<'static>>
+    ensures { IfSome result (λ op. op_indices op ≡ index ∷ []) }
+{
+    Some(match op {
+        Op::Control(ControlOp::Br(_)) => Op::Control(ControlOp::Br(index)),
+        Op::Control(ControlOp::BrIf(_)) => Op::Control(ControlOp::BrIf(index)),
+        Op::Control(ControlOp::Call(_)) => Op::Control(ControlOp::Call(index)),
+        Op::Control(ControlOp::ReturnCall(_)) => Op::Control(ControlOp::ReturnCall(index)),
+        Op::Control(ControlOp::CallRef(_)) => Op::Control(ControlOp::CallRef(index)),
+        Op::Control(ControlOp::ReturnCallRef(_)) => Op::Control(ControlOp::ReturnCallRef(index)),
+        Op::Control(ControlOp::LocalGet(_)) => Op::Control(ControlOp::LocalGet(index)),
+        Op::Control(ControlOp::LocalSet(_)) => Op::Control(ControlOp::LocalSet(index)),
+        Op::Control(ControlOp::LocalTee(_)) => Op::Control(ControlOp::LocalTee(index)),
+        Op::Control(ControlOp::GlobalGet(_)) => Op::Control(ControlOp::GlobalGet(index)),
+        Op::Control(ControlOp::GlobalSet(_)) => Op::Control(ControlOp::GlobalSet(index)),
+        Op::Reference(ReferenceOp::RefFunc(_)) => Op::Reference(ReferenceOp::RefFunc(index)),
+        Op::Reference(ReferenceOp::BrOnNull(_)) => Op::Reference(ReferenceOp::BrOnNull(index)),
+        Op::Reference(ReferenceOp::BrOnNonNull(_)) => {
+            Op::Reference(ReferenceOp::BrOnNonNull(index))
+        }
+        Op::Memory(MemoryOp::MemorySize(_)) => Op::Memory(MemoryOp::MemorySize(index)),
+        Op::Memory(MemoryOp::MemoryGrow(_)) => Op::Memory(MemoryOp::MemoryGrow(index)),
+        Op::Memory(MemoryOp::MemoryFill(_)) => Op::Memory(MemoryOp::MemoryFill(index)),
+        Op::Memory(MemoryOp::MemoryDiscard(_)) => Op::Memory(MemoryOp::MemoryDiscard(index)),
+        Op::Memory(MemoryOp::DataDrop(_)) => Op::Memory(MemoryOp::DataDrop(index)),
+        Op::Table(TableOp::TableGet(_)) => Op::Table(TableOp::TableGet(index)),
+        Op::Table(TableOp::TableSet(_)) => Op::Table(TableOp::TableSet(index)),
+        Op::Table(TableOp::TableGrow(_)) => Op::Table(TableOp::TableGrow(index)),
+        Op::Table(TableOp::TableSize(_)) => Op::Table(TableOp::TableSize(index)),
+        Op::Table(TableOp::TableFill(_)) => Op::Table(TableOp::TableFill(index)),
+        Op::Table(TableOp::ElemDrop(_)) => Op::Table(TableOp::ElemDrop(index)),
+        _ => return None,
+    })
+}
+
+/// The operator with these indices, if it has two.
+fn with_indices(op: Op<'static>, first: u32, second: u32) -> Option<Op<'static>>
+    ensures { IfSome result (λ op. op_indices op ≡ first ∷ second ∷ []) }
+{
+    Some(match op {
+        Op::Control(ControlOp::CallIndirect { .. }) => Op::Control(ControlOp::CallIndirect {
+            type_index: first,
+            table_index: second,
+        }),
+        Op::Control(ControlOp::ReturnCallIndirect { .. }) => {
+            Op::Control(ControlOp::ReturnCallIndirect {
+                type_index: first,
+                table_index: second,
+            })
+        }
+        Op::Memory(MemoryOp::MemoryInit { .. }) => Op::Memory(MemoryOp::MemoryInit {
+            data_index: first,
+            mem: second,
+        }),
+        Op::Memory(MemoryOp::MemoryCopy { .. }) => Op::Memory(MemoryOp::MemoryCopy {
+            dst_mem: first,
+            src_mem: second,
+        }),
+        Op::Table(TableOp::TableInit { .. }) => Op::Table(TableOp::TableInit {
+            elem_index: first,
+            table: second,
+        }),
+        Op::Table(TableOp::TableCopy { .. }) => Op::Table(TableOp::TableCopy {
+            dst_table: first,
+            src_table: second,
+        }),
+        _ => return None,
+    })
+}

@@ -1,0 +1,33 @@
+//! What a line of a script says.
+
+use crate::script::Body;
+use crate::written::WrittenOp;
+use validate_resources::FuncDecl;
+use validate_types::{GlobalType, MemoryType, RefType, SubType, TableType, ValType, WasmFeatures};
+
+/// What a line says that is neither blank nor a comment.
+#[derive(Drop)]
+pub enum Line<'a> {
+    /// `feature NAME`: these proposals are on.
+    Feature(WasmFeatures),
+    /// `type ..`: the module declares this type.
+    SubType(SubType),
+    /// `fn N ..`: the module declares this function.
+    Function(FuncDecl),
+    /// `table T ..`: the module declares a table of this type.
+    Table(TableType),
+    /// `memory ..`: the module declares a memory of this type.
+    Memory(MemoryType),
+    /// `global ..`: the module declares a global of this type.
+    Global(GlobalType),
+    /// `elem T`: the module declares an element segment of this type.
+    Element(RefType),
+    /// `data COUNT`: the module has this many data segments.
+    DataCount(u32),
+    /// `func N` or `expr T`: what the operators are the body of.
+    Body(Body),
+    /// `local N T`: the body has this many more locals of this type.
+    Locals(u32, ValType),
+    /// An operator of the body, or `try` and one.
+    Operator(WrittenOp<'a>),
+}

@@ -1,0 +1,86 @@
+//! Reference types by their names.
+
+ghost use Rattle.std.specs.Prelude.{◌≡◌, ◌≢◌, ◌++◌, IfNone, IfSome, codes, true};
+ghost use Rattle.validate_types.specs.Abstract.{plain_name, heap_name};
+ghost use Rattle.validate_types.specs.declared.heap.AbstractHeapType.{AbstractHeapType};
+ghost use Rattle.script_parts.specs.References.{IsHeapName, IsReferenceName};
+
+use crate::numbers::read_index;
+use validate_types::{AbstractHeapType, HeapType, RefType, UnpackedIndex};
+
+/// The reference type that a word names, if it does: by its short name, or as `ref:H` or `refnull:H`.
+pub fn read_reference(word: &str) -> Option<RefType>
+    ensures { IfSome result (λ ty. IsReferenceName word.now ty) }
+{
+    if let Some(ty) = abstract_of_reference(word) {
+        return RefType::new(true, HeapType::Abstract { shared: false, ty });
+    }
+    match word.strip_prefix("refnull:") {
+        Some(name) => RefType::new(true, read_heap_type(name)?),
+        None => RefType::new(false, read_heap_type(word.strip_prefix("ref:")?)?),
+    }
+}
+
+/// The heap type that a word names, if it does: an abstract type, the shared copy of one, or the type of
+/// the module at this index.
+pub fn read_heap_type(word: &str) -> Option<HeapType>
+    ensures { IfSome result (λ ty. IsHeapName word.now ty) }
+{
+    if let Some(ty) = abstract_named(word) {
+        return Some(HeapType::Abstract { shared: false, ty });
+    }
+    if let Some(name) = word.strip_prefix("shared-") {
+        let ty = abstract_named(name)?;
+        return Some(HeapType::Abstract { shared: true, ty });
+    }
+    let index = read_index(word)?;
+    Some(HeapType::Concrete(UnpackedIndex::Module(index)))
+}
+
+/// The abstract heap type of this name.
+fn abstract_named(name: &str) -> Option<AbstractHeapType>
+    ensures named { IfSome result (λ ty. name.now ≡ plain_name ty) }
+    ensures other { IfNone result ((ty : AbstractHeapType) → name.now ≢ plain_name ty) }
+{
+    Some(match name {
+        "func" => AbstractHeapType::Func,
+        "extern" => AbstractHeapType::Extern,
+        "any" => AbstractHeapType::Any,
+        "none" => AbstractHeapType::None,
+        "noextern" => AbstractHeapType::NoExtern,
+        "nofunc" => AbstractHeapType::NoFunc,
+        "eq" => AbstractHeapType::Eq,
+        "struct" => AbstractHeapType::Struct,
+        "array" => AbstractHeapType::Array,
+        "i31" => AbstractHeapType::I31,
+        "exn" => AbstractHeapType::Exn,
+        "noexn" => AbstractHeapType::NoExn,
+        "cont" => AbstractHeapType::Cont,
+        "nocont" => AbstractHeapType::NoCont,
+        _ => return None,
+    })
+}
+
+/// The abstract heap type that the nullable reference of this short name points to.
+fn abstract_of_reference(name: &str) -> Option<AbstractHeapType>
+    ensures named { IfSome result (λ ty. name.now ≡ heap_name true ty ++ codes "ref") }
+    ensures other { IfNone result ((ty : AbstractHeapType) → name.now ≢ heap_name true ty ++ codes "ref") }
+{
+    Some(match name {
+        "funcref" => AbstractHeapType::Func,
+        "externref" => AbstractHeapType::Extern,
+        "anyref" => AbstractHeapType::Any,
+        "nullref" => AbstractHeapType::None,
+        "nullexternref" => AbstractHeapType::NoExtern,
+        "nullfuncref" => AbstractHeapType::NoFunc,
+        "eqref" => AbstractHeapType::Eq,
+        "structref" => AbstractHeapType::Struct,
+        "arrayref" => AbstractHeapType::Array,
+        "i31ref" => AbstractHeapType::I31,
+        "exnref" => AbstractHeapType::Exn,
+        "nullexnref" => AbstractHeapType::NoExn,
+        "contref" => AbstractHeapType::Cont,
+        "nullcontref" => AbstractHeapType::NoCont,
+        _ => return None,
+    })
+}

@@ -1,0 +1,208 @@
+//! A script, and the lines that it is made of.
+
+ghost use Rattle.script_parts.specs.Lines.{all_features};
+ghost use Rattle.std.specs.Prelude.{◌≡◌, ◌↔◌, false, Some, IsSome, IfSome, IsErrOf, OnOk};
+
+use crate::failure::LineError;
+use crate::line::Line;
+use crate::written::Operators;
+use bitflags::Flags;
+use std::alloc::Global;
+use validate_resources::FuncDecl;
+use validate_types::{GlobalType, MemoryType, RefType, SubType, TableType, ValType, WasmFeatures};
+
+/// What the operators of a script are the body of.
+#[derive(Clone, Copy, Debug, PartialEq, Eq)]
+pub enum Body {
+    /// A function of the type at this index.
+    Function(u32),
+    /// A constant expression that gives a value of this type.
+    Expression(ValType),
+}
+
+/// The `func` or `expr` line.
+#[derive(Clone, Copy, Debug, PartialEq, Eq)]
+pub struct BodyLine {
+    /// What it begins.
+    pub body: Body,
+    /// The number of the line.
+    pub offset: u64,
+}
+
+/// A `local` line.
+#[derive(Clone, Copy, Debug, PartialEq, Eq)]
+pub struct LocalLine {
+    /// How many locals it declares.
+    pub count: u32,
+    /// Their type.
+    pub ty: ValType,
+    /// The number of the line.
+    pub offset: u64,
+}
+
+/// What the module of a script declares.
+#[derive(Drop)]
+pub struct Declarations {
+    /// Its types.
+    pub types: Vec<SubType>,
+    /// Its functions.
+    pub functions: Vec<FuncDecl>,
+    /// Its tables.
+    pub tables: Vec<TableType>,
+    /// Its memories.
+    pub memories: Vec<MemoryType>,
+    /// Its globals.
+    pub globals: Vec<GlobalType>,
+    /// The types of its element segments.
+    pub elements: Vec<RefType>,
+    /// How many data segments it has, if it says so.
+    pub data_count: Option<u32>,
+}
+
+/// A script whose lines are all of the grammar, and in their places.
+#[derive(Drop)]
+pub struct Script<'a> {
+    /// The proposals that are on.
+    pub features: WasmFeatures,
+    /// The module.
+    pub declarations: Declarations,
+    /// The `func` or `expr` line.
+    pub body: BodyLine,
+    /// The `local` lines.
+    pub locals: Vec<LocalLine>,
+    /// The operators.
+    pub operators: Operators<'a>,
+}
+
+/// What a script's first lines say.
+#[derive(Drop)]
+pub struct Draft<'a> {
+    /// The proposals that are named, if some are.
+    pub features: Option<WasmFeatures>,
+    /// The module.
+    pub declarations: Declarations,
+    /// The `func` or `expr` line, if it has come.
+    pub body: Option<BodyLine>,
+    /// The `local` lines.
+    pub locals: Vec<LocalLine>,
+    /// The operators.
+    pub operators: Operators<'a>,
+}
+
+/// The parts of a script, in their order.
+#[derive(Clone, Copy)]
+enum Part {
+    Module,
+    Locals,
+    Operators,
+}
+
+impl<'a> Draft<'a> {
+    ghost use Rattle.script_parts.specs.declared.failure.LineError.{LineError};
+    ghost use Rattle.script_parts.specs.Lines.{part_of, may_stand, features_or_all, AddsLine};
+
+    /// No lines yet.
+    pub fn new(alloc: Global) -> Draft<'a> {
+        Draft {
+            features: None,
+            declarations: Declarations {
+                types: Vec::new(alloc),
+                functions: Vec::new(alloc),
+                tables: Vec::new(alloc),
+                memories: Vec::new(alloc),
+                globals: Vec::new(alloc),
+                elements: Vec::new(alloc),
+                data_count: None,
+            },
+            body: None,
+            locals: Vec::new(alloc),
+            operators: Operators::new(alloc),
+        }
+    }
+
+    /// The part that the last line stood in.
+    fn part(&self) -> Part
+        ensures { result ≡ part_of self.now }
+    {
+        if self.body.is_none() {
+            Part::Module
+        } else if self.operators.ops.is_empty() {
+            Part::Locals
+        } else {
+            Part::Operators
+        }
+    }
+
+    /// Adds a line, if this is its place.
+    pub fn add(&mut self, line: Line<'a>, offset: u64) -> Result<(), LineError>
+        ensures added { OnOk result (AddsLine self.old self.new line.entry offset) }
+        ensures bad { IsErrOf result LineError.Bad
+            ↔ (may_stand line.entry (part_of self.old) self.old.declarations.data_count ≡ false) }
+    {
+        match (line, self.part(), self.declarations.data_count) {
+            (Line::Feature(named), Part::Module, _) => {
+                let before = self.features.unwrap_or(WasmFeatures::empty());
+                self.features = Some(before.union(named));
+            }
+            (Line::SubType(ty), Part::Module, _) => self.declarations.types.push(ty)?,
+            (Line::Function(function), Part::Module, _) => {
+                self.declarations.functions.push(function)?;
+            }
+            (Line::Table(ty), Part::Module, _) => self.declarations.tables.push(ty)?,
+            (Line::Memory(ty), Part::Module, _) => self.declarations.memories.push(ty)?,
+            (Line::Global(ty), Part::Module, _) => self.declarations.globals.push(ty)?,
+            (Line::Element(ty), Part::Module, _) => self.declarations.elements.push(ty)?,
+            (Line::DataCount(count), Part::Module, None) => {
+                self.declarations.data_count = Some(count);
+            }
+            (Line::Body(body), Part::Module, _) => {
+                self.body = Some(BodyLine { body, offset });
+            }
+            (Line::Locals(count, ty), Part::Locals, _) => {
+                self.locals.push(LocalLine { count, ty, offset })?;
+            }
+            (Line::Operator(op), Part::Locals | Part::Operators, _) => {
+                self.operators.push(op, offset)?;
+            }
+            _ => return Err(LineError::Bad),
+        }
+        Ok(())
+    }
+
+    /// The whole script, if it has its `func` or `expr` line. Every proposal is on where no `feature`
+    /// line stands.
+    pub fn finish(self) -> Option<Script<'a>>
+        ensures whole { IsSome result ↔ IsSome self.entry.body }
+        ensures features { IfSome result (λ script. script.features ≡ features_or_all self.entry.features) }
+        ensures declarations { IfSome result (λ script. script.declarations ≡ self.entry.declarations) }
+        ensures body { IfSome result (λ script. self.entry.body ≡ Some script.body) }
+        ensures locals { IfSome result (λ script. script.locals ≡ self.entry.locals) }
+        ensures operators { IfSome result (λ script. script.operators ≡ self.entry.operators) }
+    {
+        let Draft {
+            features,
+            declarations,
+            body,
+            locals,
+            operators,
+        } = self;
+        let features = match features {
+            Some(features) => features,
+            None => every_proposal(),
+        };
+        Some(Script {
+            features,
+            declarations,
+            body: body?,
+            locals,
+            operators,
+        })
+    }
+}
+
+/// Every proposal.
+fn every_proposal() -> WasmFeatures
+    ensures { result ≡ all_features }
+{
+    WasmFeatures::all()
+}

@@ -1,5 +1,0 @@
-pub mod Lists
-mod Following
-mod Indices
-mod ReferenceNames
-mod Marks

@@ -1,0 +1,30 @@
+//! Declared types by their kind.
+
+ghost use Rattle.std.specs.Prelude.{◌≡◌};
+ghost use Rattle.std.specs.Option.{option_copied};
+ghost use Rattle.validate_resources.specs.Context.{signature_of};
+
+use std::alloc::Global;
+use validate_types::{CompositeInnerType, Error, FuncType, SubType};
+
+/// What a type takes and gives, if it is one of functions.
+pub fn func_type_of(sub_type: &SubType) -> Option<&FuncType>
+    ensures { option_copied result ≡ signature_of sub_type.now }
+{
+    match &sub_type.composite_type.inner {
+        CompositeInnerType::Func(func_type) => Some(func_type),
+        CompositeInnerType::Array(_) | CompositeInnerType::Struct(_) => None,
+    }
+}
+
+/// The refusal where the type at an index isn't one of functions.
+#[cold]
+#[inline(never)]
+pub fn expected_func_type(alloc: Global, offset: u64, type_index: u32, found: &SubType) -> Error
+    ensures { result.offset ≡ offset }
+{
+    match format!(in alloc; "expected func type at index {type_index}, found {found}") {
+        Ok(text) => Error::with_text(text, offset),
+        Err(_) => Error::out_of_memory(offset),
+    }
+}

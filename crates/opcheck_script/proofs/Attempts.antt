@@ -3,7 +3,7 @@ use Rattle.std.proofs.Common.{◌≡◌, ◌↔◌, ℕ, zero, suc, Bool, true, 
 use Rattle.std.proofs.lemmas.Bool.{eq-eqb, eqb-true}
 use Rattle.std.specs.Option.{option_and_then}
 use Rattle.validate_types.specs.Refusal.{Refusal}
-use Rattle.validate_visit.specs.Order.{Nesting, nesting, Stays, may_read_on, is_ordered_from}
+use Rattle.validate_visit.specs.Order.{Nesting, nesting, Stays, may_stand, parts_after, is_ordered_from}
 use Rattle.validate_visit.specs.declared.op.Op.{Op}
 use Rattle.validation_rules.specs.Context.{Context}
 use Rattle.validation_rules.specs.Static.{Frame, State, step, state_before, frame_count}
@@ -45,7 +45,7 @@ module _ (cx : Context) where
 
   flat_next : (fs : List Frame) (p : Op × ℕ) (ops : List (Op × ℕ)) → nesting p.0 ≡ Stays → IsOrderedBelow fs (p ∷ ops) → IsOrderedBelow fs ops
   flat_next [] p ops e h = absurd (some_open [] p ops h refl)
-  flat_next (f ∷ fs) p ops e h = subst (λ n. may_read_on f.head.kind (kinds fs) n (λ js. is_ordered_from js (map nesting (without_offsets ops))) ≡ true) e h
+  flat_next (f ∷ fs) p ops e h = subst (λ n. (may_stand (f.head.kind ∷ (kinds fs)) n && is_ordered_from (parts_after (f.head.kind ∷ (kinds fs)) n) (map nesting (without_offsets ops))) ≡ true) e h
 
   pub still_ordered : (s t : State) (p : Op × ℕ) (b : Bool) (a : Answer) (ops : List (Op × ℕ)) → IsAnswer cx p b a s t → (b ≡ true → nesting p.0 ≡ Stays) → IsOrderedBelow s.frames (p ∷ ops) → IsOrderedBelow t.frames ops
   still_ordered s t p b (Ok heights) ops i flat o = ordered_next cx s t p ops i.0 o

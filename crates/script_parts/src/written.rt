@@ -28,7 +28,8 @@ impl<'a> WrittenOp<'a> {
         }
     }
 
-    /// The operator of a `try` line. One that opens a block, or ends one or a part of it, may not stand there.
+    /// The operator of a `try` line. One that opens a block, or ends one or a part of it, may not stand
+    /// there.
     pub fn attempted(op: Op<'a>) -> Option<WrittenOp<'a>>
         ensures op { IfSome result (λ written. written.op ≡ op.entry) }
         ensures attempted { IfSome result (λ written. written.attempted ≡ true) }

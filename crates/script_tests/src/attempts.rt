@@ -137,6 +137,25 @@ end             => ok 0 0
     expect_transcript(&rt, HEAD, transcript)
 }
 
+/// Each operator that has a list has that of its own line.
+#[test]
+fn lists_of_operators(rt: HostRuntime) -> Result<(), Fail> {
+    let transcript = "
+unreachable      => ok 0 1
+try br_table 0 5 => refused 4: unknown label: branch depth too large
+try br_table 0 0 => ok 0 1
+try br_table 5 0 => refused 6: unknown label: branch depth too large
+br_table 0       => ok 0 1
+br_table 7       => refused 8: unknown label: branch depth too large
+=> refused
+
+br_table 0
+br_table x
+=> bad script: line 4
+";
+    expect_transcript(&rt, HEAD, transcript)
+}
+
 /// An accepted attempt stays, and a refused operator that isn't attempted ends the run.
 #[test]
 fn verdicts(rt: HostRuntime) -> Result<(), Fail> {

@@ -29,7 +29,7 @@ use Rattle.validation_rules.specs.Indirect.{function_place, function_reference, 
 use Rattle.validation_rules.specs.References.{null_heap, null_test_pushes, non_null_pushes}
 use Rattle.validation_rules.specs.Tables.{table_type, table_init_row_for, table_copy_row_for}
 use Rattle.validation_rules.specs.Rows.{FrameKind, Block, If, Loop, Head, params, BeginsElse, Ends, Plain, Looks, Row, Operator, guard}
-use Rattle.validation_rules.specs.Operators.{plain_row, plain_row_if, checked_block, opening_operator, opener, staying_operator, row_operator, lookup_row, drop_pushes, select_pushes, control_operator, numeric_row, convert_row, memory_row, atomic_row, reference_row, table_row, ungated_operator, operator, operators}
+use Rattle.validation_rules.specs.Operators.{plain_row, plain_row_if, checked_block, opening_operator_if, opener, staying_operator, row_operator, lookup_row, drop_pushes, select_pushes, control_operator, numeric_row, convert_row, memory_row, atomic_row, reference_row, table_row, ungated_operator, operator, operators}
 use Rattle.validation_rules.proofs.Steps.{some_injective, guard_some}
 use Rattle.type_safety.proofs.Laws.{IsMonotoneAt, IsLawfulOperator}
 use Rattle.type_safety.proofs.Branches.{br_lawful, br_if_lawful, br_table_lawful, tail_call_lawful}
@@ -88,7 +88,7 @@ module _ (cx : Context) (laws : IsLawful cx.of_module) where
   typed_lawful premise None reads sets wanted push = plain_lawful cx laws false None None [] [] false
   typed_lawful premise (Some t) reads sets wanted push = plain_lawful cx laws premise reads sets (wanted t) (push t) false
 
-  pub opens_lawful : (kind : FrameKind) (above : List ValType) (premise : Bool) (bt : BlockType) → IsLawfulOperator cx (opening_operator cx kind above premise bt)
+  pub opens_lawful : (kind : FrameKind) (above : List ValType) (premise : Bool) (bt : BlockType) → IsLawfulOperator cx (opening_operator_if premise cx kind above bt)
   opens_lawful kind above premise bt =
       let ps = (block_signature cx.of_module bt).params in
       record {

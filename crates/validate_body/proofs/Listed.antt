@@ -1,10 +1,10 @@
 -- One operator of a list further.
-use Rattle.std.proofs.Common.{◌≡◌, ◌≢◌, ℕ, zero, suc, ◌+◌, ◌<◌, ◌⊎◌, inl, inr, Bool, true, false, List, [], ◌∷◌, ◌++◌, map, length, drop, get_or, slice_get, Option, Some, None, Result, Ok, Err, IfErr, refl, sym, ap, ◌∙◌, subst, arith, length-append}
+use Rattle.std.proofs.Common.{◌&&◌, ◌≡◌, ◌≢◌, ℕ, zero, suc, ◌+◌, ◌<◌, ◌⊎◌, inl, inr, Bool, true, false, List, [], ◌∷◌, ◌++◌, map, length, drop, get_or, slice_get, Option, Some, None, Result, Ok, Err, IfErr, refl, sym, ap, ◌∙◌, subst, arith, length-append}
 use Rattle.std.specs.Option.{option_map}
 use Rattle.std.proofs.lemmas.List.{drop_more}
 use Rattle.validate_resources.specs.Context.{ModuleContext, IsLawful}
 use Rattle.validate_types.specs.Refusal.{Refusal}
-use Rattle.validate_visit.specs.Order.{nesting, is_if, is_try, may_catch, is_ordered_from, may_read_on}
+use Rattle.validate_visit.specs.Order.{nesting, is_if, is_try, may_catch, is_ordered_from, may_stand, parts_after}
 use Rattle.validate_visit.specs.declared.frame.BlockType.{BlockType}
 use Rattle.validate_visit.specs.declared.frame.FrameKind.{FrameKind}
 use Rattle.validate_visit.specs.declared.op.Op.{Op}
@@ -32,7 +32,7 @@ given_kinds : (left : List MaybeType) (types : List ValType) (fs : List Frame) �
 given_kinds left types [] = refl
 given_kinds left types (f ∷ fs) = refl
 
-order_after : (left : List MaybeType) (cx : Context) (row : Row) (set : List ℕ) (f : Frame) (fs : List Frame) (form : Form) (pushed : List MaybeType) (next : List FrameKind → Bool) → may_read_on f.head.kind (kinds fs) (nesting_of form) next ≡ true → next (kinds (state_after left cx row set f fs form pushed).frames) ≡ true
+order_after : (left : List MaybeType) (cx : Context) (row : Row) (set : List ℕ) (f : Frame) (fs : List Frame) (form : Form) (pushed : List MaybeType) (next : List FrameKind → Bool) → (may_stand (f.head.kind ∷ (kinds fs)) (nesting_of form) && next (parts_after (f.head.kind ∷ (kinds fs)) (nesting_of form))) ≡ true → next (kinds (state_after left cx row set f fs form pushed).frames) ≡ true
 order_after left cx row set f fs Stays pushed next h = h
 order_after left cx row set f fs (Opens o) pushed next h = h
 order_after left cx row set f fs BeginsElse pushed next h = (and_true (is_if f.head.kind) _ h).1
@@ -56,8 +56,8 @@ ordered_next cx s u p ops e h = by s.frames refl
     by (f ∷ fs) k =
         let st = stepped cx (operator cx p.0) f fs s.left u (subst (λ gs. step_in cx (operator cx p.0) gs s.left ≡ Some u) k e) in
         let here : IsOrderedBelow (f ∷ fs) (p ∷ ops) = subst (λ gs. IsOrderedBelow gs (p ∷ ops)) k h in
-        let formed : may_read_on f.head.kind (kinds fs) (nesting_of (operator cx p.0).form) (λ js. is_ordered_from js (map nesting (without_offsets ops))) ≡ true =
-        subst (λ n. may_read_on f.head.kind (kinds fs) n (λ js. is_ordered_from js (map nesting (without_offsets ops))) ≡ true) (sym (operator_nests cx p.0)) here in
+        let formed : (may_stand (f.head.kind ∷ (kinds fs)) (nesting_of (operator cx p.0).form) && is_ordered_from (parts_after (f.head.kind ∷ (kinds fs)) (nesting_of (operator cx p.0).form)) (map nesting (without_offsets ops))) ≡ true =
+        subst (λ n. (may_stand (f.head.kind ∷ (kinds fs)) n && is_ordered_from (parts_after (f.head.kind ∷ (kinds fs)) n) (map nesting (without_offsets ops))) ≡ true) (sym (operator_nests cx p.0)) here in
         subst (λ (w : State). IsOrderedBelow w.frames ops) (sym st.leaves)
         (order_after s.left cx ((operator cx p.0).row (heads (f ∷ fs))) (locals_set (f ∷ fs)) f fs (operator cx p.0).form st.pushed (λ js. is_ordered_from js (map nesting (without_offsets ops))) formed)
 

@@ -96,7 +96,7 @@ fn open_frame<R: WasmModuleResources>(
     requires visit { MayVisit (R.context resources.now) stacks.old }
     requires above { AllByRecursion (Valid (R.context resources.now)) above.now }
     requires block { IsValidBlock (R.context resources.now) stacks.old.body.shared block_type }
-    ensures { Meets (R.context resources.now) (λ cx. opening_operator cx kind above.now true block_type)
+    ensures { Meets (R.context resources.now) (λ cx. opening_operator cx kind above.now block_type)
         offset stacks.old.body result stacks.new.body }
 {
     stacks.pop_types(resources, offset, above)?;

@@ -6,6 +6,7 @@ use crate::expect::{expect, expect_same};
 use crate::setting::{FOUR_TYPES, Setting};
 use std::process::Abort;
 use std::test::Fail;
+use wasmparser_validate::operators::OperatorValidatorAllocations;
 use wasmparser_validate::resources::kinds::func_type_of;
 use wasmparser_validate::types::{RefType, SubType};
 use wasmparser_validate::visit::{BlockType, FrameKind, ModuleArity};
@@ -41,14 +42,27 @@ fn height_of<M: ModuleArity>(body: &M) -> u32
     body.control_stack_height()
 }
 
+/// What the operators of a body in these buffers name. The buffers are given back.
+fn expect_body(
+    rt: &impl Abort,
+    setting: &Setting,
+    allocs: OperatorValidatorAllocations,
+) -> Result<OperatorValidatorAllocations, Fail> {
+    let mut v = setting.validator_in(allocs)?;
+    let body = v.with_resources(&setting.lists, 7);
+    expect_names(rt, &body);
+    expect(rt, body.sub_type_of_ref_type(&RefType::FUNCREF).is_none());
+    expect_same(rt, height_of(&body), 1);
+    Ok(v.into_allocations())
+}
+
+/// In new buffers, and in those that it leaves.
 #[test]
 fn what_a_body_names(rt: HostRuntime) -> Result<(), Fail> {
     let head = format!(in rt.alloc(); "fn 1\n{FOUR_TYPES}")?;
     let setting = Setting::read(&rt, &head)?;
-    let mut v = setting.validator(&rt)?;
-    let body = v.with_resources(&setting.lists, 7);
-    expect_names(&rt, &body);
-    expect(&rt, body.sub_type_of_ref_type(&RefType::FUNCREF).is_none());
-    expect_same(&rt, height_of(&body), 1);
+    let new = OperatorValidatorAllocations::new(rt.alloc());
+    let used = expect_body(&rt, &setting, new)?;
+    expect_body(&rt, &setting, used)?;
     Ok(())
 }

@@ -363,7 +363,8 @@ fn expect_first_set(rt: &impl Abort, v: &OperatorValidator, wanted: &[u32]) {
 fn undo_else<R: WasmModuleResources>(rt: &impl Abort, v: &mut OperatorValidator, lists: &R)
     requires idle { (state v.old).undone ≡ None }
     requires valid { IsValid (R.context lists.now) (state v.old) }
-    ensures { state v.new ≡ state v.old }
+    ensures same { state v.new ≡ state v.old }
+    ensures valid { IsValid (R.context lists.now) (state v.new) }
 {
     assert!(rt; v.control_stack_height() > 0);
     expect(

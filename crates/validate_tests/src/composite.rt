@@ -389,16 +389,30 @@ fn operators_that_name_function_types(rt: HostRuntime) -> Result<(), Fail> {
         lists: lookup(&rt, six_types(&rt)?, &[])??,
         features: WasmFeatures::all(),
     };
+    let mut used = OperatorValidatorAllocations::new(rt.alloc());
     for line in NAMED.lines().filter(|line| !line.is_empty()) {
-        let (ops, text) = line.split_once(" => ").unwrap_or((line, ""));
-        let listed = lists_of(&rt, ops)?;
-        let ops = read_ops(&rt, &listed, ops)?;
-        let mut v = setting.validator(&rt)?;
-        let refusal = check_list(&rt, &mut v, &setting.lists, &ops, line)?;
-        let found = refusal
-            .as_ref()
-            .map_or("accepted", |refusal| refusal.message());
-        expect_same_in(&rt, found, text, &line);
+        let new = OperatorValidatorAllocations::new(rt.alloc());
+        expect_named(&rt, &setting, new, line)?;
+        used = expect_named(&rt, &setting, used, line)?;
     }
     Ok(())
+}
+
+/// What a line says of its operators, in these buffers, which are given back.
+fn expect_named(
+    rt: &(impl Abort + AllocGlobal),
+    setting: &Setting,
+    allocs: OperatorValidatorAllocations,
+    line: &str,
+) -> Result<OperatorValidatorAllocations, Fail> {
+    let (ops, text) = line.split_once(" => ").unwrap_or((line, ""));
+    let listed = lists_of(rt, ops)?;
+    let ops = read_ops(rt, &listed, ops)?;
+    let mut v = setting.validator_in(allocs)?;
+    let refusal = check_list(rt, &mut v, &setting.lists, &ops, line)?;
+    let found = refusal
+        .as_ref()
+        .map_or("accepted", |refusal| refusal.message());
+    expect_same_in(rt, found, text, &line);
+    Ok(v.into_allocations())
 }

@@ -8,8 +8,9 @@ use Rattle.validate_visit.specs.declared.frame.FrameKind.TheVariants.{Else}
 use Rattle.validate_visit.specs.declared.op.Op.{Op}
 use Rattle.validate_visit.specs.declared.op.Op.TheVariants.{Control, Numeric, Convert, Memory, Atomic, Reference, Table}
 use Rattle.validate_visit.specs.declared.op.ControlOp.TheVariants.{Nop, Block as BlockOp, Loop as LoopOp, If as IfOp, Else as ElseOp}
-use Rattle.validate_visit.specs.Parts.{outermost, with_innermost_kind, after, parts}
-use Rattle.validate_visit.specs.Order.{Nesting, Stays, Opens, BeginsElse, BeginsCatch, Ends, Delegates, nesting, is_opening, is_closer, begins_else, is_if, is_try, may_catch, catch_kind, is_ordered_from, is_well_ordered_list}
+use Rattle.validate_visit.specs.Parts.{outermost, parts}
+use Rattle.validate_visit.specs.Order.{with_innermost_kind, parts_after}
+use Rattle.validate_visit.specs.Order.{Nesting, Stays, Opens, BeginsElse, BeginsCatch, Ends, Delegates, nesting, is_opening, is_closer, begins_else, is_if, is_try, may_catch, catch_kind, is_ordered_from, is_well_ordered_list, may_stand}
 
 -- the operators of a list with offsets, and what they do to the open parts
 abbrev pub operators : List (Op × ℕ) → List Op
@@ -21,24 +22,11 @@ nestings ps = map nesting (operators ps)
 -- ---- one operator
 
 -- whether it may stand there
-abbrev pub stands : List FrameKind → Nesting → Bool
-stands [] n = false
-stands (k ∷ ks) BeginsElse = is_if k
-stands (k ∷ ks) (BeginsCatch all) = may_catch k
-stands (k ∷ ks) Delegates = is_try k
-stands (k ∷ ks) _ = true
+reads_one : (ks : List FrameKind) (n : Nesting) (ns : List Nesting) → is_ordered_from ks (n ∷ ns) ≡ may_stand ks n && is_ordered_from (parts_after ks n) ns
+reads_one ks n ns = refl
 
-reads_one : (ks : List FrameKind) (n : Nesting) (ns : List Nesting) → is_ordered_from ks (n ∷ ns) ≡ stands ks n && is_ordered_from (after ks n) ns
-reads_one [] n ns = refl
-reads_one (k ∷ ks) Stays ns = refl
-reads_one (k ∷ ks) (Opens kind) ns = refl
-reads_one (k ∷ ks) BeginsElse ns = refl
-reads_one (k ∷ ks) (BeginsCatch all) ns = refl
-reads_one (k ∷ ks) Ends ns = refl
-reads_one (k ∷ ks) Delegates ns = refl
-
--- an operator other than `else` stands wherever `nop` does
-as_nop : (ks : List FrameKind) (op : Op) → begins_else (nesting op) ≡ false → stands ks (nesting op) ≡ stands ks Stays
+-- an operator other than `else` may_stand wherever `nop` does
+as_nop : (ks : List FrameKind) (op : Op) → begins_else (nesting op) ≡ false → may_stand ks (nesting op) ≡ may_stand ks Stays
 as_nop [] op h = refl
 as_nop (k ∷ ks) (Control (BlockOp bt)) h = refl
 as_nop (k ∷ ks) (Control (LoopOp bt)) h = refl
@@ -52,11 +40,11 @@ as_nop (k ∷ ks) (Atomic op) h = refl
 as_nop (k ∷ ks) (Reference op) h = refl
 as_nop (k ∷ ks) (Table op) h = refl
 
-nop_stands : (ks : List FrameKind) (n : ℕ) → n ≡ length ks → n ≢ 0 → stands ks Stays ≡ true
+nop_stands : (ks : List FrameKind) (n : ℕ) → n ≡ length ks → n ≢ 0 → may_stand ks Stays ≡ true
 nop_stands [] n e some = absurd (some e)
 nop_stands (k ∷ ks) n e some = refl
 
-none_stands : (ks : List FrameKind) (n : Nesting) → 0 ≡ length ks → stands ks n ≡ false
+none_stands : (ks : List FrameKind) (n : Nesting) → 0 ≡ length ks → may_stand ks n ≡ false
 none_stands [] n e = refl
 none_stands (k ∷ ks) n e = absurd (omega (arith, e))
 
@@ -65,7 +53,7 @@ length-turned j [] = refl
 length-turned j (k ∷ ks) = refl
 
 -- so many parts are open after it
-pub counted : (ks : List FrameKind) (n : Nesting) (c m : ℕ) → c ≡ length ks → (is_opening n ≡ true → m ≡ c + 1) → (is_closer n ≡ true → m + 1 ≡ c) → (is_opening n ≡ false → is_closer n ≡ false → m ≡ c) → m ≡ length (after ks n)
+pub counted : (ks : List FrameKind) (n : Nesting) (c m : ℕ) → c ≡ length ks → (is_opening n ≡ true → m ≡ c + 1) → (is_closer n ≡ true → m + 1 ≡ c) → (is_opening n ≡ false → is_closer n ≡ false → m ≡ c) → m ≡ length (parts_after ks n)
 counted ks Stays c m e opens closes stays = stays refl refl ∙ e
 counted ks (Opens kind) c m e opens closes stays = let h = opens refl in omega (arith, e, h)
 counted ks BeginsElse c m e opens closes stays = stays refl refl ∙ e ∙ length-turned Else ks
@@ -77,25 +65,25 @@ counted (k ∷ ks) Delegates c m e opens closes stays = let h = closes refl in o
 
 -- ---- a list
 
-parts-push : (ks : List FrameKind) (ns : List Nesting) (n : Nesting) → parts ks (ns ++ n ∷ []) ≡ after (parts ks ns) n
+parts-push : (ks : List FrameKind) (ns : List Nesting) (n : Nesting) → parts ks (ns ++ n ∷ []) ≡ parts_after (parts ks ns) n
 parts-push ks [] n = refl
-parts-push ks (m ∷ ns) n = parts-push (after ks m) ns n
+parts-push ks (m ∷ ns) n = parts-push (parts_after ks m) ns n
 
 reads-append : (ks : List FrameKind) (ns ms : List Nesting) → is_ordered_from ks (ns ++ ms) ≡ is_ordered_from ks ns && is_ordered_from (parts ks ns) ms
 reads-append ks [] ms = refl
 reads-append ks (n ∷ ns) ms =
-    reads_one ks n (ns ++ ms) ∙ ap (λ b. stands ks n && b) (reads-append (after ks n) ns ms)
-    ∙ sym (and_assoc (stands ks n) (is_ordered_from (after ks n) ns) (is_ordered_from (parts (after ks n) ns) ms))
-    ∙ ap (λ b. b && is_ordered_from (parts (after ks n) ns) ms) (sym (reads_one ks n ns))
+    reads_one ks n (ns ++ ms) ∙ ap (λ b. may_stand ks n && b) (reads-append (parts_after ks n) ns ms)
+    ∙ sym (and_assoc (may_stand ks n) (is_ordered_from (parts_after ks n) ns) (is_ordered_from (parts (parts_after ks n) ns) ms))
+    ∙ ap (λ b. b && is_ordered_from (parts (parts_after ks n) ns) ms) (sym (reads_one ks n ns))
 
 -- after a list that is in order
 module _ (ks : List FrameKind) (ns : List Nesting) (ordered : is_ordered_from ks ns ≡ true) where
-  reads-on : (n : Nesting) (ms : List Nesting) → is_ordered_from ks (ns ++ n ∷ ms) ≡ stands (parts ks ns) n && is_ordered_from (after (parts ks ns) n) ms
+  reads-on : (n : Nesting) (ms : List Nesting) → is_ordered_from ks (ns ++ n ∷ ms) ≡ may_stand (parts ks ns) n && is_ordered_from (parts_after (parts ks ns) n) ms
   reads-on n ms =
       reads-append ks ns (n ∷ ms) ∙ ap (λ b. b && is_ordered_from (parts ks ns) (n ∷ ms)) ordered ∙ reads_one (parts ks ns) n ms
 
-  pub reads-push : (n : Nesting) → is_ordered_from ks (ns ++ n ∷ []) ≡ stands (parts ks ns) n
-  reads-push n = reads-on n [] ∙ and-true (stands (parts ks ns) n)
+  pub reads-push : (n : Nesting) → is_ordered_from ks (ns ++ n ∷ []) ≡ may_stand (parts ks ns) n
+  reads-push n = reads-on n [] ∙ and-true (may_stand (parts ks ns) n)
 
 -- ---- the operators up to an index
 
@@ -106,12 +94,12 @@ module _ (ps : List (Op × ℕ)) (i : ℕ) (d : Op × ℕ) (h : i < length ps) w
   nestings-more : nestings (take (i + 1) ps) ≡ nestings (take i ps) ++ nesting (get_or ps i d).0 ∷ []
   nestings-more = ap nestings (take_more ps i d h) ∙ nestings-append (take i ps) (get_or ps i d ∷ [])
 
-  pub parts-more : parts outermost (nestings (take (i + 1) ps)) ≡ after (parts outermost (nestings (take i ps))) (nesting (get_or ps i d).0)
+  pub parts-more : parts outermost (nestings (take (i + 1) ps)) ≡ parts_after (parts outermost (nestings (take i ps))) (nesting (get_or ps i d).0)
   parts-more = ap (parts outermost) nestings-more ∙ parts-push outermost (nestings (take i ps)) (nesting (get_or ps i d).0)
 
 -- ---- one operator after a list that is in order
 
-pub follows : (ps : List (Op × ℕ)) (op : Op) → is_ordered_from outermost (nestings ps) ≡ true → is_well_ordered_list (operators ps ++ op ∷ []) ≡ stands (parts outermost (nestings ps)) (nesting op)
+pub follows : (ps : List (Op × ℕ)) (op : Op) → is_ordered_from outermost (nestings ps) ≡ true → is_well_ordered_list (operators ps ++ op ∷ []) ≡ may_stand (parts outermost (nestings ps)) (nesting op)
 follows ps op h = ap (is_ordered_from outermost) (map-append nesting (operators ps) (op ∷ [])) ∙ reads-push outermost (nestings ps) h (nesting op)
 
 left_of_and : (a b : Bool) → a && b ≡ true → a ≡ true
@@ -140,12 +128,12 @@ module _ (ps : List (Op × ℕ)) (i : ℕ) (d : Op × ℕ) (h : i < length ps) (
   abbrev next : Op
   next = (get_or ps i d).0
 
-  stops : stands now (nesting next) ≡ false → is_well_ordered_list (operators ps) ≡ false
+  stops : may_stand now (nesting next) ≡ false → is_well_ordered_list (operators ps) ≡ false
   stops wrong =
       ap (λ qs. is_ordered_from outermost (nestings qs)) (split_at ps i d h)
       ∙ ap (is_ordered_from outermost) (nestings-append (take i ps) (get_or ps i d ∷ drop (suc i) ps))
       ∙ reads-on outermost (nestings (take i ps)) ordered (nesting next) (nestings (drop (suc i) ps))
-      ∙ ap (λ b. b && is_ordered_from (after now (nesting next)) (nestings (drop (suc i) ps))) wrong
+      ∙ ap (λ b. b && is_ordered_from (parts_after now (nesting next)) (nestings (drop (suc i) ps))) wrong
 
   pub stops-no_follower : is_well_ordered_list (operators (take i ps) ++ next ∷ []) ≡ false → is_well_ordered_list (operators ps) ≡ false
   stops-no_follower wrong = stops (sym (follows (take i ps) next ordered) ∙ wrong)

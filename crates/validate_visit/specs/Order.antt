@@ -65,21 +65,38 @@ part_begun BeginsElse = Some Else
 part_begun (BeginsCatch all) = Some (catch_kind all)
 part_begun _ = None
 
--- Reading one operator in the innermost part k, with these parts outside it: whether it may stand
--- there, and the open parts after it.
-abbrev pub may_read_on : FrameKind → List FrameKind → Nesting → (List FrameKind → Bool) → Bool
-may_read_on k ks Stays next = next (k ∷ ks)
-may_read_on k ks (Opens kind) next = next (kind ∷ (k ∷ ks))
-may_read_on k ks BeginsElse next = is_if k && next (Else ∷ ks)
-may_read_on k ks (BeginsCatch all) next = may_catch k && next (catch_kind all ∷ ks)
-may_read_on k ks Ends next = next ks
-may_read_on k ks Delegates next = is_try k && next ks
+-- ---- reading one operator where these parts are open, the innermost first
 
--- reading on from these open parts, the innermost first
+-- it may stand there
+abbrev pub may_stand : List FrameKind → Nesting → Bool
+may_stand [] n = false
+may_stand (k ∷ ks) BeginsElse = is_if k
+may_stand (k ∷ ks) (BeginsCatch all) = may_catch k
+may_stand (k ∷ ks) Delegates = is_try k
+may_stand (k ∷ ks) _ = true
+
+abbrev pub outer_parts : List FrameKind → List FrameKind
+outer_parts [] = []
+outer_parts (k ∷ ks) = ks
+
+-- the innermost part, followed by its next one of this kind
+abbrev pub with_innermost_kind : FrameKind → List FrameKind → List FrameKind
+with_innermost_kind j [] = []
+with_innermost_kind j (k ∷ ks) = j ∷ ks
+
+-- the open parts after it
+abbrev pub parts_after : List FrameKind → Nesting → List FrameKind
+parts_after ks Stays = ks
+parts_after ks (Opens kind) = kind ∷ ks
+parts_after ks BeginsElse = with_innermost_kind Else ks
+parts_after ks (BeginsCatch all) = with_innermost_kind (catch_kind all) ks
+parts_after ks Ends = outer_parts ks
+parts_after ks Delegates = outer_parts ks
+
+-- each operator may stand where the parts are open that those before it leave
 abbrev pub is_ordered_from : List FrameKind → List Nesting → Bool
 is_ordered_from ks [] = true
-is_ordered_from [] (n ∷ ns) = false
-is_ordered_from (k ∷ ks) (n ∷ ns) = may_read_on k ks n (λ js. is_ordered_from js ns)
+is_ordered_from ks (n ∷ ns) = may_stand ks n && is_ordered_from (parts_after ks n) ns
 
 abbrev pub control_nesting : ControlOp → Nesting
 control_nesting (BlockOp bt) = Opens Block

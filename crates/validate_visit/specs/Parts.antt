@@ -4,35 +4,17 @@ use Rattle.std.specs.Prelude.{◌≡◌, ℕ, zero, suc, ◌-◌, ◌<◌, ◌�
 use Rattle.std.specs.Prelude.{length, nat_eq, slice_index}
 use Rattle.std.specs.Int.{bit_at}
 use Rattle.validate_visit.specs.declared.frame.FrameKind.{FrameKind}
-use Rattle.validate_visit.specs.declared.frame.FrameKind.TheVariants.{Block, Else}
+use Rattle.validate_visit.specs.declared.frame.FrameKind.TheVariants.{Block}
 use Rattle.validate_visit.specs.declared.op.Op.{Op}
-use Rattle.validate_visit.specs.Order.{Nesting, Stays, Opens, BeginsElse, BeginsCatch, Ends, Delegates}
-use Rattle.validate_visit.specs.Order.{nesting, is_if, catch_kind}
+use Rattle.validate_visit.specs.Order.{Nesting, nesting, is_if, parts_after}
 
 abbrev pub outermost : List FrameKind
 outermost = Block ∷ []
 
-abbrev pub tail : List FrameKind → List FrameKind
-tail [] = []
-tail (k ∷ ks) = ks
-
-abbrev pub with_innermost_kind : FrameKind → List FrameKind → List FrameKind
-with_innermost_kind j [] = []
-with_innermost_kind j (k ∷ ks) = j ∷ ks
-
--- the open parts after an operator, wherever it stands
-abbrev pub after : List FrameKind → Nesting → List FrameKind
-after ks Stays = ks
-after ks (Opens kind) = kind ∷ ks
-after ks BeginsElse = with_innermost_kind Else ks
-after ks (BeginsCatch all) = with_innermost_kind (catch_kind all) ks
-after ks Ends = tail ks
-after ks Delegates = tail ks
-
 -- the open parts after a list
 abbrev pub parts : List FrameKind → List Nesting → List FrameKind
 parts ks [] = ks
-parts ks (n ∷ ns) = parts (after ks n) ns
+parts ks (n ∷ ns) = parts (parts_after ks n) ns
 
 -- the parts that a list leaves open
 abbrev pub parts_left : List Op → List FrameKind

@@ -3,7 +3,8 @@
 ghost use Rattle.std.specs.Prelude.{◌≡◌, ◌≢◌, ℕ, ◌+◌, ◌-◌, ◌<◌, ◌≤◌, ◌^◌, ◌++◌, [], ◌∷◌, List, Bool, None, true, false, map, length, cond};
 ghost use Rattle.std.specs.Int.{bit_at};
 ghost use Rattle.validate_visit.specs.Order.{is_well_ordered_list, is_opening, is_closer, is_if, begins_else, part_begun, nesting};
-ghost use Rattle.validate_visit.specs.Parts.{after, parts_left, is_if_under, most_noted, is_noted_at, AreNoted};
+ghost use Rattle.validate_visit.specs.Parts.{parts_left, is_if_under, most_noted, is_noted_at, AreNoted};
+ghost use Rattle.validate_visit.specs.Order.{parts_after};
 ghost use Rattle.validate_visit.specs.declared.frame.FrameKind.{FrameKind};
 ghost use Rattle.validate_visit.specs.declared.op.Op.{Op};
 ghost use Rattle.validate_visit.specs.declared.op.ControlOp.{ControlOp};
@@ -82,7 +83,7 @@ impl OpenParts {
         ensures at_most { self.new.depth ≤ self.old.depth + 1 }
         ensures noted { (kinds : List FrameKind) → AreNoted self.old.depth self.old.noted self.old.firsts
             kinds → AreNoted self.new.depth self.new.noted self.new.firsts
-            (after kinds (nesting op.entry)) }
+            (parts_after kinds (nesting op.entry)) }
     {
         if closes(op) {
             self.depth -= 1;
@@ -133,7 +134,7 @@ impl OpenParts {
         ensures depth { self.new.depth ≡ self.old.depth }
         ensures at_most { result ≤ under + 1 }
         ensures noted { (kinds whole : List FrameKind) → AreNoted self.old.depth self.old.noted
-            self.old.firsts whole → ((j : ℕ) → is_if_under (under + j) (after kinds (nesting op.entry))
+            self.old.firsts whole → ((j : ℕ) → is_if_under (under + j) (parts_after kinds (nesting op.entry))
             ≡ is_if_under (self.old.noted + j) whole) → AreNoted self.new.depth self.new.noted
             self.new.firsts whole × ((j : ℕ) → is_if_under (result + j) kinds
             ≡ is_if_under (self.new.noted + j) whole) }

@@ -32,13 +32,13 @@ abbrev pub unreachable : Operator
 unreachable = row_operator (ending_row [])
 
 abbrev pub a_block : Context → BlockType → Operator
-a_block cx bt = opening_operator cx Block [] true bt
+a_block cx bt = opening_operator cx Block [] bt
 
 abbrev pub a_loop : Context → BlockType → Operator
-a_loop cx bt = opening_operator cx Loop [] true bt
+a_loop cx bt = opening_operator cx Loop [] bt
 
 abbrev pub an_if : Context → BlockType → Operator
-an_if cx bt = opening_operator cx If (I32 ∷ []) true bt
+an_if cx bt = opening_operator cx If (I32 ∷ []) bt
 
 abbrev pub an_else : Operator
 an_else = delimiter_operator BeginsElse

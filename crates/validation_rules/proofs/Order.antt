@@ -1,7 +1,7 @@
 -- A list whose rows all hold is well ordered: the rows of `else`, `catch`, `catch_all` and `delegate`
 -- ask for the kind of the innermost frame, so type safety needs no premise on the order.
-use Rattle.std.proofs.Common.{◌≡◌, ℕ, Bool, true, List, [], ◌∷◌, length, map, Option, Some, None, refl, sym, ap, ◌∙◌, subst}
-use Rattle.validate_visit.specs.Order.{Nesting, is_ordered_from, nesting, may_read_on, control_nesting}
+use Rattle.std.proofs.Common.{◌&&◌, ◌≡◌, ℕ, Bool, true, List, [], ◌∷◌, length, map, Option, Some, None, refl, sym, ap, ◌∙◌, subst}
+use Rattle.validate_visit.specs.Order.{Nesting, is_ordered_from, nesting, may_stand, parts_after, control_nesting}
 use Rattle.validate_visit.specs.declared.op.Op.{Op}
 use Rattle.validate_visit.specs.declared.op.Op.TheVariants.{Control}
 use Rattle.validate_visit.specs.declared.op.ControlOp.{ControlOp}
@@ -22,7 +22,7 @@ given_kinds : (left : List MaybeType) (types : List ValType) (fs : List Frame) �
 given_kinds left types [] = refl
 given_kinds left types (f ∷ fs) = refl
 
-order_by : (left : List MaybeType) (cx : Context) (row : Row) (hs : List Head) (set : List ℕ) (f : Frame) (fs : List Frame) (form : Form) (pushed : List MaybeType) (next : List FrameKind → Bool) → pushed_by_form cx row hs set f form ≡ Some pushed → next (kinds (state_after left cx row set f fs form pushed).frames) ≡ true → may_read_on f.head.kind (kinds fs) (nesting_of form) next ≡ true
+order_by : (left : List MaybeType) (cx : Context) (row : Row) (hs : List Head) (set : List ℕ) (f : Frame) (fs : List Frame) (form : Form) (pushed : List MaybeType) (next : List FrameKind → Bool) → pushed_by_form cx row hs set f form ≡ Some pushed → next (kinds (state_after left cx row set f fs form pushed).frames) ≡ true → (may_stand (f.head.kind ∷ (kinds fs)) (nesting_of form) && next (parts_after (f.head.kind ∷ (kinds fs)) (nesting_of form))) ≡ true
 order_by left cx row hs set f fs Stays pushed next p h = h
 order_by left cx row hs set f fs (Opens o) pushed next p h = h
 order_by left cx row hs set f fs BeginsElse pushed next p h =

@@ -99,20 +99,25 @@ abbrev pub checked_block : Context → BlockType → Option BlockType
 checked_block cx Empty = Some Empty
 checked_block cx (Val t) = option_map (λ u. Val u) (cx.of_module.canonical_type cx.features t)
 checked_block cx (FuncType i) =
-    guard (has cx.features multi_value && is_accessible_func_type cx (cx.of_module.type_at i)) (Some (FuncType i))
+    guard (has cx.features multi_value && is_accessible_func_type cx (cx.of_module.type_at i))
+    (Some (FuncType i))
 
 -- an operator that takes the parameters, with these operands above them, and opens a frame over them
-abbrev pub opening_operator : Context → FrameKind → List ValType → Bool → BlockType → Operator
-opening_operator cx kind above premise bt =
+abbrev pub opening_operator_if : Bool → Context → FrameKind → List ValType → BlockType → Operator
+opening_operator_if premise cx kind above bt =
     record {
       form = Opens (record { kind = kind; block_type = bt });
       row = λ hs. plain_row_if premise ((block_signature cx.of_module bt).params ++ above) [];
     }
 
+-- one without a premise
+abbrev pub opening_operator : Context → FrameKind → List ValType → BlockType → Operator
+opening_operator cx kind above bt = opening_operator_if true cx kind above bt
+
 -- with the block type that its check answered
 abbrev pub opener : Context → FrameKind → List ValType → BlockType → Option BlockType → Operator
-opener cx kind above declared (Some bt) = opening_operator cx kind above true bt
-opener cx kind above declared None = opening_operator cx kind above false declared
+opener cx kind above declared (Some bt) = opening_operator cx kind above bt
+opener cx kind above declared None = opening_operator_if false cx kind above declared
 
 -- ---- the groups
 

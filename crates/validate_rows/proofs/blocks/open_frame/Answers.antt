@@ -18,7 +18,7 @@ returns-in_err-pop_types g c =
     let v = c.args.stacks.now.body in
     let ps = (block_signature md c.args.block_type).params in
     let above = c.args.above.now in
-    let none : body_popped_each md (reverse above) v ≡ None → step_body md (λ cx. opening_operator cx c.args.kind above true c.args.block_type) v ≡ None =
+    let none : body_popped_each md (reverse above) v ≡ None → step_body md (λ cx. opening_operator cx c.args.kind above c.args.block_type) v ≡ None =
     λ n. opened_is md v c.args.kind above c.args.block_type c.requires.visit.open_frame ∙ ap (option_map (λ u. body_with_block md c.args.kind c.args.block_type u)) (none_above md ps above v n) in
     meets_refused md _ c.args.offset v c.pop_types.new.self.body _ (search rules) (search (rules, none)) (search rules) c.pop_types.ensures.valid c.pop_types.ensures.kept
 
@@ -34,7 +34,7 @@ returns-in_err-pop_types-2 g c =
     let u = c.pop_types.new.self.body in
     let ps = (block_signature md c.args.block_type).params in
     let above = c.args.above.now in
-    let none : body_popped_each md (reverse c.params.result.now) u ≡ None → step_body md (λ cx. opening_operator cx c.args.kind above true c.args.block_type) v ≡ None =
+    let none : body_popped_each md (reverse c.params.result.now) u ≡ None → step_body md (λ cx. opening_operator cx c.args.kind above c.args.block_type) v ≡ None =
     λ n. opened_is md v c.args.kind above c.args.block_type c.requires.visit.open_frame ∙ ap (option_map (λ u. body_with_block md c.args.kind c.args.block_type u)) (some_above md ps above v u c.in_ok-pop_types.ensures.passed ∙ (ap (λ l. body_popped_each md (reverse l) u) (sym c.params.ensures) ∙ n)) in
     meets_refused md _ c.args.offset v c.pop_types-2.new.self.body _ (search rules) (search (rules, none)) (search rules) c.pop_types-2.ensures.valid (kept_on v u c.pop_types-2.new.self.body c.pop_types.ensures.kept c.pop_types-2.ensures.kept)
 

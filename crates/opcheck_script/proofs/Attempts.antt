@@ -10,12 +10,12 @@ use Rattle.validation_rules.specs.Static.{Frame, State, step, state_before, fram
 use Rattle.validation_rules.specs.Operators.{operator, operators}
 use Rattle.validate_body.specs.Runs.{without_offsets}
 use Rattle.validate_body.proofs.Listed.{kinds, IsOrderedBelow, some_open, ordered_next}
-use Rattle.opcheck_script.specs.Attempts.{Answer, IsAnswer, Answered, EndsRun, Ends, accepted_of}
+use Rattle.opcheck_script.specs.Attempts.{Answer, IsAnswer, AreAnswers, EndsRun, RunEnds, accepted_of}
 use Rattle.script_parts.specs.Written.{is_staying, may_be_attempted, may_all_be_attempted}
 
 module _ (cx : Context) where
   -- the answers with one more
-  pub answered_more : (s : State) (ops : List (Op × ℕ)) (bs : List Bool) (rs : List Answer) (a : Answer) (t u : State) (p : Op × ℕ) (b : Bool) → Answered cx s ops bs rs t → slice_get ops (length rs) ≡ Some p → slice_get bs (length rs) ≡ Some b → IsAnswer cx p b a t u → Answered cx s ops bs (rs ++ a ∷ []) u
+  pub answered_more : (s : State) (ops : List (Op × ℕ)) (bs : List Bool) (rs : List Answer) (a : Answer) (t u : State) (p : Op × ℕ) (b : Bool) → AreAnswers cx s ops bs rs t → slice_get ops (length rs) ≡ Some p → slice_get bs (length rs) ≡ Some b → IsAnswer cx p b a t u → AreAnswers cx s ops bs (rs ++ a ∷ []) u
   answered_more s [] bs [] a t u p b h g k i = absurd cc
   answered_more s (q ∷ ops) [] [] a t u p b h g k i = absurd cc
   answered_more s (q ∷ ops) (c ∷ bs) [] a t u p b h g k i =
@@ -27,7 +27,7 @@ module _ (cx : Context) where
   answered_more s (q ∷ ops) (c ∷ bs) (x ∷ rs) a t u p b h g k i = (h.0, h.1, answered_more h.0 ops bs rs a t u p b h.2 g k i)
 
   -- the last state is that of the accepted operators alone
-  pub accepted_rows : (s : State) (ops : List (Op × ℕ)) (bs : List Bool) (rs : List Answer) (t : State) → Answered cx s ops bs rs t → state_before cx (operators cx (without_offsets (accepted_of ops rs))) s (length (accepted_of ops rs)) ≡ Some t
+  pub accepted_rows : (s : State) (ops : List (Op × ℕ)) (bs : List Bool) (rs : List Answer) (t : State) → AreAnswers cx s ops bs rs t → state_before cx (operators cx (without_offsets (accepted_of ops rs))) s (length (accepted_of ops rs)) ≡ Some t
   accepted_rows s [] bs [] t h = ap Some h
   accepted_rows s (p ∷ ops) bs [] t h = ap Some h
   accepted_rows s [] bs (a ∷ rs) t h = absurd h
@@ -38,7 +38,7 @@ module _ (cx : Context) where
       subst (λ x. state_before cx (operators cx (without_offsets (accepted_of ops rs))) x (length (accepted_of ops rs)) ≡ Some t) (sym h.1.4) (accepted_rows h.0 ops bs rs t h.2)
 
   -- the same at a place
-  pub next_answered : (s : State) (ops : List (Op × ℕ)) (bs : List Bool) (rs : List Answer) (a : Answer) (t u : State) (i : ℕ) (p : Op × ℕ) (b : Bool) → length rs ≡ i → Answered cx s ops bs rs t → slice_get ops i ≡ Some p → slice_get bs i ≡ Some b → IsAnswer cx p b a t u → Answered cx s ops bs (rs ++ a ∷ []) u
+  pub next_answered : (s : State) (ops : List (Op × ℕ)) (bs : List Bool) (rs : List Answer) (a : Answer) (t u : State) (i : ℕ) (p : Op × ℕ) (b : Bool) → length rs ≡ i → AreAnswers cx s ops bs rs t → slice_get ops i ≡ Some p → slice_get bs i ≡ Some b → IsAnswer cx p b a t u → AreAnswers cx s ops bs (rs ++ a ∷ []) u
   next_answered s ops bs rs a t u i p b n h g k x = answered_more s ops bs rs a t u p b h (ap (slice_get ops) n ∙ g) (ap (slice_get bs) n ∙ k) x
 
   -- ---- the order of the rest
@@ -89,7 +89,7 @@ attempted_flat (q ∷ ops) (c ∷ bs) (suc i) p b h g k e = attempted_flat ops b
 -- ---- the end
 
 -- the run ends at a place
-pub ends_at : (cx : Context) (ops : List (Op × ℕ)) (bs : List Bool) (rs : List Answer) (i : ℕ) (p : Op × ℕ) (b : Bool) (e : Refusal) (s : State) → length rs ≡ i → slice_get ops i ≡ Some p → slice_get bs i ≡ Some b → EndsRun cx p b e s → Ends cx ops bs rs s (Err e)
+pub ends_at : (cx : Context) (ops : List (Op × ℕ)) (bs : List Bool) (rs : List Answer) (i : ℕ) (p : Op × ℕ) (b : Bool) (e : Refusal) (s : State) → length rs ≡ i → slice_get ops i ≡ Some p → slice_get bs i ≡ Some b → EndsRun cx p b e s → RunEnds cx (record { ops = ops; attempts = bs }) rs s (Err e)
 ends_at cx ops bs rs i p b e s n g k x = (p, b, ap (slice_get ops) n ∙ g, ap (slice_get bs) n ∙ k, x)
 
 pub short_of_memory : (cx : Context) (p : Op × ℕ) (b : Bool) (e : Refusal) (s : State) → e.offset ≡ p.1 → e.wants_memory ≡ true → EndsRun cx p b e s

@@ -1,4 +1,4 @@
--- What the run of a script with `try` lines answers.
+-- What the run of a script with `try` lines answers (the crate's own).
 use Rattle.std.specs.Prelude.{◌≡◌, ◌↔◌, ℕ, Bool, true, false, IsTrue, List, [], ◌∷◌, Some, None, Result, Ok}
 use Rattle.std.specs.Prelude.{Err, length, slice_get}
 use Rattle.validate_types.specs.Refusal.{Refusal}
@@ -9,6 +9,11 @@ use Rattle.validation_rules.specs.Static.{State, step}
 use Rattle.validation_rules.specs.Operators.{operator}
 use Rattle.validate_stacks.specs.State.{BodyState, body_context}
 use Rattle.validate_body.specs.Runs.{heights_of, body_before}
+
+-- the operators of a body, and which of them are attempted
+pub record Attempted : Type 0 where
+  pub ops : List (Op × ℕ)
+  pub attempts : List Bool
 
 -- what is answered at one operator: the heights after it, or the refusal of an attempt
 abbrev pub Answer : Type 0
@@ -23,11 +28,11 @@ IsAnswer cx p attempted (Err e) s t =
     × (step cx (operator cx p.0) s ≡ None) × (s ≡ t)
 
 -- the answers at the first operators of a list, from the state s to the state t
-abbrev pub Answered : Context → State → List (Op × ℕ) → List Bool → List Answer → State → Type 0
-Answered cx s ops attempts [] t = s ≡ t
-Answered cx s (p ∷ ops) (b ∷ attempts) (a ∷ answers) t =
-    (u : State) × IsAnswer cx p b a s u × Answered cx u ops attempts answers t
-Answered cx s _ _ _ t = ⊥
+abbrev pub AreAnswers : Context → State → List (Op × ℕ) → List Bool → List Answer → State → Type 0
+AreAnswers cx s ops attempts [] t = s ≡ t
+AreAnswers cx s (p ∷ ops) (b ∷ attempts) (a ∷ answers) t =
+    (u : State) × IsAnswer cx p b a s u × AreAnswers cx u ops attempts answers t
+AreAnswers cx s _ _ _ t = ⊥
 
 -- the operators that are accepted
 abbrev pub accepted_of : List (Op × ℕ) → List Answer → List (Op × ℕ)
@@ -44,18 +49,20 @@ pub record EndsRun
 
 -- How the run ends: with an answer at each operator, and then whether the outermost frame is closed; or
 -- with a refusal at the next one.
-abbrev pub Ends : Context → List (Op × ℕ) → List Bool → List Answer → State → Result Bool Refusal → Type 0
-Ends cx ops attempts answers s (Ok closed) = (length answers ≡ length ops) × (IsTrue closed ↔ (s.frames ≡ []))
-Ends cx ops attempts answers s (Err refusal) =
-    (p : Op × ℕ) × (b : Bool) × (slice_get ops (length answers) ≡ Some p)
-    × (slice_get attempts (length answers) ≡ Some b) × EndsRun cx p b refusal s
+abbrev pub RunEnds : Context → Attempted → List Answer → State → Result Bool Refusal → Type 0
+RunEnds cx body answers s (Ok closed) =
+    (length answers ≡ length body.ops) × (IsTrue closed ↔ (s.frames ≡ []))
+RunEnds cx body answers s (Err refusal) =
+    (p : Op × ℕ) × (b : Bool) × (slice_get body.ops (length answers) ≡ Some p)
+    × (slice_get body.attempts (length answers) ≡ Some b) × EndsRun cx p b refusal s
 
 -- What the run of the operators from this state answers: the last state is that of the accepted
 -- operators alone.
 pub record RunsAttempts
-    (md : ModuleContext) (v : BodyState) (ops : List (Op × ℕ)) (attempts : List Bool)
-    (answers : List Answer) (outcome : Result Bool Refusal) : Type 0 where
+    (md : ModuleContext) (v : BodyState) (body : Attempted) (answers : List Answer)
+    (outcome : Result Bool Refusal) : Type 0 where
   pub last : State
-  pub answered : Answered (body_context md v) v.present ops attempts answers last
-  pub rows : body_before md v (accepted_of ops answers) (length (accepted_of ops answers)) ≡ Some last
-  pub ends : Ends (body_context md v) ops attempts answers last outcome
+  pub answered : AreAnswers (body_context md v) v.present body.ops body.attempts answers last
+  pub rows :
+      body_before md v (accepted_of body.ops answers) (length (accepted_of body.ops answers)) ≡ Some last
+  pub ends : RunEnds (body_context md v) body answers last outcome

@@ -1,8 +1,8 @@
--- The states that the bodies of scripts start in.
+-- The states that the bodies of scripts start in (the crate's own).
 use Rattle.std.specs.Prelude.{◌≡◌, ◌⊎◌, ℕ, List, [], ◌∷◌, Some, None, slice_get, take}
 use Rattle.validate_types.specs.declared.features.WasmFeatures.{WasmFeatures}
 use Rattle.validate_types.specs.declared.types.ValType.{ValType}
-use Rattle.validate_resources.specs.Context.{ModuleContext, func_type_at}
+use Rattle.validate_resources.specs.Context.{ModuleContext, signature_at}
 use Rattle.validate_stacks.specs.State.{BodyState}
 use Rattle.validate_body.specs.Start.{const_start, IsFuncStart, HasTooManyParams, DefinesLocals, CannotDefine}
 use Rattle.script_parts.specs.declared.script.Body.{Body}
@@ -25,7 +25,7 @@ IsBodyStart md features (Expression ty) v = IsExpressionStart md features ty v
 -- Why the line is refused: the function's type is unknown, isn't one of functions or has too many
 -- parameters, or the expression's type doesn't pass the check.
 abbrev pub CannotStart : ModuleContext → WasmFeatures → Body → Type 0
-CannotStart md features (Function index) = (func_type_at md index ≡ None) ⊎ HasTooManyParams md index
+CannotStart md features (Function index) = (signature_at md index ≡ None) ⊎ HasTooManyParams md index
 CannotStart md features (Expression ty) = md.canonical_type features ty ≡ None
 
 -- these `local` lines define their locals one after another, from the state v on to the state w

@@ -1,4 +1,4 @@
--- What the module of a script declares.
+-- What the module of a script declares (the crate's own).
 use Rattle.validate_resources.specs.Lists.{Declared}
 use Rattle.script_parts.specs.declared.script.Declarations.{Declarations}
 

@@ -1,4 +1,4 @@
--- What the check of a script answers.
+-- What the check of a script answers (the crate's own).
 use Rattle.std.specs.Prelude.{◌≡◌, ◌⊎◌, ◌↔◌, ℕ, Bool, true, false, IsTrue, List, [], Some, Result, Ok, Err}
 use Rattle.std.specs.Prelude.{length, ◌&&◌}
 use Rattle.std.specs.List.{list_all, list_any}
@@ -12,12 +12,14 @@ use Rattle.validate_visit.specs.declared.op.Op.{Op}
 use Rattle.validate_stacks.specs.State.{BodyState}
 use Rattle.validation_rules.specs.Static.{State, start}
 use Rattle.validate_body.specs.Runs.{without_offsets, body_before, AreHeightsAfter, IsRefusedAt, IsSafeFrom}
-use Rattle.opcheck_script.specs.Attempts.{RunsAttempts, accepted_of}
+use Rattle.opcheck_script.specs.Attempts.{Attempted, RunsAttempts, accepted_of}
 use Rattle.opcheck_script.specs.Begin.{HasLocals, CannotBegin}
+use Rattle.opcheck_script.specs.declared.report.Report.{Report}
 use Rattle.opcheck_script.specs.declared.report.Answers.{Answers}
 use Rattle.opcheck_script.specs.declared.report.Answers.TheVariants.{Heights, Attempts}
 use Rattle.script_parts.specs.declared.script.BodyLine.{BodyLine}
 use Rattle.script_parts.specs.declared.script.LocalLine.{LocalLine}
+use Rattle.script_parts.specs.declared.script.Script.{Script}
 
 -- the operators can be those of a body: they are in order, and their immediates those of a module
 abbrev pub may_be_body : List (Op × ℕ) → Bool
@@ -38,31 +40,46 @@ RunsThrough md v ops heights (Err refusal) =
 abbrev pub is_attempted : Bool → Bool
 is_attempted b = b
 
--- what the run of the operators from this state answers, of which these are attempted
-abbrev pub Runs :
-    ModuleContext → BodyState → List (Op × ℕ) → List Bool → Answers → Result Bool Refusal → Type 0
-Runs md v ops attempts (Heights heights) outcome =
-    (list_any is_attempted attempts ≡ false) × RunsThrough md v ops heights.items outcome
-Runs md v ops attempts (Attempts answers) outcome =
-    (list_any is_attempted attempts ≡ true) × RunsAttempts md v ops attempts answers.items outcome
+-- what the run of the operators from this state answers
+abbrev pub Runs : ModuleContext → BodyState → Attempted → Answers → Result Bool Refusal → Type 0
+Runs md v body (Heights heights) outcome =
+    (list_any is_attempted body.attempts ≡ false) × RunsThrough md v body.ops heights.items outcome
+Runs md v body (Attempts answers) outcome =
+    (list_any is_attempted body.attempts ≡ true) × RunsAttempts md v body answers.items outcome
 
 -- the operators that were accepted, where no plain one was refused
 abbrev pub accepted_in : List (Op × ℕ) → Answers → List (Op × ℕ)
 accepted_in ops (Heights heights) = ops
 accepted_in ops (Attempts answers) = accepted_of ops answers.items
 
+-- the body of a script: the proposals that are on, the line that begins it, its `local` lines, and its
+-- operators
+pub record ScriptBody : Type 0 where
+  pub features : WasmFeatures
+  pub line : BodyLine
+  pub locals : List LocalLine
+  pub operators : Attempted
+
+abbrev pub body_of : Script → ScriptBody
+body_of script =
+    record {
+      features = script.features;
+      line = script.body;
+      locals = script.locals.items;
+      operators = record { ops = script.operators.ops.items; attempts = script.operators.attempts.items };
+    }
+
 -- the body begins, with its locals, and its operators run from there; where the outermost frame is closed
 -- at the end, the body of those that were accepted is type safe
-pub record IsRun
-    (md : ModuleContext) (features : WasmFeatures) (line : BodyLine) (lines : List LocalLine)
-    (ops : List (Op × ℕ)) (attempts : List Bool) (answers : Answers)
-    (outcome : Result Bool Refusal) : Type 0 where
+pub record IsRun (md : ModuleContext) (body : ScriptBody) (report : Report) : Type 0 where
   pub begun : BodyState
-  pub has_locals : HasLocals md features line.body lines begun
-  pub runs : Runs md begun ops attempts answers outcome
+  pub has_locals : HasLocals md body.features body.line.body body.locals begun
+  pub runs : Runs md begun body.operators report.answers report.outcome
   pub block_type : BlockType
   pub one_frame : begun.present ≡ start block_type
-  pub safe : outcome ≡ Ok true → IsSafeFrom md begun (accepted_in ops answers) block_type
+  pub safe :
+      report.outcome ≡ Ok true →
+      IsSafeFrom md begun (accepted_in body.operators.ops report.answers) block_type
 
 -- nothing is answered at an operator
 abbrev pub HasNone : Answers → Type 0
@@ -70,17 +87,12 @@ HasNone (Heights heights) = heights.items ≡ []
 HasNone (Attempts answers) = answers.items ≡ []
 
 -- the body is refused before its operators
-pub record IsRefusedBefore
-    (md : ModuleContext) (features : WasmFeatures) (line : BodyLine) (lines : List LocalLine)
-    (answers : Answers) (outcome : Result Bool Refusal) : Type 0 where
+pub record IsRefusedBefore (md : ModuleContext) (body : ScriptBody) (report : Report) : Type 0 where
   pub refusal : Refusal
-  pub is_outcome : outcome ≡ Err refusal
-  pub cause : refusal.wants_memory ≡ false → CannotBegin md features line lines refusal.offset
-  pub none_noted : HasNone answers
+  pub is_outcome : report.outcome ≡ Err refusal
+  pub cause :
+      refusal.wants_memory ≡ false → CannotBegin md body.features body.line body.locals refusal.offset
+  pub none_noted : HasNone report.answers
 
-abbrev pub IsReport :
-    ModuleContext → WasmFeatures → BodyLine → List LocalLine → List (Op × ℕ) → List Bool → Answers →
-    Result Bool Refusal → Type 0
-IsReport md features line lines ops attempts answers outcome =
-    IsRun md features line lines ops attempts answers outcome
-    ⊎ IsRefusedBefore md features line lines answers outcome
+abbrev pub IsReport : ModuleContext → ScriptBody → Report → Type 0
+IsReport md body report = IsRun md body report ⊎ IsRefusedBefore md body report

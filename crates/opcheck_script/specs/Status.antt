@@ -1,4 +1,4 @@
--- The statuses of the program.
+-- The statuses of the program (the crate's own).
 use Rattle.std.specs.Prelude.{ℕ, Bool, true, false, Result, Ok, Err}
 use Rattle.script_parts.specs.declared.failure.ScriptError.{ScriptError}
 use Rattle.script_parts.specs.declared.failure.ScriptError.TheVariants.{BadLine, OutOfMemory as NoMemory}

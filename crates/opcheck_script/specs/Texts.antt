@@ -1,4 +1,4 @@
--- The texts that a run prints.
+-- The texts that a run prints (the crate's own).
 use Rattle.std.specs.Prelude.{◌++◌, ℕ, List, [], codes, decimal}
 use Rattle.opcheck_script.specs.declared.failure.BadScript.{BadScript}
 use Rattle.opcheck_script.specs.declared.failure.BadScript.TheVariants.{Input, Line, Order, Module}

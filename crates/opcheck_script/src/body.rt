@@ -8,7 +8,7 @@ ghost use Rattle.validate_visit.specs.declared.frame.BlockType.{BlockType};
 ghost use Rattle.validation_rules.specs.Static.{start};
 ghost use Rattle.validation_rules.specs.Operators.{operator};
 ghost use Rattle.validate_stacks.specs.Pops.{IsKept};
-ghost use Rattle.validate_stacks.specs.State.{IsStarting, IsValid, body_context};
+ghost use Rattle.validate_stacks.specs.State.{IsStarting, IsValidBody, body_context};
 ghost use Rattle.validate_stacks.specs.Visits.{MayVisit, Meets};
 ghost use Rattle.validate_body.specs.Runs.{without_offsets, IsSafeFrom};
 ghost use Rattle.validate_body.specs.Start.{state, stacks_of};
@@ -41,8 +41,11 @@ pub fn run_operators<R: WasmModuleResources>(
     requires immediates { list_all (λ (p : _). is_module_op p.0) ops.now ≡ true }
     requires each { length attempts.now ≡ length ops.now }
     requires allowed { may_all_be_attempted ops.now attempts.now ≡ true }
-    ensures runs { Runs (R.context resources.now) (state v.old) ops.now attempts.now result.answers
-        result.outcome }
+    ensures runs { Runs (R.context resources.now) (state v.old) (record {
+      ops = ops.now;
+      attempts =
+          attempts.now;
+    }) result.answers result.outcome }
     ensures safe { result.outcome ≡ Ok true → (ty : BlockType) → (state v.old).present ≡ start ty
         → IsSafeFrom (R.context resources.now) (state v.old) (accepted_in ops.now result.answers) ty }
 {
@@ -86,8 +89,11 @@ fn answer_each<R: WasmModuleResources>(
     requires each { length attempts.now ≡ length ops.now }
     requires allowed { may_all_be_attempted ops.now attempts.now ≡ true }
     requires empty { answers.old.items ≡ [] }
-    ensures runs { RunsAttempts (R.context resources.now) (state v.old) ops.now attempts.now
-        answers.new.items result }
+    ensures runs { RunsAttempts (R.context resources.now) (state v.old) (record {
+      ops = ops.now;
+      attempts =
+          attempts.now;
+    }) answers.new.items result }
     ensures safe { result ≡ Ok true → (ty : BlockType) → (state v.old).present ≡ start ty
         → IsSafeFrom (R.context resources.now) (state v.old) (accepted_of ops.now answers.new.items)
         ty }
@@ -129,7 +135,7 @@ fn answer_at<R: WasmModuleResources>(
         (op.entry, offset) attempted answer (state v.old).present (state v.new).present) }
     ensures ended { IfErr result (λ refusal. EndsRun (body_context (R.context resources.now) (state v.old))
         (op.entry, offset) attempted refusal (state v.old).present) }
-    ensures valid { IsValid (R.context resources.now) (state v.new) }
+    ensures valid { IsValidBody (R.context resources.now) (state v.new) }
     ensures kept { IsKept (state v.old) (state v.new) }
 {
     match visit_or_try(v, resources, offset, op, attempted) {

@@ -9,7 +9,7 @@ ghost use Rattle.validate_stacks.specs.State.{IsStarting};
 ghost use Rattle.validate_body.specs.Start.{state};
 ghost use Rattle.opcheck_script.specs.Module.{declared_by};
 ghost use Rattle.opcheck_script.specs.Begin.{IsExpressionStart, IsBodyStart, CannotStart, HasLocals, CannotBegin};
-ghost use Rattle.opcheck_script.specs.Reports.{IsReport, may_be_body};
+ghost use Rattle.opcheck_script.specs.Reports.{IsReport, body_of, may_be_body};
 ghost use Rattle.script_parts.specs.Written.{may_all_be_attempted};
 ghost use Rattle.opcheck_script.specs.declared.failure.BadScript.{BadScript};
 ghost use Rattle.opcheck_script.specs.declared.failure.Failure.{Failure};
@@ -31,9 +31,7 @@ pub fn check_script(alloc: Global, script: Script<'_>) -> Result<Report, Failure
     ensures ordered { OnOk result (may_be_body script.entry.operators.ops.items ≡ true) }
     ensures module { OnOk result (IsSome (module_of (declared_by script.entry.declarations))) }
     ensures report { IfOk result (λ report. IfSome (module_of (declared_by script.entry.declarations))
-        (λ lists. IsReport (context_of lists) script.entry.features script.entry.body
-        script.entry.locals.items script.entry.operators.ops.items script.entry.operators.attempts.items
-        report.answers report.outcome)) }
+        (λ lists. IsReport (context_of lists) (body_of script.entry) report)) }
     ensures cause { IfErr result (λ failure. (failure ≡ Failure.OutOfMemory)
         ⊎ ((failure ≡ Failure.BadScript BadScript.Order)
         × (may_be_body script.entry.operators.ops.items ≡ false))
@@ -75,8 +73,12 @@ fn check_operators(
     ensures ordered { OnOk result (may_be_body ops.now ≡ true) }
     ensures module { OnOk result (IsSome (module_of (declared_by declarations))) }
     ensures report { IfOk result (λ report. IfSome (module_of (declared_by declarations))
-        (λ lists. IsReport (context_of lists) features line locals.now ops.now attempts.now
-        report.answers report.outcome)) }
+        (λ lists. IsReport (context_of lists) (record {
+          features = features;
+          line = line;
+          locals = locals.now;
+          operators = record { ops = ops.now; attempts = attempts.now };
+        }) report)) }
     ensures cause { IfErr result (λ failure. (failure ≡ Failure.OutOfMemory)
         ⊎ ((failure ≡ Failure.BadScript BadScript.Order) × (may_be_body ops.now ≡ false))
         ⊎ ((failure ≡ Failure.BadScript BadScript.Module)

@@ -1,7 +1,7 @@
 pub mod Lists
 mod Attempts
 mod Pieces
-mod Following
+mod TextAfter
 mod Indices
 mod ReferenceNames
 mod Marks

@@ -1,4 +1,4 @@
--- The immediates of a load or a store, as a script writes them.
+-- The immediates of a load or a store, as a script writes them (the crate's own).
 use Rattle.std.specs.Prelude.{◌≡◌, ◌+◌, ℕ, List, Option, IfSome, find, drop, length, codes, is_some}
 use Rattle.std.specs.Prelude.{unwrap_or, nat_eq, if◌then◌else◌}
 use Rattle.std.specs.List.{starts_with}
@@ -9,18 +9,18 @@ use Rattle.validate_visit.specs.declared.memory.MemArgTarget.TheVariants.{Memory
 use Rattle.script_parts.specs.Numbers.{IsIndex, IsExponent, IsLongNumber}
 
 -- what follows this name in the first word that begins with it
-abbrev pub following : List ℕ → List (List ℕ) → Option (List ℕ)
-following name words =
+abbrev pub text_after : List ℕ → List (List ℕ) → Option (List ℕ)
+text_after name words =
     option_map (λ word. drop (length name) word) (find (λ word. starts_with nat_eq word name) words)
 
 abbrev pub offset_in : List (List ℕ) → Option (List ℕ)
-offset_in words = following (codes "offset=") words
+offset_in words = text_after (codes "offset=") words
 
 abbrev pub align_in : List (List ℕ) → Option (List ℕ)
-align_in words = following (codes "align=") words
+align_in words = text_after (codes "align=") words
 
 abbrev pub memory_in : List (List ℕ) → Option (List ℕ)
-memory_in words = following (codes "mem=") words
+memory_in words = text_after (codes "mem=") words
 
 abbrev pub one_if_some : Option (List ℕ) → ℕ
 one_if_some said = if is_some said then 1 else 0

@@ -1,4 +1,4 @@
--- Functions, as a script declares them.
+-- Functions, as a script declares them (the crate's own).
 use Rattle.std.specs.Prelude.{ℕ, List, [], ◌∷◌, codes, if◌then◌else◌}
 use Rattle.validate_resources.specs.declared.lists.FuncDecl.{FuncDecl}
 

@@ -1,4 +1,4 @@
--- Globals, as a script writes them.
+-- Globals, as a script writes them (the crate's own).
 use Rattle.std.specs.Prelude.{ℕ, List, [], ◌∷◌, ◌++◌, codes, if◌then◌else◌}
 use Rattle.validate_types.specs.declared.types.GlobalType.{GlobalType}
 

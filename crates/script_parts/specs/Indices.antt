@@ -1,4 +1,4 @@
--- The indices of operators, as a script writes them.
+-- The indices of operators, as a script writes them (the crate's own).
 use Rattle.std.specs.Prelude.{ℕ, List, [], ◌∷◌}
 use Rattle.validate_visit.specs.declared.op.ControlOp.{ControlOp}
 use Rattle.validate_visit.specs.declared.op.ControlOp.TheVariants.{Br, BrIf, Call, ReturnCall, CallRef}

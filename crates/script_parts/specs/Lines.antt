@@ -1,4 +1,4 @@
--- The words of lines, and the order of lines.
+-- The words of lines, and the order of lines (the crate's own).
 use Rattle.std.specs.Prelude.{◌≡◌, ◌==◌, ◌++◌, ℕ, List, [], ◌∷◌, Bool, true, false, not, Option, Some, None}
 use Rattle.std.specs.Prelude.{◌^◌, ◌-◌, length, is_some, if◌then◌else◌, vec_len}
 use Rattle.std.specs.List.{filter, slice_split}
@@ -64,13 +64,13 @@ features_or_all (Some features) = features
 features_or_all None = all_features
 
 -- the proposals of two sets
-abbrev pub both : WasmFeatures → WasmFeatures → WasmFeatures
-both a b = record { 0 = bit_or a.0 b.0 }
+abbrev pub joined_features : WasmFeatures → WasmFeatures → WasmFeatures
+joined_features a b = record { 0 = bit_or a.0 b.0 }
 
 -- those that are named, after a line: it adds its own
 abbrev pub features_after : Line → Option WasmFeatures → Option WasmFeatures
 features_after (OnFeature named) None = Some named
-features_after (OnFeature named) (Some before) = Some (both before named)
+features_after (OnFeature named) (Some before) = Some (joined_features before named)
 features_after _ before = before
 
 -- what a line, the one of this number, adds to each list

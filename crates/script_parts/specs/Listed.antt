@@ -1,4 +1,4 @@
--- The lists of operators, before an operator lends them.
+-- The lists of operators, before an operator lends them (the crate's own).
 use Rattle.std.specs.Prelude.{ℕ, List, [], ◌∷◌, ◌++◌}
 use Rattle.validate_types.specs.declared.types.ValType.{ValType}
 use Rattle.script_parts.specs.declared.listed.OperatorList.{OperatorList}

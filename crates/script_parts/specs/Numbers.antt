@@ -1,4 +1,4 @@
--- Numbers as a script writes them.
+-- Numbers as a script writes them (the crate's own).
 use Rattle.std.specs.Prelude.{ℕ, ◌<◌, ◌^◌, ℤ, pos, neg_ℤ, List, drop, if◌then◌else◌}
 use Rattle.std.specs.Str.Parse.{IsNumeral, digits_value, starts_with_minus}
 use Rattle.std.specs.Int.RustNames.{FitsSigned}

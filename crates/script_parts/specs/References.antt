@@ -1,4 +1,4 @@
--- Reference types, as a script writes them.
+-- Reference types, as a script writes them (the crate's own).
 use Rattle.std.specs.Prelude.{◌≡◌, ◌⊎◌, ◌++◌, ℕ, List, Bool, true, false, codes}
 use Rattle.std.specs.Str.Parse.{digits_value}
 use Rattle.validate_types.specs.Abstract.{plain_name, heap_name}

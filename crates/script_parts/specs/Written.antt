@@ -1,4 +1,4 @@
--- Operators as a script writes them: plain, or in a `try` line.
+-- Operators as a script writes them: plain, or in a `try` line (the crate's own).
 use Rattle.std.specs.Prelude.{ℕ, Bool, true, false, not, ◌&&◌, ◌||◌, List, [], ◌∷◌, ◌++◌}
 use Rattle.validate_visit.specs.Order.{Nesting, nesting, Stays}
 use Rattle.validate_types.specs.declared.types.ValType.{ValType}

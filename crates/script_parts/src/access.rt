@@ -2,7 +2,7 @@
 
 ghost use Rattle.std.specs.Prelude.{◌≡◌, map};
 ghost use Rattle.std.specs.Option.{SomeIff, option_copied};
-ghost use Rattle.script_parts.specs.Access.{IsAccess, access_of, following};
+ghost use Rattle.script_parts.specs.Access.{IsAccess, access_of, text_after};
 
 use crate::numbers::{read_index, read_u8, read_u64};
 use validate_visit::{MemArg, MemArgTarget};
@@ -14,9 +14,9 @@ pub fn read_access(words: &[&str], natural: u8) -> Option<MemArg>
     ensures { let texts = map (λ word. word.now) words.now in SomeIff result (IsAccess texts)
         (access_of texts natural) }
 {
-    let offset = following(words, "offset=");
-    let align = following(words, "align=");
-    let memory = following(words, "mem=");
+    let offset = text_after(words, "offset=");
+    let align = text_after(words, "align=");
+    let memory = text_after(words, "mem=");
     // Each word says one of the three, and no two say the same.
     let said = usize::from(offset.is_some())
         + usize::from(align.is_some())
@@ -33,8 +33,8 @@ pub fn read_access(words: &[&str], natural: u8) -> Option<MemArg>
 }
 
 /// What follows this name in the first word that begins with it, if one does.
-pub fn following<'a>(words: &[&'a str], name: &str) -> Option<&'a str>
-    ensures { option_copied result ≡ following name.now (map (λ word. word.now) words.now) }
+pub fn text_after<'a>(words: &[&'a str], name: &str) -> Option<&'a str>
+    ensures { option_copied result ≡ text_after name.now (map (λ word. word.now) words.now) }
 {
     words
         .iter()

@@ -3,7 +3,7 @@
 ghost use Rattle.std.specs.Prelude.{◌≡◌, IfOk, IfSome, map};
 ghost use Rattle.script_parts.specs.Types.{is_marked_shared, type_marks, supertype_in};
 
-use crate::access::following;
+use crate::access::text_after;
 use crate::failure::LineError;
 use crate::names::named_in;
 use crate::numbers::read_index;
@@ -66,7 +66,7 @@ fn read_marks(marks: &[&str]) -> Option<Marks>
     ensures supertype { IfSome result (λ said. said.supertype_idx
         ≡ supertype_in (map (λ mark. mark.now) marks.now)) }
 {
-    let supertype = following(marks, "sub=");
+    let supertype = text_after(marks, "sub=");
     let others = marks.iter().filter(|mark| **mark != "shared").count();
     if others != usize::from(supertype.is_some()) {
         return None;

@@ -4,7 +4,7 @@ use Rattle.std.specs.Option.{option_and_then}
 use Rattle.validation_rules.specs.Context.{BlockType, Context}
 use Rattle.validation_rules.specs.Fits.{MaybeType}
 use Rattle.validation_rules.specs.Rows.{Form, Stays, Opens, BeginsElse, BeginsCatch, Ends, Delegates, params, Row, Operator}
-use Rattle.validation_rules.specs.Static.{Frame, State, heads, locals_set, frame_under, opened_frame, open_state, start, step, state_before}
+use Rattle.validation_rules.specs.Static.{Frame, State, heads, frame_under, opened_frame, open_state, start, step, state_before}
 use Rattle.validation_rules.proofs.Steps.{after, some_injective, and_then_given, get_of_drop, before_then, stepped}
 use Rattle.type_safety.specs.Machine.{delimiter, forms_of}
 use Rattle.type_safety.specs.Blocks.{IsBlock, IsAsBefore, BlocksKeepLocals}
@@ -17,15 +17,15 @@ pub data IsBodyState (s : State) : Type 0 where
   is_open : (fs : List Frame) → s ≡ open_state fs → IsBodyState s
   is_closed : s.frames ≡ [] → IsBodyState s
 
-given_state : (cx : Context) (f : Frame) (fs : List Frame) (r : Row) (set : List ℕ) (form : Form) (pushed : List MaybeType) → IsBodyState (after cx r set f fs form pushed)
-given_state cx f fs r set Stays pushed = is_open _ refl
-given_state cx f fs r set (Opens h) pushed = is_open _ refl
-given_state cx f fs r set BeginsElse pushed = is_open _ refl
-given_state cx f fs r set (BeginsCatch all types) pushed = is_open _ refl
-given_state cx f [] r set Ends pushed = is_closed refl
-given_state cx f (g ∷ gs) r set Ends pushed = is_open _ refl
-given_state cx f [] r set Delegates pushed = is_closed refl
-given_state cx f (g ∷ gs) r set Delegates pushed = is_open _ refl
+given_state : (cx : Context) (f : Frame) (fs : List Frame) (r : Row) (form : Form) (pushed : List MaybeType) → IsBodyState (after cx r f fs form pushed)
+given_state cx f fs r Stays pushed = is_open _ refl
+given_state cx f fs r (Opens h) pushed = is_open _ refl
+given_state cx f fs r BeginsElse pushed = is_open _ refl
+given_state cx f fs r (BeginsCatch all types) pushed = is_open _ refl
+given_state cx f [] r Ends pushed = is_closed refl
+given_state cx f (g ∷ gs) r Ends pushed = is_open _ refl
+given_state cx f [] r Delegates pushed = is_closed refl
+given_state cx f (g ∷ gs) r Delegates pushed = is_open _ refl
 
 -- an operator is taken only where a frame is open
 open_frame : (cx : Context) (op : Operator) (s u : State) → IsBodyState s → step cx op s ≡ Some u → (f : Frame) × (fs : List Frame) × (s ≡ open_state (f ∷ fs))
@@ -37,7 +37,7 @@ step_state : (cx : Context) (op : Operator) (s u : State) → IsBodyState s → 
 step_state cx op s u i e =
     let o = open_frame cx op s u i e in
     let st = stepped cx op o.0 o.1 [] u (subst (λ (v : State). step cx op v ≡ Some u) o.2 e) in
-    subst IsBodyState (sym st.leaves) (given_state cx o.0 o.1 (op.row (heads (o.0 ∷ o.1))) (locals_set (o.0 ∷ o.1)) op.form st.pushed)
+    subst IsBodyState (sym st.leaves) (given_state cx o.0 o.1 (op.row (heads (o.0 ∷ o.1))) op.form st.pushed)
 
 pub before_in_body : (cx : Context) (code : List Operator) (s : State) (k : ℕ) (t : State) → IsBodyState s → state_before cx code s k ≡ Some t → IsBodyState t
 before_in_body cx code s zero t i b = subst IsBodyState (some_injective s t b) i
@@ -77,7 +77,7 @@ block_keeps_locals cx code ty k c b f fs t holds at h =
     let row = rows_hold cx code ty c t holds k b.opener d.0 f fs h d.1 at in
     let r = b.opener.row (heads (f ∷ fs)) in
     let inside : state_before cx code (start ty) (suc k) ≡ Some (open_state (opened_frame b.head (params cx b.head) ∷ frame_under r f ∷ fs)) =
-    row.next ∙ ap (λ x. Some (after cx r (locals_set (f ∷ fs)) f fs x row.pushed)) b.opens in
+    row.next ∙ ap (λ x. Some (after cx r f fs x row.pushed)) b.opens in
     let follows = delimiter_within cx code (start ty) c (rows_hold cx code ty c t holds) k b.head (params cx b.head) (frame_under r f ∷ fs) inside b.closes.1.0 (delimiter c b.closes.0) b.closes.1.1 (omega arith) in
     record {
       opening = open_state (f ∷ fs);

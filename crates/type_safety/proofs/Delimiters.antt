@@ -3,10 +3,10 @@ use Rattle.std.proofs.Common.{◌≡◌, ◌≤◌, ℕ, zero, suc, Bool, true, 
 use Rattle.validation_rules.specs.Context.{ValType, Context}
 use Rattle.validation_rules.specs.Fits.{MaybeType, Known, all_fit}
 use Rattle.validation_rules.specs.Rows.{FrameKind, If, Else, Head, is_if, params, results, Form, Stays, Opens, BeginsElse, BeginsCatch, Ends, Delegates, Row, Operator, catch_kind}
-use Rattle.validation_rules.specs.Static.{Frame, State, stack_with, heads, locals_set, pushed_types, pushed_by_form, opened_frame, of_kind, frame_after, frame_under, frame_with, open_state, step, state_before, IsAccepted}
+use Rattle.validation_rules.specs.Static.{Frame, State, stack_with, heads, locals_set, pushed_types, opened_frame, head_with_kind, frame_after, frame_under, frame_with, open_state, step, state_before, IsAccepted}
 use Rattle.type_safety.specs.Machine.{Delimiter, delimiter, delimiters_from, forms_of, delimiters, has_no_else}
 use Rattle.validation_rules.proofs.Below.{and_true}
-use Rattle.validation_rules.proofs.Steps.{given, after, some_injective, guard_some, and_then_given, get_of_drop, drop_next, stepped, before_next}
+use Rattle.validation_rules.proofs.Steps.{pushed_by_form, given, after, some_injective, guard_some, and_then_given, get_of_drop, drop_next, stepped, before_next}
 
 rest_accepted : (cx : Context) (code : List Operator) (s : State) (k : ℕ) (t : State) → state_before cx code s k ≡ Some t → IsAccepted cx code s → IsAccepted cx (drop k code) t
 rest_accepted cx code s zero t b a = subst (λ v. IsAccepted cx code v) (some_injective s t b) a
@@ -31,7 +31,7 @@ kind_is_if _ h = absurd cc
 
 -- the present part of a frame with the head h
 abbrev pub part : FrameKind → Head → List MaybeType → Bool → List ℕ → Frame
-part kind h own dead first_set = record { head = of_kind kind h; operands = own; dead = dead; first_set = first_set }
+part kind h own dead first_set = record { head = head_with_kind kind h; operands = own; dead = dead; first_set = first_set }
 
 module _ (cx : Context) (code : List Operator) (s0 : State) where
   -- the state that follows a closer or the beginning of a part, of a frame with the head h
@@ -56,28 +56,28 @@ module _ (cx : Context) (code : List Operator) (s0 : State) where
   at_delimiter h fs k form m e a = subst (λ n. AfterDelimiter h fs n) (some_injective _ _ e) a
 
   -- one operator in the frame itself
-  delimited_here : (last : ℕ) (ops : List Operator) (k : ℕ) (h : Head) (fs : List Frame) → Delimited last ops (suc k) h fs → (form : Form) (r : Row) (set : List ℕ) (pushed : List MaybeType) (kind : FrameKind) (own : List MaybeType) (dead : Bool) (first_set : List ℕ) → state_before cx code s0 (suc k) ≡ Some (after cx r set (part kind h own dead first_set) fs form pushed) → (j : ℕ) (m : Delimiter) → slice_get (delimiters_from 0 k (form ∷ forms_of ops)) j ≡ Some m → m.place ≤ last → AfterDelimiter h fs m
-  delimited_here last ops k h fs ih Stays r set pushed kind own dead first_set b j m e w = ih [] kind _ _ _ b j m e w
-  delimited_here last ops k h fs ih (Opens o) r set pushed kind own dead first_set b j m e w = ih (opened_frame o (params cx o) ∷ []) kind _ _ _ b j m e w
-  delimited_here last ops k h fs ih BeginsElse r set pushed kind own dead first_set b zero m e w = at_delimiter h fs k BeginsElse m e b
-  delimited_here last ops k h fs ih BeginsElse r set pushed kind own dead first_set b (suc j) m e w = ih [] Else _ _ _ b j m e w
-  delimited_here last ops k h fs ih (BeginsCatch c types) r set pushed kind own dead first_set b zero m e w = at_delimiter h fs k (BeginsCatch c types) m e b
-  delimited_here last ops k h fs ih (BeginsCatch c types) r set pushed kind own dead first_set b (suc j) m e w = ih [] (catch_kind c) _ _ _ b j m e w
-  delimited_here last ops k h fs ih Ends r set pushed kind own dead first_set b zero m e w = at_delimiter h fs k Ends m e b
-  delimited_here last ops k h fs ih Ends r set pushed kind own dead first_set b (suc j) m e w = absurd cc
-  delimited_here last ops k h fs ih Delegates r set pushed kind own dead first_set b zero m e w = at_delimiter h fs k Delegates m e b
-  delimited_here last ops k h fs ih Delegates r set pushed kind own dead first_set b (suc j) m e w = absurd cc
+  delimited_here : (last : ℕ) (ops : List Operator) (k : ℕ) (h : Head) (fs : List Frame) → Delimited last ops (suc k) h fs → (form : Form) (r : Row) (pushed : List MaybeType) (kind : FrameKind) (own : List MaybeType) (dead : Bool) (first_set : List ℕ) → state_before cx code s0 (suc k) ≡ Some (after cx r (part kind h own dead first_set) fs form pushed) → (j : ℕ) (m : Delimiter) → slice_get (delimiters_from 0 k (form ∷ forms_of ops)) j ≡ Some m → m.place ≤ last → AfterDelimiter h fs m
+  delimited_here last ops k h fs ih Stays r pushed kind own dead first_set b j m e w = ih [] kind _ _ _ b j m e w
+  delimited_here last ops k h fs ih (Opens o) r pushed kind own dead first_set b j m e w = ih (opened_frame o (params cx o) ∷ []) kind _ _ _ b j m e w
+  delimited_here last ops k h fs ih BeginsElse r pushed kind own dead first_set b zero m e w = at_delimiter h fs k BeginsElse m e b
+  delimited_here last ops k h fs ih BeginsElse r pushed kind own dead first_set b (suc j) m e w = ih [] Else _ _ _ b j m e w
+  delimited_here last ops k h fs ih (BeginsCatch c types) r pushed kind own dead first_set b zero m e w = at_delimiter h fs k (BeginsCatch c types) m e b
+  delimited_here last ops k h fs ih (BeginsCatch c types) r pushed kind own dead first_set b (suc j) m e w = ih [] (catch_kind c) _ _ _ b j m e w
+  delimited_here last ops k h fs ih Ends r pushed kind own dead first_set b zero m e w = at_delimiter h fs k Ends m e b
+  delimited_here last ops k h fs ih Ends r pushed kind own dead first_set b (suc j) m e w = absurd cc
+  delimited_here last ops k h fs ih Delegates r pushed kind own dead first_set b zero m e w = at_delimiter h fs k Delegates m e b
+  delimited_here last ops k h fs ih Delegates r pushed kind own dead first_set b (suc j) m e w = absurd cc
 
   -- one operator in a frame inside it
-  delimited_inside : (last : ℕ) (ops : List Operator) (k : ℕ) (h : Head) (fs : List Frame) → Delimited last ops (suc k) h fs → (form : Form) (r : Row) (set : List ℕ) (pushed : List MaybeType) (f : Frame) (inner : List Frame) (kind : FrameKind) (own : List MaybeType) (dead : Bool) (first_set : List ℕ) → state_before cx code s0 (suc k) ≡ Some (after cx r set f (inner ++ part kind h own dead first_set ∷ fs) form pushed) → (j : ℕ) (m : Delimiter) → slice_get (delimiters_from (suc (length inner)) k (form ∷ forms_of ops)) j ≡ Some m → m.place ≤ last → AfterDelimiter h fs m
-  delimited_inside last ops k h fs ih Stays r set pushed f inner kind own dead first_set b j m e w = ih (frame_after cx r set pushed f ∷ inner) kind own dead first_set b j m e w
-  delimited_inside last ops k h fs ih (Opens o) r set pushed f inner kind own dead first_set b j m e w = ih (opened_frame o (params cx o) ∷ frame_under r f ∷ inner) kind own dead first_set b j m e w
-  delimited_inside last ops k h fs ih BeginsElse r set pushed f inner kind own dead first_set b j m e w = ih (opened_frame (of_kind Else f.head) (params cx f.head) ∷ inner) kind own dead first_set b j m e w
-  delimited_inside last ops k h fs ih (BeginsCatch c types) r set pushed f inner kind own dead first_set b j m e w = ih (opened_frame (of_kind (catch_kind c) f.head) types ∷ inner) kind own dead first_set b j m e w
-  delimited_inside last ops k h fs ih Ends r set pushed f [] kind own dead first_set b j m e w = ih [] kind _ dead first_set b j m e w
-  delimited_inside last ops k h fs ih Ends r set pushed f (g ∷ inner) kind own dead first_set b j m e w = ih (frame_with (map Known (results cx f.head)) g ∷ inner) kind own dead first_set b j m e w
-  delimited_inside last ops k h fs ih Delegates r set pushed f [] kind own dead first_set b j m e w = ih [] kind _ dead first_set b j m e w
-  delimited_inside last ops k h fs ih Delegates r set pushed f (g ∷ inner) kind own dead first_set b j m e w = ih (frame_with (map Known (results cx f.head)) g ∷ inner) kind own dead first_set b j m e w
+  delimited_inside : (last : ℕ) (ops : List Operator) (k : ℕ) (h : Head) (fs : List Frame) → Delimited last ops (suc k) h fs → (form : Form) (r : Row) (pushed : List MaybeType) (f : Frame) (inner : List Frame) (kind : FrameKind) (own : List MaybeType) (dead : Bool) (first_set : List ℕ) → state_before cx code s0 (suc k) ≡ Some (after cx r f (inner ++ part kind h own dead first_set ∷ fs) form pushed) → (j : ℕ) (m : Delimiter) → slice_get (delimiters_from (suc (length inner)) k (form ∷ forms_of ops)) j ≡ Some m → m.place ≤ last → AfterDelimiter h fs m
+  delimited_inside last ops k h fs ih Stays r pushed f inner kind own dead first_set b j m e w = ih (frame_after cx r _ pushed f ∷ inner) kind own dead first_set b j m e w
+  delimited_inside last ops k h fs ih (Opens o) r pushed f inner kind own dead first_set b j m e w = ih (opened_frame o (params cx o) ∷ frame_under r f ∷ inner) kind own dead first_set b j m e w
+  delimited_inside last ops k h fs ih BeginsElse r pushed f inner kind own dead first_set b j m e w = ih (opened_frame (head_with_kind Else f.head) (params cx f.head) ∷ inner) kind own dead first_set b j m e w
+  delimited_inside last ops k h fs ih (BeginsCatch c types) r pushed f inner kind own dead first_set b j m e w = ih (opened_frame (head_with_kind (catch_kind c) f.head) types ∷ inner) kind own dead first_set b j m e w
+  delimited_inside last ops k h fs ih Ends r pushed f [] kind own dead first_set b j m e w = ih [] kind _ dead first_set b j m e w
+  delimited_inside last ops k h fs ih Ends r pushed f (g ∷ inner) kind own dead first_set b j m e w = ih (frame_with (map Known (results cx f.head)) g ∷ inner) kind own dead first_set b j m e w
+  delimited_inside last ops k h fs ih Delegates r pushed f [] kind own dead first_set b j m e w = ih [] kind _ dead first_set b j m e w
+  delimited_inside last ops k h fs ih Delegates r pushed f (g ∷ inner) kind own dead first_set b j m e w = ih (frame_with (map Known (results cx f.head)) g ∷ inner) kind own dead first_set b j m e w
 
 at_place : (k : ℕ) (form : Form) (m : Delimiter) → Some (delimiter k form) ≡ Some m → k ≤ m.place
 at_place k form m e = let h : k ≡ m.place = ap (λ (d : Delimiter). d.place) (some_injective _ _ e) in omega (arith, h)
@@ -104,7 +104,7 @@ later_place (suc depth) k (Delegates ∷ forms) j m e = let h = later_place dept
 pub record RowHolds (cx : Context) (code : List Operator) (s0 : State) (k : ℕ) (op : Operator) (f : Frame) (fs : List Frame) : Type 0 where
   pub pushed : List MaybeType
   pub holds : pushed_types cx op (heads (f ∷ fs)) (locals_set (f ∷ fs)) f ≡ Some pushed
-  pub next : state_before cx code s0 (suc k) ≡ Some (after cx (op.row (heads (f ∷ fs))) (locals_set (f ∷ fs)) f fs op.form pushed)
+  pub next : state_before cx code s0 (suc k) ≡ Some (after cx (op.row (heads (f ∷ fs))) f fs op.form pushed)
 
 pub row_of_step : (cx : Context) (code : List Operator) (s0 : State) (k : ℕ) (op : Operator) (more : List Operator) (f : Frame) (fs : List Frame) (t : State) → drop k code ≡ op ∷ more → state_before cx code s0 k ≡ Some (open_state (f ∷ fs)) → step cx op (open_state (f ∷ fs)) ≡ Some t → RowHolds cx code s0 k op f fs
 row_of_step cx code s0 k op more f fs t d b e =
@@ -123,12 +123,12 @@ module _ (cx : Context) (code : List Operator) (s0 : State) (last : ℕ) (rows :
       let f = part kind h own dead first_set in
       let p = later_place 0 k (forms_of (op ∷ ops)) j m e in
       let a = rows k op ops f fs (omega (arith, p, w)) d b in
-      delimited_here cx code s0 last ops k h fs (delimited ops (suc k) h fs (drop_next code k op ops d)) op.form (op.row (heads (f ∷ fs))) (locals_set (f ∷ fs)) a.pushed kind own dead first_set a.next j m e w
+      delimited_here cx code s0 last ops k h fs (delimited ops (suc k) h fs (drop_next code k op ops d)) op.form (op.row (heads (f ∷ fs))) a.pushed kind own dead first_set a.next j m e w
   delimited (op ∷ ops) k h fs d (f ∷ inner) kind own dead first_set b j m e w =
       let gs = inner ++ part kind h own dead first_set ∷ fs in
       let p = later_place (suc (length inner)) k (forms_of (op ∷ ops)) j m e in
       let a = rows k op ops f gs (omega (arith, p, w)) d b in
-      delimited_inside cx code s0 last ops k h fs (delimited ops (suc k) h fs (drop_next code k op ops d)) op.form (op.row (heads (f ∷ gs))) (locals_set (f ∷ gs)) a.pushed f inner kind own dead first_set a.next j m e w
+      delimited_inside cx code s0 last ops k h fs (delimited ops (suc k) h fs (drop_next code k op ops d)) op.form (op.row (heads (f ∷ gs))) a.pushed f inner kind own dead first_set a.next j m e w
 
   -- of a frame that has just been opened, or a part that has just begun, at place b
   pub delimiter_within : (b : ℕ) (h : Head) (types : List ValType) (fs : List Frame) → state_before cx code s0 (suc b) ≡ Some (open_state (opened_frame h types ∷ fs)) → (j : ℕ) (m : Delimiter) → slice_get (delimiters code b) j ≡ Some m → m.place ≤ last → AfterDelimiter cx code s0 h fs m
@@ -154,7 +154,7 @@ module _ (cx : Context) (code : List Operator) (s0 : State) (accepted : IsAccept
   Balanced ops k h fs =
       (inner : List Frame) (own : List MaybeType) (dead : Bool) (first_set : List ℕ) → state_before cx code s0 k ≡ Some (open_state (inner ++ part If h own dead first_set ∷ fs)) → has_no_else (delimiters_from (length inner) k (forms_of ops)) ≡ true → all_fit cx (map Known (params cx h)) (results cx h) ≡ true
 
-  balanced_here : (ops : List Operator) (k : ℕ) (h : Head) (fs : List Frame) → Balanced ops (suc k) h fs → (form : Form) (r : Row) (hs : List Head) (set : List ℕ) (pushed : List MaybeType) (own : List MaybeType) (dead : Bool) (first_set : List ℕ) → pushed_by_form cx r hs set (part If h own dead first_set) form ≡ Some pushed → state_before cx code s0 (suc k) ≡ Some (after cx r set (part If h own dead first_set) fs form pushed) → has_no_else (delimiters_from 0 k (form ∷ forms_of ops)) ≡ true → all_fit cx (map Known (params cx h)) (results cx h) ≡ true
+  balanced_here : (ops : List Operator) (k : ℕ) (h : Head) (fs : List Frame) → Balanced ops (suc k) h fs → (form : Form) (r : Row) (hs : List Head) (set : List ℕ) (pushed : List MaybeType) (own : List MaybeType) (dead : Bool) (first_set : List ℕ) → pushed_by_form cx r hs set (part If h own dead first_set) form ≡ Some pushed → state_before cx code s0 (suc k) ≡ Some (after cx r (part If h own dead first_set) fs form pushed) → has_no_else (delimiters_from 0 k (form ∷ forms_of ops)) ≡ true → all_fit cx (map Known (params cx h)) (results cx h) ≡ true
   balanced_here ops k h fs ih Stays r hs set pushed own dead first_set p b e = ih [] _ _ _ b e
   balanced_here ops k h fs ih (Opens o) r hs set pushed own dead first_set p b e = ih (opened_frame o (params cx o) ∷ []) _ _ _ b e
   balanced_here ops k h fs ih BeginsElse r hs set pushed own dead first_set p b e = cc
@@ -171,15 +171,15 @@ module _ (cx : Context) (code : List Operator) (s0 : State) (accepted : IsAccept
       let i = and_true r.premise _ g.0 in
       cc
 
-  balanced_inside : (ops : List Operator) (k : ℕ) (h : Head) (fs : List Frame) → Balanced ops (suc k) h fs → (form : Form) (r : Row) (set : List ℕ) (pushed : List MaybeType) (f : Frame) (inner : List Frame) (own : List MaybeType) (dead : Bool) (first_set : List ℕ) → state_before cx code s0 (suc k) ≡ Some (after cx r set f (inner ++ part If h own dead first_set ∷ fs) form pushed) → has_no_else (delimiters_from (suc (length inner)) k (form ∷ forms_of ops)) ≡ true → all_fit cx (map Known (params cx h)) (results cx h) ≡ true
-  balanced_inside ops k h fs ih Stays r set pushed f inner own dead first_set b e = ih (frame_after cx r set pushed f ∷ inner) own dead first_set b e
-  balanced_inside ops k h fs ih (Opens o) r set pushed f inner own dead first_set b e = ih (opened_frame o (params cx o) ∷ frame_under r f ∷ inner) own dead first_set b e
-  balanced_inside ops k h fs ih BeginsElse r set pushed f inner own dead first_set b e = ih (opened_frame (of_kind Else f.head) (params cx f.head) ∷ inner) own dead first_set b e
-  balanced_inside ops k h fs ih (BeginsCatch c types) r set pushed f inner own dead first_set b e = ih (opened_frame (of_kind (catch_kind c) f.head) types ∷ inner) own dead first_set b e
-  balanced_inside ops k h fs ih Ends r set pushed f [] own dead first_set b e = ih [] _ dead first_set b e
-  balanced_inside ops k h fs ih Ends r set pushed f (g ∷ inner) own dead first_set b e = ih (frame_with (map Known (results cx f.head)) g ∷ inner) own dead first_set b e
-  balanced_inside ops k h fs ih Delegates r set pushed f [] own dead first_set b e = ih [] _ dead first_set b e
-  balanced_inside ops k h fs ih Delegates r set pushed f (g ∷ inner) own dead first_set b e = ih (frame_with (map Known (results cx f.head)) g ∷ inner) own dead first_set b e
+  balanced_inside : (ops : List Operator) (k : ℕ) (h : Head) (fs : List Frame) → Balanced ops (suc k) h fs → (form : Form) (r : Row) (pushed : List MaybeType) (f : Frame) (inner : List Frame) (own : List MaybeType) (dead : Bool) (first_set : List ℕ) → state_before cx code s0 (suc k) ≡ Some (after cx r f (inner ++ part If h own dead first_set ∷ fs) form pushed) → has_no_else (delimiters_from (suc (length inner)) k (form ∷ forms_of ops)) ≡ true → all_fit cx (map Known (params cx h)) (results cx h) ≡ true
+  balanced_inside ops k h fs ih Stays r pushed f inner own dead first_set b e = ih (frame_after cx r _ pushed f ∷ inner) own dead first_set b e
+  balanced_inside ops k h fs ih (Opens o) r pushed f inner own dead first_set b e = ih (opened_frame o (params cx o) ∷ frame_under r f ∷ inner) own dead first_set b e
+  balanced_inside ops k h fs ih BeginsElse r pushed f inner own dead first_set b e = ih (opened_frame (head_with_kind Else f.head) (params cx f.head) ∷ inner) own dead first_set b e
+  balanced_inside ops k h fs ih (BeginsCatch c types) r pushed f inner own dead first_set b e = ih (opened_frame (head_with_kind (catch_kind c) f.head) types ∷ inner) own dead first_set b e
+  balanced_inside ops k h fs ih Ends r pushed f [] own dead first_set b e = ih [] _ dead first_set b e
+  balanced_inside ops k h fs ih Ends r pushed f (g ∷ inner) own dead first_set b e = ih (frame_with (map Known (results cx f.head)) g ∷ inner) own dead first_set b e
+  balanced_inside ops k h fs ih Delegates r pushed f [] own dead first_set b e = ih [] _ dead first_set b e
+  balanced_inside ops k h fs ih Delegates r pushed f (g ∷ inner) own dead first_set b e = ih (frame_with (map Known (results cx f.head)) g ∷ inner) own dead first_set b e
 
   still_open : (k : ℕ) (f : Frame) (fs : List Frame) → drop k code ≡ [] → state_before cx code s0 k ≡ Some (open_state (f ∷ fs)) → ⊥
   still_open k f fs d b = let o = operator_at k f fs b in let e : [] ≡ o.0 ∷ o.1 = sym d ∙ o.2 in cc
@@ -194,7 +194,7 @@ module _ (cx : Context) (code : List Operator) (s0 : State) (accepted : IsAccept
   balanced (op ∷ ops) k h fs d (f ∷ inner) own dead first_set b e =
       let gs = inner ++ part If h own dead first_set ∷ fs in
       let a = row_at k op ops f gs d b in
-      balanced_inside ops k h fs (balanced ops (suc k) h fs (drop_next code k op ops d)) op.form (op.row (heads (f ∷ gs))) (locals_set (f ∷ gs)) a.pushed f inner own dead first_set a.next e
+      balanced_inside ops k h fs (balanced ops (suc k) h fs (drop_next code k op ops d)) op.form (op.row (heads (f ∷ gs))) a.pushed f inner own dead first_set a.next e
 
   -- an `if` at place b that no `else` belongs to has its parameters below its results
   pub if_balanced : (b : ℕ) (h : Head) (types : List ValType) (fs : List Frame) → is_if h.kind ≡ true → state_before cx code s0 (suc b) ≡ Some (open_state (opened_frame h types ∷ fs)) → has_no_else (delimiters code b) ≡ true → all_fit cx (map Known (params cx h)) (results cx h) ≡ true

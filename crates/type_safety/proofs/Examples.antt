@@ -64,7 +64,7 @@ label began kind ty own = record { began = began; head = record { kind = kind; b
 
 module _ (features : WasmFeatures) where
   abbrev cx : Context
-  cx = record { of_module = context_of declared; features = features; shared = false; locals = I32 ∷ I64 ∷ []; entry = true ∷ false ∷ [] }
+  cx = record { of_module = context_of declared; features = features; shared = false; locals = I32 ∷ I64 ∷ []; set_at_entry = true ∷ false ∷ [] }
 
   abbrev i32_const : Operator
   i32_const = operator cx (Numeric (I32Const (pos 0)))
@@ -540,7 +540,7 @@ module _ (features : WasmFeatures) where
     features = features;
     shared = false;
     locals = [];
-    entry = [];
+    set_at_entry = [];
   }
 
   abbrev giving_i64 : List ValType → Label

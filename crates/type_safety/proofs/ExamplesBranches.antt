@@ -35,7 +35,7 @@ abbrev i32_to_i64 : BlockType
 i32_to_i64 = FuncType 1
 
 abbrev cx : Context
-cx = record { of_module = context_of declared; features = record { 0 = multi_value + reference_types }; shared = false; locals = []; entry = [] }
+cx = record { of_module = context_of declared; features = record { 0 = multi_value + reference_types }; shared = false; locals = []; set_at_entry = [] }
 
 abbrev i32_const : Op
 i32_const = Numeric (I32Const (pos 0))

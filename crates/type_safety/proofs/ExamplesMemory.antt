@@ -25,7 +25,7 @@ abbrev declared : Declared
 declared = record { types = []; functions = []; globals = []; tables = []; memories = record { memory64 = false; shared = false } ∷ record { memory64 = true; shared = false } ∷ []; elements = []; data_count = None }
 
 abbrev cx : Context
-cx = record { of_module = context_of declared; features = record { 0 = bulk_memory_opt }; shared = false; locals = []; entry = [] }
+cx = record { of_module = context_of declared; features = record { 0 = bulk_memory_opt }; shared = false; locals = []; set_at_entry = [] }
 
 abbrev at_memory : ℕ → MemArg
 at_memory m = record { align = 3; max_align = 3; offset = 8; target = InMemory m }

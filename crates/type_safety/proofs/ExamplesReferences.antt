@@ -49,7 +49,7 @@ abbrev declared : Declared
 declared = record { types = a_type [] [] ∷ a_type [] (I32 ∷ no_null func ∷ []) ∷ []; functions = record { type_index = 0; referenced = true } ∷ []; tables = []; memories = []; globals = []; elements = []; data_count = None }
 
 abbrev cx : Context
-cx = record { of_module = context_of declared; features = record { 0 = multi_value + reference_types + function_references }; shared = false; locals = []; entry = [] }
+cx = record { of_module = context_of declared; features = record { 0 = multi_value + reference_types + function_references }; shared = false; locals = []; set_at_entry = [] }
 
 abbrev to_nothing : BlockType
 to_nothing = FuncType 0

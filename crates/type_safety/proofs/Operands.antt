@@ -1,15 +1,15 @@
 -- A row that holds over the validator's operands holds over the machine's, which lie below them.
-use Rattle.std.proofs.Common.{◌≡◌, ℕ, zero, suc, Bool, true, false, ◌&&◌, ◌||◌, ◌⊎◌, inl, inr, List, [], ◌∷◌, ◌++◌, length, map, take, drop, Option, Some, None, refl, sym, ap, ◌∙◌, subst, slice_get, nat_eq, nat_le}
+use Rattle.std.proofs.Common.{◌≡◌, ℕ, zero, suc, Bool, true, false, ◌&&◌, ◌||◌, ◌⊎◌, inl, inr, List, [], ◌∷◌, ◌++◌, length, map, take, drop, Option, Some, None, refl, sym, ap, ◌∙◌, subst, slice_get, slice_index_or, nat_eq, nat_le}
 use Rattle.std.specs.List.{list_any}
 use Rattle.validate_resources.specs.Context.{IsLawful}
-use Rattle.validation_rules.specs.Context.{ValType, Context, AllBelow, is_set_at_entry}
+use Rattle.validation_rules.specs.Context.{ValType, Context, AllBelow}
 use Rattle.validation_rules.specs.Fits.{MaybeType, Known, all_fit}
 use Rattle.validation_rules.specs.Rows.{Head, results, is_if, is_try, may_catch, Form, Stays, Opens, BeginsElse, BeginsCatch, Ends, Delegates, Clause, Row, guard, operands_wanted, pushed_for, label_types}
-use Rattle.validation_rules.specs.Static.{Frame, is_set, is_read_local_set, stack_with, operands_on_top, operands_found, operands_under, pushed_by_form, pushed_by_row, clauses_fit, clause_fits, label_accepts, first_set_after, may_close}
+use Rattle.validation_rules.specs.Static.{Frame, is_local_set, is_read_local_set, stack_with, operands_on_top, operands_found, operands_under, pushed_by_row, clauses_fit, clause_fits, label_accepts, first_set_after, may_close}
 use Rattle.type_safety.specs.Machine.{Label, live_frame, types_on_top, set_after}
 use Rattle.type_safety.proofs.Laws.{IsMonotoneAt, HeadAccepts, IsLawfulRow}
 use Rattle.validation_rules.proofs.Below.{and_true, true_and, below-length, below-trans, below-take, below-drop, below-onto, below_of_fit, fit_of_below, drop-known, on_top-known, onto-known, length-known}
-use Rattle.validation_rules.proofs.Steps.{if_fits, joined, some_injective, guard_some}
+use Rattle.validation_rules.proofs.Steps.{pushed_by_form, if_fits, joined, some_injective, guard_some}
 
 -- ---- sets of locals
 
@@ -71,13 +71,13 @@ joined_within false i xs ys zs w j h =
 -- the locals that a frame has set after an operator are within those of the machine
 pub set_within : (cx : Context) (set : List ℕ) (sets : Option ℕ) (xs ys zs : List ℕ) → IsWithin (xs ++ ys) zs → IsWithin (first_set_after cx set sets xs ++ ys) (set_after sets zs)
 set_within cx set None xs ys zs w = w
-set_within cx set (Some i) xs ys zs w = joined_within (is_set cx set i) i xs ys zs w
+set_within cx set (Some i) xs ys zs w = joined_within (is_local_set cx.set_at_entry set i) i xs ys zs w
 
-is_set_within : (cx : Context) (xs ys : List ℕ) (i : ℕ) → IsWithin xs ys → is_set cx xs i ≡ true → is_set cx ys i ≡ true
+is_set_within : (cx : Context) (xs ys : List ℕ) (i : ℕ) → IsWithin xs ys → is_local_set cx.set_at_entry xs i ≡ true → is_local_set cx.set_at_entry ys i ≡ true
 is_set_within cx xs ys i w h =
-    elim (or_cases (list_any (nat_eq i) xs) (is_set_at_entry cx i) h) [
-      | inl e ↦ or_left (list_any (nat_eq i) ys) (is_set_at_entry cx i) (w i e)
-      | inr e ↦ or_right (list_any (nat_eq i) ys) (is_set_at_entry cx i) e
+    elim (or_cases (list_any (nat_eq i) xs) (slice_index_or cx.set_at_entry i false) h) [
+      | inl e ↦ or_left (list_any (nat_eq i) ys) (slice_index_or cx.set_at_entry i false) (w i e)
+      | inr e ↦ or_right (list_any (nat_eq i) ys) (slice_index_or cx.set_at_entry i false) e
     ]
 
 reads_within : (cx : Context) (xs ys : List ℕ) (o : Option ℕ) → IsWithin xs ys → is_read_local_set cx xs o ≡ true → is_read_local_set cx ys o ≡ true

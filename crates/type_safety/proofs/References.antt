@@ -6,7 +6,7 @@ use Rattle.validate_resources.specs.Context.{IsLawful}
 use Rattle.validate_types.specs.Refs.{without_null, with_null}
 use Rattle.validate_types.specs.declared.refs.RefType.{RefType}
 use Rattle.validation_rules.specs.Branches.{label_types_at, target}
-use Rattle.validation_rules.specs.Context.{ValType, I32, Ref, Context, IsBelow, AllBelow}
+use Rattle.validation_rules.specs.Context.{ValType, I32, Ref, Context, IsValidBelow, AllBelow}
 use Rattle.validation_rules.specs.Fits.{MaybeType, Known}
 use Rattle.validation_rules.specs.References.{null_test_pushes, non_null_pushes, last_reference, without_null_known, last_without_null, br_on_null_row, br_on_non_null_row_for, br_on_non_null_row}
 use Rattle.validation_rules.specs.Rows.{Head, Looks, guard}
@@ -43,7 +43,7 @@ module _ (cx : Context) (laws : IsLawful cx.of_module) where
   pub non_null_monotone : (n : ℕ) (ts xs ys : List ValType) (pushed : List MaybeType) → AllBelow cx ys xs → non_null_pushes cx ts (map Known xs) ≡ Some pushed → IsMonotoneAt cx (Looks n (non_null_pushes cx ts)) xs ys pushed
   non_null_monotone n [] (Ref r ∷ []) (y ∷ []) pushed b h =
       let l = laws.below_reference y r b.0 in
-      let k = laws.non_null_keeps l.lower r (subst (λ t. IsBelow cx t (Ref r)) l.is b.0) in
+      let k = laws.non_null_keeps l.lower r (subst (λ t. IsValidBelow cx.of_module t (Ref r)) l.is b.0) in
       record {
         upper = Ref (without_null r) ∷ [];
         lower = Ref (without_null l.lower) ∷ [];
@@ -96,12 +96,12 @@ module _ (cx : Context) (laws : IsLawful cx.of_module) where
   last_is (t ∷ []) p e = absurd cc
 
   -- a reference, null or not, that lies below one without null once its own is taken away
-  loses_null : (y : ValType) (r : RefType) → IsBelow cx y (Ref (with_null r)) → IsBelow cx (without_null_known y) (Ref r)
+  loses_null : (y : ValType) (r : RefType) → IsValidBelow cx.of_module y (Ref (with_null r)) → IsValidBelow cx.of_module (without_null_known y) (Ref r)
   loses_null y r b =
       let l = laws.below_reference y (with_null r) b in
-      let k = laws.non_null_keeps l.lower (with_null r) (subst (λ t. IsBelow cx t (Ref (with_null r))) l.is b) in
+      let k = laws.non_null_keeps l.lower (with_null r) (subst (λ t. IsValidBelow cx.of_module t (Ref (with_null r))) l.is b) in
       let v = laws.both_valid _ _ k in
-      subst (λ t. IsBelow cx (without_null_known t) (Ref r)) (sym l.is) (laws.transitive _ _ _ k (laws.non_null_below r v.1))
+      subst (λ t. IsValidBelow cx.of_module (without_null_known t) (Ref r)) (sym l.is) (laws.transitive _ _ _ k (laws.non_null_below r v.1))
 
   last_loses_null : (ts : List ValType) (r : RefType) (ys : List ValType) → AllBelow cx ys (ts ++ Ref (with_null r) ∷ []) → AllBelow cx (last_without_null ys) (ts ++ Ref r ∷ [])
   last_loses_null [] r (y ∷ []) b = (loses_null y r b.0, tt)

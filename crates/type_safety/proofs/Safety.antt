@@ -5,13 +5,13 @@ use Rattle.validate_resources.specs.Context.{IsLawful}
 use Rattle.validation_rules.specs.Context.{ValType, BlockType, Context, AllBelow}
 use Rattle.validation_rules.specs.Fits.{MaybeType, Known}
 use Rattle.validation_rules.specs.Rows.{params, results, body_head, Else, Head, is_loop, is_if, is_try, is_try_table, Form, Stays, Opens, BeginsElse, BeginsCatch, Ends, Delegates, Target, Clause, Row, Operator, catch_kind, operands_wanted, is_instruction, label_types}
-use Rattle.validation_rules.specs.Static.{Frame, stack_with, heads, locals_set, operands_under, pushed_types, pushed_by_form, pushed_by_row, clauses_fit, operands_after, frame_after, frame_under, of_kind, opened_frame, frame_with, open_state, start, state_before, IsAccepted}
-use Rattle.type_safety.specs.Machine.{Label, Machine, At, Returned, Trapped, LeftByException, LeftBySuspension, Delimiter, delimiter, delimiters, IsDelimiter, IsCloser, is_closing, HasNoElse, configuration, label_heads, live_frame, types_on_top, LabelAccepts, Demand, IsNotStuck, set_after, machine_after_exit, restart, Exits, Arrives, Branches, Outcome, Step, Run, initial_machine}
+use Rattle.validation_rules.specs.Static.{Frame, stack_with, heads, locals_set, operands_under, pushed_types, pushed_by_row, clauses_fit, operands_after, frame_after, frame_under, head_with_kind, opened_frame, frame_with, open_state, start, state_before, IsAccepted}
+use Rattle.type_safety.specs.Machine.{Label, Machine, At, Returned, Trapped, LeftByException, LeftBySuspension, Delimiter, delimiter, delimiters, IsDelimiter, IsCloser, is_closing_form, HasNoElse, configuration, label_heads, live_frame, types_on_top, LabelAccepts, Demand, IsNotStuck, set_after, machine_after_exit, machine_after_restart, Exits, Arrives, Branches, Outcome, Step, Run, initial_machine}
 use Rattle.type_safety.specs.Machine.Outcome.{goes_on, enters, enters_else, skips_if, jumps, closes, ends_part, catches, catches_legacy, traps, raises, suspends}
 use Rattle.type_safety.specs.Theorem.{OperandsBelow, LabelsBelow, IsAsValidated}
 use Rattle.type_safety.proofs.Laws.{HeadAccepts, IsLawfulOperator, TypeSafety}
 use Rattle.validation_rules.proofs.Below.{below-trans, below-onto, below_of_fit, known-injective, onto-known}
-use Rattle.validation_rules.proofs.Steps.{given, after, label_by, some_injective, get_of_drop}
+use Rattle.validation_rules.proofs.Steps.{pushed_by_form, given, after, label_by, some_injective, get_of_drop}
 use Rattle.type_safety.proofs.Delimiters.{AfterDelimiter, AfterDelimiterOf, after_delimiter, if_balanced, operator_at, row_at}
 use Rattle.type_safety.proofs.Operands as operands
 use Rattle.type_safety.proofs.Operands.{IsWithin, within_right, set_within, below_top_known, rest_below}
@@ -88,7 +88,7 @@ module _ (cx : Context) (code : List Operator) (ty : BlockType) where
   reaches_of_heads (suc n) (l ∷ ls) types h = reaches_of_heads n ls types h
 
   -- what follows a closer
-  pub after_closer : (h : Head) (fs : List Frame) (c : ℕ) (form : Form) → is_closing form ≡ true → AfterDelimiterOf cx code (start ty) h fs c form → state_before cx code (start ty) (suc c) ≡ Some (given (results cx h) fs)
+  pub after_closer : (h : Head) (fs : List Frame) (c : ℕ) (form : Form) → is_closing_form form ≡ true → AfterDelimiterOf cx code (start ty) h fs c form → state_before cx code (start ty) (suc c) ≡ Some (given (results cx h) fs)
   after_closer h fs c Ends i a = a
   after_closer h fs c Delegates i a = a
   after_closer h fs c _ i a = absurd cc
@@ -115,7 +115,7 @@ module _ (cx : Context) (code : List Operator) (ty : BlockType) where
       }
 
   -- a branch
-  branch_by : (b : Bool) (l : Label) (us : List ValType) (o : Label) (outer : List Label) (f g : Frame) (gs : List Frame) (set : List ℕ) (next : Machine) → is_loop f.head.kind ≡ b → Agree l f (g ∷ gs) → Stack (o ∷ outer) (g ∷ gs) → IsWithin (locals_set (g ∷ gs)) set → AllBelow cx us (label_by cx b f.head) → MatchBool b (next ≡ restart l (o ∷ outer) set us) (Exits cx code l (o ∷ outer) set us next) → Keeps next
+  branch_by : (b : Bool) (l : Label) (us : List ValType) (o : Label) (outer : List Label) (f g : Frame) (gs : List Frame) (set : List ℕ) (next : Machine) → is_loop f.head.kind ≡ b → Agree l f (g ∷ gs) → Stack (o ∷ outer) (g ∷ gs) → IsWithin (locals_set (g ∷ gs)) set → AllBelow cx us (label_by cx b f.head) → MatchBool b (next ≡ machine_after_restart l (o ∷ outer) set us) (Exits cx code l (o ∷ outer) set us next) → Keeps next
   branch_by true l us o outer f g gs set next loop a s w below e =
       subst Keeps (sym e) (record {
         f = opened_frame f.head (params cx f.head);
@@ -145,10 +145,10 @@ module _ (cx : Context) (code : List Operator) (ty : BlockType) where
       let r' : AllBelow cx carried (label_types cx b.label.head) = subst (λ ls. LabelAccepts cx ls carried) b.is r in
       branch_to b.label b.outer b.types fs set next s' w (below-trans cx laws b.types carried (label_types cx b.label.head) b.below r') b.arrives
 
-after_closing : (cx : Context) (r : Row) (set : List ℕ) (f : Frame) (fs : List Frame) (form : Form) (pushed : List MaybeType) → is_closing form ≡ true → after cx r set f fs form pushed ≡ given (results cx f.head) fs
-after_closing cx r set f fs Ends pushed i = refl
-after_closing cx r set f fs Delegates pushed i = refl
-after_closing cx r set f fs _ pushed i = absurd cc
+after_closing : (cx : Context) (r : Row) (f : Frame) (fs : List Frame) (form : Form) (pushed : List MaybeType) → is_closing_form form ≡ true → after cx r f fs form pushed ≡ given (results cx f.head) fs
+after_closing cx r f fs Ends pushed i = refl
+after_closing cx r f fs Delegates pushed i = refl
+after_closing cx r f fs _ pushed i = absurd cc
 
 by_row : (cx : Context) (r : Row) (hs : List Head) (set : List ℕ) (f : Frame) (form : Form) (o : Option (List MaybeType)) → is_instruction form ≡ true → pushed_by_form cx r hs set f form ≡ o → pushed_by_row cx r hs set f ≡ o
 by_row cx r hs set f Stays o i p = p
@@ -179,7 +179,7 @@ module _ (cx : Context) (laws : IsLawful cx.of_module) (code : List Operator) (t
     same : label_heads (l ∷ ls) ≡ heads (s.f ∷ s.fs)
     pushed : List MaybeType
     holds : pushed_by_form cx (op.row (label_heads (l ∷ ls))) (label_heads (l ∷ ls)) (locals_set (s.f ∷ s.fs)) s.f op.form ≡ Some pushed
-    next : state_before cx code (start ty) (suc k) ≡ Some (after cx (op.row (label_heads (l ∷ ls))) (locals_set (s.f ∷ s.fs)) s.f s.fs op.form pushed)
+    next : state_before cx code (start ty) (suc k) ≡ Some (after cx (op.row (label_heads (l ∷ ls))) s.f s.fs op.form pushed)
 
   place_of : (k : ℕ) (l : Label) (ls : List Label) (set : List ℕ) → Standing cx code ty k l ls set → (op : Operator) × Place k l ls set op
   place_of k l ls set s =
@@ -194,7 +194,7 @@ module _ (cx : Context) (laws : IsLawful cx.of_module) (code : List Operator) (t
           same = same;
           pushed = a.pushed;
           holds = subst (λ hs. pushed_by_form cx (o.0.row hs) hs st s.f o.0.form ≡ Some a.pushed) (sym same) a.holds;
-          next = subst (λ hs. state_before cx code (start ty) (suc k) ≡ Some (after cx (o.0.row hs) st s.f s.fs o.0.form a.pushed)) (sym same) a.next;
+          next = subst (λ hs. state_before cx code (start ty) (suc k) ≡ Some (after cx (o.0.row hs) s.f s.fs o.0.form a.pushed)) (sym same) a.next;
         },
       )
 
@@ -224,7 +224,7 @@ module _ (cx : Context) (laws : IsLawful cx.of_module) (code : List Operator) (t
 
     -- the state in a frame that the operator opens
     inside : (h : Head) → op.form ≡ Opens h → state_before cx code (start ty) (suc k) ≡ Some (open_state (opened_frame h (params cx h) ∷ frame_under (op.row (label_heads (l ∷ ls))) p.s.f ∷ p.s.fs))
-    inside h e = p.next ∙ ap (λ x. Some (after cx (op.row (label_heads (l ∷ ls))) (locals_set (p.s.f ∷ p.s.fs)) p.s.f p.s.fs x p.pushed)) e
+    inside h e = p.next ∙ ap (λ x. Some (after cx (op.row (label_heads (l ∷ ls))) p.s.f p.s.fs x p.pushed)) e
 
     balances : (h : Head) → op.form ≡ Opens h → is_if h.kind ≡ true → HasNoElse code k → AllBelow cx (take (length (params cx h)) (types_on_top (operands_wanted (op.row (label_heads (l ∷ ls))).type) l.operands)) (results cx h)
     balances h e i w =
@@ -265,7 +265,7 @@ module _ (cx : Context) (laws : IsLawful cx.of_module) (code : List Operator) (t
         record {
           f = frame_after cx r st p.pushed p.s.f;
           fs = p.s.fs;
-          at = p.next ∙ ap (λ x. Some (after cx r st p.s.f p.s.fs x p.pushed)) e;
+          at = p.next ∙ ap (λ x. Some (after cx r p.s.f p.s.fs x p.pushed)) e;
           agree = record {
             head = i.head;
             live = ap (λ b. b || r.ends_live) i.live ∙ live;
@@ -303,12 +303,12 @@ module _ (cx : Context) (laws : IsLawful cx.of_module) (code : List Operator) (t
           within = p.s.within;
         }
 
-    keeps_entering_else : (h : Head) (c : ℕ) (us : List ValType) → op.form ≡ Opens h → IsDelimiter code k c BeginsElse → AllBelow cx us (params cx h) → Standing cx code ty (suc c) (record { began = c; head = of_kind Else h; operands = stack_with us [] }) (record l { operands = drop (operands_wanted (op.row (label_heads (l ∷ ls))).type) l.operands } ∷ ls) set
+    keeps_entering_else : (h : Head) (c : ℕ) (us : List ValType) → op.form ≡ Opens h → IsDelimiter code k c BeginsElse → AllBelow cx us (params cx h) → Standing cx code ty (suc c) (record { began = c; head = head_with_kind Else h; operands = stack_with us [] }) (record l { operands = drop (operands_wanted (op.row (label_heads (l ∷ ls))).type) l.operands } ∷ ls) set
     keeps_entering_else h c us e m below =
         let fs' = frame_under (op.row (label_heads (l ∷ ls))) p.s.f ∷ p.s.fs in
         let b = (exit_opened h e).delimiters_follow m.0 (delimiter c BeginsElse) m.1 in
         record {
-          f = opened_frame (of_kind Else h) (params cx h);
+          f = opened_frame (head_with_kind Else h) (params cx h);
           fs = fs';
           at = b;
           agree = record {
@@ -316,7 +316,7 @@ module _ (cx : Context) (laws : IsLawful cx.of_module) (code : List Operator) (t
             live = refl;
             operands = own_opened cx us (params cx h) below;
             outside = record {
-              delimiters_follow = after_delimiter cx code (start ty) accepted c (of_kind Else h) (params cx h) fs' b;
+              delimiters_follow = after_delimiter cx code (start ty) accepted c (head_with_kind Else h) (params cx h) fs' b;
               again = λ i. absurd cc;
               clauses = λ i opener at j d g. absurd cc;
             };
@@ -376,7 +376,7 @@ module _ (cx : Context) (laws : IsLawful cx.of_module) (code : List Operator) (t
     keeps_catching label [] (g ∷ g' ∷ gs) opener j c next s w i o e b = elim s.1 [ ]
     keeps_catching label (o' ∷ outer) (g ∷ []) opener j c next s w i o e b = elim s.1 [ ]
 
-    keeps_catching_legacy : (label : Label) (outer : List Label) (F : List Frame) (c : ℕ) (all : Bool) (types us : List ValType) → Stack cx code ty (label ∷ outer) F → IsWithin (locals_set F) set → is_try label.head.kind ≡ true → IsDelimiter code label.began c (BeginsCatch all types) → AllBelow cx us types → Standing cx code ty (suc c) (record { began = c; head = of_kind (catch_kind all) label.head; operands = stack_with us [] }) outer set
+    keeps_catching_legacy : (label : Label) (outer : List Label) (F : List Frame) (c : ℕ) (all : Bool) (types us : List ValType) → Stack cx code ty (label ∷ outer) F → IsWithin (locals_set F) set → is_try label.head.kind ≡ true → IsDelimiter code label.began c (BeginsCatch all types) → AllBelow cx us types → Standing cx code ty (suc c) (record { began = c; head = head_with_kind (catch_kind all) label.head; operands = stack_with us [] }) outer set
     keeps_catching_legacy label [] (g ∷ []) c all types us s w i m below =
         let d : true ≡ false = sym i ∙ ap (λ (k : Head). is_try k.kind) (s.0.head ∙ s.0.outside) in
         absurd cc
@@ -384,15 +384,15 @@ module _ (cx : Context) (laws : IsLawful cx.of_module) (code : List Operator) (t
         let h = g.head in
         let b = s.0.outside.delimiters_follow m.0 (delimiter c (BeginsCatch all types)) m.1 in
         record {
-          f = opened_frame (of_kind (catch_kind all) h) types;
+          f = opened_frame (head_with_kind (catch_kind all) h) types;
           fs = g' ∷ gs;
           at = b;
           agree = record {
-            head = ap (of_kind (catch_kind all)) s.0.head;
+            head = ap (head_with_kind (catch_kind all)) s.0.head;
             live = refl;
             operands = own_opened cx us types below;
             outside = record {
-              delimiters_follow = after_delimiter cx code (start ty) accepted c (of_kind (catch_kind all) h) types (g' ∷ gs) b;
+              delimiters_follow = after_delimiter cx code (start ty) accepted c (head_with_kind (catch_kind all) h) types (g' ∷ gs) b;
               again = λ q. absurd (not_both (is_loop (catch_kind all)) q (no_loop all));
               clauses = λ q opener at j d e. absurd (not_both (is_try_table (catch_kind all)) q (no_try_table all));
             };
@@ -412,7 +412,7 @@ module _ (cx : Context) (laws : IsLawful cx.of_module) (code : List Operator) (t
     keeps next (jumps o) = keeps_jumping o.index o.target next o.is_its_target o.branches
     keeps next (closes o) =
         subst (Keeps cx code ty) (sym o.is)
-        (closes_here (suc k) o.types (after_inner (suc k) p.s.f.head p.s.fs (p.next ∙ ap Some (after_closing cx (op.row (label_heads (l ∷ ls))) (locals_set (p.s.f ∷ p.s.fs)) p.s.f p.s.fs op.form p.pushed o.closes))) o.below)
+        (closes_here (suc k) o.types (after_inner (suc k) p.s.f.head p.s.fs (p.next ∙ ap Some (after_closing cx (op.row (label_heads (l ∷ ls))) p.s.f p.s.fs op.form p.pushed o.closes))) o.below)
     keeps next (ends_part o) =
         subst (Keeps cx code ty) (sym o.exits.2) (closes_here (suc o.exits.0) o.types (after_part o.exits.0 l.began p.s.f.head p.s.fs p.s.agree.outside o.exits.1) o.below)
     keeps next (catches o) =

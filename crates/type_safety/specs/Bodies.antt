@@ -1,4 +1,5 @@
--- The law for the bodies that the table of operators gives, and what it says of counts.
+-- The law for the bodies that the table of operators gives, and what it says of counts (the crate's own; the
+-- standard's is its appendix "Type Soundness").
 use Rattle.std.specs.Prelude.{◌≡◌, ℕ, ◌+◌, List, [], ◌∷◌, Some, length, map}
 use Rattle.validate_resources.specs.Context.{ModuleContext}
 use Rattle.validate_visit.specs.declared.op.Op.{Op}

@@ -4,7 +4,7 @@
 -- continuations are free choices, and each value that comes has any type below the stated one.
 use Rattle.std.specs.Bool.{MatchBool}
 use Rattle.std.specs.List.{list_all}
-use Rattle.std.specs.Prelude.{◌≡◌, ℕ, zero, suc, Bool, true, false, not, ◌&&◌, IsTrue, IsFalse}
+use Rattle.std.specs.Prelude.{◌≡◌, ℕ, zero, suc, Bool, true, false, not, IsTrue, IsFalse}
 use Rattle.std.specs.Prelude.{List, [], ◌∷◌, length, map, take, drop, slice_get, Option, Some, None}
 use Rattle.validation_rules.specs.Context.{ValType, BlockType, Context, AllBelow}
 use Rattle.validation_rules.specs.Fits.{MaybeType, Known}
@@ -12,7 +12,7 @@ use Rattle.validation_rules.specs.Rows.{Head, params, results, label_types, body
 use Rattle.validation_rules.specs.Rows.{is_loop, is_if, is_try, is_try_table, Else, catch_kind}
 use Rattle.validation_rules.specs.Rows.{Form, Stays, Opens, BeginsElse, BeginsCatch, Ends, Delegates}
 use Rattle.validation_rules.specs.Rows.{Operator, Row, operands_wanted, Target, Clause}
-use Rattle.validation_rules.specs.Static.{Frame, stack_with, of_kind, pushed_types}
+use Rattle.validation_rules.specs.Static.{Frame, stack_with, head_with_kind, pushed_types}
 
 -- ---- states
 
@@ -59,10 +59,10 @@ pub record Delimiter : Type 0 where
 abbrev pub delimiter : ℕ → Form → Delimiter
 delimiter k form = record { place = k; form = form }
 
-abbrev pub is_closing : Form → Bool
-is_closing Ends = true
-is_closing Delegates = true
-is_closing _ = false
+abbrev pub is_closing_form : Form → Bool
+is_closing_form Ends = true
+is_closing_form Delegates = true
+is_closing_form _ = false
 
 abbrev pub is_else : Form → Bool
 is_else BeginsElse = true
@@ -102,7 +102,7 @@ IsDelimiter code b c form = (j : ℕ) × (slice_get (delimiters code b) j ≡ So
 
 -- at place c stands the closer of what began at place b
 abbrev pub IsCloser : List Operator → ℕ → ℕ → Type 0
-IsCloser code b c = (form : Form) × IsDelimiter code b c form × IsTrue (is_closing form)
+IsCloser code b c = (form : Form) × IsDelimiter code b c form × IsTrue (is_closing_form form)
 
 abbrev pub has_no_else : List Delimiter → Bool
 has_no_else ds = list_all (λ (d : Delimiter). not (is_else d.form)) ds
@@ -181,8 +181,8 @@ machine_after_exit k types [] set = Returned types
 machine_after_exit k types (l ∷ outer) set = At k (label_with types l ∷ outer) set
 
 -- at the place after what began the label, in it anew, with these types
-abbrev pub restart : Label → List Label → List ℕ → List ValType → Machine
-restart l outer set types = At (suc l.began) (opened_label l.began l.head types ∷ outer) set
+abbrev pub machine_after_restart : Label → List Label → List ℕ → List ValType → Machine
+machine_after_restart l outer set types = At (suc l.began) (opened_label l.began l.head types ∷ outer) set
 
 -- the first of these labels exists, and takes these types
 abbrev pub LabelAccepts : Context → List Label → List ValType → Type 0
@@ -236,7 +236,7 @@ module _ (cx : Context) (code : List Operator) where
   Arrives l [] set types next = next ≡ Returned types
   Arrives l (o ∷ outer) set types next =
       MatchBool (is_loop l.head.kind)
-      (next ≡ restart l (o ∷ outer) set types)
+      (next ≡ machine_after_restart l (o ∷ outer) set types)
       (Exits l (o ∷ outer) set types next)
 
   -- A branch to the first of these labels, with any types below those that are carried: the labels
@@ -284,7 +284,8 @@ module _ (cx : Context) (code : List Operator) where
     pub types : List ValType
     pub below : AllBelow cx types (params cx head)
     pub is :
-        next ≡ At (suc place) (labels_inside (opened_label place (of_kind Else head) types) here) here.set
+        next
+        ≡ At (suc place) (labels_inside (opened_label place (head_with_kind Else head) types) here) here.set
 
   -- of an `if` without `else`, to the place after its closer, with any types below its results: the
   -- absent part is an empty one (Specification, "if")
@@ -312,7 +313,7 @@ module _ (cx : Context) (code : List Operator) where
   -- the end of a block: on after it, with any types below its results (Specification, "Execution:
   -- Blocks": exiting)
   pub record Closes (here : Configuration) (next : Machine) : Type 0 where
-    pub closes : IsTrue (is_closing here.op.form)
+    pub closes : IsTrue (is_closing_form here.op.form)
     pub types : List ValType
     pub below : AllBelow cx types (results cx here.label.head)
     pub is : next ≡ machine_after_exit (suc here.place) types here.outer here.set
@@ -356,7 +357,8 @@ module _ (cx : Context) (code : List Operator) where
     pub below : AllBelow cx types caught
     pub is :
         next
-        ≡ At (suc place) (opened_label place (of_kind (catch_kind all) label.head) types ∷ outer) here.set
+        ≡ At (suc place) (opened_label place (head_with_kind (catch_kind all) label.head) types ∷ outer)
+        here.set
 
   -- Any outcome that applies may come: this over-approximates which way a test goes, what is thrown
   -- where, and what traps. The last five may come at any operator.

@@ -1,6 +1,7 @@
 -- Type safety of a body: what holds of every state that a run of it comes to (the crate's own; the
 -- standard's is its appendix "Type Soundness").
-use Rattle.std.specs.Prelude.{◌≡◌, ℕ, List, [], ◌∷◌, Some, IsFalse, map}
+use Rattle.std.specs.Prelude.{◌≡◌, ℕ, List, Some, IsFalse, map}
+use Rattle.std.specs.List.{AllZip}
 use Rattle.validation_rules.specs.Context.{ValType, BlockType, Context, AllBelow}
 use Rattle.validation_rules.specs.Fits.{MaybeType, Known}
 use Rattle.validation_rules.specs.Rows.{results, body_head, Operator}
@@ -21,9 +22,7 @@ pub record LabelBelow (cx : Context) (l : Label) (f : Frame) : Type 0 where
 
 -- as many labels as frames, each below the one in its place
 abbrev pub LabelsBelow : Context → List Label → List Frame → Type 0
-LabelsBelow cx [] [] = Unit {0}
-LabelsBelow cx (l ∷ ls) (f ∷ fs) = LabelBelow cx l f × LabelsBelow cx ls fs
-LabelsBelow cx _ _ = ⊥
+LabelsBelow cx ls fs = AllZip (LabelBelow cx) ls fs
 
 -- At place k the labels lie below the frames that the validator has before operator k; what is
 -- returned lies below the results.

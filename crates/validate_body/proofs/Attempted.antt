@@ -9,7 +9,7 @@ use Rattle.validation_rules.specs.Rows.{Operator}
 use Rattle.validation_rules.specs.Static.{State, step}
 use Rattle.validate_stacks.specs.Attempts.{Stacked, body_of, stacks_begun, stacks_committed, stacks_rolled_back}
 use Rattle.validate_stacks.specs.Pops.{IsKept}
-use Rattle.validate_stacks.specs.State.{BodyState, body_context, IsValid}
+use Rattle.validate_stacks.specs.State.{BodyState, body_context, IsValidBody}
 use Rattle.validate_stacks.specs.Visits.{step_body, Meets}
 use Rattle.validate_stacks.proofs.Phases.{undone_whole}
 
@@ -52,7 +52,7 @@ module _ (md : ModuleContext) (op : Context → Operator) (offset : ℕ) (v w : 
   }
 
   -- a refused one is taken back
-  pub meets_rolled_back : (e : Refusal) → IsValid md v.body → Meets md op offset (stacks_begun v).body (Err e) w.body → Meets md op offset v.body (Err e) (stacks_rolled_back w).body
+  pub meets_rolled_back : (e : Refusal) → IsValidBody md v.body → Meets md op offset (stacks_begun v).body (Err e) w.body → Meets md op offset v.body (Err e) (stacks_rolled_back w).body
   unfolding Meets
   meets_rolled_back e valid m =
       let same : (stacks_rolled_back w).body ≡ v.body = undone_whole v w idle m.kept in
@@ -60,12 +60,12 @@ module _ (md : ModuleContext) (op : Context → Operator) (offset : ℕ) (v w : 
         accepted = tt;
         refused = λ f. unpended_none v (step (body_context md v.body) (op (body_context md v.body)) v.body.present) (m.refused f);
         at_offset = m.at_offset;
-        valid = subst (IsValid md) (sym same) valid;
+        valid = subst (IsValidBody md) (sym same) valid;
         kept = subst (λ (y : BodyState). IsKept v.body y) (sym same) refl;
       }
 
   -- what ends it is told by the answer
-  pub meets_ended : (x : Stacked) (r : Result (Unit {0}) Refusal) (b : Bool) → IsValid md v.body → Meets md op offset (stacks_begun v).body r w.body → b ≡ is_ok r → (b ≡ true → x ≡ stacks_committed w) → (b ≡ false → x ≡ stacks_rolled_back w) → Meets md op offset v.body r x.body
+  pub meets_ended : (x : Stacked) (r : Result (Unit {0}) Refusal) (b : Bool) → IsValidBody md v.body → Meets md op offset (stacks_begun v).body r w.body → b ≡ is_ok r → (b ≡ true → x ≡ stacks_committed w) → (b ≡ false → x ≡ stacks_rolled_back w) → Meets md op offset v.body r x.body
   meets_ended x (Ok u) b valid m e stays goes = subst (λ (y : Stacked). Meets md op offset v.body (Ok u) y.body) (sym (stays e)) (meets_committed u m)
   meets_ended x (Err f) b valid m e stays goes = subst (λ (y : Stacked). Meets md op offset v.body (Err f) y.body) (sym (goes e)) (meets_rolled_back f valid m)
 

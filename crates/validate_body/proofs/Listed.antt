@@ -12,13 +12,13 @@ use Rattle.validation_rules.specs.Context.{ValType, Context}
 use Rattle.validation_rules.specs.Fits.{MaybeType}
 use Rattle.validation_rules.specs.Order.{nesting_of}
 use Rattle.validation_rules.specs.Rows.{results, Form, Stays, Opens, BeginsElse, BeginsCatch, Ends, Delegates, Row}
-use Rattle.validation_rules.specs.Static.{Frame, State, heads, locals_set, state_after_exit, state_after, step, step_in, state_before, IsAccepted, start, operand_count, frame_count}
+use Rattle.validation_rules.specs.Static.{Frame, State, heads, locals_set, state_after_exit, state_after, open_frames, step, step_in, state_before, IsAccepted, start, operand_count, frame_count}
 use Rattle.validation_rules.specs.Operators.{operator, operators}
 use Rattle.validation_rules.proofs.Below.{and_true}
 use Rattle.validation_rules.proofs.Order.{operator_nests}
 use Rattle.validation_rules.proofs.Steps.{stepped, before_then}
 use Rattle.validate_stacks.specs.Pops.{IsKept}
-use Rattle.validate_stacks.specs.State.{BodyState, body_context, IsValid}
+use Rattle.validate_stacks.specs.State.{BodyState, body_context, IsValidBody}
 use Rattle.validate_stacks.specs.Visits.{Meets}
 use Rattle.type_safety.proofs.Bodies.{body_safety, body_heights}
 use Rattle.validate_body.specs.Runs.{IsAcceptedBody, without_offsets, body_operators, body_before, heights_of, AreHeightsAfter, IsRefusedAt, IsSafeFrom}
@@ -32,13 +32,13 @@ given_kinds : (left : List MaybeType) (types : List ValType) (fs : List Frame) �
 given_kinds left types [] = refl
 given_kinds left types (f ∷ fs) = refl
 
-order_after : (left : List MaybeType) (cx : Context) (row : Row) (set : List ℕ) (f : Frame) (fs : List Frame) (form : Form) (pushed : List MaybeType) (next : List FrameKind → Bool) → (may_stand (f.head.kind ∷ (kinds fs)) (nesting_of form) && next (parts_after (f.head.kind ∷ (kinds fs)) (nesting_of form))) ≡ true → next (kinds (state_after left cx row set f fs form pushed).frames) ≡ true
-order_after left cx row set f fs Stays pushed next h = h
-order_after left cx row set f fs (Opens o) pushed next h = h
-order_after left cx row set f fs BeginsElse pushed next h = (and_true (is_if f.head.kind) _ h).1
-order_after left cx row set f fs (BeginsCatch all types) pushed next h = (and_true (may_catch f.head.kind) _ h).1
-order_after left cx row set f fs Ends pushed next h = subst (λ ks. next ks ≡ true) (sym (given_kinds left (results cx f.head) fs)) h
-order_after left cx row set f fs Delegates pushed next h = subst (λ ks. next ks ≡ true) (sym (given_kinds left (results cx f.head) fs)) (and_true (is_try f.head.kind) _ h).1
+order_after : (left : List MaybeType) (cx : Context) (row : Row) (f : Frame) (fs : List Frame) (form : Form) (pushed : List MaybeType) (next : List FrameKind → Bool) → (may_stand (f.head.kind ∷ (kinds fs)) (nesting_of form) && next (parts_after (f.head.kind ∷ (kinds fs)) (nesting_of form))) ≡ true → next (kinds (state_after cx row (open_frames f fs left) form pushed).frames) ≡ true
+order_after left cx row f fs Stays pushed next h = h
+order_after left cx row f fs (Opens o) pushed next h = h
+order_after left cx row f fs BeginsElse pushed next h = (and_true (is_if f.head.kind) _ h).1
+order_after left cx row f fs (BeginsCatch all types) pushed next h = (and_true (may_catch f.head.kind) _ h).1
+order_after left cx row f fs Ends pushed next h = subst (λ ks. next ks ≡ true) (sym (given_kinds left (results cx f.head) fs)) h
+order_after left cx row f fs Delegates pushed next h = subst (λ ks. next ks ≡ true) (sym (given_kinds left (results cx f.head) fs)) (and_true (is_try f.head.kind) _ h).1
 
 -- the rest of a list, in order below the open frames
 abbrev pub IsOrderedBelow : List Frame → List (Op × ℕ) → Type 0
@@ -59,7 +59,7 @@ ordered_next cx s u p ops e h = by s.frames refl
         let formed : (may_stand (f.head.kind ∷ (kinds fs)) (nesting_of (operator cx p.0).form) && is_ordered_from (parts_after (f.head.kind ∷ (kinds fs)) (nesting_of (operator cx p.0).form)) (map nesting (without_offsets ops))) ≡ true =
         subst (λ n. (may_stand (f.head.kind ∷ (kinds fs)) n && is_ordered_from (parts_after (f.head.kind ∷ (kinds fs)) n) (map nesting (without_offsets ops))) ≡ true) (sym (operator_nests cx p.0)) here in
         subst (λ (w : State). IsOrderedBelow w.frames ops) (sym st.leaves)
-        (order_after s.left cx ((operator cx p.0).row (heads (f ∷ fs))) (locals_set (f ∷ fs)) f fs (operator cx p.0).form st.pushed (λ js. is_ordered_from js (map nesting (without_offsets ops))) formed)
+        (order_after s.left cx ((operator cx p.0).row (heads (f ∷ fs))) f fs (operator cx p.0).form st.pushed (λ js. is_ordered_from js (map nesting (without_offsets ops))) formed)
 
 -- ---- what a visit answered
 
@@ -87,7 +87,7 @@ pub visit_at : (md : ModuleContext) (op : Op) (offset : ℕ) (v w : BodyState) (
 unfolding Meets
 visit_at md op offset v w r m = m.at_offset
 
-pub visit_valid : (md : ModuleContext) (op : Op) (offset : ℕ) (v w : BodyState) (r : Result (Unit {0}) Refusal) → Meets md (λ cx. operator cx op) offset v r w → IsValid md w
+pub visit_valid : (md : ModuleContext) (op : Op) (offset : ℕ) (v w : BodyState) (r : Result (Unit {0}) Refusal) → Meets md (λ cx. operator cx op) offset v r w → IsValidBody md w
 unfolding Meets
 visit_valid md op offset v w r m = m.valid
 

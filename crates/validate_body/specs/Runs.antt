@@ -1,4 +1,5 @@
--- The static run of a list of operators with offsets, and what a check of the list answers by it.
+-- The static run of a list of operators with offsets, and what a check of the list answers by it (the crate's
+-- own).
 use Rattle.std.specs.Prelude.{◌≡◌, ℕ, suc, ◌<◌, false, List, [], Option, Some, None, length, map, slice_get}
 use Rattle.validate_resources.specs.Context.{ModuleContext}
 use Rattle.validate_types.specs.Refusal.{Refusal}

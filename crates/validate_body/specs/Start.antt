@@ -2,7 +2,7 @@
 use Rattle.std.specs.Prelude.{◌≡◌, ◌⊎◌, ℕ, ◌+◌, ◌<◌, ◌≤◌, Bool, true, false, [], Option, Some, None, length, map}
 use Rattle.std.specs.Option.{option_map}
 use Rattle.validate_locals.specs.Limit.{max_locals}
-use Rattle.validate_resources.specs.Context.{ModuleContext, signature_of, func_type_at}
+use Rattle.validate_resources.specs.Context.{ModuleContext, signature_of, signature_at}
 use Rattle.validate_types.specs.Types.{Signature}
 use Rattle.validate_types.specs.declared.features.WasmFeatures.{WasmFeatures}
 use Rattle.validate_types.specs.declared.types.SubType.{SubType}
@@ -35,7 +35,7 @@ func_start features index shared signature = record {
   shared = shared;
   features = features;
   locals = signature.params;
-  entry = map (λ _. true) signature.params;
+  set_at_entry = map (λ _. true) signature.params;
   undone = None;
 }
 
@@ -47,7 +47,7 @@ const_start features ty =
       shared = false;
       features = features;
       locals = [];
-      entry = [];
+      set_at_entry = [];
       undone = None;
     }
 
@@ -65,7 +65,7 @@ pub record IsFuncStart
 -- the function type at this index has too many parameters
 pub record HasTooManyParams (md : ModuleContext) (index : ℕ) : Type 0 where
   pub signature : Signature
-  pub is_there : func_type_at md index ≡ Some signature
+  pub is_there : signature_at md index ≡ Some signature
   pub too_many : max_locals < length signature.params
 
 -- so many more locals of the canonical type

@@ -7,7 +7,7 @@ ghost use Rattle.validate_visit.specs.Order.{is_well_ordered_list};
 ghost use Rattle.validate_visit.specs.declared.frame.BlockType.{BlockType};
 ghost use Rattle.validation_rules.specs.Static.{start};
 ghost use Rattle.validate_stacks.specs.Pops.{IsKept};
-ghost use Rattle.validate_stacks.specs.State.{IsStarting, IsValid};
+ghost use Rattle.validate_stacks.specs.State.{IsStarting, IsValidBody};
 ghost use Rattle.validate_body.specs.Runs.{without_offsets, body_before, AreHeightsAfter, IsRefusedAt, IsSafeFrom};
 ghost use Rattle.validate_body.specs.Start.{state};
 
@@ -53,7 +53,7 @@ pub fn check_ops<R: WasmModuleResources>(
         ≡ start ty → IsSafeFrom (R.context resources.now) (state v.old) ops.now ty) }
 
     // Whatever it answers, the types stay valid, and nothing but operands and frames changes.
-    ensures valid { IsValid (R.context resources.now) (state v.new) }
+    ensures valid { IsValidBody (R.context resources.now) (state v.new) }
     ensures kept { IsKept (state v.old) (state v.new) }
 {
     for (index, pair) in ops.iter().enumerate() {

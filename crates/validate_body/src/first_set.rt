@@ -10,7 +10,7 @@ use validate_locals::LocalInits;
 /// Which locals of a body are set, with the order in which they were first set.
 pub fn inits_of(v: &OperatorValidator) -> &LocalInits
     ensures order { result.now.order ≡ setting_order (state v.now).present.frames }
-    ensures base { result.now.base ≡ (state v.now).entry }
+    ensures set_at_entry { result.now.set_at_entry ≡ (state v.now).set_at_entry }
 {
     v.stacks.inits()
 }

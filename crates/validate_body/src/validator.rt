@@ -5,12 +5,12 @@ ghost use Rattle.std.specs.Option.{option_copied, ForSome};
 ghost use Rattle.validation_rules.specs.Static.{operand_count, frame_count};
 ghost use Rattle.validate_locals.specs.Limit.{max_locals};
 ghost use Rattle.validate_stacks.specs.Attempts.{may_attempt, stacks_begun, stacks_committed, stacks_rolled_back};
-ghost use Rattle.validate_stacks.specs.State.{IsStarting, IsValid, IsUndoneValid};
+ghost use Rattle.validate_stacks.specs.State.{IsStarting, IsValidBody, IsUndoneValid};
 ghost use Rattle.validate_stacks.specs.Visits.{MayVisit, Meets};
 ghost use Rattle.validate_operators.specs.Memory.{TakesNoMemory};
 ghost use Rattle.validate_visit.specs.declared.op.Op.{Op};
 ghost use Rattle.validation_rules.specs.Operators.{operator};
-ghost use Rattle.validate_resources.specs.Context.{ModuleContext, Valid, func_type_at};
+ghost use Rattle.validate_resources.specs.Context.{ModuleContext, Valid, signature_at};
 ghost use Rattle.validate_stacks.specs.Steps.{type_at_depth, frame_at, label_at};
 ghost use Rattle.validate_body.specs.Start.{state, stacks_of, func_start, const_start, IsFuncStart, HasTooManyParams, DefinesLocals, CannotDefine};
 
@@ -51,7 +51,7 @@ impl OperatorValidator {
         ensures made { IfOk result (λ v. IsFuncStart (R.context resources.now) features.now ty (state v)) }
         ensures starting { IfOk result (λ v. IsStarting (R.context resources.now) (state v)) }
         ensures refused { IfErr result (λ e. e.wants_memory ≡ false
-            → (func_type_at (R.context resources.now) ty ≡ None)
+            → (signature_at (R.context resources.now) ty ≡ None)
             ⊎ HasTooManyParams (R.context resources.now) ty) }
         ensures offset { IfErr result (λ e. e.offset ≡ offset) }
     {
@@ -267,7 +267,7 @@ impl OperatorValidator {
     pub fn begin_try_op(&mut self)
         requires { (state self.old).undone ≡ None }
         ensures begun { stacks_of self.new ≡ stacks_begun (stacks_of self.old) }
-        ensures valid { (md : ModuleContext) → IsValid md (state self.old)
+        ensures valid { (md : ModuleContext) → IsValidBody md (state self.old)
             → IsUndoneValid md (state self.new) }
     {
         self.stacks.begin_try_op();
@@ -286,7 +286,7 @@ impl OperatorValidator {
         requires { IsSome (state self.old).undone }
         ensures back { stacks_of self.new ≡ stacks_rolled_back (stacks_of self.old) }
         ensures valid { (md : ModuleContext) → IsUndoneValid md (state self.old)
-            → IsValid md (state self.new) }
+            → IsValidBody md (state self.new) }
     {
         self.stacks.rollback();
     }

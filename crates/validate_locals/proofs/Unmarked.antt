@@ -10,8 +10,8 @@ use Rattle.validate_locals.proofs.Marks.{marked_more, marked_less, declared_more
 pub length-all_marks : (n : ℕ) (ms : List Bool) → length (all_marks n ms) ≡ n + length ms
 length-all_marks n ms = let r = length-replicate n true in omega (arith, length-append (replicate n true) ms, r)
 
-pub length-base : (n : ℕ) (is : List ℕ) (ms : List Bool) → length (marks_without is (all_marks n ms)) ≡ n + length ms
-length-base n is ms = length-cleared is (all_marks n ms) ∙ length-all_marks n ms
+pub length-set_at_entry : (n : ℕ) (is : List ℕ) (ms : List Bool) → length (marks_without is (all_marks n ms)) ≡ n + length ms
+length-set_at_entry n is ms = length-cleared is (all_marks n ms) ∙ length-all_marks n ms
 
 pub get-below : (n i : ℕ) (ms : List Bool) → i < n → slice_get (all_marks n ms) i ≡ Some true
 get-below zero i ms h = absurd (omega (arith, h))
@@ -63,7 +63,7 @@ from_front n (j ∷ is) i f = let r = from_front n is i f.1 in ((f.0, r.0), r.1)
 
 pub record Stands (n : ℕ) (order : List ℕ) (marks : List Bool) (declared : List Bool) : Type 0 where
   pub all : IsMarkedFrom n order marks
-  pub base : marks_without order (all_marks n marks) ≡ declared
+  pub set_at_entry : marks_without order (all_marks n marks) ≡ declared
 
 pub more_set : (n : ℕ) (order : List ℕ) (marks : List Bool) (i : ℕ) → slice_get (all_marks n marks) i ≡ Some false → IsMarkedFrom n order marks → Stands n (order ++ i ∷ []) (slice_set marks (i - n) true) (marks_without order (all_marks n marks))
 more_set n order marks i h m =
@@ -72,7 +72,7 @@ more_set n order marks i h m =
     let more = rw (set-above n i marks true above) at (marked_more b order (all_marks n marks) i h m.marked) in
     record {
       all = record { marked = renewed b _ _ more; from = from-append n order i m.from above };
-      base = base_is b _ _ more;
+      set_at_entry = base_is b _ _ more;
     }
 
 pub less_set : (n : ℕ) (order : List ℕ) (marks : List Bool) (i : ℕ) → IsMarkedFrom n (order ++ i ∷ []) marks → Stands n order (slice_set marks (i - n) false) (marks_without (order ++ i ∷ []) (all_marks n marks))
@@ -82,7 +82,7 @@ less_set n order marks i m =
     let less = rw (set-above n i marks false from.1) at (marked_less b order (all_marks n marks) i m.marked) in
     record {
       all = record { marked = renewed b _ _ less; from = from.0 };
-      base = base_is b _ _ less;
+      set_at_entry = base_is b _ _ less;
     }
 
 -- the mark of the local that was set last
@@ -98,7 +98,7 @@ more_declared n order marks more m =
     let wider = rw append_assoc at (declared_more b more order (all_marks n marks) m.marked) in
     record {
       all = record { marked = renewed _ _ _ wider; from = m.from };
-      base = base_is _ _ _ wider;
+      set_at_entry = base_is _ _ _ wider;
     }
 
 -- where no local has a mark, none was set since
@@ -106,8 +106,8 @@ pub more_unmarked : (n k : ℕ) (order : List ℕ) (marks : List Bool) → lengt
 more_unmarked n k order (x ∷ ms) e m = absurd (omega (arith, e))
 more_unmarked n k [] [] e m = record {
   all = record { marked = record { fresh = tt; all = refl }; from = tt };
-  base = append-nil (replicate (n + k) true) ∙ sym (replicate-append-replicate n k true) ∙ ap (λ r. r ++ replicate k true) (sym (append-nil (replicate n true)));
+  set_at_entry = append-nil (replicate (n + k) true) ∙ sym (replicate-append-replicate n k true) ∙ ap (λ r. r ++ replicate k true) (sym (append-nil (replicate n true)));
 }
 more_unmarked n k (i ∷ is) [] e m =
     let w = get-within (marks_without (i ∷ is) (all_marks n [])) i false m.marked.fresh.0 in
-    absurd (omega (arith, w, length-base n (i ∷ is) [], m.from.0))
+    absurd (omega (arith, w, length-set_at_entry n (i ∷ is) [], m.from.0))

@@ -2,7 +2,7 @@
 
 ghost use Rattle.std.specs.Prelude.{◌≡◌, ◌+◌, ◌<◌, ◌≤◌, ◌↔◌, [], ◌∷◌, ◌++◌, true, false, length, take, drop, replicate, not, IsTrue, IfOk, OnOk, OnErr, IsOk, MatchOption};
 ghost use Rattle.validate_types.specs.Types.{is_defaultable};
-ghost use Rattle.validate_locals.specs.Inits.{is_recorded_set, order_with, AreFresh};
+ghost use Rattle.validate_locals.specs.Inits.{is_local_set, order_with, AreFresh};
 
 use std::alloc::Global;
 use std::marker::Model;
@@ -30,7 +30,7 @@ impl Model for LocalInits {
     ghost Value = { Inits };
 
     ghost view = { λ a. record {
-      base = marks_without a.inits.items (all_marks a.first_non_default_local a.local_inits.items);
+      set_at_entry = marks_without a.inits.items (all_marks a.first_non_default_local a.local_inits.items);
       order = a.inits.items;
       room = vec_capacity a.inits;
       declared_room = vec_capacity a.local_inits;
@@ -42,7 +42,7 @@ impl Model for LocalInits {
 impl LocalInits {
     /// No locals. It takes no memory.
     pub fn new(alloc: Global) -> Self
-        ensures base { result.base ≡ [] }
+        ensures set_at_entry { result.set_at_entry ≡ [] }
         ensures order { result.order ≡ [] }
     {
         LocalInits {
@@ -59,14 +59,14 @@ impl LocalInits {
 
     /// Whether no local is declared.
     pub fn is_empty(&self) -> bool
-        ensures { IsTrue result ↔ (self.now.base ≡ []) }
+        ensures { IsTrue result ↔ (self.now.set_at_entry ≡ []) }
     {
         self.first_non_default_local == 0 && self.local_inits.is_empty()
     }
 
     /// Forgets every local, and keeps the room.
     pub fn clear(&mut self)
-        ensures base { self.new.base ≡ [] }
+        ensures set_at_entry { self.new.set_at_entry ≡ [] }
         ensures order { self.new.order ≡ [] }
         ensures room { self.new.room ≡ self.old.room }
         ensures declared_room { self.new.declared_room ≡ self.old.declared_room }
@@ -78,11 +78,12 @@ impl LocalInits {
 
     /// Declares `count` more locals, each of them set or not.
     fn declare(&mut self, count: usize, set: bool) -> Result<(), OutOfMemory>
-        ensures declared { OnOk result (self.new.base ≡ self.old.base ++ replicate count set) }
+        ensures declared { OnOk result (self.new.set_at_entry ≡ self.old.set_at_entry ++ replicate count
+            set) }
         ensures order { self.new.order ≡ self.old.order }
         ensures room { self.new.room ≡ self.old.room }
         ensures declared_room { self.old.declared_room ≤ self.new.declared_room }
-        ensures succeeds { length self.old.base + count ≤ self.old.declared_room → IsOk result }
+        ensures succeeds { length self.old.set_at_entry + count ≤ self.old.declared_room → IsOk result }
         ensures err { OnErr result (self.new ≡ self.old) }
     {
         if set && self.local_inits.is_empty() {
@@ -101,11 +102,12 @@ impl LocalInits {
     /// Declares `count` parameters: they are set from the start, whatever their types. Want of memory
     /// changes nothing, and there is none where there is room.
     pub fn define_params(&mut self, count: usize) -> Result<(), OutOfMemory>
-        ensures declared { OnOk result (self.new.base ≡ self.old.base ++ replicate count true) }
+        ensures declared { OnOk result (self.new.set_at_entry ≡ self.old.set_at_entry ++ replicate count
+            true) }
         ensures order { self.new.order ≡ self.old.order }
         ensures room { self.new.room ≡ self.old.room }
         ensures declared_room { self.old.declared_room ≤ self.new.declared_room }
-        ensures succeeds { length self.old.base + count ≤ self.old.declared_room → IsOk result }
+        ensures succeeds { length self.old.set_at_entry + count ≤ self.old.declared_room → IsOk result }
         ensures err { OnErr result (self.new ≡ self.old) }
     {
         self.declare(count, true)
@@ -114,12 +116,12 @@ impl LocalInits {
     /// Declares `count` more locals of this type: they are set from the start where it has a default
     /// value. Want of memory changes nothing, and there is none where there is room.
     pub fn define_locals(&mut self, count: u32, ty: ValType) -> Result<(), OutOfMemory>
-        ensures declared { OnOk result (self.new.base ≡ self.old.base ++ replicate count
+        ensures declared { OnOk result (self.new.set_at_entry ≡ self.old.set_at_entry ++ replicate count
             (is_defaultable ty)) }
         ensures order { self.new.order ≡ self.old.order }
         ensures room { self.new.room ≡ self.old.room }
         ensures declared_room { self.old.declared_room ≤ self.new.declared_room }
-        ensures succeeds { length self.old.base + count ≤ self.old.declared_room → IsOk result }
+        ensures succeeds { length self.old.set_at_entry + count ≤ self.old.declared_room → IsOk result }
         ensures err { OnErr result (self.new ≡ self.old) }
     {
         self.declare(count as usize, ty.is_defaultable())
@@ -128,12 +130,12 @@ impl LocalInits {
     /// Makes room for `count` more declarations. Want of memory changes nothing, and there is none where
     /// there is room.
     pub fn reserve(&mut self, count: usize) -> Result<(), OutOfMemory>
-        ensures base { self.new.base ≡ self.old.base }
+        ensures set_at_entry { self.new.set_at_entry ≡ self.old.set_at_entry }
         ensures order { self.new.order ≡ self.old.order }
         ensures room { self.new.room ≡ self.old.room }
         ensures declared_room { self.old.declared_room ≤ self.new.declared_room }
-        ensures ok { OnOk result (length self.new.base + count ≤ self.new.declared_room) }
-        ensures succeeds { length self.old.base + count ≤ self.old.declared_room → IsOk result }
+        ensures ok { OnOk result (length self.new.set_at_entry + count ≤ self.new.declared_room) }
+        ensures succeeds { length self.old.set_at_entry + count ≤ self.old.declared_room → IsOk result }
         ensures err { OnErr result (self.new ≡ self.old) }
     {
         let Some(unmarked) = self.first_non_default_local.checked_add(count) else {
@@ -149,7 +151,7 @@ impl LocalInits {
     pub fn height(&self) -> usize
         ensures value { result ≡ length self.now.order }
         ensures within { length self.now.order ≤ self.now.room }
-        ensures fresh { AreFresh self.now.base self.now.order }
+        ensures fresh { AreFresh self.now.set_at_entry self.now.order }
     {
         self.inits.len()
     }
@@ -165,9 +167,9 @@ impl LocalInits {
     /// Whether the local at this index is declared and isn't set.
     #[inline(always)]
     pub fn is_uninit(&self, index: u32) -> bool
-        ensures declared { index < length self.now.base
-            → result ≡ not (is_recorded_set self.now index) }
-        ensures undeclared { length self.now.base ≤ index → result ≡ false }
+        ensures declared { index < length self.now.set_at_entry
+            → result ≡ not (is_local_set self.now.set_at_entry self.now.order index) }
+        ensures undeclared { length self.now.set_at_entry ≤ index → result ≡ false }
     {
         let index = index as usize;
         if index < self.first_non_default_local {
@@ -183,13 +185,13 @@ impl LocalInits {
     /// changes nothing, and there is none where there is room or the local is set already.
     #[inline(always)]
     pub fn set_init(&mut self, index: u32) -> Result<(), OutOfMemory>
-        requires { index < length self.old.base }
+        requires { index < length self.old.set_at_entry }
         ensures set { OnOk result (self.new.order ≡ order_with self.old index) }
-        ensures base { self.new.base ≡ self.old.base }
+        ensures set_at_entry { self.new.set_at_entry ≡ self.old.set_at_entry }
         ensures room { self.old.room ≤ self.new.room }
         ensures declared_room { self.new.declared_room ≡ self.old.declared_room }
         ensures succeeds { length self.old.order < self.old.room → IsOk result }
-        ensures already { is_recorded_set self.old index ≡ true → IsOk result }
+        ensures already { is_local_set self.old.set_at_entry self.old.order index ≡ true → IsOk result }
         ensures err { OnErr result (self.new ≡ self.old) }
     {
         if !self.is_uninit(index) {
@@ -205,7 +207,7 @@ impl LocalInits {
     fn pop_one(&mut self) -> Option<u32>
         ensures order { MatchOption result ((self.old.order ≡ []) × (self.new.order ≡ []))
             (λ i. self.old.order ≡ self.new.order ++ i ∷ []) }
-        ensures base { self.new.base ≡ self.old.base }
+        ensures set_at_entry { self.new.set_at_entry ≡ self.old.set_at_entry }
         ensures room { self.new.room ≡ self.old.room }
         ensures declared_room { self.new.declared_room ≡ self.old.declared_room }
     {
@@ -219,7 +221,7 @@ impl LocalInits {
     #[inline(always)]
     pub fn drop_ctrl(&mut self, height: usize)
         ensures order { self.new.order ≡ take height self.old.order }
-        ensures base { self.new.base ≡ self.old.base }
+        ensures set_at_entry { self.new.set_at_entry ≡ self.old.set_at_entry }
         ensures room { self.new.room ≡ self.old.room }
         ensures declared_room { self.new.declared_room ≡ self.old.declared_room }
     {
@@ -242,7 +244,7 @@ impl LocalInits {
         requires { height ≤ length self.old.order }
         ensures answer { IfOk result (λ reset. reset.items ≡ drop height self.old.order) }
         ensures unset { OnOk result (self.new.order ≡ take height self.old.order) }
-        ensures base { self.new.base ≡ self.old.base }
+        ensures set_at_entry { self.new.set_at_entry ≡ self.old.set_at_entry }
         ensures room { self.new.room ≡ self.old.room }
         ensures declared_room { self.new.declared_room ≡ self.old.declared_room }
         ensures err { OnErr result (self.new ≡ self.old) }
@@ -254,10 +256,10 @@ impl LocalInits {
 
     /// Sets again what was unset, in order, within the room. It takes no memory.
     pub fn put_back(&mut self, reset: &[u32])
-        requires fresh { AreFresh self.old.base (self.old.order ++ reset.now) }
+        requires fresh { AreFresh self.old.set_at_entry (self.old.order ++ reset.now) }
         requires room { length (self.old.order ++ reset.now) ≤ self.old.room }
         ensures order { self.new.order ≡ self.old.order ++ reset.now }
-        ensures base { self.new.base ≡ self.old.base }
+        ensures set_at_entry { self.new.set_at_entry ≡ self.old.set_at_entry }
         ensures room { self.old.room ≤ self.new.room }
     {
         for index in reset {

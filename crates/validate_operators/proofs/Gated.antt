@@ -10,7 +10,7 @@ use Rattle.validate_visit.specs.declared.op.Op.{Op}
 use Rattle.validation_rules.specs.Rows.{Head, Form, Stays, Opens, BeginsElse, BeginsCatch, Ends, Delegates, Row, Operator}
 use Rattle.validation_rules.specs.Static.{Frame, State, step, step_in}
 use Rattle.validation_rules.specs.Operators.{operator, ungated_operator}
-use Rattle.validate_stacks.specs.State.{BodyState, body_context, IsValid}
+use Rattle.validate_stacks.specs.State.{BodyState, body_context, IsValidBody}
 use Rattle.validate_stacks.specs.Visits.{step_body, Meets}
 use Rattle.validate_shapes.proofs.Meeting.{meets_none, meets_as}
 
@@ -37,7 +37,7 @@ module _ (md : ModuleContext) (v : BodyState) where
 
     module _ (gate : Gate) (same : gate ≡ gate_of op) (offset : ℕ) where
       -- the gate is closed
-      pub meets_shut : (r : Result (Unit {0}) Refusal) → OnOk r ⊥ → OnErr r (is_open v.features gate ≡ false) → IfErr r (λ e. e.offset ≡ offset) → IsValid md v → Meets md (λ c. operator c op) offset v r v
+      pub meets_shut : (r : Result (Unit {0}) Refusal) → OnOk r ⊥ → OnErr r (is_open v.features gate ≡ false) → IfErr r (λ e. e.offset ≡ offset) → IsValidBody md v → Meets md (λ c. operator c op) offset v r v
       meets_shut (Ok u) n h o valid = absurd n
       meets_shut (Err e) n h o valid = meets_none md (λ c. operator c op) offset v v (Err e) tt (shut (ap (is_open v.features) (sym same) ∙ h)) o valid refl
 

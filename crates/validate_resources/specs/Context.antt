@@ -74,8 +74,8 @@ Valid md t = is_valid md t ≡ true
 abbrev pub AllValid : ModuleContext → List ValType → Type 0
 AllValid md ts = AllByRecursion (Valid md) ts
 
-abbrev pub IsTypeBelow : ModuleContext → ValType → ValType → Type 0
-IsTypeBelow md t u = md.below t u ≡ true
+abbrev pub IsValidBelow : ModuleContext → ValType → ValType → Type 0
+IsValidBelow md t u = md.below t u ≡ true
 
 -- a number or vector type
 abbrev pub is_number_or_vector : ValType → Bool
@@ -107,8 +107,8 @@ abbrev pub signature_of : SubType → Option Signature
 signature_of s = inner_signature s.composite_type.inner
 
 -- the same of the type at an index
-abbrev pub func_type_at : ModuleContext → ℕ → Option Signature
-func_type_at md i = option_and_then signature_of (md.type_at i)
+abbrev pub signature_at : ModuleContext → ℕ → Option Signature
+signature_at md i = option_and_then signature_of (md.type_at i)
 
 -- the fields of a struct, or the one that an array has in each place; a function has none
 abbrev pub inner_fields : CompositeInnerType → List FieldType
@@ -137,26 +137,27 @@ pub record IsValidType (md : ModuleContext) (s : SubType) : Type 0 where
   pub supertype : (u : UnpackedIndex) → s.supertype_idx ≡ Some u → is_valid_index md u ≡ true
 
 -- what stands for the top type of the hierarchy of a reference's type: it is abstract, and a reference to
--- it is of the same sharedness
+-- it is of the same sharedness, and lies above
 pub record IsTop (md : ModuleContext) (r : RefType) (top : HeapType) : Type 0 where
   pub shared : Bool
   pub ty : AbstractHeapType
   pub is : top ≡ Abstract shared ty
   pub same_sharedness : md.is_shared (record r { heap_type = top }) ≡ md.is_shared r
+  pub above : IsValidBelow md (Ref r) (Ref (record r { heap_type = top }))
 
 pub record IsLawful (md : ModuleContext) : Type 0 where
   -- the order is one of valid and canonical types, reflexive and transitive
-  pub both_valid : (t u : ValType) → IsTypeBelow md t u → Valid md t × Valid md u
-  pub reflexive : (t : ValType) → Valid md t → IsTypeBelow md t t
-  pub transitive : (t u v : ValType) → IsTypeBelow md t u → IsTypeBelow md u v → IsTypeBelow md t v
+  pub both_valid : (t u : ValType) → IsValidBelow md t u → Valid md t × Valid md u
+  pub reflexive : (t : ValType) → Valid md t → IsValidBelow md t t
+  pub transitive : (t u v : ValType) → IsValidBelow md t u → IsValidBelow md u v → IsValidBelow md t v
   -- a number or vector type has only itself below it
-  pub number : (t u : ValType) → IsTypeBelow md t u → is_number_or_vector u ≡ true → t ≡ u
-  pub below_reference : (t : ValType) (r : RefType) → IsTypeBelow md t (Ref r) → IsBelowReference md t r
+  pub number : (t u : ValType) → IsValidBelow md t u → is_number_or_vector u ≡ true → t ≡ u
+  pub below_reference : (t : ValType) (r : RefType) → IsValidBelow md t (Ref r) → IsBelowReference md t r
   -- taking null away keeps the order and goes down, adding it goes up
-  pub non_null_keeps : (r s : RefType) → IsTypeBelow md (Ref r) (Ref s)
-      → IsTypeBelow md (Ref (without_null r)) (Ref (without_null s))
-  pub non_null_below : (r : RefType) → Valid md (Ref r) → IsTypeBelow md (Ref (without_null r)) (Ref r)
-  pub below_with_null : (r : RefType) → Valid md (Ref r) → IsTypeBelow md (Ref r) (Ref (with_null r))
+  pub non_null_keeps : (r s : RefType) → IsValidBelow md (Ref r) (Ref s)
+      → IsValidBelow md (Ref (without_null r)) (Ref (without_null s))
+  pub non_null_below : (r : RefType) → Valid md (Ref r) → IsValidBelow md (Ref (without_null r)) (Ref r)
+  pub below_with_null : (r : RefType) → Valid md (Ref r) → IsValidBelow md (Ref r) (Ref (with_null r))
   pub top : (r : RefType) → Valid md (Ref r) → IsTop md r (md.top_type r.heap_type)
   -- whatever a look-up hands out is valid and canonical: a declared type, by its index or its id, and the
   -- types of functions, tables, globals and element segments

@@ -2,7 +2,7 @@
 pub mod Chains
 pub mod Matching
 pub mod Forms
-use Rattle.std.specs.Prelude.{◌≡◌, ℕ, ◌≤◌, Bool, true, false, ◌&&◌, ◌||◌, not, nat_le, length, slice_get}
+use Rattle.std.specs.Prelude.{◌≡◌, ℕ, ◌≤◌, Bool, true, false, ◌&&◌, ◌||◌, not, nat_le, nat_lt, length, slice_get}
 use Rattle.std.specs.Prelude.{option_map, Option, Some, None, refl, if◌then◌else◌}
 use Rattle.std.specs.List.{list_all}
 use Rattle.std.proofs.Common.{sym, ap, ◌∙◌, subst, leb-true}
@@ -23,18 +23,18 @@ use Rattle.validate_types.specs.declared.types.ValType.TheVariants.{I32, I64, Re
 use Rattle.validate_resources.specs.declared.lists.FuncDecl.{FuncDecl}
 use Rattle.validate_resources.specs.declared.lists.TheConstants.{MAX_TYPES}
 use Rattle.validate_resources.specs.Context.{ModuleContext, IsLawful, IsBelowReference, IsTop, IsValidType}
-use Rattle.validate_resources.specs.Context.{Valid, is_valid_index, is_valid_heap}
+use Rattle.validate_resources.specs.Context.{Valid, IsValidBelow, is_valid_index, is_valid_heap}
 use Rattle.validate_resources.specs.Indices.{is_id, is_known, heap_indices_pass, ref_indices_pass, type_indices_pass, table_indices_pass}
 use Rattle.validate_resources.specs.Indices.{global_indices_pass, sub_indices_pass, heap_with_id, ref_with_id, type_with_id}
 use Rattle.validate_resources.specs.Indices.{supertype_indices_pass}
 use Rattle.validate_resources.specs.Order.{is_heap_below, have_fitting_supertypes, is_type_below, heap_top, declared_top}
 use Rattle.validate_resources.specs.Order.{is_heap_shared, is_shared_at}
-use Rattle.validate_resources.specs.Lists.{Declared, is_module, list_indices_pass, have_known_types, context_of}
+use Rattle.validate_resources.specs.Lists.{Declared, is_module, list_indices_pass, context_of}
 use Rattle.validate_resources.specs.Lists.{is_valid_below, canonical_under, type_id}
 use Rattle.validate_resources.specs.Lawful.Matching.{passes-at, heap-shared, ref-reflexive, type-reflexive}
-use Rattle.validate_resources.specs.Lawful.Matching.{type-transitive, number-below, below-ref}
+use Rattle.validate_resources.specs.Lawful.Matching.{heap-below-top, type-transitive, number-below, below-ref}
 use Rattle.validate_resources.specs.Lawful.Forms.{heap-valid, type-valid, type-is-valid}
-use Rattle.validate_resources.specs.Lawful.Forms.{heap-ids, type-ids}
+use Rattle.validate_resources.specs.Lawful.Forms.{heap-ids, type-ids, known-types}
 
 -- a type below another: both are valid, and the one is below the other
 record Below (d : Declared) (t u : ValType) : Type 0 where
@@ -58,14 +58,13 @@ record Facts (d : Declared) : Type 0 where
   tables : list_all (table_indices_pass (is_id (length d.types))) d.tables ≡ true
   globals : list_all (global_indices_pass (is_id (length d.types))) d.globals ≡ true
   elements : list_all (ref_indices_pass (is_id (length d.types))) d.elements ≡ true
-  functions : have_known_types d ≡ true
+  functions : list_all (λ (f : FuncDecl). nat_lt f.type_index (length d.types)) d.functions ≡ true
   supertypes : have_fitting_supertypes d.types ≡ true
 
 facts : (d : Declared) → is_module is_id d ≡ true → Facts d
 facts d h =
-    let (k, func_types) = and_parts (nat_le (length d.types) MAX_TYPES && list_indices_pass (is_id (length d.types)) d.types d.tables d.globals d.elements && have_known_types d && have_fitting_supertypes d.types) _ h in
-    let (a, supertypes) = and_parts (nat_le (length d.types) MAX_TYPES && list_indices_pass (is_id (length d.types)) d.types d.tables d.globals d.elements && have_known_types d) _ k in
-    let (b, functions) = and_parts (nat_le (length d.types) MAX_TYPES && list_indices_pass (is_id (length d.types)) d.types d.tables d.globals d.elements) _ a in
+    let (k, func_types) = and_parts (nat_le (length d.types) MAX_TYPES && list_indices_pass (is_id (length d.types)) d.types d.tables d.globals d.elements && have_fitting_supertypes d.types) _ h in
+    let (b, supertypes) = and_parts (nat_le (length d.types) MAX_TYPES && list_indices_pass (is_id (length d.types)) d.types d.tables d.globals d.elements) _ k in
     let (small, e) = and_parts (nat_le (length d.types) MAX_TYPES) _ b in
     let p = list_all (sub_indices_pass (is_id (length d.types))) d.types in
     let q = list_all (table_indices_pass (is_id (length d.types))) d.tables in
@@ -73,7 +72,7 @@ facts d h =
     let (f, elements) = and_parts (p && q && r) _ e in
     let (g, globals) = and_parts (p && q) _ f in
     let (types, tables) = and_parts p _ g in
-    record { small = leb-true _ _ small; types = types; tables = tables; globals = globals; elements = elements; functions = functions; supertypes = supertypes }
+    record { small = leb-true _ _ small; types = types; tables = tables; globals = globals; elements = elements; functions = known-types d.types d.functions func_types; supertypes = supertypes }
 
 type_valid : (d : Declared) → Facts d → (i : ℕ) (s : SubType) → slice_get d.types i ≡ Some s → IsValidType (context_of d) s
 type_valid d m i s h = type-is-valid d m.small s (passes-at (sub_indices_pass (is_id (length d.types))) i d.types s m.types h)
@@ -109,15 +108,37 @@ checked_type d m features t u h =
     let p = cond_some (is_type_enabled features t && type_indices_pass (is_known (length d.types)) t) (type_with_id t) u h in
     subst (Valid (context_of d)) p.1 (type-valid d m.small (type_with_id t) ∙ type-ids (length d.types) t ∙ (and_parts (is_type_enabled features t) _ p.0).1)
 
-top_of : (d : Declared) (r : RefType) (h : HeapType) → r.heap_type ≡ h → IsTop (context_of d) r (heap_top d.types h)
-top_of d r (Abstract shared ty) is =
-    record { shared = shared; ty = abstract_top ty; is = refl; same_sharedness = sym (ap (is_heap_shared d.types) is) }
-top_of d r (Concrete i) is =
+some_order : (b : Bool) → (b || not b) ≡ true
+some_order true = refl
+some_order false = refl
+
+-- what stands for the top type lies above
+below_top : (d : Declared) → Facts d → (r : RefType) → Valid (context_of d) (Ref r) → IsValidBelow (context_of d) (Ref r) (Ref (record r { heap_type = heap_top d.types r.heap_type }))
+below_top d m r v =
+    let low = sym (heap-valid d m.small r.heap_type) ∙ v in
+    from d (Ref r) (Ref (record r { heap_type = heap_top d.types r.heap_type })) low (abstract_top_passes r.heap_type)
+    (and_from _ _ (heap-below-top d.types r.heap_type low) (some_order r.nullable))
+  where
+    abstract_top_passes : (h : HeapType) → heap_indices_pass (is_id (length d.types)) (heap_top d.types h) ≡ true
+    abstract_top_passes (Abstract shared ty) = refl
+    abstract_top_passes (Concrete i) = refl
+
+top_of : (d : Declared) → Facts d → (r : RefType) → Valid (context_of d) (Ref r) → (h : HeapType) → r.heap_type ≡ h → IsTop (context_of d) r (heap_top d.types h)
+top_of d m r v (Abstract shared ty) is =
+    record {
+      shared = shared;
+      ty = abstract_top ty;
+      is = refl;
+      same_sharedness = sym (ap (is_heap_shared d.types) is);
+      above = subst (λ h. IsValidBelow (context_of d) (Ref r) (Ref (record r { heap_type = heap_top d.types h }))) is (below_top d m r v);
+    }
+top_of d m r v (Concrete i) is =
     record {
       shared = is_shared_at d.types (number_of i);
       ty = declared_top (slice_get d.types (number_of i));
       is = refl;
       same_sharedness = sym (ap (is_heap_shared d.types) is);
+      above = subst (λ h. IsValidBelow (context_of d) (Ref r) (Ref (record r { heap_type = heap_top d.types h }))) is (below_top d m r v);
     }
 
 pub lawful_lists : (d : Declared) → is_module is_id d ≡ true → IsLawful (context_of d)
@@ -132,7 +153,7 @@ lawful_lists d h =
       non_null_keeps = λ r s e. marked d r s (parts d (Ref r) (Ref s) e) false false refl;
       non_null_below = λ r e. marked d r r (itself d m r e) false r.nullable (or_right r.nullable true refl);
       below_with_null = λ r e. marked d r r (itself d m r e) r.nullable true refl;
-      top = λ r e. top_of d r r.heap_type refl;
+      top = λ r e. top_of d m r e r.heap_type refl;
       types = type_valid d m;
       types_of_ids = λ id s e. type_valid d m id.index s e;
       functions = λ f id e. function_of d m f id (slice_get d.functions f) refl e;

@@ -1,6 +1,6 @@
 -- What a module declares, as lists, and its context (WebAssembly core specification, "Modules", and
 -- "Conventions" of validation: contexts).
-use Rattle.std.specs.Prelude.{ℕ, Bool, List, false, ◌&&◌, map, nat_le, nat_lt, length, Option, Some, None}
+use Rattle.std.specs.Prelude.{ℕ, Bool, List, false, ◌&&◌, map, nat_le, length, Option, Some, None}
 use Rattle.std.specs.Prelude.{slice_get, option_map, unwrap_or, is_some, if◌then◌else◌}
 use Rattle.std.specs.List.{list_all}
 use Rattle.validate_types.specs.Features.{is_type_enabled}
@@ -56,26 +56,20 @@ list_indices_pass p types tables globals elements =
     && list_all (global_indices_pass p) globals
     && list_all (ref_indices_pass p) elements
 
--- each function is of one of the types
-abbrev pub have_known_types : Declared → Bool
-have_known_types d = list_all (λ (f : FuncDecl). nat_lt f.type_index (length d.types)) d.functions
-
 abbrev pub is_func_type : Option SubType → Bool
 is_func_type None = false
 is_func_type (Some s) = is_some (signature_of s)
 
--- the type of each function is one of functions
+-- the type of each function is there, and is one of functions
 abbrev pub have_func_types : Declared → Bool
 have_func_types d = list_all (λ (f : FuncDecl). is_func_type (slice_get d.types f.type_index)) d.functions
 
--- at most 1,000,000 types; each index passes the test, at their number; each function is of one of
--- them; each supertype is an earlier type of the same kind and sharedness; each function is of one of
--- functions
+-- at most 1,000,000 types; each index passes the test, at their number; each supertype is an earlier type of
+-- the same kind and sharedness; each function is of one of functions
 abbrev pub is_module : (ℕ → UnpackedIndex → Bool) → Declared → Bool
 is_module p d =
     nat_le (length d.types) MAX_TYPES
     && list_indices_pass (p (length d.types)) d.types d.tables d.globals d.elements
-    && have_known_types d
     && have_fitting_supertypes d.types
     && have_func_types d
 

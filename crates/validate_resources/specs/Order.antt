@@ -46,10 +46,10 @@ is_same_kind (Struct fields) (Struct others) = true
 is_same_kind _ _ = false
 
 -- the abstract type that each type of the kind is below
-abbrev pub kind_of : CompositeInnerType → AbstractHeapType
-kind_of (Func f) = AnyFunc
-kind_of (Array a) = AnyArray
-kind_of (Struct fields) = AnyStruct
+abbrev pub abstract_kind : CompositeInnerType → AbstractHeapType
+abstract_kind (Func f) = AnyFunc
+abstract_kind (Array a) = AnyArray
+abstract_kind (Struct fields) = AnyStruct
 
 -- the bottom type below each type of the kind
 abbrev pub kind_bottom : CompositeInnerType → AbstractHeapType
@@ -122,7 +122,7 @@ is_index_below types i j = i == j || is_on_chain types i j
 abbrev pub is_declared_below : Option SubType → Bool → AbstractHeapType → Bool
 is_declared_below None z b = false
 is_declared_below (Some s) z b =
-    beq s.composite_type.shared z && is_abstract_below (kind_of s.composite_type.inner) b
+    beq s.composite_type.shared z && is_abstract_below (abstract_kind s.composite_type.inner) b
 
 -- and above what is below the bottom type of its kind
 abbrev pub is_below_declared : Bool → AbstractHeapType → Option SubType → Bool
@@ -156,7 +156,7 @@ is_type_below types _ _ = false
 -- the top type of the hierarchy of a declared type's kind; `any`, where there is no such type
 abbrev pub declared_top : Option SubType → AbstractHeapType
 declared_top None = Any
-declared_top (Some s) = abstract_top (kind_of s.composite_type.inner)
+declared_top (Some s) = abstract_top (abstract_kind s.composite_type.inner)
 
 -- the top type of the hierarchy that a heap type is in, of its sharedness
 abbrev pub heap_top : List SubType → HeapType → HeapType

@@ -4,7 +4,7 @@ ghost use Rattle.std.specs.Prelude.{◌≡◌, None, Some, true, false, OnOk, On
 ghost use Rattle.validation_rules.specs.Branches.{br_row, br_if_row, br_table_row, return_row};
 ghost use Rattle.validation_rules.specs.Operators.{staying_operator};
 ghost use Rattle.validate_stacks.specs.Pops.{IsKept};
-ghost use Rattle.validate_stacks.specs.State.{IsValid, body_context};
+ghost use Rattle.validate_stacks.specs.State.{IsValidBody, body_context};
 ghost use Rattle.validate_stacks.specs.Visits.{step_body, MayVisit, Meets};
 ghost use Rattle.validate_rows.specs.Targets.{is_target, are_targets};
 
@@ -92,7 +92,7 @@ fn check_target<R: WasmModuleResources>(
     relative_depth: u32,
     count: usize,
 ) -> Result<(), Error>
-    requires { IsValid (R.context resources.now) stacks.old.body }
+    requires { IsValidBody (R.context resources.now) stacks.old.body }
     ensures fits { OnOk result (is_target (R.context resources.now) stacks.old.body count relative_depth
         ≡ true) }
     ensures same { OnOk result (stacks.new ≡ stacks.old) }
@@ -102,7 +102,7 @@ fn check_target<R: WasmModuleResources>(
         → OnErr result (is_target (R.context resources.now) stacks.old.body count relative_depth
         ≡ false) }
     ensures offset { IfErr result (λ e. e.offset ≡ offset) }
-    ensures valid { IsValid (R.context resources.now) stacks.new.body }
+    ensures valid { IsValidBody (R.context resources.now) stacks.new.body }
     ensures kept { IsKept stacks.old.body stacks.new.body }
 {
     let (block_type, kind) = label(stacks, offset, relative_depth)?;
@@ -125,7 +125,7 @@ fn check_targets<R: WasmModuleResources>(
     table: BrTable,
     count: usize,
 ) -> Result<(), Error>
-    requires { IsValid (R.context resources.now) stacks.old.body }
+    requires { IsValidBody (R.context resources.now) stacks.old.body }
     ensures fits { OnOk result (are_targets (R.context resources.now) stacks.old.body count
         table.entry.complete table.entry.targets.now ≡ true) }
     ensures same { OnOk result (stacks.new ≡ stacks.old) }
@@ -136,7 +136,7 @@ fn check_targets<R: WasmModuleResources>(
         (are_targets (R.context resources.now) stacks.old.body count table.entry.complete
         table.entry.targets.now ≡ false) }
     ensures offset { IfErr result (λ e. e.offset ≡ offset) }
-    ensures valid { IsValid (R.context resources.now) stacks.new.body }
+    ensures valid { IsValidBody (R.context resources.now) stacks.new.body }
     ensures kept { IsKept stacks.old.body stacks.new.body }
 {
     for target in table.targets() {

@@ -6,7 +6,7 @@ ghost use Rattle.validation_rules.specs.Operators.{plain_row, ending_row, row_op
 ghost use Rattle.validation_rules.specs.Valid.{IsValidBlock};
 ghost use Rattle.validate_stacks.specs.Attempts.{may_frame};
 ghost use Rattle.validate_stacks.specs.Pops.{IsKept};
-ghost use Rattle.validate_stacks.specs.State.{IsValid};
+ghost use Rattle.validate_stacks.specs.State.{IsValidBody};
 ghost use Rattle.validate_stacks.specs.Blocks.{may_close_as_if};
 ghost use Rattle.validate_stacks.specs.Visits.{MayVisit, Meets};
 
@@ -103,7 +103,7 @@ fn check_empty_else<R: WasmModuleResources>(
     offset: u64,
     frame: Frame,
 ) -> Result<(), Error>
-    requires state { IsValid (R.context resources.now) stacks.old.body }
+    requires state { IsValidBody (R.context resources.now) stacks.old.body }
     requires block { IsValidBlock (R.context resources.now) stacks.old.body.shared frame.block_type }
     requires frames { may_frame stacks.old ≡ true }
     ensures fits { OnOk result (may_close_as_if (R.context resources.now) frame stacks.old.body ≡ true) }
@@ -111,7 +111,7 @@ fn check_empty_else<R: WasmModuleResources>(
     ensures refused { IfErr result (λ e. e.wants_memory ≡ false
         → may_close_as_if (R.context resources.now) frame stacks.old.body ≡ false) }
     ensures offset { IfErr result (λ e. e.offset ≡ offset) }
-    ensures valid { IsValid (R.context resources.now) stacks.new.body }
+    ensures valid { IsValidBody (R.context resources.now) stacks.new.body }
     ensures kept { IsKept stacks.old.body stacks.new.body }
 {
     if !is_if_part(frame.kind) {

@@ -5,7 +5,7 @@ ghost use Rattle.validate_resources.specs.Context.{ModuleContext};
 ghost use Rattle.validation_rules.specs.Operators.{row_operator, local_get_row, local_set_row, local_tee_row};
 ghost use Rattle.validate_stacks.specs.Attempts.{may_set};
 ghost use Rattle.validate_stacks.specs.Pops.{IsKept};
-ghost use Rattle.validate_stacks.specs.State.{IsValid};
+ghost use Rattle.validate_stacks.specs.State.{IsValidBody};
 ghost use Rattle.validate_stacks.specs.Steps.{body_with_local_set};
 ghost use Rattle.validate_stacks.specs.Visits.{MayVisit, Meets};
 
@@ -57,7 +57,7 @@ fn set_init(stacks: &mut Stacks, offset: u64, local_index: u32) -> Result<(), Er
     ensures set { OnOk result (stacks.new.body ≡ body_with_local_set local_index stacks.old.body) }
     ensures memory { IfErr result (λ e. e.wants_memory ≡ true) }
     ensures offset { IfErr result (λ e. e.offset ≡ offset) }
-    ensures valid { (md : ModuleContext) → IsValid md stacks.old.body → IsValid md stacks.new.body }
+    ensures valid { (md : ModuleContext) → IsValidBody md stacks.old.body → IsValidBody md stacks.new.body }
     ensures kept { IsKept stacks.old.body stacks.new.body }
 {
     match stacks.set_init(local_index) {

@@ -10,14 +10,14 @@ use Rattle.validation_rules.specs.Branches.{has_label, label_types_at, target, b
 use Rattle.validation_rules.specs.Context.{I32, Context}
 use Rattle.validation_rules.specs.Fits.{MaybeType, Known, all_fit}
 use Rattle.validation_rules.specs.Rows.{FrameKind, Head, label_types, Stays, Target, Row, guard, all_fit_each}
-use Rattle.validation_rules.specs.Static.{Frame, State, frame_count, heads, stack_with, operands_found, operands_under, operands_after, locals_set, state_if_pushed, step_in}
+use Rattle.validation_rules.specs.Static.{Frame, State, frame_count, heads, stack_with, operands_found, operands_under, operands_after, state_after, open_frames, step_in}
 use Rattle.validation_rules.specs.Operators.{ending_row, staying_operator}
 use Rattle.validation_rules.proofs.Rows.{row_with}
 use Rattle.validation_rules.proofs.Steps.{some_injective, guard_some}
 use Rattle.validation_rules.proofs.Valid.{label_at_valid, heads_valid}
 use Rattle.validate_stacks.specs.Steps.{head_of}
 use Rattle.validate_stacks.specs.Pops.{body_popped_each, body_pushed_each}
-use Rattle.validate_stacks.specs.State.{BodyState, IsValid, body_context}
+use Rattle.validate_stacks.specs.State.{BodyState, IsValidBody, body_context}
 use Rattle.validate_stacks.specs.Steps.{frame_at, type_and_kind, label_at, body_unreachable}
 use Rattle.validate_stacks.specs.Steps as steps
 use Rattle.validate_stacks.specs.Visits.{step_body}
@@ -73,7 +73,7 @@ module _ (md : ModuleContext) (v : BodyState) (f : Frame) (fs : List Frame) (e :
       ∙ ap (λ (r : Row). option_map (λ (s : State). record v { present = s }) (step_in cx (staying_operator (λ _. r)) (f ∷ fs) v.present.left)) (ap (λ gs. row cx (heads gs)) (sym e) ∙ h)
       ∙ guarded p (all_fit cx (operands_found (length wanted) f) wanted && all_fit_each cx (operands_found (length wanted) f) also)
     where
-      guarded : (p q : Bool) → option_map (λ (s : State). record v { present = s }) (state_if_pushed v.present.left cx (row_with p None wanted also push None targets [] dead) (locals_set (f ∷ fs)) f fs Stays (guard (p && true) (guard q (Some (map Known push))))) ≡ guard p (guard q (Some (with_frame v (frame_then wanted push dead) fs)))
+      guarded : (p q : Bool) → option_map (λ (s : State). record v { present = s }) (option_map (state_after cx (row_with p None wanted also push None targets [] dead) (open_frames f fs v.present.left) Stays) (guard (p && true) (guard q (Some (map Known push))))) ≡ guard p (guard q (Some (with_frame v (frame_then wanted push dead) fs)))
       guarded true true = refl
       guarded true false = refl
       guarded false q = refl
@@ -123,7 +123,7 @@ module _ (md : ModuleContext) (v : BodyState) (o : v.present.frames ≢ []) (row
 -- ---- the types of a label
 
 -- they are valid
-pub label_valid : (md : ModuleContext) (v : BodyState) (d : ℕ) (ts : List ValType) → IsLawful md → IsValid md v → ts ≡ label_types_at (body_context md v) (heads v.present.frames) d → AllByRecursion (Valid md) ts
+pub label_valid : (md : ModuleContext) (v : BodyState) (d : ℕ) (ts : List ValType) → IsLawful md → IsValidBody md v → ts ≡ label_types_at (body_context md v) (heads v.present.frames) d → AllByRecursion (Valid md) ts
 label_valid md v d ts laws valid e =
     subst (AllByRecursion (Valid md)) (sym e) (label_at_valid (body_context md v) laws (heads v.present.frames) d (heads_valid (body_context md v) laws v.present.frames valid.frames))
 

@@ -7,7 +7,7 @@ use Rattle.validation_rules.specs.Context.{Context}
 use Rattle.validation_rules.specs.Rows.{Head, Row}
 use Rattle.validation_rules.specs.Static.{Frame, State, heads, step_in}
 use Rattle.validation_rules.specs.Operators.{row_operator, staying_operator}
-use Rattle.validate_stacks.specs.State.{BodyState, body_context, IsValid}
+use Rattle.validate_stacks.specs.State.{BodyState, body_context, IsValidBody}
 use Rattle.validate_stacks.specs.Visits.{step_body, Meets}
 use Rattle.validate_shapes.proofs.Meeting.{meets_refused, meets_as}
 
@@ -47,7 +47,7 @@ module _ (md : ModuleContext) (v : BodyState) (row : Context → List Head → R
 
   module _ (offset : ℕ) where
     -- a check was refused, memory aside because the premise doesn't hold
-    pub meets_barred : (r : Result (Unit {0}) Refusal) → OnOk r ⊥ → IfErr r (λ e. e.wants_memory ≡ false → row_now.premise ≡ false) → IfErr r (λ e. e.offset ≡ offset) → IsValid md v → Meets md (λ c. staying_operator (row c)) offset v r v
+    pub meets_barred : (r : Result (Unit {0}) Refusal) → OnOk r ⊥ → IfErr r (λ e. e.wants_memory ≡ false → row_now.premise ≡ false) → IfErr r (λ e. e.offset ≡ offset) → IsValidBody md v → Meets md (λ c. staying_operator (row c)) offset v r v
     meets_barred (Ok u) n h o valid = absurd n
     meets_barred (Err e) n h o valid = meets_refused md (λ c. staying_operator (row c)) offset v v (Err e) tt (λ m. barred (h m)) o valid refl
 

@@ -12,9 +12,11 @@ use Rattle.validation_rules.specs.Context.{I32, Ref, Context}
 use Rattle.validation_rules.specs.Fits.{MaybeType, Bottom, Known, fits, all_fit}
 use Rattle.validation_rules.specs.References.{operand_without_null, null_test_pushes, non_null_pushes, br_on_null_row, last_reference, last_without_null, br_on_non_null_row_for, br_on_non_null_row}
 use Rattle.validation_rules.specs.Rows.{Head, Stays, Target, guard}
-use Rattle.validation_rules.specs.Static.{Frame, State, heads, stack_with, operands_on_top, locals_set, state_if_pushed}
+use Rattle.validation_rules.specs.Static.{Frame, State, heads, stack_with, operands_on_top, state_after, open_frames}
 use Rattle.validation_rules.specs.Operators.{plain_row, lookup_row, looking_row, looking_row_if, row_operator, staying_operator}
+use Rattle.std.proofs.lemmas.List.{append_assoc, reverse-append}
 use Rattle.validation_rules.proofs.Rows.{row_with}
+use Rattle.validation_rules.proofs.Steps.{onto-next}
 use Rattle.validate_stacks.specs.Pops.{body_popped_each, body_pushed_each}
 use Rattle.validate_stacks.specs.State.{BodyState, body_context}
 use Rattle.validate_stacks.specs.Steps.{body_popped, body_pushed, label_at, type_and_kind}
@@ -28,12 +30,10 @@ use Rattle.validate_shapes.proofs.Found.{at_labels}
 -- ---- lists
 
 onto_above : {A : Type 0} (xs below : List A) (x : A) → stack_with xs (below ++ x ∷ []) ≡ stack_with xs below ++ x ∷ []
-onto_above [] below x = refl
-onto_above (y ∷ xs) below x = onto_above xs (y ∷ below) x
+onto_above xs below x = sym (append_assoc (reverse xs) below (x ∷ []))
 
 onto_last : {A : Type 0} (xs below : List A) (x : A) → stack_with (xs ++ x ∷ []) below ≡ x ∷ stack_with xs below
-onto_last [] below x = refl
-onto_last (y ∷ xs) below x = onto_last xs (y ∷ below) x
+onto_last xs below x = ap (λ l. l ++ below) (reverse-append xs (x ∷ []))
 
 drop_none : {A : Type 0} (n : ℕ) → drop {A = A} n [] ≡ []
 drop_none zero = refl
@@ -74,7 +74,7 @@ module _ (cx : Context) where
 module _ (md : ModuleContext) where
   abbrev at : Head → List MaybeType → Bool → List ℕ → List Frame → List MaybeType → Bool → WasmFeatures → List ValType → List Bool → Option State → BodyState
   at h own dead set fs left s n ls en un =
-      record { present = record { frames = record { head = h; operands = own; dead = dead; first_set = set } ∷ fs; left = left }; shared = s; features = n; locals = ls; entry = en; undone = un }
+      record { present = record { frames = record { head = h; operands = own; dead = dead; first_set = set } ∷ fs; left = left }; shared = s; features = n; locals = ls; set_at_entry = en; undone = un }
 
   -- what they leave of a reference on top: below it a list of types
   abbrev pub above_types : List ValType → BodyState → Option BodyState
@@ -85,7 +85,7 @@ module _ (md : ModuleContext) where
 
   module _ (h : Head) (set : List ℕ) (fs : List Frame) (left : List MaybeType) (s : Bool) (n : WasmFeatures) (ls : List ValType) (en : List Bool) (un : Option State) where
     abbrev cx_of : Context
-    cx_of = record { of_module = md; features = n; shared = s; locals = ls; entry = en }
+    cx_of = record { of_module = md; features = n; shared = s; locals = ls; set_at_entry = en }
 
     abbrev state_of : List MaybeType → Bool → BodyState
     state_of own dead = at h own dead set fs left s n ls en un
@@ -97,18 +97,18 @@ module _ (md : ModuleContext) where
     looked : (b : Bool) (k : ℕ) (gives : Context → List MaybeType → Option (List MaybeType)) (targets : List Target) (own : List MaybeType) (dead : Bool) → step_body md (λ c. row_operator (record (looking_row_if b k (gives c)) { targets = targets })) (state_of own dead) ≡ guard b (option_map (λ ps. state_of (stack_with ps (drop k own)) dead) (gives cx_of (stack_with (operands_on_top k dead own) [])))
     looked b k gives targets own dead = by b (gives cx_of (stack_with (operands_on_top k dead own) []))
       where
-        by : (b : Bool) (o : Option (List MaybeType)) → option_map (λ (u : State). record (state_of own dead) { present = u }) (state_if_pushed left cx_of (record (looking_row_if b k (gives cx_of)) { targets = targets }) (locals_set (frame_of own dead ∷ fs)) (frame_of own dead) fs Stays (guard (b && true) o)) ≡ guard b (option_map (λ ps. state_of (stack_with ps (drop k own)) dead) o)
+        by : (b : Bool) (o : Option (List MaybeType)) → option_map (λ (u : State). record (state_of own dead) { present = u }) (option_map (state_after cx_of (record (looking_row_if b k (gives cx_of)) { targets = targets }) (open_frames (frame_of own dead) fs left) Stays) (guard (b && true) o)) ≡ guard b (option_map (λ ps. state_of (stack_with ps (drop k own)) dead) o)
         by true (Some ps) = ap (λ d. Some (at h (stack_with ps (drop k own)) d set fs left s n ls en un)) (or_false dead)
         by true None = refl
         by false o = refl
 
     -- with this operand on top of the rest
-    by_rest : (ts : List ValType) (x : MaybeType) (own : List MaybeType) (dead : Bool) → option_map (λ ps. state_of (stack_with ps (drop (length ts) own)) dead) (non_null_pushes cx_of ts (stack_with (operands_on_top (length ts) dead own) (x ∷ []))) ≡ option_and_then (λ y. option_map (λ u. body_pushed y (body_pushed_each ts u)) (body_popped_each md (reverse ts) (state_of own dead))) (operand_without_null x)
+    by_rest : (ts : List ValType) (x : MaybeType) (own : List MaybeType) (dead : Bool) → option_map (λ ps. state_of (stack_with ps (drop (length ts) own)) dead) (non_null_pushes cx_of ts (stack_with (x ∷ operands_on_top (length ts) dead own) [])) ≡ option_and_then (λ y. option_map (λ u. body_pushed y (body_pushed_each ts u)) (body_popped_each md (reverse ts) (state_of own dead))) (operand_without_null x)
     by_rest ts x own dead =
         let k = length ts in
         let front = stack_with (operands_on_top k dead own) [] in
         let below = state_of (drop k own) dead in
-        ap (option_map (λ ps. state_of (stack_with ps (drop k own)) dead)) (ap (non_null_pushes cx_of ts) (onto_above (operands_on_top k dead own) [] x) ∙ one_above cx_of ts front x)
+        ap (option_map (λ ps. state_of (stack_with ps (drop k own)) dead)) (ap (non_null_pushes cx_of ts) (onto-next x (operands_on_top k dead own) [] ∙ onto_above (operands_on_top k dead own) [] x) ∙ one_above cx_of ts front x)
         ∙ (by (all_fit cx_of front ts) (operand_without_null x)
         ∙ ap (λ o. option_and_then (λ y. option_map (λ u. body_pushed y (body_pushed_each ts u)) o) (operand_without_null x)) (sym (popped_whole md (state_of own dead) (frame_of own dead) fs ts refl)))
       where
@@ -129,7 +129,7 @@ module _ (md : ModuleContext) where
     above_in b ts targets [] true =
         looked b (suc (length ts)) (λ c. non_null_pushes c ts) targets [] true
         ∙ ap (guard b)
-        (ap (λ q. option_map (λ ps. state_of (stack_with ps q) true) (non_null_pushes cx_of ts (stack_with (operands_on_top (length ts) true []) (Bottom ∷ [])))) (sym (drop_none (length ts)))
+        (ap (λ q. option_map (λ ps. state_of (stack_with ps q) true) (non_null_pushes cx_of ts (stack_with (Bottom ∷ operands_on_top (length ts) true []) []))) (sym (drop_none (length ts)))
         ∙ by_rest ts Bottom [] true)
     above_in b ts targets [] false =
         looked b (suc (length ts)) (λ c. non_null_pushes c ts) targets [] false
@@ -152,7 +152,7 @@ module _ (md : ModuleContext) where
         by [] e = absurd (o e)
         by (f ∷ fs) e =
             ap (λ gs. step_body md (λ c. row_operator (record (looking_row_if b (suc (length ts)) (non_null_pushes c ts)) { targets = targets })) (record v { present = record { frames = gs; left = v.present.left } })) e
-            ∙ (above_in f.head f.first_set fs v.present.left v.shared v.features v.locals v.entry v.undone b ts targets f.operands f.dead
+            ∙ (above_in f.head f.first_set fs v.present.left v.shared v.features v.locals v.set_at_entry v.undone b ts targets f.operands f.dead
             ∙ ap (λ gs. guard b (above_types ts (record v { present = record { frames = gs; left = v.present.left } }))) (sym e))
 
     pub null_is : step_body md (λ c. row_operator (looking_row 1 null_test_pushes)) v ≡ null_tested v
@@ -162,7 +162,7 @@ module _ (md : ModuleContext) where
         by [] e = absurd (o e)
         by (f ∷ fs) e =
             ap (λ gs. step_body md (λ c. row_operator (looking_row 1 null_test_pushes)) (record v { present = record { frames = gs; left = v.present.left } })) e
-            ∙ (null_in f.head f.first_set fs v.present.left v.shared v.features v.locals v.entry v.undone f.operands f.dead
+            ∙ (null_in f.head f.first_set fs v.present.left v.shared v.features v.locals v.set_at_entry v.undone f.operands f.dead
             ∙ ap (λ gs. null_tested (record v { present = record { frames = gs; left = v.present.left } })) (sym e))
 
     -- a branch on null

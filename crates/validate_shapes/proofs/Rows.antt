@@ -2,18 +2,17 @@
 use Rattle.std.proofs.Common.{◌≡◌, ◌≢◌, ℕ, suc, Bool, true, false, ◌&&◌, ◌||◌, nat_le, List, [], ◌∷◌, map, reverse, length, slice_get, Option, Some, None, refl, sym, ap, ap₂, ◌∙◌}
 use Rattle.std.specs.Option.{option_map}
 use Rattle.std.proofs.Math.Dec.{leb-suc-suc, leb-suc-zero, leb-zero}
-use Rattle.std.proofs.lemmas.List.{length-reverse}
-use Rattle.std.specs.List.{list_any}
-use Rattle.std.specs.Prelude.{nat_eq}
+use Rattle.std.proofs.lemmas.List.{length-reverse, append-nil, reverse-reverse}
+use Rattle.std.specs.Prelude.{if◌then◌else◌, ◌++◌}
 use Rattle.validate_resources.specs.Context.{ModuleContext}
 use Rattle.validate_types.specs.declared.features.WasmFeatures.{WasmFeatures}
 use Rattle.validate_types.specs.declared.types.ValType.{ValType}
 use Rattle.validate_visit.specs.declared.frame.BlockType.{BlockType}
 use Rattle.validate_visit.specs.declared.frame.Frame.{Frame as FlatFrame}
-use Rattle.validation_rules.specs.Context.{Context, block_signature, is_set_at_entry}
+use Rattle.validation_rules.specs.Context.{Context, block_signature}
 use Rattle.validation_rules.specs.Fits.{MaybeType, Known, fits, all_fit}
 use Rattle.validation_rules.specs.Rows.{FrameKind, Else, is_if, Head, params, results, Stays, Ends, Row, Operator, guard}
-use Rattle.validation_rules.specs.Static.{Frame, State, stack_with, operands_on_top, operands_found, operands_under, may_close, opened_frame, state_after_exit, state_if_pushed, step, step_in, locals_set, is_set, is_read_local_set, first_set_after}
+use Rattle.validation_rules.specs.Static.{Frame, State, stack_with, operands_on_top, operands_found, operands_under, may_close, opened_frame, state_after_exit, state_after, open_frames, step, step_in, locals_set, is_local_set, is_read_local_set, first_set_after}
 use Rattle.validation_rules.proofs.Steps.{if_fits, joined}
 use Rattle.validation_rules.specs.Operators.{plain_row, plain_row_if, never_row, looking_row, drop_pushes, row_operator, delimiter_operator, lookup_row, local_get_row, local_set_row, local_tee_row}
 use Rattle.validation_rules.proofs.Pops.{and_false, fit_turned}
@@ -21,7 +20,7 @@ use Rattle.validate_stacks.specs.Blocks.{closed_body, closed_body_in, body_with_
 use Rattle.validate_stacks.specs.Steps.{head_of}
 use Rattle.validate_stacks.specs.Pops.{body_popped_each, body_pushed_each, IsKept}
 use Rattle.validate_stacks.specs.State.{BodyState, body_context}
-use Rattle.validate_stacks.specs.Steps.{found_in_frames, frame_at, body_popped, is_set_in_body, body_with_local_set, frames_setting}
+use Rattle.validate_stacks.specs.Steps.{found_in_frames, frame_at, body_popped, body_with_local_set, frames_first_setting}
 use Rattle.validate_stacks.specs.Steps as steps
 use Rattle.validate_stacks.specs.Visits.{step_body}
 use Rattle.validate_stacks.proofs.Whole.{with_frame, popped_none, popped_whole, pushed_whole, pushed_over}
@@ -50,7 +49,7 @@ module _ (md : ModuleContext) (v : BodyState) (f : Frame) (fs : List Frame) (e :
   stepped_in : (op : Context → Operator) → step_body md op v ≡ option_map (λ (s : State). record v { present = s }) (step_in cx (op cx) (f ∷ fs) v.present.left)
   stepped_in op = ap (λ gs. option_map (λ (s : State). record v { present = s }) (step_in cx (op cx) gs v.present.left)) e
 
-  guarded : (p q : Bool) (pushed : List MaybeType) (own : List MaybeType) (first : List ℕ) (r : Row) → r.ends_live ≡ false → option_map (λ (s : State). record v { present = s }) (state_if_pushed v.present.left cx r set_now f fs Stays (guard p (guard (q && true) (Some pushed)))) ≡ guard (p && q) (option_map (λ (s : State). record v { present = s }) (state_if_pushed v.present.left cx r set_now f fs Stays (Some pushed)))
+  guarded : (p q : Bool) (pushed : List MaybeType) (own : List MaybeType) (first : List ℕ) (r : Row) → r.ends_live ≡ false → option_map (λ (s : State). record v { present = s }) (option_map (state_after cx r (open_frames f fs v.present.left) Stays) (guard p (guard (q && true) (Some pushed)))) ≡ guard (p && q) (option_map (λ (s : State). record v { present = s }) (option_map (state_after cx r (open_frames f fs v.present.left) Stays) (Some pushed)))
   guarded true true pushed own first r d = refl
   guarded true false pushed own first r d = refl
   guarded false q pushed own first r d = refl
@@ -69,7 +68,7 @@ set_after (Some i) u = body_with_local_set i u
 -- the local that the row reads is set
 abbrev pub reads_in : BodyState → Option ℕ → Bool
 reads_in v None = true
-reads_in v (Some i) = is_set_in_body v i
+reads_in v (Some i) = is_local_set v.set_at_entry (locals_set v.present.frames) i
 
 split : {A : Type 0} (p q : Bool) (g : A → A) (y x : A) → g y ≡ x → guard (p && q) (Some x) ≡ guard p (option_map g (guard q (Some y)))
 split true true g y x h = ap Some (sym h)
@@ -77,11 +76,16 @@ split true false g y x h = refl
 split false q g y x h = refl
 
 module _ (md : ModuleContext) (v : BodyState) (f : Frame) (fs : List Frame) (e : v.present.frames ≡ f ∷ fs) where
+  -- by whether the local is set already
+  pushed_by : (b : Bool) (i : ℕ) (g : Frame) (ps : List ValType) → body_pushed_each ps (if b then with_frame v g fs else with_frame v (record g { first_set = g.first_set ++ i ∷ [] }) fs) ≡ with_frame v (record g { operands = stack_with (map Known ps) g.operands; first_set = joined b g.first_set i }) fs
+  pushed_by true i g ps = pushed_whole ps (with_frame v g fs) g fs refl
+  pushed_by false i g ps =
+      let h : Frame = record g { first_set = g.first_set ++ i ∷ [] } in
+      pushed_whole ps (with_frame v h fs) h fs refl
+
   then_pushed : (sets : Option ℕ) (wanted ps : List ValType) → body_pushed_each ps (set_after sets (with_frame v (record f { operands = operands_under (length wanted) f }) fs)) ≡ with_frame v (frame_then md v f fs e wanted ps sets) fs
   then_pushed None wanted ps = pushed_whole ps (with_frame v (record f { operands = operands_under (length wanted) f }) fs) (record f { operands = operands_under (length wanted) f }) fs refl
-  then_pushed (Some i) wanted ps =
-      let g : Frame = record f { operands = operands_under (length wanted) f; first_set = joined (is_set (body_context md v) (locals_set (f ∷ fs)) i) f.first_set i } in
-      pushed_whole ps (with_frame v g fs) g fs refl
+  then_pushed (Some i) wanted ps = pushed_by (is_local_set v.set_at_entry (locals_set (f ∷ fs)) i) i (record f { operands = operands_under (length wanted) f }) ps
 
   row_of : (reads sets : Option ℕ) (wanted ps : List ValType) → step_body md (λ c. row_operator (local_row reads sets wanted ps)) v ≡ guard (is_read_local_set (body_context md v) (locals_set (f ∷ fs)) reads) (option_map (λ u. body_pushed_each ps (set_after sets u)) (body_popped_each md (reverse wanted) v))
   row_of reads sets wanted ps =
@@ -91,7 +95,7 @@ module _ (md : ModuleContext) (v : BodyState) (f : Frame) (fs : List Frame) (e :
 
   reads_same : (reads : Option ℕ) → is_read_local_set (body_context md v) (locals_set (f ∷ fs)) reads ≡ reads_in v reads
   reads_same None = refl
-  reads_same (Some i) = ap (λ gs. list_any (nat_eq i) (locals_set gs) || is_set_at_entry (body_context md v) i) (sym e)
+  reads_same (Some i) = ap (λ gs. is_local_set v.set_at_entry (locals_set gs) i) (sym e)
 
 -- pops of the wanted types, perhaps the setting of a local, and pushes: the row's step
 pub row_then : (md : ModuleContext) (v : BodyState) (reads sets : Option ℕ) (wanted ps : List ValType) → v.present.frames ≢ [] → step_body md (λ c. row_operator (local_row reads sets wanted ps)) v ≡ guard (reads_in v reads) (option_map (λ u. body_pushed_each ps (set_after sets u)) (body_popped_each md (reverse wanted) v))
@@ -133,11 +137,11 @@ module _ (md : ModuleContext) (v : BodyState) (i : ℕ) where
   pub no_local_tee : slice_get v.locals i ≡ None → step_body md (λ c. row_operator (local_tee_row c i)) v ≡ None
   no_local_tee h = same_row md v (λ c. row_operator (local_tee_row c i)) (row_operator never_row) (ap (λ o. row_operator (lookup_row o (λ t. local_row None (Some i) (t ∷ []) (t ∷ [])))) h) ∙ not_plain md v [] []
 
-  pub local_get_is : (t : ValType) → slice_get v.locals i ≡ Some t → v.present.frames ≢ [] → step_body md (λ c. row_operator (local_get_row c i)) v ≡ guard (is_set_in_body v i) (Some (body_pushed_each (t ∷ []) v))
+  pub local_get_is : (t : ValType) → slice_get v.locals i ≡ Some t → v.present.frames ≢ [] → step_body md (λ c. row_operator (local_get_row c i)) v ≡ guard (is_local_set v.set_at_entry (locals_set v.present.frames) i) (Some (body_pushed_each (t ∷ []) v))
   local_get_is t h o =
       same_row md v (λ c. row_operator (local_get_row c i)) (row_operator (local_row (Some i) None [] (t ∷ []))) (ap (λ o. row_operator (lookup_row o (λ t. local_row (Some i) None [] (t ∷ [])))) h)
       ∙ row_then md v (Some i) None [] (t ∷ []) o
-      ∙ ap (λ o. guard (is_set_in_body v i) (option_map (λ u. body_pushed_each (t ∷ []) u) o)) (popped_none md v)
+      ∙ ap (λ o. guard (is_local_set v.set_at_entry (locals_set v.present.frames) i) (option_map (λ u. body_pushed_each (t ∷ []) u) o)) (popped_none md v)
 
   pub local_set_is : (t : ValType) → slice_get v.locals i ≡ Some t → v.present.frames ≢ [] → step_body md (λ c. row_operator (local_set_row c i)) v ≡ option_map (λ u. body_with_local_set i u) (body_popped_each md (t ∷ []) v)
   local_set_is t h o =
@@ -154,7 +158,7 @@ module _ (md : ModuleContext) (v : BodyState) (i : ℕ) where
 module _ (md : ModuleContext) where
   abbrev at : Head → List MaybeType → Bool → List ℕ → List Frame → List MaybeType → Bool → WasmFeatures → List ValType → List Bool → Option State → BodyState
   at h own dead set fs left s n ls en un =
-      record { present = record { frames = record { head = h; operands = own; dead = dead; first_set = set } ∷ fs; left = left }; shared = s; features = n; locals = ls; entry = en; undone = un }
+      record { present = record { frames = record { head = h; operands = own; dead = dead; first_set = set } ∷ fs; left = left }; shared = s; features = n; locals = ls; set_at_entry = en; undone = un }
 
   drop_in : (h : Head) (own : List MaybeType) (dead : Bool) (set : List ℕ) (fs : List Frame) (left : List MaybeType) (s : Bool) (n : WasmFeatures) (ls : List ValType) (en : List Bool) (un : Option State) → step_body md (λ c. row_operator (looking_row 1 drop_pushes)) (at h own dead set fs left s n ls en un) ≡ option_map (λ _. body_popped (at h own dead set fs left s n ls en un)) (found_in_frames (record { head = h; operands = own; dead = dead; first_set = set } ∷ fs))
   drop_in h (x ∷ own) true set fs left s n ls en un = refl
@@ -169,7 +173,7 @@ module _ (md : ModuleContext) where
       by [] e = ap (λ gs. option_map (λ (s : State). record v { present = s }) (step_in (body_context md v) (row_operator (looking_row 1 drop_pushes)) gs v.present.left)) e ∙ sym (ap (λ gs. option_map (λ _. body_popped v) (found_in_frames gs)) e)
       by (f ∷ fs) e =
           ap (λ gs. step_body md (λ c. row_operator (looking_row 1 drop_pushes)) (record v { present = record { frames = gs; left = v.present.left } })) e
-          ∙ drop_in f.head f.operands f.dead f.first_set fs v.present.left v.shared v.features v.locals v.entry v.undone
+          ∙ drop_in f.head f.operands f.dead f.first_set fs v.present.left v.shared v.features v.locals v.set_at_entry v.undone
           ∙ ap (λ gs. option_map (λ _. body_popped (record v { present = record { frames = gs; left = v.present.left } })) (found_in_frames gs)) (sym e)
 
 -- ---- `end`
@@ -191,11 +195,7 @@ module _ (cx : Context) where
       ∙ ap (λ b. fits cx x w && b) (whole_top own ws)
 
   onto_twice : (xs : List MaybeType) → stack_with (stack_with xs []) [] ≡ xs
-  onto_twice xs = twice xs []
-    where
-      twice : (xs ys : List MaybeType) → stack_with (stack_with xs ys) [] ≡ stack_with ys xs
-      twice [] ys = refl
-      twice (x ∷ xs) ys = twice xs (x ∷ ys)
+  onto_twice xs = append-nil (reverse (reverse xs ++ [])) ∙ ap reverse (append-nil (reverse xs)) ∙ reverse-reverse xs
 
   -- an empty part gives its parameters as its results
   pub else_closes : (h : Head) → may_close cx (opened_frame h (params cx h)) ≡ all_fit cx (map Known (params cx h)) (results cx h)
@@ -222,7 +222,7 @@ module _ (md : ModuleContext) (v : BodyState) (r : FlatFrame) (h : frame_at v 0 
       ap (λ gs. option_map (λ (s : State). record v { present = s }) (step_in (body_context md v) (delimiter_operator Ends) gs v.present.left)) inner.is
       ∙ ended (if_fits (body_context md v) (is_if inner.frame.head.kind) inner.frame.head && may_close (body_context md v) inner.frame)
     where
-      ended : (b : Bool) → option_map (λ (s : State). record v { present = s }) (state_if_pushed v.present.left (body_context md v) (plain_row [] []) (locals_set (inner.frame ∷ inner.outer)) inner.frame inner.outer Ends (guard b (Some []))) ≡ guard b (Some (record v { present = state_after_exit v.present.left (results (body_context md v) inner.frame.head) inner.outer }))
+      ended : (b : Bool) → option_map (λ (s : State). record v { present = s }) (option_map (state_after (body_context md v) (plain_row [] []) (open_frames inner.frame inner.outer v.present.left) Ends) (guard b (Some []))) ≡ guard b (Some (record v { present = state_after_exit v.present.left (results (body_context md v) inner.frame.head) inner.outer }))
       ended true = refl
       ended false = refl
 

@@ -7,7 +7,7 @@ ghost use Rattle.validation_rules.specs.References.{operand_without_null};
 ghost use Rattle.validation_rules.specs.Valid.{IsValidOperand};
 ghost use Rattle.validate_stacks.specs.Attempts.{phase_moved};
 ghost use Rattle.validate_stacks.specs.Pops.{IsKept};
-ghost use Rattle.validate_stacks.specs.State.{IsValid};
+ghost use Rattle.validate_stacks.specs.State.{IsValidBody};
 ghost use Rattle.validate_stacks.specs.Steps.{found_in_body as top, body_popped, body_pushed};
 
 use validate_resources::WasmModuleResources;
@@ -53,14 +53,14 @@ pub fn pop_non_null_ref<R: WasmModuleResources>(
     resources: &R,
     offset: u64,
 ) -> Result<MaybeType, Error>
-    requires { IsValid (R.context resources.now) stacks.old.body }
+    requires { IsValidBody (R.context resources.now) stacks.old.body }
     ensures given { IfOk result (λ t. option_and_then operand_without_null (top stacks.old.body) ≡ Some t) }
     ensures operand { IfOk result (λ t. IsValidOperand (R.context resources.now) t) }
     ensures popped { OnOk result (stacks.new.body ≡ body_popped stacks.old.body) }
     ensures refused { IfErr result (λ e. e.wants_memory ≡ false
         → option_and_then operand_without_null (top stacks.old.body) ≡ None) }
     ensures phase { phase_moved stacks.new.phase ≡ phase_moved stacks.old.phase }
-    ensures valid { IsValid (R.context resources.now) stacks.new.body }
+    ensures valid { IsValidBody (R.context resources.now) stacks.new.body }
     ensures kept { IsKept stacks.old.body stacks.new.body }
     ensures offset { IfErr result (λ e. e.offset ≡ offset) }
 {
@@ -74,8 +74,8 @@ pub fn push_found(stacks: &mut Stacks, offset: u64, found: MaybeType) -> Result<
     ensures pushed { OnOk result (stacks.new.body ≡ body_pushed found stacks.old.body) }
     ensures memory { IfErr result (λ e. e.wants_memory ≡ true) }
     ensures offset { IfErr result (λ e. e.offset ≡ offset) }
-    ensures valid { (md : ModuleContext) → IsValidOperand md found → IsValid md stacks.old.body
-        → IsValid md stacks.new.body }
+    ensures valid { (md : ModuleContext) → IsValidOperand md found → IsValidBody md stacks.old.body
+        → IsValidBody md stacks.new.body }
     ensures kept { IsKept stacks.old.body stacks.new.body }
 {
     match stacks.push_operand(found) {

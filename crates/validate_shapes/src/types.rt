@@ -5,7 +5,7 @@ ghost use Rattle.std.specs.List.{AllByRecursion};
 ghost use Rattle.validate_resources.specs.Context.{ModuleContext, Valid};
 ghost use Rattle.validation_rules.specs.Operators.{row_operator};
 ghost use Rattle.validate_stacks.specs.Pops.{body_popped_each, body_pushed_each, IsKept};
-ghost use Rattle.validate_stacks.specs.State.{IsValid};
+ghost use Rattle.validate_stacks.specs.State.{IsValidBody};
 ghost use Rattle.validate_stacks.specs.Visits.{MayVisit, Meets};
 ghost use Rattle.validate_shapes.specs.Types.{few_types, types_row, AreValid};
 
@@ -44,13 +44,13 @@ fn pop_few<R: WasmModuleResources>(
     wanted: Few,
 ) -> Result<(), Error>
     requires types { AllByRecursion (Valid (R.context resources.now)) (few_types wanted) }
-    requires state { IsValid (R.context resources.now) stacks.old.body }
+    requires state { IsValidBody (R.context resources.now) stacks.old.body }
     ensures passed { OnOk result (body_popped_each (R.context resources.now) (reverse (few_types wanted))
         stacks.old.body ≡ Some stacks.new.body) }
     ensures refused { IfErr result (λ e. e.wants_memory ≡ false
         → body_popped_each (R.context resources.now) (reverse (few_types wanted)) stacks.old.body ≡ None) }
     ensures offset { IfErr result (λ e. e.offset ≡ offset) }
-    ensures valid { IsValid (R.context resources.now) stacks.new.body }
+    ensures valid { IsValidBody (R.context resources.now) stacks.new.body }
     ensures kept { IsKept stacks.old.body stacks.new.body }
 {
     match wanted {
@@ -68,7 +68,7 @@ fn push_few(stacks: &mut Stacks, offset: u64, types: Few) -> Result<(), Error>
     ensures memory { IfErr result (λ e. e.wants_memory ≡ true) }
     ensures offset { IfErr result (λ e. e.offset ≡ offset) }
     ensures valid { (md : ModuleContext) → AllByRecursion (Valid md) (few_types types)
-        → IsValid md stacks.old.body → IsValid md stacks.new.body }
+        → IsValidBody md stacks.old.body → IsValidBody md stacks.new.body }
     ensures kept { IsKept stacks.old.body stacks.new.body }
 {
     match types {

@@ -17,7 +17,7 @@ use Rattle.validate_stacks.specs.Attempts.{innermost_first_set}
 use Rattle.validate_stacks.specs.Blocks.{closed_body_in, closed_body, body_with_block}
 use Rattle.validate_stacks.specs.Flat.{with_heights}
 use Rattle.validate_stacks.specs.Pops.{body_popped_each, body_pushed_each}
-use Rattle.validate_stacks.specs.State.{BodyState, body_context, IsValid}
+use Rattle.validate_stacks.specs.State.{BodyState, body_context, IsValidBody}
 use Rattle.validate_stacks.specs.Steps.{innermost_operands, head_of, body_with_frame, body_without_frame, frame_at}
 use Rattle.validate_stacks.proofs.Whole.{with_frame, popped_whole, pushed_whole}
 
@@ -51,14 +51,14 @@ innermost v r h = by v.present.frames refl
         record { frame = f; outer = fs; is = e; kind = cc; block_type = cc }
 
 -- its block type resolves
-pub block_valid : (md : ModuleContext) (v : BodyState) (r : FlatFrame) → frame_at v 0 ≡ Some r → IsValid md v → IsValidBlock md v.shared r.block_type
+pub block_valid : (md : ModuleContext) (v : BodyState) (r : FlatFrame) → frame_at v 0 ≡ Some r → IsValidBody md v → IsValidBlock md v.shared r.block_type
 block_valid md v r h w =
     let i = innermost v r h in
     let all = rw i.is at w.frames in
     subst (IsValidBlock md v.shared) i.block_type all.0.block
 
 -- its results are valid
-pub wants_valid : (md : ModuleContext) (v : BodyState) (r : FlatFrame) (rs : List ValType) → IsLawful md → frame_at v 0 ≡ Some r → IsValid md v → rs ≡ (block_signature md r.block_type).results → AllByRecursion (Valid md) rs
+pub wants_valid : (md : ModuleContext) (v : BodyState) (r : FlatFrame) (rs : List ValType) → IsLawful md → frame_at v 0 ≡ Some r → IsValidBody md v → rs ≡ (block_signature md r.block_type).results → AllByRecursion (Valid md) rs
 wants_valid md v r rs laws h w e = subst (AllByRecursion (Valid md)) (sym e) (results_valid md laws v.shared r.block_type (block_valid md v r h w))
 
 empty_own : (l : List MaybeType) → 0 < length l → is_empty l ≡ false
@@ -132,10 +132,10 @@ entered_is md kind bt v u ps e o =
     ∙ pushed_whole ps (body_with_frame kind bt v) (opened_frame (head_of kind bt) []) v.present.frames refl
     ∙ ap (λ (ts : List ValType). record v { present = record { frames = opened_frame (head_of kind bt) ts ∷ v.present.frames; left = v.present.left } }) e
 
-pub opened_valid : (md : ModuleContext) (kind : FrameKind) (bt : BlockType) (v u : BodyState) → u ≡ body_with_frame kind bt v → IsValidBlock md v.shared bt → IsValid md v → IsValid md u
+pub opened_valid : (md : ModuleContext) (kind : FrameKind) (bt : BlockType) (v u : BodyState) → u ≡ body_with_frame kind bt v → IsValidBlock md v.shared bt → IsValidBody md v → IsValidBody md u
 opened_valid md kind bt v u o b w =
-    let opens : IsValid md (body_with_frame kind bt v) = record { locals_valid = w.locals_valid; frames = (record { block = b; operands = tt }, w.frames); left = w.left } in
-    subst (IsValid md) (sym o) opens
+    let opens : IsValidBody md (body_with_frame kind bt v) = record { locals_valid = w.locals_valid; frames = (record { block = b; operands = tt }, w.frames); left = w.left } in
+    subst (IsValidBody md) (sym o) opens
 
 -- its parameters are valid
 pub takes_valid : (md : ModuleContext) (shared : Bool) (bt : BlockType) (ps : List ValType) → IsLawful md → IsValidBlock md shared bt → ps ≡ (block_signature md bt).params → AllByRecursion (Valid md) ps

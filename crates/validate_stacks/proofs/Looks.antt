@@ -8,7 +8,7 @@ use Rattle.validate_visit.specs.declared.frame.Frame.{Frame as FlatFrame}
 use Rattle.validation_rules.specs.Fits.{MaybeType, Bottom}
 use Rattle.validation_rules.specs.Static.{Frame, State, heads}
 use Rattle.validate_stacks.specs.Flat.{flat_state, with_heights}
-use Rattle.validation_rules.specs.Pops.{operand_on_top}
+use Rattle.validation_rules.specs.Pops.{found_by_pop}
 use Rattle.validate_stacks.specs.Steps.{type_and_kind, found_after_pops_in_frames, innermost_operands, body_without_first, frames_owning, body_popped, body_marked, frames_unreachable, body_unreachable}
 use Rattle.validate_stacks.specs.State.{BodyState}
 use Rattle.validate_stacks.proofs.Cuts.{state_of}
@@ -28,7 +28,7 @@ pub none_found : (fs : List FlatFrame) (ops : List MaybeType) (is : List ℕ) (d
 none_found [] ops is d h = refl
 none_found (g ∷ gs) ops is d h = cc
 
-top_get : (d n : ℕ) (ops : List MaybeType) (dead : Bool) → d < n → n ≤ length ops → slice_get ops d ≡ operand_on_top dead (drop d (take n ops))
+top_get : (d n : ℕ) (ops : List MaybeType) (dead : Bool) → d < n → n ≤ length ops → slice_get ops d ≡ found_by_pop dead (drop d (take n ops))
 top_get d zero ops dead h k = absurd (omega (arith, h))
 top_get d (suc n) [] dead h k = absurd (omega (arith, k))
 top_get zero (suc n) (x ∷ ops) dead h k = refl
@@ -42,7 +42,7 @@ own_found (g ∷ gs) f ops is d h k =
     let within : d < length ops - g.height = subst (λ (q : FlatFrame). d < length ops - q.height) (sym same) k in
     top_get d (length ops - g.height) ops g.unreachable within (omega arith)
 
-top_none : (dead : Bool) → operand_on_top dead [] ≡ cond dead (Some Bottom) None
+top_none : (dead : Bool) → found_by_pop dead [] ≡ cond dead (Some Bottom) None
 top_none true = refl
 top_none false = refl
 
@@ -54,7 +54,7 @@ below_found (g ∷ gs) f ops is d h k =
     let past : length ops - g.height ≤ d = subst (λ (q : FlatFrame). length ops - q.height ≤ d) (sym same) k in
     let count = length-take-le (length ops - g.height) ops (omega arith) in
     let none : drop d (take (length ops - g.height) ops) ≡ [] = drop_all d (take (length ops - g.height) ops) (omega (arith, count, past)) in
-    sym (ap (λ l. operand_on_top g.unreachable l) none ∙ (top_none g.unreachable ∙ ap (λ (q : FlatFrame). cond q.unreachable (Some Bottom) None) same))
+    sym (ap (λ l. found_by_pop g.unreachable l) none ∙ (top_none g.unreachable ∙ ap (λ (q : FlatFrame). cond q.unreachable (Some Bottom) None) same))
 
 -- ---- the mark
 

@@ -1,12 +1,13 @@
 -- What the pops of an operator leave of an attempt, and what the start of one allows.
-use Rattle.std.specs.Prelude.{unwrap_or}
+use Rattle.std.specs.Prelude.{unwrap_or, is_none, ◌||◌}
+use Rattle.validate_transaction.specs.TakeBack.{is_empty}
 use Rattle.std.proofs.Common.{◌≡◌, ℕ, List, [], ◌∷◌, Bool, true, Option, Some, None, IsSome, refl, sym, ◌∙◌, ap, subst}
 use Rattle.validation_rules.specs.Static.{State}
-use Rattle.validate_stacks.specs.Attempts.{Phase, Clean, Moved, Set, Framed, Unset, Marked, Stacked, phase_moved, is_clean, is_quiet, is_setting, has_none_unset, is_unmarked, is_idle_or, may_attempt, may_step, may_frame, may_set, may_unset, innermost_first_set, is_empty_or, stacks_begun, stacks_rolled_back}
+use Rattle.validate_stacks.specs.Attempts.{Phase, Clean, Moved, Set, Framed, Unset, Marked, Stacked, phase_moved, is_clean, is_quiet, is_setting, has_none_unset, is_unmarked, may_attempt, may_step, may_frame, may_set, may_unset, innermost_first_set, stacks_begun, stacks_rolled_back}
 use Rattle.validate_resources.specs.Context.{ModuleContext}
 use Rattle.validation_rules.specs.Valid.{IsValidState}
 use Rattle.validate_stacks.specs.Pops.{IsKept}
-use Rattle.validate_stacks.specs.State.{BodyState, IsValid, IsUndoneValid}
+use Rattle.validate_stacks.specs.State.{BodyState, IsValidBody, IsUndoneValid}
 
 unmarked_moved : (p : Phase) → is_unmarked (phase_moved p) ≡ is_unmarked p
 unmarked_moved Clean = refl
@@ -32,23 +33,23 @@ setting_moved Framed = refl
 setting_moved Unset = refl
 setting_moved Marked = refl
 
-unclosed_after : (v w : Stacked) → IsKept v.body w.body → phase_moved w.phase ≡ phase_moved v.phase → is_idle_or v.body.undone (has_none_unset v.phase) ≡ true → is_idle_or w.body.undone (has_none_unset w.phase) ≡ true
+unclosed_after : (v w : Stacked) → IsKept v.body w.body → phase_moved w.phase ≡ phase_moved v.phase → (is_none v.body.undone || (has_none_unset v.phase)) ≡ true → (is_none w.body.undone || (has_none_unset w.phase)) ≡ true
 unclosed_after v w k e h =
-    ap (λ b. is_idle_or w.body.undone b) (sym (unclosed_moved w.phase) ∙ ap has_none_unset e ∙ unclosed_moved v.phase)
-    ∙ ap (λ (u : Option State). is_idle_or u (has_none_unset v.phase)) (ap (λ x. x.undone) k) ∙ h
+    ap (λ b. (is_none w.body.undone || b)) (sym (unclosed_moved w.phase) ∙ ap has_none_unset e ∙ unclosed_moved v.phase)
+    ∙ ap (λ (u : Option State). (is_none u || (has_none_unset v.phase))) (ap (λ x. x.undone) k) ∙ h
 
 -- pops and pushes leave what may still be done
 pub frame_after : (v w : Stacked) → IsKept v.body w.body → phase_moved w.phase ≡ phase_moved v.phase → may_frame v ≡ true → may_frame w ≡ true
 frame_after v w k e h =
-    ap (λ b. is_idle_or w.body.undone b) (sym (unmarked_moved w.phase) ∙ ap is_unmarked e ∙ unmarked_moved v.phase)
-    ∙ ap (λ (u : Option State). is_idle_or u (is_unmarked v.phase)) (ap (λ x. x.undone) k) ∙ h
+    ap (λ b. (is_none w.body.undone || b)) (sym (unmarked_moved w.phase) ∙ ap is_unmarked e ∙ unmarked_moved v.phase)
+    ∙ ap (λ (u : Option State). (is_none u || (is_unmarked v.phase))) (ap (λ x. x.undone) k) ∙ h
 
 pub set_after : (v w : Stacked) → IsKept v.body w.body → phase_moved w.phase ≡ phase_moved v.phase → may_set v ≡ true → may_set w ≡ true
 set_after v w k e h =
-    ap (λ b. is_idle_or w.body.undone b) (sym (setting_moved w.phase) ∙ ap is_setting e ∙ setting_moved v.phase)
-    ∙ ap (λ (u : Option State). is_idle_or u (is_setting v.phase)) (ap (λ x. x.undone) k) ∙ h
+    ap (λ b. (is_none w.body.undone || b)) (sym (setting_moved w.phase) ∙ ap is_setting e ∙ setting_moved v.phase)
+    ∙ ap (λ (u : Option State). (is_none u || (is_setting v.phase))) (ap (λ x. x.undone) k) ∙ h
 
-split : (l : List ℕ) (b : Bool) → b ≡ true → is_empty_or l b ≡ true
+split : (l : List ℕ) (b : Bool) → b ≡ true → (is_empty l || b) ≡ true
 split [] b h = refl
 split (i ∷ l) b h = h
 
@@ -56,14 +57,14 @@ split (i ∷ l) b h = h
 pub unset_after : (v w : Stacked) → IsKept v.body w.body → phase_moved w.phase ≡ phase_moved v.phase → innermost_first_set w.body.present.frames ≡ innermost_first_set v.body.present.frames → may_unset v ≡ true → may_unset w ≡ true
 unset_after v w k e s h = by (innermost_first_set v.body.present.frames) s h
   where
-    by : (l : List ℕ) → innermost_first_set w.body.present.frames ≡ l → is_empty_or l (is_idle_or v.body.undone (has_none_unset v.phase)) ≡ true → may_unset w ≡ true
-    by [] n m = ap (λ l. is_empty_or l (is_idle_or w.body.undone (has_none_unset w.phase))) n
-    by (i ∷ l) n m = ap (λ l. is_empty_or l (is_idle_or w.body.undone (has_none_unset w.phase))) n ∙ unclosed_after v w k e m
+    by : (l : List ℕ) → innermost_first_set w.body.present.frames ≡ l → (is_empty l || ((is_none v.body.undone || (has_none_unset v.phase)))) ≡ true → may_unset w ≡ true
+    by [] n m = ap (λ l. (is_empty l || ((is_none w.body.undone || (has_none_unset w.phase))))) n
+    by (i ∷ l) n m = ap (λ l. (is_empty l || ((is_none w.body.undone || (has_none_unset w.phase))))) n ∙ unclosed_after v w k e m
 
 pub unset_none : (v : Stacked) → innermost_first_set v.body.present.frames ≡ [] → may_unset v ≡ true
-unset_none v n = ap (λ l. is_empty_or l (is_idle_or v.body.undone (has_none_unset v.phase))) n
+unset_none v n = ap (λ l. (is_empty l || ((is_none v.body.undone || (has_none_unset v.phase))))) n
 
-quiet_is : (u : Option State) (p : Phase) → is_idle_or u (is_quiet p) ≡ true → (is_idle_or u (is_unmarked p) ≡ true) × (is_idle_or u (has_none_unset p) ≡ true) × (is_idle_or u (is_setting p) ≡ true)
+quiet_is : (u : Option State) (p : Phase) → (is_none u || (is_quiet p)) ≡ true → ((is_none u || (is_unmarked p)) ≡ true) × ((is_none u || (has_none_unset p)) ≡ true) × ((is_none u || (is_setting p)) ≡ true)
 quiet_is None p h = (refl, refl, refl)
 quiet_is (Some u) Clean h = (refl, refl, refl)
 quiet_is (Some u) Moved h = (refl, refl, refl)
@@ -79,7 +80,7 @@ step_frame v h = (quiet_is v.body.undone v.phase h).0
 pub step_unset : (v : Stacked) → may_step v ≡ true → may_unset v ≡ true
 step_unset v h = split (innermost_first_set v.body.present.frames) _ (quiet_is v.body.undone v.phase h).1
 
-clean_quiet : (u : Option State) (p : Phase) → is_idle_or u (is_clean p) ≡ true → is_idle_or u (is_quiet p) ≡ true
+clean_quiet : (u : Option State) (p : Phase) → (is_none u || (is_clean p)) ≡ true → (is_none u || (is_quiet p)) ≡ true
 clean_quiet None p h = refl
 clean_quiet (Some u) Clean h = refl
 clean_quiet (Some u) Moved h = cc
@@ -94,7 +95,7 @@ attempt_step v h = clean_quiet v.body.undone v.phase h
 
 -- none is pending
 pub idle_step : (v : Stacked) → v.body.undone ≡ None → may_step v ≡ true
-idle_step v h = ap (λ (u : Option State). is_idle_or u (is_quiet v.phase)) h
+idle_step v h = ap (λ (u : Option State). (is_none u || (is_quiet v.phase))) h
 
 -- ---- a whole attempt
 
@@ -111,10 +112,10 @@ undone_whole v w n k =
 pub undone_valid : (md : ModuleContext) (v w : BodyState) → IsKept v w → IsUndoneValid md v → IsUndoneValid md w
 undone_valid md v w k h = subst (IsUndoneValid md) (sym k) h
 
-pub begun_valid : (md : ModuleContext) (v : Stacked) → IsValid md v.body → IsUndoneValid md (stacks_begun v).body
+pub begun_valid : (md : ModuleContext) (v : Stacked) → IsValidBody md v.body → IsUndoneValid md (stacks_begun v).body
 begun_valid md v h s e = subst (IsValidState md v.body.shared v.body.locals) (some_of v.body.present s e) h
 
-pub rolled_valid : (md : ModuleContext) (v : Stacked) → IsSome v.body.undone → IsUndoneValid md v.body → IsValid md (stacks_rolled_back v).body
+pub rolled_valid : (md : ModuleContext) (v : Stacked) → IsSome v.body.undone → IsUndoneValid md v.body → IsValidBody md (stacks_rolled_back v).body
 rolled_valid md v i h = by v.body.undone refl i
   where
     by : (u : Option State) → v.body.undone ≡ u → IsSome u → IsValidState md v.body.shared v.body.locals (unwrap_or v.body.undone v.body.present)

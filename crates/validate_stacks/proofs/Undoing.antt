@@ -1,6 +1,6 @@
 -- What a pending attempt comes back to: every change of the flat lists with its entry in the log leaves
 -- it, and it can still be taken back.
-use Rattle.std.proofs.Common.{◌≡◌, ℕ, zero, suc, ◌-◌, ◌<◌, ◌≤◌, List, [], ◌∷◌, ◌++◌, Bool, true, false, if◌then◌else◌, Option, Some, None, IsSome, MatchOption, length, take, drop, slice_get, refl, sym, ◌∙◌, ap, subst, arith, nat_lt, ◌⊎◌, inl, inr, length-append}
+use Rattle.std.proofs.Common.{◌≡◌, ℕ, zero, suc, ◌-◌, ◌<◌, ◌≤◌, List, [], ◌∷◌, ◌++◌, Bool, true, false, not, ◌||◌, if◌then◌else◌, Option, Some, None, IsSome, MatchOption, length, take, drop, slice_get, refl, sym, ◌∙◌, ap, subst, arith, nat_lt, ◌⊎◌, inl, inr, length-append}
 use Rattle.std.proofs.lemmas.Bool.{le-ltb}
 use Rattle.std.proofs.lemmas.List.{take_all, drop_all, append-nil, take-append-drop, take-append-le, length-take-le}
 use Rattle.validate_locals.specs.Inits.{AreFresh}
@@ -17,8 +17,8 @@ use Rattle.validate_visit.specs.declared.frame.Frame.{Frame as FlatFrame}
 use Rattle.validate_visit.specs.declared.frame.FrameKind.{FrameKind}
 use Rattle.validation_rules.specs.Fits.{MaybeType}
 use Rattle.validation_rules.specs.Static.{State}
-use Rattle.validate_stacks.specs.Attempts.{phase_moved, is_setting, has_none_unset, is_unmarked, may_frame, may_set, may_unset, is_empty_or, stacks_begun, stacks_rolled_back}
-use Rattle.validate_stacks.specs.Flat.{flat_state, state_with_frame, HasShape, frames_unmarked, undone_frames, inits_in_frames, undone_inits, undone_pending, phase_by, phase_of, CanUndo, CanUndoAny, IsSound, stacked_of}
+use Rattle.validate_stacks.specs.Attempts.{Phase, Clean, Moved, Set, Framed, Unset, Marked, phase_moved, is_setting, has_none_unset, is_unmarked, may_frame, may_set, may_unset, stacks_begun, stacks_rolled_back}
+use Rattle.validate_stacks.specs.Flat.{flat_state, state_with_frame, HasShape, frames_unmarked, undone_frames, inits_in_frames, undone_inits, undone_pending, phase_of, CanUndo, CanUndoAny, IsSound, stacked_of}
 use Rattle.validate_stacks.specs.Steps.{innermost_operands, body_marked, body_with_frame, body_without_frame}
 use Rattle.validate_stacks.proofs.Cuts.{state_of, HasShape-more}
 
@@ -35,15 +35,20 @@ not_empty (x ∷ xs) n h e = cc
 
 -- ---- room
 
-pub sound_room : (fr fr' : ℕ) (fs : List FlatFrame) (or or' : ℕ) (ops : List MaybeType) (ir : ℕ) (base : List Bool) (is : List ℕ) (t : Transaction) (ls : List ValType) → fr ≤ fr' → or ≤ or' → IsSound fr fs or ops ir base is t ls → IsSound fr' fs or' ops ir base is t ls
-sound_room fr fr' fs or or' ops ir base is (Active log) ls h k w = record {
+pub sound_room : (fr fr' : ℕ) (fs : List FlatFrame) (or or' : ℕ) (ops : List MaybeType) (ir : ℕ) (set_at_entry : List Bool) (is : List ℕ) (t : Transaction) (ls : List ValType) → fr ≤ fr' → or ≤ or' → IsSound fr fs or ops ir set_at_entry is t ls → IsSound fr' fs or' ops ir set_at_entry is t ls
+sound_room fr fr' fs or or' ops ir set_at_entry is (Active log) ls h k w = record {
   shape = w.shape;
   marks = w.marks;
   undo = record { shape = w.undo.shape; frames = CanTakeBack-more fr fr' (frames_unmarked log.unreachable fs) log.frames h w.undo.frames; operands = CanTakeBack-more or or' ops log.operands k w.undo.operands; room = w.undo.room; fresh = w.undo.fresh; still = w.undo.still; full = w.undo.full };
 }
-sound_room fr fr' fs or or' ops ir base is (Inactive a) ls h k w = record { shape = w.shape; marks = w.marks; undo = tt }
+sound_room fr fr' fs or or' ops ir set_at_entry is (Inactive a) ls h k w = record { shape = w.shape; marks = w.marks; undo = tt }
 
 -- ---- operands
+
+-- the phase by its bits: a frame was marked, none was opened or closed, no local was unset, one was set, no
+-- operand moved
+abbrev phase_by : (u f c s o : Bool) → Phase
+phase_by u f c s o = if u then Marked else if not c then Unset else if not f then Framed else if s then Set else if not o then Moved else Clean
 
 moved_phase : (u f c s o : Bool) → phase_moved (phase_by u f c s false) ≡ phase_moved (phase_by u f c s o)
 moved_phase true f c s o = refl
@@ -61,13 +66,13 @@ pub phase_push : (m : ℕ) (t : Transaction) → phase_moved (phase_of m (with_p
 phase_push m (Active log) = moved_phase log.unreachable (is_empty log.frames) (is_empty log.inits) (nat_lt log.init_height m) (is_empty log.operands)
 phase_push m (Inactive a) = refl
 
-pub sound_push : (fr : ℕ) (fs : List FlatFrame) (or or' : ℕ) (x : MaybeType) (ops : List MaybeType) (ir : ℕ) (base : List Bool) (is : List ℕ) (t : Transaction) (ls : List ValType) → or ≤ or' → IsSound fr fs or ops ir base is t ls → IsSound fr fs or' (x ∷ ops) ir base is (with_push t) ls
-sound_push fr fs or or' x ops ir base is (Active log) ls h w = record {
+pub sound_push : (fr : ℕ) (fs : List FlatFrame) (or or' : ℕ) (x : MaybeType) (ops : List MaybeType) (ir : ℕ) (set_at_entry : List Bool) (is : List ℕ) (t : Transaction) (ls : List ValType) → or ≤ or' → IsSound fr fs or ops ir set_at_entry is t ls → IsSound fr fs or' (x ∷ ops) ir set_at_entry is (with_push t) ls
+sound_push fr fs or or' x ops ir set_at_entry is (Active log) ls h w = record {
   shape = HasShape-more fs (length ops) (suc (length ops)) (length is) (omega arith) w.shape;
   marks = w.marks;
   undo = record { shape = w.undo.shape; frames = w.undo.frames; operands = CanTakeBack-more or or' ops log.operands h w.undo.operands; room = w.undo.room; fresh = w.undo.fresh; still = w.undo.still; full = w.undo.full };
 }
-sound_push fr fs or or' x ops ir base is (Inactive a) ls h w = record {
+sound_push fr fs or or' x ops ir set_at_entry is (Inactive a) ls h w = record {
   shape = HasShape-more fs (length ops) (suc (length ops)) (length is) (omega arith) w.shape;
   marks = w.marks;
   undo = tt;
@@ -81,16 +86,16 @@ pub phase_pop : (m : ℕ) (x : MaybeType) (t : Transaction) → phase_moved (pha
 phase_pop m x (Active log) = moved_phase log.unreachable (is_empty log.frames) (is_empty log.inits) (nat_lt log.init_height m) (is_empty log.operands)
 phase_pop m x (Inactive a) = refl
 
-pub sound_pop : (fr : ℕ) (fs : List FlatFrame) (f : FlatFrame) (or or' : ℕ) (x : MaybeType) (ops : List MaybeType) (ir : ℕ) (base : List Bool) (is : List ℕ) (t : Transaction) (ls : List ValType) → slice_get fs 0 ≡ Some f → f.height ≤ length ops → length ops < or → or ≡ or' → IsSound fr fs or (x ∷ ops) ir base is t ls → IsSound fr fs or' ops ir base is (with_pop x t) ls
-sound_pop fr [] f or or' x ops ir base is t ls h k r e w = cc
-sound_pop fr (g ∷ gs) f or or' x ops ir base is (Active log) ls h k r e w =
+pub sound_pop : (fr : ℕ) (fs : List FlatFrame) (f : FlatFrame) (or or' : ℕ) (x : MaybeType) (ops : List MaybeType) (ir : ℕ) (set_at_entry : List Bool) (is : List ℕ) (t : Transaction) (ls : List ValType) → slice_get fs 0 ≡ Some f → f.height ≤ length ops → length ops < or → or ≡ or' → IsSound fr fs or (x ∷ ops) ir set_at_entry is t ls → IsSound fr fs or' ops ir set_at_entry is (with_pop x t) ls
+sound_pop fr [] f or or' x ops ir set_at_entry is t ls h k r e w = cc
+sound_pop fr (g ∷ gs) f or or' x ops ir set_at_entry is (Active log) ls h k r e w =
     let same : g ≡ f = cc in
     rw (← e) (record {
       shape = (rw same k, w.shape.1, w.shape.2);
       marks = w.marks;
       undo = record { shape = w.undo.shape; frames = w.undo.frames; operands = (r, w.undo.operands); room = w.undo.room; fresh = w.undo.fresh; still = w.undo.still; full = w.undo.full };
     })
-sound_pop fr (g ∷ gs) f or or' x ops ir base is (Inactive a) ls h k r e w =
+sound_pop fr (g ∷ gs) f or or' x ops ir set_at_entry is (Inactive a) ls h k r e w =
     let same : g ≡ f = cc in
     record { shape = (rw same k, w.shape.1, w.shape.2); marks = w.marks; undo = tt }
 
@@ -121,9 +126,9 @@ marked_is (g ∷ gs) new f ops is (Inactive a) s n ls en h d e =
     let whole : new ≡ record g { unreachable = true } ∷ gs = e ∙ ap (λ (q : FlatFrame). record q { unreachable = true } ∷ gs) (sym same) in
     rw whole refl
 
-pub sound_mark : (fr fr' : ℕ) (fs new : List FlatFrame) (f : FlatFrame) (or : ℕ) (ops : List MaybeType) (ir : ℕ) (base : List Bool) (is : List ℕ) (t : Transaction) (ls : List ValType) → slice_get fs 0 ≡ Some f → f.unreachable ≡ false → new ≡ record f { unreachable = true } ∷ drop 1 fs → fr ≡ fr' → IsSound fr fs or ops ir base is t ls → IsSound fr' new or ops ir base is (with_mark t) ls
-sound_mark fr fr' [] new f or ops ir base is t ls h d e r w = cc
-sound_mark fr fr' (g ∷ gs) new f or ops ir base is (Active log) ls h d e r w =
+pub sound_mark : (fr fr' : ℕ) (fs new : List FlatFrame) (f : FlatFrame) (or : ℕ) (ops : List MaybeType) (ir : ℕ) (set_at_entry : List Bool) (is : List ℕ) (t : Transaction) (ls : List ValType) → slice_get fs 0 ≡ Some f → f.unreachable ≡ false → new ≡ record f { unreachable = true } ∷ drop 1 fs → fr ≡ fr' → IsSound fr fs or ops ir set_at_entry is t ls → IsSound fr' new or ops ir set_at_entry is (with_mark t) ls
+sound_mark fr fr' [] new f or ops ir set_at_entry is t ls h d e r w = cc
+sound_mark fr fr' (g ∷ gs) new f or ops ir set_at_entry is (Active log) ls h d e r w =
     let same : g ≡ f = cc in
     let live : g.unreachable ≡ false = ap (λ (q : FlatFrame). q.unreachable) same ∙ d in
     let whole : new ≡ record g { unreachable = true } ∷ gs = e ∙ ap (λ (q : FlatFrame). record q { unreachable = true } ∷ gs) (sym same) in
@@ -141,7 +146,7 @@ sound_mark fr fr' (g ∷ gs) new f or ops ir base is (Active log) ls h d e r w =
         full = w.undo.full;
       };
     })
-sound_mark fr fr' (g ∷ gs) new f or ops ir base is (Inactive a) ls h d e r w =
+sound_mark fr fr' (g ∷ gs) new f or ops ir set_at_entry is (Inactive a) ls h d e r w =
     let same : g ≡ f = cc in
     let whole : new ≡ record g { unreachable = true } ∷ gs = e ∙ ap (λ (q : FlatFrame). record q { unreachable = true } ∷ gs) (sym same) in
     rw (whole, ← r) (record { shape = (w.shape.0, w.shape.1, w.shape.2); marks = w.marks; undo = tt })
@@ -174,10 +179,10 @@ cut-open k b fs ops is =
 pub state_open : (k : FrameKind) (b : BlockType) (fs : List FlatFrame) (ops : List MaybeType) (is : List ℕ) (t : Transaction) (s : Bool) (n : WasmFeatures) (ls : List ValType) (en : List Bool) → may_frame (stacked_of fs ops is t s n ls en) ≡ true → state_of (new_flat k b (length ops) (length is) ∷ fs) ops is s n ls en (undone_pending (new_flat k b (length ops) (length is) ∷ fs) ops is (with_opened t)) ≡ body_with_frame k b (state_of fs ops is s n ls en (undone_pending fs ops is t))
 state_open k b fs ops is (Active log) s n ls en m =
     let bit = unmarked_bit log.unreachable (is_empty log.frames) (is_empty log.inits) (nat_lt log.init_height (length is)) (is_empty log.operands) m in
-    ap (λ (p : State). record { present = p; shared = s; features = n; locals = ls; entry = en; undone = undone_pending (new_flat k b (length ops) (length is) ∷ fs) ops is (with_opened (Active log)) }) (cut-open k b fs ops is)
+    ap (λ (p : State). record { present = p; shared = s; features = n; locals = ls; set_at_entry = en; undone = undone_pending (new_flat k b (length ops) (length is) ∷ fs) ops is (with_opened (Active log)) }) (cut-open k b fs ops is)
     ∙ ap (λ u. body_with_frame k b (state_of fs ops is s n ls en u)) (undone_open k b (length ops) fs ops is log bit)
 state_open k b fs ops is (Inactive a) s n ls en m =
-    ap (λ (p : State). record { present = p; shared = s; features = n; locals = ls; entry = en; undone = None }) (cut-open k b fs ops is)
+    ap (λ (p : State). record { present = p; shared = s; features = n; locals = ls; set_at_entry = en; undone = None }) (cut-open k b fs ops is)
 
 pub frames_open : (g : FlatFrame) (fs : List FlatFrame) (ops : List MaybeType) (is : List ℕ) (t : Transaction) (s : Bool) (n : WasmFeatures) (ls : List ValType) (en : List Bool) → may_frame (stacked_of fs ops is t s n ls en) ≡ true → may_frame (stacked_of (g ∷ fs) ops is (with_opened t) s n ls en) ≡ true
 frames_open g fs ops is (Active log) s n ls en m =
@@ -185,8 +190,8 @@ frames_open g fs ops is (Active log) s n ls en m =
     ap (λ u. is_unmarked (phase_by u false (is_empty log.inits) (nat_lt log.init_height (length is)) (is_empty log.operands))) bit ∙ still_unmarked false (is_empty log.inits) (nat_lt log.init_height (length is)) (is_empty log.operands)
 frames_open g fs ops is (Inactive a) s n ls en m = refl
 
-pub sound_open : (k : FrameKind) (b : BlockType) (fr fr' : ℕ) (fs : List FlatFrame) (or : ℕ) (ops : List MaybeType) (ir : ℕ) (base : List Bool) (is : List ℕ) (t : Transaction) (s : Bool) (n : WasmFeatures) (ls : List ValType) → may_frame (stacked_of fs ops is t s n ls base) ≡ true → fr ≤ fr' → IsSound fr fs or ops ir base is t ls → IsSound fr' (new_flat k b (length ops) (length is) ∷ fs) or ops ir base is (with_opened t) ls
-sound_open k b fr fr' fs or ops ir base is (Active log) s n ls m h w =
+pub sound_open : (k : FrameKind) (b : BlockType) (fr fr' : ℕ) (fs : List FlatFrame) (or : ℕ) (ops : List MaybeType) (ir : ℕ) (set_at_entry : List Bool) (is : List ℕ) (t : Transaction) (s : Bool) (n : WasmFeatures) (ls : List ValType) → may_frame (stacked_of fs ops is t s n ls set_at_entry) ≡ true → fr ≤ fr' → IsSound fr fs or ops ir set_at_entry is t ls → IsSound fr' (new_flat k b (length ops) (length is) ∷ fs) or ops ir set_at_entry is (with_opened t) ls
+sound_open k b fr fr' fs or ops ir set_at_entry is (Active log) s n ls m h w =
     let u = unmarked_bit log.unreachable (is_empty log.frames) (is_empty log.inits) (nat_lt log.init_height (length is)) (is_empty log.operands) m in
     let old = rw u at w.undo in
     record {
@@ -202,7 +207,7 @@ sound_open k b fr fr' fs or ops ir base is (Active log) s n ls m h w =
         full = old.full;
       });
     }
-sound_open k b fr fr' fs or ops ir base is (Inactive a) s n ls m h w = record { shape = (omega arith, omega arith, w.shape); marks = w.marks; undo = tt }
+sound_open k b fr fr' fs or ops ir set_at_entry is (Inactive a) s n ls m h w = record { shape = (omega arith, omega arith, w.shape); marks = w.marks; undo = tt }
 
 -- ---- closing
 
@@ -239,7 +244,7 @@ put_in_place h k is reset (inr e) =
     let whole : take h is ≡ is = sym (append-nil (take h is)) ∙ (ap (λ r. take h is ++ r) (sym e) ∙ take-append-drop h is) in
     rw (e, whole, append-nil reset) refl
 
-closes_how : (since reset : List ℕ) (b : Bool) → is_empty_or since b ≡ true → (b ≡ true → reset ≡ []) → (reset ≡ []) ⊎ (since ≡ [])
+closes_how : (since reset : List ℕ) (b : Bool) → (is_empty since || b) ≡ true → (b ≡ true → reset ≡ []) → (reset ≡ []) ⊎ (since ≡ [])
 closes_how [] reset b h k = inr refl
 closes_how (x ∷ xs) reset b h k = inl (k h)
 
@@ -266,8 +271,8 @@ record Closes (f : FlatFrame) (fs : List FlatFrame) (is : List ℕ) (log : Log) 
   pub reset : (log.inits ≡ []) ⊎ (drop f.init_height is ≡ [])
   pub still : inits_in_frames (frames_unmarked log.unreachable (f ∷ fs)) is log.frames ≡ is
 
-closes : (f : FlatFrame) (fs : List FlatFrame) (fr or : ℕ) (ops : List MaybeType) (ir : ℕ) (base : List Bool) (is : List ℕ) (log : Log) (s : Bool) (n : WasmFeatures) (ls : List ValType) → may_frame (stacked_of (f ∷ fs) ops is (Active log) s n ls base) ≡ true → may_unset (stacked_of (f ∷ fs) ops is (Active log) s n ls base) ≡ true → IsSound fr (f ∷ fs) or ops ir base is (Active log) ls → Closes f fs is log
-closes f fs fr or ops ir base is log s n ls m k w =
+closes : (f : FlatFrame) (fs : List FlatFrame) (fr or : ℕ) (ops : List MaybeType) (ir : ℕ) (set_at_entry : List Bool) (is : List ℕ) (log : Log) (s : Bool) (n : WasmFeatures) (ls : List ValType) → may_frame (stacked_of (f ∷ fs) ops is (Active log) s n ls set_at_entry) ≡ true → may_unset (stacked_of (f ∷ fs) ops is (Active log) s n ls set_at_entry) ≡ true → IsSound fr (f ∷ fs) or ops ir set_at_entry is (Active log) ls → Closes f fs is log
+closes f fs fr or ops ir set_at_entry is log s n ls m k w =
     record {
       bit = unmarked_bit log.unreachable (is_empty log.frames) (is_empty log.inits) (nat_lt log.init_height (length is)) (is_empty log.operands) m;
       reset = closes_how (drop f.init_height is) log.inits _ k (λ h. none_empty log.inits (unclosed_bit log.unreachable (is_empty log.frames) (is_empty log.inits) (nat_lt log.init_height (length is)) (is_empty log.operands) h));
@@ -288,12 +293,12 @@ undone_close : (f : FlatFrame) (fs : List FlatFrame) (ops : List MaybeType) (is 
 undone_close f fs ops is log c =
     rw c.bit (ap (λ x. Some (flat_state (items_taken_back (f ∷ fs) log.frames) (items_taken_back ops log.operands) x)) (inits_after f fs is log c))
 
-pub state_close : (f : FlatFrame) (fs : List FlatFrame) (fr or : ℕ) (ops : List MaybeType) (ir : ℕ) (base : List Bool) (is : List ℕ) (t : Transaction) (s : Bool) (n : WasmFeatures) (ls : List ValType) → innermost_operands (flat_state (f ∷ fs) ops is).frames ≡ [] → may_frame (stacked_of (f ∷ fs) ops is t s n ls base) ≡ true → may_unset (stacked_of (f ∷ fs) ops is t s n ls base) ≡ true → IsSound fr (f ∷ fs) or ops ir base is t ls → state_of fs ops (take f.init_height is) s n ls base (undone_pending fs ops (take f.init_height is) (with_closed f (drop f.init_height is) t)) ≡ body_without_frame (state_of (f ∷ fs) ops is s n ls base (undone_pending (f ∷ fs) ops is t))
-state_close f fs fr or ops ir base is (Active log) s n ls own m k w =
+pub state_close : (f : FlatFrame) (fs : List FlatFrame) (fr or : ℕ) (ops : List MaybeType) (ir : ℕ) (set_at_entry : List Bool) (is : List ℕ) (t : Transaction) (s : Bool) (n : WasmFeatures) (ls : List ValType) → innermost_operands (flat_state (f ∷ fs) ops is).frames ≡ [] → may_frame (stacked_of (f ∷ fs) ops is t s n ls set_at_entry) ≡ true → may_unset (stacked_of (f ∷ fs) ops is t s n ls set_at_entry) ≡ true → IsSound fr (f ∷ fs) or ops ir set_at_entry is t ls → state_of fs ops (take f.init_height is) s n ls set_at_entry (undone_pending fs ops (take f.init_height is) (with_closed f (drop f.init_height is) t)) ≡ body_without_frame (state_of (f ∷ fs) ops is s n ls set_at_entry (undone_pending (f ∷ fs) ops is t))
+state_close f fs fr or ops ir set_at_entry is (Active log) s n ls own m k w =
     let all = at_its_height f ops w.shape.0 own in
     let e : length ops - f.height ≡ 0 = omega arith in
-    rw e (ap (λ u. state_of fs ops (take f.init_height is) s n ls base u) (undone_close f fs ops is log (closes f fs fr or ops ir base is log s n ls m k w)))
-state_close f fs fr or ops ir base is (Inactive a) s n ls own m k w =
+    rw e (ap (λ u. state_of fs ops (take f.init_height is) s n ls set_at_entry u) (undone_close f fs ops is log (closes f fs fr or ops ir set_at_entry is log s n ls m k w)))
+state_close f fs fr or ops ir set_at_entry is (Inactive a) s n ls own m k w =
     let all = at_its_height f ops w.shape.0 own in
     let e : length ops - f.height ≡ 0 = omega arith in
     rw e refl
@@ -304,10 +309,10 @@ frames_close f fs ops is is' more (Active log) s n ls en m =
     ap (λ u. is_unmarked (phase_by u false (is_empty (log.inits ++ more)) (nat_lt log.init_height (length is')) (is_empty log.operands))) bit ∙ still_unmarked false (is_empty (log.inits ++ more)) (nat_lt log.init_height (length is')) (is_empty log.operands)
 frames_close f fs ops is is' more (Inactive a) s n ls en m = refl
 
-pub sound_close : (f : FlatFrame) (fs : List FlatFrame) (fr fr' or : ℕ) (ops : List MaybeType) (ir ir' : ℕ) (base base' : List Bool) (is : List ℕ) (t : Transaction) (s : Bool) (n : WasmFeatures) (ls : List ValType) → innermost_operands (flat_state (f ∷ fs) ops is).frames ≡ [] → may_frame (stacked_of (f ∷ fs) ops is t s n ls base) ≡ true → may_unset (stacked_of (f ∷ fs) ops is t s n ls base) ≡ true → length fs < fr → fr ≡ fr' → ir ≡ ir' → base ≡ base' → IsSound fr (f ∷ fs) or ops ir base is t ls → IsSound fr' fs or ops ir' base' (take f.init_height is) (with_closed f (drop f.init_height is) t) ls
-sound_close f fs fr fr' or ops ir ir' base base' is (Active log) s n ls own m k r q p e w =
+pub sound_close : (f : FlatFrame) (fs : List FlatFrame) (fr fr' or : ℕ) (ops : List MaybeType) (ir ir' : ℕ) (set_at_entry set_at_entry' : List Bool) (is : List ℕ) (t : Transaction) (s : Bool) (n : WasmFeatures) (ls : List ValType) → innermost_operands (flat_state (f ∷ fs) ops is).frames ≡ [] → may_frame (stacked_of (f ∷ fs) ops is t s n ls set_at_entry) ≡ true → may_unset (stacked_of (f ∷ fs) ops is t s n ls set_at_entry) ≡ true → length fs < fr → fr ≡ fr' → ir ≡ ir' → set_at_entry ≡ set_at_entry' → IsSound fr (f ∷ fs) or ops ir set_at_entry is t ls → IsSound fr' fs or ops ir' set_at_entry' (take f.init_height is) (with_closed f (drop f.init_height is) t) ls
+sound_close f fs fr fr' or ops ir ir' set_at_entry set_at_entry' is (Active log) s n ls own m k r q p e w =
     let all = at_its_height f ops w.shape.0 own in
-    let c = closes f fs fr or ops ir base is log s n ls m k w in
+    let c = closes f fs fr or ops ir set_at_entry is log s n ls m k w in
     let len = length-take-le f.init_height is w.shape.1 in
     let old = rw c.bit at w.undo in
     let counts = same_count f.init_height is log.inits in
@@ -319,12 +324,12 @@ sound_close f fs fr fr' or ops ir ir' base base' is (Active log) s n ls own m k 
         frames = (r, old.frames);
         operands = old.operands;
         room = omega (arith, counts);
-        fresh = subst (AreFresh base) (sym (whole_stays f.init_height is log.inits c.reset)) old.fresh;
+        fresh = subst (AreFresh set_at_entry) (sym (whole_stays f.init_height is log.inits c.reset)) old.fresh;
         still = still_after f fs is log c;
         full = omega (arith, counts);
       });
     })
-sound_close f fs fr fr' or ops ir ir' base base' is (Inactive a) s n ls own m k r q p e w =
+sound_close f fs fr fr' or ops ir ir' set_at_entry set_at_entry' is (Inactive a) s n ls own m k r q p e w =
     let all = at_its_height f ops w.shape.0 own in
     let len = length-take-le f.init_height is w.shape.1 in
     rw (← e) (record { shape = rw (len, all) w.shape.2; marks = w.marks; undo = tt })
@@ -364,16 +369,16 @@ no_shorter : (b : Bool) (is : List ℕ) (i : ℕ) → length is ≤ length (orde
 no_shorter true is i = omega arith
 no_shorter false is i = omega (arith, length-append is (i ∷ []))
 
-pub undone_set : (b : Bool) (fr or ir : ℕ) (fs : List FlatFrame) (ops : List MaybeType) (is new : List ℕ) (i : ℕ) (t : Transaction) (s : Bool) (n : WasmFeatures) (ls : List ValType) (base : List Bool) → may_set (stacked_of fs ops is t s n ls base) ≡ true → new ≡ order_more b is i → IsSound fr fs or ops ir base is t ls → undone_pending fs ops new t ≡ undone_pending fs ops is t
-undone_set b fr or ir fs ops is new i (Active log) s n ls base m e w =
-    let c = sets fs ops is log s n ls base m in
+pub undone_set : (b : Bool) (fr or ir : ℕ) (fs : List FlatFrame) (ops : List MaybeType) (is new : List ℕ) (i : ℕ) (t : Transaction) (s : Bool) (n : WasmFeatures) (ls : List ValType) (set_at_entry : List Bool) → may_set (stacked_of fs ops is t s n ls set_at_entry) ≡ true → new ≡ order_more b is i → IsSound fr fs or ops ir set_at_entry is t ls → undone_pending fs ops new t ≡ undone_pending fs ops is t
+undone_set b fr or ir fs ops is new i (Active log) s n ls set_at_entry m e w =
+    let c = sets fs ops is log s n ls set_at_entry m in
     let full = rw c.reset at w.undo.full in
     rw (e, c.bit, c.frames, c.reset) (ap (λ x. Some (flat_state fs (items_taken_back ops log.operands) x)) (inits_set b is i log.init_height (omega (arith, full, length-append is []))))
-undone_set b fr or ir fs ops is new i (Inactive a) s n ls base m e w = refl
+undone_set b fr or ir fs ops is new i (Inactive a) s n ls set_at_entry m e w = refl
 
-pub undo_set : (b : Bool) (fr or ir ir' : ℕ) (fs : List FlatFrame) (ops : List MaybeType) (is new : List ℕ) (i : ℕ) (t : Transaction) (s : Bool) (n : WasmFeatures) (ls : List ValType) (base base' : List Bool) → may_set (stacked_of fs ops is t s n ls base) ≡ true → new ≡ order_more b is i → base ≡ base' → length new ≤ ir' → AreFresh base' new → IsSound fr fs or ops ir base is t ls → CanUndoAny fr fs or ops ir' base' new t
-undo_set b fr or ir ir' fs ops is new i (Active log) s n ls base base' m e q r x w =
-    let c = sets fs ops is log s n ls base m in
+pub undo_set : (b : Bool) (fr or ir ir' : ℕ) (fs : List FlatFrame) (ops : List MaybeType) (is new : List ℕ) (i : ℕ) (t : Transaction) (s : Bool) (n : WasmFeatures) (ls : List ValType) (set_at_entry set_at_entry' : List Bool) → may_set (stacked_of fs ops is t s n ls set_at_entry) ≡ true → new ≡ order_more b is i → set_at_entry ≡ set_at_entry' → length new ≤ ir' → AreFresh set_at_entry' new → IsSound fr fs or ops ir set_at_entry is t ls → CanUndoAny fr fs or ops ir' set_at_entry' new t
+undo_set b fr or ir ir' fs ops is new i (Active log) s n ls set_at_entry set_at_entry' m e q r x w =
+    let c = sets fs ops is log s n ls set_at_entry m in
     let old = rw (c.bit, c.frames, c.reset) at w.undo in
     let low : log.init_height ≤ length is = omega (arith, old.full, length-append is []) in
     let same = inits_set b is i log.init_height low in
@@ -386,22 +391,22 @@ undo_set b fr or ir ir' fs ops is new i (Active log) s n ls base base' m e q r x
       still = refl;
       full = omega (arith, low, length-append new [], no_shorter b is i, ap length e);
     })
-undo_set b fr or ir ir' fs ops is new i (Inactive a) s n ls base base' m e q r x w = tt
+undo_set b fr or ir ir' fs ops is new i (Inactive a) s n ls set_at_entry set_at_entry' m e q r x w = tt
 
 -- ---- beginning, and taking back
 
-pub sound_idle : (fr : ℕ) (fs : List FlatFrame) (or : ℕ) (ops : List MaybeType) (ir : ℕ) (base : List Bool) (is : List ℕ) (t : Transaction) (ls : List ValType) → log_of t ≡ None → HasShape fs (length ops) (length is) → length base ≡ length ls → IsSound fr fs or ops ir base is t ls
-sound_idle fr fs or ops ir base is (Active l) ls h s m = cc
-sound_idle fr fs or ops ir base is (Inactive a) ls h s m = record { shape = s; marks = m; undo = tt }
+pub sound_idle : (fr : ℕ) (fs : List FlatFrame) (or : ℕ) (ops : List MaybeType) (ir : ℕ) (set_at_entry : List Bool) (is : List ℕ) (t : Transaction) (ls : List ValType) → log_of t ≡ None → HasShape fs (length ops) (length is) → length set_at_entry ≡ length ls → IsSound fr fs or ops ir set_at_entry is t ls
+sound_idle fr fs or ops ir set_at_entry is (Active l) ls h s m = cc
+sound_idle fr fs or ops ir set_at_entry is (Inactive a) ls h s m = record { shape = s; marks = m; undo = tt }
 
 take_whole : (is : List ℕ) → take (length is) (is ++ []) ≡ is
 take_whole is = rw (append-nil is) (take_all (length is) is (omega arith))
 
-pub sound_begun : (fr : ℕ) (fs : List FlatFrame) (or : ℕ) (ops : List MaybeType) (ir : ℕ) (base : List Bool) (is : List ℕ) (t u : Transaction) (ls : List ValType) → log_of u ≡ Some (empty_log (length is)) → length is ≤ ir → AreFresh base is → IsSound fr fs or ops ir base is t ls → IsSound fr fs or ops ir base is u ls
-sound_begun fr fs or ops ir base is t (Inactive a) ls h r f w = cc
-sound_begun fr fs or ops ir base is t (Active log) ls h r f w =
+pub sound_begun : (fr : ℕ) (fs : List FlatFrame) (or : ℕ) (ops : List MaybeType) (ir : ℕ) (set_at_entry : List Bool) (is : List ℕ) (t u : Transaction) (ls : List ValType) → log_of u ≡ Some (empty_log (length is)) → length is ≤ ir → AreFresh set_at_entry is → IsSound fr fs or ops ir set_at_entry is t ls → IsSound fr fs or ops ir set_at_entry is u ls
+sound_begun fr fs or ops ir set_at_entry is t (Inactive a) ls h r f w = cc
+sound_begun fr fs or ops ir set_at_entry is t (Active log) ls h r f w =
     let e : log ≡ empty_log (length is) = cc in
-    let start : CanUndo fr fs or ops ir base is (empty_log (length is)) = record {
+    let start : CanUndo fr fs or ops ir set_at_entry is (empty_log (length is)) = record {
       shape = rw (take_whole is) w.shape;
       frames = tt;
       operands = tt;
@@ -410,7 +415,7 @@ sound_begun fr fs or ops ir base is t (Active log) ls h r f w =
       still = refl;
       full = omega (arith, length-append is []);
     } in
-    record { shape = w.shape; marks = w.marks; undo = subst (CanUndo fr fs or ops ir base is) (sym e) start }
+    record { shape = w.shape; marks = w.marks; undo = subst (CanUndo fr fs or ops ir set_at_entry is) (sym e) start }
 
 nothing_less : (n : ℕ) → nat_lt n n ≡ false
 nothing_less n = le-ltb n n (omega arith)
@@ -422,9 +427,9 @@ begun_is fs ops is t (Active log) s n ls en h =
     ap (λ l. stacked_of fs ops is (Active l) s n ls en) e ∙ rw (take_whole is, nothing_less (length is)) refl
 
 -- what holds of a pending log
-pub undo_at : (fr : ℕ) (fs : List FlatFrame) (or : ℕ) (ops : List MaybeType) (ir : ℕ) (base : List Bool) (is : List ℕ) (t : Transaction) (log : Log) (ls : List ValType) → log_of t ≡ Some log → IsSound fr fs or ops ir base is t ls → CanUndo fr fs or ops ir base is log
-undo_at fr fs or ops ir base is (Active l) log ls h w = let e : l ≡ log = cc in subst (CanUndo fr fs or ops ir base is) e w.undo
-undo_at fr fs or ops ir base is (Inactive a) log ls h w = cc
+pub undo_at : (fr : ℕ) (fs : List FlatFrame) (or : ℕ) (ops : List MaybeType) (ir : ℕ) (set_at_entry : List Bool) (is : List ℕ) (t : Transaction) (log : Log) (ls : List ValType) → log_of t ≡ Some log → IsSound fr fs or ops ir set_at_entry is t ls → CanUndo fr fs or ops ir set_at_entry is log
+undo_at fr fs or ops ir set_at_entry is (Active l) log ls h w = let e : l ≡ log = cc in subst (CanUndo fr fs or ops ir set_at_entry is) e w.undo
+undo_at fr fs or ops ir set_at_entry is (Inactive a) log ls h w = cc
 
 pub rolled_back_is : (fs : List FlatFrame) (ops : List MaybeType) (is : List ℕ) (t u : Transaction) (log : Log) (s : Bool) (n : WasmFeatures) (ls : List ValType) (en : List Bool) → log_of t ≡ Some log → log_of u ≡ None → stacked_of (undone_frames fs log) (items_taken_back ops log.operands) (undone_inits fs is log) u s n ls en ≡ stacks_rolled_back (stacked_of fs ops is t s n ls en)
 rolled_back_is fs ops is (Active l) (Inactive a) log s n ls en h k =

@@ -1,8 +1,9 @@
 -- How far a pending attempt has come, and what may still be done so that it is taken back exactly: the
 -- log isn't a journal of steps, so not every order of them is (the crate's own; the standard tries no
 -- operator).
-use Rattle.std.specs.Prelude.{ℕ, List, [], ◌∷◌, Bool, true, false, Option, Some, None, unwrap_or}
-use Rattle.validation_rules.specs.Static.{Frame, State}
+use Rattle.std.specs.Prelude.{ℕ, List, [], ◌∷◌, Bool, true, false, ◌||◌, Some, None, is_none, unwrap_or}
+use Rattle.validate_transaction.specs.TakeBack.{is_empty}
+use Rattle.validation_rules.specs.Static.{Frame}
 use Rattle.validate_stacks.specs.State.{BodyState}
 
 -- nothing changed; operands; locals set; frames opened or closed; frames closed so that a local is unset; a
@@ -56,40 +57,31 @@ abbrev pub is_unmarked : Phase → Bool
 is_unmarked Marked = false
 is_unmarked _ = true
 
--- asked only where an attempt is pending
-abbrev pub is_idle_or : Option State → Bool → Bool
-is_idle_or None b = true
-is_idle_or (Some u) b = b
-
 -- none is pending, or the pending one has nothing to undo
 abbrev pub may_attempt : Stacked → Bool
-may_attempt v = is_idle_or v.body.undone (is_clean v.phase)
+may_attempt v = is_none v.body.undone || is_clean v.phase
 
 -- an operator may be visited, or what is left of one: none is pending, or it moved nothing but operands
 abbrev pub may_step : Stacked → Bool
-may_step v = is_idle_or v.body.undone (is_quiet v.phase)
+may_step v = is_none v.body.undone || is_quiet v.phase
 
 -- a frame may be opened, or closed
 abbrev pub may_frame : Stacked → Bool
-may_frame v = is_idle_or v.body.undone (is_unmarked v.phase)
+may_frame v = is_none v.body.undone || is_unmarked v.phase
 
 -- a local may be set
 abbrev pub may_set : Stacked → Bool
-may_set v = is_idle_or v.body.undone (is_setting v.phase)
+may_set v = is_none v.body.undone || is_setting v.phase
 
 abbrev pub innermost_first_set : List Frame → List ℕ
 innermost_first_set [] = []
 innermost_first_set (f ∷ fs) = f.first_set
 
-abbrev pub is_empty_or : List ℕ → Bool → Bool
-is_empty_or [] b = true
-is_empty_or (i ∷ is) b = b
-
 -- the locals of the innermost frame may be unset: there is none, or none was unset yet
 abbrev pub may_unset : Stacked → Bool
 may_unset v =
-    is_empty_or (innermost_first_set v.body.present.frames)
-    (is_idle_or v.body.undone (has_none_unset v.phase))
+    is_empty (innermost_first_set v.body.present.frames)
+    || (is_none v.body.undone || has_none_unset v.phase)
 
 -- ---- beginning and ending
 

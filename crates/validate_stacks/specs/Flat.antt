@@ -1,7 +1,7 @@
 -- The frames' own parts of the flat lists: where heights stand for lists (Specification, appendix
 -- "Validation Algorithm": ctrl_frame, with its height).
-use Rattle.std.specs.Prelude.{◌≡◌, ℕ, ◌+◌, ◌-◌, ◌≤◌, List, [], ◌∷◌, ◌++◌, Bool, true, false, Option, Some}
-use Rattle.std.specs.Prelude.{None, length, take, drop, nat_lt}
+use Rattle.std.specs.Prelude.{◌≡◌, ℕ, ◌+◌, ◌-◌, ◌≤◌, List, [], ◌∷◌, ◌++◌, Bool, true, false, not, Option, Some}
+use Rattle.std.specs.Prelude.{None, length, take, drop, nat_lt, if◌then◌else◌}
 use Rattle.validate_locals.specs.Inits.{AreFresh}
 use Rattle.validate_transaction.specs.Log.{Log}
 use Rattle.validate_transaction.specs.TakeBack.{is_empty, items_taken_back, CanTakeBack}
@@ -68,26 +68,21 @@ abbrev pub undone_pending : List FlatFrame → List MaybeType → List ℕ → T
 undone_pending fs ops order (Active log) = Some (undone_state fs ops order log)
 undone_pending fs ops order (Inactive allocs) = None
 
--- by what the log tells: a frame was marked, none was opened or closed, no local was unset, one was set, no
--- operand moved
-abbrev pub phase_by : (marked no_frames none_unset some_set no_operands : Bool) → Phase
-phase_by true no_frames none_unset some_set no_operands = Marked
-phase_by false no_frames false some_set no_operands = Unset
-phase_by false false true some_set no_operands = Framed
-phase_by false true true true no_operands = Set
-phase_by false true true false true = Clean
-phase_by false true true false false = Moved
-
--- where so many locals were first set since the body began
+-- By what the log tells, where so many locals were first set since the body began: a frame was marked; a
+-- local was unset; frames were opened or closed; a local was set; operands moved.
 abbrev pub phase_of : ℕ → Transaction → Phase
 phase_of n (Active log) =
-    phase_by log.unreachable (is_empty log.frames) (is_empty log.inits) (nat_lt log.init_height n)
-    (is_empty log.operands)
+    if log.unreachable then Marked
+    else if not (is_empty log.inits) then Unset
+    else if not (is_empty log.frames) then Framed
+    else if nat_lt log.init_height n then Set
+    else if not (is_empty log.operands) then Moved
+    else Clean
 phase_of n (Inactive allocs) = Clean
 
 -- the log can be taken back, within the room that is there
 pub record CanUndo
-    (fr : ℕ) (fs : List FlatFrame) (or : ℕ) (ops : List MaybeType) (ir : ℕ) (base : List Bool)
+    (fr : ℕ) (fs : List FlatFrame) (or : ℕ) (ops : List MaybeType) (ir : ℕ) (set_at_entry : List Bool)
     (order : List ℕ) (log : Log) : Type 0 where
   pub shape :
       HasShape (undone_frames fs log) (length (items_taken_back ops log.operands))
@@ -96,29 +91,29 @@ pub record CanUndo
   pub operands : CanTakeBack or ops log.operands
   pub room : length (order ++ log.inits) ≤ ir
   -- what is set and what was unset was unset when it was declared, each once
-  pub fresh : AreFresh base (order ++ log.inits)
+  pub fresh : AreFresh set_at_entry (order ++ log.inits)
   -- no frame that goes was opened before a local that is set was set
   pub still : inits_in_frames (frames_unmarked log.unreachable fs) order log.frames ≡ order
   pub full : log.init_height ≤ length (order ++ log.inits)
 
 abbrev pub CanUndoAny :
     ℕ → List FlatFrame → ℕ → List MaybeType → ℕ → List Bool → List ℕ → Transaction → Type 0
-CanUndoAny fr fs or ops ir base order (Active log) = CanUndo fr fs or ops ir base order log
-CanUndoAny fr fs or ops ir base order (Inactive allocs) = Unit {0}
+CanUndoAny fr fs or ops ir set_at_entry order (Active log) = CanUndo fr fs or ops ir set_at_entry order log
+CanUndoAny fr fs or ops ir set_at_entry order (Inactive allocs) = Unit {0}
 
 -- the heights fit the lists, each local has its mark, and a pending attempt can be taken back
 pub record IsSound
-    (fr : ℕ) (frames : List FlatFrame) (or : ℕ) (ops : List MaybeType) (ir : ℕ) (base : List Bool)
+    (fr : ℕ) (frames : List FlatFrame) (or : ℕ) (ops : List MaybeType) (ir : ℕ) (set_at_entry : List Bool)
     (order : List ℕ) (t : Transaction) (locals : List ValType) : Type 0 where
   pub shape : HasShape frames (length ops) (length order)
-  pub marks : length base ≡ length locals
-  pub undo : CanUndoAny fr frames or ops ir base order t
+  pub marks : length set_at_entry ≡ length locals
+  pub undo : CanUndoAny fr frames or ops ir set_at_entry order t
 
 -- what the flat lists and the log stand for
 abbrev pub stacked_of :
     List FlatFrame → List MaybeType → List ℕ → Transaction → Bool → WasmFeatures → List ValType → List Bool →
     Stacked
-stacked_of fs ops order t shared features locals entry =
+stacked_of fs ops order t shared features locals set_at_entry =
     record {
       body =
           record {
@@ -126,7 +121,7 @@ stacked_of fs ops order t shared features locals entry =
             shared = shared;
             features = features;
             locals = locals;
-            entry = entry;
+            set_at_entry = set_at_entry;
             undone = undone_pending fs ops order t;
           };
       phase = phase_of (length order) t;

@@ -1,10 +1,9 @@
 -- The steps of the stacks on what they stand for (Specification, appendix "Validation Algorithm": pop_val,
 -- push_val, push_ctrl, unreachable, set_local, on a whole body).
-use Rattle.std.specs.Prelude.{ℕ, List, [], ◌∷◌, ◌++◌, Bool, true, false, Option, Some, None, length, drop}
-use Rattle.std.specs.Prelude.{slice_get, slice_index_or, replicate, map, ◌||◌, if◌then◌else◌}
+use Rattle.std.specs.Prelude.{ℕ, List, [], ◌∷◌, ◌++◌, true, false, Option, Some, None, length, drop}
+use Rattle.std.specs.Prelude.{slice_get, replicate, map, if◌then◌else◌}
 use Rattle.std.specs.Option.{option_map}
-use Rattle.std.specs.List.{list_any}
-use Rattle.std.specs.Prelude.{nat_eq}
+use Rattle.std.specs.List.{flat_map}
 use Rattle.validate_types.specs.declared.features.WasmFeatures.{WasmFeatures}
 use Rattle.validate_types.specs.Types.{is_defaultable}
 use Rattle.validate_types.specs.declared.types.ValType.{ValType}
@@ -12,9 +11,9 @@ use Rattle.validate_visit.specs.declared.frame.BlockType.{BlockType}
 use Rattle.validate_visit.specs.declared.frame.Frame.{Frame as FlatFrame}
 use Rattle.validate_visit.specs.declared.frame.FrameKind.{FrameKind}
 use Rattle.validation_rules.specs.Fits.{MaybeType, Bottom, UnknownRef, Known}
-use Rattle.validation_rules.specs.Pops.{operand_on_top}
+use Rattle.validation_rules.specs.Pops.{found_by_pop}
 use Rattle.validation_rules.specs.Rows.{Head}
-use Rattle.validation_rules.specs.Static.{Frame, State, state_with, heads, locals_set, opened_frame}
+use Rattle.validation_rules.specs.Static.{Frame, State, state_with, heads, locals_set, is_local_set, opened_frame}
 use Rattle.validate_stacks.specs.Flat.{with_heights}
 use Rattle.validate_stacks.specs.State.{BodyState, body_with_frames}
 
@@ -28,7 +27,7 @@ empty_body features =
       shared = false;
       features = features;
       locals = [];
-      entry = [];
+      set_at_entry = [];
       undone = None;
     }
 
@@ -39,15 +38,14 @@ innermost_operands (f ∷ fs) = f.operands
 
 abbrev pub found_in_frames : List Frame → Option MaybeType
 found_in_frames [] = None
-found_in_frames (f ∷ fs) = operand_on_top f.dead f.operands
+found_in_frames (f ∷ fs) = found_by_pop f.dead f.operands
 
 abbrev pub found_in_body : BodyState → Option MaybeType
 found_in_body v = found_in_frames v.present.frames
 
 -- all operands, the top first
 abbrev pub all_operands : List Frame → List MaybeType → List MaybeType
-all_operands [] left = left
-all_operands (f ∷ fs) left = f.operands ++ all_operands fs left
+all_operands fs left = flat_map (λ (f : Frame). f.operands) fs ++ left
 
 -- the type of an operand, where it is known
 abbrev pub known_type : MaybeType → Option ValType
@@ -74,7 +72,7 @@ label_at v depth = option_map type_and_kind (slice_get (heads v.present.frames) 
 -- what a pop finds in the innermost frame, after so many others
 abbrev pub found_after_pops_in_frames : ℕ → List Frame → Option MaybeType
 found_after_pops_in_frames n [] = None
-found_after_pops_in_frames n (f ∷ fs) = operand_on_top f.dead (drop n f.operands)
+found_after_pops_in_frames n (f ∷ fs) = found_by_pop f.dead (drop n f.operands)
 
 abbrev pub found_after_pops_in_body : ℕ → BodyState → Option MaybeType
 found_after_pops_in_body n v = found_after_pops_in_frames n v.present.frames
@@ -137,18 +135,17 @@ body_without_frame v = body_with_frames (outer_frames v.present.frames) v
 
 -- ---- locals
 
--- the local is set, when the body begins or since
-abbrev pub is_set_in_body : BodyState → ℕ → Bool
-is_set_in_body v i = list_any (nat_eq i) (locals_set v.present.frames) || slice_index_or v.entry i false
-
-abbrev pub frames_setting : Bool → ℕ → List Frame → List Frame
-frames_setting set i [] = []
-frames_setting set i (f ∷ fs) =
-    record f { first_set = if set then f.first_set else f.first_set ++ i ∷ [] } ∷ fs
+-- the local is first set in the innermost frame
+abbrev pub frames_first_setting : ℕ → List Frame → List Frame
+frames_first_setting i [] = []
+frames_first_setting i (f ∷ fs) = record f { first_set = f.first_set ++ i ∷ [] } ∷ fs
 
 -- with the local set: where it wasn't, it joins those first set in the innermost frame
 abbrev pub body_with_local_set : ℕ → BodyState → BodyState
-body_with_local_set i v = body_with_frames (frames_setting (is_set_in_body v i) i v.present.frames) v
+body_with_local_set i v =
+    if is_local_set v.set_at_entry (locals_set v.present.frames) i
+    then v
+    else body_with_frames (frames_first_setting i v.present.frames) v
 
 -- the locals that were first set in a frame that is still open, in order
 abbrev pub setting_order : List Frame → List ℕ
@@ -160,10 +157,10 @@ abbrev pub body_with_locals : ℕ → ValType → BodyState → BodyState
 body_with_locals count ty v =
     record v {
       locals = v.locals ++ replicate count ty;
-      entry = v.entry ++ replicate count (is_defaultable ty);
+      set_at_entry = v.set_at_entry ++ replicate count (is_defaultable ty);
     }
 
 -- with these parameters as locals, all of them set when the body begins
 abbrev pub body_with_params : List ValType → BodyState → BodyState
 body_with_params params v =
-    record v { locals = v.locals ++ params; entry = v.entry ++ map (λ _. true) params }
+    record v { locals = v.locals ++ params; set_at_entry = v.set_at_entry ++ map (λ _. true) params }

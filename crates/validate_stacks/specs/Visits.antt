@@ -8,7 +8,7 @@ use Rattle.validation_rules.specs.Rows.{Operator}
 use Rattle.validation_rules.specs.Static.{State, step}
 use Rattle.validate_stacks.specs.Pops.{IsKept}
 use Rattle.validate_stacks.specs.Attempts.{Stacked, may_step}
-use Rattle.validate_stacks.specs.State.{BodyState, body_context, IsValid}
+use Rattle.validate_stacks.specs.State.{BodyState, body_context, IsValidBody}
 
 -- the static step of an operator: None where its row doesn't hold
 abbrev pub step_body : ModuleContext → (Context → Operator) → BodyState → Option BodyState
@@ -25,14 +25,14 @@ pub record Answers
   pub accepted : OnOk answer (step_body md op v ≡ Some w)
   pub refused : IfErr answer (λ e. e.wants_memory ≡ false → step_body md op v ≡ None)
   pub at_offset : IfErr answer (λ e. e.offset ≡ offset)
-  pub valid : IsValid md w
+  pub valid : IsValidBody md w
   pub kept : IsKept v w
 
 -- a visit may be made: a frame is open, the types are valid, and an attempt that is pending moved
 -- nothing but operands
 pub record MayVisit (md : ModuleContext) (v : Stacked) : Type 0 where
   pub open_frame : v.body.present.frames ≢ []
-  pub valid : IsValid md v.body
+  pub valid : IsValidBody md v.body
   pub attempt : may_step v ≡ true
 
 -- `Answers`, closed: a visit passes it on from the check that it calls

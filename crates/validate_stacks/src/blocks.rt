@@ -5,7 +5,7 @@ ghost use Rattle.validate_resources.specs.Context.{Valid};
 ghost use Rattle.validation_rules.specs.Context.{Context, block_signature};
 ghost use Rattle.validation_rules.specs.Rows.{label_types};
 ghost use Rattle.validation_rules.specs.Valid.{IsValidBlock};
-ghost use Rattle.validate_stacks.specs.State.{IsValid};
+ghost use Rattle.validate_stacks.specs.State.{IsValidBody};
 ghost use Rattle.validate_stacks.specs.Steps.{frame_at};
 ghost use Rattle.validate_stacks.specs.Pops.{IsKept};
 ghost use Rattle.validate_stacks.specs.Blocks.{closed_body, body_with_block};
@@ -84,14 +84,14 @@ impl Stacks {
         kind: FrameKind,
         block_type: BlockType,
     ) -> Result<(), Error>
-        requires state { IsValid (R.context resources.now) self.old.body }
+        requires state { IsValidBody (R.context resources.now) self.old.body }
         requires block { IsValidBlock (R.context resources.now) self.old.body.shared block_type }
         requires frames { may_frame self.old ≡ true }
         ensures entered { OnOk result (self.new.body ≡ body_with_block (R.context resources.now) kind
             block_type self.old.body) }
         ensures memory { IfErr result (λ e. e.wants_memory ≡ true) }
         ensures offset { IfErr result (λ e. e.offset ≡ offset) }
-        ensures valid { IsValid (R.context resources.now) self.new.body }
+        ensures valid { IsValidBody (R.context resources.now) self.new.body }
         ensures kept { IsKept self.old.body self.new.body }
         ensures frames { may_frame self.new ≡ true }
     {
@@ -111,7 +111,7 @@ impl Stacks {
         offset: u64,
     ) -> Result<Frame, Error>
         requires open { self.old.body.present.frames ≢ [] }
-        requires state { IsValid (R.context resources.now) self.old.body }
+        requires state { IsValidBody (R.context resources.now) self.old.body }
         requires frames { may_frame self.old ≡ true }
         requires unsets { may_unset self.old ≡ true }
         ensures closed { OnOk result (closed_body (R.context resources.now) self.old.body
@@ -120,7 +120,7 @@ impl Stacks {
         ensures refused { IfErr result (λ e. e.wants_memory ≡ false
             → closed_body (R.context resources.now) self.old.body ≡ None) }
         ensures offset { IfErr result (λ e. e.offset ≡ offset) }
-        ensures valid { IsValid (R.context resources.now) self.new.body }
+        ensures valid { IsValidBody (R.context resources.now) self.new.body }
         ensures kept { IsKept self.old.body self.new.body }
         ensures frames { OnOk result (may_frame self.new ≡ true) }
         ensures idle { self.old.body.undone ≡ None → OnErr result

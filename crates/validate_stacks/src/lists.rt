@@ -4,7 +4,7 @@ ghost use Rattle.std.specs.Prelude.{◌≡◌, ◌≢◌, ◌⊎◌, [], true, f
 ghost use Rattle.std.specs.List.{AllByRecursion};
 ghost use Rattle.validate_resources.specs.Context.{ModuleContext, Valid};
 ghost use Rattle.validate_stacks.specs.Attempts.{phase_moved};
-ghost use Rattle.validate_stacks.specs.State.{IsValid, body_context};
+ghost use Rattle.validate_stacks.specs.State.{IsValidBody, body_context};
 ghost use Rattle.validate_stacks.specs.Steps.{body_unreachable};
 ghost use Rattle.validate_stacks.specs.Pops.{body_popped_each, body_pushed_each, has_operands_fitting, IsKept};
 
@@ -23,7 +23,7 @@ impl Stacks {
         wanted: &[ValType],
     ) -> Result<(), Error>
         requires types { AllByRecursion (Valid (R.context resources.now)) wanted.now }
-        requires state { IsValid (R.context resources.now) self.old.body }
+        requires state { IsValidBody (R.context resources.now) self.old.body }
         ensures passed { OnOk result (body_popped_each (R.context resources.now) (reverse wanted.now)
             self.old.body ≡ Some self.new.body) }
         ensures refused { IfErr result (λ e. e.wants_memory ≡ false
@@ -33,7 +33,7 @@ impl Stacks {
             self.old.body ≡ None) }
         ensures phase { phase_moved self.new.phase ≡ phase_moved self.old.phase }
         ensures offset { IfErr result (λ e. e.offset ≡ offset) }
-        ensures valid { IsValid (R.context resources.now) self.new.body }
+        ensures valid { IsValidBody (R.context resources.now) self.new.body }
         ensures kept { IsKept self.old.body self.new.body }
     {
         let mut left = wanted.len();
@@ -57,7 +57,7 @@ impl Stacks {
     ) -> Result<(), Error>
         requires within { count ≤ length wanted.now }
         requires types { AllByRecursion (Valid (R.context resources.now)) wanted.now }
-        requires state { IsValid (R.context resources.now) self.old.body }
+        requires state { IsValidBody (R.context resources.now) self.old.body }
         ensures passed { OnOk result (body_popped_each (R.context resources.now)
             (reverse (take count wanted.now)) self.old.body ≡ Some self.new.body) }
         ensures refused { IfErr result (λ e. e.wants_memory ≡ false
@@ -68,7 +68,7 @@ impl Stacks {
             self.old.body ≡ None) }
         ensures phase { phase_moved self.new.phase ≡ phase_moved self.old.phase }
         ensures offset { IfErr result (λ e. e.offset ≡ offset) }
-        ensures valid { IsValid (R.context resources.now) self.new.body }
+        ensures valid { IsValidBody (R.context resources.now) self.new.body }
         ensures kept { IsKept self.old.body self.new.body }
     {
         let mut left = count;
@@ -90,7 +90,7 @@ impl Stacks {
         wanted: &[ValType],
     ) -> Result<(), Error>
         requires types { AllByRecursion (Valid (R.context resources.now)) wanted.now }
-        requires state { IsValid (R.context resources.now) self.old.body }
+        requires state { IsValidBody (R.context resources.now) self.old.body }
         ensures passed { OnOk result (has_operands_fitting
             (body_context (R.context resources.now) self.old.body) wanted.now self.old.body ≡ true) }
         ensures same { OnOk result (self.new ≡ self.old) }
@@ -102,7 +102,7 @@ impl Stacks {
             wanted.now self.old.body ≡ false) }
         ensures phase { phase_moved self.new.phase ≡ phase_moved self.old.phase }
         ensures offset { IfErr result (λ e. e.offset ≡ offset) }
-        ensures valid { IsValid (R.context resources.now) self.new.body }
+        ensures valid { IsValidBody (R.context resources.now) self.new.body }
         ensures kept { IsKept self.old.body self.new.body }
     {
         let mut left = wanted.len();
@@ -127,7 +127,7 @@ impl Stacks {
         ensures memory { IfErr result (λ e. e.wants_memory ≡ true) }
         ensures offset { IfErr result (λ e. e.offset ≡ offset) }
         ensures valid { (md : ModuleContext) → AllByRecursion (Valid md) types.now
-            → IsValid md self.old.body → IsValid md self.new.body }
+            → IsValidBody md self.old.body → IsValidBody md self.new.body }
         ensures kept { IsKept self.old.body self.new.body }
         ensures phase { phase_moved self.new.phase ≡ phase_moved self.old.phase }
     {
@@ -146,7 +146,7 @@ impl Stacks {
         ensures ended { OnOk result (self.new.body ≡ body_unreachable self.old.body) }
         ensures memory { IfErr result (λ e. e.wants_memory ≡ true) }
         ensures offset { IfErr result (λ e. e.offset ≡ offset) }
-        ensures valid { (md : ModuleContext) → IsValid md self.old.body → IsValid md self.new.body }
+        ensures valid { (md : ModuleContext) → IsValidBody md self.old.body → IsValidBody md self.new.body }
         ensures kept { IsKept self.old.body self.new.body }
         ensures idle { self.old.body.undone ≡ None → IsOk result }
     {

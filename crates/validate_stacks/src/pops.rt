@@ -6,7 +6,7 @@ ghost use Rattle.validate_resources.specs.Context.{Valid};
 ghost use Rattle.validation_rules.specs.Fits.{UnknownRef, fits};
 ghost use Rattle.validation_rules.specs.Valid.{IsValidOperand};
 ghost use Rattle.validate_stacks.specs.Attempts.{phase_moved};
-ghost use Rattle.validate_stacks.specs.State.{IsValid, body_context};
+ghost use Rattle.validate_stacks.specs.State.{IsValidBody, body_context};
 ghost use Rattle.validate_stacks.specs.Names.{place_of, type_name};
 ghost use Rattle.validate_stacks.specs.Pops.{may_pop, FitsAtOnce};
 ghost use Rattle.validate_stacks.specs.Steps.{found_in_body, body_popped};
@@ -125,7 +125,7 @@ impl Stacks {
         expected: Option<ValType>,
     ) -> Result<MaybeType, Error>
         requires wanted { ForSome expected (Valid (R.context resources.now)) }
-        requires state { IsValid (R.context resources.now) self.old.body }
+        requires state { IsValidBody (R.context resources.now) self.old.body }
         ensures value { IfOk result (λ t. found_in_body self.old.body ≡ Some t) }
         ensures passed { OnOk result (may_pop (body_context (R.context resources.now) self.old.body)
             (found_in_body self.old.body) expected ≡ true) }
@@ -189,7 +189,7 @@ impl Stacks {
         expected: Option<ValType>,
     ) -> Result<MaybeType, Error>
         requires wanted { ForSome expected (Valid (R.context resources.now)) }
-        requires state { IsValid (R.context resources.now) self.old.body }
+        requires state { IsValidBody (R.context resources.now) self.old.body }
         ensures value { IfOk result (λ t. found_in_body self.old.body ≡ Some t) }
         ensures passed { OnOk result (may_pop (body_context (R.context resources.now) self.old.body)
             (found_in_body self.old.body) expected ≡ true) }

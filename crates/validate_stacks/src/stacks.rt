@@ -5,12 +5,12 @@ ghost use Rattle.std.specs.Option.{option_copied, ForSome};
 ghost use Rattle.validate_locals.specs.Limit.{max_locals};
 ghost use Rattle.validate_resources.specs.Context.{ModuleContext};
 ghost use Rattle.validate_transaction.specs.TakeBack.{items_taken_back, CanTakeBack};
-ghost use Rattle.validation_rules.specs.Static.{operand_count, frame_count};
+ghost use Rattle.validation_rules.specs.Static.{operand_count, frame_count, locals_set, is_local_set};
 ghost use Rattle.validate_stacks.specs.Attempts.{phase_moved, may_attempt, may_frame, may_set, may_unset, stacks_begun, stacks_committed, stacks_rolled_back};
 ghost use Rattle.validate_stacks.specs.Flat.{frames_unmarked, inits_in_frames};
 ghost use Rattle.validate_stacks.specs.Pops.{IsKept};
-ghost use Rattle.validate_stacks.specs.State.{IsValid};
-ghost use Rattle.validate_stacks.specs.Steps.{empty_body, innermost_operands, found_in_body, known_type, type_at_depth, frame_at, label_at, found_after_pops_in_body, body_marked, body_unreachable, body_pushed, body_popped, body_with_frame, body_without_frame, is_set_in_body, body_with_local_set, setting_order, body_with_locals, body_with_params};
+ghost use Rattle.validate_stacks.specs.State.{IsValidBody};
+ghost use Rattle.validate_stacks.specs.Steps.{empty_body, innermost_operands, found_in_body, known_type, type_at_depth, frame_at, label_at, found_after_pops_in_body, body_marked, body_unreachable, body_pushed, body_popped, body_with_frame, body_without_frame, body_with_local_set, setting_order, body_with_locals, body_with_params};
 
 use crate::allocations::OperatorValidatorAllocations;
 use std::alloc::Global;
@@ -43,10 +43,10 @@ impl Model for Stacks {
     ghost use Rattle.validate_stacks.specs.Flat.{stacked_of, IsSound};
 
     ghost view = { λ s. stacked_of s.control.items s.operands.items s.inits.order s.transaction s.shared
-        s.features s.locals s.inits.base };
+        s.features s.locals s.inits.set_at_entry };
 
     ghost invariant = { λ s. IsSound s.control.room s.control.items s.operands.room s.operands.items
-        s.inits.room s.inits.base s.inits.order s.transaction s.locals };
+        s.inits.room s.inits.set_at_entry s.inits.order s.transaction s.locals };
 }
 
 impl Stacks {
@@ -136,8 +136,8 @@ impl Stacks {
     /// Which locals are set: those that were first set, in order, and those set when the body begins.
     pub fn inits(&self) -> &LocalInits
         ensures order { result.now.order ≡ setting_order self.now.body.present.frames }
-        ensures base { result.now.base ≡ self.now.body.entry }
-        ensures marks { length self.now.body.entry ≡ length self.now.body.locals }
+        ensures set_at_entry { result.now.set_at_entry ≡ self.now.body.set_at_entry }
+        ensures marks { length self.now.body.set_at_entry ≡ length self.now.body.locals }
     {
         // The proof takes the invariant of the stacks from this read.
         let _frames = self.control.len();
@@ -188,7 +188,8 @@ impl Stacks {
     #[inline(always)]
     pub fn is_uninit(&self, local_index: u32) -> bool
         requires { local_index < length self.now.body.locals }
-        ensures { result ≡ not (is_set_in_body self.now.body local_index) }
+        ensures { result ≡ not (is_local_set self.now.body.set_at_entry (locals_set
+            self.now.body.present.frames) local_index) }
     {
         // The proof takes the invariant of the stacks from this read.
         let _frames = self.control.len();
@@ -336,7 +337,7 @@ impl Stacks {
     /// and its own operands go. It takes no memory where no attempt is pending.
     pub fn unreachable(&mut self) -> Result<(), OutOfMemory>
         ensures ended { OnOk result (self.new.body ≡ body_unreachable self.old.body) }
-        ensures valid { (md : ModuleContext) → IsValid md self.old.body → IsValid md self.new.body }
+        ensures valid { (md : ModuleContext) → IsValidBody md self.old.body → IsValidBody md self.new.body }
         ensures kept { IsKept self.old.body self.new.body }
         ensures idle { self.old.body.undone ≡ None → IsOk result }
     {
@@ -480,7 +481,7 @@ fn take_back_frames(
     requires { CanTakeBack control.old.room control.old.items trace.old.items }
     ensures frames { control.new.items ≡ items_taken_back control.old.items trace.old.items }
     ensures order { inits.new.order ≡ inits_in_frames control.old.items inits.old.order trace.old.items }
-    ensures base { inits.new.base ≡ inits.old.base }
+    ensures set_at_entry { inits.new.set_at_entry ≡ inits.old.set_at_entry }
     ensures room { control.old.room ≤ control.new.room }
     ensures inits_room { inits.new.room ≡ inits.old.room }
 {

@@ -7,7 +7,7 @@
 ghost use Rattle.std.specs.Prelude.{◌≡◌, None, IfOk, OnOk};
 ghost use Rattle.validation_rules.specs.Operators.{operator};
 ghost use Rattle.validate_stacks.specs.Pops.{IsKept};
-ghost use Rattle.validate_stacks.specs.State.{IsStarting, IsValid};
+ghost use Rattle.validate_stacks.specs.State.{IsStarting, IsValidBody};
 ghost use Rattle.validate_stacks.specs.Visits.{MayVisit, Meets};
 ghost use Rattle.wasmparser_validate.specs.Start.{state, stacks_of};
 
@@ -33,7 +33,7 @@ fn visit<R: WasmModuleResources>(
     op: Op<'_>,
 ) -> Result<(), Error>
     requires { MayVisit (R.context lists.now) (stacks_of v.old) }
-    ensures valid { IsValid (R.context lists.now) (state v.new) }
+    ensures valid { IsValidBody (R.context lists.now) (state v.new) }
     ensures kept { IsKept (state v.old) (state v.new) }
 {
     visit_by_row(v, lists, op)
@@ -116,7 +116,7 @@ fn expect_visit<R: WasmModuleResources>(
     wanted: &str,
 ) -> Result<(), Fail>
     requires { MayVisit (R.context lists.now) (stacks_of v.old) }
-    ensures valid { IsValid (R.context lists.now) (state v.new) }
+    ensures valid { IsValidBody (R.context lists.now) (state v.new) }
     ensures kept { IsKept (state v.old) (state v.new) }
 {
     let answer = visit(v, lists, op);
@@ -166,9 +166,9 @@ fn expect_line<R: WasmModuleResources>(
     line: &str,
 ) -> Result<(), Fail>
     requires idle { (state v.old).undone ≡ None }
-    requires valid { IsValid (R.context lists.now) (state v.old) }
+    requires valid { IsValidBody (R.context lists.now) (state v.old) }
     ensures idle { OnOk result ((state v.new).undone ≡ None) }
-    ensures valid { OnOk result (IsValid (R.context lists.now) (state v.new)) }
+    ensures valid { OnOk result (IsValidBody (R.context lists.now) (state v.new)) }
 {
     let (written, answer) = parts_of(line);
     if v.control_stack_height() == 0 {
@@ -195,9 +195,9 @@ fn expect_lines<R: WasmModuleResources>(
     text: &str,
 ) -> Result<(), Fail>
     requires idle { (state v.old).undone ≡ None }
-    requires valid { IsValid (R.context lists.now) (state v.old) }
+    requires valid { IsValidBody (R.context lists.now) (state v.old) }
     ensures idle { OnOk result ((state v.new).undone ≡ None) }
-    ensures valid { OnOk result (IsValid (R.context lists.now) (state v.new)) }
+    ensures valid { OnOk result (IsValidBody (R.context lists.now) (state v.new)) }
 {
     for line in text.lines() {
         if !line.is_empty() {
@@ -362,9 +362,9 @@ fn expect_first_set(rt: &impl Abort, v: &OperatorValidator, wanted: &[u32]) {
 /// Attempts an `else`, which is accepted, and takes it back.
 fn undo_else<R: WasmModuleResources>(rt: &impl Abort, v: &mut OperatorValidator, lists: &R)
     requires idle { (state v.old).undone ≡ None }
-    requires valid { IsValid (R.context lists.now) (state v.old) }
+    requires valid { IsValidBody (R.context lists.now) (state v.old) }
     ensures same { state v.new ≡ state v.old }
-    ensures valid { IsValid (R.context lists.now) (state v.new) }
+    ensures valid { IsValidBody (R.context lists.now) (state v.new) }
 {
     assert!(rt; v.control_stack_height() > 0);
     expect(

@@ -5,7 +5,7 @@
 
 ghost use Rattle.std.specs.Prelude.{◌≡◌, ◌≢◌, [], None, OnOk, OnErr, IfOk};
 ghost use Rattle.validate_stacks.specs.Pops.{IsKept};
-ghost use Rattle.validate_stacks.specs.State.{IsStarting, IsValid};
+ghost use Rattle.validate_stacks.specs.State.{IsStarting, IsValidBody};
 ghost use Rattle.wasmparser_validate.specs.Start.{state};
 
 use crate::expect::{expect, expect_same_in};
@@ -74,9 +74,9 @@ fn attempt<R: WasmModuleResources>(
 ) -> Result<(), Error>
     requires idle { (state v.old).undone ≡ None }
     requires open { (state v.old).present.frames ≢ [] }
-    requires valid { IsValid (R.context lists.now) (state v.old) }
+    requires valid { IsValidBody (R.context lists.now) (state v.old) }
     ensures back { OnErr result (state v.new ≡ state v.old) }
-    ensures valid { IsValid (R.context lists.now) (state v.new) }
+    ensures valid { IsValidBody (R.context lists.now) (state v.new) }
     ensures kept { IsKept (state v.old) (state v.new) }
 {
     try_op(v, lists, 7, op)
@@ -91,7 +91,7 @@ fn attempt_undone<R: WasmModuleResources>(
 )
     requires idle { (state v.old).undone ≡ None }
     requires open { (state v.old).present.frames ≢ [] }
-    requires valid { IsValid (R.context lists.now) (state v.old) }
+    requires valid { IsValidBody (R.context lists.now) (state v.old) }
     ensures { state v.new ≡ state v.old }
 {
     if let Err(refusal) = try_and_undo(v, lists, 7, op) {
@@ -116,9 +116,9 @@ fn expect_step<R: WasmModuleResources>(
     op: Op<'_>,
 ) -> Result<(), Fail>
     requires idle { (state v.old).undone ≡ None }
-    requires valid { IsValid (R.context lists.now) (state v.old) }
+    requires valid { IsValidBody (R.context lists.now) (state v.old) }
     ensures idle { OnOk result ((state v.new).undone ≡ None) }
-    ensures valid { OnOk result (IsValid (R.context lists.now) (state v.new)) }
+    ensures valid { OnOk result (IsValidBody (R.context lists.now) (state v.new)) }
 {
     let before = seen(rt, v)?;
     if v.control_stack_height() == 0 {
@@ -142,9 +142,9 @@ fn expect_line<R: WasmModuleResources>(
     line: &str,
 ) -> Result<(), Fail>
     requires idle { (state v.old).undone ≡ None }
-    requires valid { IsValid (R.context lists.now) (state v.old) }
+    requires valid { IsValidBody (R.context lists.now) (state v.old) }
     ensures idle { OnOk result ((state v.new).undone ≡ None) }
-    ensures valid { OnOk result (IsValid (R.context lists.now) (state v.new)) }
+    ensures valid { OnOk result (IsValidBody (R.context lists.now) (state v.new)) }
 {
     let (written, heights) = line.split_once("=>").unwrap_or((line, ""));
     let (operands, frames) = heights.trim().split_once(' ').unwrap_or(("", ""));

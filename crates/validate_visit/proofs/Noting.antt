@@ -2,7 +2,7 @@
 use Rattle.std.proofs.Common.{◌≡◌, ◌≢◌, ℕ, zero, suc, ◌+◌, ◌-◌, ◌<◌, inl, inr, min, Bool, true, false, Some, None, List, refl, ap, sym, subst, ◌∙◌, arith}
 use Rattle.std.proofs.lemmas.Bool.{cases_eq}
 use Rattle.validate_visit.specs.declared.frame.FrameKind.{FrameKind}
-use Rattle.validate_visit.specs.Order.{Nesting, Stays, Opens, BeginsElse, BeginsCatch, Ends, Delegates, is_opening, is_closer, is_if, part_begun}
+use Rattle.validate_visit.specs.Order.{Nesting, Stays, Opens, BeginsElse, BeginsCatch, Ends, Delegates, is_part_opener, is_part_closer, is_if, part_begun}
 use Rattle.validate_visit.specs.Parts.{is_if_under, most_noted, is_noted_at, AreNoted}
 use Rattle.validate_visit.specs.Order.{parts_after}
 use Rattle.validate_visit.proofs.Reading.{counted}
@@ -15,7 +15,7 @@ OthersStay depth ws ws' = (other : ℕ) → other ≢ depth → depth < other + 
 -- ---- what an operator does
 
 -- an operator that opens a part begins one, and one that closes a part doesn't open one
-pub none_opened : (op : Nesting) → part_begun op ≡ None → is_opening op ≡ false
+pub none_opened : (op : Nesting) → part_begun op ≡ None → is_part_opener op ≡ false
 none_opened (Opens k) e = absurd cc
 none_opened Stays e = refl
 none_opened BeginsElse e = refl
@@ -23,7 +23,7 @@ none_opened (BeginsCatch all) e = refl
 none_opened Ends e = refl
 none_opened Delegates e = refl
 
-pub closer_opens_none : (op : Nesting) → is_closer op ≡ true → is_opening op ≡ false
+pub closer_opens_none : (op : Nesting) → is_part_closer op ≡ true → is_part_opener op ≡ false
 closer_opens_none (Opens k) e = absurd cc
 closer_opens_none Stays e = refl
 closer_opens_none BeginsElse e = refl
@@ -31,7 +31,7 @@ closer_opens_none (BeginsCatch all) e = refl
 closer_opens_none Ends e = refl
 closer_opens_none Delegates e = refl
 
-pub begins_no_closer : (op : Nesting) (k : FrameKind) → part_begun op ≡ Some k → is_closer op ≡ false
+pub begins_no_closer : (op : Nesting) (k : FrameKind) → part_begun op ≡ Some k → is_part_closer op ≡ false
 begins_no_closer Ends k e = absurd cc
 begins_no_closer Delegates k e = absurd cc
 begins_no_closer (Opens j) k e = refl
@@ -41,7 +41,7 @@ begins_no_closer (BeginsCatch all) k e = refl
 
 -- ---- reading an operator
 
-pub noted-closed : (d n : ℕ) (ws : List ℕ) (ks : List FrameKind) (op : Nesting) → 0 < d → is_closer op ≡ true → is_opening op ≡ false → AreNoted d n ws ks → AreNoted (d - 1) (n - 1) ws (parts_after ks op)
+pub noted-closed : (d n : ℕ) (ws : List ℕ) (ks : List FrameKind) (op : Nesting) → 0 < d → is_part_closer op ≡ true → is_part_opener op ≡ false → AreNoted d n ws ks → AreNoted (d - 1) (n - 1) ws (parts_after ks op)
 noted-closed d n ws ks op some h g v = record {
   counted = counted ks op d (d - 1) v.counted (λ o. absurd (cc (o, g))) (λ _. omega (arith, some)) (λ _ c. absurd (cc (c, h)));
   within = omega (arith, v.within);
@@ -51,7 +51,7 @@ noted-closed d n ws ks op some h g v = record {
       ap (is_noted_at ws) e ∙ v.same (suc j) (omega (arith, l)) ∙ sym (back-closed j ks op h);
 }
 
-pub noted-opened : (d n : ℕ) (ws ws' : List ℕ) (ks : List FrameKind) (op : Nesting) (k : FrameKind) → is_closer op ≡ false → is_opening op ≡ true → part_begun op ≡ Some k → is_noted_at ws' (d + 1) ≡ is_if k → OthersStay (d + 1) ws ws' → AreNoted d n ws ks → AreNoted (d + 1) (min (n + 1) most_noted) ws' (parts_after ks op)
+pub noted-opened : (d n : ℕ) (ws ws' : List ℕ) (ks : List FrameKind) (op : Nesting) (k : FrameKind) → is_part_closer op ≡ false → is_part_opener op ≡ true → part_begun op ≡ Some k → is_noted_at ws' (d + 1) ≡ is_if k → OthersStay (d + 1) ws ws' → AreNoted d n ws ks → AreNoted (d + 1) (min (n + 1) most_noted) ws' (parts_after ks op)
 noted-opened d n ws ws' ks op k h g p here others v = record {
   counted = counted ks op d (d + 1) v.counted (λ _. refl) (λ c. absurd (cc (c, h))) (λ o. absurd (cc (o, g)));
   within = omega (arith, v.within);
@@ -70,7 +70,7 @@ noted-opened d n ws ws' ks op k h g p here others v = record {
         ap (is_noted_at ws') e ∙ others (d - j) w (omega (arith, l)) (omega arith) ∙ v.same j (omega (arith, l))
         ∙ ap (λ m. is_if_under m ks) (sym i) ∙ sym (back-opened (suc j) ks op (omega arith) g)
 
-pub noted-turned : (d n : ℕ) (ws ws' : List ℕ) (ks : List FrameKind) (op : Nesting) (k : FrameKind) → is_closer op ≡ false → is_opening op ≡ false → part_begun op ≡ Some k → is_noted_at ws' d ≡ is_if k → OthersStay d ws ws' → AreNoted d n ws ks → AreNoted d n ws' (parts_after ks op)
+pub noted-turned : (d n : ℕ) (ws ws' : List ℕ) (ks : List FrameKind) (op : Nesting) (k : FrameKind) → is_part_closer op ≡ false → is_part_opener op ≡ false → part_begun op ≡ Some k → is_noted_at ws' d ≡ is_if k → OthersStay d ws ws' → AreNoted d n ws ks → AreNoted d n ws' (parts_after ks op)
 noted-turned d n ws ws' ks op k h g p here others v = record {
   counted = counted ks op d d v.counted (λ o. absurd (cc (o, g))) (λ c. absurd (cc (c, h))) (λ _ _. refl);
   within = v.within;
@@ -87,13 +87,13 @@ noted-turned d n ws ws' ks op k h g p here others v = record {
         others (d - suc j) w (omega (arith, l, v.within_limit)) (omega arith) ∙ v.same (suc j) l
         ∙ sym (back-turned (suc j) ks op (omega arith) g h)
 
-pub noted-begun : (d n o : ℕ) (ws ws' : List ℕ) (ks : List FrameKind) (op : Nesting) (k : FrameKind) → part_begun op ≡ Some k → (is_opening op ≡ true → o ≡ 1) → (is_opening op ≡ false → o ≡ 0) → is_noted_at ws' (d + o) ≡ is_if k → OthersStay (d + o) ws ws' → AreNoted d n ws ks → AreNoted (d + o) (min (n + o) most_noted) ws' (parts_after ks op)
-noted-begun d n o ws ws' ks op k p opens turns here others v = at (is_opening op) refl
+pub noted-begun : (d n o : ℕ) (ws ws' : List ℕ) (ks : List FrameKind) (op : Nesting) (k : FrameKind) → part_begun op ≡ Some k → (is_part_opener op ≡ true → o ≡ 1) → (is_part_opener op ≡ false → o ≡ 0) → is_noted_at ws' (d + o) ≡ is_if k → OthersStay (d + o) ws ws' → AreNoted d n ws ks → AreNoted (d + o) (min (n + o) most_noted) ws' (parts_after ks op)
+noted-begun d n o ws ws' ks op k p opens turns here others v = at (is_part_opener op) refl
   where
-    h : is_closer op ≡ false
+    h : is_part_closer op ≡ false
     h = begins_no_closer op k p
 
-    at : (b : Bool) → is_opening op ≡ b → AreNoted (d + o) (min (n + o) most_noted) ws' (parts_after ks op)
+    at : (b : Bool) → is_part_opener op ≡ b → AreNoted (d + o) (min (n + o) most_noted) ws' (parts_after ks op)
     at true g =
         let e = opens g in
         subst (λ m. AreNoted (d + m) (min (n + m) most_noted) ws' (parts_after ks op)) (sym e) (noted-opened d n ws ws' ks op k h g p (subst (λ m. is_noted_at ws' (d + m) ≡ is_if k) e here) (subst (λ m. OthersStay (d + m) ws ws') e others) v)
@@ -109,7 +109,7 @@ abbrev pub AreRest : ℕ → List FrameKind → ℕ → List FrameKind → Type 
 AreRest under ks noted whole = (j : ℕ) → is_if_under (under + j) ks ≡ is_if_under (noted + j) whole
 
 -- it begins the part to be noted next
-pub noted-found : (d n : ℕ) (ws ws' : List ℕ) (ks whole : List FrameKind) (op : Nesting) (k : FrameKind) → n < d → n < most_noted → is_closer op ≡ false → part_begun op ≡ Some k → is_noted_at ws' (d - n) ≡ is_if k → OthersStay (d - n) ws ws' → AreRest 0 (parts_after ks op) n whole → AreNoted d n ws whole → AreNoted d (n + 1) ws' whole
+pub noted-found : (d n : ℕ) (ws ws' : List ℕ) (ks whole : List FrameKind) (op : Nesting) (k : FrameKind) → n < d → n < most_noted → is_part_closer op ≡ false → part_begun op ≡ Some k → is_noted_at ws' (d - n) ≡ is_if k → OthersStay (d - n) ws ws' → AreRest 0 (parts_after ks op) n whole → AreNoted d n ws whole → AreNoted d (n + 1) ws' whole
 noted-found d n ws ws' ks whole op k deeper room h p here others rest v = record {
   counted = v.counted;
   within = omega (arith, deeper);
@@ -130,19 +130,19 @@ next n j ks whole op rest =
     let b : n + suc j ≡ n + 1 + j = omega arith in
     ap (λ i. is_if_under i (parts_after ks op)) a ∙ rest (suc j) ∙ ap (λ i. is_if_under i whole) b
 
-pub rest-opened : (n : ℕ) (ks whole : List FrameKind) (op : Nesting) → is_opening op ≡ true → AreRest 0 (parts_after ks op) n whole → AreRest 0 ks (n + 1) whole
+pub rest-opened : (n : ℕ) (ks whole : List FrameKind) (op : Nesting) → is_part_opener op ≡ true → AreRest 0 (parts_after ks op) n whole → AreRest 0 ks (n + 1) whole
 rest-opened n ks whole op g rest = λ j.
     let i : 0 + j ≡ suc j - 1 = omega arith in
     ap (λ m. is_if_under m ks) i ∙ sym (back-opened (suc j) ks op (omega arith) g) ∙ next n j ks whole op rest
 
-pub rest-turned : (n : ℕ) (ks whole : List FrameKind) (op : Nesting) → is_opening op ≡ false → is_closer op ≡ false → AreRest 0 (parts_after ks op) n whole → AreRest 1 ks (n + 1) whole
+pub rest-turned : (n : ℕ) (ks whole : List FrameKind) (op : Nesting) → is_part_opener op ≡ false → is_part_closer op ≡ false → AreRest 0 (parts_after ks op) n whole → AreRest 1 ks (n + 1) whole
 rest-turned n ks whole op g h rest = λ j.
     let i : 1 + j ≡ suc j = omega arith in
     ap (λ m. is_if_under m ks) i ∙ sym (back-turned (suc j) ks op (omega arith) g h) ∙ next n j ks whole op rest
 
-pub rest-begun : (n r : ℕ) (ks whole : List FrameKind) (op : Nesting) → is_closer op ≡ false → (is_opening op ≡ true → r ≡ 0) → (is_opening op ≡ false → r ≡ 1) → AreRest 0 (parts_after ks op) n whole → AreRest r ks (n + 1) whole
-rest-begun n r ks whole op h opens turns rest = at (is_opening op) refl
+pub rest-begun : (n r : ℕ) (ks whole : List FrameKind) (op : Nesting) → is_part_closer op ≡ false → (is_part_opener op ≡ true → r ≡ 0) → (is_part_opener op ≡ false → r ≡ 1) → AreRest 0 (parts_after ks op) n whole → AreRest r ks (n + 1) whole
+rest-begun n r ks whole op h opens turns rest = at (is_part_opener op) refl
   where
-    at : (b : Bool) → is_opening op ≡ b → AreRest r ks (n + 1) whole
+    at : (b : Bool) → is_part_opener op ≡ b → AreRest r ks (n + 1) whole
     at true g = subst (λ m. AreRest m ks (n + 1) whole) (sym (opens g)) (rest-opened n ks whole op g rest)
     at false g = subst (λ m. AreRest m ks (n + 1) whole) (sym (turns g)) (rest-turned n ks whole op g h rest)

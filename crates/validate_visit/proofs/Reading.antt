@@ -8,9 +8,9 @@ use Rattle.validate_visit.specs.declared.frame.FrameKind.TheVariants.{Else}
 use Rattle.validate_visit.specs.declared.op.Op.{Op}
 use Rattle.validate_visit.specs.declared.op.Op.TheVariants.{Control, Numeric, Convert, Memory, Atomic, Reference, Table}
 use Rattle.validate_visit.specs.declared.op.ControlOp.TheVariants.{Nop, Block as BlockOp, Loop as LoopOp, If as IfOp, Else as ElseOp}
-use Rattle.validate_visit.specs.Parts.{outermost, parts}
+use Rattle.validate_visit.specs.Parts.{outermost, parts_after_list}
 use Rattle.validate_visit.specs.Order.{with_innermost_kind, parts_after}
-use Rattle.validate_visit.specs.Order.{Nesting, Stays, Opens, BeginsElse, BeginsCatch, Ends, Delegates, nesting, is_opening, is_closer, begins_else, is_if, is_try, may_catch, catch_kind, is_ordered_from, is_well_ordered_list, may_stand}
+use Rattle.validate_visit.specs.Order.{Nesting, Stays, Opens, BeginsElse, BeginsCatch, Ends, Delegates, nesting, is_part_opener, is_part_closer, begins_else, is_if, is_try, may_catch, catch_kind, is_ordered_from, is_well_ordered_list, may_stand}
 
 -- the operators of a list with offsets, and what they do to the open parts
 abbrev pub operators : List (Op × ℕ) → List Op
@@ -53,7 +53,7 @@ length-turned j [] = refl
 length-turned j (k ∷ ks) = refl
 
 -- so many parts are open after it
-pub counted : (ks : List FrameKind) (n : Nesting) (c m : ℕ) → c ≡ length ks → (is_opening n ≡ true → m ≡ c + 1) → (is_closer n ≡ true → m + 1 ≡ c) → (is_opening n ≡ false → is_closer n ≡ false → m ≡ c) → m ≡ length (parts_after ks n)
+pub counted : (ks : List FrameKind) (n : Nesting) (c m : ℕ) → c ≡ length ks → (is_part_opener n ≡ true → m ≡ c + 1) → (is_part_closer n ≡ true → m + 1 ≡ c) → (is_part_opener n ≡ false → is_part_closer n ≡ false → m ≡ c) → m ≡ length (parts_after ks n)
 counted ks Stays c m e opens closes stays = stays refl refl ∙ e
 counted ks (Opens kind) c m e opens closes stays = let h = opens refl in omega (arith, e, h)
 counted ks BeginsElse c m e opens closes stays = stays refl refl ∙ e ∙ length-turned Else ks
@@ -65,25 +65,25 @@ counted (k ∷ ks) Delegates c m e opens closes stays = let h = closes refl in o
 
 -- ---- a list
 
-parts-push : (ks : List FrameKind) (ns : List Nesting) (n : Nesting) → parts ks (ns ++ n ∷ []) ≡ parts_after (parts ks ns) n
+parts-push : (ks : List FrameKind) (ns : List Nesting) (n : Nesting) → parts_after_list ks (ns ++ n ∷ []) ≡ parts_after (parts_after_list ks ns) n
 parts-push ks [] n = refl
 parts-push ks (m ∷ ns) n = parts-push (parts_after ks m) ns n
 
-reads-append : (ks : List FrameKind) (ns ms : List Nesting) → is_ordered_from ks (ns ++ ms) ≡ is_ordered_from ks ns && is_ordered_from (parts ks ns) ms
+reads-append : (ks : List FrameKind) (ns ms : List Nesting) → is_ordered_from ks (ns ++ ms) ≡ is_ordered_from ks ns && is_ordered_from (parts_after_list ks ns) ms
 reads-append ks [] ms = refl
 reads-append ks (n ∷ ns) ms =
     reads_one ks n (ns ++ ms) ∙ ap (λ b. may_stand ks n && b) (reads-append (parts_after ks n) ns ms)
-    ∙ sym (and_assoc (may_stand ks n) (is_ordered_from (parts_after ks n) ns) (is_ordered_from (parts (parts_after ks n) ns) ms))
-    ∙ ap (λ b. b && is_ordered_from (parts (parts_after ks n) ns) ms) (sym (reads_one ks n ns))
+    ∙ sym (and_assoc (may_stand ks n) (is_ordered_from (parts_after ks n) ns) (is_ordered_from (parts_after_list (parts_after ks n) ns) ms))
+    ∙ ap (λ b. b && is_ordered_from (parts_after_list (parts_after ks n) ns) ms) (sym (reads_one ks n ns))
 
 -- after a list that is in order
 module _ (ks : List FrameKind) (ns : List Nesting) (ordered : is_ordered_from ks ns ≡ true) where
-  reads-on : (n : Nesting) (ms : List Nesting) → is_ordered_from ks (ns ++ n ∷ ms) ≡ may_stand (parts ks ns) n && is_ordered_from (parts_after (parts ks ns) n) ms
+  reads-on : (n : Nesting) (ms : List Nesting) → is_ordered_from ks (ns ++ n ∷ ms) ≡ may_stand (parts_after_list ks ns) n && is_ordered_from (parts_after (parts_after_list ks ns) n) ms
   reads-on n ms =
-      reads-append ks ns (n ∷ ms) ∙ ap (λ b. b && is_ordered_from (parts ks ns) (n ∷ ms)) ordered ∙ reads_one (parts ks ns) n ms
+      reads-append ks ns (n ∷ ms) ∙ ap (λ b. b && is_ordered_from (parts_after_list ks ns) (n ∷ ms)) ordered ∙ reads_one (parts_after_list ks ns) n ms
 
-  pub reads-push : (n : Nesting) → is_ordered_from ks (ns ++ n ∷ []) ≡ may_stand (parts ks ns) n
-  reads-push n = reads-on n [] ∙ and-true (may_stand (parts ks ns) n)
+  pub reads-push : (n : Nesting) → is_ordered_from ks (ns ++ n ∷ []) ≡ may_stand (parts_after_list ks ns) n
+  reads-push n = reads-on n [] ∙ and-true (may_stand (parts_after_list ks ns) n)
 
 -- ---- the operators up to an index
 
@@ -94,12 +94,12 @@ module _ (ps : List (Op × ℕ)) (i : ℕ) (d : Op × ℕ) (h : i < length ps) w
   nestings-more : nestings (take (i + 1) ps) ≡ nestings (take i ps) ++ nesting (get_or ps i d).0 ∷ []
   nestings-more = ap nestings (take_more ps i d h) ∙ nestings-append (take i ps) (get_or ps i d ∷ [])
 
-  pub parts-more : parts outermost (nestings (take (i + 1) ps)) ≡ parts_after (parts outermost (nestings (take i ps))) (nesting (get_or ps i d).0)
-  parts-more = ap (parts outermost) nestings-more ∙ parts-push outermost (nestings (take i ps)) (nesting (get_or ps i d).0)
+  pub parts-more : parts_after_list outermost (nestings (take (i + 1) ps)) ≡ parts_after (parts_after_list outermost (nestings (take i ps))) (nesting (get_or ps i d).0)
+  parts-more = ap (parts_after_list outermost) nestings-more ∙ parts-push outermost (nestings (take i ps)) (nesting (get_or ps i d).0)
 
 -- ---- one operator after a list that is in order
 
-pub follows : (ps : List (Op × ℕ)) (op : Op) → is_ordered_from outermost (nestings ps) ≡ true → is_well_ordered_list (operators ps ++ op ∷ []) ≡ may_stand (parts outermost (nestings ps)) (nesting op)
+pub follows : (ps : List (Op × ℕ)) (op : Op) → is_ordered_from outermost (nestings ps) ≡ true → is_well_ordered_list (operators ps ++ op ∷ []) ≡ may_stand (parts_after_list outermost (nestings ps)) (nesting op)
 follows ps op h = ap (is_ordered_from outermost) (map-append nesting (operators ps) (op ∷ [])) ∙ reads-push outermost (nestings ps) h (nesting op)
 
 left_of_and : (a b : Bool) → a && b ≡ true → a ≡ true
@@ -109,21 +109,21 @@ left_of_and false b h = absurd cc
 pub ordered-front : (ps : List (Op × ℕ)) (op : Op) → is_well_ordered_list (operators ps ++ op ∷ []) ≡ true → is_well_ordered_list (operators ps) ≡ true
 ordered-front ps op h =
     let e = ap (is_ordered_from outermost) (map-append nesting (operators ps) (op ∷ [])) ∙ reads-append outermost (nestings ps) (nesting op ∷ []) in
-    left_of_and (is_ordered_from outermost (nestings ps)) (is_ordered_from (parts outermost (nestings ps)) (nesting op ∷ [])) (sym e ∙ h)
+    left_of_and (is_ordered_from outermost (nestings ps)) (is_ordered_from (parts_after_list outermost (nestings ps)) (nesting op ∷ [])) (sym e ∙ h)
 
 pub follows-as_nop : (ps : List (Op × ℕ)) (op : Op) → is_well_ordered_list (operators ps ++ Control Nop ∷ []) ≡ true → begins_else (nesting op) ≡ false → is_well_ordered_list (operators ps ++ op ∷ []) ≡ true
 follows-as_nop ps op nop h =
     let front = ordered-front ps (Control Nop) nop in
-    follows ps op front ∙ as_nop (parts outermost (nestings ps)) op h ∙ sym (follows ps (Control Nop) front) ∙ nop
+    follows ps op front ∙ as_nop (parts_after_list outermost (nestings ps)) op h ∙ sym (follows ps (Control Nop) front) ∙ nop
 
 -- ---- reading on at an index, where so many parts are open
 
-pub nop_follows : (ps : List (Op × ℕ)) (open_parts : ℕ) → is_well_ordered_list (operators ps) ≡ true → open_parts ≡ length (parts outermost (nestings ps)) → open_parts ≢ 0 → is_well_ordered_list (operators ps ++ Control Nop ∷ []) ≡ true
-nop_follows ps n h e some = follows ps (Control Nop) h ∙ nop_stands (parts outermost (nestings ps)) n e some
+pub nop_follows : (ps : List (Op × ℕ)) (open_parts : ℕ) → is_well_ordered_list (operators ps) ≡ true → open_parts ≡ length (parts_after_list outermost (nestings ps)) → open_parts ≢ 0 → is_well_ordered_list (operators ps ++ Control Nop ∷ []) ≡ true
+nop_follows ps n h e some = follows ps (Control Nop) h ∙ nop_stands (parts_after_list outermost (nestings ps)) n e some
 
 module _ (ps : List (Op × ℕ)) (i : ℕ) (d : Op × ℕ) (h : i < length ps) (ordered : is_well_ordered_list (operators (take i ps)) ≡ true) where
   abbrev now : List FrameKind
-  now = parts outermost (nestings (take i ps))
+  now = parts_after_list outermost (nestings (take i ps))
 
   abbrev next : Op
   next = (get_or ps i d).0
@@ -144,11 +144,11 @@ module _ (ps : List (Op × ℕ)) (i : ℕ) (d : Op × ℕ) (h : i < length ps) (
       nestings-further : nestings (take (i + 1) ps) ≡ map nesting (operators (take i ps) ++ next ∷ [])
       nestings-further = nestings-more ps i d h ∙ sym (map-append nesting (operators (take i ps)) (next ∷ []))
 
-  pub parts-further : (open_parts m : ℕ) → open_parts ≡ length now → (is_opening (nesting next) ≡ true → m ≡ open_parts + 1) → (is_closer (nesting next) ≡ true → m + 1 ≡ open_parts) → (is_opening (nesting next) ≡ false → is_closer (nesting next) ≡ false → m ≡ open_parts) → m ≡ length (parts outermost (nestings (take (i + 1) ps)))
+  pub parts-further : (open_parts m : ℕ) → open_parts ≡ length now → (is_part_opener (nesting next) ≡ true → m ≡ open_parts + 1) → (is_part_closer (nesting next) ≡ true → m + 1 ≡ open_parts) → (is_part_opener (nesting next) ≡ false → is_part_closer (nesting next) ≡ false → m ≡ open_parts) → m ≡ length (parts_after_list outermost (nestings (take (i + 1) ps)))
   parts-further n m e opens closes stays =
       counted now (nesting next) n m e opens closes stays ∙ ap length (sym (parts-more ps i d h))
 
-pub stops-none_open : (ps : List (Op × ℕ)) (i : ℕ) → i < length ps → is_well_ordered_list (operators (take i ps)) ≡ true → 0 ≡ length (parts outermost (nestings (take i ps))) → is_well_ordered_list (operators ps) ≡ false
+pub stops-none_open : (ps : List (Op × ℕ)) (i : ℕ) → i < length ps → is_well_ordered_list (operators (take i ps)) ≡ true → 0 ≡ length (parts_after_list outermost (nestings (take i ps))) → is_well_ordered_list (operators ps) ≡ false
 stops-none_open ps i h ordered e =
     let d : Op × ℕ = (Control Nop, 0) in
-    stops ps i d h ordered (none_stands (parts outermost (nestings (take i ps))) (nesting (get_or ps i d).0) e)
+    stops ps i d h ordered (none_stands (parts_after_list outermost (nestings (take i ps))) (nesting (get_or ps i d).0) e)

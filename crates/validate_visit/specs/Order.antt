@@ -22,15 +22,15 @@ pub data Nesting : Type 0 where
   Delegates : Nesting
 
 -- an operator that opens a part
-abbrev pub is_opening : Nesting → Bool
-is_opening (Opens kind) = true
-is_opening _ = false
+abbrev pub is_part_opener : Nesting → Bool
+is_part_opener (Opens kind) = true
+is_part_opener _ = false
 
 -- an operator that closes the innermost part
-abbrev pub is_closer : Nesting → Bool
-is_closer Ends = true
-is_closer Delegates = true
-is_closer _ = false
+abbrev pub is_part_closer : Nesting → Bool
+is_part_closer Ends = true
+is_part_closer Delegates = true
+is_part_closer _ = false
 
 -- an operator that begins an `else` part
 abbrev pub begins_else : Nesting → Bool

@@ -12,13 +12,13 @@ abbrev pub outermost : List FrameKind
 outermost = Block ∷ []
 
 -- the open parts after a list
-abbrev pub parts : List FrameKind → List Nesting → List FrameKind
-parts ks [] = ks
-parts ks (n ∷ ns) = parts (parts_after ks n) ns
+abbrev pub parts_after_list : List FrameKind → List Nesting → List FrameKind
+parts_after_list ks [] = ks
+parts_after_list ks (n ∷ ns) = parts_after_list (parts_after ks n) ns
 
 -- the parts that a list leaves open
 abbrev pub parts_left : List Op → List FrameKind
-parts_left ops = parts outermost (map nesting ops)
+parts_left ops = parts_after_list outermost (map nesting ops)
 
 -- whether the part under d others is the first part of an `if`
 abbrev pub is_if_under : ℕ → List FrameKind → Bool

@@ -2,7 +2,7 @@
 
 ghost use Rattle.std.specs.Prelude.{◌≡◌, ◌≢◌, ℕ, ◌+◌, ◌-◌, ◌<◌, ◌≤◌, ◌^◌, ◌++◌, [], ◌∷◌, List, Bool, None, true, false, map, length, cond};
 ghost use Rattle.std.specs.Int.{bit_at};
-ghost use Rattle.validate_visit.specs.Order.{is_well_ordered_list, is_opening, is_closer, is_if, begins_else, part_begun, nesting};
+ghost use Rattle.validate_visit.specs.Order.{is_well_ordered_list, is_part_opener, is_part_closer, is_if, begins_else, part_begun, nesting};
 ghost use Rattle.validate_visit.specs.Parts.{parts_left, is_if_under, most_noted, is_noted_at, AreNoted};
 ghost use Rattle.validate_visit.specs.Order.{parts_after};
 ghost use Rattle.validate_visit.specs.declared.frame.FrameKind.{FrameKind};
@@ -222,7 +222,7 @@ fn begins(op: Op<'_>) -> Option<FrameKind>
 /// Whether the operator opens a part.
 #[inline(always)]
 fn opens(op: Op<'_>) -> bool
-    ensures { result ≡ is_opening (nesting op.entry) }
+    ensures { result ≡ is_part_opener (nesting op.entry) }
 {
     matches!(
         op,
@@ -233,7 +233,7 @@ fn opens(op: Op<'_>) -> bool
 /// Whether the operator closes the innermost part.
 #[inline(always)]
 fn closes(op: Op<'_>) -> bool
-    ensures { result ≡ is_closer (nesting op.entry) }
+    ensures { result ≡ is_part_closer (nesting op.entry) }
 {
     matches!(op, Op::Control(ControlOp::End))
 }

@@ -45,7 +45,7 @@ two_to_two = FuncType 3
 
 module _ (features : WasmFeatures) where
   abbrev cx : Context
-  cx = record { of_module = context_of declared; features = features; shared = false; locals = I32 ∷ I64 ∷ []; entry = true ∷ false ∷ [] }
+  cx = record { of_module = context_of declared; features = features; shared = false; locals = I32 ∷ I64 ∷ []; set_at_entry = true ∷ false ∷ [] }
 
   -- ---- operators, as the rules see them
 
@@ -582,7 +582,7 @@ module _ (features : WasmFeatures) where
     features = features;
     shared = false;
     locals = [];
-    entry = [];
+    set_at_entry = [];
   }
 
   abbrev TiltedDone : BlockType → List Operator → List MaybeType → Type 0

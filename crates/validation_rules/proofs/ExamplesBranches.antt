@@ -42,7 +42,7 @@ i64_to_i64 = FuncType 2
 
 -- with these proposals on
 abbrev under : ℕ → Bool → Context
-under bits shared = record { of_module = context_of declared; features = record { 0 = bits }; shared = shared; locals = []; entry = [] }
+under bits shared = record { of_module = context_of declared; features = record { 0 = bits }; shared = shared; locals = []; set_at_entry = [] }
 
 abbrev cx : Context
 cx = under (multi_value + reference_types) false

@@ -41,7 +41,7 @@ declared = record { types = types; functions = functions; tables = []; memories 
 
 -- with these proposals on
 abbrev under : ℕ → Bool → Context
-under bits shared = record { of_module = context_of declared; features = record { 0 = bits }; shared = shared; locals = []; entry = [] }
+under bits shared = record { of_module = context_of declared; features = record { 0 = bits }; shared = shared; locals = []; set_at_entry = [] }
 
 -- all of them
 abbrev every : ℕ

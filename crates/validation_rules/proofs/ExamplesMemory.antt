@@ -41,7 +41,7 @@ with_count count = record { types = []; functions = []; globals = []; tables = [
 
 -- with these proposals on
 abbrev over : Option ℕ → ℕ → Context
-over count bits = record { of_module = context_of (with_count count); features = record { 0 = bits }; shared = false; locals = []; entry = [] }
+over count bits = record { of_module = context_of (with_count count); features = record { 0 = bits }; shared = false; locals = []; set_at_entry = [] }
 
 abbrev under : ℕ → Context
 under bits = over (Some 2) bits

@@ -56,7 +56,7 @@ declared = record { types = types; functions = functions; tables = []; memories 
 
 -- with these proposals on
 abbrev under : ℕ → Context
-under bits = record { of_module = context_of declared; features = record { 0 = bits }; shared = false; locals = []; entry = [] }
+under bits = record { of_module = context_of declared; features = record { 0 = bits }; shared = false; locals = []; set_at_entry = [] }
 
 -- all of them
 abbrev every : ℕ

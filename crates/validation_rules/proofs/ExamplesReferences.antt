@@ -61,7 +61,7 @@ abbrev locals : List ValType
 locals = null (heap Func) ∷ no_null (heap Func) ∷ I32 ∷ no_null (concrete 1) ∷ []
 
 abbrev cx : Context
-cx = record { of_module = context_of declared; features = record { 0 = 2097151 }; shared = false; locals = locals; entry = map is_defaultable locals }
+cx = record { of_module = context_of declared; features = record { 0 = 2097151 }; shared = false; locals = locals; set_at_entry = map is_defaultable locals }
 
 abbrev below : ValType → ValType → Bool
 below t u = cx.of_module.below t u
@@ -195,7 +195,7 @@ abbrev givers : Declared
 givers = record { types = a_giver (no_null (heap Func)) ∷ a_giver (null (heap Func)) ∷ []; functions = record { type_index = 0; referenced = false } ∷ record { type_index = 1; referenced = false } ∷ []; tables = []; memories = []; globals = []; elements = []; data_count = None }
 
 abbrev calling : Context
-calling = record { of_module = context_of givers; features = record { 0 = 2097151 }; shared = false; locals = []; entry = [] }
+calling = record { of_module = context_of givers; features = record { 0 = 2097151 }; shared = false; locals = []; set_at_entry = [] }
 
 abbrev return_call : ℕ → Op
 return_call f = Control (ReturnCall f)

@@ -9,11 +9,11 @@ use Rattle.validate_visit.specs.declared.op.ControlOp.TheVariants.{Block as Bloc
 use Rattle.validation_rules.specs.Context.{ValType, I32, BlockType, Context}
 use Rattle.validation_rules.specs.Fits.{MaybeType}
 use Rattle.validation_rules.specs.Rows.{FrameKind, Block, If, Loop, Head, results, is_if, is_try, may_catch, Form, Stays, Opens, BeginsElse, BeginsCatch, Ends, Delegates, Row, Operator}
-use Rattle.validation_rules.specs.Static.{Frame, State, heads, locals_set, pushed_by_form, state_after_exit, state_after, step_in, state_before, start}
+use Rattle.validation_rules.specs.Static.{Frame, State, heads, locals_set, state_after_exit, state_after, open_frames, step_in, state_before, start}
 use Rattle.validation_rules.specs.Order.{nesting_of, RowsHold, RowsAreOrdered, BodiesAreOrdered}
 use Rattle.validation_rules.specs.Operators.{checked_block, opener, operator, control_operator, operators}
 use Rattle.validation_rules.proofs.Below.{and_true, true_and}
-use Rattle.validation_rules.proofs.Steps.{guard_some, and_then_given, stepped}
+use Rattle.validation_rules.proofs.Steps.{pushed_by_form, guard_some, and_then_given, stepped}
 
 abbrev kinds : List Frame → List FrameKind
 kinds fs = map (λ (f : Frame). f.head.kind) fs
@@ -22,7 +22,7 @@ given_kinds : (left : List MaybeType) (types : List ValType) (fs : List Frame) �
 given_kinds left types [] = refl
 given_kinds left types (f ∷ fs) = refl
 
-order_by : (left : List MaybeType) (cx : Context) (row : Row) (hs : List Head) (set : List ℕ) (f : Frame) (fs : List Frame) (form : Form) (pushed : List MaybeType) (next : List FrameKind → Bool) → pushed_by_form cx row hs set f form ≡ Some pushed → next (kinds (state_after left cx row set f fs form pushed).frames) ≡ true → (may_stand (f.head.kind ∷ (kinds fs)) (nesting_of form) && next (parts_after (f.head.kind ∷ (kinds fs)) (nesting_of form))) ≡ true
+order_by : (left : List MaybeType) (cx : Context) (row : Row) (hs : List Head) (set : List ℕ) (f : Frame) (fs : List Frame) (form : Form) (pushed : List MaybeType) (next : List FrameKind → Bool) → pushed_by_form cx row hs set f form ≡ Some pushed → next (kinds (state_after cx row (open_frames f fs left) form pushed).frames) ≡ true → (may_stand (f.head.kind ∷ (kinds fs)) (nesting_of form) && next (parts_after (f.head.kind ∷ (kinds fs)) (nesting_of form))) ≡ true
 order_by left cx row hs set f fs Stays pushed next p h = h
 order_by left cx row hs set f fs (Opens o) pushed next p h = h
 order_by left cx row hs set f fs BeginsElse pushed next p h =

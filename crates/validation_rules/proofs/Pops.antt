@@ -1,6 +1,6 @@
 -- Pops one at a time from the top come to the wanted list taken whole, over the padded operands.
-use Rattle.std.proofs.Common.{◌≡◌, ◌≢◌, ℕ, zero, suc, ◌+◌, Bool, true, false, ◌&&◌, nat_le, List, [], ◌∷◌, ◌++◌, reverse, length, drop, Option, Some, refl, sym, ap, ◌∙◌, arith, append_assoc, append-nil}
-use Rattle.std.proofs.lemmas.List.{reverse-append, reverse-reverse, length-reverse}
+use Rattle.std.proofs.Common.{◌≡◌, ◌≢◌, ℕ, zero, suc, ◌+◌, Bool, true, false, ◌&&◌, nat_le, List, [], ◌∷◌, reverse, length, drop, Option, Some, refl, sym, ap, ap₂, ◌∙◌, arith, append-nil}
+use Rattle.std.proofs.lemmas.List.{reverse-reverse, length-reverse}
 use Rattle.std.proofs.Math.Dec.{leb-zero, leb-suc-zero, leb-suc-suc}
 use Rattle.std.specs.Option.{option_and_then}
 use Rattle.validation_rules.specs.Context.{ValType, Context}
@@ -8,6 +8,7 @@ use Rattle.validation_rules.specs.Fits.{MaybeType, fits, all_fit}
 use Rattle.validation_rules.specs.Rows.{Head, results, guard}
 use Rattle.validation_rules.specs.Static.{Frame, stack_with, operands_on_top, operands_found, operands_under, may_close}
 use Rattle.validation_rules.specs.Pops.{frame_after_pops, PopsAreWhole}
+use Rattle.validation_rules.proofs.Steps.{onto-next}
 
 -- ---- lists turned
 
@@ -31,15 +32,10 @@ drop_none (suc n) = refl
 
 pub length-onto : {A : Type 0} (xs ys : List A) → length (stack_with xs ys) ≡ length xs + length ys
 length-onto [] ys = omega arith
-length-onto (x ∷ xs) ys = length-onto xs (x ∷ ys) ∙ omega arith
-
-pub onto-reverse : {A : Type 0} (xs ys : List A) → stack_with xs ys ≡ reverse xs ++ ys
-onto-reverse [] ys = refl
-onto-reverse (x ∷ xs) ys =
-    onto-reverse xs (x ∷ ys) ∙ sym (ap (λ l. l ++ ys) (reverse-append (x ∷ []) xs) ∙ append_assoc (reverse xs) (x ∷ []) ys)
+length-onto (x ∷ xs) ys = ap length (onto-next x xs ys) ∙ (length-onto xs (x ∷ ys) ∙ omega arith)
 
 pub onto-turned : {A : Type 0} (xs : List A) → stack_with (reverse xs) [] ≡ xs
-onto-turned xs = onto-reverse (reverse xs) [] ∙ append-nil (reverse (reverse xs)) ∙ reverse-reverse xs
+onto-turned xs = append-nil (reverse (reverse xs)) ∙ reverse-reverse xs
 
 -- ---- what is found on top
 
@@ -54,9 +50,9 @@ module _ (cx : Context) where
   fit_onto : (xs ps : List MaybeType) (ws qs : List ValType) → length ps ≡ length qs → all_fit cx (stack_with xs ps) (stack_with ws qs) ≡ all_fit cx xs ws && all_fit cx ps qs
   fit_onto [] ps [] qs h = refl
   fit_onto (x ∷ xs) ps (w ∷ ws) qs h =
-      fit_onto xs (x ∷ ps) ws (w ∷ qs) (ap suc h) ∙ and_swap (all_fit cx xs ws) (fits cx x w) (all_fit cx ps qs)
-  fit_onto [] ps (w ∷ ws) qs h = no_fit ps (stack_with ws (w ∷ qs)) (λ e. omega (arith, h, e, length-onto ws (w ∷ qs)))
-  fit_onto (x ∷ xs) ps [] qs h = no_fit (stack_with xs (x ∷ ps)) qs (λ e. omega (arith, h, e, length-onto xs (x ∷ ps)))
+      ap₂ (all_fit cx) (onto-next x xs ps) (onto-next w ws qs) ∙ fit_onto xs (x ∷ ps) ws (w ∷ qs) (ap suc h) ∙ and_swap (all_fit cx xs ws) (fits cx x w) (all_fit cx ps qs)
+  fit_onto [] ps (w ∷ ws) qs h = no_fit ps (stack_with (w ∷ ws) qs) (λ e. omega (arith, h, e, length-onto (w ∷ ws) qs))
+  fit_onto (x ∷ xs) ps [] qs h = no_fit (stack_with (x ∷ xs) ps) qs (λ e. omega (arith, h, e, length-onto (x ∷ xs) ps))
 
   -- the top first on both sides, or the last on top on both
   pub fit_turned : (xs : List MaybeType) (ws : List ValType) → all_fit cx (stack_with xs []) ws ≡ all_fit cx xs (reverse ws)

@@ -1,20 +1,27 @@
 -- What a step that is taken pushed and left, and the state before a place that follows another.
 use Rattle.std.proofs.Common.{◌≡◌, ◌≤◌, ℕ, zero, suc, Bool, true, false, List, [], ◌∷◌, ◌++◌, length, drop, map, Option, Some, None, refl, sym, ap, arith, ◌∙◌, slice_get}
 use Rattle.std.specs.Option.{option_map}
-use Rattle.std.specs.Prelude.{if◌then◌else◌}
+use Rattle.std.proofs.lemmas.List.{reverse-append, append_assoc}
+use Rattle.std.specs.Prelude.{if◌then◌else◌, reverse}
 use Rattle.std.specs.Option.{option_and_then}
 use Rattle.validation_rules.specs.Context.{ValType, Context}
 use Rattle.validation_rules.specs.Fits.{MaybeType, Known, all_fit}
-use Rattle.validation_rules.specs.Rows.{Head, params, results, Form, Row, Operator, guard}
-use Rattle.validation_rules.specs.Static.{Frame, State, heads, locals_set, pushed_types, state_after_exit, state_after, state_if_pushed, step, step_in, state_before}
+use Rattle.validation_rules.specs.Rows.{Head, params, results, Form, Row, Operator, guard, is_instruction}
+use Rattle.validation_rules.specs.Static.{Frame, State, stack_with, heads, locals_set, pushed_types, pushed_by_row, pushed_by_delimiter, state_after_exit, state_after, open_frames, step, step_in, state_before}
 
 -- ---- what an operator of a body leaves, of which nothing is left yet
 
 abbrev pub given : List ValType → List Frame → State
 given types fs = state_after_exit [] types fs
 
-abbrev pub after : Context → Row → List ℕ → Frame → List Frame → Form → List MaybeType → State
-after cx r set f fs form pushed = state_after [] cx r set f fs form pushed
+abbrev pub after : Context → Row → Frame → List Frame → Form → List MaybeType → State
+after cx r f fs form pushed = state_after cx r (open_frames f fs []) form pushed
+
+-- ---- what an operator pushes, by its form
+
+abbrev pub pushed_by_form : Context → Row → List Head → List ℕ → Frame → Form → Option (List MaybeType)
+pushed_by_form cx r hs set f form =
+    if is_instruction form then pushed_by_row cx r hs set f else pushed_by_delimiter cx r form f
 
 -- ---- what the rules choose by a test, by its value
 
@@ -44,6 +51,9 @@ pub and_then_given : {A B : Type 0} → (o : Option A) (f : A → Option B) (y :
 and_then_given None f y h = absurd cc
 and_then_given (Some x) f y h = (x, refl, h)
 
+pub onto-next : {A : Type 0} (x : A) (xs ys : List A) → stack_with (x ∷ xs) ys ≡ stack_with xs (x ∷ ys)
+onto-next x xs ys = ap (λ l. l ++ ys) (reverse-append (x ∷ []) xs) ∙ append_assoc (reverse xs) (x ∷ []) ys
+
 pub get_of_drop : (code : List Operator) (k : ℕ) (op : Operator) (ops : List Operator) → drop k code ≡ op ∷ ops → slice_get code k ≡ Some op
 get_of_drop [] zero op ops h = cc
 get_of_drop [] (suc k) op ops h = cc
@@ -60,16 +70,13 @@ drop_next (x ∷ code) (suc k) op ops h = drop_next code k op ops h
 pub record Stepped (cx : Context) (op : Operator) (f : Frame) (fs : List Frame) (left : List MaybeType) (u : State) : Type 0 where
   pub pushed : List MaybeType
   pub holds : pushed_types cx op (heads (f ∷ fs)) (locals_set (f ∷ fs)) f ≡ Some pushed
-  pub leaves : u ≡ state_after left cx (op.row (heads (f ∷ fs))) (locals_set (f ∷ fs)) f fs op.form pushed
-
-then_after_some : (left : List MaybeType) (cx : Context) (r : Row) (set : List ℕ) (f : Frame) (fs : List Frame) (form : Form) (o : Option (List MaybeType)) (u : State) → state_if_pushed left cx r set f fs form o ≡ Some u → (pushed : List MaybeType) × (o ≡ Some pushed) × (u ≡ state_after left cx r set f fs form pushed)
-then_after_some left cx r set f fs form None u h = absurd cc
-then_after_some left cx r set f fs form (Some pushed) u h = (pushed, refl, cc)
+  pub leaves : u ≡ state_after cx (op.row (heads (f ∷ fs))) (open_frames f fs left) op.form pushed
 
 pub stepped : (cx : Context) (op : Operator) (f : Frame) (fs : List Frame) (left : List MaybeType) (u : State) → step_in cx op (f ∷ fs) left ≡ Some u → Stepped cx op f fs left u
 stepped cx op f fs left u h =
-    let e = then_after_some left cx (op.row (heads (f ∷ fs))) (locals_set (f ∷ fs)) f fs op.form (pushed_types cx op (heads (f ∷ fs)) (locals_set (f ∷ fs)) f) u h in
-    record { pushed = e.0; holds = e.1; leaves = e.2 }
+    let r = op.row (heads (f ∷ fs)) in
+    let e = mapped_some (state_after cx r (open_frames f fs left) op.form) (pushed_types cx op (heads (f ∷ fs)) (locals_set (f ∷ fs)) f) u h in
+    record { pushed = e.0; holds = e.1; leaves = sym e.2 }
 
 pub before_next : (cx : Context) (code : List Operator) (s : State) (k : ℕ) (op : Operator) (t u : State) → state_before cx code s k ≡ Some t → slice_get code k ≡ Some op → step cx op t ≡ Some u → state_before cx code s (suc k) ≡ Some u
 before_next cx [] s k op t u b g h = absurd cc

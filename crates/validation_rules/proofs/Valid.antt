@@ -50,18 +50,18 @@ use Rattle.validation_rules.specs.References.{operand_without_null, null_test_pu
 use Rattle.validation_rules.specs.Tables.{accessible_table, table_type, table_init_row_for, table_copy_row_for, table_row}
 use Rattle.validation_rules.specs.Fits.{MaybeType, Bottom, UnknownRef, Known, fits}
 use Rattle.validation_rules.specs.Rows.{FrameKind, Block, If, Loop, is_loop, Head, params, results, Form, Stays, Opens, BeginsElse, BeginsCatch, Ends, Delegates, Plain, Row, Operator, pushed_for, operands_wanted, guard}
-use Rattle.validation_rules.specs.Static.{Frame, State, heads, locals_set, stack_with, operands_on_top, operands_found, operands_under, pushed_by_form, pushed_by_row, operands_after, state_after_exit, state_after, step, step_in, state_before}
+use Rattle.validation_rules.specs.Static.{Frame, State, heads, locals_set, stack_with, operands_on_top, operands_found, operands_under, pushed_by_row, operands_after, state_after_exit, state_after, open_frames, step, step_in, state_before}
 use Rattle.validation_rules.specs.Operators.{plain_row, plain_row_if, is_accessible_func_type, checked_block, opener, staying_operator, row_operator, delimiter_operator, looking_row_if, drop_pushes, select_result, select_pushes, lookup_row, gated_operator, control_operator, numeric_row, convert_row, memory_row, atomic_row, ungated_operator, operator, operators}
 use Rattle.validation_rules.specs.Valid.{IsValidOperand, Resolves, IsValidBlock, IsValidFrame, IsValidStateIn, RowsKeepValid}
 use Rattle.validation_rules.proofs.Keeping.{HeadIsValid, PushesValid, StepsKeepValid}
 use Rattle.validation_rules.proofs.Below.{and_true}
-use Rattle.validation_rules.proofs.Steps.{label_by, some_injective, guard_some, and_then_given, mapped_some, stepped}
+use Rattle.validation_rules.proofs.Steps.{onto-next, pushed_by_form, label_by, some_injective, guard_some, and_then_given, mapped_some, stepped}
 
 -- ---- lists
 
 pub all_onto : {A : Type 0} (P : A → Type 0) (xs ys : List A) → AllByRecursion P xs → AllByRecursion P ys → AllByRecursion P (stack_with xs ys)
 all_onto P [] ys h k = k
-all_onto P (x ∷ xs) ys h k = all_onto P xs (x ∷ ys) h.1 (h.0, k)
+all_onto P (x ∷ xs) ys h k = subst (AllByRecursion P) (sym (onto-next x xs ys)) (all_onto P xs (x ∷ ys) h.1 (h.0, k))
 
 pub all_drop : {A : Type 0} (P : A → Type 0) (n : ℕ) (xs : List A) → AllByRecursion P xs → AllByRecursion P (drop n xs)
 all_drop P zero xs h = h
@@ -145,7 +145,7 @@ module _ (cx : Context) (laws : IsLawful cx.of_module) where
   closing_premise : (premise rest : Bool) (pushed : List MaybeType) → guard (premise && rest) (Some []) ≡ Some pushed → premise ≡ true
   closing_premise premise rest pushed p = (and_true premise rest (guard_some _ _ _ p).0).0
 
-  after_valid : (op : Operator) → PushesValid cx op → (left : List MaybeType) (f : Frame) (fs : List Frame) (form : Form) → op.form ≡ form → (pushed : List MaybeType) → Frames (f ∷ fs) → Operands left → pushed_by_form cx (op.row (heads (f ∷ fs))) (heads (f ∷ fs)) (locals_set (f ∷ fs)) f form ≡ Some pushed → Both (state_after left cx (op.row (heads (f ∷ fs))) (locals_set (f ∷ fs)) f fs form pushed)
+  after_valid : (op : Operator) → PushesValid cx op → (left : List MaybeType) (f : Frame) (fs : List Frame) (form : Form) → op.form ≡ form → (pushed : List MaybeType) → Frames (f ∷ fs) → Operands left → pushed_by_form cx (op.row (heads (f ∷ fs))) (heads (f ∷ fs)) (locals_set (f ∷ fs)) f form ≡ Some pushed → Both (state_after cx (op.row (heads (f ∷ fs))) (open_frames f fs left) form pushed)
   after_valid op v left f fs Stays e pushed h k p =
       let r = op.row (heads (f ∷ fs)) in
       let g = by_premise r (heads (f ∷ fs)) (locals_set (f ∷ fs)) f pushed p in

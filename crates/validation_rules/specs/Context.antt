@@ -1,6 +1,6 @@
 -- What stays the same while a body is validated (WebAssembly core specification, "Validation:
 -- Contexts", with the features and the mark of a shared function, which are the crate's own).
-pub use Rattle.validate_resources.specs.Context.{ModuleContext}
+pub use Rattle.validate_resources.specs.Context.{ModuleContext, IsValidBelow}
 pub use Rattle.validate_types.specs.Types.{Signature}
 pub use Rattle.validate_types.specs.declared.features.WasmFeatures.{WasmFeatures}
 pub use Rattle.validate_types.specs.declared.types.SubType.{SubType}
@@ -8,8 +8,9 @@ pub use Rattle.validate_types.specs.declared.types.ValType.{ValType}
 pub use Rattle.validate_types.specs.declared.types.ValType.TheVariants.{I32, I64, F32, F64, V128, Ref}
 pub use Rattle.validate_visit.specs.declared.frame.BlockType.{BlockType}
 pub use Rattle.validate_visit.specs.declared.frame.BlockType.TheVariants.{Empty, Val, FuncType}
-use Rattle.std.specs.Prelude.{ℕ, Bool, false, List, [], ◌∷◌, Option, Some, None, unwrap_or, slice_index_or}
-use Rattle.validate_resources.specs.Context.{func_type_at, IsTypeBelow}
+use Rattle.std.specs.Prelude.{Bool, List, [], ◌∷◌, unwrap_or}
+use Rattle.std.specs.List.{AllZip}
+use Rattle.validate_resources.specs.Context.{signature_at}
 
 pub record Context : Type 0 where
   -- the module's look-ups, and the order on its types: false where either side isn't valid
@@ -21,17 +22,11 @@ pub record Context : Type 0 where
   -- the types of the locals, the parameters first
   pub locals : List ValType
   -- which of the locals are set when the body begins: the parameters, and those with a default value
-  pub entry : List Bool
-
--- one type below another (Specification, "Validation: Matching")
-abbrev pub IsBelow : Context → ValType → ValType → Type 0
-IsBelow cx t u = IsTypeBelow cx.of_module t u
+  pub set_at_entry : List Bool
 
 -- as many, and each below its place (Specification, "Matching: Result Types")
 abbrev pub AllBelow : Context → List ValType → List ValType → Type 0
-AllBelow cx [] [] = Unit {0}
-AllBelow cx (t ∷ ts) (u ∷ us) = IsBelow cx t u × AllBelow cx ts us
-AllBelow cx _ _ = ⊥
+AllBelow cx ts us = AllZip (IsValidBelow cx.of_module) ts us
 
 -- takes nothing and gives nothing
 abbrev pub empty_signature : Signature
@@ -42,8 +37,4 @@ empty_signature = record { params = []; results = [] }
 abbrev pub block_signature : ModuleContext → BlockType → Signature
 block_signature md Empty = empty_signature
 block_signature md (Val t) = record { params = []; results = t ∷ [] }
-block_signature md (FuncType i) = unwrap_or (func_type_at md i) empty_signature
-
--- the local is set when the body begins
-abbrev pub is_set_at_entry : Context → ℕ → Bool
-is_set_at_entry cx i = slice_index_or cx.entry i false
+block_signature md (FuncType i) = unwrap_or (signature_at md i) empty_signature

@@ -13,7 +13,7 @@ use Rattle.validation_rules.specs.Calls.{accessible_signature, tail_call_row}
 use Rattle.validation_rules.specs.Context.{Signature, ValType, Ref, Context}
 use Rattle.validation_rules.specs.Rows.{Head, Row, guard}
 use Rattle.validation_rules.specs.Shapes.{plain_row, lookup_row}
-use Rattle.validation_rules.specs.Tables.{table_type, element_type}
+use Rattle.validation_rules.specs.Tables.{table_type, element_of_table}
 
 -- ---- the operand that names the function
 
@@ -22,7 +22,7 @@ funcref = Ref (nullable_reference (Abstract false Func))
 
 -- where the table holds functions, a place in it
 abbrev pub place_type_of : Context → TableType → Option ValType
-place_type_of cx t = guard (cx.of_module.below (element_type t) funcref) (Some (address_type_of_table t))
+place_type_of cx t = guard (cx.of_module.below (element_of_table t) funcref) (Some (address_type_of_table t))
 
 -- a place in a table of functions that the function may access
 abbrev pub function_place : Context → ℕ → Option ValType

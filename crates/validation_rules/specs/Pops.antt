@@ -9,10 +9,10 @@ use Rattle.validation_rules.specs.Rows.{guard}
 use Rattle.validation_rules.specs.Static.{Frame, operands_found, operands_under}
 
 -- what a pop finds: the top operand; below those of a dead frame anything at all, of a live one nothing
-abbrev pub operand_on_top : Bool → List MaybeType → Option MaybeType
-operand_on_top dead (x ∷ own) = Some x
-operand_on_top true [] = Some Bottom
-operand_on_top false [] = None
+abbrev pub found_by_pop : Bool → List MaybeType → Option MaybeType
+found_by_pop dead (x ∷ own) = Some x
+found_by_pop true [] = Some Bottom
+found_by_pop false [] = None
 
 -- something is found, and it fits
 abbrev pub found_fits : Context → ValType → Option MaybeType → Bool
@@ -25,7 +25,7 @@ without_top f = record f { operands = drop 1 f.operands }
 
 -- one pop: None where nothing is found, or what is found doesn't fit
 abbrev pub frame_after_pop : Context → ValType → Frame → Option Frame
-frame_after_pop cx w f = guard (found_fits cx w (operand_on_top f.dead f.operands)) (Some (without_top f))
+frame_after_pop cx w f = guard (found_fits cx w (found_by_pop f.dead f.operands)) (Some (without_top f))
 
 -- one after the other, the first of the list first
 abbrev pub frame_after_pops : Context → List ValType → Frame → Option Frame

@@ -7,7 +7,7 @@ pub use Rattle.validate_visit.specs.declared.frame.FrameKind.TheVariants.{Block,
 pub use Rattle.validate_visit.specs.declared.frame.FrameKind.TheVariants.{LegacyTry, LegacyCatch}
 pub use Rattle.validate_visit.specs.declared.frame.FrameKind.TheVariants.{LegacyCatchAll}
 pub use Rattle.validate_visit.specs.Order.{is_if, is_try, may_catch, catch_kind}
-use Rattle.std.specs.Prelude.{ℕ, Bool, true, false, ◌&&◌, List, [], ◌∷◌, Option, Some, None, length, map}
+use Rattle.std.specs.Prelude.{ℕ, Bool, true, false, List, ◌∷◌, Option, Some, None, length, map}
 use Rattle.std.specs.Prelude.{if◌then◌else◌}
 use Rattle.std.specs.List.{list_all}
 use Rattle.validation_rules.specs.Context.{ValType, BlockType, Context, block_signature}
@@ -44,7 +44,8 @@ abbrev pub label_types : Context → Head → List ValType
 label_types cx h = if is_loop h.kind then params cx h else results cx h
 
 -- What an operator does to the open frames: nothing, opens one, begins its next part, or closes it.
--- A `catch` or `catch_all` has the types that the part which it begins starts with.
+-- A `catch` or `catch_all` has the types that the part which it begins starts with. (`Nesting` of an operator
+-- as data says the same of the parts of a list, without heads and types, and so in the same words.)
 pub data Form : Type 0 where
   Stays : Form
   Opens : (head : Head) → Form

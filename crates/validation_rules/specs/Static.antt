@@ -1,17 +1,18 @@
 -- Validation: the static state, one operator, and the state before each place of a list (WebAssembly
 -- core specification, appendix "Validation Algorithm", where a control frame has its own operands
 -- instead of a height). Dead code over-approximates: below its own operands a dead frame has any.
-use Rattle.std.specs.Prelude.{◌≡◌, ℕ, ◌+◌, zero, suc, nat_le, nat_eq, Bool, true, false, ◌&&◌, ◌||◌}
+pub use Rattle.validate_locals.specs.Inits.{is_local_set}
+use Rattle.std.specs.Prelude.{◌≡◌, ℕ, ◌+◌, zero, suc, nat_le, Bool, true, false, ◌&&◌, ◌||◌}
 use Rattle.std.specs.Prelude.{if◌then◌else◌}
-use Rattle.std.specs.Prelude.{List, [], ◌∷◌, ◌++◌, length, map, drop, Option, Some, None}
-use Rattle.std.specs.Option.{option_and_then}
-use Rattle.std.specs.List.{list_all, list_any}
-use Rattle.validation_rules.specs.Context.{ValType, BlockType, Context, is_set_at_entry}
+use Rattle.std.specs.Prelude.{List, [], ◌∷◌, ◌++◌, reverse, length, map, drop, Option, Some, None}
+use Rattle.std.specs.Option.{option_and_then, option_map}
+use Rattle.std.specs.List.{list_all, flat_map}
+use Rattle.validation_rules.specs.Context.{ValType, BlockType, Context}
 use Rattle.validation_rules.specs.Fits.{MaybeType, Bottom, Known, all_fit}
 use Rattle.validation_rules.specs.Rows.{Head, params, results, label_types, body_head}
 use Rattle.validation_rules.specs.Rows.{FrameKind, Else, is_if, is_try, may_catch, catch_kind}
 use Rattle.validation_rules.specs.Rows.{Form, Stays, Opens, BeginsElse, BeginsCatch, Ends, Delegates}
-use Rattle.validation_rules.specs.Rows.{Operator, Row, Clause, operands_wanted, pushed_for, guard}
+use Rattle.validation_rules.specs.Rows.{Operator, Row, Clause, operands_wanted, pushed_for, guard, is_instruction}
 
 -- ---- states
 
@@ -37,6 +38,15 @@ state_with left fs = record { frames = fs; left = left }
 abbrev pub open_state : List Frame → State
 open_state fs = state_with [] fs
 
+-- a state in which a frame is open: the innermost one, those outside it, and what is left
+pub record OpenFrames : Type 0 where
+  pub innermost : Frame
+  pub outer : List Frame
+  pub left : List MaybeType
+
+abbrev pub open_frames : Frame → List Frame → List MaybeType → OpenFrames
+open_frames f fs left = record { innermost = f; outer = fs; left = left }
+
 abbrev pub heads : List Frame → List Head
 heads fs = map (λ (f : Frame). f.head) fs
 
@@ -45,31 +55,26 @@ heads fs = map (λ (f : Frame). f.head) fs
 -- The locals that were first set in a frame that is still open (the algorithm's inits). Closing a
 -- frame, or beginning its next part, so unsets what was first set in it.
 abbrev pub locals_set : List Frame → List ℕ
-locals_set [] = []
-locals_set (f ∷ fs) = f.first_set ++ locals_set fs
-
--- the local is set: when the body began, or since
-abbrev pub is_set : Context → List ℕ → ℕ → Bool
-is_set cx set i = list_any (nat_eq i) set || is_set_at_entry cx i
+locals_set fs = flat_map (λ (f : Frame). f.first_set) fs
 
 -- the local that the operator reads, if it reads one, is set (Specification, "local.get")
 abbrev pub is_read_local_set : Context → List ℕ → Option ℕ → Bool
 is_read_local_set cx set None = true
-is_read_local_set cx set (Some i) = is_set cx set i
+is_read_local_set cx set (Some i) = is_local_set cx.set_at_entry set i
 
 -- the local that the operator sets, if it sets one, joins the frame's list unless it is set (set_local of
 -- the algorithm)
 abbrev pub first_set_after : Context → List ℕ → Option ℕ → List ℕ → List ℕ
 first_set_after cx set None first_set = first_set
-first_set_after cx set (Some i) first_set = if is_set cx set i then first_set else first_set ++ i ∷ []
+first_set_after cx set (Some i) first_set =
+    if is_local_set cx.set_at_entry set i then first_set else first_set ++ i ∷ []
 
 -- ---- operands
 
 -- a stack, its top first, with a row's list put on it: the list's last comes to lie on top (push_vals of the
 -- algorithm)
 abbrev pub stack_with : {A : Type 0} → List A → List A → List A
-stack_with [] stack = stack
-stack_with (x ∷ xs) stack = stack_with xs (x ∷ stack)
+stack_with xs stack = reverse xs ++ stack
 
 -- The n operands on top, the top first; below those of a dead frame lie unknown ones (pop_val of the
 -- algorithm). Operands below the frame are never among them.
@@ -95,8 +100,8 @@ opened_frame h types =
     record { head = h; operands = stack_with (map Known types) []; dead = false; first_set = [] }
 
 -- the same block, in its next part
-abbrev pub of_kind : FrameKind → Head → Head
-of_kind kind h = record h { kind = kind }
+abbrev pub head_with_kind : FrameKind → Head → Head
+head_with_kind kind h = record h { kind = kind }
 
 -- the frame with a row's list on its operands
 abbrev pub frame_with : List MaybeType → Frame → Frame
@@ -151,22 +156,26 @@ may_close cx f =
 abbrev pub missing_else_fits : Context → Head → Bool
 missing_else_fits cx h = if is_if h.kind then all_fit cx (map Known (params cx h)) (results cx h) else true
 
--- a delimiter pushes nothing, where it fits the frame, and the frame may close
-abbrev pub pushed_by_delimiter : Context → Row → Frame → Bool → Option (List MaybeType)
-pushed_by_delimiter cx r f fits_frame = guard (r.premise && (fits_frame && may_close cx f)) (Some [])
+-- a delimiter fits the frame: `else` an `if`, `catch` and `catch_all` the part of a `try` or of a `catch`,
+-- `end` any frame (of an `if`, whose second part is missing then), `delegate` a `try`
+abbrev pub delimiter_fits : Context → Form → Frame → Bool
+delimiter_fits cx BeginsElse f = is_if f.head.kind
+delimiter_fits cx (BeginsCatch all types) f = may_catch f.head.kind
+delimiter_fits cx Ends f = missing_else_fits cx f.head
+delimiter_fits cx Delegates f = is_try f.head.kind
+delimiter_fits cx _ f = false
 
-abbrev pub pushed_by_form : Context → Row → List Head → List ℕ → Frame → Form → Option (List MaybeType)
-pushed_by_form cx r hs set f Stays = pushed_by_row cx r hs set f
-pushed_by_form cx r hs set f (Opens h) = pushed_by_row cx r hs set f
-pushed_by_form cx r hs set f BeginsElse = pushed_by_delimiter cx r f (is_if f.head.kind)
-pushed_by_form cx r hs set f (BeginsCatch all types) = pushed_by_delimiter cx r f (may_catch f.head.kind)
-pushed_by_form cx r hs set f Ends = pushed_by_delimiter cx r f (missing_else_fits cx f.head)
-pushed_by_form cx r hs set f Delegates = pushed_by_delimiter cx r f (is_try f.head.kind)
+-- it pushes nothing, where it fits the frame, and the frame may close
+abbrev pub pushed_by_delimiter : Context → Row → Form → Frame → Option (List MaybeType)
+pushed_by_delimiter cx r form f = guard (r.premise && (delimiter_fits cx form f && may_close cx f)) (Some [])
 
 -- of an operator over the open frames with these heads, of which f is the innermost, and where these
 -- locals are set
 abbrev pub pushed_types : Context → Operator → List Head → List ℕ → Frame → Option (List MaybeType)
-pushed_types cx op hs set f = pushed_by_form cx (op.row hs) hs set f op.form
+pushed_types cx op hs set f =
+    if is_instruction op.form
+    then pushed_by_row cx (op.row hs) hs set f
+    else pushed_by_delimiter cx (op.row hs) op.form f
 
 -- ---- what an operator leaves
 
@@ -176,26 +185,21 @@ abbrev pub state_after_exit : List MaybeType → List ValType → List Frame →
 state_after_exit left types [] = state_with (stack_with (map Known types) left) []
 state_after_exit left types (f ∷ fs) = state_with left (frame_with (map Known types) f ∷ fs)
 
--- What an operator leaves that pushes these types in the innermost frame f. A frame that is opened, or
--- a part that begins, is live and owns its first types.
-abbrev pub state_after :
-    List MaybeType → Context → Row → List ℕ → Frame → List Frame → Form → List MaybeType → State
-state_after left cx r set f fs Stays pushed = state_with left (frame_after cx r set pushed f ∷ fs)
-state_after left cx r set f fs (Opens h) pushed =
-    state_with left (opened_frame h (params cx h) ∷ frame_under r f ∷ fs)
-state_after left cx r set f fs BeginsElse pushed =
-    state_with left (opened_frame (of_kind Else f.head) (params cx f.head) ∷ fs)
-state_after left cx r set f fs (BeginsCatch all types) pushed =
-    state_with left (opened_frame (of_kind (catch_kind all) f.head) types ∷ fs)
-state_after left cx r set f fs Ends pushed = state_after_exit left (results cx f.head) fs
-state_after left cx r set f fs Delegates pushed = state_after_exit left (results cx f.head) fs
-
--- that, of an operator whose row holds
-abbrev pub state_if_pushed :
-    List MaybeType → Context → Row → List ℕ → Frame → List Frame → Form → Option (List MaybeType) →
-    Option State
-state_if_pushed left cx r set f fs form None = None
-state_if_pushed left cx r set f fs form (Some pushed) = Some (state_after left cx r set f fs form pushed)
+-- What an operator of this form and row leaves that pushes these types. A frame that is opened, or a part
+-- that begins, is live and owns its first types.
+abbrev pub state_after : Context → Row → OpenFrames → Form → List MaybeType → State
+state_after cx r o Stays pushed =
+    let set = locals_set (o.innermost ∷ o.outer) in
+    state_with o.left (frame_after cx r set pushed o.innermost ∷ o.outer)
+state_after cx r o (Opens h) pushed =
+    state_with o.left (opened_frame h (params cx h) ∷ frame_under r o.innermost ∷ o.outer)
+state_after cx r o BeginsElse pushed =
+    let h = o.innermost.head in
+    state_with o.left (opened_frame (head_with_kind Else h) (params cx h) ∷ o.outer)
+state_after cx r o (BeginsCatch all types) pushed =
+    state_with o.left (opened_frame (head_with_kind (catch_kind all) o.innermost.head) types ∷ o.outer)
+state_after cx r o Ends pushed = state_after_exit o.left (results cx o.innermost.head) o.outer
+state_after cx r o Delegates pushed = state_after_exit o.left (results cx o.innermost.head) o.outer
 
 -- ---- steps
 
@@ -203,8 +207,8 @@ abbrev pub step_in : Context → Operator → List Frame → List MaybeType → 
 step_in cx op [] left = None
 step_in cx op (f ∷ fs) left =
     let hs = heads (f ∷ fs) in
-    let set = locals_set (f ∷ fs) in
-    state_if_pushed left cx (op.row hs) set f fs op.form (pushed_types cx op hs set f)
+    option_map (state_after cx (op.row hs) (open_frames f fs left) op.form)
+    (pushed_types cx op hs (locals_set (f ∷ fs)) f)
 
 -- one operator: None where its row doesn't hold
 abbrev pub step : Context → Operator → State → Option State

@@ -22,22 +22,22 @@ abbrev pub table_type : Context → ℕ → Option TableType
 table_type cx i = option_and_then (accessible_table cx) (cx.of_module.table_at i)
 
 -- what it holds
-abbrev pub element_type : TableType → ValType
-element_type t = Ref t.element_type
+abbrev pub element_of_table : TableType → ValType
+element_of_table t = Ref t.element_type
 
 abbrev pub table_get_row : Context → ℕ → Row
 table_get_row cx i =
-    lookup_row (table_type cx i) (λ t. plain_row (address_type_of_table t ∷ []) (element_type t ∷ []))
+    lookup_row (table_type cx i) (λ t. plain_row (address_type_of_table t ∷ []) (element_of_table t ∷ []))
 
 abbrev pub table_set_row : Context → ℕ → Row
 table_set_row cx i =
-    lookup_row (table_type cx i) (λ t. plain_row (address_type_of_table t ∷ element_type t ∷ []) [])
+    lookup_row (table_type cx i) (λ t. plain_row (address_type_of_table t ∷ element_of_table t ∷ []) [])
 
 -- by so many places, each with this element
 abbrev pub table_grow_row : Context → ℕ → Row
 table_grow_row cx i =
     lookup_row (table_type cx i)
-    (λ t. plain_row (element_type t ∷ address_type_of_table t ∷ []) (address_type_of_table t ∷ []))
+    (λ t. plain_row (element_of_table t ∷ address_type_of_table t ∷ []) (address_type_of_table t ∷ []))
 
 abbrev pub table_size_row : Context → ℕ → Row
 table_size_row cx i = lookup_row (table_type cx i) (λ t. plain_row [] (address_type_of_table t ∷ []))
@@ -46,12 +46,13 @@ table_size_row cx i = lookup_row (table_type cx i) (λ t. plain_row [] (address_
 abbrev pub table_fill_row : Context → ℕ → Row
 table_fill_row cx i =
     lookup_row (table_type cx i)
-    (λ t. plain_row (address_type_of_table t ∷ element_type t ∷ address_type_of_table t ∷ []) [])
+    (λ t. plain_row (address_type_of_table t ∷ element_of_table t ∷ address_type_of_table t ∷ []) [])
 
 -- to a place of the table, from one of the segment, so many
 abbrev pub table_init_row_for : Context → TableType → RefType → Row
 table_init_row_for cx t r =
-    plain_row_if (cx.of_module.below (Ref r) (element_type t)) (address_type_of_table t ∷ I32 ∷ I32 ∷ []) []
+    plain_row_if (cx.of_module.below (Ref r) (element_of_table t))
+    (address_type_of_table t ∷ I32 ∷ I32 ∷ []) []
 
 abbrev pub table_init_row : Context → ℕ → ℕ → Row
 table_init_row cx segment i =
@@ -66,7 +67,7 @@ abbrev pub table_copy_row_for : Context → TableType → TableType → Row
 table_copy_row_for cx from to =
     let place = address_type_of_table to in
     let source = address_type_of_table from in
-    plain_row_if (cx.of_module.below (element_type from) (element_type to))
+    plain_row_if (cx.of_module.below (element_of_table from) (element_of_table to))
     (place ∷ source ∷ narrower_type place source ∷ []) []
 
 abbrev pub table_copy_row : Context → ℕ → ℕ → Row

@@ -1,6 +1,6 @@
 -- Proofs, which need no belief: canonical forms, and the types that are valid in a context of lists.
-use Rattle.std.specs.Prelude.{◌≡◌, ℕ, ◌+◌, ◌≤◌, Bool, List, [], ◌∷◌, true, ◌&&◌, map, nat_lt, nat_le}
-use Rattle.std.specs.Prelude.{length, is_some, slice_get, option_map, Option, Some, None, refl}
+use Rattle.std.specs.Prelude.{◌≡◌, ℕ, ◌+◌, ◌≤◌, Bool, List, [], ◌∷◌, true, false, ◌&&◌, map, nat_lt, nat_le}
+use Rattle.std.specs.Prelude.{length, is_some, slice_get, option_map, Option, Some, None, refl, if◌then◌else◌}
 use Rattle.std.specs.Bool.{beq}
 use Rattle.std.specs.List.{list_all, enumerate_from}
 use Rattle.std.proofs.Common.{arith, ap, ap₂, sym, subst, ◌∙◌, ⊎_elim, lt-ltb, le-ltb}
@@ -33,8 +33,8 @@ use Rattle.validate_resources.specs.Indices.{type_with_id, table_with_id, global
 use Rattle.validate_resources.specs.Order.{is_same_kind, is_same_sort, has_fitting_supertype}
 use Rattle.validate_resources.specs.Order.{have_fitting_supertypes}
 use Rattle.validate_resources.specs.Order.{is_type_below}
-use Rattle.validate_resources.specs.Lists.{Declared, context_of, is_valid_below, list_indices_pass, have_known_types}
-use Rattle.validate_resources.specs.Lists.{is_module, canonical_lists, is_func_type, have_func_types}
+use Rattle.validate_resources.specs.Lists.{Declared, context_of, is_valid_below, list_indices_pass, is_func_type, have_func_types}
+use Rattle.validate_resources.specs.Lists.{is_module, module_of, canonical_lists}
 
 -- ---- validity in a context of lists
 
@@ -197,7 +197,31 @@ indices-same n d =
 pub module-same : (d : Declared) → is_module is_id (canonical_lists d) ≡ is_module is_known d
 module-same d =
     let n : ℕ = length d.types in
-    let at : ℕ → Bool = λ m. nat_le m MAX_TYPES && list_indices_pass (is_id m) (map sub_with_ids d.types) (map table_with_id d.tables) (map global_with_id d.globals) (map ref_with_id d.elements) && list_all (λ (f : FuncDecl). nat_lt f.type_index m) d.functions && have_fitting_supertypes (map sub_with_ids d.types) && have_func_types (canonical_lists d) in
+    let at : ℕ → Bool = λ m. nat_le m MAX_TYPES && list_indices_pass (is_id m) (map sub_with_ids d.types) (map table_with_id d.tables) (map global_with_id d.globals) (map ref_with_id d.elements) && have_fitting_supertypes (map sub_with_ids d.types) && have_func_types (canonical_lists d) in
     ap at (length-map d.types sub_with_ids)
-    ∙ ap₂ (λ a b. nat_le n MAX_TYPES && a && have_known_types d && b && have_func_types (canonical_lists d)) (indices-same n d) (supertypes-same d.types)
-    ∙ ap (λ b. nat_le n MAX_TYPES && list_indices_pass (is_known n) d.types d.tables d.globals d.elements && have_known_types d && have_fitting_supertypes d.types && b) (functions-same d.types d.functions)
+    ∙ ap₂ (λ a b. nat_le n MAX_TYPES && a && b && have_func_types (canonical_lists d)) (indices-same n d) (supertypes-same d.types)
+    ∙ ap (λ b. nat_le n MAX_TYPES && list_indices_pass (is_known n) d.types d.tables d.globals d.elements && have_fitting_supertypes d.types && b) (functions-same d.types d.functions)
+
+-- ---- a function whose type is one of functions is of one of the types
+
+known-at : (types : List SubType) (i : ℕ) → is_func_type (slice_get types i) ≡ true → nat_lt i (length types) ≡ true
+known-at types i h =
+    ⊎_elim (λ (x, lt, is, at). lt-ltb i (length types) lt)
+    (λ (le, is). let none : false ≡ true = sym (ap is_func_type is) ∙ h in absurd cc)
+    (slice_get_cases types i).1
+
+pub known-types : (types : List SubType) (functions : List FuncDecl) → list_all (λ (f : FuncDecl). is_func_type (slice_get types f.type_index)) functions ≡ true → list_all (λ (f : FuncDecl). nat_lt f.type_index (length types)) functions ≡ true
+known-types types [] h = refl
+known-types types (f ∷ functions) h =
+    let p = and_parts (is_func_type (slice_get types f.type_index)) _ h in
+    and_from _ _ (known-at types f.type_index p.0) (known-types types functions p.1)
+
+false-by : (b : Bool) → (b ≡ true → true ≡ false) → b ≡ false
+false-by true k = k refl
+false-by false k = refl
+
+-- where the type of a function isn't there, the lists are no module
+pub no-module : (d : Declared) → list_all (λ (f : FuncDecl). nat_lt f.type_index (length d.types)) d.functions ≡ false → module_of d ≡ None
+no-module d h =
+    let rest : Bool = nat_le (length d.types) MAX_TYPES && list_indices_pass (is_known (length d.types)) d.types d.tables d.globals d.elements && have_fitting_supertypes d.types in
+    ap (λ b. if b then Some (canonical_lists d) else None) (false-by (is_module is_known d) (λ e. sym (known-types d.types d.functions (and_parts rest _ e).1) ∙ h))

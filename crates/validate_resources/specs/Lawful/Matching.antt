@@ -1,11 +1,12 @@
 -- Proofs, which need no belief: the laws of the order on types.
 use Rattle.std.specs.Prelude.{◌≡◌, ℕ, Bool, List, [], ◌∷◌, true, false, ◌&&◌, ◌||◌, not, slice_get}
-use Rattle.std.specs.Prelude.{Option, Some, None, refl}
+use Rattle.std.specs.Prelude.{Option, Some, None, refl, nat_lt, is_some, length}
 use Rattle.std.specs.Bool.{beq}
 use Rattle.std.specs.List.{list_all}
-use Rattle.std.proofs.Common.{zero, suc, sym, ◌∙◌, subst, ap₂}
+use Rattle.std.proofs.Common.{zero, suc, sym, ◌∙◌, subst, ap, ap₂, ⊎_elim, le-ltb}
+use Rattle.std.proofs.lemmas.Option.{slice_get_cases}
 use Rattle.std.proofs.lemmas.Bool.{and_parts, and_from}
-use Rattle.validate_types.specs.Abstract.{is_abstract_below}
+use Rattle.validate_types.specs.Abstract.{is_abstract_below, abstract_top}
 use Rattle.validate_types.specs.Heap.{number_of}
 use Rattle.validate_types.specs.declared.heap.AbstractHeapType.{AbstractHeapType}
 use Rattle.validate_types.specs.declared.heap.AbstractHeapType.TheVariants.{Func, Extern, Any, None as NoAny}
@@ -14,6 +15,7 @@ use Rattle.validate_types.specs.declared.heap.AbstractHeapType.TheVariants.{Arra
 use Rattle.validate_types.specs.declared.heap.AbstractHeapType.TheVariants.{NoCont}
 use Rattle.validate_types.specs.declared.heap.HeapType.{HeapType}
 use Rattle.validate_types.specs.declared.heap.HeapType.TheVariants.{Abstract, Concrete}
+use Rattle.validate_types.specs.declared.heap.UnpackedIndex.TheVariants.{Module, Id}
 use Rattle.validate_types.specs.declared.refs.RefType.{RefType}
 use Rattle.validate_types.specs.declared.types.CompositeInnerType.{CompositeInnerType}
 use Rattle.validate_types.specs.declared.types.CompositeInnerType.TheVariants.{Func as FuncOf}
@@ -24,9 +26,10 @@ use Rattle.validate_types.specs.declared.types.ValType.{ValType}
 use Rattle.validate_types.specs.declared.types.ValType.TheVariants.{I32, I64, F32, F64, V128, Ref}
 use Rattle.validate_resources.specs.Context.{is_number_or_vector}
 use Rattle.validate_resources.specs.Order.{is_shared_type, is_heap_shared, have_fitting_supertypes}
-use Rattle.validate_resources.specs.Order.{is_same_kind, kind_of, kind_bottom}
+use Rattle.validate_resources.specs.Order.{is_same_kind, abstract_kind, kind_bottom}
 use Rattle.validate_resources.specs.Order.{is_declared_below, is_below_declared, is_heap_below, is_ref_below}
-use Rattle.validate_resources.specs.Order.{is_type_below}
+use Rattle.validate_resources.specs.Order.{is_type_below, heap_top, declared_top}
+use Rattle.validate_resources.specs.Indices.{is_id, heap_indices_pass}
 use Rattle.validate_resources.specs.Lawful.Chains.{beq-equal, index-reflexive, index-transitive, index-sort, KeepsSort}
 
 beq-reflexive : (a : Bool) → beq a a ≡ true
@@ -105,7 +108,7 @@ heap-reflexive types (Concrete i) = index-reflexive types (number_of i)
 
 -- ---- declared types
 
-kind-same : (a b : CompositeInnerType) → is_same_kind a b ≡ true → kind_of a ≡ kind_of b
+kind-same : (a b : CompositeInnerType) → is_same_kind a b ≡ true → abstract_kind a ≡ abstract_kind b
 kind-same (FuncOf f) (FuncOf g) h = refl
 kind-same (ArrayOf a) (ArrayOf b) h = refl
 kind-same (StructOf s) (StructOf t) h = refl
@@ -117,12 +120,12 @@ bottom-same (ArrayOf a) (ArrayOf b) h = refl
 bottom-same (StructOf s) (StructOf t) h = refl
 bottom-same _ _ h = cc
 
-bottom-below : (a : CompositeInnerType) → is_abstract_below (kind_bottom a) (kind_of a) ≡ true
+bottom-below : (a : CompositeInnerType) → is_abstract_below (kind_bottom a) (abstract_kind a) ≡ true
 bottom-below (FuncOf f) = refl
 bottom-below (ArrayOf a) = refl
 bottom-below (StructOf s) = refl
 
-kind-above : (a b : CompositeInnerType) → is_abstract_below (kind_of a) (kind_bottom b) ≡ false
+kind-above : (a b : CompositeInnerType) → is_abstract_below (abstract_kind a) (kind_bottom b) ≡ false
 kind-above (FuncOf f) (FuncOf g) = refl
 kind-above (FuncOf f) (ArrayOf b) = refl
 kind-above (FuncOf f) (StructOf t) = refl
@@ -132,6 +135,30 @@ kind-above (ArrayOf a) (StructOf t) = refl
 kind-above (StructOf s) (FuncOf g) = refl
 kind-above (StructOf s) (ArrayOf b) = refl
 kind-above (StructOf s) (StructOf t) = refl
+
+-- ---- top types
+
+abstract-below-top : (a : AbstractHeapType) → is_abstract_below a (abstract_top a) ≡ true
+abstract-below-top a = for_all (λ x. is_abstract_below x (abstract_top x)) refl a
+
+kind-below-top : (a : CompositeInnerType) → is_abstract_below (abstract_kind a) (abstract_top (abstract_kind a)) ≡ true
+kind-below-top (FuncOf f) = refl
+kind-below-top (ArrayOf a) = refl
+kind-below-top (StructOf s) = refl
+
+declared-below-top : (o : Option SubType) → is_some o ≡ true → is_declared_below o (is_shared_type o) (declared_top o) ≡ true
+declared-below-top None h = cc
+declared-below-top (Some s) h = and_from _ _ (beq-reflexive s.composite_type.shared) (kind-below-top s.composite_type.inner)
+
+-- one of the types is there
+known-some : (types : List SubType) (n : ℕ) → nat_lt n (length types) ≡ true → is_some (slice_get types n) ≡ true
+known-some types n h =
+    ⊎_elim (λ (x, lt, is, at). ap is_some is) (λ (le, is). let none : false ≡ true = sym (le-ltb n (length types) le) ∙ h in absurd cc) (slice_get_cases types n).1
+
+pub heap-below-top : (types : List SubType) (h : HeapType) → heap_indices_pass (is_id (length types)) h ≡ true → is_heap_below types h (heap_top types h) ≡ true
+heap-below-top types (Abstract s a) h = and_from _ _ (beq-reflexive s) (abstract-below-top a)
+heap-below-top types (Concrete (Module i)) h = cc
+heap-below-top types (Concrete (Id id)) h = declared-below-top (slice_get types id.index) (known-some types id.index h)
 
 -- what shows of a declared type, of the same kind and sharedness
 shared-kept : KeepsSort is_shared_type
@@ -165,38 +192,38 @@ heap-shared types fit (Concrete i) (Concrete j) e = index-sort is_shared_type sh
 -- ---- chains through abstract and declared types
 
 -- the test of the marks and that of the abstract types, along a chain
-both : (x y z : Bool) (a b c : AbstractHeapType) → (beq x y && is_abstract_below a b) ≡ true → (beq y z && is_abstract_below b c) ≡ true → (beq x z && is_abstract_below a c) ≡ true
-both x y z a b c h k =
+abstract-through : (x y z : Bool) (a b c : AbstractHeapType) → (beq x y && is_abstract_below a b) ≡ true → (beq y z && is_abstract_below b c) ≡ true → (beq x z && is_abstract_below a c) ≡ true
+abstract-through x y z a b c h k =
     let p = and_parts (beq x y) _ h in
     let q = and_parts (beq y z) _ k in
     and_from _ _ (subst (λ w. beq x w ≡ true) (beq-equal x y p.0 ∙ beq-equal y z q.0) (beq-reflexive x)) (abstract-transitive a b c p.1 q.1)
 
 abstract-declared : (s z : Bool) (a b : AbstractHeapType) (o : Option SubType) → (beq s z && is_abstract_below a b) ≡ true → is_below_declared z b o ≡ true → is_below_declared s a o ≡ true
 abstract-declared s z a b None h k = cc
-abstract-declared s z a b (Some d) h k = both s z d.composite_type.shared a b (kind_bottom d.composite_type.inner) h k
+abstract-declared s z a b (Some d) h k = abstract-through s z d.composite_type.shared a b (kind_bottom d.composite_type.inner) h k
 
 declared-abstract : (o : Option SubType) (z w : Bool) (b c : AbstractHeapType) → is_declared_below o z b ≡ true → (beq z w && is_abstract_below b c) ≡ true → is_declared_below o w c ≡ true
 declared-abstract None z w b c h k = cc
-declared-abstract (Some d) z w b c h k = both d.composite_type.shared z w (kind_of d.composite_type.inner) b c h k
+declared-abstract (Some d) z w b c h k = abstract-through d.composite_type.shared z w (abstract_kind d.composite_type.inner) b c h k
 
 through-declared : (s w : Bool) (a c : AbstractHeapType) (o : Option SubType) → is_below_declared s a o ≡ true → is_declared_below o w c ≡ true → (beq s w && is_abstract_below a c) ≡ true
 through-declared s w a c None h k = cc
 through-declared s w a c (Some d) h k =
-    both s d.composite_type.shared w a (kind_of d.composite_type.inner) c
-    (both s d.composite_type.shared d.composite_type.shared a (kind_bottom d.composite_type.inner) (kind_of d.composite_type.inner) h
+    abstract-through s d.composite_type.shared w a (abstract_kind d.composite_type.inner) c
+    (abstract-through s d.composite_type.shared d.composite_type.shared a (kind_bottom d.composite_type.inner) (abstract_kind d.composite_type.inner) h
     (and_from _ _ (beq-reflexive d.composite_type.shared) (bottom-below d.composite_type.inner))) k
 
 through-abstract : (o p : Option SubType) (z : Bool) (b : AbstractHeapType) → is_declared_below o z b ≡ true → is_below_declared z b p ≡ true → ⊥
 through-abstract None p z b h k = cc
 through-abstract (Some s) None z b h k = cc
 through-abstract (Some s) (Some t) z b h k =
-    let on = both s.composite_type.shared z t.composite_type.shared (kind_of s.composite_type.inner) b (kind_bottom t.composite_type.inner) h k in
+    let on = abstract-through s.composite_type.shared z t.composite_type.shared (abstract_kind s.composite_type.inner) b (kind_bottom t.composite_type.inner) h k in
     let off = kind-above s.composite_type.inner t.composite_type.inner in
     let holds = (and_parts (beq s.composite_type.shared t.composite_type.shared) _ on).1 in
     cc
 
 pub heap-transitive : (types : List SubType) → have_fitting_supertypes types ≡ true → (h k l : HeapType) → is_heap_below types h k ≡ true → is_heap_below types k l ≡ true → is_heap_below types h l ≡ true
-heap-transitive types fit (Abstract s a) (Abstract z b) (Abstract w c) e f = both s z w a b c e f
+heap-transitive types fit (Abstract s a) (Abstract z b) (Abstract w c) e f = abstract-through s z w a b c e f
 heap-transitive types fit (Abstract s a) (Abstract z b) (Concrete l) e f = abstract-declared s z a b (slice_get types (number_of l)) e f
 heap-transitive types fit (Abstract s a) (Concrete j) (Abstract w c) e f = through-declared s w a c (slice_get types (number_of j)) e f
 heap-transitive types fit (Abstract s a) (Concrete j) (Concrete l) e f =

@@ -1,7 +1,7 @@
 //! The order on the types of a module.
 
 ghost use Rattle.std.specs.Prelude.{◌≡◌, true, false, slice_get};
-ghost use Rattle.validate_resources.specs.Order.{is_shared_at, is_heap_shared, is_same_kind, kind_of, kind_bottom, is_same_sort, has_fitting_supertype, have_fitting_supertypes, supertype_of, is_index_below, is_declared_below, is_below_declared, declared_top, heap_top, is_heap_below, is_ref_below, is_type_below};
+ghost use Rattle.validate_resources.specs.Order.{is_shared_at, is_heap_shared, is_same_kind, abstract_kind, kind_bottom, is_same_sort, has_fitting_supertype, have_fitting_supertypes, supertype_of, is_index_below, is_declared_below, is_below_declared, declared_top, heap_top, is_heap_below, is_ref_below, is_type_below};
 ghost use Rattle.validate_types.specs.Abstract.{abstract_top};
 
 use crate::lists::canonical::number;
@@ -43,8 +43,8 @@ fn is_same_kind(a: &CompositeInnerType, b: &CompositeInnerType) -> bool
 }
 
 /// The abstract type that each type of the kind is below.
-fn kind_of(inner: &CompositeInnerType) -> AbstractHeapType
-    ensures { result ≡ kind_of inner.now }
+fn abstract_kind(inner: &CompositeInnerType) -> AbstractHeapType
+    ensures { result ≡ abstract_kind inner.now }
 {
     match inner {
         CompositeInnerType::Func(_) => AbstractHeapType::Func,
@@ -138,7 +138,7 @@ fn is_declared_below(types: &[SubType], index: u32, shared: bool, above: Abstrac
     match types.get(index as usize) {
         Some(ty) => {
             ty.composite_type.shared == shared
-                && kind_of(&ty.composite_type.inner).is_subtype_of(above)
+                && abstract_kind(&ty.composite_type.inner).is_subtype_of(above)
         }
         None => false,
     }
@@ -229,7 +229,7 @@ fn declared_top(types: &[SubType], index: u32) -> AbstractHeapType
     ensures { result ≡ declared_top (slice_get types.now index) }
 {
     match types.get(index as usize) {
-        Some(ty) => abstract_top(kind_of(&ty.composite_type.inner)),
+        Some(ty) => abstract_top(abstract_kind(&ty.composite_type.inner)),
         None => AbstractHeapType::Any,
     }
 }

@@ -7,7 +7,7 @@ use Rattle.validate_stacks.specs.State.{body_context}
 use Rattle.validate_stacks.proofs.Validity.{kept_on}
 use Rattle.validate_body.specs.Start.{state}
 use Rattle.validate_body.proofs.Listed.{IsOrderedBelow, at_place, safe_list}
-use Rattle.opcheck_script.specs.Attempts.{Answer, IsAnswer, Answered, EndsRun, RunsAttempts, accepted_of}
+use Rattle.opcheck_script.specs.Attempts.{Answer, IsAnswer, AreAnswers, EndsRun, RunsAttempts, accepted_of}
 use Rattle.opcheck_script.proofs.Attempts.{next_answered, accepted_rows, still_ordered, attempted_flat, ends_at, short_of_memory, closed_is}
 use Rattle.opcheck_script.proofs.body.answer_each.Goals as goal
 
@@ -21,7 +21,7 @@ returns-then-is_err-clause-runs g c =
     let i = c.loop-index.index in
     let within : i < length ops = omega arith in
     let answered = c.loop-index.invariant.answered in
-    subst (λ (l : List Answer). RunsAttempts md v ops marks l (Err c.out_of_memory.result)) (sym {A = List Answer} c.reserve.ensures.items)
+    subst (λ (l : List Answer). RunsAttempts md v (record { ops = ops; attempts = marks }) l (Err c.out_of_memory.result)) (sym {A = List Answer} c.reserve.ensures.items)
     (record {
       last = u.present;
       answered = answered;
@@ -43,7 +43,7 @@ returns-in-Err-clause-runs g c =
     let there = at_place ops i _ within in
     let answered = c.loop-index.invariant.answered in
     let ended = subst (λ (x : Context). EndsRun x p c.is_attempted_at-attempted.result c.in-Err.refusal u.present) (ap (body_context md) c.loop-index.invariant.kept) c.in-Err.ensures.ended in
-    subst (λ (l : List Answer). RunsAttempts md v ops marks l (Err c.in-Err.refusal)) (sym {A = List Answer} c.reserve.ensures.items)
+    subst (λ (l : List Answer). RunsAttempts md v (record { ops = ops; attempts = marks }) l (Err c.in-Err.refusal)) (sym {A = List Answer} c.reserve.ensures.items)
     (record {
       last = u.present;
       answered = answered;
@@ -71,7 +71,7 @@ loop-index-preserved g c =
     let noted : c.push.new.self.items ≡ c.loop-index.answers.items ++ c.in-Ok.answer ∷ [] = rw c.unwrap.ensures at c.push.ensures.items ∙ ap (λ (l : List Answer). l ++ c.in-Ok.answer ∷ []) c.reserve.ensures.items in
     record {
       count = ap length noted ∙ (length-append c.loop-index.answers.items (c.in-Ok.answer ∷ []) ∙ ap (λ m. m + 1) c.loop-index.invariant.count);
-      answered = subst (λ (l : List Answer). Answered cx v.present ops marks l w.present) (sym {A = List Answer} noted) (next_answered cx v.present ops marks c.loop-index.answers.items c.in-Ok.answer u.present w.present i p c.is_attempted_at-attempted.result c.loop-index.invariant.count c.loop-index.invariant.answered there mark answer);
+      answered = subst (λ (l : List Answer). AreAnswers cx v.present ops marks l w.present) (sym {A = List Answer} noted) (next_answered cx v.present ops marks c.loop-index.answers.items c.in-Ok.answer u.present w.present i p c.is_attempted_at-attempted.result c.loop-index.invariant.count c.loop-index.invariant.answered there mark answer);
       valid = c.answer_at.ensures.valid;
       kept = kept_on v u w c.loop-index.invariant.kept c.answer_at.ensures.kept;
       ordered = still_ordered cx u.present w.present p c.is_attempted_at-attempted.result c.in-Ok.answer (drop (i + 1) ops) answer (attempted_flat ops marks i p _ c.requires.allowed there mark) (subst (IsOrderedBelow u.present.frames) (drop_more ops i _ within) c.loop-index.invariant.ordered);

@@ -2,10 +2,10 @@
 -- rest of the list is in order below its frames.
 use Rattle.std.proofs.Common.{◌≡◌, length, drop}
 use Rattle.validate_stacks.specs.Pops.{IsKept}
-use Rattle.validate_stacks.specs.State.{IsValid, body_context}
+use Rattle.validate_stacks.specs.State.{IsValidBody, body_context}
 use Rattle.validate_body.specs.Start.{state}
 use Rattle.validate_body.proofs.Listed.{IsOrderedBelow}
-use Rattle.opcheck_script.specs.Attempts.{Answered}
+use Rattle.opcheck_script.specs.Attempts.{AreAnswers}
 use Rattle.opcheck_script.proofs.body.answer_each.Given as goal
 
 abbrev pub invariant-loop-index : goal.invariant-loop-index
@@ -13,8 +13,8 @@ invariant-loop-index g l =
     let md = g.R.WasmModuleResources.context l.resources in
     record {
       count : length l.answers.items ≡ l.index;
-      answered : Answered (body_context md (state l.fn.v)) (state l.fn.v).present l.ops l.attempts l.answers.items (state l.v).present;
-      valid : IsValid md (state l.v);
+      answered : AreAnswers (body_context md (state l.fn.v)) (state l.fn.v).present l.ops l.attempts l.answers.items (state l.v).present;
+      valid : IsValidBody md (state l.v);
       kept : IsKept (state l.fn.v) (state l.v);
       ordered : IsOrderedBelow (state l.v).present.frames (drop l.index l.ops);
     }

@@ -1,11 +1,11 @@
 use Rattle.std.proofs.Common.{◌≡◌, None}
-use Rattle.validate_stacks.specs.State.{IsValid}
+use Rattle.validate_stacks.specs.State.{IsValidBody}
 use Rattle.validate_body.specs.Start.{state}
 use Rattle.script_tests.proofs.undone.attempt_each.Given as goal
 
 abbrev pub invariant-loop-pair : goal.invariant-loop-pair
 invariant-loop-pair g l =
     record {
-      valid : IsValid (g.R.WasmModuleResources.context l.resources) (state l.v);
+      valid : IsValidBody (g.R.WasmModuleResources.context l.resources) (state l.v);
       idle : (state l.v).undone ≡ None;
     }

@@ -3,7 +3,7 @@ use Rattle.std.specs.Option.{option_map}
 use Rattle.validation_rules.specs.Context.{Context}
 use Rattle.validation_rules.specs.Fits.{MaybeType}
 use Rattle.validate_stacks.specs.Pops.{may_pop, IsKept}
-use Rattle.validate_stacks.specs.State.{IsValid, body_context}
+use Rattle.validate_stacks.specs.State.{IsValidBody, body_context}
 use Rattle.validate_stacks.specs.Steps.{found_in_body, body_popped}
 use Rattle.validate_stacks.specs.Visits.{Meets}
 use Rattle.validate_stacks.proofs.Validity.{popped_valid, popped_kept}
@@ -20,7 +20,7 @@ returns-in-Ok-clause-visit g c =
       accepted = drop_is md v ∙ (ap (option_map (λ _. body_popped v)) c.in-Ok.ensures.value ∙ ap Some (sym e));
       refused = tt;
       at_offset = tt;
-      valid = subst (IsValid md) (sym e) (popped_valid md v c.requires.valid);
+      valid = subst (IsValidBody md) (sym e) (popped_valid md v c.requires.valid);
       kept = subst (IsKept v) (sym e) (popped_kept v);
     }
 
@@ -34,7 +34,7 @@ returns-in-Err-clause-visit g c =
     let md = g.R.WasmModuleResources.context c.args.resources.now in
     let v = c.args.stacks.now.body in
     let w = c.pop_operand.new.self.body in
-    let valid : IsValid md w = elim c.in-Err.ensures.left [ inl e ↦ subst (IsValid md) (sym e) c.requires.valid | inr e ↦ subst (IsValid md) (sym e) (popped_valid md v c.requires.valid) ] in
+    let valid : IsValidBody md w = elim c.in-Err.ensures.left [ inl e ↦ subst (IsValidBody md) (sym e) c.requires.valid | inr e ↦ subst (IsValidBody md) (sym e) (popped_valid md v c.requires.valid) ] in
     let kept : IsKept v w = elim c.in-Err.ensures.left [ inl e ↦ subst (IsKept v) (sym e) refl | inr e ↦ subst (IsKept v) (sym e) (popped_kept v) ] in
     record {
       accepted = tt;

@@ -3,7 +3,7 @@ use Rattle.validation_rules.specs.Operators.{looking_row, select_pushes, row_ope
 use Rattle.validation_rules.specs.Valid.{IsValidOperand}
 use Rattle.validate_stacks.specs.Pops.{may_pop, IsKept}
 use Rattle.validate_stacks.specs.Attempts.{body_of}
-use Rattle.validate_stacks.specs.State.{BodyState, IsValid, body_context}
+use Rattle.validate_stacks.specs.State.{BodyState, IsValidBody, body_context}
 use Rattle.validate_stacks.specs.Steps.{found_in_body, body_pushed}
 use Rattle.validate_stacks.specs.Visits.{step_body}
 use Rattle.validate_stacks.proofs.Validity.{kept_on, pushed_valid, pushed_kept}
@@ -80,7 +80,7 @@ returns-in-Ok g c =
     let upper = found_valid md u c.in_ok-upper.upper valid_u c.in_ok-upper.ensures.value in
     let given = selected_one c.in_ok-lower.lower c.in_ok-upper.upper t (IsValidOperand md) lower upper c.in_ok-ty.ensures.given in
     let kept = kept_on v w x (kept_on v u w (after_kept v u (inr e)) (after_kept u w (inr f))) (after_kept w x (inr h)) in
-    meets_done md _ c.args.offset v y (step ∙ ap Some (ap (λ (z : BodyState). body_pushed t z) (sym h) ∙ sym q)) (subst (IsValid md) (sym q) (pushed_valid md t x given valid_x)) (kept_on v x y kept (subst (IsKept x) (sym q) (pushed_kept t x)))
+    meets_done md _ c.args.offset v y (step ∙ ap Some (ap (λ (z : BodyState). body_pushed t z) (sym h) ∙ sym q)) (subst (IsValidBody md) (sym q) (pushed_valid md t x given valid_x)) (kept_on v x y kept (subst (IsKept x) (sym q) (pushed_kept t x)))
 
 pub returns-in-Err : goal.returns-in-Err
 returns-in-Err g c =
@@ -98,7 +98,7 @@ returns-in-Err g c =
     let kept = kept_on v w x (kept_on v u w (after_kept v u (inr e)) (after_kept u w (inr f))) (after_kept w x (inr h)) in
     let full : c.out_of_memory.result.wants_memory ≡ true = search rules in
     let none : c.out_of_memory.result.wants_memory ≡ false → step_body md (λ cx. row_operator (looking_row 3 (select_pushes cx))) v ≡ None = λ n. (let clash : true ≡ false = sym full ∙ n in absurd cc) in
-    meets_refused md _ c.args.offset v y _ (search rules) none (search rules) (subst (IsValid md) (ap body_of (sym q)) valid) (subst (IsKept v) (ap body_of (sym q)) kept)
+    meets_refused md _ c.args.offset v y _ (search rules) none (search rules) (subst (IsValidBody md) (ap body_of (sym q)) valid) (subst (IsKept v) (ap body_of (sym q)) kept)
 
 pub pop_operand-requires-3-clause-state : goal.pop_operand-requires-3-clause-state
 pop_operand-requires-3-clause-state g c =

@@ -11,5 +11,5 @@ loop-entry-preserved-in-Some-entry c =
       fits = rw c.put.ensures.items (CanTakeBack-more c.loop-entry.control.room c.put.new.self.room (c.in-Some-entry.frame ∷ c.loop-entry.control.items) c.pop.new.self.items c.put.ensures.never_less before.1);
       room = omega arith;
       inits_room = search rules;
-      base = search rules;
+      set_at_entry = search rules;
     }

@@ -13,5 +13,5 @@ invariant-loop-entry l = record {
   fits : CanTakeBack l.control.room l.control.items l.trace.items;
   room : l.fn.control.room ≤ l.control.room;
   inits_room : l.inits.room ≡ l.fn.inits.room;
-  base : l.inits.base ≡ l.fn.inits.base;
+  set_at_entry : l.inits.set_at_entry ≡ l.fn.inits.set_at_entry;
 }

@@ -1,11 +1,13 @@
-use Rattle.std.proofs.Common.{◌≡◌, ℕ, true, Some, ◌∙◌, refl, ap, sym, arith, length, nat_le}
+use Rattle.std.proofs.Common.{◌≡◌, ℕ, true, false, nat_lt, Some, ◌∙◌, refl, ap, sym, arith, length, nat_le}
 use Rattle.std.proofs.lemmas.Bool.{and_from}
 use Rattle.std.proofs.lemmas.Grind.{common_steps}
+use Rattle.std.specs.List.{list_all}
+use Rattle.validate_resources.specs.declared.lists.FuncDecl.{FuncDecl}
 use Rattle.validate_resources.specs.Indices.{is_known}
-use Rattle.validate_resources.specs.Lists.{Declared, declared_by, is_module, canonical_lists, list_indices_pass, have_known_types, have_func_types}
+use Rattle.validate_resources.specs.Lists.{Declared, declared_by, is_module, canonical_lists, list_indices_pass, have_func_types}
 use Rattle.validate_resources.specs.Order.{have_fitting_supertypes}
 use Rattle.validate_resources.specs.declared.lists.TheConstants.{MAX_TYPES}
-use Rattle.validate_resources.specs.Lawful.Forms.{module-same}
+use Rattle.validate_resources.specs.Lawful.Forms.{module-same, no-module}
 use Rattle.validate_resources.proofs.lists.ModuleLists.new.Goals as goal
 
 pub from_forms-requires : goal.from_forms-requires
@@ -16,11 +18,10 @@ from_forms-requires c =
     let n : ℕ = length c.args.types.items in
     let few : nat_le n MAX_TYPES ≡ true = grind (arith, common_steps) in
     let known : list_indices_pass (is_known n) d.types d.tables d.globals d.elements ≡ true = grind (arith, common_steps) in
-    let functions : have_known_types d ≡ true = grind (arith, common_steps) in
     let supertypes : have_fitting_supertypes d.types ≡ true = grind (arith, common_steps) in
     let func_types : have_func_types d ≡ true = grind (arith, common_steps) in
     let holds : is_module is_known d ≡ true =
-    and_from _ _ (and_from _ _ (and_from _ _ (and_from _ _ few known) functions) supertypes) func_types in
+    and_from _ _ (and_from _ _ (and_from _ _ few known) supertypes) func_types in
     rw (c.in_ok-forms.ensures.types, c.in_ok-forms.ensures.tables, c.in_ok-forms.ensures.globals, c.in_ok-forms.ensures.elements)
     (rw (c.deref.ensures.value, c.deref-2.ensures.value, c.deref-3.ensures.value, c.deref-4.ensures.value) (module-same d ∙ holds))
 
@@ -32,14 +33,21 @@ returns-clause-kept c =
     let n : ℕ = length c.args.types.items in
     let few : nat_le n MAX_TYPES ≡ true = grind (arith, common_steps) in
     let known : list_indices_pass (is_known n) d.types d.tables d.globals d.elements ≡ true = grind (arith, common_steps) in
-    let functions : have_known_types d ≡ true = grind (arith, common_steps) in
     let supertypes : have_fitting_supertypes d.types ≡ true = grind (arith, common_steps) in
     let func_types : have_func_types d ≡ true = grind (arith, common_steps) in
     let holds : is_module is_known d ≡ true =
-    and_from _ _ (and_from _ _ (and_from _ _ (and_from _ _ few known) functions) supertypes) func_types in
+    and_from _ _ (and_from _ _ (and_from _ _ few known) supertypes) func_types in
     let forms = c.in_ok-forms.forms in
     let same : declared_by forms.types.items c.args.functions.items forms.tables.items c.args.memories.items
     forms.globals.items forms.elements.items c.args.data_count ≡ canonical_lists d =
     rw (c.in_ok-forms.ensures.types, c.in_ok-forms.ensures.tables, c.in_ok-forms.ensures.globals, c.in_ok-forms.ensures.elements)
     (rw (c.deref.ensures.value, c.deref-2.ensures.value, c.deref-3.ensures.value, c.deref-4.ensures.value) refl) in
     rw holds (ap Some (sym (c.from_forms.ensures ∙ same)))
+
+pub returns-then-not-have_types-clause-refused : goal.returns-then-not-have_types-clause-refused
+returns-then-not-have_types-clause-refused c =
+    let d : Declared =
+    declared_by c.args.types.items c.args.functions.items c.args.tables.items c.args.memories.items
+    c.args.globals.items c.args.elements.items c.args.data_count in
+    let unknown : list_all (λ (f : FuncDecl). nat_lt f.type_index (length d.types)) d.functions ≡ false = grind (arith, common_steps) in
+    λ _. no-module d unknown

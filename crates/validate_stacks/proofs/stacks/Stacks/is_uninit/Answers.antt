@@ -2,7 +2,7 @@ use Rattle.std.proofs.Common.{not, ◌∙◌, ap, arith}
 use Rattle.validate_stacks.specs.Attempts.{body_of}
 use Rattle.validate_stacks.specs.Flat.{undone_pending}
 use Rattle.validate_stacks.specs.State.{BodyState}
-use Rattle.validate_stacks.specs.Steps.{is_set_in_body}
+use Rattle.validation_rules.specs.Static.{is_local_set, locals_set}
 use Rattle.validate_stacks.proofs.Marks.{set_is}
 use Rattle.validate_stacks.proofs.stacks.Stacks.is_uninit.Goals as goal
 
@@ -11,4 +11,4 @@ returns c =
     let s = c.self.inside in
     let declared = rw (← c.self.view_is) at c.requires in
     c.is_uninit.ensures.declared (omega (arith, declared, c.self.invariant.marks))
-    ∙ ap not (set_is s.control.items s.operands.items s.inits s.shared s.features s.locals (undone_pending s.control.items s.operands.items s.inits.order s.transaction) c.args.local_index c.self.invariant.shape ∙ ap (λ (v : BodyState). is_set_in_body v c.args.local_index) (ap body_of c.self.view_is))
+    ∙ ap not (set_is s.control.items s.operands.items s.inits s.shared s.features s.locals (undone_pending s.control.items s.operands.items s.inits.order s.transaction) c.args.local_index c.self.invariant.shape ∙ ap (λ (v : BodyState). is_local_set v.set_at_entry (locals_set v.present.frames) c.args.local_index) (ap body_of c.self.view_is))

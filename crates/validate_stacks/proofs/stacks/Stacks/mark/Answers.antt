@@ -10,19 +10,19 @@ use Rattle.validate_stacks.proofs.stacks.Stacks.mark.Goals as goal
 pub returns-in_default : goal.returns-in_default
 returns-in_default c =
     let s = c.self.inside in
-    rw (← c.self.view_is) (mark_none s.control.items s.operands.items s.inits.order s.shared s.features s.locals s.inits.base (undone_pending s.control.items s.operands.items s.inits.order s.transaction) (sym c.get.ensures ∙ ap option_copied c.in_default.is))
+    rw (← c.self.view_is) (mark_none s.control.items s.operands.items s.inits.order s.shared s.features s.locals s.inits.set_at_entry (undone_pending s.control.items s.operands.items s.inits.order s.transaction) (sym c.get.ensures ∙ ap option_copied c.in_default.is))
 
 pub returns-then-innermost : goal.returns-then-innermost
 returns-then-innermost c =
     let s = c.self.inside in
-    rw (← c.self.view_is) (mark_dead s.control.items c.in-Some.innermost.now s.operands.items s.inits.order s.shared s.features s.locals s.inits.base (undone_pending s.control.items s.operands.items s.inits.order s.transaction) (sym c.get.ensures ∙ ap option_copied c.in-Some.is) c.if-innermost.true)
+    rw (← c.self.view_is) (mark_dead s.control.items c.in-Some.innermost.now s.operands.items s.inits.order s.shared s.features s.locals s.inits.set_at_entry (undone_pending s.control.items s.operands.items s.inits.order s.transaction) (sym c.get.ensures ∙ ap option_copied c.in-Some.is) c.if-innermost.true)
 
 pub invariant_of-self : goal.invariant_of-self
 invariant_of-self c =
     let s = c.self.inside in
-    rw c.set_unreachable.ensures (sound_mark s.control.room c.replace_top.new.self.room s.control.items c.replace_top.new.self.items c.in-Some.innermost.now s.operands.room s.operands.items s.inits.room s.inits.base s.inits.order s.transaction s.locals (sym c.get.ensures ∙ ap option_copied c.in-Some.is) c.if-innermost.false c.replace_top.ensures.items (sym c.replace_top.ensures.room) c.self.invariant)
+    rw c.set_unreachable.ensures (sound_mark s.control.room c.replace_top.new.self.room s.control.items c.replace_top.new.self.items c.in-Some.innermost.now s.operands.room s.operands.items s.inits.room s.inits.set_at_entry s.inits.order s.transaction s.locals (sym c.get.ensures ∙ ap option_copied c.in-Some.is) c.if-innermost.false c.replace_top.ensures.items (sym c.replace_top.ensures.room) c.self.invariant)
 
 pub returns : goal.returns
 returns c =
     let s = c.self.inside in
-    rw c.set_unreachable.ensures (marked_is s.control.items c.replace_top.new.self.items c.in-Some.innermost.now s.operands.items s.inits.order s.transaction s.shared s.features s.locals s.inits.base (sym c.get.ensures ∙ ap option_copied c.in-Some.is) c.if-innermost.false c.replace_top.ensures.items ∙ ap body_marked (ap body_of c.self.view_is))
+    rw c.set_unreachable.ensures (marked_is s.control.items c.replace_top.new.self.items c.in-Some.innermost.now s.operands.items s.inits.order s.transaction s.shared s.features s.locals s.inits.set_at_entry (sym c.get.ensures ∙ ap option_copied c.in-Some.is) c.if-innermost.false c.replace_top.ensures.items ∙ ap body_marked (ap body_of c.self.view_is))

@@ -1,7 +1,7 @@
 -- What is left to pop comes, from the present state, to what all pops come to from the first one.
 use Rattle.std.proofs.Common.{◌≡◌, ◌≤◌, length, take, reverse}
 use Rattle.validate_stacks.specs.Attempts.{phase_moved}
-use Rattle.validate_stacks.specs.State.{IsValid}
+use Rattle.validate_stacks.specs.State.{IsValidBody}
 use Rattle.validate_stacks.specs.Pops.{body_popped_each, IsKept}
 use Rattle.validate_stacks.proofs.stacks.Stacks.pop_types.Given as goal
 
@@ -14,7 +14,7 @@ invariant-loop-left g l =
     record {
       within : l.left ≤ length l.wanted;
       rest : body_popped_each md (reverse (take l.left l.wanted)) l.self.body ≡ body_popped_each md (reverse l.wanted) l.fn.self.body;
-      valid : IsValid md l.self.body;
+      valid : IsValidBody md l.self.body;
       kept : IsKept l.fn.self.body l.self.body;
       phase : phase_moved l.self.phase ≡ phase_moved l.fn.self.phase;
     }

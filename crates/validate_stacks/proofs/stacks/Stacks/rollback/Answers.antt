@@ -12,34 +12,34 @@ take-log-requires c =
 pub take_back-requires : goal.take_back-requires
 take_back-requires c =
     let s = c.self.inside in
-    (rw (← c.log.view_is) at (undo_at s.control.room s.control.items s.operands.room s.operands.items s.inits.room s.inits.base s.inits.order s.transaction c.take-log.result s.locals c.take-log.ensures.log c.self.invariant)).operands
+    (rw (← c.log.view_is) at (undo_at s.control.room s.control.items s.operands.room s.operands.items s.inits.room s.inits.set_at_entry s.inits.order s.transaction c.take-log.result s.locals c.take-log.ensures.log c.self.invariant)).operands
 
 pub take_back_frames-requires : goal.take_back_frames-requires
 take_back_frames-requires c =
     let s = c.self.inside in
-    rw (c.unmark.ensures.items, c.unmark.ensures.room) (rw (← c.log.view_is) at (undo_at s.control.room s.control.items s.operands.room s.operands.items s.inits.room s.inits.base s.inits.order s.transaction c.take-log.result s.locals c.take-log.ensures.log c.self.invariant)).frames
+    rw (c.unmark.ensures.items, c.unmark.ensures.room) (rw (← c.log.view_is) at (undo_at s.control.room s.control.items s.operands.room s.operands.items s.inits.room s.inits.set_at_entry s.inits.order s.transaction c.take-log.result s.locals c.take-log.ensures.log c.self.invariant)).frames
 
 pub put_back-requires-clause-room : goal.put_back-requires-clause-room
 put_back-requires-clause-room c =
     let s = c.self.inside in
-    let undo = rw (← c.log.view_is) at (undo_at s.control.room s.control.items s.operands.room s.operands.items s.inits.room s.inits.base s.inits.order s.transaction c.take-log.result s.locals c.take-log.ensures.log c.self.invariant) in
+    let undo = rw (← c.log.view_is) at (undo_at s.control.room s.control.items s.operands.room s.operands.items s.inits.room s.inits.set_at_entry s.inits.order s.transaction c.take-log.result s.locals c.take-log.ensures.log c.self.invariant) in
     rw (c.take_back_frames.ensures.order, c.unmark.ensures.items, undo.still, c.deref.ensures.value, c.take_back_frames.ensures.inits_room) undo.room
 
 pub put_back-requires-clause-fresh : goal.put_back-requires-clause-fresh
 put_back-requires-clause-fresh c =
     let s = c.self.inside in
-    let undo = rw (← c.log.view_is) at (undo_at s.control.room s.control.items s.operands.room s.operands.items s.inits.room s.inits.base s.inits.order s.transaction c.take-log.result s.locals c.take-log.ensures.log c.self.invariant) in
-    rw (c.take_back_frames.ensures.order, c.take_back_frames.ensures.base, c.unmark.ensures.items, undo.still, c.deref.ensures.value) undo.fresh
+    let undo = rw (← c.log.view_is) at (undo_at s.control.room s.control.items s.operands.room s.operands.items s.inits.room s.inits.set_at_entry s.inits.order s.transaction c.take-log.result s.locals c.take-log.ensures.log c.self.invariant) in
+    rw (c.take_back_frames.ensures.order, c.take_back_frames.ensures.set_at_entry, c.unmark.ensures.items, undo.still, c.deref.ensures.value) undo.fresh
 
 pub invariant_of-self : goal.invariant_of-self
 invariant_of-self c =
     let s = c.self.inside in
-    rw (c.drop_ctrl.ensures.order, c.drop_ctrl.ensures.base, c.put_back.ensures.order, c.put_back.ensures.base, c.take_back_frames.ensures.order, c.take_back_frames.ensures.base, c.take_back_frames.ensures.frames, c.unmark.ensures.items, c.deref.ensures.value, c.take_back.ensures.items)
-    (sound_idle _ _ _ _ _ _ _ _ s.locals c.keep.ensures (rw (← c.log.view_is) at (undo_at s.control.room s.control.items s.operands.room s.operands.items s.inits.room s.inits.base s.inits.order s.transaction c.take-log.result s.locals c.take-log.ensures.log c.self.invariant)).shape c.self.invariant.marks)
+    rw (c.drop_ctrl.ensures.order, c.drop_ctrl.ensures.set_at_entry, c.put_back.ensures.order, c.put_back.ensures.set_at_entry, c.take_back_frames.ensures.order, c.take_back_frames.ensures.set_at_entry, c.take_back_frames.ensures.frames, c.unmark.ensures.items, c.deref.ensures.value, c.take_back.ensures.items)
+    (sound_idle _ _ _ _ _ _ _ _ s.locals c.keep.ensures (rw (← c.log.view_is) at (undo_at s.control.room s.control.items s.operands.room s.operands.items s.inits.room s.inits.set_at_entry s.inits.order s.transaction c.take-log.result s.locals c.take-log.ensures.log c.self.invariant)).shape c.self.invariant.marks)
 
 pub returns : goal.returns
 returns c =
     let s = c.self.inside in
     let log_is = rw (← c.log.view_is) at c.take-log.ensures.log in
-    rw (c.drop_ctrl.ensures.order, c.drop_ctrl.ensures.base, c.put_back.ensures.order, c.put_back.ensures.base, c.take_back_frames.ensures.order, c.take_back_frames.ensures.base, c.take_back_frames.ensures.frames, c.unmark.ensures.items, c.deref.ensures.value, c.take_back.ensures.items)
-    (rolled_back_is s.control.items s.operands.items s.inits.order s.transaction c.keep.new.self _ s.shared s.features s.locals s.inits.base log_is c.keep.ensures ∙ ap stacks_rolled_back c.self.view_is)
+    rw (c.drop_ctrl.ensures.order, c.drop_ctrl.ensures.set_at_entry, c.put_back.ensures.order, c.put_back.ensures.set_at_entry, c.take_back_frames.ensures.order, c.take_back_frames.ensures.set_at_entry, c.take_back_frames.ensures.frames, c.unmark.ensures.items, c.deref.ensures.value, c.take_back.ensures.items)
+    (rolled_back_is s.control.items s.operands.items s.inits.order s.transaction c.keep.new.self _ s.shared s.features s.locals s.inits.set_at_entry log_is c.keep.ensures ∙ ap stacks_rolled_back c.self.view_is)

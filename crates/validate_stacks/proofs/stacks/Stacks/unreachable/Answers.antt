@@ -1,14 +1,14 @@
 use Rattle.std.proofs.Common.{sym, ap, ◌∙◌, subst}
 use Rattle.validate_stacks.specs.Attempts.{body_of}
 use Rattle.validate_stacks.specs.Pops.{IsKept}
-use Rattle.validate_stacks.specs.State.{IsValid}
+use Rattle.validate_stacks.specs.State.{IsValidBody}
 use Rattle.validate_stacks.specs.Steps.{body_unreachable}
 use Rattle.validate_stacks.proofs.Looks.{ended_popped}
 use Rattle.validate_stacks.proofs.Validity.{popped_valid, popped_kept, kept_on}
 use Rattle.validate_stacks.proofs.stacks.Stacks.unreachable.Goals as goal
 
 pub returns-in_err-pop_any-clause-valid : goal.returns-in_err-pop_any-clause-valid
-returns-in_err-pop_any-clause-valid c = λ md h. subst (IsValid md) (ap body_of (sym c.in_err-pop_any.ensures.exact)) (c.loop-self.invariant.valid md h)
+returns-in_err-pop_any-clause-valid c = λ md h. subst (IsValidBody md) (ap body_of (sym c.in_err-pop_any.ensures.exact)) (c.loop-self.invariant.valid md h)
 
 pub loop-self-preserved : goal.loop-self-preserved
 loop-self-preserved c =
@@ -16,6 +16,6 @@ loop-self-preserved c =
     let e = c.in_ok-pop_any.ensures.exact.1 in
     record {
       same = ap body_unreachable e ∙ (ended_popped v ∙ c.loop-self.invariant.same);
-      valid = λ md h. subst (IsValid md) (sym e) (popped_valid md v (c.loop-self.invariant.valid md h));
+      valid = λ md h. subst (IsValidBody md) (sym e) (popped_valid md v (c.loop-self.invariant.valid md h));
       kept = kept_on c.args.self.now.body v c.pop_any.new.self.body c.loop-self.invariant.kept (subst (IsKept v) (sym e) (popped_kept v));
     }

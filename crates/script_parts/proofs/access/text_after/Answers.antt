@@ -2,8 +2,8 @@ use Rattle.std.proofs.Common.{rules, tests}
 use Rattle.std.proofs.lemmas.Iterator.{YieldsList-from_slice}
 use Rattle.std.proofs.lemmas.Iterator.Search.{find_from_yields_List}
 use Rattle.std.proofs.lemmas.Str.Pattern.{starts_text}
-use Rattle.script_parts.proofs.Following.{is_said_by, none_follows, rest_follows}
-use Rattle.script_parts.proofs.access.following.Goals as goal
+use Rattle.script_parts.proofs.TextAfter.{is_said_by, none_follows, rest_follows}
+use Rattle.script_parts.proofs.access.text_after.Goals as goal
 
 pub returns-in_err-find : goal.returns-in_err-find
 returns-in_err-find c =

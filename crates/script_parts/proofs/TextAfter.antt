@@ -4,7 +4,7 @@ use Rattle.std.specs.List.{find, starts_with}
 use Rattle.std.specs.Option.{MatchOption, option_copied, option_map}
 use Rattle.std.specs.Str.Pattern.{FindsTextPrefix, StripsPrefix}
 use Rattle.std.proofs.lemmas.Str.Pattern.{starts_text}
-use Rattle.script_parts.specs.Access.{following}
+use Rattle.script_parts.specs.Access.{text_after}
 
 abbrev text_of : Bor (List ℕ) → List ℕ
 text_of word = word.now
@@ -38,17 +38,17 @@ find-map p f (x ∷ xs) = at (p (f x)) (find-map p f xs)
 
 module _ (name : List ℕ) (words : List (Bor (List ℕ))) (found : Option (Bor (Bor (List ℕ)))) (result : Option (Bor (List ℕ))) (is_found : option_map (λ word. word.now) found ≡ find (is_said_by name) words) where
   -- what follows in the word that is found, if one is
-  said_in : (o : Option (Bor (List ℕ))) → find (is_said_by name) words ≡ o → following name (map text_of words) ≡ option_map (after name) (option_map text_of o)
+  said_in : (o : Option (Bor (List ℕ))) → find (is_said_by name) words ≡ o → text_after name (map text_of words) ≡ option_map (after name) (option_map text_of o)
   said_in o e = ap (option_map (after name)) (find-map (begins_with name) text_of words ∙ ap (option_map text_of) e)
 
   -- no word begins with the name
-  pub none_follows : found ≡ None → result ≡ None → option_copied result ≡ following name (map text_of words)
+  pub none_follows : found ≡ None → result ≡ None → option_copied result ≡ text_after name (map text_of words)
   none_follows none gone =
       let missing : find (is_said_by name) words ≡ None = sym is_found ∙ ap (option_map (λ (word : Bor (Bor (List ℕ))). word.now)) none in
       ap option_copied gone ∙ sym (said_in None missing)
 
   -- a word begins with the name, and so it can be cut off
-  pub rest_follows : (word : Bor (Bor (List ℕ))) → found ≡ Some word → MatchOption result (FindsTextPrefix name word.now.now None) (λ x. StripsPrefix (FindsTextPrefix name) word.now.now x.now) → option_copied result ≡ following name (map text_of words)
+  pub rest_follows : (word : Bor (Bor (List ℕ))) → found ≡ Some word → MatchOption result (FindsTextPrefix name word.now.now None) (λ x. StripsPrefix (FindsTextPrefix name) word.now.now x.now) → option_copied result ≡ text_after name (map text_of words)
   rest_follows word some strips =
       let there : find (is_said_by name) words ≡ Some word.now = sym is_found ∙ ap (option_map (λ (w : Bor (Bor (List ℕ))). w.now)) some in
       let begins : is_said_by name word.now ≡ true = found_passes (is_said_by name) words word.now there in

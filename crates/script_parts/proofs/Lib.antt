@@ -5,3 +5,5 @@ mod TextAfter
 mod Indices
 mod ReferenceNames
 mod Marks
+mod Named
+mod Arrows

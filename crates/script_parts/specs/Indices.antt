@@ -1,5 +1,10 @@
 -- The indices of operators, as a script writes them (the crate's own).
 use Rattle.std.specs.Prelude.{ℕ, List, [], ◌∷◌}
+use Rattle.validate_visit.specs.declared.op.ArrayOp.{ArrayOp}
+use Rattle.validate_visit.specs.declared.op.ArrayOp.TheVariants.{ArrayNew, ArrayNewDefault, ArrayNewFixed}
+use Rattle.validate_visit.specs.declared.op.ArrayOp.TheVariants.{ArrayNewData, ArrayNewElem, ArrayGet}
+use Rattle.validate_visit.specs.declared.op.ArrayOp.TheVariants.{ArrayGetPacked, ArraySet, ArrayFill}
+use Rattle.validate_visit.specs.declared.op.ArrayOp.TheVariants.{ArrayCopy, ArrayInitData, ArrayInitElem}
 use Rattle.validate_visit.specs.declared.op.ControlOp.{ControlOp}
 use Rattle.validate_visit.specs.declared.op.ControlOp.TheVariants.{Br, BrIf, Call, ReturnCall, CallRef}
 use Rattle.validate_visit.specs.declared.op.ControlOp.TheVariants.{ReturnCallRef, CallIndirect}
@@ -10,9 +15,12 @@ use Rattle.validate_visit.specs.declared.op.MemoryOp.TheVariants.{MemorySize, Me
 use Rattle.validate_visit.specs.declared.op.MemoryOp.TheVariants.{DataDrop, MemoryCopy, MemoryFill}
 use Rattle.validate_visit.specs.declared.op.MemoryOp.TheVariants.{MemoryDiscard}
 use Rattle.validate_visit.specs.declared.op.Op.{Op}
-use Rattle.validate_visit.specs.declared.op.Op.TheVariants.{Control, Memory, Reference, Table}
+use Rattle.validate_visit.specs.declared.op.Op.TheVariants.{Control, Memory, Reference, Table, Struct, Array}
 use Rattle.validate_visit.specs.declared.op.ReferenceOp.{ReferenceOp}
 use Rattle.validate_visit.specs.declared.op.ReferenceOp.TheVariants.{RefFunc, BrOnNull, BrOnNonNull}
+use Rattle.validate_visit.specs.declared.op.StructOp.{StructOp}
+use Rattle.validate_visit.specs.declared.op.StructOp.TheVariants.{StructNew, StructNewDefault, StructGet}
+use Rattle.validate_visit.specs.declared.op.StructOp.TheVariants.{StructGetPacked, StructSet}
 use Rattle.validate_visit.specs.declared.op.TableOp.{TableOp}
 use Rattle.validate_visit.specs.declared.op.TableOp.TheVariants.{TableGet, TableSet, TableGrow, TableSize}
 use Rattle.validate_visit.specs.declared.op.TableOp.TheVariants.{TableFill, TableInit, ElemDrop, TableCopy}
@@ -64,9 +72,35 @@ table_indices (TableInit segment table) = segment ∷ table ∷ []
 table_indices (ElemDrop segment) = segment ∷ []
 table_indices (TableCopy to from) = to ∷ from ∷ []
 
+-- the type of an operator on structs, and then the field
+abbrev pub struct_indices : StructOp → List ℕ
+struct_indices (StructNew type) = type ∷ []
+struct_indices (StructNewDefault type) = type ∷ []
+struct_indices (StructGet field) = field.struct_type_index ∷ field.field_index ∷ []
+struct_indices (StructGetPacked sign field) = field.struct_type_index ∷ field.field_index ∷ []
+struct_indices (StructSet field) = field.struct_type_index ∷ field.field_index ∷ []
+
+-- the type of an operator on arrays, and then the number of elements, the segment, or the type that is read
+abbrev pub array_indices : ArrayOp → List ℕ
+array_indices (ArrayNew type) = type ∷ []
+array_indices (ArrayNewDefault type) = type ∷ []
+array_indices (ArrayNewFixed type count) = type ∷ count ∷ []
+array_indices (ArrayNewData type segment) = type ∷ segment ∷ []
+array_indices (ArrayNewElem type segment) = type ∷ segment ∷ []
+array_indices (ArrayGet type) = type ∷ []
+array_indices (ArrayGetPacked sign type) = type ∷ []
+array_indices (ArraySet type) = type ∷ []
+array_indices (ArrayFill type) = type ∷ []
+array_indices (ArrayCopy to from) = to ∷ from ∷ []
+array_indices (ArrayInitData type segment) = type ∷ segment ∷ []
+array_indices (ArrayInitElem type segment) = type ∷ segment ∷ []
+array_indices _ = []
+
 abbrev pub op_indices : Op → List ℕ
 op_indices (Control op) = control_indices op
 op_indices (Reference op) = reference_indices op
 op_indices (Memory op) = memory_indices op
 op_indices (Table op) = table_indices op
+op_indices (Struct op) = struct_indices op
+op_indices (Array op) = array_indices op
 op_indices _ = []

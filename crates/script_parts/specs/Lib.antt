@@ -1,6 +1,9 @@
 pub mod Numbers
 pub mod Written
 pub mod References
+pub mod Values
+pub mod Casts
+pub mod Fields
 pub mod Types
 pub mod Functions
 pub mod Tables

@@ -3,5 +3,5 @@ use Rattle.std.specs.Prelude.{ℕ, List, [], ◌∷◌, ◌++◌, codes, if◌th
 use Rattle.validate_types.specs.declared.types.MemoryType.{MemoryType}
 
 -- the marks of a memory, in their order
-abbrev pub marks_of : MemoryType → List (List ℕ)
-marks_of m = (if m.memory64 then codes "64" ∷ [] else []) ++ (if m.shared then codes "shared" ∷ [] else [])
+abbrev pub memory_marks : MemoryType → List (List ℕ)
+memory_marks m = (if m.memory64 then codes "64" ∷ [] else []) ++ (if m.shared then codes "shared" ∷ [] else [])

@@ -1,15 +1,32 @@
--- Types, as a script writes them (the crate's own).
-use Rattle.std.specs.Prelude.{ℕ, Bool, List, Option, codes, bytes_eq}
-use Rattle.std.specs.List.{list_any, before_first}
+-- Types, as a script declares them (the crate's own).
+use Rattle.std.specs.Prelude.{◌≡◌, ◌++◌, ◌||◌, ◌&&◌, ◌<◌, ℕ, Bool, List, [], ◌∷◌, Option, IfSome, codes}
+use Rattle.std.specs.Prelude.{bytes_eq, drop, not, length}
+use Rattle.std.specs.List.{AllZip, list_all, list_any, filter, before_first, position_or_len}
 use Rattle.std.specs.Option.{option_map}
 use Rattle.std.specs.Str.Parse.{digits_value}
+use Rattle.validate_types.specs.Types.{Signature}
 use Rattle.validate_types.specs.declared.heap.UnpackedIndex.{UnpackedIndex}
 use Rattle.validate_types.specs.declared.heap.UnpackedIndex.TheVariants.{Module}
-use Rattle.script_parts.specs.Access.{text_after}
+use Rattle.validate_types.specs.declared.types.CompositeInnerType.{CompositeInnerType}
+use Rattle.validate_types.specs.declared.types.CompositeInnerType.TheVariants.{Func, Array, Struct}
+use Rattle.validate_types.specs.declared.heap.TheConstants.PackedIndex.{LIMIT}
+use Rattle.script_parts.specs.Access.{text_after, one_if_some}
+use Rattle.script_parts.specs.Numbers.{IsIndex}
+use Rattle.script_parts.specs.Fields.{IsFieldName, fits_field}
+use Rattle.script_parts.specs.Values.{IsValueName, fits_value}
 
--- the marks of a type: the words before `func`
+-- the word says what kind of type it is
+abbrev pub is_kind : List ℕ → Bool
+is_kind word =
+    bytes_eq word (codes "func") || bytes_eq word (codes "struct") || bytes_eq word (codes "array")
+
+-- the marks of a type: the words before its kind
 abbrev pub type_marks : List (List ℕ) → List (List ℕ)
-type_marks words = before_first (λ word. bytes_eq word (codes "func")) words
+type_marks words = before_first is_kind words
+
+-- the kind of a type, and all words after it
+abbrev pub kind_onwards : List (List ℕ) → List (List ℕ)
+kind_onwards words = drop (position_or_len is_kind words) words
 
 -- one of the marks is `shared`
 abbrev pub is_marked_shared : List (List ℕ) → Bool
@@ -18,3 +35,41 @@ is_marked_shared marks = list_any (λ mark. bytes_eq mark (codes "shared")) mark
 -- the supertype that a mark gives by its index, if one does
 abbrev pub supertype_in : List (List ℕ) → Option UnpackedIndex
 supertype_in marks = option_map (λ digits. Module (digits_value 10 digits)) (text_after (codes "sub=") marks)
+
+-- the marks that aren't `shared`
+abbrev pub other_marks : List (List ℕ) → List (List ℕ)
+other_marks marks = filter (λ mark. not (bytes_eq mark (codes "shared"))) marks
+
+-- digits that write an index which a reference or a supertype can pack
+abbrev pub IsPackedIndex : List ℕ → Type 0
+IsPackedIndex digits = IsIndex digits × (digits_value 10 digits < LIMIT)
+
+-- Words that are the marks of a type: each is `shared`, but for one at most, which gives a supertype by an
+-- index that is packed.
+pub record AreMarks (marks : List (List ℕ)) : Type 0 where
+  pub known : length (other_marks marks) ≡ one_if_some (text_after (codes "sub=") marks)
+  pub supertype : IfSome (text_after (codes "sub=") marks) IsPackedIndex
+
+-- the words name the parameters, and behind an arrow the results
+abbrev pub IsSignature : List (List ℕ) → Signature → Type 0
+IsSignature words signature =
+    (params results : List (List ℕ))
+    × (words ≡ params ++ codes "->" ∷ results)
+    × AllZip IsValueName params signature.params
+    × AllZip IsValueName results signature.results
+
+-- the words say the kind, and write what the type is made of
+abbrev pub IsComposite : List (List ℕ) → CompositeInnerType → Type 0
+IsComposite (kind ∷ words) (Func signature) = (kind ≡ codes "func") × IsSignature words signature
+IsComposite (kind ∷ words) (Struct fields) = (kind ≡ codes "struct") × AllZip IsFieldName words fields
+IsComposite (kind ∷ words) (Array array) = (kind ≡ codes "array") × AllZip IsFieldName words (array.0 ∷ [])
+IsComposite [] inner = ⊥
+
+-- each type index in it is packed
+abbrev pub fits_signature : Signature → Bool
+fits_signature signature = list_all fits_value signature.params && list_all fits_value signature.results
+
+abbrev pub fits_composite : CompositeInnerType → Bool
+fits_composite (Func signature) = fits_signature signature
+fits_composite (Struct fields) = list_all fits_field fields
+fits_composite (Array array) = fits_field array.0

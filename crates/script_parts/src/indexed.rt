@@ -2,10 +2,12 @@
 
 ghost use Rattle.std.specs.Prelude.{◌≡◌, [], ◌∷◌, IfSome, map};
 ghost use Rattle.std.specs.Str.Parse.{digits_value};
-ghost use Rattle.script_parts.specs.Indices.{op_indices};
+ghost use Rattle.script_parts.specs.Indices.{array_indices, op_indices, struct_indices};
 
 use crate::numbers::read_index;
-use validate_visit::{ControlOp, MemoryOp, Op, ReferenceOp, TableOp};
+use validate_visit::{
+    ArrayOp, ControlOp, FieldIndex, MemoryOp, Op, ReferenceOp, StructOp, TableOp,
+};
 
 /// The operator with the indices that these words write in the place of its own, if it has so many.
 pub fn read_indexed(op: Op<'static>, words: &[&str]) -> Option<Op<'static>>
@@ -50,6 +52,34 @@ fn with_index(op: Op<'static>, index: u32) -> Option<Op<'static>>
         Op::Table(TableOp::TableSize(_)) => Op::Table(TableOp::TableSize(index)),
         Op::Table(TableOp::TableFill(_)) => Op::Table(TableOp::TableFill(index)),
         Op::Table(TableOp::ElemDrop(_)) => Op::Table(TableOp::ElemDrop(index)),
+        Op::Struct(op) => Op::Struct(struct_with_index(op, index)?),
+        Op::Array(op) => Op::Array(array_with_index(op, index)?),
+        _ => return None,
+    })
+}
+
+/// The operator on structs with this index, if it has one index alone.
+fn struct_with_index(op: StructOp, index: u32) -> Option<StructOp>
+    ensures { IfSome result (λ op. struct_indices op ≡ index ∷ []) }
+{
+    match op {
+        StructOp::StructNew(_) => Some(StructOp::StructNew(index)),
+        StructOp::StructNewDefault(_) => Some(StructOp::StructNewDefault(index)),
+        _ => None,
+    }
+}
+
+/// The operator on arrays with this index, if it has one index alone.
+fn array_with_index(op: ArrayOp, index: u32) -> Option<ArrayOp>
+    ensures { IfSome result (λ op. array_indices op ≡ index ∷ []) }
+{
+    Some(match op {
+        ArrayOp::ArrayNew(_) => ArrayOp::ArrayNew(index),
+        ArrayOp::ArrayNewDefault(_) => ArrayOp::ArrayNewDefault(index),
+        ArrayOp::ArrayGet(_) => ArrayOp::ArrayGet(index),
+        ArrayOp::ArrayGetPacked(sign, _) => ArrayOp::ArrayGetPacked(sign, index),
+        ArrayOp::ArraySet(_) => ArrayOp::ArraySet(index),
+        ArrayOp::ArrayFill(_) => ArrayOp::ArrayFill(index),
         _ => return None,
     })
 }
@@ -85,6 +115,58 @@ fn with_indices(op: Op<'static>, first: u32, second: u32) -> Option<Op<'static>>
             dst_table: first,
             src_table: second,
         }),
+        Op::Struct(op) => Op::Struct(struct_with_indices(op, first, second)?),
+        Op::Array(op) => Op::Array(array_with_indices(op, first, second)?),
+        _ => return None,
+    })
+}
+
+/// The operator on structs with these indices, if it has two: a type and a field.
+fn struct_with_indices(op: StructOp, first: u32, second: u32) -> Option<StructOp>
+    ensures { IfSome result (λ op. struct_indices op ≡ first ∷ second ∷ []) }
+{
+    let field = FieldIndex {
+        struct_type_index: first,
+        field_index: second,
+    };
+    match op {
+        StructOp::StructGet(_) => Some(StructOp::StructGet(field)),
+        StructOp::StructGetPacked(sign, _) => Some(StructOp::StructGetPacked(sign, field)),
+        StructOp::StructSet(_) => Some(StructOp::StructSet(field)),
+        _ => None,
+    }
+}
+
+/// The operator on arrays with these indices, if it has two. The number of elements of an
+/// `array.new_fixed` counts as one.
+fn array_with_indices(op: ArrayOp, first: u32, second: u32) -> Option<ArrayOp>
+    ensures { IfSome result (λ op. array_indices op ≡ first ∷ second ∷ []) }
+{
+    Some(match op {
+        ArrayOp::ArrayNewFixed { .. } => ArrayOp::ArrayNewFixed {
+            array_type_index: first,
+            array_size: second,
+        },
+        ArrayOp::ArrayNewData { .. } => ArrayOp::ArrayNewData {
+            array_type_index: first,
+            array_data_index: second,
+        },
+        ArrayOp::ArrayNewElem { .. } => ArrayOp::ArrayNewElem {
+            array_type_index: first,
+            array_elem_index: second,
+        },
+        ArrayOp::ArrayCopy { .. } => ArrayOp::ArrayCopy {
+            array_type_index_dst: first,
+            array_type_index_src: second,
+        },
+        ArrayOp::ArrayInitData { .. } => ArrayOp::ArrayInitData {
+            array_type_index: first,
+            array_data_index: second,
+        },
+        ArrayOp::ArrayInitElem { .. } => ArrayOp::ArrayInitElem {
+            array_type_index: first,
+            array_elem_index: second,
+        },
         _ => return None,
     })
 }

@@ -3,7 +3,9 @@
 #![tactic(auto)]
 
 pub mod access;
+pub mod casts;
 pub mod failure;
+pub mod fields;
 pub mod functions;
 pub mod globals;
 pub mod indexed;
@@ -16,6 +18,7 @@ pub mod references;
 pub mod script;
 pub mod tables;
 pub mod types;
+pub mod values;
 pub mod words;
 pub mod written;
 

@@ -9,7 +9,7 @@ ghost use Rattle.script_parts.specs.declared.failure.LineError.{LineError};
 
 use crate::failure::LineError;
 use crate::numbers::{read_index, read_indices};
-use crate::types::read_value_types;
+use crate::values::read_value_types;
 use std::alloc::Global;
 use validate_types::ValType;
 use validate_visit::{BrTable, ControlOp, Op};

@@ -2,14 +2,14 @@
 
 ghost use Rattle.std.specs.Prelude.{◌≡◌, ◌≢◌, IfNone, IfSome, map};
 ghost use Rattle.validate_types.specs.declared.types.MemoryType.{MemoryType};
-ghost use Rattle.script_parts.specs.Memory.{marks_of};
+ghost use Rattle.script_parts.specs.Memory.{memory_marks};
 
 use validate_types::MemoryType;
 
 /// The type of a memory with these marks, if they are those of one.
 pub fn read_memory_type(marks: &[&str]) -> Option<MemoryType>
-    ensures read { IfSome result (λ ty. map (λ mark. mark.now) marks.now ≡ marks_of ty) }
-    ensures other { IfNone result ((ty : MemoryType) → map (λ mark. mark.now) marks.now ≢ marks_of ty) }
+    ensures read { IfSome result (λ ty. map (λ mark. mark.now) marks.now ≡ memory_marks ty) }
+    ensures other { IfNone result ((ty : MemoryType) → map (λ mark. mark.now) marks.now ≢ memory_marks ty) }
 {
     let (memory64, shared) = match *marks {
         [] => (false, false),

@@ -3,6 +3,9 @@
 ghost use Rattle.std.specs.Prelude.{◌≡◌, ◌≢◌, ◌++◌, IfNone, IfSome, codes, true};
 ghost use Rattle.validate_types.specs.Abstract.{plain_name, heap_name};
 ghost use Rattle.validate_types.specs.declared.heap.AbstractHeapType.{AbstractHeapType};
+ghost use Rattle.validate_types.specs.declared.heap.HeapType.{HeapType};
+ghost use Rattle.validate_types.specs.declared.refs.RefType.{RefType};
+ghost use Rattle.validate_types.specs.Refs.{fits_reference};
 ghost use Rattle.script_parts.specs.References.{IsHeapName, IsReferenceName};
 
 use crate::numbers::read_index;
@@ -10,7 +13,9 @@ use validate_types::{AbstractHeapType, HeapType, RefType, UnpackedIndex};
 
 /// The reference type that a word names, if it does: by its short name, or as `ref:H` or `refnull:H`.
 pub fn read_reference(word: &str) -> Option<RefType>
-    ensures { IfSome result (λ ty. IsReferenceName word.now ty) }
+    ensures named { IfSome result (λ ty. IsReferenceName word.now ty) }
+    ensures other { IfNone result ((ty : RefType) → fits_reference ty.heap_type ≡ true
+        → ¬ (IsReferenceName word.now ty)) }
 {
     if let Some(ty) = abstract_of_reference(word) {
         return RefType::new(true, HeapType::Abstract { shared: false, ty });
@@ -24,7 +29,8 @@ pub fn read_reference(word: &str) -> Option<RefType>
 /// The heap type that a word names, if it does: an abstract type, the shared copy of one, or the type of
 /// the module at this index.
 pub fn read_heap_type(word: &str) -> Option<HeapType>
-    ensures { IfSome result (λ ty. IsHeapName word.now ty) }
+    ensures named { IfSome result (λ ty. IsHeapName word.now ty) }
+    ensures other { IfNone result ((ty : HeapType) → ¬ (IsHeapName word.now ty)) }
 {
     if let Some(ty) = abstract_named(word) {
         return Some(HeapType::Abstract { shared: false, ty });

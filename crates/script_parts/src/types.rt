@@ -1,54 +1,62 @@
-//! The types that a script names and declares.
+//! The types that a script declares.
 
-ghost use Rattle.std.specs.Prelude.{◌≡◌, IfOk, IfSome, map};
-ghost use Rattle.script_parts.specs.Types.{is_marked_shared, type_marks, supertype_in};
+ghost use Rattle.std.specs.Prelude.{◌≡◌, ◌↔◌, [], ◌∷◌, IfNone, IfOk, IfSome, IsErrOf, IsSome, OnOk, map, true};
+ghost use Rattle.std.specs.List.{AllZip};
+ghost use Rattle.validate_types.specs.declared.types.ArrayType.{ArrayType};
+ghost use Rattle.validate_types.specs.Types.{Signature};
+ghost use Rattle.validate_types.specs.declared.types.CompositeInnerType.{CompositeInnerType};
+ghost use Rattle.script_parts.specs.Fields.{IsFieldName, fits_field};
+ghost use Rattle.std.specs.Option.{SomeIff};
+ghost use Rattle.std.specs.Str.Parse.{digits_value};
+ghost use Rattle.validate_types.specs.declared.heap.UnpackedIndex.{UnpackedIndex};
+ghost use Rattle.script_parts.specs.Types.{AreMarks, IsPackedIndex, IsComposite, IsSignature, is_kind, is_marked_shared, type_marks, kind_onwards, supertype_in, fits_composite, fits_signature};
+ghost use Rattle.script_parts.specs.declared.failure.LineError.{LineError};
 
 use crate::access::text_after;
 use crate::failure::LineError;
-use crate::names::named_in;
+use crate::fields::{read_field, read_fields};
 use crate::numbers::read_index;
-use crate::references::read_reference;
+use crate::values::read_value_types;
 use std::alloc::Global;
 use validate_types::{
-    CompositeInnerType, CompositeType, FuncType, PackedIndex, SubType, UnpackedIndex, ValType,
+    ArrayType, CompositeInnerType, CompositeType, FuncType, PackedIndex, StructType, SubType,
+    UnpackedIndex,
 };
 
-/// The number types and the vector type by their names.
-const NUMBER_TYPES: &[(&str, ValType)] = &[
-    ("i32", ValType::I32),
-    ("i64", ValType::I64),
-    ("f32", ValType::F32),
-    ("f64", ValType::F64),
-    ("v128", ValType::V128),
-];
-
-/// The value type that a word names, if it does.
-pub fn read_value_type(word: &str) -> Option<ValType> {
-    named_in(NUMBER_TYPES, word).or_else(|| read_reference(word).map(ValType::Ref))
-}
-
-/// The type that a `type` line declares, from the words after `type`: the marks, the kind, and the
-/// signature.
+/// The type that a `type` line declares, from the words after `type`: the marks, the kind, and what it is
+/// made of.
 pub fn read_type(alloc: Global, words: &[&str]) -> Result<SubType, LineError>
     ensures shared { IfOk result (λ ty. ty.composite_type.shared
         ≡ is_marked_shared (type_marks (map (λ word. word.now) words.now))) }
     ensures supertype { IfOk result (λ ty. ty.supertype_idx
         ≡ supertype_in (type_marks (map (λ word. word.now) words.now))) }
+    ensures inner { IfOk result (λ ty. IsComposite (kind_onwards (map (λ word. word.now) words.now))
+        ty.composite_type.inner) }
+    ensures marks { OnOk result (AreMarks (type_marks (map (λ word. word.now) words.now))) }
+    ensures bad { IsErrOf result LineError.Bad → AreMarks (type_marks (map (λ word. word.now) words.now))
+        → (inner : CompositeInnerType) → fits_composite inner ≡ true
+        → ¬ (IsComposite (kind_onwards (map (λ word. word.now) words.now)) inner) }
 {
     let kind = words
         .iter()
-        .position(|word| *word == "func")
+        .position(|word| is_kind(word))
         .ok_or(LineError::Bad)?;
     let marks = read_marks(&words[..kind]).ok_or(LineError::Bad)?;
-    let signature = read_signature(alloc, &words[kind + 1..])?;
     Ok(SubType {
         is_final: true,
         supertype_idx: marks.supertype_idx,
         composite_type: CompositeType {
-            inner: CompositeInnerType::Func(signature),
+            inner: read_composite(alloc, &words[kind..])?,
             shared: marks.shared,
         },
     })
+}
+
+/// Whether the word says what kind of type a line declares.
+fn is_kind(word: &str) -> bool
+    ensures { result ≡ is_kind word.now }
+{
+    matches!(word, "func" | "struct" | "array")
 }
 
 /// What the marks of a type say.
@@ -61,6 +69,7 @@ struct Marks {
 /// What these marks of a type say, if they are those of one: `shared`, and `sub=N` at most once, in any
 /// order.
 fn read_marks(marks: &[&str]) -> Option<Marks>
+    ensures known { IsSome result ↔ AreMarks (map (λ mark. mark.now) marks.now) }
     ensures shared { IfSome result (λ said. said.shared
         ≡ is_marked_shared (map (λ mark. mark.now) marks.now)) }
     ensures supertype { IfSome result (λ said. said.supertype_idx
@@ -72,7 +81,7 @@ fn read_marks(marks: &[&str]) -> Option<Marks>
         return None;
     }
     let supertype_idx = match supertype {
-        Some(number) => Some(UnpackedIndex::Module(read_index(number)?).pack()?),
+        Some(digits) => Some(read_supertype(digits)?),
         None => None,
     };
     Some(Marks {
@@ -81,8 +90,50 @@ fn read_marks(marks: &[&str]) -> Option<Marks>
     })
 }
 
+/// The index of a supertype that these digits write, if they do.
+fn read_supertype(digits: &str) -> Option<PackedIndex>
+    ensures { SomeIff result (IsPackedIndex digits.now) (UnpackedIndex.Module (digits_value 10 digits.now)) }
+{
+    UnpackedIndex::Module(read_index(digits)?).pack()
+}
+
+/// What a type is made of, from its kind and the words after it: the signature of functions, the fields
+/// of a struct, or the one field of an array.
+fn read_composite(alloc: Global, words: &[&str]) -> Result<CompositeInnerType, LineError>
+    ensures read { IfOk result (λ inner. IsComposite (map (λ word. word.now) words.now) inner) }
+    ensures bad { IsErrOf result LineError.Bad → (inner : CompositeInnerType) → fits_composite inner ≡ true
+        → ¬ (IsComposite (map (λ word. word.now) words.now) inner) }
+{
+    let (kind, rest) = words.split_first().ok_or(LineError::Bad)?;
+    match *kind {
+        "func" => Ok(CompositeInnerType::Func(read_signature(alloc, rest)?)),
+        "struct" => {
+            let fields = read_fields(alloc, rest)?;
+            Ok(CompositeInnerType::Struct(StructType { fields }))
+        }
+        "array" => Ok(CompositeInnerType::Array(read_array(rest).ok_or(LineError::Bad)?)),
+        _ => Err(LineError::Bad),
+    }
+}
+
+/// An array type: its one field.
+fn read_array(words: &[&str]) -> Option<ArrayType>
+    ensures read { IfSome result (λ ty. AllZip IsFieldName (map (λ word. word.now) words.now) (ty.0 ∷ [])) }
+    ensures other { IfNone result ((ty : ArrayType) → fits_field ty.0 ≡ true
+        → ¬ (AllZip IsFieldName (map (λ word. word.now) words.now) (ty.0 ∷ []))) }
+{
+    match *words {
+        [word] => Some(ArrayType(read_field(word)?)),
+        _ => None,
+    }
+}
+
 /// A function type: its parameters, an arrow, and its results.
-fn read_signature(alloc: Global, words: &[&str]) -> Result<FuncType, LineError> {
+fn read_signature(alloc: Global, words: &[&str]) -> Result<FuncType, LineError>
+    ensures read { IfOk result (λ ty. IsSignature (map (λ word. word.now) words.now) ty) }
+    ensures bad { IsErrOf result LineError.Bad → (ty : Signature) → fits_signature ty ≡ true
+        → ¬ (IsSignature (map (λ word. word.now) words.now) ty) }
+{
     let arrow = words
         .iter()
         .position(|word| *word == "->")
@@ -90,12 +141,4 @@ fn read_signature(alloc: Global, words: &[&str]) -> Result<FuncType, LineError> 
     let params = read_value_types(alloc, &words[..arrow])?;
     let results = read_value_types(alloc, &words[arrow + 1..])?;
     Ok(FuncType::new(params, results))
-}
-
-/// The value types that these words name.
-pub fn read_value_types(alloc: Global, words: &[&str]) -> Result<Vec<ValType>, LineError> {
-    words
-        .iter()
-        .map(|word| read_value_type(word).ok_or(LineError::Bad))
-        .try_collect(alloc)
 }

@@ -1,14 +1,18 @@
 //! What stands behind an operator's name: one table, by the names.
 
-use self::Form::{Access, Block, Constant, Fence, Indexed, NullType, Plain, SelectType};
+use self::Form::{
+    Access, Block, BranchCast, BranchCastFail, CastType, Constant, Fence, Indexed, NullType, Plain,
+    SelectType, TestType,
+};
 use crate::atomic::ATOMIC_ACCESSES;
+use crate::composites::{ARRAY_OPERATORS, STRUCT_OPERATORS};
 use crate::conversions::CONVERSIONS;
 use crate::memory::LOADS_AND_STORES;
 use crate::numeric::numeric_operator;
 use script_parts::names::named_in;
-use validate_visit::Op::{Atomic, Control, Memory, Reference, Table};
+use validate_visit::Op::{Array, Atomic, Control, Memory, Reference, Struct, Table};
 use validate_visit::{
-    AtomicOp, BlockType, ControlOp, MemoryOp, NumberType, Op, ReferenceOp, TableOp,
+    ArrayOp, AtomicOp, BlockType, ControlOp, MemoryOp, NumberType, Op, ReferenceOp, Sign, TableOp,
 };
 
 /// The immediates of an operator, with the operator that has them: those of a line come in the place of
@@ -27,13 +31,22 @@ pub enum Form {
     SelectType,
     /// The heap type of a `ref.null`.
     NullType,
+    /// The reference type of a `ref.test`.
+    TestType,
+    /// The reference type of a `ref.cast`.
+    CastType,
+    /// The label and the two reference types of a `br_on_cast`.
+    BranchCast,
+    /// Those of a `br_on_cast_fail`.
+    BranchCastFail,
     /// The ordering of a fence.
     Fence,
     /// Those of an access.
     Access(Op<'static>),
 }
 
-/// The operators but those on numbers and the accesses, which have tables of their own.
+/// The operators but those on numbers, the accesses, and those on structs and arrays, which have tables of
+/// their own. The one on arrays without immediates stands here.
 const FORMS: &[(&str, Form)] = &[
     ("unreachable", Plain(Control(ControlOp::Unreachable))),
     ("nop", Plain(Control(ControlOp::Nop))),
@@ -90,6 +103,29 @@ const FORMS: &[(&str, Form)] = &[
         "br_on_non_null",
         Indexed(Reference(ReferenceOp::BrOnNonNull(0))),
     ),
+    ("ref.eq", Plain(Reference(ReferenceOp::RefEq))),
+    ("ref.test", TestType),
+    ("ref.cast", CastType),
+    ("br_on_cast", BranchCast),
+    ("br_on_cast_fail", BranchCastFail),
+    ("ref.i31", Plain(Reference(ReferenceOp::RefI31))),
+    (
+        "i31.get_s",
+        Plain(Reference(ReferenceOp::I31Get(Sign::Signed))),
+    ),
+    (
+        "i31.get_u",
+        Plain(Reference(ReferenceOp::I31Get(Sign::Unsigned))),
+    ),
+    (
+        "any.convert_extern",
+        Plain(Reference(ReferenceOp::AnyConvertExtern)),
+    ),
+    (
+        "extern.convert_any",
+        Plain(Reference(ReferenceOp::ExternConvertAny)),
+    ),
+    ("array.len", Plain(Array(ArrayOp::ArrayLen))),
     ("table.get", Indexed(Table(TableOp::TableGet(0)))),
     ("table.set", Indexed(Table(TableOp::TableSet(0)))),
     ("table.grow", Indexed(Table(TableOp::TableGrow(0)))),
@@ -143,6 +179,12 @@ pub fn form_of(name: &str) -> Option<Form> {
     }
     if let Some(form) = named_in(FORMS, name) {
         return Some(form);
+    }
+    if let Some(op) = named_in(STRUCT_OPERATORS, name) {
+        return Some(Indexed(Struct(op)));
+    }
+    if let Some(op) = named_in(ARRAY_OPERATORS, name) {
+        return Some(Indexed(Array(op)));
     }
     if let Some(op) = named_in(LOADS_AND_STORES, name) {
         return Some(Access(Memory(op)));

@@ -4,6 +4,7 @@
 
 pub mod access;
 pub mod atomic;
+pub mod composites;
 pub mod conversions;
 pub mod features;
 pub mod forms;

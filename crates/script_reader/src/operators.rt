@@ -3,12 +3,13 @@
 use crate::access::with_access;
 use crate::forms::{Form, form_of};
 use script_parts::OperatorList;
+use script_parts::casts::{read_branch_cast, ref_cast, ref_test};
 use script_parts::indexed::read_indexed;
 use script_parts::listed::has_list;
 use script_parts::names::named_in;
 use script_parts::numbers::{read_i32, read_i64, read_index, read_u64};
-use script_parts::references::read_heap_type;
-use script_parts::types::read_value_type;
+use script_parts::references::{read_heap_type, read_reference};
+use script_parts::values::read_value_type;
 use std::slice;
 use validate_visit::{
     AtomicOp, BlockType, ControlOp, Ieee32, Ieee64, NumberType, NumericOp, Op, Ordering,
@@ -45,6 +46,14 @@ fn read_flat_operator(words: &[&str]) -> Option<Op<'static>> {
         (Form::Access(op), _) => with_access(op, immediates),
         (Form::Block(op), []) => Some(Op::Control(op)),
         (Form::Constant(ty), []) => constant(ty, "0"),
+        (Form::BranchCast, _) => {
+            let cast = read_branch_cast(immediates)?;
+            Some(Op::Reference(ReferenceOp::BrOnCast(cast)))
+        }
+        (Form::BranchCastFail, _) => {
+            let cast = read_branch_cast(immediates)?;
+            Some(Op::Reference(ReferenceOp::BrOnCastFail(cast)))
+        }
         (_, [immediate]) => read_with(form, immediate),
         _ => None,
     }
@@ -63,11 +72,17 @@ fn read_with(form: Form, immediate: &str) -> Option<Op<'static>> {
             let ty = read_heap_type(immediate)?;
             Some(Op::Reference(ReferenceOp::RefNull(ty)))
         }
+        Form::TestType => Some(Op::Reference(ref_test(read_reference(immediate)?))),
+        Form::CastType => Some(Op::Reference(ref_cast(read_reference(immediate)?))),
         Form::Fence => {
             let ordering = named_in(ORDERINGS, immediate)?;
             Some(Op::Atomic(AtomicOp::AtomicFence(ordering)))
         }
-        Form::Plain(_) | Form::Indexed(_) | Form::Access(_) => None,
+        Form::Plain(_)
+        | Form::Indexed(_)
+        | Form::Access(_)
+        | Form::BranchCast
+        | Form::BranchCastFail => None,
     }
 }
 

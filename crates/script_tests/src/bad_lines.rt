@@ -21,8 +21,50 @@ type Shared func ->
 type func shared ->
 type func shared ->\x20
 type func -> shared
-type struct i32
 type func func ->
+type func i8 ->
+type func mut:i32 ->
+type i8
+type func struct i32
+type struct ->
+type struct i32 ->
+type struct func
+type struct struct
+type struct i32 array
+type struct shared i32
+type struct sub=0
+type struct i33
+type struct I8
+type struct i8,
+type struct mut
+type struct mut:
+type struct mut: i32
+type struct i32 mut:
+type struct mut:mut:i8
+type struct Mut:i32
+type struct mut:i33
+type struct mut i32
+type struct mut=i32
+type struct ref:i8
+type struct mut:ref:
+type struct mut:ref:1048576
+type Struct
+type structs
+type array
+type array i32 i32
+type array i8 mut:
+type array ->
+type array i32 ->
+type array func
+type array mut
+type array mut:
+type array mut: i8
+type array mut:mut:i8
+type array mut:I16
+type array i24
+type array shared i8
+type array sub=0
+type Array i8
 expr
 memory 0
 show
@@ -62,6 +104,8 @@ fn i32
 
 global
 global mut
+global i8
+global mut:i32
 global mut i32
 global shared i32
 global i32 shared mut
@@ -102,7 +146,8 @@ local i32 1
 local 1 i32 i32
 local 4294967296 i32
 local 1 func
-ref.eq
+local 1 i8
+local 1 mut:i32
 table.atomic.get 0
 try_table
 v128.const 0
@@ -154,6 +199,8 @@ block +1
 block 0x1
 block x
 block I32
+block i16
+block mut:i32
 block ref
 block func
 block ->
@@ -258,8 +305,14 @@ i32.load xoffset=1
 i32.load align=256
 i32.load mem=4294967296
 i32.load offset=18446744073709551616
-i32.load array=0
-i32.load offset=1 array=0
+i32.load array
+i32.load array=
+i32.load array=x
+i32.load array=+0
+i32.load array=4294967296
+i32.load array=0 array=0
+i32.load mem=0 array=0
+i32.load array=0 offset=1 mem=0
 i32.load 0
 i32.load 0 offset=1
 i64.store32 offset=1 0

@@ -6,6 +6,14 @@
 #[cfg(test)]
 mod alignments;
 #[cfg(test)]
+mod array_lengths;
+#[cfg(test)]
+mod array_rules;
+#[cfg(test)]
+mod array_segments;
+#[cfg(test)]
+mod arrays;
+#[cfg(test)]
 mod atomic_rules;
 #[cfg(test)]
 mod attempts;
@@ -14,13 +22,27 @@ mod bad_lines;
 #[cfg(test)]
 mod blocks;
 #[cfg(test)]
+mod branch_casts;
+#[cfg(test)]
 mod branches;
 #[cfg(test)]
 mod call_rules;
 #[cfg(test)]
 mod calls;
 #[cfg(test)]
+mod cast_gates;
+#[cfg(test)]
+mod casts;
+#[cfg(test)]
+mod classes;
+#[cfg(test)]
+mod composite_table;
+#[cfg(test)]
+mod composites;
+#[cfg(test)]
 mod expressions;
+#[cfg(test)]
+mod externals;
 #[cfg(test)]
 mod fakes;
 #[cfg(test)]
@@ -29,6 +51,8 @@ mod features;
 mod global_rules;
 #[cfg(test)]
 mod globals;
+#[cfg(test)]
+mod i31;
 #[cfg(test)]
 mod indirect_rules;
 #[cfg(test)]
@@ -47,6 +71,10 @@ mod reference_rules;
 mod references;
 #[cfg(test)]
 mod selects;
+#[cfg(test)]
+mod struct_rules;
+#[cfg(test)]
+mod structs;
 #[cfg(test)]
 mod table_rules;
 #[cfg(test)]

@@ -3,6 +3,7 @@
 
 ghost use Rattle.std.specs.Prelude.{◌<◌, vec_len};
 
+use crate::composite_table::{COMPOSITES, DECLARED_COMPOSITES};
 use crate::tables::{ATOMIC, CONVERSIONS, MEMORY, NUMERIC, TABLE};
 use crate::transcript::{expect_behind, expect_run};
 use std::process::Abort;
@@ -25,7 +26,7 @@ exceptions
 legacy_exceptions
 tail_call:               tail calls support is not enabled
 function_references:     function references support is not enabled
-gc
+gc:                      gc support is not enabled
 custom_descriptors
 stack_switching
 memory_control:          memory control support is not enabled
@@ -43,7 +44,7 @@ fn flag_name(line: &str) -> &str {
 }
 
 /// The lines that turn every proposal on but this one.
-fn all_but(rt: &impl AllocGlobal, flag: &str) -> Result<String, Fail> {
+pub fn all_but(rt: &impl AllocGlobal, flag: &str) -> Result<String, Fail> {
     let mut lines = String::new(rt.alloc());
     for line in FLAGS.lines() {
         let name = flag_name(line);
@@ -84,9 +85,30 @@ const OTHERS: &[(&str, &str)] = &[
     ("externref", "funcref"),
 ];
 
+/// Whether a word names a reference type by what it refers to.
+fn is_long_name(ty: &str) -> bool {
+    ty.starts_with("ref:") || ty.starts_with("refnull:")
+}
+
 /// A type that isn't this one, if the tables name this one.
 fn another(ty: &str) -> Option<&'static str> {
+    if is_long_name(ty) {
+        return Some("externref");
+    }
     OTHERS.iter().find(|pair| pair.0 == ty).map(|pair| pair.1)
+}
+
+/// How refusals call the type that a table names.
+fn text_of(ty: &str) -> &str {
+    if ty.starts_with("refnull:") {
+        "(ref null (type))"
+    } else if ty == "ref:i31" {
+        "(ref i31)"
+    } else if is_long_name(ty) {
+        "(ref (type))"
+    } else {
+        ty
+    }
 }
 
 /// The types that the tables name, and to each an operator that gives one value of it.
@@ -139,12 +161,14 @@ impl Draft {
         Ok(())
     }
 
-    /// Adds a constant of each of these types.
+    /// Adds a constant of each of these types: the null of a nullable reference.
     fn add_constants(&mut self, types: &[&str]) -> Result<(), Fail> {
         for ty in types {
             self.operands = self.operands.saturating_add(1);
-            let constant = constant_of(ty).unwrap_or("none");
-            writeln!(self.script, "{constant}")?;
+            match ty.strip_prefix("refnull:") {
+                Some(name) => writeln!(self.script, "ref.null {name}")?,
+                None => writeln!(self.script, "{}", constant_of(ty).unwrap_or("none"))?,
+            }
             writeln!(self.printed, "ok {} 1", self.operands)?;
         }
         Ok(())
@@ -215,7 +239,8 @@ impl<'a> Row<'a> {
         let ty = self.takes[place];
         let mut draft = Draft::begin(rt, self.module, &self.gives)?;
         draft.add_constants(&self.takes[place + 1..])?;
-        let text = format!(in rt.alloc(); "type mismatch: expected {ty} but nothing on stack")?;
+        let wanted = text_of(ty);
+        let text = format!(in rt.alloc(); "type mismatch: expected {wanted} but nothing on stack")?;
         draft.expect_refused(rt, self.op, &text)
     }
 
@@ -229,7 +254,8 @@ impl<'a> Row<'a> {
         draft.add_constants(&self.takes[..place])?;
         draft.add_constants(&[other])?;
         draft.add_constants(&self.takes[place + 1..])?;
-        let text = format!(in rt.alloc(); "type mismatch: expected {ty}, found {other}")?;
+        let wanted = text_of(ty);
+        let text = format!(in rt.alloc(); "type mismatch: expected {wanted}, found {other}")?;
         draft.expect_refused(rt, self.op, &text)
     }
 
@@ -266,7 +292,8 @@ impl<'a> Row<'a> {
         let wanted = self.gives_with(rt, place, other)?;
         let mut draft = self.dead(rt, "", &wanted)?;
         draft.add(self.op, self.gives.len(), 1)?;
-        let text = format!(in rt.alloc(); "type mismatch: expected {other}, found {ty}")?;
+        let given = text_of(ty);
+        let text = format!(in rt.alloc(); "type mismatch: expected {other}, found {given}")?;
         draft.expect_refused(rt, "end", &text)
     }
 
@@ -430,6 +457,11 @@ fn atomic_operators_on_a_memory_of_32_bits(rt: HostRuntime) -> Result<(), Fail> 
 #[test]
 fn atomic_operators_on_a_memory_of_64_bits(rt: HostRuntime) -> Result<(), Fail> {
     expect_table(&rt, ATOMIC, 68, "memory 64\ndata 1\n", "i64")
+}
+
+#[test]
+fn operators_on_structs_and_arrays(rt: HostRuntime) -> Result<(), Fail> {
+    expect_table(&rt, COMPOSITES, 41, DECLARED_COMPOSITES, "")
 }
 
 #[test]

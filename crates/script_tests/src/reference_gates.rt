@@ -224,7 +224,6 @@ ref.func func
 ref.func 0 0
 ref.func 4294967296
 ref.as_non_null 0
-ref.eq
 br_on_null
 br_on_null x
 br_on_null 0 0

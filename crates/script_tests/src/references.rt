@@ -516,8 +516,8 @@ type shared sub=3 func ->
 type func i32 ->
 ";
 
-/// A value of the first type where one of the second is wanted.
-const ACCEPTED: &str = "
+/// A value of the first type where one of the second is wanted, behind six types.
+pub const ACCEPTED: &str = "
 type func $1 -> $2
 func 6
 local.get 0 => ok 1 1
@@ -534,8 +534,12 @@ end         => refused 10: type mismatch: $text
 => refused
 ";
 
-/// Expects a mismatch of the two types of each row, behind these first lines.
-fn expect_mismatches(rt: &(impl Abort + AllocGlobal), head: &str, rows: &str) -> Result<(), Fail> {
+/// Expects a mismatch of the two types of each row, behind these first lines, which declare six types.
+pub fn expect_mismatches(
+    rt: &(impl Abort + AllocGlobal),
+    head: &str,
+    rows: &str,
+) -> Result<(), Fail> {
     let mut ran = false;
     for row in rows.lines() {
         let Some((types, text)) = row.split_once(" => ") else {

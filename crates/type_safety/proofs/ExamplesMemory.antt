@@ -1,17 +1,23 @@
--- Runs of small bodies that access memories: one of 32 bits, and one of 64.
-use Rattle.std.proofs.Common.{◌≡◌, ℕ, pos, true, false, List, [], ◌∷◌, None, refl, sym, subst}
+-- Runs of small bodies that access memories, one of 32 bits and one of 64, and arrays.
+use Rattle.std.proofs.Common.{◌≡◌, ◌+◌, ℕ, pos, true, false, List, [], ◌∷◌, None, refl, sym, subst}
 use Rattle.validate_resources.specs.Lists.{Declared, context_of}
 use Rattle.validate_resources.specs.Lawful.{lawful_lists}
-use Rattle.validate_types.specs.Features.{bulk_memory_opt}
+use Rattle.validate_types.specs.Features.{bulk_memory_opt, reference_types, gc, multibyte_array_access}
+use Rattle.validate_types.specs.Refs.{nullable_reference}
+use Rattle.validate_types.specs.declared.heap.HeapType.TheVariants.{Concrete}
+use Rattle.validate_types.specs.declared.heap.UnpackedIndex.TheVariants.{Module, Id}
+use Rattle.validate_types.specs.declared.types.CompositeInnerType.TheVariants.{Array as ArrayInner}
+use Rattle.validate_types.specs.declared.types.StorageType.TheVariants.{I8}
 use Rattle.validate_visit.specs.declared.memory.MemArg.{MemArg}
-use Rattle.validate_visit.specs.declared.memory.MemArgTarget.TheVariants.{Memory as InMemory}
+use Rattle.validate_visit.specs.declared.memory.MemArgTarget.TheVariants.{Memory as InMemory, Array as InArray}
 use Rattle.validate_visit.specs.declared.numbers.NumberType.TheVariants.{I64 as NumberI64}
 use Rattle.validate_visit.specs.declared.op.ControlOp.TheVariants.{End}
 use Rattle.validate_visit.specs.declared.op.MemoryOp.TheVariants.{Load, Store, MemorySize, MemoryCopy}
 use Rattle.validate_visit.specs.declared.op.NumericOp.TheVariants.{I32Const, I64Const}
 use Rattle.validate_visit.specs.declared.op.Op.{Op}
-use Rattle.validate_visit.specs.declared.op.Op.TheVariants.{Control, Numeric, Memory}
-use Rattle.validation_rules.specs.Context.{ValType, I32, I64, Empty, Context}
+use Rattle.validate_visit.specs.declared.op.Op.TheVariants.{Control, Numeric, Memory, Reference}
+use Rattle.validate_visit.specs.declared.op.ReferenceOp.TheVariants.{RefNull}
+use Rattle.validation_rules.specs.Context.{SubType, ValType, I32, I64, Ref, Empty, Context}
 use Rattle.validation_rules.specs.Rows.{Block, Operator}
 use Rattle.validation_rules.specs.Operators.{operators, operator}
 use Rattle.validation_rules.proofs.Steps.{some_injective}
@@ -104,3 +110,58 @@ copying_ops = Memory (MemorySize 0) ∷ Memory (MemorySize 1) ∷ i32_const ∷ 
 
 copying_safe : IsTypeSafe cx (operators cx copying_ops) Empty
 copying_safe = body_safety (context_of declared) (lawful_lists declared refl) cx copying_ops Empty refl ([], refl)
+
+-- ---- what is loaded from memory 1 is stored in an array of type 0
+
+abbrev byte_array : SubType
+byte_array = record { is_final = true; supertype_idx = None; composite_type = record { inner = ArrayInner (record { 0 = record { element_type = I8; mutable = true } }); shared = false } }
+
+abbrev declared_array : Declared
+declared_array = record declared { types = byte_array ∷ [] }
+
+abbrev array_cx : Context
+array_cx = record { of_module = context_of declared_array; features = record { 0 = reference_types + (gc + multibyte_array_access) }; shared = false; locals = []; set_at_entry = [] }
+
+abbrev in_array : MemArg
+in_array = record (at_memory 0) { target = InArray 0 }
+
+abbrev null_array : Op
+null_array = Reference (RefNull (Concrete (Module 0)))
+
+abbrev to_array : ValType
+to_array = Ref (nullable_reference (Concrete (Id (record { index = 0 }))))
+
+abbrev filling_ops : List Op
+filling_ops = null_array ∷ i32_const ∷ i64_const ∷ load 1 ∷ Memory (Store NumberI64 in_array) ∷ end ∷ []
+
+abbrev filling : List Operator
+filling = operators array_cx filling_ops
+
+-- the value, the place and the reference go
+fills : Step array_cx filling (standing 4 (I64 ∷ I32 ∷ to_array ∷ [])) (standing 5 [])
+fills = (
+  operator array_cx (Memory (Store NumberI64 in_array)),
+  refl,
+  record { row = holding _ refl refl; targets = λ j t e. absurd cc; clauses = λ j c e. absurd cc; no_else = λ h e. absurd cc },
+  by_going_on [] [] refl refl refl tt refl,
+)
+
+-- or it traps, as where the reference is null
+fill_may_trap : Step array_cx filling (standing 4 (I64 ∷ I32 ∷ to_array ∷ [])) Trapped
+fill_may_trap = (
+  operator array_cx (Memory (Store NumberI64 in_array)),
+  refl,
+  record { row = holding _ refl refl; targets = λ j t e. absurd cc; clauses = λ j c e. absurd cc; no_else = λ h e. absurd cc },
+  traps refl,
+)
+
+-- a memory's address is stuck: no reference lies below it
+fill_stuck : IsNotStuck array_cx filling (standing 4 (I64 ∷ I32 ∷ [])) → ⊥
+fill_stuck d =
+    let e : operator array_cx (Memory (Store NumberI64 in_array)) ≡ d.0 = some_injective _ _ d.1 in
+    let d' = subst (λ op. Demand array_cx filling (configuration 4 (outermost (I64 ∷ I32 ∷ [])) [] [] op)) (sym e) d.2 in
+    let r = d'.row.1 in
+    absurd cc
+
+filling_safe : IsTypeSafe array_cx filling Empty
+filling_safe = body_safety (context_of declared_array) (lawful_lists declared_array refl) array_cx filling_ops Empty refl ([], refl)

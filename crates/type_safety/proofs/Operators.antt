@@ -2,11 +2,14 @@
 use Rattle.std.proofs.Common.{◌≡◌, ℕ, zero, suc, pred, Bool, true, false, List, [], ◌∷◌, ◌++◌, length, map, take, Option, Some, None, refl, sym, ap, ◌∙◌, subst, slice_get}
 use Rattle.std.specs.Option.{option_map}
 use Rattle.validate_resources.specs.Context.{IsLawful, is_number_or_vector, is_same_number_or_vector}
+use Rattle.validate_types.specs.declared.heap.AbstractHeapType.{AbstractHeapType}
+use Rattle.validate_types.specs.declared.heap.AbstractHeapType.TheVariants.{Any, Extern, I31, Array as AnyArray}
 use Rattle.validate_types.specs.declared.types.GlobalType.{GlobalType}
+use Rattle.validate_types.specs.Refs.{nullable_reference, non_null_reference}
 use Rattle.validate_visit.specs.Gates.{gate_of}
 use Rattle.validate_visit.specs.Numbers.{number_type, integer_type, packed_type, access_type}
 use Rattle.validate_visit.specs.declared.op.Op.{Op}
-use Rattle.validate_visit.specs.declared.op.Op.TheVariants.{Control, Numeric, Convert, Memory, Atomic, Reference, Table}
+use Rattle.validate_visit.specs.declared.op.Op.TheVariants.{Control, Numeric, Convert, Memory, Atomic, Reference, Table, Struct, Array}
 use Rattle.validate_visit.specs.declared.op.ControlOp.{ControlOp}
 use Rattle.validate_visit.specs.declared.op.ControlOp.TheVariants.{Unreachable, Nop, Block as BlockOp, Loop as LoopOp, If as IfOp, Else as ElseOp, End, Br, BrIf, BrTable, Return, Call, ReturnCall, CallIndirect, ReturnCallIndirect, CallRef, ReturnCallRef, Drop, Select, TypedSelect, TypedSelectMulti, LocalGet, LocalSet, LocalTee, GlobalGet, GlobalSet}
 use Rattle.validate_visit.specs.declared.op.NumericOp.{NumericOp}
@@ -18,21 +21,32 @@ use Rattle.validate_visit.specs.declared.op.MemoryOp.TheVariants.{Load, LoadPack
 use Rattle.validate_visit.specs.declared.op.AtomicOp.{AtomicOp}
 use Rattle.validate_visit.specs.declared.op.AtomicOp.TheVariants.{AtomicNotify, AtomicWait, AtomicFence, AtomicLoad, AtomicStore, AtomicRmw, AtomicCmpxchg, Pause}
 use Rattle.validate_visit.specs.declared.op.ReferenceOp.{ReferenceOp}
-use Rattle.validate_visit.specs.declared.op.ReferenceOp.TheVariants.{RefNull, RefIsNull, RefFunc, RefAsNonNull, BrOnNull, BrOnNonNull}
+use Rattle.validate_visit.specs.declared.op.ReferenceOp.TheVariants.{RefNull, RefIsNull, RefFunc, RefAsNonNull, BrOnNull, BrOnNonNull, RefEq, RefTestNonNull, RefTestNullable, RefCastNonNull, RefCastNullable, BrOnCast, BrOnCastFail, RefI31, I31Get, AnyConvertExtern, ExternConvertAny}
 use Rattle.validate_visit.specs.declared.op.TableOp.{TableOp}
 use Rattle.validate_visit.specs.declared.op.TableOp.TheVariants.{TableGet, TableSet, TableGrow, TableSize, TableFill, TableInit, ElemDrop, TableCopy}
+use Rattle.validate_visit.specs.declared.op.StructOp.{StructOp}
+use Rattle.validate_visit.specs.declared.op.StructOp.TheVariants.{StructNew, StructNewDefault, StructGet, StructGetPacked, StructSet}
+use Rattle.validate_visit.specs.declared.op.ArrayOp.{ArrayOp}
+use Rattle.validate_visit.specs.declared.op.ArrayOp.TheVariants.{ArrayNew, ArrayNewDefault, ArrayNewFixed, ArrayNewData, ArrayNewElem, ArrayGet, ArrayGetPacked, ArraySet, ArrayLen, ArrayFill, ArrayCopy, ArrayInitData, ArrayInitElem}
 use Rattle.validation_rules.specs.Calls.{global_type, callee, tail_call_row}
 use Rattle.validation_rules.specs.Context.{Signature, ValType, I32, I64, F32, F64, V128, BlockType, Context, AllBelow, block_signature}
-use Rattle.validation_rules.specs.Access.{memory_address_type, address_types, atomic_address_types, access_row, memory_copy_row_for}
+use Rattle.validation_rules.specs.Access.{is_loadable, is_storable, address_types, atomic_address_types, access_row}
+use Rattle.validation_rules.specs.Memories.{memory_address_type, memory_copy_row_for}
 use Rattle.validation_rules.specs.Fits.{MaybeType, Known}
-use Rattle.validation_rules.specs.Indirect.{function_place, function_reference, typed_callee, call_operand_row, return_call_operand_row}
+use Rattle.validation_rules.specs.Indirect.{type_reference, function_place, function_reference, typed_callee, call_operand_row, return_call_operand_row}
+use Rattle.validation_rules.specs.Found.{found_pushes, measure_row, converted, ref_eq_pushes}
+use Rattle.validation_rules.specs.Casts.{cast_type, types_on_cast, types_on_cast_fail}
+use Rattle.validation_rules.specs.Structs.{struct_type, struct_field}
+use Rattle.validation_rules.specs.Arrays.{array_type, array_copy_row_for}
 use Rattle.validation_rules.specs.References.{null_heap, null_test_pushes, non_null_pushes}
 use Rattle.validation_rules.specs.Tables.{table_type, table_init_row_for, table_copy_row_for}
 use Rattle.validation_rules.specs.Rows.{FrameKind, Block, If, Loop, Head, params, BeginsElse, Ends, Plain, Looks, Row, Operator, guard}
-use Rattle.validation_rules.specs.Operators.{plain_row, plain_row_if, checked_block, opening_operator_if, opener, staying_operator, row_operator, lookup_row, drop_pushes, select_pushes, control_operator, numeric_row, convert_row, memory_row, atomic_row, reference_row, table_row, ungated_operator, operator, operators}
+use Rattle.validation_rules.specs.Operators.{plain_row, plain_row_if, checked_block, opening_operator_if, opener, staying_operator, row_operator, lookup_row, drop_pushes, select_pushes, lookups_row, struct_row, array_row, control_operator, numeric_row, convert_row, memory_row, atomic_row, reference_row, table_row, ungated_operator, operator, operators}
 use Rattle.validation_rules.proofs.Steps.{some_injective, guard_some}
 use Rattle.type_safety.proofs.Laws.{IsMonotoneAt, IsLawfulOperator}
 use Rattle.type_safety.proofs.Branches.{br_lawful, br_if_lawful, br_table_lawful, tail_call_lawful}
+use Rattle.type_safety.proofs.Found.{measure_monotone, converted_monotone, ref_eq_monotone}
+use Rattle.type_safety.proofs.Casts.{cast_branch_lawful}
 use Rattle.type_safety.proofs.References.{is_null_monotone, non_null_monotone, br_on_null_lawful, br_on_non_null_lawful}
 use Rattle.type_safety.proofs.Plain.{plain_monotone, plain_below, below_front, no_target, found_lawful, flat_lawful, plain_lawful, looking_lawful, closing_lawful, behind_lawful}
 
@@ -180,10 +194,10 @@ module _ (cx : Context) (laws : IsLawful cx.of_module) where
   access_lawful (Some types) above push = plain_lawful cx laws _ _ _ _ _ _
 
   memory_lawful : (op : MemoryOp) → IsLawfulOperator cx (row_operator (memory_row cx op))
-  memory_lawful (Load t arg) = access_lawful (address_types cx.of_module arg) [] (number_type t ∷ [])
-  memory_lawful (LoadPacked packed sign arg) = access_lawful (address_types cx.of_module arg) [] (packed_type packed ∷ [])
-  memory_lawful (Store t arg) = access_lawful (address_types cx.of_module arg) (number_type t ∷ []) []
-  memory_lawful (StorePacked packed arg) = access_lawful (address_types cx.of_module arg) (packed_type packed ∷ []) []
+  memory_lawful (Load t arg) = access_lawful (address_types cx is_loadable arg) [] (number_type t ∷ [])
+  memory_lawful (LoadPacked packed sign arg) = access_lawful (address_types cx is_loadable arg) [] (packed_type packed ∷ [])
+  memory_lawful (Store t arg) = access_lawful (address_types cx is_storable arg) (number_type t ∷ []) []
+  memory_lawful (StorePacked packed arg) = access_lawful (address_types cx is_storable arg) (packed_type packed ∷ []) []
   memory_lawful (MemorySize m) = by_lookup_lawful (memory_address_type cx.of_module m) _ (λ t. plain_lawful cx laws _ _ _ _ _ _)
   memory_lawful (MemoryGrow m) = by_lookup_lawful (memory_address_type cx.of_module m) _ (λ t. plain_lawful cx laws _ _ _ _ _ _)
   memory_lawful (MemoryInit segment m) = by_lookup_lawful (memory_address_type cx.of_module m) _ (λ t. plain_lawful cx laws _ _ _ _ _ _)
@@ -202,6 +216,9 @@ module _ (cx : Context) (laws : IsLawful cx.of_module) where
   atomic_lawful (AtomicCmpxchg access_row arg) = access_lawful (atomic_address_types cx.of_module arg) (access_type access_row ∷ access_type access_row ∷ []) (access_type access_row ∷ [])
   atomic_lawful Pause = plain_lawful cx laws _ _ _ _ _ _
 
+  measure_lawful : (a : AbstractHeapType) → IsLawfulOperator cx (row_operator (measure_row cx a))
+  measure_lawful a = looking_lawful cx laws _ 1 (found_pushes cx.of_module a (λ x. Known I32)) (measure_monotone cx laws a)
+
   reference_lawful : (op : ReferenceOp) → IsLawfulOperator cx (staying_operator (λ hs. reference_row cx hs op))
   reference_lawful (RefNull h) = by_lookup_lawful (null_heap cx h) _ (λ k. plain_lawful cx laws _ _ _ _ _ _)
   reference_lawful RefIsNull = looking_lawful cx laws _ 1 null_test_pushes (is_null_monotone cx laws)
@@ -209,6 +226,17 @@ module _ (cx : Context) (laws : IsLawful cx.of_module) where
   reference_lawful RefAsNonNull = looking_lawful cx laws _ 1 (non_null_pushes cx []) (non_null_monotone cx laws 1 [])
   reference_lawful (BrOnNull d) = flat_lawful cx laws _ (λ hs. br_on_null_lawful cx laws hs d)
   reference_lawful (BrOnNonNull d) = flat_lawful cx laws _ (λ hs. br_on_non_null_lawful cx laws hs d)
+  reference_lawful RefEq = looking_lawful cx laws _ 2 (ref_eq_pushes cx.of_module) (ref_eq_monotone cx laws)
+  reference_lawful (RefTestNonNull h) = by_lookup_lawful (cast_type cx false h) _ (λ r. plain_lawful cx laws _ _ _ _ _ _)
+  reference_lawful (RefTestNullable h) = by_lookup_lawful (cast_type cx true h) _ (λ r. plain_lawful cx laws _ _ _ _ _ _)
+  reference_lawful (RefCastNonNull h) = by_lookup_lawful (cast_type cx false h) _ (λ r. plain_lawful cx laws _ _ _ _ _ _)
+  reference_lawful (RefCastNullable h) = by_lookup_lawful (cast_type cx true h) _ (λ r. plain_lawful cx laws _ _ _ _ _ _)
+  reference_lawful (BrOnCast cast) = cast_branch_lawful cx laws types_on_cast cast
+  reference_lawful (BrOnCastFail cast) = cast_branch_lawful cx laws types_on_cast_fail cast
+  reference_lawful RefI31 = plain_lawful cx laws _ _ _ _ _ _
+  reference_lawful (I31Get sign) = measure_lawful I31
+  reference_lawful AnyConvertExtern = looking_lawful cx laws _ 1 (found_pushes cx.of_module Extern (converted cx.of_module Any)) (converted_monotone cx laws Extern Any)
+  reference_lawful ExternConvertAny = looking_lawful cx laws _ 1 (found_pushes cx.of_module Any (converted cx.of_module Extern)) (converted_monotone cx laws Any Extern)
 
   table_lawful : (op : TableOp) → IsLawfulOperator cx (row_operator (table_row cx op))
   table_lawful (TableInit segment i) = by_lookup_lawful (table_type cx i) (λ t. lookup_row (cx.of_module.element_at segment) (table_init_row_for cx t)) (λ t. by_lookup_lawful _ (table_init_row_for cx t) (λ r. plain_lawful cx laws _ _ _ _ _ _))
@@ -220,6 +248,39 @@ module _ (cx : Context) (laws : IsLawful cx.of_module) where
   table_lawful (TableSize i) = by_lookup_lawful (table_type cx i) _ (λ t. plain_lawful cx laws _ _ _ _ _ _)
   table_lawful (TableFill i) = by_lookup_lawful (table_type cx i) _ (λ t. plain_lawful cx laws _ _ _ _ _ _)
 
+  -- a row for what two look-ups find is plain
+  lookups_lawful : {A B : Type 0} (o : Option A) (p : Option B) (row : A → B → Row) → ((a : A) (b : B) → IsLawfulOperator cx (row_operator (row a b))) → IsLawfulOperator cx (row_operator (lookups_row o p row))
+  lookups_lawful o p row h = by_lookup_lawful o (λ a. lookup_row p (row a)) (λ a. by_lookup_lawful p (row a) (h a))
+
+  -- a reference that is made, and one that is taken
+  abbrev made : ℕ → Option ValType
+  made i = type_reference cx non_null_reference i
+
+  abbrev taken : ℕ → Option ValType
+  taken i = type_reference cx nullable_reference i
+
+  struct_lawful : (op : StructOp) → IsLawfulOperator cx (row_operator (struct_row cx op))
+  struct_lawful (StructNew i) = lookups_lawful (struct_type cx i) (made i) _ (λ f t. plain_lawful cx laws _ _ _ _ _ _)
+  struct_lawful (StructNewDefault i) = lookups_lawful (struct_type cx i) (made i) _ (λ f t. plain_lawful cx laws _ _ _ _ _ _)
+  struct_lawful (StructGet index) = lookups_lawful (struct_field cx index) (taken index.struct_type_index) _ (λ f t. plain_lawful cx laws _ _ _ _ _ _)
+  struct_lawful (StructGetPacked sign index) = lookups_lawful (struct_field cx index) (taken index.struct_type_index) _ (λ f t. plain_lawful cx laws _ _ _ _ _ _)
+  struct_lawful (StructSet index) = lookups_lawful (struct_field cx index) (taken index.struct_type_index) _ (λ f t. plain_lawful cx laws _ _ _ _ _ _)
+
+  array_lawful : (op : ArrayOp) → IsLawfulOperator cx (row_operator (array_row cx op))
+  array_lawful (ArrayNewElem i segment) = lookups_lawful (array_type cx i) (made i) _ (λ f t. plain_lawful cx laws _ _ _ _ _ _)
+  array_lawful (ArrayCopy dst src) = lookups_lawful (array_type cx dst) (taken dst) (array_copy_row_for cx src) (λ to d. lookups_lawful (array_type cx src) (taken src) _ (λ f t. plain_lawful cx laws _ _ _ _ _ _))
+  array_lawful (ArrayInitElem i segment) = lookups_lawful (array_type cx i) (taken i) _ (λ f t. plain_lawful cx laws _ _ _ _ _ _)
+  array_lawful ArrayLen = measure_lawful AnyArray
+  array_lawful (ArrayNew i) = lookups_lawful (array_type cx i) (made i) _ (λ f t. plain_lawful cx laws _ _ _ _ _ _)
+  array_lawful (ArrayNewDefault i) = lookups_lawful (array_type cx i) (made i) _ (λ f t. plain_lawful cx laws _ _ _ _ _ _)
+  array_lawful (ArrayNewFixed i n) = lookups_lawful (array_type cx i) (made i) _ (λ f t. plain_lawful cx laws _ _ _ _ _ _)
+  array_lawful (ArrayNewData i segment) = lookups_lawful (array_type cx i) (made i) _ (λ f t. plain_lawful cx laws _ _ _ _ _ _)
+  array_lawful (ArrayGet i) = lookups_lawful (array_type cx i) (taken i) _ (λ f t. plain_lawful cx laws _ _ _ _ _ _)
+  array_lawful (ArrayGetPacked sign i) = lookups_lawful (array_type cx i) (taken i) _ (λ f t. plain_lawful cx laws _ _ _ _ _ _)
+  array_lawful (ArraySet i) = lookups_lawful (array_type cx i) (taken i) _ (λ f t. plain_lawful cx laws _ _ _ _ _ _)
+  array_lawful (ArrayFill i) = lookups_lawful (array_type cx i) (taken i) _ (λ f t. plain_lawful cx laws _ _ _ _ _ _)
+  array_lawful (ArrayInitData i segment) = lookups_lawful (array_type cx i) (taken i) _ (λ f t. plain_lawful cx laws _ _ _ _ _ _)
+
   ungated_lawful : (op : Op) → IsLawfulOperator cx (ungated_operator cx op)
   ungated_lawful (Control op) = control_lawful op
   ungated_lawful (Numeric op) = numeric_lawful op
@@ -228,6 +289,8 @@ module _ (cx : Context) (laws : IsLawful cx.of_module) where
   ungated_lawful (Atomic op) = atomic_lawful op
   ungated_lawful (Reference op) = reference_lawful op
   ungated_lawful (Table op) = table_lawful op
+  ungated_lawful (Struct op) = struct_lawful op
+  ungated_lawful (Array op) = array_lawful op
 
   pub operator_lawful : (op : Op) → IsLawfulOperator cx (operator cx op)
   operator_lawful op = behind_lawful cx laws (gate_of op) (ungated_operator cx op) (ungated_lawful op)

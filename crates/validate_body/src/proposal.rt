@@ -1,9 +1,13 @@
 //! A validator that is about to visit an operator.
 
-ghost use Rattle.std.specs.Prelude.{◌≡◌};
+ghost use Rattle.std.specs.Prelude.{◌≡◌, ◌+◌, ◌^◌, ◌<◌, ◌≤◌, false, None, Some, OnOk, OnErr, IfErr, replicate};
+ghost use Rattle.validate_resources.specs.Context.{Valid};
 ghost use Rattle.validate_visit.specs.declared.op.Op.{Op};
 ghost use Rattle.validation_rules.specs.Static.{frame_count};
 ghost use Rattle.validation_rules.specs.Operators.{operator};
+ghost use Rattle.validate_stacks.specs.Counted.{pops_of_run};
+ghost use Rattle.validate_stacks.specs.Pops.{body_popped_each, IsKept};
+ghost use Rattle.validate_stacks.specs.State.{IsValidBody};
 ghost use Rattle.validate_stacks.specs.Steps.{label_at};
 ghost use Rattle.validate_stacks.specs.Visits.{MayVisit, Meets};
 ghost use Rattle.validate_operators.specs.Memory.{TakesNoMemory};
@@ -11,10 +15,11 @@ ghost use Rattle.validate_body.specs.Start.{state, current_kind, stacks_of};
 
 use crate::validator::OperatorValidator;
 use validate_resources::WasmModuleResources;
-use validate_types::{Error, RefType, SubType};
+use validate_stacks::Pops;
+use validate_types::{Error, RefType, SubType, ValType};
 use validate_visit::{
-    AtomicOp, BlockType, ControlOp, ConvertOp, FrameKind, FrameStack, MemoryOp, ModuleArity,
-    NumericOp, Op, ReferenceOp, TableOp,
+    ArrayOp, AtomicOp, BlockType, ControlOp, ConvertOp, FrameKind, FrameStack, MemoryOp,
+    ModuleArity, NumericOp, Op, ReferenceOp, StructOp, TableOp,
 };
 
 /// A validator that is about to visit an operator, with the lookup and the operator's offset
@@ -204,5 +209,61 @@ impl<'validator, 'resources, R: WasmModuleResources> WasmProposalValidator<
             self.old.offset (state self.old.inner.now) result (state self.new.inner.now) }
     {
         self.inner.check_table(self.resources, self.offset, op)
+    }
+
+    /// The check of an operator on structs.
+    #[inline(always)]
+    pub fn check_struct(&mut self, op: StructOp) -> Result<(), Error>
+        requires { MayVisit (R.context self.old.resources.now) (stacks_of self.old.inner.now) }
+        ensures same_reference { self.new.inner.ghost_name ≡ self.old.inner.ghost_name }
+        ensures offset { self.new.offset ≡ self.old.offset }
+        ensures resources { self.new.resources ≡ self.old.resources }
+        ensures row { Meets (R.context self.old.resources.now) (λ cx. operator cx (Op.Struct op))
+            self.old.offset (state self.old.inner.now) result (state self.new.inner.now) }
+    {
+        self.inner.check_struct(self.resources, self.offset, op)
+    }
+
+    /// The check of an operator on arrays.
+    #[inline(always)]
+    pub fn check_array(&mut self, op: ArrayOp) -> Result<(), Error>
+        requires { MayVisit (R.context self.old.resources.now) (stacks_of self.old.inner.now) }
+        ensures same_reference { self.new.inner.ghost_name ≡ self.old.inner.ghost_name }
+        ensures offset { self.new.offset ≡ self.old.offset }
+        ensures resources { self.new.resources ≡ self.old.resources }
+        ensures row { Meets (R.context self.old.resources.now) (λ cx. operator cx (Op.Array op))
+            self.old.offset (state self.old.inner.now) result (state self.new.inner.now) }
+    {
+        self.inner.check_array(self.resources, self.offset, op)
+    }
+
+    /// Pops `n` operands of this type, and ticks for each pop that it tries, also for one that is refused:
+    /// below the innermost frame's own operands it tries one, since in dead code each further one would
+    /// pass as that does. A refusal carries the offset.
+    #[inline(always)]
+    pub fn pop_run(&mut self, elem: ValType, n: u32, pops: &mut Pops) -> Result<(), Error>
+        requires visit { MayVisit (R.context self.old.resources.now) (stacks_of self.old.inner.now) }
+        requires element { Valid (R.context self.old.resources.now) elem }
+        requires countable { pops.old + n < 2 ^ 64 }
+        ensures same_reference { self.new.inner.ghost_name ≡ self.old.inner.ghost_name }
+        ensures offset { self.new.offset ≡ self.old.offset }
+        ensures resources { self.new.resources ≡ self.old.resources }
+        ensures passed { OnOk result (body_popped_each (R.context self.old.resources.now)
+            (replicate n elem) (state self.old.inner.now) ≡ Some (state self.new.inner.now)) }
+        ensures refused { IfErr result (λ e. e.wants_memory ≡ false
+            → body_popped_each (R.context self.old.resources.now) (replicate n elem)
+            (state self.old.inner.now) ≡ None) }
+        ensures idle { (state self.old.inner.now).undone ≡ None
+            → OnErr result (body_popped_each (R.context self.old.resources.now) (replicate n elem)
+            (state self.old.inner.now) ≡ None) }
+        ensures counted { OnOk result (pops.new ≡ pops.old + pops_of_run n (state self.old.inner.now)) }
+        ensures bounded { pops.new ≤ pops.old + pops_of_run n (state self.old.inner.now) }
+        ensures tried { OnErr result (pops.old < pops.new) }
+        ensures at_offset { IfErr result (λ e. e.offset ≡ self.old.offset) }
+        ensures valid { IsValidBody (R.context self.old.resources.now) (state self.new.inner.now) }
+        ensures kept { IsKept (state self.old.inner.now) (state self.new.inner.now) }
+    {
+        self.inner
+            .pop_run(self.resources, self.offset, elem, n, pops)
     }
 }

@@ -1,10 +1,12 @@
 //! The validator's state: how it is made, what is declared in it, and what can be asked of it.
 
-ghost use Rattle.std.specs.Prelude.{◌≤◌, ◌≡◌, ◌⊎◌, ◌+◌, ◌<◌, true, false, None, length, is_some, IsSome, IfOk, OnOk, OnErr, IfErr};
+ghost use Rattle.std.specs.Prelude.{◌≤◌, ◌≡◌, ◌⊎◌, ◌+◌, ◌^◌, ◌<◌, true, false, None, Some, length, replicate, is_some, IsSome, IfOk, OnOk, OnErr, IfErr};
 ghost use Rattle.std.specs.Option.{option_copied, ForSome};
 ghost use Rattle.validation_rules.specs.Static.{operand_count, frame_count};
 ghost use Rattle.validate_locals.specs.Limit.{max_locals};
 ghost use Rattle.validate_stacks.specs.Attempts.{may_attempt, stacks_begun, stacks_committed, stacks_rolled_back};
+ghost use Rattle.validate_stacks.specs.Counted.{pops_of_run};
+ghost use Rattle.validate_stacks.specs.Pops.{body_popped_each, IsKept};
 ghost use Rattle.validate_stacks.specs.State.{IsStarting, IsValidBody, IsUndoneValid};
 ghost use Rattle.validate_stacks.specs.Visits.{MayVisit, Meets};
 ghost use Rattle.validate_operators.specs.Memory.{TakesNoMemory};
@@ -16,16 +18,16 @@ ghost use Rattle.validate_body.specs.Start.{state, stacks_of, func_start, const_
 
 use validate_locals::Locals;
 use validate_operators::{
-    check_atomic, check_control, check_convert, check_memory, check_numeric, check_operator,
-    check_reference, check_table,
+    check_array, check_atomic, check_control, check_convert, check_memory, check_numeric,
+    check_operator, check_reference, check_struct, check_table,
 };
 use validate_resources::WasmModuleResources;
 use validate_resources::kinds::{expected_func_type, func_type_of};
-use validate_stacks::{OperatorValidatorAllocations, Stacks};
+use validate_stacks::{OperatorValidatorAllocations, Pops, Stacks};
 use validate_types::{Error, FuncType, ValType, WasmFeatures};
 use validate_visit::{
-    AtomicOp, BlockType, ControlOp, ConvertOp, Frame, FrameKind, MemoryOp, NumericOp, Op,
-    ReferenceOp, TableOp,
+    ArrayOp, AtomicOp, BlockType, ControlOp, ConvertOp, Frame, FrameKind, MemoryOp, NumericOp, Op,
+    ReferenceOp, StructOp, TableOp,
 };
 
 /// The validator of a body (wasmparser's `OperatorValidator`). Contracts see what it stands for by
@@ -244,6 +246,66 @@ impl OperatorValidator {
             (state self.old) result (state self.new) }
     {
         check_table(&mut self.stacks, resources, offset, op)
+    }
+
+    /// The check of an operator on structs, as [`OperatorValidator::check`].
+    #[inline(always)]
+    pub fn check_struct<R: WasmModuleResources>(
+        &mut self,
+        resources: &R,
+        offset: u64,
+        op: StructOp,
+    ) -> Result<(), Error>
+        requires { MayVisit (R.context resources.now) (stacks_of self.old) }
+        ensures { Meets (R.context resources.now) (λ cx. operator cx (Op.Struct op)) offset
+            (state self.old) result (state self.new) }
+    {
+        check_struct(&mut self.stacks, resources, offset, op)
+    }
+
+    /// The check of an operator on arrays, as [`OperatorValidator::check`].
+    #[inline(always)]
+    pub fn check_array<R: WasmModuleResources>(
+        &mut self,
+        resources: &R,
+        offset: u64,
+        op: ArrayOp,
+    ) -> Result<(), Error>
+        requires { MayVisit (R.context resources.now) (stacks_of self.old) }
+        ensures { Meets (R.context resources.now) (λ cx. operator cx (Op.Array op)) offset
+            (state self.old) result (state self.new) }
+    {
+        check_array(&mut self.stacks, resources, offset, op)
+    }
+
+    /// Pops `n` operands of this type, as [`Stacks::pop_run`].
+    #[inline(always)]
+    pub(crate) fn pop_run<R: WasmModuleResources>(
+        &mut self,
+        resources: &R,
+        offset: u64,
+        elem: ValType,
+        n: u32,
+        pops: &mut Pops,
+    ) -> Result<(), Error>
+        requires visit { MayVisit (R.context resources.now) (stacks_of self.old) }
+        requires element { Valid (R.context resources.now) elem }
+        requires countable { pops.old + n < 2 ^ 64 }
+        ensures passed { OnOk result (body_popped_each (R.context resources.now) (replicate n elem)
+            (state self.old) ≡ Some (state self.new)) }
+        ensures refused { IfErr result (λ e. e.wants_memory ≡ false
+            → body_popped_each (R.context resources.now) (replicate n elem) (state self.old) ≡ None) }
+        ensures idle { (state self.old).undone ≡ None
+            → OnErr result (body_popped_each (R.context resources.now) (replicate n elem)
+            (state self.old) ≡ None) }
+        ensures counted { OnOk result (pops.new ≡ pops.old + pops_of_run n (state self.old)) }
+        ensures bounded { pops.new ≤ pops.old + pops_of_run n (state self.old) }
+        ensures tried { OnErr result (pops.old < pops.new) }
+        ensures offset { IfErr result (λ e. e.offset ≡ offset) }
+        ensures valid { IsValidBody (R.context resources.now) (state self.new) }
+        ensures kept { IsKept (state self.old) (state self.new) }
+    {
+        self.stacks.pop_run(resources, offset, elem, n, pops)
     }
 
     /// Whether an attempt is pending.

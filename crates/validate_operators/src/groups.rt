@@ -2,6 +2,8 @@
 
 ghost use Rattle.std.specs.Prelude.{◌≡◌, true, false, OnOk, OnErr, IfErr};
 ghost use Rattle.validate_types.specs.Gates.{is_open};
+ghost use Rattle.validate_types.specs.declared.gate.Gate.{Gate};
+ghost use Rattle.validate_visit.specs.Gates.{reference_gate};
 ghost use Rattle.validate_visit.specs.declared.op.Op.{Op};
 ghost use Rattle.validation_rules.specs.Operators.{operator, staying_operator, control_operator};
 ghost use Rattle.validation_rules.specs.References.{reference_row};
@@ -23,10 +25,14 @@ use validate_rows::parametric::{
 use validate_rows::tables::check_table_row;
 use validate_rows::variables::{check_local_get, check_local_set, check_local_tee};
 use validate_rows::{indirect, references};
+use validate_rows_gc::arrays::check_array_row;
+use validate_rows_gc::structs::check_struct_row;
+use validate_rows_gc::{casts, found};
 use validate_stacks::Stacks;
-use validate_types::{Error, Gate, ValType};
+use validate_types::{AbstractHeapType, Error, Gate, ValType};
 use validate_visit::{
-    AtomicOp, ControlOp, ConvertOp, FrameKind, MemoryOp, NumericOp, ReferenceOp, TableOp,
+    ArrayOp, AtomicOp, ControlOp, ConvertOp, FrameKind, MemoryOp, NumericOp, ReferenceOp, StructOp,
+    TableOp,
 };
 
 /// Refuses where the gate is closed (wasmparser's `check_enabled`).
@@ -231,6 +237,53 @@ fn check_reference_row<R: WasmModuleResources>(
         ReferenceOp::BrOnNonNull(relative_depth) => {
             references::check_br_on_non_null(stacks, resources, offset, relative_depth)
         }
+        _ => check_gc_reference_row(stacks, resources, offset, op),
+    }
+}
+
+/// The same of an operator of the proposal `gc`.
+fn check_gc_reference_row<R: WasmModuleResources>(
+    stacks: &mut Stacks,
+    resources: &R,
+    offset: u64,
+    op: ReferenceOp,
+) -> Result<(), Error>
+    requires visit { MayVisit (R.context resources.now) stacks.old }
+    requires gc { reference_gate op ≡ Gate.Gc }
+    ensures { Meets (R.context resources.now) (λ cx. staying_operator (λ hs. reference_row cx hs op)) offset
+        stacks.old.body result stacks.new.body }
+{
+    match op {
+        ReferenceOp::RefEq => found::check_ref_eq(stacks, resources, offset),
+        ReferenceOp::RefTestNonNull(heap_type) => {
+            casts::check_ref_test(stacks, resources, offset, false, heap_type)
+        }
+        ReferenceOp::RefTestNullable(heap_type) => {
+            casts::check_ref_test(stacks, resources, offset, true, heap_type)
+        }
+        ReferenceOp::RefCastNonNull(heap_type) => {
+            casts::check_ref_cast(stacks, resources, offset, false, heap_type)
+        }
+        ReferenceOp::RefCastNullable(heap_type) => {
+            casts::check_ref_cast(stacks, resources, offset, true, heap_type)
+        }
+        ReferenceOp::BrOnCast(cast) => casts::check_br_on_cast(stacks, resources, offset, cast),
+        ReferenceOp::BrOnCastFail(cast) => {
+            casts::check_br_on_cast_fail(stacks, resources, offset, cast)
+        }
+        ReferenceOp::RefI31 => found::check_ref_i31(stacks, resources, offset),
+        ReferenceOp::I31Get(_) => {
+            found::check_measure(stacks, resources, offset, AbstractHeapType::I31)
+        }
+        ReferenceOp::AnyConvertExtern => {
+            let (from, into) = (AbstractHeapType::Extern, AbstractHeapType::Any);
+            found::check_convert_ref(stacks, resources, offset, from, into)
+        }
+        ReferenceOp::ExternConvertAny => {
+            let (from, into) = (AbstractHeapType::Any, AbstractHeapType::Extern);
+            found::check_convert_ref(stacks, resources, offset, from, into)
+        }
+        _ => unreachable!(),
     }
 }
 
@@ -264,4 +317,36 @@ pub fn check_table<R: WasmModuleResources>(
 {
     check_enabled(stacks, offset, op.gate())?;
     check_table_row(stacks, resources, offset, op)
+}
+
+/// The check of an operator on structs: accepted exactly where its row holds, memory aside, with the
+/// static step. A refusal carries the offset.
+pub fn check_struct<R: WasmModuleResources>(
+    stacks: &mut Stacks,
+    resources: &R,
+    offset: u64,
+    op: StructOp,
+) -> Result<(), Error>
+    requires { MayVisit (R.context resources.now) stacks.old }
+    ensures { Meets (R.context resources.now) (λ cx. operator cx (Op.Struct op)) offset
+        stacks.old.body result stacks.new.body }
+{
+    check_enabled(stacks, offset, Gate::Gc)?;
+    check_struct_row(stacks, resources, offset, op)
+}
+
+/// The check of an operator on arrays: accepted exactly where its row holds, memory aside, with the
+/// static step. A refusal carries the offset.
+pub fn check_array<R: WasmModuleResources>(
+    stacks: &mut Stacks,
+    resources: &R,
+    offset: u64,
+    op: ArrayOp,
+) -> Result<(), Error>
+    requires { MayVisit (R.context resources.now) stacks.old }
+    ensures { Meets (R.context resources.now) (λ cx. operator cx (Op.Array op)) offset
+        stacks.old.body result stacks.new.body }
+{
+    check_enabled(stacks, offset, Gate::Gc)?;
+    check_array_row(stacks, resources, offset, op)
 }

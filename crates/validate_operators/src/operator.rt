@@ -5,8 +5,8 @@ ghost use Rattle.validate_stacks.specs.Visits.{MayVisit, Meets};
 ghost use Rattle.validate_operators.specs.Memory.{TakesNoMemory};
 
 use crate::groups::{
-    check_atomic, check_control, check_convert, check_memory, check_numeric, check_reference,
-    check_table,
+    check_array, check_atomic, check_control, check_convert, check_memory, check_numeric,
+    check_reference, check_struct, check_table,
 };
 use validate_resources::WasmModuleResources;
 use validate_stacks::Stacks;
@@ -35,6 +35,8 @@ pub fn check_operator<R: WasmModuleResources>(
         Op::Atomic(op) => check_atomic(stacks, resources, offset, op),
         Op::Reference(op) => check_reference(stacks, resources, offset, op),
         Op::Table(op) => check_table(stacks, resources, offset, op),
+        Op::Struct(op) => check_struct(stacks, resources, offset, op),
+        Op::Array(op) => check_array(stacks, resources, offset, op),
     }
 }
 

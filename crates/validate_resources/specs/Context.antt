@@ -137,13 +137,12 @@ pub record IsValidType (md : ModuleContext) (s : SubType) : Type 0 where
   pub supertype : (u : UnpackedIndex) → s.supertype_idx ≡ Some u → is_valid_index md u ≡ true
 
 -- what stands for the top type of the hierarchy of a reference's type: it is abstract, and a reference to
--- it is of the same sharedness, and lies above
+-- it is of the same sharedness
 pub record IsTop (md : ModuleContext) (r : RefType) (top : HeapType) : Type 0 where
   pub shared : Bool
   pub ty : AbstractHeapType
   pub is : top ≡ Abstract shared ty
   pub same_sharedness : md.is_shared (record r { heap_type = top }) ≡ md.is_shared r
-  pub above : IsValidBelow md (Ref r) (Ref (record r { heap_type = top }))
 
 pub record IsLawful (md : ModuleContext) : Type 0 where
   -- the order is one of valid and canonical types, reflexive and transitive

@@ -23,7 +23,7 @@ use Rattle.validate_types.specs.declared.types.ValType.TheVariants.{I32, I64, Re
 use Rattle.validate_resources.specs.declared.lists.FuncDecl.{FuncDecl}
 use Rattle.validate_resources.specs.declared.lists.TheConstants.{MAX_TYPES}
 use Rattle.validate_resources.specs.Context.{ModuleContext, IsLawful, IsBelowReference, IsTop, IsValidType}
-use Rattle.validate_resources.specs.Context.{Valid, IsValidBelow, is_valid_index, is_valid_heap}
+use Rattle.validate_resources.specs.Context.{Valid, is_valid_index, is_valid_heap}
 use Rattle.validate_resources.specs.Indices.{is_id, is_known, heap_indices_pass, ref_indices_pass, type_indices_pass, table_indices_pass}
 use Rattle.validate_resources.specs.Indices.{global_indices_pass, sub_indices_pass, heap_with_id, ref_with_id, type_with_id}
 use Rattle.validate_resources.specs.Indices.{supertype_indices_pass}
@@ -32,7 +32,7 @@ use Rattle.validate_resources.specs.Order.{is_heap_shared, is_shared_at}
 use Rattle.validate_resources.specs.Lists.{Declared, is_module, list_indices_pass, context_of}
 use Rattle.validate_resources.specs.Lists.{is_valid_below, canonical_under, type_id}
 use Rattle.validate_resources.specs.Lawful.Matching.{passes-at, heap-shared, ref-reflexive, type-reflexive}
-use Rattle.validate_resources.specs.Lawful.Matching.{heap-below-top, type-transitive, number-below, below-ref}
+use Rattle.validate_resources.specs.Lawful.Matching.{type-transitive, number-below, below-ref}
 use Rattle.validate_resources.specs.Lawful.Forms.{heap-valid, type-valid, type-is-valid}
 use Rattle.validate_resources.specs.Lawful.Forms.{heap-ids, type-ids, known-types}
 
@@ -108,37 +108,15 @@ checked_type d m features t u h =
     let p = cond_some (is_type_enabled features t && type_indices_pass (is_known (length d.types)) t) (type_with_id t) u h in
     subst (Valid (context_of d)) p.1 (type-valid d m.small (type_with_id t) ∙ type-ids (length d.types) t ∙ (and_parts (is_type_enabled features t) _ p.0).1)
 
-some_order : (b : Bool) → (b || not b) ≡ true
-some_order true = refl
-some_order false = refl
-
--- what stands for the top type lies above
-below_top : (d : Declared) → Facts d → (r : RefType) → Valid (context_of d) (Ref r) → IsValidBelow (context_of d) (Ref r) (Ref (record r { heap_type = heap_top d.types r.heap_type }))
-below_top d m r v =
-    let low = sym (heap-valid d m.small r.heap_type) ∙ v in
-    from d (Ref r) (Ref (record r { heap_type = heap_top d.types r.heap_type })) low (abstract_top_passes r.heap_type)
-    (and_from _ _ (heap-below-top d.types r.heap_type low) (some_order r.nullable))
-  where
-    abstract_top_passes : (h : HeapType) → heap_indices_pass (is_id (length d.types)) (heap_top d.types h) ≡ true
-    abstract_top_passes (Abstract shared ty) = refl
-    abstract_top_passes (Concrete i) = refl
-
-top_of : (d : Declared) → Facts d → (r : RefType) → Valid (context_of d) (Ref r) → (h : HeapType) → r.heap_type ≡ h → IsTop (context_of d) r (heap_top d.types h)
-top_of d m r v (Abstract shared ty) is =
-    record {
-      shared = shared;
-      ty = abstract_top ty;
-      is = refl;
-      same_sharedness = sym (ap (is_heap_shared d.types) is);
-      above = subst (λ h. IsValidBelow (context_of d) (Ref r) (Ref (record r { heap_type = heap_top d.types h }))) is (below_top d m r v);
-    }
-top_of d m r v (Concrete i) is =
+top_of : (d : Declared) (r : RefType) (h : HeapType) → r.heap_type ≡ h → IsTop (context_of d) r (heap_top d.types h)
+top_of d r (Abstract shared ty) is =
+    record { shared = shared; ty = abstract_top ty; is = refl; same_sharedness = sym (ap (is_heap_shared d.types) is) }
+top_of d r (Concrete i) is =
     record {
       shared = is_shared_at d.types (number_of i);
       ty = declared_top (slice_get d.types (number_of i));
       is = refl;
       same_sharedness = sym (ap (is_heap_shared d.types) is);
-      above = subst (λ h. IsValidBelow (context_of d) (Ref r) (Ref (record r { heap_type = heap_top d.types h }))) is (below_top d m r v);
     }
 
 pub lawful_lists : (d : Declared) → is_module is_id d ≡ true → IsLawful (context_of d)
@@ -153,7 +131,7 @@ lawful_lists d h =
       non_null_keeps = λ r s e. marked d r s (parts d (Ref r) (Ref s) e) false false refl;
       non_null_below = λ r e. marked d r r (itself d m r e) false r.nullable (or_right r.nullable true refl);
       below_with_null = λ r e. marked d r r (itself d m r e) r.nullable true refl;
-      top = λ r e. top_of d m r e r.heap_type refl;
+      top = λ r e. top_of d r r.heap_type refl;
       types = type_valid d m;
       types_of_ids = λ id s e. type_valid d m id.index s e;
       functions = λ f id e. function_of d m f id (slice_get d.functions f) refl e;

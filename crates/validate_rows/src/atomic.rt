@@ -9,7 +9,7 @@ ghost use Rattle.validate_stacks.specs.Visits.{MayVisit, Meets};
 ghost use Rattle.validate_shapes.specs.Types.{types_row, AreValid};
 
 use validate_resources::WasmModuleResources;
-use validate_shapes::memories::check_shared_memarg;
+use validate_shapes::accesses::check_shared_memarg;
 use validate_shapes::numbers::{accessed, integer};
 use validate_shapes::types::{Few, Types, check_types};
 use validate_stacks::Stacks;

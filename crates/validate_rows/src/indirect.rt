@@ -1,21 +1,21 @@
 //! Calls of a function that an operand names: by its place in a table, or by a reference (WebAssembly core
 //! specification, "Control Instructions").
 
-ghost use Rattle.std.specs.Prelude.{◌≡◌, false, None, Some, IfOk, OnErr, IfErr};
+ghost use Rattle.std.specs.Prelude.{◌≡◌, None, Some, IfOk, OnErr, IfErr};
 ghost use Rattle.validate_resources.specs.Context.{Valid};
-ghost use Rattle.validation_rules.specs.Indirect.{function_place as place_of_function, function_reference as reference_to_function, call_operand_row, return_call_operand_row, call_indirect_row, return_call_indirect_row, call_ref_row, return_call_ref_row};
+ghost use Rattle.validation_rules.specs.Indirect.{function_place as place_of_function, call_operand_row, return_call_operand_row, call_indirect_row, return_call_indirect_row, call_ref_row, return_call_ref_row};
 ghost use Rattle.validation_rules.specs.Operators.{row_operator, staying_operator};
 ghost use Rattle.validate_stacks.specs.State.{body_context};
 ghost use Rattle.validate_stacks.specs.Visits.{MayVisit, Meets};
 
 use crate::calls::check_return_call_ty;
 use validate_resources::WasmModuleResources;
-use validate_resources::uses::laws;
+use validate_shapes::aggregates::type_reference;
 use validate_shapes::functions::func_type_at;
 use validate_shapes::plain::check_plain;
 use validate_shapes::tables::table_type_at;
 use validate_stacks::Stacks;
-use validate_types::{Error, HeapType, RefType, UnpackedIndex, ValType};
+use validate_types::{Error, ValType};
 
 /// The type of a place in a table, which has to be one of functions.
 fn function_place<R: WasmModuleResources>(
@@ -39,31 +39,6 @@ fn function_place<R: WasmModuleResources>(
         ));
     }
     Ok(table.index_type())
-}
-
-/// A reference, perhaps null, to a function of the type at this index, which has to be declared.
-fn function_reference<R: WasmModuleResources>(
-    stacks: &Stacks,
-    resources: &R,
-    offset: u64,
-    type_index: u32,
-) -> Result<ValType, Error>
-    ensures found { IfOk result (λ t. reference_to_function
-        (body_context (R.context resources.now) stacks.now.body) type_index ≡ Some t) }
-    ensures valid { IfOk result (λ t. Valid (R.context resources.now) t) }
-    ensures refused { IfErr result (λ e. e.wants_memory ≡ false
-        → reference_to_function (body_context (R.context resources.now) stacks.now.body) type_index ≡ None) }
-    ensures offset { IfErr result (λ e. e.offset ≡ offset) }
-{
-    laws(resources);
-    // The contract alone reads it.
-    let _stacks = stacks;
-    let mut heap_type = HeapType::Concrete(UnpackedIndex::Module(type_index));
-    resources.check_heap_type(&mut heap_type, offset)?;
-    let Some(ty) = RefType::new(true, heap_type) else {
-        unreachable!()
-    };
-    Ok(ValType::Ref(ty))
 }
 
 /// A call of a function of the type at this index. The operand on top, of the type `names`, names the
@@ -153,7 +128,7 @@ pub fn check_call_ref<R: WasmModuleResources>(
     ensures { Meets (R.context resources.now)
         (λ cx. row_operator (call_ref_row cx type_index)) offset stacks.old.body result stacks.new.body }
 {
-    let reference = function_reference(stacks, resources, offset, type_index)?;
+    let reference = type_reference(stacks, resources, offset, true, type_index)?;
     check_call_operand(stacks, resources, offset, type_index, reference)
 }
 
@@ -170,6 +145,6 @@ pub fn check_return_call_ref<R: WasmModuleResources>(
         (λ cx. staying_operator (λ hs. return_call_ref_row cx hs type_index)) offset stacks.old.body result
         stacks.new.body }
 {
-    let reference = function_reference(stacks, resources, offset, type_index)?;
+    let reference = type_reference(stacks, resources, offset, true, type_index)?;
     check_return_call_operand(stacks, resources, offset, type_index, reference)
 }

@@ -1,7 +1,8 @@
 //! Operators on memories, by shape (WebAssembly core specification, "Memory Instructions").
 
-ghost use Rattle.std.specs.Prelude.{◌≡◌, true, false, [], IfOk, OnErr, IfErr};
+ghost use Rattle.std.specs.Prelude.{◌≡◌, true, false, IfOk, IfErr};
 ghost use Rattle.validate_resources.specs.Context.{is_number_or_vector};
+ghost use Rattle.validate_visit.specs.declared.memory.MemArgTarget.TheVariants.{Memory};
 ghost use Rattle.validation_rules.specs.Access.{load_row, store_row};
 ghost use Rattle.validation_rules.specs.Memory.{memory_row};
 ghost use Rattle.validation_rules.specs.Operators.{row_operator};
@@ -10,17 +11,16 @@ ghost use Rattle.validate_stacks.specs.Visits.{MayVisit, Meets};
 ghost use Rattle.validate_shapes.specs.Types.{types_row, AreValid};
 
 use validate_resources::WasmModuleResources;
-use validate_shapes::memories::{
-    check_data_segment, check_memarg, check_memory_index, narrower_of,
-};
+use validate_shapes::accesses::{Access, check_memarg, check_memory_access};
+use validate_shapes::memories::{check_data_segment, check_memory_index, narrower_of};
 use validate_shapes::numbers::{number, packed};
 use validate_shapes::plain::check_plain;
 use validate_shapes::types::{Few, Types, check_types};
 use validate_stacks::Stacks;
 use validate_types::{Error, ValType};
-use validate_visit::{MemArg, MemoryOp};
+use validate_visit::{MemArg, MemArgTarget, MemoryOp};
 
-/// What an operator on memories takes and gives, by the memories and segments that it names.
+/// What an operator on memories takes and gives, by the memories, segments and arrays that it names.
 fn memory_types<R: WasmModuleResources>(
     stacks: &Stacks,
     resources: &R,
@@ -30,26 +30,26 @@ fn memory_types<R: WasmModuleResources>(
     ensures row { IfOk result (λ t. memory_row (body_context (R.context resources.now) stacks.now.body) op
         ≡ types_row t) }
     ensures valid { IfOk result (λ t. AreValid (R.context resources.now) t) }
-    ensures refused { OnErr result
-        ((memory_row (body_context (R.context resources.now) stacks.now.body) op).premise ≡ false) }
+    ensures refused { IfErr result (λ e. e.wants_memory ≡ false
+        → (memory_row (body_context (R.context resources.now) stacks.now.body) op).premise ≡ false) }
     ensures offset { IfErr result (λ e. e.offset ≡ offset) }
 {
     let (wanted, pushed) = match op {
         MemoryOp::Load(ty, memarg) => {
-            let address = check_memarg(stacks, resources, offset, memarg)?;
-            (Few::One(address), Few::One(number(ty)))
+            let address = check_memarg(stacks, resources, offset, Access::Load, memarg)?;
+            (address.types(), Few::One(number(ty)))
         }
         MemoryOp::LoadPacked(part, _, memarg) => {
-            let address = check_memarg(stacks, resources, offset, memarg)?;
-            (Few::One(address), Few::One(packed(part)))
+            let address = check_memarg(stacks, resources, offset, Access::Load, memarg)?;
+            (address.types(), Few::One(packed(part)))
         }
         MemoryOp::Store(ty, memarg) => {
-            let address = check_memarg(stacks, resources, offset, memarg)?;
-            (Few::Two(address, number(ty)), Few::Zero)
+            let address = check_memarg(stacks, resources, offset, Access::Store, memarg)?;
+            (address.types_below(number(ty)), Few::Zero)
         }
         MemoryOp::StorePacked(part, memarg) => {
-            let address = check_memarg(stacks, resources, offset, memarg)?;
-            (Few::Two(address, packed(part)), Few::Zero)
+            let address = check_memarg(stacks, resources, offset, Access::Store, memarg)?;
+            (address.types_below(packed(part)), Few::Zero)
         }
         MemoryOp::MemorySize(memory) => {
             let address = check_memory_index(stacks, resources, offset, memory)?;
@@ -100,44 +100,48 @@ fn check_memory_types<R: WasmModuleResources>(
     check_types(stacks, resources, offset, types)
 }
 
-/// A load of a number: `[it] -> [t]`.
+/// A load of a number from a memory: `[it] -> [t]`.
 #[inline(always)]
 fn check_load<R: WasmModuleResources>(
     stacks: &mut Stacks,
     resources: &R,
     offset: u64,
     memarg: MemArg,
+    memory_index: u32,
     ty: ValType,
 ) -> Result<(), Error>
     requires visit { MayVisit (R.context resources.now) stacks.old }
+    requires target { memarg.target ≡ Memory memory_index }
     requires number { is_number_or_vector ty ≡ true }
     ensures { Meets (R.context resources.now) (λ cx. row_operator (load_row cx memarg ty)) offset
         stacks.old.body result stacks.new.body }
 {
-    let address = check_memarg(stacks, resources, offset, memarg)?;
+    let address = check_memory_access(stacks, resources, offset, memarg, memory_index)?;
     check_plain(stacks, resources, offset, &[address], &[ty])
 }
 
-/// A store of a number: `[it t] -> []`.
+/// A store of a number in a memory: `[it t] -> []`.
 #[inline(always)]
 fn check_store<R: WasmModuleResources>(
     stacks: &mut Stacks,
     resources: &R,
     offset: u64,
     memarg: MemArg,
+    memory_index: u32,
     ty: ValType,
 ) -> Result<(), Error>
     requires visit { MayVisit (R.context resources.now) stacks.old }
+    requires target { memarg.target ≡ Memory memory_index }
     requires number { is_number_or_vector ty ≡ true }
     ensures { Meets (R.context resources.now) (λ cx. row_operator (store_row cx memarg ty)) offset
         stacks.old.body result stacks.new.body }
 {
-    let address = check_memarg(stacks, resources, offset, memarg)?;
+    let address = check_memory_access(stacks, resources, offset, memarg, memory_index)?;
     check_plain(stacks, resources, offset, &[address, ty], &[])
 }
 
-/// The check of an operator on memories, its gate aside. Loads and stores, which are met most, take
-/// their operands without making a value of them first.
+/// The check of an operator on memories, its gate aside. Loads and stores of memories, which are met
+/// most, take their operands without making a value of them first.
 #[inline(always)]
 pub fn check_memory_row<R: WasmModuleResources>(
     stacks: &mut Stacks,
@@ -150,14 +154,30 @@ pub fn check_memory_row<R: WasmModuleResources>(
         stacks.old.body result stacks.new.body }
 {
     match op {
-        MemoryOp::Load(ty, memarg) => check_load(stacks, resources, offset, memarg, number(ty)),
-        MemoryOp::LoadPacked(part, _, memarg) => {
-            check_load(stacks, resources, offset, memarg, packed(part))
-        }
-        MemoryOp::Store(ty, memarg) => check_store(stacks, resources, offset, memarg, number(ty)),
-        MemoryOp::StorePacked(part, memarg) => {
-            check_store(stacks, resources, offset, memarg, packed(part))
-        }
+        MemoryOp::Load(ty, memarg) => match memarg.target {
+            MemArgTarget::Memory(memory) => {
+                check_load(stacks, resources, offset, memarg, memory, number(ty))
+            }
+            MemArgTarget::Array(_) => check_memory_types(stacks, resources, offset, op),
+        },
+        MemoryOp::LoadPacked(part, _, memarg) => match memarg.target {
+            MemArgTarget::Memory(memory) => {
+                check_load(stacks, resources, offset, memarg, memory, packed(part))
+            }
+            MemArgTarget::Array(_) => check_memory_types(stacks, resources, offset, op),
+        },
+        MemoryOp::Store(ty, memarg) => match memarg.target {
+            MemArgTarget::Memory(memory) => {
+                check_store(stacks, resources, offset, memarg, memory, number(ty))
+            }
+            MemArgTarget::Array(_) => check_memory_types(stacks, resources, offset, op),
+        },
+        MemoryOp::StorePacked(part, memarg) => match memarg.target {
+            MemArgTarget::Memory(memory) => {
+                check_store(stacks, resources, offset, memarg, memory, packed(part))
+            }
+            MemArgTarget::Array(_) => check_memory_types(stacks, resources, offset, op),
+        },
         _ => check_memory_types(stacks, resources, offset, op),
     }
 }

@@ -80,6 +80,17 @@ module _ (md : ModuleContext) where
   abbrev pub above_types : List ValType → BodyState → Option BodyState
   above_types ts v = option_and_then (λ y. option_map (λ u. body_pushed y (body_pushed_each ts u)) (body_popped_each md (reverse ts) (body_popped v))) (option_and_then operand_without_null (steps.found_in_body v))
 
+  -- what is given for the operand on top takes its place
+  abbrev pub with_one : (MaybeType → Option MaybeType) → BodyState → Option BodyState
+  with_one one v = option_map (λ (y : MaybeType). body_pushed y (body_popped v)) (option_and_then one (steps.found_in_body v))
+
+  -- the same of the two on top, of which the second lies above
+  abbrev pub with_two : (MaybeType → MaybeType → Option MaybeType) → BodyState → Option BodyState
+  with_two two v =
+      option_and_then
+      (λ y. option_and_then (λ x. option_map (λ z. body_pushed z (body_popped (body_popped v))) (two x y)) (steps.found_in_body (body_popped v)))
+      (steps.found_in_body v)
+
   abbrev pub null_tested : BodyState → Option BodyState
   null_tested v = option_map (λ y. body_pushed (Known I32) (body_popped v)) (option_and_then operand_without_null (steps.found_in_body v))
 
@@ -144,7 +155,57 @@ module _ (md : ModuleContext) where
     null_in [] true = looked true 1 (λ c. null_test_pushes) [] [] true
     null_in [] false = looked true 1 (λ c. null_test_pushes) [] [] false
 
+    -- one operand, by what is given for it
+    one_in : (gives : Context → List MaybeType → Option (List MaybeType)) (one : MaybeType → Option MaybeType) → ((x : MaybeType) → gives cx_of (x ∷ []) ≡ option_map (λ (y : MaybeType). y ∷ []) (one x)) → gives cx_of [] ≡ None → (own : List MaybeType) (dead : Bool) → step_body md (λ c. row_operator (looking_row 1 (gives c))) (state_of own dead) ≡ with_one one (state_of own dead)
+    one_in gives one some none own dead = by own dead
+      where
+        pushed : (own : List MaybeType) (dead : Bool) (o : Option MaybeType) → option_map (λ ps. state_of (stack_with ps own) dead) (option_map (λ (y : MaybeType). y ∷ []) o) ≡ option_map (λ (y : MaybeType). state_of (y ∷ own) dead) o
+        pushed own dead None = refl
+        pushed own dead (Some y) = refl
+
+        by : (own : List MaybeType) (dead : Bool) → step_body md (λ c. row_operator (looking_row 1 (gives c))) (state_of own dead) ≡ with_one one (state_of own dead)
+        by (x ∷ own) dead = looked true 1 gives [] (x ∷ own) dead ∙ (ap (option_map (λ ps. state_of (stack_with ps own) dead)) (some x) ∙ pushed own dead (one x))
+        by [] true = looked true 1 gives [] [] true ∙ (ap (option_map (λ ps. state_of (stack_with ps []) true)) (some Bottom) ∙ pushed [] true (one Bottom))
+        by [] false = looked true 1 gives [] [] false ∙ ap (option_map (λ ps. state_of (stack_with ps []) false)) none
+
+    -- two operands, by what is given for them
+    two_in : (gives : Context → List MaybeType → Option (List MaybeType)) (two : MaybeType → MaybeType → Option MaybeType) → ((x y : MaybeType) → gives cx_of (x ∷ y ∷ []) ≡ option_map (λ (z : MaybeType). z ∷ []) (two x y)) → ((x : MaybeType) → gives cx_of (x ∷ []) ≡ None) → gives cx_of [] ≡ None → (own : List MaybeType) (dead : Bool) → step_body md (λ c. row_operator (looking_row 2 (gives c))) (state_of own dead) ≡ with_two two (state_of own dead)
+    two_in gives two some one none own dead = by own dead
+      where
+        pushed : (own : List MaybeType) (dead : Bool) (o : Option MaybeType) → option_map (λ ps. state_of (stack_with ps own) dead) (option_map (λ (y : MaybeType). y ∷ []) o) ≡ option_map (λ (y : MaybeType). state_of (y ∷ own) dead) o
+        pushed own dead None = refl
+        pushed own dead (Some y) = refl
+
+        by : (own : List MaybeType) (dead : Bool) → step_body md (λ c. row_operator (looking_row 2 (gives c))) (state_of own dead) ≡ with_two two (state_of own dead)
+        by (y ∷ x ∷ own) dead = looked true 2 gives [] (y ∷ x ∷ own) dead ∙ (ap (option_map (λ ps. state_of (stack_with ps own) dead)) (some x y) ∙ pushed own dead (two x y))
+        by (y ∷ []) true = looked true 2 gives [] (y ∷ []) true ∙ (ap (option_map (λ ps. state_of (stack_with ps []) true)) (some Bottom y) ∙ pushed [] true (two Bottom y))
+        by (y ∷ []) false = looked true 2 gives [] (y ∷ []) false ∙ ap (option_map (λ ps. state_of (stack_with ps []) false)) (one y)
+        by [] true = looked true 2 gives [] [] true ∙ (ap (option_map (λ ps. state_of (stack_with ps []) true)) (some Bottom Bottom) ∙ pushed [] true (two Bottom Bottom))
+        by [] false = looked true 2 gives [] [] false ∙ ap (option_map (λ ps. state_of (stack_with ps []) false)) none
+
   module _ (v : BodyState) (o : v.present.frames ≢ []) where
+    -- an operator that looks at one operand
+    pub one_is : (gives : Context → List MaybeType → Option (List MaybeType)) (one : MaybeType → Option MaybeType) → ((x : MaybeType) → gives (body_context md v) (x ∷ []) ≡ option_map (λ (y : MaybeType). y ∷ []) (one x)) → gives (body_context md v) [] ≡ None → step_body md (λ c. row_operator (looking_row 1 (gives c))) v ≡ with_one one v
+    one_is gives one some none = by v.present.frames refl
+      where
+        by : (fs : List Frame) → v.present.frames ≡ fs → step_body md (λ c. row_operator (looking_row 1 (gives c))) v ≡ with_one one v
+        by [] e = absurd (o e)
+        by (f ∷ fs) e =
+            ap (λ gs. step_body md (λ c. row_operator (looking_row 1 (gives c))) (record v { present = record { frames = gs; left = v.present.left } })) e
+            ∙ (one_in f.head f.first_set fs v.present.left v.shared v.features v.locals v.set_at_entry v.undone gives one some none f.operands f.dead
+            ∙ ap (λ gs. with_one one (record v { present = record { frames = gs; left = v.present.left } })) (sym e))
+
+    -- one that looks at two
+    pub two_is : (gives : Context → List MaybeType → Option (List MaybeType)) (two : MaybeType → MaybeType → Option MaybeType) → ((x y : MaybeType) → gives (body_context md v) (x ∷ y ∷ []) ≡ option_map (λ (z : MaybeType). z ∷ []) (two x y)) → ((x : MaybeType) → gives (body_context md v) (x ∷ []) ≡ None) → gives (body_context md v) [] ≡ None → step_body md (λ c. row_operator (looking_row 2 (gives c))) v ≡ with_two two v
+    two_is gives two some one none = by v.present.frames refl
+      where
+        by : (fs : List Frame) → v.present.frames ≡ fs → step_body md (λ c. row_operator (looking_row 2 (gives c))) v ≡ with_two two v
+        by [] e = absurd (o e)
+        by (f ∷ fs) e =
+            ap (λ gs. step_body md (λ c. row_operator (looking_row 2 (gives c))) (record v { present = record { frames = gs; left = v.present.left } })) e
+            ∙ (two_in f.head f.first_set fs v.present.left v.shared v.features v.locals v.set_at_entry v.undone gives two some one none f.operands f.dead
+            ∙ ap (λ gs. with_two two (record v { present = record { frames = gs; left = v.present.left } })) (sym e))
+
     pub above_is : (b : Bool) (ts : List ValType) (targets : List Target) → step_body md (λ c. row_operator (record (looking_row_if b (suc (length ts)) (non_null_pushes c ts)) { targets = targets })) v ≡ guard b (above_types ts v)
     above_is b ts targets = by v.present.frames refl
       where

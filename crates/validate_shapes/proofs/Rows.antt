@@ -280,3 +280,8 @@ same_context md v u k = sym (ap (λ (w : BodyState). body_context md w) k)
 
 abbrev pub if_by : Context → FlatFrame → Bool
 if_by cx f = if_fits cx (is_if f.kind) (head_of f.kind f.block_type)
+
+-- pushes of one list, and then of another
+pub pushed_then : (xs ys : List ValType) (v : BodyState) → body_pushed_each (xs ++ ys) v ≡ body_pushed_each ys (body_pushed_each xs v)
+pushed_then [] ys v = refl
+pushed_then (x ∷ xs) ys v = pushed_then xs ys (steps.body_pushed (Known x) v)

@@ -6,7 +6,7 @@ use Rattle.validation_rules.specs.Context.{ValType}
 use Rattle.validation_rules.specs.Rows.{Row}
 use Rattle.validation_rules.specs.Operators.{plain_row}
 use Rattle.validate_shapes.specs.declared.types.Few.{Few}
-use Rattle.validate_shapes.specs.declared.types.Few.TheVariants.{Zero, One, Two, Three}
+use Rattle.validate_shapes.specs.declared.types.Few.TheVariants.{Zero, One, Two, Three, Four, Five}
 use Rattle.validate_shapes.specs.declared.types.Types.{Types}
 
 abbrev pub few_types : Few → List ValType
@@ -14,6 +14,8 @@ few_types Zero = []
 few_types (One a) = a ∷ []
 few_types (Two a b) = a ∷ b ∷ []
 few_types (Three a b c) = a ∷ b ∷ c ∷ []
+few_types (Four a b c d) = a ∷ b ∷ c ∷ d ∷ []
+few_types (Five a b c d e) = a ∷ b ∷ c ∷ d ∷ e ∷ []
 
 -- the row that takes and gives them
 abbrev pub types_row : Types → Row

@@ -2,6 +2,8 @@
 //! references that are found.
 #![tactic(auto)]
 
+pub mod accesses;
+pub mod aggregates;
 pub mod functions;
 pub mod globals;
 pub mod labels;

@@ -1,14 +1,13 @@
 //! The types of addresses in memories, and data segments, looked up (WebAssembly core specification,
 //! "Memory Instructions").
 
-ghost use Rattle.std.specs.Prelude.{◌≡◌, true, false, [], ◌∷◌, None, Some, IfOk, OnOk, OnErr, IfErr};
+ghost use Rattle.std.specs.Prelude.{◌≡◌, true, false, None, Some, IfOk, OnOk, OnErr, IfErr};
 ghost use Rattle.validate_resources.specs.Context.{is_address_type};
-ghost use Rattle.validation_rules.specs.Access.{memory_address_type as index_of_memory, address_types, narrower_type, is_segment, atomic_address_types};
+ghost use Rattle.validation_rules.specs.Memories.{memory_address_type as index_of_memory, narrower_type, is_segment};
 
 use validate_resources::WasmModuleResources;
 use validate_stacks::Stacks;
 use validate_types::{Error, ValType};
-use validate_visit::{MemArg, MemArgTarget};
 
 /// The type of the addresses of a memory, or the refusal of an index past the end (wasmparser's
 /// `check_memory_index`).
@@ -39,34 +38,6 @@ fn unknown_memory(stacks: &Stacks, offset: u64, memory_index: u32) -> Error
         Ok(text) => Error::with_text(text, offset),
         Err(_) => Error::out_of_memory(offset),
     }
-}
-
-/// The type of the address of a load or a store: its alignment is at most the natural one, and its
-/// offset one that the address allows (wasmparser's `check_memarg_inner`).
-#[inline(always)]
-pub fn check_memarg<R: WasmModuleResources>(
-    stacks: &Stacks,
-    resources: &R,
-    offset: u64,
-    memarg: MemArg,
-) -> Result<ValType, Error>
-    ensures found { IfOk result (λ it. address_types (R.context resources.now) memarg ≡ Some (it ∷ [])) }
-    ensures index { IfOk result (λ it. is_address_type it ≡ true) }
-    ensures refused { OnErr result (address_types (R.context resources.now) memarg ≡ None) }
-    ensures offset { IfErr result (λ e. e.offset ≡ offset) }
-{
-    if memarg.align > memarg.max_align {
-        return Err(Error::new(
-            "invalid memop alignment: alignment must not be larger than natural",
-            offset,
-        ));
-    }
-    let MemArgTarget::Memory(memory_index) = memarg.target;
-    let index_type = check_memory_index(stacks, resources, offset, memory_index)?;
-    if index_type == ValType::I32 && memarg.offset > u64::from(u32::MAX) {
-        return Err(Error::new("offset out of range: must be <= 2**32", offset));
-    }
-    Ok(index_type)
 }
 
 /// The type of a length that fits both memories, or both tables.
@@ -113,27 +84,4 @@ fn unknown_data_segment(stacks: &Stacks, offset: u64, data_index: u32) -> Error
         Ok(text) => Error::with_text(text, offset),
         Err(_) => Error::out_of_memory(offset),
     }
-}
-
-/// The type of the address of an atomic access: its alignment is the natural one, and the rest as of any
-/// access (wasmparser's `check_shared_memarg`).
-pub fn check_shared_memarg<R: WasmModuleResources>(
-    stacks: &Stacks,
-    resources: &R,
-    offset: u64,
-    memarg: MemArg,
-) -> Result<ValType, Error>
-    ensures found { IfOk result (λ it. atomic_address_types (R.context resources.now) memarg
-        ≡ Some (it ∷ [])) }
-    ensures index { IfOk result (λ it. is_address_type it ≡ true) }
-    ensures refused { OnErr result (atomic_address_types (R.context resources.now) memarg ≡ None) }
-    ensures offset { IfErr result (λ e. e.offset ≡ offset) }
-{
-    if memarg.align != memarg.max_align {
-        return Err(Error::new(
-            "atomic instructions must always specify maximum alignment",
-            offset,
-        ));
-    }
-    check_memarg(stacks, resources, offset, memarg)
 }

@@ -1,6 +1,6 @@
 //! Operators whose wanted and pushed types don't depend on what is found.
 
-ghost use Rattle.std.specs.Prelude.{true};
+ghost use Rattle.std.specs.Prelude.{true, [], ◌∷◌, ◌++◌};
 ghost use Rattle.std.specs.List.{AllByRecursion};
 ghost use Rattle.validate_resources.specs.Context.{Valid};
 ghost use Rattle.validation_rules.specs.Operators.{plain_row, row_operator};
@@ -28,4 +28,24 @@ pub fn check_plain<R: WasmModuleResources>(
 {
     stacks.pop_types(resources, offset, wanted)?;
     stacks.push_types(offset, pushed)
+}
+
+/// `[types] -> [types above]`: operands of these types stay, and another comes above them.
+pub fn check_onto<R: WasmModuleResources>(
+    stacks: &mut Stacks,
+    resources: &R,
+    offset: u64,
+    types: &[ValType],
+    above: ValType,
+) -> Result<(), Error>
+    requires visit { MayVisit (R.context resources.now) stacks.old }
+    requires types { AllByRecursion (Valid (R.context resources.now)) types.now }
+    requires above { Valid (R.context resources.now) above }
+    ensures { Meets (R.context resources.now)
+        (λ cx. row_operator (plain_row types.now (types.now ++ above ∷ []))) offset stacks.old.body result
+        stacks.new.body }
+{
+    stacks.pop_types(resources, offset, types)?;
+    stacks.push_types(offset, types)?;
+    stacks.push_types(offset, &[above])
 }

@@ -14,9 +14,10 @@ use validate_resources::WasmModuleResources;
 use validate_stacks::{Stacks, ty_to_str};
 use validate_types::{Error, MaybeType, ValType};
 
+/// The refusal of an operand that is no reference.
 #[cold]
 #[inline(never)]
-fn no_reference(stacks: &Stacks, offset: u64, found: ValType) -> Error
+pub fn no_reference(stacks: &Stacks, offset: u64, found: ValType) -> Error
     ensures { result.offset ≡ offset }
 {
     let found = ty_to_str(found);

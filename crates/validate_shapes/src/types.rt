@@ -13,7 +13,7 @@ use validate_resources::WasmModuleResources;
 use validate_stacks::Stacks;
 use validate_types::{Error, ValType};
 
-/// At most three types.
+/// At most five types.
 #[derive(Clone, Copy)]
 pub enum Few {
     /// None.
@@ -24,6 +24,10 @@ pub enum Few {
     Two(ValType, ValType),
     /// Three, the last on top.
     Three(ValType, ValType, ValType),
+    /// Four, the last on top.
+    Four(ValType, ValType, ValType, ValType),
+    /// Five, the last on top.
+    Five(ValType, ValType, ValType, ValType, ValType),
 }
 
 /// What an operator takes and gives.
@@ -37,7 +41,7 @@ pub struct Types {
 
 /// Pops one operand for each of these types, the last first.
 #[inline(always)]
-fn pop_few<R: WasmModuleResources>(
+pub fn pop_few<R: WasmModuleResources>(
     stacks: &mut Stacks,
     resources: &R,
     offset: u64,
@@ -58,12 +62,14 @@ fn pop_few<R: WasmModuleResources>(
         Few::One(a) => stacks.pop_types(resources, offset, &[a]),
         Few::Two(a, b) => stacks.pop_types(resources, offset, &[a, b]),
         Few::Three(a, b, c) => stacks.pop_types(resources, offset, &[a, b, c]),
+        Few::Four(a, b, c, d) => stacks.pop_types(resources, offset, &[a, b, c, d]),
+        Few::Five(a, b, c, d, e) => stacks.pop_types(resources, offset, &[a, b, c, d, e]),
     }
 }
 
 /// Pushes an operand of each of these types.
 #[inline(always)]
-fn push_few(stacks: &mut Stacks, offset: u64, types: Few) -> Result<(), Error>
+pub fn push_few(stacks: &mut Stacks, offset: u64, types: Few) -> Result<(), Error>
     ensures pushed { OnOk result (stacks.new.body ≡ body_pushed_each (few_types types) stacks.old.body) }
     ensures memory { IfErr result (λ e. e.wants_memory ≡ true) }
     ensures offset { IfErr result (λ e. e.offset ≡ offset) }
@@ -76,6 +82,8 @@ fn push_few(stacks: &mut Stacks, offset: u64, types: Few) -> Result<(), Error>
         Few::One(a) => stacks.push_types(offset, &[a]),
         Few::Two(a, b) => stacks.push_types(offset, &[a, b]),
         Few::Three(a, b, c) => stacks.push_types(offset, &[a, b, c]),
+        Few::Four(a, b, c, d) => stacks.push_types(offset, &[a, b, c, d]),
+        Few::Five(a, b, c, d, e) => stacks.push_types(offset, &[a, b, c, d, e]),
     }
 }
 

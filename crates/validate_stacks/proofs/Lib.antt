@@ -7,4 +7,6 @@ pub mod Matching
 pub mod Validity
 pub mod Whole
 pub mod Closing
+pub mod PopRuns
+mod Examples
 mod Rising

@@ -6,5 +6,6 @@ pub mod Pops
 pub mod Names
 pub mod Either
 pub mod Blocks
+pub mod Counted
 pub mod Rising
 pub mod Visits

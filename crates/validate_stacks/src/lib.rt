@@ -4,6 +4,7 @@
 
 pub mod allocations;
 pub mod blocks;
+pub mod counted;
 pub mod either;
 pub mod laws;
 pub mod lists;
@@ -11,6 +12,7 @@ pub mod pops;
 pub mod stacks;
 
 pub use crate::allocations::OperatorValidatorAllocations;
+pub use crate::counted::Pops;
 pub use crate::either::Either;
 pub use crate::laws::shape_law;
 pub use crate::pops::ty_to_str;

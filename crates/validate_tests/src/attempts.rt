@@ -52,7 +52,7 @@ fn visit_by_row<R: WasmModuleResources>(
 }
 
 /// What a visit answered: how many operands and frames it left, or the words of its refusal.
-fn answer_of(
+pub fn answer_of(
     rt: &impl AllocGlobal,
     v: &OperatorValidator,
     answer: Result<(), Error>,
@@ -188,7 +188,7 @@ fn expect_line<R: WasmModuleResources>(
 }
 
 /// Visits, or attempts and takes back, the operators of these lines in turn. Blank lines stand for nothing.
-fn expect_lines<R: WasmModuleResources>(
+pub fn expect_lines<R: WasmModuleResources>(
     rt: &(impl Abort + AllocGlobal),
     v: &mut OperatorValidator,
     lists: &R,

@@ -79,25 +79,25 @@ abbrev pub has : WasmFeatures → ℕ → Bool
 has features bit = bit_and features.0 bit == bit
 
 -- the gate of an abstract heap type is open, by whether the reference to it is nullable
-abbrev pub abstract_gate : WasmFeatures → Bool → AbstractHeapType → Bool
-abstract_gate features true Func = true
-abstract_gate features true Extern = true
-abstract_gate features false Func = has features function_references
-abstract_gate features false Extern = has features function_references
-abstract_gate features _ Exn = has features exceptions
-abstract_gate features _ NoExn = has features exceptions
-abstract_gate features _ Cont = has features stack_switching
-abstract_gate features _ NoCont = has features stack_switching
-abstract_gate features _ _ = has features gc
+abbrev pub is_abstract_enabled : WasmFeatures → Bool → AbstractHeapType → Bool
+is_abstract_enabled features true Func = true
+is_abstract_enabled features true Extern = true
+is_abstract_enabled features false Func = has features function_references
+is_abstract_enabled features false Extern = has features function_references
+is_abstract_enabled features _ Exn = has features exceptions
+is_abstract_enabled features _ NoExn = has features exceptions
+is_abstract_enabled features _ Cont = has features stack_switching
+is_abstract_enabled features _ NoCont = has features stack_switching
+is_abstract_enabled features _ _ = has features gc
 
 -- shared types are a proposal of their own
-abbrev pub shared_gate : WasmFeatures → Bool → Bool
-shared_gate features true = has features shared_everything_threads
-shared_gate features false = true
+abbrev pub is_shared_enabled : WasmFeatures → Bool → Bool
+is_shared_enabled features true = has features shared_everything_threads
+is_shared_enabled features false = true
 
 abbrev pub is_heap_enabled : WasmFeatures → Bool → HeapType → Bool
 is_heap_enabled features nullable (Abstract shared ty) =
-    shared_gate features shared && abstract_gate features nullable ty
+    is_shared_enabled features shared && is_abstract_enabled features nullable ty
 is_heap_enabled features nullable (Concrete i) = has features function_references || has features gc
 
 -- the gate of a reference type is open

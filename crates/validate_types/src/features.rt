@@ -1,7 +1,7 @@
 //! Which proposals are on.
 
 ghost use Rattle.std.specs.Prelude.{⊤, ◌≡◌, [], ◌∷◌, codes, is_ok};
-ghost use Rattle.validate_types.specs.Features.{has, is_type_enabled, is_ref_enabled, abstract_gate};
+ghost use Rattle.validate_types.specs.Features.{has, is_type_enabled, is_ref_enabled, is_abstract_enabled};
 ghost use Rattle.validate_types.specs.Features as feature;
 
 use crate::heap::{AbstractHeapType, HeapType};
@@ -342,7 +342,7 @@ impl WasmFeatures {
 
     /// The same of an unshared abstract type, by whether the reference to it is nullable.
     fn check_abstract_type(self, nullable: bool, ty: AbstractHeapType) -> Result<(), &'static str>
-        ensures { is_ok result ≡ abstract_gate self nullable ty }
+        ensures { is_ok result ≡ is_abstract_enabled self nullable ty }
     {
         match ty {
             AbstractHeapType::Func | AbstractHeapType::Extern => allowed(

@@ -28,6 +28,8 @@ pub enum Gate {
     TailCall,
     /// The proposal `function_references`.
     FunctionReferences,
+    /// The proposal `gc`.
+    Gc,
     /// The proposal `memory_control`.
     MemoryControl,
     /// The proposal `wide_arithmetic`.
@@ -53,6 +55,7 @@ impl Gate {
             Gate::Threads => features.threads(),
             Gate::TailCall => features.tail_call(),
             Gate::FunctionReferences => features.function_references(),
+            Gate::Gc => features.gc(),
             Gate::MemoryControl => features.memory_control(),
             Gate::WideArithmetic => features.wide_arithmetic(),
             Gate::AcquireReleaseAtomics => features.acquire_release_atomics(),
@@ -73,6 +76,7 @@ impl Gate {
             Gate::Threads => "threads support is not enabled",
             Gate::TailCall => "tail calls support is not enabled",
             Gate::FunctionReferences => "function references support is not enabled",
+            Gate::Gc => "gc support is not enabled",
             Gate::MemoryControl => "memory control support is not enabled",
             Gate::WideArithmetic => "wide arithmetic support is not enabled",
             Gate::AcquireReleaseAtomics => "acquire-release atomics support is not enabled",

@@ -6,7 +6,7 @@ use Rattle.std.proofs.Math.Seq.{split_at}
 use Rattle.validate_visit.specs.declared.frame.FrameKind.{FrameKind}
 use Rattle.validate_visit.specs.declared.frame.FrameKind.TheVariants.{Else}
 use Rattle.validate_visit.specs.declared.op.Op.{Op}
-use Rattle.validate_visit.specs.declared.op.Op.TheVariants.{Control, Numeric, Convert, Memory, Atomic, Reference, Table}
+use Rattle.validate_visit.specs.declared.op.Op.TheVariants.{Control, Numeric, Convert, Memory, Atomic, Reference, Table, Struct, Array}
 use Rattle.validate_visit.specs.declared.op.ControlOp.TheVariants.{Nop, Block as BlockOp, Loop as LoopOp, If as IfOp, Else as ElseOp}
 use Rattle.validate_visit.specs.Parts.{outermost, parts_after_list}
 use Rattle.validate_visit.specs.Order.{with_innermost_kind, parts_after}
@@ -39,6 +39,8 @@ as_nop (k ∷ ks) (Memory op) h = refl
 as_nop (k ∷ ks) (Atomic op) h = refl
 as_nop (k ∷ ks) (Reference op) h = refl
 as_nop (k ∷ ks) (Table op) h = refl
+as_nop (k ∷ ks) (Struct op) h = refl
+as_nop (k ∷ ks) (Array op) h = refl
 
 nop_stands : (ks : List FrameKind) (n : ℕ) → n ≡ length ks → n ≢ 0 → may_stand ks Stays ≡ true
 nop_stands [] n e some = absurd (some e)

@@ -4,13 +4,13 @@ use Rattle.validate_types.specs.declared.gate.Gate.{Gate}
 use Rattle.validate_types.specs.declared.gate.Gate.TheVariants.{Mvp, Floats, ReferenceTypes, BulkMemory}
 use Rattle.validate_types.specs.declared.gate.Gate.TheVariants.{BulkMemoryOpt, SignExtension}
 use Rattle.validate_types.specs.declared.gate.Gate.TheVariants.{SaturatingFloatToInt, Threads, TailCall}
-use Rattle.validate_types.specs.declared.gate.Gate.TheVariants.{FunctionReferences, MemoryControl}
+use Rattle.validate_types.specs.declared.gate.Gate.TheVariants.{FunctionReferences, Gc, MemoryControl}
 use Rattle.validate_types.specs.declared.gate.Gate.TheVariants.{WideArithmetic, AcquireReleaseAtomics}
 use Rattle.validate_visit.specs.declared.numbers.NumberType.{NumberType}
 use Rattle.validate_visit.specs.declared.numbers.NumberType.TheVariants.{I32, I64, F32, F64}
 use Rattle.validate_visit.specs.declared.op.Op.{Op}
 use Rattle.validate_visit.specs.declared.op.Op.TheVariants.{Control, Numeric, Convert, Memory, Atomic}
-use Rattle.validate_visit.specs.declared.op.Op.TheVariants.{Reference, Table}
+use Rattle.validate_visit.specs.declared.op.Op.TheVariants.{Reference, Table, Struct, Array}
 use Rattle.validate_visit.specs.declared.op.AtomicOp.{AtomicOp}
 use Rattle.validate_visit.specs.declared.op.AtomicOp.TheVariants.{Pause}
 use Rattle.validate_visit.specs.declared.op.ControlOp.{ControlOp}
@@ -94,6 +94,7 @@ reference_gate (RefFunc f) = ReferenceTypes
 reference_gate RefAsNonNull = FunctionReferences
 reference_gate (BrOnNull d) = FunctionReferences
 reference_gate (BrOnNonNull d) = FunctionReferences
+reference_gate _ = Gc
 
 abbrev pub table_gate : TableOp → Gate
 table_gate (TableInit segment i) = BulkMemory
@@ -109,3 +110,5 @@ gate_of (Memory op) = memory_gate op
 gate_of (Atomic op) = atomic_gate op
 gate_of (Reference op) = reference_gate op
 gate_of (Table op) = table_gate op
+gate_of (Struct op) = Gc
+gate_of (Array op) = Gc

@@ -12,7 +12,7 @@ use Rattle.validate_visit.specs.declared.frame.BlockType.{BlockType}
 use Rattle.validate_visit.specs.declared.frame.BlockType.TheVariants.{Empty, Val, FuncType}
 use Rattle.validate_visit.specs.declared.op.Op.{Op}
 use Rattle.validate_visit.specs.declared.op.Op.TheVariants.{Control, Numeric, Convert, Memory, Atomic}
-use Rattle.validate_visit.specs.declared.op.Op.TheVariants.{Reference, Table}
+use Rattle.validate_visit.specs.declared.op.Op.TheVariants.{Reference, Table, Struct, Array}
 use Rattle.validate_visit.specs.declared.op.ControlOp.{ControlOp}
 use Rattle.validate_visit.specs.declared.op.ControlOp.TheVariants.{Unreachable, Nop, Block, Loop, If, Else}
 use Rattle.validate_visit.specs.declared.op.ControlOp.TheVariants.{End, Br, BrIf, BrTable as BrTableOp}
@@ -23,7 +23,7 @@ use Rattle.validate_visit.specs.declared.op.ControlOp.TheVariants.{TypedSelectMu
 use Rattle.validate_visit.specs.declared.op.ControlOp.TheVariants.{LocalTee, GlobalGet, GlobalSet}
 use Rattle.validate_visit.specs.declared.memory.MemArg.{MemArg}
 use Rattle.validate_visit.specs.declared.memory.MemArgTarget.{MemArgTarget}
-use Rattle.validate_visit.specs.declared.memory.MemArgTarget.TheVariants.{Memory as InMemory}
+use Rattle.validate_visit.specs.declared.memory.MemArgTarget.TheVariants.{Memory as InMemory, Array as InArray}
 use Rattle.validate_visit.specs.declared.op.AtomicOp.{AtomicOp}
 use Rattle.validate_visit.specs.declared.op.AtomicOp.TheVariants.{AtomicNotify, AtomicWait, AtomicFence}
 use Rattle.validate_visit.specs.declared.op.AtomicOp.TheVariants.{AtomicLoad, AtomicStore, AtomicRmw}
@@ -37,6 +37,22 @@ use Rattle.validate_visit.specs.declared.op.NumericOp.{NumericOp}
 use Rattle.validate_visit.specs.declared.op.ReferenceOp.{ReferenceOp}
 use Rattle.validate_visit.specs.declared.op.ReferenceOp.TheVariants.{RefNull, RefIsNull, RefFunc}
 use Rattle.validate_visit.specs.declared.op.ReferenceOp.TheVariants.{RefAsNonNull, BrOnNull, BrOnNonNull}
+use Rattle.validate_visit.specs.declared.op.ReferenceOp.TheVariants.{RefEq, RefTestNonNull, RefTestNullable}
+use Rattle.validate_visit.specs.declared.op.ReferenceOp.TheVariants.{RefCastNonNull, RefCastNullable}
+use Rattle.validate_visit.specs.declared.op.ReferenceOp.TheVariants.{BrOnCast, BrOnCastFail, RefI31, I31Get}
+use Rattle.validate_visit.specs.declared.op.ReferenceOp.TheVariants.{AnyConvertExtern, ExternConvertAny}
+use Rattle.validate_visit.specs.declared.op.BranchCast.{BranchCast}
+use Rattle.validate_visit.specs.declared.op.StructOp.{StructOp}
+use Rattle.validate_visit.specs.declared.op.StructOp.TheVariants.{StructNew, StructNewDefault, StructGet}
+use Rattle.validate_visit.specs.declared.op.StructOp.TheVariants.{StructGetPacked, StructSet}
+use Rattle.validate_visit.specs.declared.op.FieldIndex.{FieldIndex}
+use Rattle.validate_visit.specs.declared.op.ArrayOp.{ArrayOp}
+use Rattle.validate_visit.specs.declared.op.ArrayOp.TheVariants.{ArrayNew, ArrayNewDefault, ArrayNewFixed}
+use Rattle.validate_visit.specs.declared.op.ArrayOp.TheVariants.{ArrayNewData, ArrayNewElem, ArrayGet}
+use Rattle.validate_visit.specs.declared.op.ArrayOp.TheVariants.{ArrayGetPacked, ArraySet, ArrayLen}
+use Rattle.validate_visit.specs.declared.op.ArrayOp.TheVariants.{ArrayFill, ArrayCopy, ArrayInitData}
+use Rattle.validate_visit.specs.declared.op.ArrayOp.TheVariants.{ArrayInitElem}
+use Rattle.validate_types.specs.declared.refs.RefType.{RefType}
 use Rattle.validate_visit.specs.declared.op.TableOp.{TableOp}
 use Rattle.validate_visit.specs.declared.op.TableOp.TheVariants.{TableGet, TableSet, TableGrow, TableSize}
 use Rattle.validate_visit.specs.declared.op.TableOp.TheVariants.{TableFill, TableInit, ElemDrop, TableCopy}
@@ -57,8 +73,11 @@ is_module_heap (Concrete (Module i)) = is_index i
 is_module_heap (Concrete (Id id)) = false
 is_module_heap (Abstract shared ty) = true
 
+abbrev pub is_module_ref : RefType → Bool
+is_module_ref r = is_module_heap r.heap_type
+
 abbrev pub is_module_type : ValType → Bool
-is_module_type (Ref r) = is_module_heap r.heap_type
+is_module_type (Ref r) = is_module_ref r
 is_module_type _ = true
 
 -- a block type is nothing, a type, or the index of a function type
@@ -109,6 +128,7 @@ is_module_numeric _ = true
 -- what is accessed
 abbrev pub is_module_target : MemArgTarget → Bool
 is_module_target (InMemory i) = is_index i
+is_module_target (InArray i) = is_index i
 
 -- two exponents of 2, what is added to an address, and what is accessed
 abbrev pub is_module_access : MemArg → Bool
@@ -139,6 +159,11 @@ is_module_atomic (AtomicStore access arg) = is_module_access arg
 is_module_atomic (AtomicRmw access op arg) = is_module_access arg
 is_module_atomic (AtomicCmpxchg access arg) = is_module_access arg
 
+-- a label and two types
+abbrev pub is_module_cast : BranchCast → Bool
+is_module_cast cast =
+    is_index cast.relative_depth && (is_module_ref cast.from_ref_type && is_module_ref cast.to_ref_type)
+
 abbrev pub is_module_reference : ReferenceOp → Bool
 is_module_reference (RefNull h) = is_module_heap h
 is_module_reference RefIsNull = true
@@ -146,6 +171,17 @@ is_module_reference (RefFunc i) = is_index i
 is_module_reference RefAsNonNull = true
 is_module_reference (BrOnNull i) = is_index i
 is_module_reference (BrOnNonNull i) = is_index i
+is_module_reference RefEq = true
+is_module_reference (RefTestNonNull h) = is_module_heap h
+is_module_reference (RefTestNullable h) = is_module_heap h
+is_module_reference (RefCastNonNull h) = is_module_heap h
+is_module_reference (RefCastNullable h) = is_module_heap h
+is_module_reference (BrOnCast cast) = is_module_cast cast
+is_module_reference (BrOnCastFail cast) = is_module_cast cast
+is_module_reference RefI31 = true
+is_module_reference (I31Get sign) = true
+is_module_reference AnyConvertExtern = true
+is_module_reference ExternConvertAny = true
 
 abbrev pub is_module_table : TableOp → Bool
 is_module_table (TableGet i) = is_index i
@@ -157,6 +193,32 @@ is_module_table (TableInit i j) = is_index i && is_index j
 is_module_table (ElemDrop i) = is_index i
 is_module_table (TableCopy i j) = is_index i && is_index j
 
+-- a struct type and a field of it
+abbrev pub is_module_field : FieldIndex → Bool
+is_module_field field = is_index field.struct_type_index && is_index field.field_index
+
+abbrev pub is_module_struct : StructOp → Bool
+is_module_struct (StructNew i) = is_index i
+is_module_struct (StructNewDefault i) = is_index i
+is_module_struct (StructGet field) = is_module_field field
+is_module_struct (StructGetPacked sign field) = is_module_field field
+is_module_struct (StructSet field) = is_module_field field
+
+abbrev pub is_module_array : ArrayOp → Bool
+is_module_array (ArrayNew i) = is_index i
+is_module_array (ArrayNewDefault i) = is_index i
+is_module_array (ArrayNewFixed i n) = is_index i && is_index n
+is_module_array (ArrayNewData i j) = is_index i && is_index j
+is_module_array (ArrayNewElem i j) = is_index i && is_index j
+is_module_array (ArrayGet i) = is_index i
+is_module_array (ArrayGetPacked sign i) = is_index i
+is_module_array (ArraySet i) = is_index i
+is_module_array ArrayLen = true
+is_module_array (ArrayFill i) = is_index i
+is_module_array (ArrayCopy i j) = is_index i && is_index j
+is_module_array (ArrayInitData i j) = is_index i && is_index j
+is_module_array (ArrayInitElem i j) = is_index i && is_index j
+
 abbrev pub is_module_op : Op → Bool
 is_module_op (Control op) = is_module_control op
 is_module_op (Numeric op) = is_module_numeric op
@@ -165,3 +227,5 @@ is_module_op (Memory op) = is_module_memory op
 is_module_op (Atomic op) = is_module_atomic op
 is_module_op (Reference op) = is_module_reference op
 is_module_op (Table op) = is_module_table op
+is_module_op (Struct op) = is_module_struct op
+is_module_op (Array op) = is_module_array op

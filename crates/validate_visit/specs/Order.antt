@@ -7,7 +7,7 @@ use Rattle.validate_visit.specs.declared.frame.FrameKind.TheVariants.{Block, Loo
 use Rattle.validate_visit.specs.declared.frame.FrameKind.TheVariants.{LegacyCatch, LegacyCatchAll}
 use Rattle.validate_visit.specs.declared.op.Op.{Op}
 use Rattle.validate_visit.specs.declared.op.Op.TheVariants.{Control, Numeric, Convert, Memory, Atomic}
-use Rattle.validate_visit.specs.declared.op.Op.TheVariants.{Reference, Table}
+use Rattle.validate_visit.specs.declared.op.Op.TheVariants.{Reference, Table, Struct, Array}
 use Rattle.validate_visit.specs.declared.op.ControlOp.{ControlOp}
 use Rattle.validate_visit.specs.declared.op.ControlOp.TheVariants.{Block as BlockOp, Loop as LoopOp}
 use Rattle.validate_visit.specs.declared.op.ControlOp.TheVariants.{If as IfOp, Else as ElseOp, End}
@@ -115,6 +115,8 @@ nesting (Memory op) = Stays
 nesting (Atomic op) = Stays
 nesting (Reference op) = Stays
 nesting (Table op) = Stays
+nesting (Struct op) = Stays
+nesting (Array op) = Stays
 
 -- Reading from an open outermost frame: openers nest, `else` stands in an `if` part, `catch` and
 -- `catch_all` in a `try` or `catch` part, `delegate` closes a `try` part, `end` closes any, and nothing

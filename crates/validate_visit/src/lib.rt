@@ -28,6 +28,7 @@ pub use crate::numeric::{
     IntegerUnaryOp,
 };
 pub use crate::op::{
-    AtomicOp, ControlOp, ConvertOp, MemoryOp, NumericOp, Op, ReferenceOp, TableOp,
+    ArrayOp, AtomicOp, BranchCast, ControlOp, ConvertOp, FieldIndex, MemoryOp, NumericOp, Op,
+    ReferenceOp, StructOp, TableOp,
 };
 pub use crate::order::is_well_ordered;

@@ -8,11 +8,12 @@ ghost use Rattle.validate_visit.specs.declared.memory.AtomicAccess.TheVariants.{
 ghost use Rattle.validate_visit.specs.declared.numbers.PackedInteger.TheVariants.{I32Bits8, I32Bits16, I64Bits8, I64Bits16, I64Bits32};
 ghost use Rattle.validate_visit.specs.declared.numbers.Sign.TheVariants.{Signed, Unsigned};
 
-use validate_types::{HeapType, ValType};
+use validate_types::{HeapType, RefType, ValType};
 use validate_visit::{
-    AtomicRmwOp, BlockType, BrTable, ControlOp, ConvertOp, FloatBinaryOp, FloatComparisonOp,
-    FloatType, FloatUnaryOp, Ieee32, Ieee64, IntegerBinaryOp, IntegerComparisonOp, IntegerType,
-    IntegerUnaryOp, MemArg, MemoryOp, NumberType, Op, Ordering, ReferenceOp, TableOp,
+    ArrayOp, AtomicRmwOp, BlockType, BrTable, ControlOp, ConvertOp, FloatBinaryOp,
+    FloatComparisonOp, FloatType, FloatUnaryOp, Ieee32, Ieee64, IntegerBinaryOp,
+    IntegerComparisonOp, IntegerType, IntegerUnaryOp, MemArg, MemoryOp, NumberType, Op, Ordering,
+    ReferenceOp, StructOp, TableOp,
 };
 
 /// Visits operators (wasmparser's `VisitOperator`): one call for each operator, with its immediates.
@@ -1611,6 +1612,247 @@ pub trait VisitOperator<'a> {
     fn visit_table_copy(&mut self, dst_table: u32, src_table: u32) -> Self::Output
         requires { can_visit self.old (Op.Table (TableOp.TableCopy dst_table src_table)) }
         ensures { visits self.old (Op.Table (TableOp.TableCopy dst_table src_table)) result self.new };
+
+    /// `ref.eq`
+    fn visit_ref_eq(&mut self) -> Self::Output
+        requires { can_visit self.old (Op.Reference ReferenceOp.RefEq) }
+        ensures { visits self.old (Op.Reference ReferenceOp.RefEq) result self.new };
+
+    /// `ref.test` of a reference without null, `ref.test (ref ht)`
+    fn visit_ref_test_non_null(&mut self, heap_type: HeapType) -> Self::Output
+        requires { can_visit self.old (Op.Reference (ReferenceOp.RefTestNonNull heap_type)) }
+        ensures { visits self.old (Op.Reference (ReferenceOp.RefTestNonNull heap_type)) result self.new };
+
+    /// `ref.test` of a reference or null, `ref.test (ref null ht)`
+    fn visit_ref_test_nullable(&mut self, heap_type: HeapType) -> Self::Output
+        requires { can_visit self.old (Op.Reference (ReferenceOp.RefTestNullable heap_type)) }
+        ensures { visits self.old (Op.Reference (ReferenceOp.RefTestNullable heap_type)) result self.new };
+
+    /// `ref.cast` of a reference without null, `ref.cast (ref ht)`
+    fn visit_ref_cast_non_null(&mut self, heap_type: HeapType) -> Self::Output
+        requires { can_visit self.old (Op.Reference (ReferenceOp.RefCastNonNull heap_type)) }
+        ensures { visits self.old (Op.Reference (ReferenceOp.RefCastNonNull heap_type)) result self.new };
+
+    /// `ref.cast` of a reference or null, `ref.cast (ref null ht)`
+    fn visit_ref_cast_nullable(&mut self, heap_type: HeapType) -> Self::Output
+        requires { can_visit self.old (Op.Reference (ReferenceOp.RefCastNullable heap_type)) }
+        ensures { visits self.old (Op.Reference (ReferenceOp.RefCastNullable heap_type)) result self.new };
+
+    /// `br_on_cast`
+    fn visit_br_on_cast(
+        &mut self,
+        relative_depth: u32,
+        from_ref_type: RefType,
+        to_ref_type: RefType,
+    ) -> Self::Output
+        requires { can_visit self.old (Op.Reference (ReferenceOp.BrOnCast (record {
+          relative_depth =
+              relative_depth;
+          from_ref_type = from_ref_type;
+          to_ref_type = to_ref_type;
+        }))) }
+        ensures { visits self.old (Op.Reference (ReferenceOp.BrOnCast (record {
+          relative_depth =
+              relative_depth;
+          from_ref_type = from_ref_type;
+          to_ref_type = to_ref_type;
+        }))) result self.new };
+
+    /// `br_on_cast_fail`
+    fn visit_br_on_cast_fail(
+        &mut self,
+        relative_depth: u32,
+        from_ref_type: RefType,
+        to_ref_type: RefType,
+    ) -> Self::Output
+        requires { can_visit self.old (Op.Reference (ReferenceOp.BrOnCastFail (record {
+          relative_depth =
+              relative_depth;
+          from_ref_type = from_ref_type;
+          to_ref_type = to_ref_type;
+        }))) }
+        ensures { visits self.old (Op.Reference (ReferenceOp.BrOnCastFail (record {
+          relative_depth =
+              relative_depth;
+          from_ref_type = from_ref_type;
+          to_ref_type = to_ref_type;
+        }))) result self.new };
+
+    /// `any.convert_extern`
+    fn visit_any_convert_extern(&mut self) -> Self::Output
+        requires { can_visit self.old (Op.Reference ReferenceOp.AnyConvertExtern) }
+        ensures { visits self.old (Op.Reference ReferenceOp.AnyConvertExtern) result self.new };
+
+    /// `extern.convert_any`
+    fn visit_extern_convert_any(&mut self) -> Self::Output
+        requires { can_visit self.old (Op.Reference ReferenceOp.ExternConvertAny) }
+        ensures { visits self.old (Op.Reference ReferenceOp.ExternConvertAny) result self.new };
+
+    /// `ref.i31`
+    fn visit_ref_i31(&mut self) -> Self::Output
+        requires { can_visit self.old (Op.Reference ReferenceOp.RefI31) }
+        ensures { visits self.old (Op.Reference ReferenceOp.RefI31) result self.new };
+
+    /// `i31.get_s`
+    fn visit_i31_get_s(&mut self) -> Self::Output
+        requires { can_visit self.old (Op.Reference (ReferenceOp.I31Get Signed)) }
+        ensures { visits self.old (Op.Reference (ReferenceOp.I31Get Signed)) result self.new };
+
+    /// `i31.get_u`
+    fn visit_i31_get_u(&mut self) -> Self::Output
+        requires { can_visit self.old (Op.Reference (ReferenceOp.I31Get Unsigned)) }
+        ensures { visits self.old (Op.Reference (ReferenceOp.I31Get Unsigned)) result self.new };
+
+    /// `struct.new`
+    fn visit_struct_new(&mut self, struct_type_index: u32) -> Self::Output
+        requires { can_visit self.old (Op.Struct (StructOp.StructNew struct_type_index)) }
+        ensures { visits self.old (Op.Struct (StructOp.StructNew struct_type_index)) result self.new };
+
+    /// `struct.new_default`
+    fn visit_struct_new_default(&mut self, struct_type_index: u32) -> Self::Output
+        requires { can_visit self.old (Op.Struct (StructOp.StructNewDefault struct_type_index)) }
+        ensures { visits self.old (Op.Struct (StructOp.StructNewDefault struct_type_index)) result self.new };
+
+    /// `struct.get`
+    fn visit_struct_get(&mut self, struct_type_index: u32, field_index: u32) -> Self::Output
+        requires { can_visit self.old (Op.Struct (StructOp.StructGet (record {
+          struct_type_index =
+              struct_type_index;
+          field_index = field_index;
+        }))) }
+        ensures { visits self.old (Op.Struct (StructOp.StructGet (record {
+          struct_type_index =
+              struct_type_index;
+          field_index = field_index;
+        }))) result self.new };
+
+    /// `struct.get_s`
+    fn visit_struct_get_s(&mut self, struct_type_index: u32, field_index: u32) -> Self::Output
+        requires { can_visit self.old (Op.Struct (StructOp.StructGetPacked Signed (record {
+          struct_type_index = struct_type_index;
+          field_index = field_index;
+        }))) }
+        ensures { visits self.old (Op.Struct (StructOp.StructGetPacked Signed (record {
+          struct_type_index =
+              struct_type_index;
+          field_index = field_index;
+        }))) result self.new };
+
+    /// `struct.get_u`
+    fn visit_struct_get_u(&mut self, struct_type_index: u32, field_index: u32) -> Self::Output
+        requires { can_visit self.old (Op.Struct (StructOp.StructGetPacked Unsigned (record {
+          struct_type_index = struct_type_index;
+          field_index = field_index;
+        }))) }
+        ensures { visits self.old (Op.Struct (StructOp.StructGetPacked Unsigned (record {
+          struct_type_index
+              = struct_type_index;
+          field_index = field_index;
+        }))) result self.new };
+
+    /// `struct.set`
+    fn visit_struct_set(&mut self, struct_type_index: u32, field_index: u32) -> Self::Output
+        requires { can_visit self.old (Op.Struct (StructOp.StructSet (record {
+          struct_type_index =
+              struct_type_index;
+          field_index = field_index;
+        }))) }
+        ensures { visits self.old (Op.Struct (StructOp.StructSet (record {
+          struct_type_index =
+              struct_type_index;
+          field_index = field_index;
+        }))) result self.new };
+
+    /// `array.new`
+    fn visit_array_new(&mut self, array_type_index: u32) -> Self::Output
+        requires { can_visit self.old (Op.Array (ArrayOp.ArrayNew array_type_index)) }
+        ensures { visits self.old (Op.Array (ArrayOp.ArrayNew array_type_index)) result self.new };
+
+    /// `array.new_default`
+    fn visit_array_new_default(&mut self, array_type_index: u32) -> Self::Output
+        requires { can_visit self.old (Op.Array (ArrayOp.ArrayNewDefault array_type_index)) }
+        ensures { visits self.old (Op.Array (ArrayOp.ArrayNewDefault array_type_index)) result self.new };
+
+    /// `array.new_fixed`
+    fn visit_array_new_fixed(&mut self, array_type_index: u32, array_size: u32) -> Self::Output
+        requires { can_visit self.old (Op.Array (ArrayOp.ArrayNewFixed array_type_index array_size)) }
+        ensures { visits self.old (Op.Array (ArrayOp.ArrayNewFixed array_type_index array_size)) result
+            self.new };
+
+    /// `array.new_data`
+    fn visit_array_new_data(&mut self, array_type_index: u32, array_data_index: u32) -> Self::Output
+        requires { can_visit self.old (Op.Array (ArrayOp.ArrayNewData array_type_index array_data_index)) }
+        ensures { visits self.old (Op.Array (ArrayOp.ArrayNewData array_type_index array_data_index)) result
+            self.new };
+
+    /// `array.new_elem`
+    fn visit_array_new_elem(&mut self, array_type_index: u32, array_elem_index: u32) -> Self::Output
+        requires { can_visit self.old (Op.Array (ArrayOp.ArrayNewElem array_type_index array_elem_index)) }
+        ensures { visits self.old (Op.Array (ArrayOp.ArrayNewElem array_type_index array_elem_index)) result
+            self.new };
+
+    /// `array.get`
+    fn visit_array_get(&mut self, array_type_index: u32) -> Self::Output
+        requires { can_visit self.old (Op.Array (ArrayOp.ArrayGet array_type_index)) }
+        ensures { visits self.old (Op.Array (ArrayOp.ArrayGet array_type_index)) result self.new };
+
+    /// `array.get_s`
+    fn visit_array_get_s(&mut self, array_type_index: u32) -> Self::Output
+        requires { can_visit self.old (Op.Array (ArrayOp.ArrayGetPacked Signed array_type_index)) }
+        ensures { visits self.old (Op.Array (ArrayOp.ArrayGetPacked Signed array_type_index)) result
+            self.new };
+
+    /// `array.get_u`
+    fn visit_array_get_u(&mut self, array_type_index: u32) -> Self::Output
+        requires { can_visit self.old (Op.Array (ArrayOp.ArrayGetPacked Unsigned array_type_index)) }
+        ensures { visits self.old (Op.Array (ArrayOp.ArrayGetPacked Unsigned array_type_index)) result
+            self.new };
+
+    /// `array.set`
+    fn visit_array_set(&mut self, array_type_index: u32) -> Self::Output
+        requires { can_visit self.old (Op.Array (ArrayOp.ArraySet array_type_index)) }
+        ensures { visits self.old (Op.Array (ArrayOp.ArraySet array_type_index)) result self.new };
+
+    /// `array.len`
+    fn visit_array_len(&mut self) -> Self::Output
+        requires { can_visit self.old (Op.Array ArrayOp.ArrayLen) }
+        ensures { visits self.old (Op.Array ArrayOp.ArrayLen) result self.new };
+
+    /// `array.fill`
+    fn visit_array_fill(&mut self, array_type_index: u32) -> Self::Output
+        requires { can_visit self.old (Op.Array (ArrayOp.ArrayFill array_type_index)) }
+        ensures { visits self.old (Op.Array (ArrayOp.ArrayFill array_type_index)) result self.new };
+
+    /// `array.copy`
+    fn visit_array_copy(
+        &mut self,
+        array_type_index_dst: u32,
+        array_type_index_src: u32,
+    ) -> Self::Output
+        requires { can_visit self.old (Op.Array (ArrayOp.ArrayCopy array_type_index_dst
+            array_type_index_src)) }
+        ensures { visits self.old (Op.Array (ArrayOp.ArrayCopy array_type_index_dst array_type_index_src))
+            result self.new };
+
+    /// `array.init_data`
+    fn visit_array_init_data(
+        &mut self,
+        array_type_index: u32,
+        array_data_index: u32,
+    ) -> Self::Output
+        requires { can_visit self.old (Op.Array (ArrayOp.ArrayInitData array_type_index array_data_index)) }
+        ensures { visits self.old (Op.Array (ArrayOp.ArrayInitData array_type_index array_data_index))
+            result self.new };
+
+    /// `array.init_elem`
+    fn visit_array_init_elem(
+        &mut self,
+        array_type_index: u32,
+        array_elem_index: u32,
+    ) -> Self::Output
+        requires { can_visit self.old (Op.Array (ArrayOp.ArrayInitElem array_type_index array_elem_index)) }
+        ensures { visits self.old (Op.Array (ArrayOp.ArrayInitElem array_type_index array_elem_index))
+            result self.new };
 
     /// The visit that `op` names.
     fn visit_operator(&mut self, op: Op<'a>) -> Self::Output

@@ -10,14 +10,14 @@ ghost use Rattle.validate_body.specs.Start.{state, stacks_of};
 use crate::visitor::VisitOperator;
 use validate_body::WasmProposalValidator;
 use validate_resources::WasmModuleResources;
-use validate_types::{Error, HeapType, ValType};
+use validate_types::{Error, HeapType, RefType, ValType};
 use validate_visit::AtomicAccess::{Packed, Whole};
 use validate_visit::Sign::{Signed, Unsigned};
 use validate_visit::{
-    AtomicOp, AtomicRmwOp, BlockType, BrTable, ControlOp, ConvertOp, FloatBinaryOp,
-    FloatComparisonOp, FloatType, FloatUnaryOp, Ieee32, Ieee64, IntegerBinaryOp,
-    IntegerComparisonOp, IntegerType, IntegerUnaryOp, MemArg, MemoryOp, NumberType, NumericOp, Op,
-    Ordering, PackedInteger, ReferenceOp, TableOp,
+    ArrayOp, AtomicOp, AtomicRmwOp, BlockType, BrTable, BranchCast, ControlOp, ConvertOp,
+    FieldIndex, FloatBinaryOp, FloatComparisonOp, FloatType, FloatUnaryOp, Ieee32, Ieee64,
+    IntegerBinaryOp, IntegerComparisonOp, IntegerType, IntegerUnaryOp, MemArg, MemoryOp,
+    NumberType, NumericOp, Op, Ordering, PackedInteger, ReferenceOp, StructOp, TableOp,
 };
 
 impl<'a, 'validator, 'resources, R: WasmModuleResources> VisitOperator<'a>
@@ -1356,6 +1356,220 @@ impl<'a, 'validator, 'resources, R: WasmModuleResources> VisitOperator<'a>
         self.check_table(TableOp::TableCopy {
             dst_table,
             src_table,
+        })
+    }
+
+    fn visit_ref_eq(&mut self) -> Result<(), Error> {
+        self.check_reference(ReferenceOp::RefEq)
+    }
+
+    fn visit_ref_test_non_null(&mut self, heap_type: HeapType) -> Result<(), Error> {
+        self.check_reference(ReferenceOp::RefTestNonNull(heap_type))
+    }
+
+    fn visit_ref_test_nullable(&mut self, heap_type: HeapType) -> Result<(), Error> {
+        self.check_reference(ReferenceOp::RefTestNullable(heap_type))
+    }
+
+    fn visit_ref_cast_non_null(&mut self, heap_type: HeapType) -> Result<(), Error> {
+        self.check_reference(ReferenceOp::RefCastNonNull(heap_type))
+    }
+
+    fn visit_ref_cast_nullable(&mut self, heap_type: HeapType) -> Result<(), Error> {
+        self.check_reference(ReferenceOp::RefCastNullable(heap_type))
+    }
+
+    fn visit_br_on_cast(
+        &mut self,
+        relative_depth: u32,
+        from_ref_type: RefType,
+        to_ref_type: RefType,
+    ) -> Result<(), Error> {
+        self.check_reference(ReferenceOp::BrOnCast(BranchCast {
+            relative_depth,
+            from_ref_type,
+            to_ref_type,
+        }))
+    }
+
+    fn visit_br_on_cast_fail(
+        &mut self,
+        relative_depth: u32,
+        from_ref_type: RefType,
+        to_ref_type: RefType,
+    ) -> Result<(), Error> {
+        self.check_reference(ReferenceOp::BrOnCastFail(BranchCast {
+            relative_depth,
+            from_ref_type,
+            to_ref_type,
+        }))
+    }
+
+    fn visit_any_convert_extern(&mut self) -> Result<(), Error> {
+        self.check_reference(ReferenceOp::AnyConvertExtern)
+    }
+
+    fn visit_extern_convert_any(&mut self) -> Result<(), Error> {
+        self.check_reference(ReferenceOp::ExternConvertAny)
+    }
+
+    fn visit_ref_i31(&mut self) -> Result<(), Error> {
+        self.check_reference(ReferenceOp::RefI31)
+    }
+
+    fn visit_i31_get_s(&mut self) -> Result<(), Error> {
+        self.check_reference(ReferenceOp::I31Get(Signed))
+    }
+
+    fn visit_i31_get_u(&mut self) -> Result<(), Error> {
+        self.check_reference(ReferenceOp::I31Get(Unsigned))
+    }
+
+    fn visit_struct_new(&mut self, struct_type_index: u32) -> Result<(), Error> {
+        self.check_struct(StructOp::StructNew(struct_type_index))
+    }
+
+    fn visit_struct_new_default(&mut self, struct_type_index: u32) -> Result<(), Error> {
+        self.check_struct(StructOp::StructNewDefault(struct_type_index))
+    }
+
+    fn visit_struct_get(&mut self, struct_type_index: u32, field_index: u32) -> Result<(), Error> {
+        self.check_struct(StructOp::StructGet(FieldIndex {
+            struct_type_index,
+            field_index,
+        }))
+    }
+
+    fn visit_struct_get_s(
+        &mut self,
+        struct_type_index: u32,
+        field_index: u32,
+    ) -> Result<(), Error> {
+        self.check_struct(StructOp::StructGetPacked(
+            Signed,
+            FieldIndex {
+                struct_type_index,
+                field_index,
+            },
+        ))
+    }
+
+    fn visit_struct_get_u(
+        &mut self,
+        struct_type_index: u32,
+        field_index: u32,
+    ) -> Result<(), Error> {
+        self.check_struct(StructOp::StructGetPacked(
+            Unsigned,
+            FieldIndex {
+                struct_type_index,
+                field_index,
+            },
+        ))
+    }
+
+    fn visit_struct_set(&mut self, struct_type_index: u32, field_index: u32) -> Result<(), Error> {
+        self.check_struct(StructOp::StructSet(FieldIndex {
+            struct_type_index,
+            field_index,
+        }))
+    }
+
+    fn visit_array_new(&mut self, array_type_index: u32) -> Result<(), Error> {
+        self.check_array(ArrayOp::ArrayNew(array_type_index))
+    }
+
+    fn visit_array_new_default(&mut self, array_type_index: u32) -> Result<(), Error> {
+        self.check_array(ArrayOp::ArrayNewDefault(array_type_index))
+    }
+
+    fn visit_array_new_fixed(
+        &mut self,
+        array_type_index: u32,
+        array_size: u32,
+    ) -> Result<(), Error> {
+        self.check_array(ArrayOp::ArrayNewFixed {
+            array_type_index,
+            array_size,
+        })
+    }
+
+    fn visit_array_new_data(
+        &mut self,
+        array_type_index: u32,
+        array_data_index: u32,
+    ) -> Result<(), Error> {
+        self.check_array(ArrayOp::ArrayNewData {
+            array_type_index,
+            array_data_index,
+        })
+    }
+
+    fn visit_array_new_elem(
+        &mut self,
+        array_type_index: u32,
+        array_elem_index: u32,
+    ) -> Result<(), Error> {
+        self.check_array(ArrayOp::ArrayNewElem {
+            array_type_index,
+            array_elem_index,
+        })
+    }
+
+    fn visit_array_get(&mut self, array_type_index: u32) -> Result<(), Error> {
+        self.check_array(ArrayOp::ArrayGet(array_type_index))
+    }
+
+    fn visit_array_get_s(&mut self, array_type_index: u32) -> Result<(), Error> {
+        self.check_array(ArrayOp::ArrayGetPacked(Signed, array_type_index))
+    }
+
+    fn visit_array_get_u(&mut self, array_type_index: u32) -> Result<(), Error> {
+        self.check_array(ArrayOp::ArrayGetPacked(Unsigned, array_type_index))
+    }
+
+    fn visit_array_set(&mut self, array_type_index: u32) -> Result<(), Error> {
+        self.check_array(ArrayOp::ArraySet(array_type_index))
+    }
+
+    fn visit_array_len(&mut self) -> Result<(), Error> {
+        self.check_array(ArrayOp::ArrayLen)
+    }
+
+    fn visit_array_fill(&mut self, array_type_index: u32) -> Result<(), Error> {
+        self.check_array(ArrayOp::ArrayFill(array_type_index))
+    }
+
+    fn visit_array_copy(
+        &mut self,
+        array_type_index_dst: u32,
+        array_type_index_src: u32,
+    ) -> Result<(), Error> {
+        self.check_array(ArrayOp::ArrayCopy {
+            array_type_index_dst,
+            array_type_index_src,
+        })
+    }
+
+    fn visit_array_init_data(
+        &mut self,
+        array_type_index: u32,
+        array_data_index: u32,
+    ) -> Result<(), Error> {
+        self.check_array(ArrayOp::ArrayInitData {
+            array_type_index,
+            array_data_index,
+        })
+    }
+
+    fn visit_array_init_elem(
+        &mut self,
+        array_type_index: u32,
+        array_elem_index: u32,
+    ) -> Result<(), Error> {
+        self.check_array(ArrayOp::ArrayInitElem {
+            array_type_index,
+            array_elem_index,
         })
     }
 

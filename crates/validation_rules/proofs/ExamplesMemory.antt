@@ -3,10 +3,18 @@
 use Rattle.std.proofs.Common.{◌≡◌, ◌+◌, ◌-◌, ℕ, pos, nat_eq, Bool, true, false, List, [], ◌∷◌, ◌++◌, length, map, Option, Some, None, refl}
 use Rattle.validate_resources.specs.Context.{is_address_type}
 use Rattle.validate_resources.specs.Lists.{Declared, context_of}
-use Rattle.validate_types.specs.Features.{floats, bulk_memory, bulk_memory_opt, threads, memory_control, acquire_release_atomics}
+use Rattle.validate_types.specs.Features.{floats, bulk_memory, bulk_memory_opt, threads, memory_control, acquire_release_atomics, multibyte_array_access}
+use Rattle.validate_types.specs.Refs.{nullable_reference}
+use Rattle.validate_types.specs.declared.heap.AbstractHeapType.TheVariants.{Func as FuncHeap}
+use Rattle.validate_types.specs.declared.heap.HeapType.TheVariants.{Abstract, Concrete}
+use Rattle.validate_types.specs.declared.heap.UnpackedIndex.TheVariants.{Module, Id}
+use Rattle.validate_types.specs.declared.types.CompositeInnerType.{CompositeInnerType}
+use Rattle.validate_types.specs.declared.types.CompositeInnerType.TheVariants.{Func as FuncInner, Array as ArrayInner}
 use Rattle.validate_types.specs.declared.types.MemoryType.{MemoryType}
+use Rattle.validate_types.specs.declared.types.StorageType.{StorageType}
+use Rattle.validate_types.specs.declared.types.StorageType.TheVariants.{I8, Val as StoredWhole}
 use Rattle.validate_visit.specs.declared.memory.MemArg.{MemArg}
-use Rattle.validate_visit.specs.declared.memory.MemArgTarget.TheVariants.{Memory as InMemory}
+use Rattle.validate_visit.specs.declared.memory.MemArgTarget.TheVariants.{Memory as InMemory, Array as InArray}
 use Rattle.validate_visit.specs.declared.memory.Ordering.TheVariants.{SeqCst, AcqRel}
 use Rattle.validate_visit.specs.declared.memory.AtomicAccess.{AtomicAccess}
 use Rattle.validate_visit.specs.declared.memory.AtomicAccess.TheVariants.{Whole, Packed}
@@ -23,8 +31,9 @@ use Rattle.validate_visit.specs.declared.op.MemoryOp.{MemoryOp}
 use Rattle.validate_visit.specs.declared.op.MemoryOp.TheVariants.{Load, LoadPacked, Store, StorePacked, MemorySize, MemoryGrow, MemoryInit, DataDrop, MemoryCopy, MemoryFill, MemoryDiscard}
 use Rattle.validate_visit.specs.declared.op.NumericOp.TheVariants.{I32Const, I64Const}
 use Rattle.validate_visit.specs.declared.op.Op.{Op}
-use Rattle.validate_visit.specs.declared.op.Op.TheVariants.{Control, Numeric, Memory, Atomic}
-use Rattle.validation_rules.specs.Context.{ValType, I32, I64, F32, F64, V128, BlockType, Empty, Val, Context}
+use Rattle.validate_visit.specs.declared.op.Op.TheVariants.{Control, Numeric, Memory, Atomic, Reference}
+use Rattle.validate_visit.specs.declared.op.ReferenceOp.TheVariants.{RefNull}
+use Rattle.validation_rules.specs.Context.{SubType, ValType, I32, I64, F32, F64, V128, Ref, BlockType, Empty, Val, Context}
 use Rattle.validation_rules.specs.Fits.{MaybeType, Known}
 use Rattle.validation_rules.specs.Rows.{Block}
 use Rattle.validation_rules.specs.Static.{State, open_state, state_before, start}
@@ -400,3 +409,107 @@ grows = refl
 
 grows_by_other : Refused (Memory (MemorySize 0) ∷ Memory (MemoryGrow 1) ∷ [])
 grows_by_other = refl
+
+-- ---- accesses of arrays, in a module of these types: 0 of packed integers, 1 of the same that can't be
+-- written, 2 of references, 3 of numbers and shared, and 4, which is no array
+
+abbrev a_type : CompositeInnerType → Bool → SubType
+a_type inner shared =
+    record { is_final = true; supertype_idx = None; composite_type = record { inner = inner; shared = shared } }
+
+abbrev array_of : StorageType → Bool → CompositeInnerType
+array_of held mutable = ArrayInner (record { 0 = record { element_type = held; mutable = mutable } })
+
+abbrev funcref : ValType
+funcref = Ref (nullable_reference (Abstract false FuncHeap))
+
+abbrev array_types : List SubType
+array_types =
+    a_type (array_of I8 true) false ∷ a_type (array_of I8 false) false ∷ a_type (array_of (StoredWhole funcref) true) false ∷ a_type (array_of (StoredWhole F64) true) true ∷ a_type (FuncInner (record { params = []; results = [] })) false ∷ []
+
+-- with these proposals on, in a function that is shared or isn't
+abbrev over_arrays : ℕ → Bool → Context
+over_arrays bits shared =
+    record { of_module = context_of (record (with_count None) { types = array_types }); features = record { 0 = bits }; shared = shared; locals = []; set_at_entry = [] }
+
+abbrev in_array : ℕ → MemArg
+in_array i = record (natural 0) { target = InArray i }
+
+-- a reference, perhaps null, to the type at this index
+abbrev to_type : ℕ → ValType
+to_type i = Ref (nullable_reference (Concrete (Id (record { index = i }))))
+
+abbrev load_and_store : MemArg → List Op
+load_and_store arg = Memory (Load NumberI32 arg) ∷ Memory (Store NumberI64 arg) ∷ []
+
+-- whether a load holds, and a store
+abbrev hold : Bool → MemArg → List Bool
+hold shared arg = map (premise (over_arrays every shared)) (load_and_store arg)
+
+-- the reference lies below the i32, whatever the places hold
+array_load : map (operator (over_arrays every false)) (Memory (Load NumberF64 (in_array 0)) ∷ Memory (LoadPacked I64Bits8 Sign.Signed (in_array 1)) ∷ []) ≡ row_operator (plain_row (to_type 0 ∷ I32 ∷ []) (F64 ∷ [])) ∷ row_operator (plain_row (to_type 1 ∷ I32 ∷ []) (I64 ∷ [])) ∷ []
+array_load = refl
+
+-- and what is stored above
+array_store : map (operator (over_arrays every true)) (Memory (Store NumberI64 (in_array 3)) ∷ Memory (StorePacked I32Bits16 (in_array 3)) ∷ []) ≡ row_operator (plain_row (to_type 3 ∷ I32 ∷ I64 ∷ []) []) ∷ row_operator (plain_row (to_type 3 ∷ I32 ∷ I32 ∷ []) []) ∷ []
+array_store = refl
+
+-- one that can't be written is loaded from alone
+array_immutable : hold false (in_array 1) ≡ true ∷ false ∷ []
+array_immutable = refl
+
+-- references, another type, and none
+array_of_references : hold false (in_array 2) ≡ false ∷ false ∷ []
+array_of_references = refl
+
+no_array : hold false (in_array 4) ≡ false ∷ false ∷ []
+no_array = refl
+
+no_array_type : hold false (in_array 5) ≡ false ∷ false ∷ []
+no_array_type = refl
+
+-- a shared function accesses what is shared
+array_unshared : hold true (in_array 0) ≡ false ∷ false ∷ []
+array_unshared = refl
+
+array_shared : hold true (in_array 3) ≡ true ∷ true ∷ []
+array_shared = refl
+
+-- the proposal alone is needed
+array_opened : map (premise (over_arrays multibyte_array_access false)) (load_and_store (in_array 0)) ≡ true ∷ true ∷ []
+array_opened = refl
+
+array_closed : map (premise (over_arrays (every - multibyte_array_access) false)) (load_and_store (in_array 0)) ≡ false ∷ false ∷ []
+array_closed = refl
+
+-- alignments as of a memory, and offsets as at an address of 32 bits
+array_aligned_less : hold false (record (smaller 0) { target = InArray 0 }) ≡ true ∷ true ∷ []
+array_aligned_less = refl
+
+array_aligned_more : hold false (record (greater 0) { target = InArray 0 }) ≡ false ∷ false ∷ []
+array_aligned_more = refl
+
+array_last_offset : hold false (record (at_offset 4294967295 0) { target = InArray 0 }) ≡ true ∷ true ∷ []
+array_last_offset = refl
+
+array_first_beyond : hold false (record (at_offset 4294967296 0) { target = InArray 0 }) ≡ false ∷ false ∷ []
+array_first_beyond = refl
+
+-- atomic operators access no array
+array_atomic : map (premise (over_arrays every false)) (atomic_accesses (in_array 0)) ≡ map (λ op. false) (atomic_accesses (in_array 0))
+array_atomic = refl
+
+abbrev null_array : Op
+null_array = Reference (RefNull (Concrete (Module 0)))
+
+abbrev after_array : List Op → Option State
+after_array ops = state_before (over_arrays every false) (operators (over_arrays every false) ops) (start (Val I32)) (length ops)
+
+array_body : after_array (null_array ∷ i32_const ∷ i32_load (in_array 0) ∷ end ∷ []) ≡ Some (record { frames = []; left = Known I32 ∷ [] })
+array_body = refl
+
+array_body_turned : after_array (i32_const ∷ null_array ∷ i32_load (in_array 0) ∷ []) ≡ None
+array_body_turned = refl
+
+array_body_as_memory : after_array (i32_const ∷ i32_load (in_array 0) ∷ []) ≡ None
+array_body_as_memory = refl

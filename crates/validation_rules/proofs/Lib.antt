@@ -13,3 +13,5 @@ mod ExamplesMemory
 mod ExamplesReferences
 mod ExamplesNull
 mod ExamplesTables
+mod ExamplesAggregates
+mod ExamplesCasts

@@ -11,8 +11,18 @@ use Rattle.validate_types.specs.declared.types.GlobalType.{GlobalType}
 use Rattle.validate_types.specs.declared.types.MemoryType.{MemoryType}
 use Rattle.validate_types.specs.declared.types.TableType.{TableType}
 use Rattle.validate_types.specs.declared.refs.RefType.{RefType}
+use Rattle.validate_types.specs.declared.heap.AbstractHeapType.{AbstractHeapType}
+use Rattle.validate_types.specs.declared.heap.AbstractHeapType.TheVariants.{Any, Extern, I31, Array as AnyArray}
 use Rattle.validate_types.specs.declared.heap.HeapType.{HeapType}
-use Rattle.validate_resources.specs.Context.{IsLawful, IsValidType, Valid, is_number_or_vector, signature_of}
+use Rattle.validate_types.specs.declared.heap.HeapType.TheVariants.{Concrete}
+use Rattle.validate_types.specs.declared.heap.UnpackedIndex.TheVariants.{Module}
+use Rattle.validate_types.specs.declared.types.CompositeInnerType.{CompositeInnerType}
+use Rattle.validate_types.specs.declared.types.CompositeInnerType.TheVariants.{Func as FuncKind, Array as ArrayKind, Struct as StructKind}
+use Rattle.validate_types.specs.declared.types.FieldType.{FieldType}
+use Rattle.validate_types.specs.Refs.{nullable_reference, non_null_reference, reference_to, difference, without_null}
+use Rattle.validate_types.specs.Types.{unpacked_type, unpacked_fields}
+use Rattle.std.proofs.lemmas.Option.{slice_get-map}
+use Rattle.validate_resources.specs.Context.{IsLawful, IsValidType, Valid, is_valid_heap, is_number_or_vector, signature_of, inner_fields}
 use Rattle.validate_visit.specs.Gates.{gate_of}
 use Rattle.validate_visit.specs.Numbers.{number_type, integer_type, float_type, packed_type, access_type}
 use Rattle.validate_visit.specs.declared.memory.AtomicAccess.{AtomicAccess}
@@ -26,7 +36,7 @@ use Rattle.validate_visit.specs.declared.numbers.NumberType.TheVariants.{I32 as 
 use Rattle.validate_visit.specs.declared.numbers.PackedInteger.{PackedInteger}
 use Rattle.validate_visit.specs.declared.numbers.PackedInteger.TheVariants.{I32Bits8, I32Bits16, I64Bits8, I64Bits16, I64Bits32}
 use Rattle.validate_visit.specs.declared.op.Op.{Op}
-use Rattle.validate_visit.specs.declared.op.Op.TheVariants.{Control, Numeric, Convert, Memory, Atomic, Reference, Table}
+use Rattle.validate_visit.specs.declared.op.Op.TheVariants.{Control, Numeric, Convert, Memory, Atomic, Reference, Table, Struct, Array}
 use Rattle.validate_visit.specs.declared.op.ControlOp.{ControlOp}
 use Rattle.validate_visit.specs.declared.op.ControlOp.TheVariants.{Unreachable, Nop, Block as BlockOp, Loop as LoopOp, If as IfOp, Else as ElseOp, End, Br, BrIf, BrTable, Return, Call, ReturnCall, CallIndirect, ReturnCallIndirect, CallRef, ReturnCallRef, Drop, Select, TypedSelect, TypedSelectMulti, LocalGet, LocalSet, LocalTee, GlobalGet, GlobalSet}
 use Rattle.validate_visit.specs.declared.op.NumericOp.{NumericOp}
@@ -38,20 +48,31 @@ use Rattle.validate_visit.specs.declared.op.MemoryOp.TheVariants.{Load, LoadPack
 use Rattle.validate_visit.specs.declared.op.AtomicOp.{AtomicOp}
 use Rattle.validate_visit.specs.declared.op.AtomicOp.TheVariants.{AtomicNotify, AtomicWait, AtomicFence, AtomicLoad, AtomicStore, AtomicRmw, AtomicCmpxchg, Pause}
 use Rattle.validate_visit.specs.declared.op.ReferenceOp.{ReferenceOp}
-use Rattle.validate_visit.specs.declared.op.ReferenceOp.TheVariants.{RefNull, RefIsNull, RefFunc, RefAsNonNull, BrOnNull, BrOnNonNull}
+use Rattle.validate_visit.specs.declared.op.ReferenceOp.TheVariants.{RefNull, RefIsNull, RefFunc, RefAsNonNull, BrOnNull, BrOnNonNull, RefEq, RefTestNonNull, RefTestNullable, RefCastNonNull, RefCastNullable, BrOnCast, BrOnCastFail, RefI31, I31Get, AnyConvertExtern, ExternConvertAny}
 use Rattle.validate_visit.specs.declared.op.TableOp.{TableOp}
 use Rattle.validate_visit.specs.declared.op.TableOp.TheVariants.{TableGet, TableSet, TableGrow, TableSize, TableFill, TableInit, ElemDrop, TableCopy}
-use Rattle.validation_rules.specs.Access.{memory_address_type, address_types, atomic_address_types, access_row, memory_copy_row_for}
+use Rattle.validate_visit.specs.declared.op.FieldIndex.{FieldIndex}
+use Rattle.validate_visit.specs.declared.op.StructOp.{StructOp}
+use Rattle.validate_visit.specs.declared.op.StructOp.TheVariants.{StructNew, StructNewDefault, StructGet, StructGetPacked, StructSet}
+use Rattle.validate_visit.specs.declared.op.ArrayOp.{ArrayOp}
+use Rattle.validate_visit.specs.declared.op.ArrayOp.TheVariants.{ArrayNew, ArrayNewDefault, ArrayNewFixed, ArrayNewData, ArrayNewElem, ArrayGet, ArrayGetPacked, ArraySet, ArrayLen, ArrayFill, ArrayCopy, ArrayInitData, ArrayInitElem}
+use Rattle.validate_visit.specs.declared.op.BranchCast.{BranchCast}
+use Rattle.validation_rules.specs.Access.{is_loadable, is_storable, address_types, atomic_address_types, access_row}
+use Rattle.validation_rules.specs.Memories.{memory_address_type, memory_copy_row_for}
 use Rattle.validation_rules.specs.Context.{ModuleContext, Signature, SubType, ValType, I32, I64, F32, F64, V128, Ref, BlockType, Empty, Val, FuncType, Context, empty_signature, block_signature}
-use Rattle.validation_rules.specs.Branches.{first_label_types, label_types_at}
+use Rattle.validation_rules.specs.Branches.{first_label_types, label_types_at, has_label}
 use Rattle.validation_rules.specs.Calls.{may_access, accessible_global, global_type, accessible_signature, callee, tail_call_row}
-use Rattle.validation_rules.specs.Indirect.{function_place, function_reference, typed_callee}
+use Rattle.validation_rules.specs.Indirect.{type_reference, function_place, function_reference, typed_callee}
 use Rattle.validation_rules.specs.References.{operand_without_null, null_test_pushes, non_null_pushes, br_on_null_row, last_reference, br_on_non_null_row_for, br_on_non_null_row, null_heap, is_null_gate_open, reference_row}
 use Rattle.validation_rules.specs.Tables.{accessible_table, table_type, table_init_row_for, table_copy_row_for, table_row}
+use Rattle.validation_rules.specs.Found.{found_pushes, measure_row, converted, ref_eq_pushes}
+use Rattle.validation_rules.specs.Casts.{CastTypes, checked_ref, is_castable, castable, cast_type, may_cast, checked_cast, split_last, cast_branch_row_for, cast_branch_row, types_on_cast, types_on_cast_fail}
+use Rattle.validation_rules.specs.Structs.{struct_fields, accessible_struct, struct_type, struct_field, field_value, is_packed_field, is_whole_field, struct_row}
+use Rattle.validation_rules.specs.Arrays.{array_element, accessible_array, array_type, is_read_from_data, is_read_from_elements, may_be_copied, array_copy_row_for, array_row}
 use Rattle.validation_rules.specs.Fits.{MaybeType, Bottom, UnknownRef, Known, fits}
 use Rattle.validation_rules.specs.Rows.{FrameKind, Block, If, Loop, is_loop, Head, params, results, Form, Stays, Opens, BeginsElse, BeginsCatch, Ends, Delegates, Plain, Row, Operator, pushed_for, operands_wanted, guard}
 use Rattle.validation_rules.specs.Static.{Frame, State, heads, locals_set, stack_with, operands_on_top, operands_found, operands_under, pushed_by_row, operands_after, state_after_exit, state_after, open_frames, step, step_in, state_before}
-use Rattle.validation_rules.specs.Operators.{plain_row, plain_row_if, is_accessible_func_type, checked_block, opener, staying_operator, row_operator, delimiter_operator, looking_row_if, drop_pushes, select_result, select_pushes, lookup_row, gated_operator, control_operator, numeric_row, convert_row, memory_row, atomic_row, ungated_operator, operator, operators}
+use Rattle.validation_rules.specs.Operators.{plain_row, plain_row_if, is_accessible_func_type, checked_block, opener, staying_operator, row_operator, delimiter_operator, looking_row_if, drop_pushes, select_result, select_pushes, lookup_row, lookups_row, gated_operator, control_operator, numeric_row, convert_row, memory_row, atomic_row, ungated_operator, operator, operators}
 use Rattle.validation_rules.specs.Valid.{IsValidOperand, Resolves, IsValidBlock, IsValidFrame, IsValidStateIn, RowsKeepValid}
 use Rattle.validation_rules.proofs.Keeping.{HeadIsValid, PushesValid, StepsKeepValid}
 use Rattle.validation_rules.proofs.Below.{and_true}
@@ -472,10 +493,10 @@ module _ (cx : Context) (laws : IsLawful cx.of_module) where
   access_valid (Some types) above push h = plain_valid _ None None (types ++ above) push false (λ p. h)
 
   memory_valid : (op : MemoryOp) → PushesValid cx (row_operator (memory_row cx op))
-  memory_valid (Load t arg) = access_valid (address_types cx.of_module arg) [] (number_type t ∷ []) (number_is_valid t, tt)
-  memory_valid (LoadPacked packed sign arg) = access_valid (address_types cx.of_module arg) [] (packed_type packed ∷ []) (packed_is_valid packed, tt)
-  memory_valid (Store t arg) = access_valid (address_types cx.of_module arg) (number_type t ∷ []) [] tt
-  memory_valid (StorePacked packed arg) = access_valid (address_types cx.of_module arg) (packed_type packed ∷ []) [] tt
+  memory_valid (Load t arg) = access_valid (address_types cx is_loadable arg) [] (number_type t ∷ []) (number_is_valid t, tt)
+  memory_valid (LoadPacked packed sign arg) = access_valid (address_types cx is_loadable arg) [] (packed_type packed ∷ []) (packed_is_valid packed, tt)
+  memory_valid (Store t arg) = access_valid (address_types cx is_storable arg) (number_type t ∷ []) [] tt
+  memory_valid (StorePacked packed arg) = access_valid (address_types cx is_storable arg) (packed_type packed ∷ []) [] tt
   memory_valid (MemorySize m) = by_lookup_valid (memory_address_type cx.of_module m) _ (λ t e. plain_valid _ _ _ _ _ _ (λ p. (index_valid m t e, tt)))
   memory_valid (MemoryGrow m) = by_lookup_valid (memory_address_type cx.of_module m) _ (λ t e. plain_valid _ _ _ _ _ _ (λ p. (index_valid m t e, tt)))
   memory_valid (MemoryInit segment m) = by_lookup_valid (memory_address_type cx.of_module m) _ (λ t e. numbers_pushed _ _ _ _ _ _ refl)
@@ -561,6 +582,89 @@ module _ (cx : Context) (laws : IsLawful cx.of_module) where
       by_lookup_valid (null_heap cx h) _
       (λ k e. plain_valid _ _ _ _ _ _ (λ p. (laws.checked_heap h k (guard_some (is_null_gate_open cx h) _ _ e).1, tt)))
 
+  -- ---- found below an abstract type
+
+  found_pushes_valid : (a : AbstractHeapType) (gives : MaybeType → MaybeType) → ((x : MaybeType) → IsValidOperand cx.of_module (gives x)) → (xs pushed : List MaybeType) → Operands xs → found_pushes cx.of_module a gives xs ≡ Some pushed → Operands pushed
+  found_pushes_valid a gives h (x ∷ []) pushed v e =
+      let valid : Operands (gives x ∷ []) = (h x, tt) in
+      subst Operands (some_injective _ _ (guard_some _ _ _ e).1) valid
+  found_pushes_valid a gives h [] pushed v e = absurd cc
+  found_pushes_valid a gives h (x ∷ y ∷ xs) pushed v e = absurd cc
+
+  measure_valid : (a : AbstractHeapType) → PushesValid cx (row_operator (measure_row cx a))
+  measure_valid a = looks_valid _ 1 (found_pushes cx.of_module a (λ x. Known I32)) (found_pushes_valid a (λ x. Known I32) (λ x. refl))
+
+  converted_valid : (a : AbstractHeapType) (x : MaybeType) → IsValidOperand cx.of_module (converted cx.of_module a x)
+  converted_valid a (Known (Ref r)) = refl
+  converted_valid a (Known _) = tt
+  converted_valid a (UnknownRef b) = tt
+  converted_valid a Bottom = tt
+
+  ref_eq_valid : (xs pushed : List MaybeType) → Operands xs → ref_eq_pushes cx.of_module xs ≡ Some pushed → Operands pushed
+  ref_eq_valid (x ∷ y ∷ []) pushed v e =
+      let valid : Operands (Known I32 ∷ []) = (refl, tt) in
+      subst Operands (some_injective _ _ (guard_some _ _ _ e).1) valid
+  ref_eq_valid [] pushed v e = absurd cc
+  ref_eq_valid (x ∷ []) pushed v e = absurd cc
+  ref_eq_valid (x ∷ y ∷ z ∷ xs) pushed v e = absurd cc
+
+  -- ---- casts
+
+  pub checked_ref_valid : (r s : RefType) → checked_ref cx r ≡ Some s → Valid cx.of_module (Ref s)
+  checked_ref_valid r s e = laws.checked_ref r s (guard_some _ _ _ e).1
+
+  pub cast_type_valid : (nullable : Bool) (h : HeapType) (r : RefType) → cast_type cx nullable h ≡ Some r → Valid cx.of_module (Ref r)
+  cast_type_valid nullable h r e =
+      let a = and_then_given (option_and_then (checked_ref cx) (reference_to nullable h)) (castable cx.of_module) r e in
+      let b = and_then_given (reference_to nullable h) (checked_ref cx) a.0 a.1 in
+      let g = guard_some (is_castable cx.of_module a.0) _ _ a.2 in
+      subst (λ (q : RefType). Valid cx.of_module (Ref q)) (some_injective _ _ g.1) (checked_ref_valid b.0 a.0 b.2)
+
+  pub difference_valid : (a b : RefType) → Valid cx.of_module (Ref a) → Valid cx.of_module (Ref (difference a b))
+  difference_valid a b v = by b.nullable
+    where
+      by : (n : Bool) → Valid cx.of_module (Ref (if n then without_null a else a))
+      by true = v
+      by false = v
+
+  pub checked_cast_valid : (cast : BranchCast) (p : RefType × RefType) → checked_cast cx cast ≡ Some p → Valid cx.of_module (Ref p.0) × Valid cx.of_module (Ref p.1)
+  checked_cast_valid cast p e =
+      let a = and_then_given (checked_ref cx cast.from_ref_type) _ p e in
+      let b = and_then_given (checked_ref cx cast.to_ref_type) _ p a.2 in
+      let g = guard_some (may_cast cx.of_module a.0 b.0) _ _ b.2 in
+      subst (λ (q : RefType × RefType). Valid cx.of_module (Ref q.0) × Valid cx.of_module (Ref q.1)) (some_injective _ _ g.1) (checked_ref_valid _ a.0 a.1, checked_ref_valid _ b.0 b.1)
+
+  pub but_last_valid : (ts : List ValType) (p : List ValType × ValType) → AllByRecursion (Valid cx.of_module) ts → split_last ts ≡ Some p → AllByRecursion (Valid cx.of_module) p.0
+  but_last_valid [] p h e = absurd cc
+  but_last_valid (t ∷ []) p h e = subst (λ (q : List ValType × ValType). AllByRecursion (Valid cx.of_module) q.0) (some_injective _ _ e) tt
+  but_last_valid (t ∷ u ∷ ts) p h e =
+      let m = mapped_some _ (split_last (u ∷ ts)) p e in
+      subst (λ (q : List ValType × ValType). AllByRecursion (Valid cx.of_module) q.0) m.2 (h.0, but_last_valid (u ∷ ts) m.0 h.1 m.1)
+
+  one_more_valid : (ts : List ValType) (t : ValType) → AllByRecursion (Valid cx.of_module) ts → Valid cx.of_module t → AllByRecursion (Valid cx.of_module) (ts ++ t ∷ [])
+  one_more_valid [] t h v = (v, tt)
+  one_more_valid (u ∷ ts) t h v = (h.0, one_more_valid ts t h.1 v)
+
+  cast_branch_valid : (types : RefType × RefType → CastTypes) → ((p : RefType × RefType) → Valid cx.of_module (Ref p.0) → Valid cx.of_module (Ref p.1) → Valid cx.of_module (Ref (types p).left)) → (cast : BranchCast) → PushesValid cx (staying_operator (λ hs. lookup_row (checked_cast cx cast) (λ p. cast_branch_row cx hs cast.relative_depth (types p))))
+  cast_branch_valid types keeps cast =
+      record {
+        pushed = λ hs xs pushed p v f g. by hs xs pushed (label_at_valid hs cast.relative_depth v) (checked_cast cx cast) refl g;
+        opened = λ hs k p e. absurd cc;
+        begun = λ hs all types p e. absurd cc;
+      }
+    where
+      there : (hs : List Head) (xs pushed : List MaybeType) (t : CastTypes) → Valid cx.of_module (Ref t.left) → AllByRecursion (Valid cx.of_module) (label_types_at cx hs cast.relative_depth) → (o : Option (List ValType × ValType)) → guard (has_label hs cast.relative_depth) (split_last (label_types_at cx hs cast.relative_depth)) ≡ o → pushed_for cx (lookup_row o (cast_branch_row_for cx cast.relative_depth t)).type xs ≡ Some pushed → Operands pushed
+      there hs xs pushed t w v None k g = nothing_pushed pushed _ g
+      there hs xs pushed t w v (Some p) k g =
+          let e = (guard_some (has_label hs cast.relative_depth) _ _ k).1 in
+          subst Operands (some_injective _ _ (guard_some _ _ _ g).1) (all_known cx.of_module (p.0 ++ Ref t.left ∷ []) (one_more_valid p.0 (Ref t.left) (but_last_valid _ p v e) w))
+
+      by : (hs : List Head) (xs pushed : List MaybeType) → AllByRecursion (Valid cx.of_module) (label_types_at cx hs cast.relative_depth) → (o : Option (RefType × RefType)) → checked_cast cx cast ≡ o → pushed_for cx (lookup_row o (λ p. cast_branch_row cx hs cast.relative_depth (types p))).type xs ≡ Some pushed → Operands pushed
+      by hs xs pushed v None k g = nothing_pushed pushed _ g
+      by hs xs pushed v (Some p) k g =
+          let c = checked_cast_valid cast p k in
+          there hs xs pushed (types p) (keeps p c.0 c.1) v _ refl g
+
   reference_valid : (op : ReferenceOp) → PushesValid cx (staying_operator (λ hs. reference_row cx hs op))
   reference_valid (RefNull h) = null_valid h
   reference_valid RefIsNull = looks_valid _ 1 null_test_pushes is_null_valid
@@ -568,6 +672,17 @@ module _ (cx : Context) (laws : IsLawful cx.of_module) where
   reference_valid RefAsNonNull = looks_valid _ 1 (non_null_pushes cx []) (non_null_above_valid [] tt)
   reference_valid (BrOnNull d) = br_on_null_valid d
   reference_valid (BrOnNonNull d) = br_on_non_null_valid d
+  reference_valid RefEq = looks_valid _ 2 (ref_eq_pushes cx.of_module) ref_eq_valid
+  reference_valid (RefTestNonNull h) = by_lookup_valid (cast_type cx false h) _ (λ r e. numbers_pushed _ _ _ _ _ _ refl)
+  reference_valid (RefTestNullable h) = by_lookup_valid (cast_type cx true h) _ (λ r e. numbers_pushed _ _ _ _ _ _ refl)
+  reference_valid (RefCastNonNull h) = by_lookup_valid (cast_type cx false h) _ (λ r e. plain_valid _ _ _ _ _ _ (λ p. (cast_type_valid false h r e, tt)))
+  reference_valid (RefCastNullable h) = by_lookup_valid (cast_type cx true h) _ (λ r e. plain_valid _ _ _ _ _ _ (λ p. (cast_type_valid true h r e, tt)))
+  reference_valid (BrOnCast cast) = cast_branch_valid types_on_cast (λ p v w. difference_valid p.0 p.1 v) cast
+  reference_valid (BrOnCastFail cast) = cast_branch_valid types_on_cast_fail (λ p v w. w) cast
+  reference_valid RefI31 = plain_valid _ _ _ _ _ _ (λ p. (refl, tt))
+  reference_valid (I31Get sign) = measure_valid I31
+  reference_valid AnyConvertExtern = looks_valid _ 1 (found_pushes cx.of_module Extern (converted cx.of_module Any)) (found_pushes_valid Extern (converted cx.of_module Any) (converted_valid Any))
+  reference_valid ExternConvertAny = looks_valid _ 1 (found_pushes cx.of_module Any (converted cx.of_module Extern)) (found_pushes_valid Any (converted cx.of_module Extern) (converted_valid Extern))
 
   -- ---- tables
 
@@ -590,6 +705,93 @@ module _ (cx : Context) (laws : IsLawful cx.of_module) where
   table_valid (TableSet i) = by_lookup_valid (table_type cx i) _ (λ t e. numbers_pushed _ _ _ _ _ _ refl)
   table_valid (TableFill i) = by_lookup_valid (table_type cx i) _ (λ t e. numbers_pushed _ _ _ _ _ _ refl)
 
+  -- ---- structs and arrays
+
+  lookups_valid : {A B : Type 0} (o : Option A) (p : Option B) (row : A → B → Row) → ((a : A) (b : B) → o ≡ Some a → p ≡ Some b → PushesValid cx (row_operator (row a b))) → PushesValid cx (row_operator (lookups_row o p row))
+  lookups_valid o p row h = by_lookup_valid o (λ a. lookup_row p (row a)) (λ a e. by_lookup_valid p (row a) (λ b k. h a b e k))
+
+  type_reference_valid : (made : HeapType → RefType) → ((h : HeapType) → (made h).heap_type ≡ h) → (i : ℕ) (t : ValType) → type_reference cx made i ≡ Some t → Valid cx.of_module t
+  type_reference_valid made same i t e =
+      let m = mapped_some (λ h. Ref (made h)) (cx.of_module.canonical_heap (Concrete (Module i))) t e in
+      subst (Valid cx.of_module) m.2 (ap (is_valid_heap cx.of_module) (same m.0) ∙ laws.checked_heap _ m.0 m.1)
+
+  made_valid : (i : ℕ) (t : ValType) → type_reference cx non_null_reference i ≡ Some t → Valid cx.of_module t
+  made_valid i t e = type_reference_valid non_null_reference (λ h. refl) i t e
+
+  pub struct_inner : (inner : CompositeInnerType) (fields : List FieldType) → struct_fields inner ≡ Some fields → inner_fields inner ≡ fields
+  struct_inner (StructKind fs) fields e = some_injective _ _ e
+  struct_inner (FuncKind f) fields e = absurd cc
+  struct_inner (ArrayKind a) fields e = absurd cc
+
+  fields_valid : (i : ℕ) (fields : List FieldType) → struct_type cx i ≡ Some fields → AllByRecursion (Valid cx.of_module) (unpacked_fields fields)
+  fields_valid i fields e =
+      let b = and_then_given (cx.of_module.type_at i) (accessible_struct cx) fields e in
+      let g = guard_some (may_access cx b.0.composite_type.shared) _ _ b.2 in
+      subst (λ fs. AllByRecursion (Valid cx.of_module) (unpacked_fields fs)) (struct_inner _ fields g.1) (laws.types i b.0 b.1).fields
+
+  pub field_in : (fields : List FieldType) (k : ℕ) (f : FieldType) → AllByRecursion (Valid cx.of_module) (unpacked_fields fields) → slice_get fields k ≡ Some f → Valid cx.of_module (field_value f)
+  field_in fields k f v e =
+      get_valid (unpacked_fields fields) k (field_value f) v
+      (slice_get-map (λ (f : FieldType). unpacked_type f.element_type) fields k ∙ ap (option_map (λ (f : FieldType). unpacked_type f.element_type)) e)
+
+  field_valid : (index : FieldIndex) (f : FieldType) → struct_field cx index ≡ Some f → Valid cx.of_module (field_value f)
+  field_valid index f e =
+      let b = and_then_given (struct_type cx index.struct_type_index) (λ fields. slice_get fields index.field_index) f e in
+      field_in b.0 index.field_index f (fields_valid index.struct_type_index b.0 b.1) b.2
+
+  pub array_inner : (inner : CompositeInnerType) (f : FieldType) → array_element inner ≡ Some f → inner_fields inner ≡ f ∷ []
+  array_inner (ArrayKind a) f e = ap (λ (g : FieldType). g ∷ []) (some_injective _ _ e)
+  array_inner (FuncKind s) f e = absurd cc
+  array_inner (StructKind fs) f e = absurd cc
+
+  element_valid : (i : ℕ) (f : FieldType) → array_type cx i ≡ Some f → Valid cx.of_module (field_value f)
+  element_valid i f e =
+      let b = and_then_given (cx.of_module.type_at i) (accessible_array cx) f e in
+      let g = guard_some (may_access cx b.0.composite_type.shared) _ _ b.2 in
+      (subst (λ fs. AllByRecursion (Valid cx.of_module) (unpacked_fields fs)) (array_inner _ f g.1) (laws.types i b.0 b.1).fields).0
+
+  abbrev struct_reference : FieldIndex → Option ValType
+  struct_reference index = type_reference cx nullable_reference index.struct_type_index
+
+  -- a row that makes a reference of this type
+  made_pushed : {A : Type 0} (o : Option A) (i : ℕ) (premise : A → Bool) (wanted : A → List ValType) → PushesValid cx (row_operator (lookups_row o (type_reference cx non_null_reference i) (λ a t. plain_row_if (premise a) (wanted a) (t ∷ []))))
+  made_pushed o i premise wanted = lookups_valid o (type_reference cx non_null_reference i) (λ a t. plain_row_if (premise a) (wanted a) (t ∷ [])) (λ a t e k. plain_valid _ _ _ _ (t ∷ []) _ (λ p. (made_valid i t k, tt)))
+
+  -- a row that reads a field
+  value_pushed : (o : Option FieldType) (p : Option ValType) (premise : FieldType → Bool) (wanted : ValType → List ValType) → ((f : FieldType) → o ≡ Some f → Valid cx.of_module (field_value f)) → PushesValid cx (row_operator (lookups_row o p (λ f t. plain_row_if (premise f) (wanted t) (field_value f ∷ []))))
+  value_pushed o p premise wanted v = lookups_valid o p (λ f t. plain_row_if (premise f) (wanted t) (field_value f ∷ [])) (λ f t e k. plain_valid _ _ _ _ (field_value f ∷ []) _ (λ q. (v f e, tt)))
+
+  -- a row that pushes nothing
+  nothing_left : (o : Option FieldType) (p : Option ValType) (premise : FieldType → Bool) (wanted : FieldType → ValType → List ValType) → PushesValid cx (row_operator (lookups_row o p (λ f t. plain_row_if (premise f) (wanted f t) [])))
+  nothing_left o p premise wanted = lookups_valid o p (λ f t. plain_row_if (premise f) (wanted f t) []) (λ f t e k. plain_valid _ _ _ _ [] _ (λ q. tt))
+
+  struct_valid : (op : StructOp) → PushesValid cx (row_operator (struct_row cx op))
+  struct_valid (StructNew i) = made_pushed (struct_type cx i) i _ _
+  struct_valid (StructNewDefault i) = made_pushed (struct_type cx i) i _ _
+  struct_valid (StructGet index) = value_pushed (struct_field cx index) (struct_reference index) is_whole_field (λ t. t ∷ []) (field_valid index)
+  struct_valid (StructGetPacked sign index) = value_pushed (struct_field cx index) (struct_reference index) is_packed_field (λ t. t ∷ []) (field_valid index)
+  struct_valid (StructSet index) = nothing_left (struct_field cx index) (struct_reference index) (λ f. f.mutable) (λ f t. t ∷ field_value f ∷ [])
+
+  abbrev array_reference : ℕ → Option ValType
+  array_reference i = type_reference cx nullable_reference i
+
+  array_valid : (op : ArrayOp) → PushesValid cx (row_operator (array_row cx op))
+  array_valid (ArrayNew i) = made_pushed (array_type cx i) i _ _
+  array_valid (ArrayNewDefault i) = made_pushed (array_type cx i) i _ _
+  array_valid (ArrayNewFixed i n) = made_pushed (array_type cx i) i _ _
+  array_valid (ArrayNewData i segment) = made_pushed (array_type cx i) i _ _
+  array_valid (ArrayNewElem i segment) = made_pushed (array_type cx i) i _ _
+  array_valid (ArrayGet i) = value_pushed (array_type cx i) (array_reference i) is_whole_field (λ t. t ∷ I32 ∷ []) (element_valid i)
+  array_valid (ArrayGetPacked sign i) = value_pushed (array_type cx i) (array_reference i) is_packed_field (λ t. t ∷ I32 ∷ []) (element_valid i)
+  array_valid (ArraySet i) = nothing_left (array_type cx i) (array_reference i) (λ f. f.mutable) (λ f t. t ∷ I32 ∷ field_value f ∷ [])
+  array_valid ArrayLen = measure_valid AnyArray
+  array_valid (ArrayFill i) = nothing_left (array_type cx i) (array_reference i) (λ f. f.mutable) (λ f t. t ∷ I32 ∷ field_value f ∷ I32 ∷ [])
+  array_valid (ArrayCopy dst src) =
+      lookups_valid (array_type cx dst) (array_reference dst) (array_copy_row_for cx src)
+      (λ to d e k. nothing_left (array_type cx src) (array_reference src) (λ from. to.mutable && may_be_copied cx.of_module from.element_type to.element_type) (λ from s. d ∷ I32 ∷ s ∷ I32 ∷ I32 ∷ []))
+  array_valid (ArrayInitData i segment) = nothing_left (array_type cx i) (array_reference i) (λ f. f.mutable && is_read_from_data cx.of_module segment f) (λ f t. t ∷ I32 ∷ I32 ∷ I32 ∷ [])
+  array_valid (ArrayInitElem i segment) = nothing_left (array_type cx i) (array_reference i) (λ f. f.mutable && is_read_from_elements cx.of_module segment f) (λ f t. t ∷ I32 ∷ I32 ∷ I32 ∷ [])
+
   ungated_valid : (op : Op) → AllByRecursion (Valid cx.of_module) cx.locals → PushesValid cx (ungated_operator cx op)
   ungated_valid (Control op) l = control_valid op l
   ungated_valid (Numeric op) l = numeric_valid op
@@ -598,6 +800,8 @@ module _ (cx : Context) (laws : IsLawful cx.of_module) where
   ungated_valid (Atomic op) l = atomic_valid op
   ungated_valid (Reference op) l = reference_valid op
   ungated_valid (Table op) l = table_valid op
+  ungated_valid (Struct op) l = struct_valid op
+  ungated_valid (Array op) l = array_valid op
 
   -- a gate takes nothing away from that
   behind_valid : (gate : Gate) (op : Operator) → PushesValid cx op → PushesValid cx (gated_operator cx gate op)

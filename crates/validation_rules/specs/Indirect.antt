@@ -6,8 +6,10 @@ use Rattle.std.specs.Option.{option_and_then}
 use Rattle.validate_types.specs.Refs.{nullable_reference}
 use Rattle.validate_types.specs.Types.{address_type_of_table}
 use Rattle.validate_types.specs.declared.heap.AbstractHeapType.TheVariants.{Func}
+use Rattle.validate_types.specs.declared.heap.HeapType.{HeapType}
 use Rattle.validate_types.specs.declared.heap.HeapType.TheVariants.{Abstract, Concrete}
 use Rattle.validate_types.specs.declared.heap.UnpackedIndex.TheVariants.{Module}
+use Rattle.validate_types.specs.declared.refs.RefType.{RefType}
 use Rattle.validate_types.specs.declared.types.TableType.{TableType}
 use Rattle.validation_rules.specs.Calls.{accessible_signature, tail_call_row}
 use Rattle.validation_rules.specs.Context.{Signature, ValType, Ref, Context}
@@ -28,10 +30,14 @@ place_type_of cx t = guard (cx.of_module.below (element_of_table t) funcref) (So
 abbrev pub function_place : Context → ℕ → Option ValType
 function_place cx i = option_and_then (place_type_of cx) (table_type cx i)
 
--- a reference, perhaps null, to the type at this index
+-- a reference to the type at this index, with null or without, made of its canonical form
+abbrev pub type_reference : Context → (HeapType → RefType) → ℕ → Option ValType
+type_reference cx reference_to_heap i =
+    option_map (λ h. Ref (reference_to_heap h)) (cx.of_module.canonical_heap (Concrete (Module i)))
+
+-- a reference, perhaps null, to the function type at this index
 abbrev pub function_reference : Context → ℕ → Option ValType
-function_reference cx i =
-    option_map (λ h. Ref (nullable_reference h)) (cx.of_module.canonical_heap (Concrete (Module i)))
+function_reference cx i = type_reference cx nullable_reference i
 
 -- what a function of the type at this index takes and gives
 abbrev pub typed_callee : Context → ℕ → Option Signature

@@ -9,9 +9,14 @@ pub mod Branches
 pub mod Numeric
 pub mod Convert
 pub mod Calls
+pub mod Memories
 pub mod Tables
 pub mod Indirect
+pub mod Found
+pub mod Casts
 pub mod References
+pub mod Structs
+pub mod Arrays
 pub mod Access
 pub mod Memory
 pub mod Atomic

@@ -6,10 +6,11 @@ use Rattle.validate_visit.specs.declared.op.MemoryOp.TheVariants.{Load, LoadPack
 use Rattle.validate_visit.specs.declared.op.MemoryOp.TheVariants.{MemorySize, MemoryGrow, MemoryInit}
 use Rattle.validate_visit.specs.declared.op.MemoryOp.TheVariants.{DataDrop, MemoryCopy, MemoryFill}
 use Rattle.validate_visit.specs.declared.op.MemoryOp.TheVariants.{MemoryDiscard}
-use Rattle.validation_rules.specs.Access.{load_row, store_row, memory_size_row, memory_grow_row}
-use Rattle.validation_rules.specs.Access.{memory_init_row, data_drop_row, memory_copy_row, memory_fill_row}
-use Rattle.validation_rules.specs.Access.{memory_discard_row}
+use Rattle.validation_rules.specs.Access.{load_row, store_row}
 use Rattle.validation_rules.specs.Context.{Context}
+use Rattle.validation_rules.specs.Memories.{memory_size_row, memory_grow_row, memory_init_row}
+use Rattle.validation_rules.specs.Memories.{data_drop_row, memory_copy_row, memory_fill_row}
+use Rattle.validation_rules.specs.Memories.{memory_discard_row}
 use Rattle.validation_rules.specs.Rows.{Row}
 
 abbrev pub memory_row : Context → MemoryOp → Row

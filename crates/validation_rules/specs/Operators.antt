@@ -1,6 +1,6 @@
 -- The table of operators: the row of each, in the context of a body (WebAssembly core specification,
 -- "Validation: Instructions").
-pub use Rattle.validation_rules.specs.Shapes.{lookup_row, plain_row, plain_row_if, never_row}
+pub use Rattle.validation_rules.specs.Shapes.{lookup_row, lookups_row, plain_row, plain_row_if, never_row}
 pub use Rattle.validation_rules.specs.Shapes.{ending_row, ending_row_if}
 pub use Rattle.validation_rules.specs.Shapes.{looking_row, looking_row_if, staying_operator}
 pub use Rattle.validation_rules.specs.Shapes.{row_operator, delimiter_operator, constant_row, test_row}
@@ -14,7 +14,7 @@ use Rattle.validate_types.specs.Features.{has, multi_value}
 use Rattle.validate_visit.specs.Gates.{gate_of}
 use Rattle.validate_visit.specs.declared.op.Op.{Op}
 use Rattle.validate_visit.specs.declared.op.Op.TheVariants.{Control, Numeric, Convert, Memory, Atomic}
-use Rattle.validate_visit.specs.declared.op.Op.TheVariants.{Reference, Table}
+use Rattle.validate_visit.specs.declared.op.Op.TheVariants.{Reference, Table, Struct, Array}
 use Rattle.validate_visit.specs.declared.op.ControlOp.{ControlOp}
 use Rattle.validate_visit.specs.declared.op.ControlOp.TheVariants.{Unreachable, Nop, Block as BlockOp}
 use Rattle.validate_visit.specs.declared.op.ControlOp.TheVariants.{Loop as LoopOp, If as IfOp}
@@ -30,6 +30,8 @@ pub use Rattle.validation_rules.specs.Memory.{memory_row}
 pub use Rattle.validation_rules.specs.Atomic.{atomic_row}
 pub use Rattle.validation_rules.specs.References.{reference_row}
 pub use Rattle.validation_rules.specs.Tables.{table_row}
+pub use Rattle.validation_rules.specs.Structs.{struct_row}
+pub use Rattle.validation_rules.specs.Arrays.{array_row}
 use Rattle.validation_rules.specs.Branches.{br_row, br_if_row, br_table_row, return_row}
 use Rattle.validation_rules.specs.Calls.{may_access, call_row, return_call_row, global_get_row}
 use Rattle.validation_rules.specs.Calls.{global_set_row}
@@ -160,6 +162,8 @@ ungated_operator cx (Memory op) = row_operator (memory_row cx op)
 ungated_operator cx (Atomic op) = row_operator (atomic_row cx op)
 ungated_operator cx (Reference op) = staying_operator (λ hs. reference_row cx hs op)
 ungated_operator cx (Table op) = row_operator (table_row cx op)
+ungated_operator cx (Struct op) = row_operator (struct_row cx op)
+ungated_operator cx (Array op) = row_operator (array_row cx op)
 
 abbrev pub operator : Context → Op → Operator
 operator cx op = gated_operator cx (gate_of op) (ungated_operator cx op)

@@ -1,23 +1,31 @@
 -- The rows of operators on references, and of branches that look whether one is null (WebAssembly core
 -- specification, "Validation: Reference Instructions" and "Control Instructions").
-use Rattle.std.specs.Prelude.{ℕ, suc, Bool, not, ◌||◌, List, [], ◌∷◌, ◌++◌, Option, Some, None}
+use Rattle.std.specs.Prelude.{ℕ, suc, Bool, true, false, not, ◌||◌, List, [], ◌∷◌, ◌++◌, Option, Some, None}
 use Rattle.std.specs.Prelude.{length}
 use Rattle.std.specs.Option.{option_map}
 use Rattle.validate_types.specs.Features.{is_ref_enabled}
 use Rattle.validate_types.specs.Refs.{fits_reference, without_null, with_null, nullable_reference}
 use Rattle.validate_types.specs.Refs.{non_null_reference}
 use Rattle.validate_types.specs.declared.heap.HeapType.{HeapType}
-use Rattle.validate_types.specs.declared.heap.HeapType.TheVariants.{Concrete}
+use Rattle.validate_types.specs.declared.heap.AbstractHeapType.TheVariants.{Any, Extern, I31}
+use Rattle.validate_types.specs.declared.heap.HeapType.TheVariants.{Abstract, Concrete}
 use Rattle.validate_types.specs.declared.heap.UnpackedIndex.TheVariants.{Id}
 use Rattle.validate_types.specs.declared.refs.RefType.{RefType}
 use Rattle.validate_visit.specs.declared.op.ReferenceOp.{ReferenceOp}
 use Rattle.validate_visit.specs.declared.op.ReferenceOp.TheVariants.{RefNull, RefIsNull, RefFunc}
 use Rattle.validate_visit.specs.declared.op.ReferenceOp.TheVariants.{RefAsNonNull, BrOnNull, BrOnNonNull}
+use Rattle.validate_visit.specs.declared.op.ReferenceOp.TheVariants.{RefEq, RefTestNonNull, RefTestNullable}
+use Rattle.validate_visit.specs.declared.op.ReferenceOp.TheVariants.{RefCastNonNull, RefCastNullable}
+use Rattle.validate_visit.specs.declared.op.ReferenceOp.TheVariants.{BrOnCast, BrOnCastFail, RefI31, I31Get}
+use Rattle.validate_visit.specs.declared.op.ReferenceOp.TheVariants.{AnyConvertExtern, ExternConvertAny}
 use Rattle.validation_rules.specs.Branches.{has_label, label_types_at, target}
+use Rattle.validation_rules.specs.Casts.{ref_test_row, ref_cast_row, br_on_cast_row, br_on_cast_fail_row}
 use Rattle.validation_rules.specs.Context.{ValType, I32, Ref, Context}
 use Rattle.validation_rules.specs.Fits.{MaybeType, Bottom, UnknownRef, Known, fits}
+use Rattle.validation_rules.specs.Found.{ref_eq_row, measure_row, convert_ref_row}
 use Rattle.validation_rules.specs.Rows.{Head, Row, guard}
 use Rattle.validation_rules.specs.Shapes.{plain_row, plain_row_if, lookup_row, looking_row, looking_row_if}
+use Rattle.validation_rules.specs.Shapes.{conversion_row}
 
 -- ---- null, and references to functions
 
@@ -104,6 +112,10 @@ br_on_non_null_row cx hs d =
 
 -- ---- the group
 
+-- a reference to an integer of 31 bits
+abbrev pub i31 : ValType
+i31 = Ref (non_null_reference (Abstract false I31))
+
 abbrev pub reference_row : Context → List Head → ReferenceOp → Row
 reference_row cx hs (RefNull h) = ref_null_row cx h
 reference_row cx hs RefIsNull = looking_row 1 null_test_pushes
@@ -111,3 +123,14 @@ reference_row cx hs (RefFunc f) = ref_func_row cx f
 reference_row cx hs RefAsNonNull = looking_row 1 (non_null_pushes cx [])
 reference_row cx hs (BrOnNull d) = br_on_null_row cx hs d
 reference_row cx hs (BrOnNonNull d) = br_on_non_null_row cx hs d
+reference_row cx hs RefEq = ref_eq_row cx
+reference_row cx hs (RefTestNonNull h) = ref_test_row cx false h
+reference_row cx hs (RefTestNullable h) = ref_test_row cx true h
+reference_row cx hs (RefCastNonNull h) = ref_cast_row cx false h
+reference_row cx hs (RefCastNullable h) = ref_cast_row cx true h
+reference_row cx hs (BrOnCast cast) = br_on_cast_row cx hs cast
+reference_row cx hs (BrOnCastFail cast) = br_on_cast_fail_row cx hs cast
+reference_row cx hs RefI31 = conversion_row i31 I32
+reference_row cx hs (I31Get sign) = measure_row cx I31
+reference_row cx hs AnyConvertExtern = convert_ref_row cx Extern Any
+reference_row cx hs ExternConvertAny = convert_ref_row cx Any Extern

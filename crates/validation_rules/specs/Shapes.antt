@@ -33,6 +33,10 @@ abbrev pub lookup_row : {A : Type 0} → Option A → (A → Row) → Row
 lookup_row None row = never_row
 lookup_row (Some x) row = row x
 
+-- the row for what two look-ups found; where either found nothing, one that never holds
+abbrev pub lookups_row : {A B : Type 0} → Option A → Option B → (A → B → Row) → Row
+lookups_row x y row = lookup_row x (λ a. lookup_row y (row a))
+
 -- it ends the live part of its frame
 abbrev pub ending_row_if : Bool → List ValType → Row
 ending_row_if premise wanted = record (plain_row_if premise wanted []) { ends_live = true }

@@ -8,9 +8,9 @@ use Rattle.validate_types.specs.declared.types.TableType.{TableType}
 use Rattle.validate_visit.specs.declared.op.TableOp.{TableOp}
 use Rattle.validate_visit.specs.declared.op.TableOp.TheVariants.{TableGet, TableSet, TableGrow, TableSize}
 use Rattle.validate_visit.specs.declared.op.TableOp.TheVariants.{TableFill, TableInit, ElemDrop, TableCopy}
-use Rattle.validation_rules.specs.Access.{narrower_type}
 use Rattle.validation_rules.specs.Calls.{may_access}
 use Rattle.validation_rules.specs.Context.{ValType, I32, Ref, Context}
+use Rattle.validation_rules.specs.Memories.{narrower_type}
 use Rattle.validation_rules.specs.Rows.{Row, guard}
 use Rattle.validation_rules.specs.Shapes.{plain_row, plain_row_if, lookup_row}
 

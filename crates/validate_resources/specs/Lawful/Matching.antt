@@ -1,12 +1,11 @@
 -- Proofs, which need no belief: the laws of the order on types.
 use Rattle.std.specs.Prelude.{◌≡◌, ℕ, Bool, List, [], ◌∷◌, true, false, ◌&&◌, ◌||◌, not, slice_get}
-use Rattle.std.specs.Prelude.{Option, Some, None, refl, nat_lt, is_some, length}
+use Rattle.std.specs.Prelude.{Option, Some, None, refl}
 use Rattle.std.specs.Bool.{beq}
 use Rattle.std.specs.List.{list_all}
-use Rattle.std.proofs.Common.{zero, suc, sym, ◌∙◌, subst, ap, ap₂, ⊎_elim, le-ltb}
-use Rattle.std.proofs.lemmas.Option.{slice_get_cases}
+use Rattle.std.proofs.Common.{zero, suc, sym, ◌∙◌, subst, ap₂}
 use Rattle.std.proofs.lemmas.Bool.{and_parts, and_from}
-use Rattle.validate_types.specs.Abstract.{is_abstract_below, abstract_top}
+use Rattle.validate_types.specs.Abstract.{is_abstract_below}
 use Rattle.validate_types.specs.Heap.{number_of}
 use Rattle.validate_types.specs.declared.heap.AbstractHeapType.{AbstractHeapType}
 use Rattle.validate_types.specs.declared.heap.AbstractHeapType.TheVariants.{Func, Extern, Any, None as NoAny}
@@ -15,7 +14,6 @@ use Rattle.validate_types.specs.declared.heap.AbstractHeapType.TheVariants.{Arra
 use Rattle.validate_types.specs.declared.heap.AbstractHeapType.TheVariants.{NoCont}
 use Rattle.validate_types.specs.declared.heap.HeapType.{HeapType}
 use Rattle.validate_types.specs.declared.heap.HeapType.TheVariants.{Abstract, Concrete}
-use Rattle.validate_types.specs.declared.heap.UnpackedIndex.TheVariants.{Module, Id}
 use Rattle.validate_types.specs.declared.refs.RefType.{RefType}
 use Rattle.validate_types.specs.declared.types.CompositeInnerType.{CompositeInnerType}
 use Rattle.validate_types.specs.declared.types.CompositeInnerType.TheVariants.{Func as FuncOf}
@@ -28,8 +26,7 @@ use Rattle.validate_resources.specs.Context.{is_number_or_vector}
 use Rattle.validate_resources.specs.Order.{is_shared_type, is_heap_shared, have_fitting_supertypes}
 use Rattle.validate_resources.specs.Order.{is_same_kind, abstract_kind, kind_bottom}
 use Rattle.validate_resources.specs.Order.{is_declared_below, is_below_declared, is_heap_below, is_ref_below}
-use Rattle.validate_resources.specs.Order.{is_type_below, heap_top, declared_top}
-use Rattle.validate_resources.specs.Indices.{is_id, heap_indices_pass}
+use Rattle.validate_resources.specs.Order.{is_type_below}
 use Rattle.validate_resources.specs.Lawful.Chains.{beq-equal, index-reflexive, index-transitive, index-sort, KeepsSort}
 
 beq-reflexive : (a : Bool) → beq a a ≡ true
@@ -135,30 +132,6 @@ kind-above (ArrayOf a) (StructOf t) = refl
 kind-above (StructOf s) (FuncOf g) = refl
 kind-above (StructOf s) (ArrayOf b) = refl
 kind-above (StructOf s) (StructOf t) = refl
-
--- ---- top types
-
-abstract-below-top : (a : AbstractHeapType) → is_abstract_below a (abstract_top a) ≡ true
-abstract-below-top a = for_all (λ x. is_abstract_below x (abstract_top x)) refl a
-
-kind-below-top : (a : CompositeInnerType) → is_abstract_below (abstract_kind a) (abstract_top (abstract_kind a)) ≡ true
-kind-below-top (FuncOf f) = refl
-kind-below-top (ArrayOf a) = refl
-kind-below-top (StructOf s) = refl
-
-declared-below-top : (o : Option SubType) → is_some o ≡ true → is_declared_below o (is_shared_type o) (declared_top o) ≡ true
-declared-below-top None h = cc
-declared-below-top (Some s) h = and_from _ _ (beq-reflexive s.composite_type.shared) (kind-below-top s.composite_type.inner)
-
--- one of the types is there
-known-some : (types : List SubType) (n : ℕ) → nat_lt n (length types) ≡ true → is_some (slice_get types n) ≡ true
-known-some types n h =
-    ⊎_elim (λ (x, lt, is, at). ap is_some is) (λ (le, is). let none : false ≡ true = sym (le-ltb n (length types) le) ∙ h in absurd cc) (slice_get_cases types n).1
-
-pub heap-below-top : (types : List SubType) (h : HeapType) → heap_indices_pass (is_id (length types)) h ≡ true → is_heap_below types h (heap_top types h) ≡ true
-heap-below-top types (Abstract s a) h = and_from _ _ (beq-reflexive s) (abstract-below-top a)
-heap-below-top types (Concrete (Module i)) h = cc
-heap-below-top types (Concrete (Id id)) h = declared-below-top (slice_get types id.index) (known-some types id.index h)
 
 -- what shows of a declared type, of the same kind and sharedness
 shared-kept : KeepsSort is_shared_type

@@ -1,0 +1,38 @@
+use Rattle.std.proofs.Common.{rules, ◌≡◌, None, sym, ap, ◌∙◌, subst}
+use Rattle.validate_resources.specs.Context.{Valid}
+use Rattle.validate_types.specs.declared.refs.RefType.{RefType}
+use Rattle.validation_rules.specs.Casts.{checked_cast, cast_branch_row, types_on_cast, br_on_cast_row}
+use Rattle.validation_rules.specs.Context.{Ref}
+use Rattle.validation_rules.specs.Operators.{lookup_row}
+use Rattle.validation_rules.proofs.Valid.{difference_valid}
+use Rattle.validation_rules.specs.Static.{heads}
+use Rattle.validate_stacks.specs.State.{body_context}
+use Rattle.validate_shapes.proofs.Found.{meets_barred, meets_found}
+use Rattle.validate_rows_gc.proofs.casts.check_br_on_cast.Goals as goal
+
+pub returns-in_err-from : goal.returns-in_err-from
+returns-in_err-from g c =
+    let md = g.R.WasmModuleResources.context c.args.resources.now in
+    let v = c.args.stacks.now.body in
+    let cx = body_context md v in
+    let d = c.args.cast.relative_depth in
+    let none = λ (n : checked_cast cx c.args.cast ≡ None). ap (λ o. (lookup_row o (λ p. cast_branch_row cx (heads v.present.frames) d (types_on_cast p))).premise) n in
+    meets_barred md v (λ cx hs. br_on_cast_row cx hs c.args.cast) c.args.offset _ (search rules) (search (rules, none)) (search rules) c.requires.valid
+
+pub check_cast_branch-requires-clause-left : goal.check_cast_branch-requires-clause-left
+check_cast_branch-requires-clause-left g c =
+    let md = g.R.WasmModuleResources.context c.args.resources.now in
+    let laws = g.met.R.WasmModuleResources.lawful c.args.resources.now in
+    subst (λ (r : RefType). Valid md (Ref r)) (sym c.difference.ensures) (difference_valid (body_context md c.args.stacks.now.body) laws c.in_ok-from.from c.in_ok-from.to c.in_ok-from.ensures.from)
+
+pub returns : goal.returns
+returns g c =
+    let md = g.R.WasmModuleResources.context c.args.resources.now in
+    let v = c.args.stacks.now.body in
+    let cx = body_context md v in
+    let d = c.args.cast.relative_depth in
+    let from = c.in_ok-from.from in
+    let to = c.in_ok-from.to in
+    let found = ap (λ o. lookup_row o (λ p. cast_branch_row cx (heads v.present.frames) d (types_on_cast p))) c.in_ok-from.ensures.found in
+    let row = found ∙ ap (λ r. cast_branch_row cx (heads v.present.frames) d (record { from = from; carried = to; left = r })) (sym c.difference.ensures) in
+    meets_found md v (λ cx hs. br_on_cast_row cx hs c.args.cast) c.args.offset (λ cx hs. cast_branch_row cx hs d (record { from = from; carried = to; left = c.difference.result })) _ _ row c.check_cast_branch.ensures

@@ -1,0 +1,7 @@
+-- The types of a branch by a cast, as the rules have them (the crate's own; WebAssembly core specification,
+-- "Validation: Control Instructions").
+use Rattle.validation_rules.specs.Casts.{CastTypes}
+use Rattle.validate_rows_gc.specs.declared.casts.CastTypes.{CastTypes as CheckedTypes}
+
+abbrev pub types_of : CheckedTypes → CastTypes
+types_of cast = record { from = cast.from; carried = cast.carried; left = cast.left }

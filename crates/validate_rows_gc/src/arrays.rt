@@ -1,0 +1,395 @@
+//! Operators on arrays (WebAssembly core specification, "Aggregate Instructions").
+
+ghost use Rattle.std.specs.Prelude.{◌≡◌, ◌≢◌, true, false, OnOk, OnErr, IfOk, IfErr};
+ghost use Rattle.validate_resources.specs.Context.{Valid, is_number_or_vector};
+ghost use Rattle.validation_rules.specs.Arrays.{array_row, is_read_from_data, is_read_from_elements, may_be_copied};
+ghost use Rattle.validation_rules.specs.Operators.{row_operator};
+ghost use Rattle.validation_rules.specs.Structs.{field_value};
+ghost use Rattle.validate_stacks.specs.State.{body_context};
+ghost use Rattle.validate_stacks.specs.Visits.{MayVisit, Meets};
+ghost use Rattle.validate_visit.specs.declared.op.ArrayOp.{ArrayOp};
+ghost use Rattle.validate_rows_gc.specs.Types.{aggregate_row, IsValidAggregate};
+
+use crate::found::check_measure;
+use crate::types::{AggregateTypes, Wanted, check_aggregate};
+use validate_resources::WasmModuleResources;
+use validate_resources::uses::laws;
+use validate_shapes::aggregates::{array_type_at, check_mutable_array, type_reference};
+use validate_shapes::memories::check_data_segment;
+use validate_shapes::tables::element_type_at;
+use validate_shapes::types::Few;
+use validate_stacks::Stacks;
+use validate_types::{AbstractHeapType, Error, FieldType, RefType, StorageType, ValType};
+use validate_visit::{ArrayOp, Sign};
+
+/// The refusals of arrays of references by operators that read a data segment.
+const NEW_DATA: &'static str =
+    "type mismatch: array.new_data can only create arrays with numeric and vector elements";
+
+const INIT_DATA: &'static str = "invalid array.init_data: array type is not numeric or vector";
+
+#[cold]
+#[inline(never)]
+fn not_defaultable(stacks: &Stacks, offset: u64, ty: ValType) -> Error
+    ensures { result.offset ≡ offset }
+{
+    match format!(in stacks.allocator();
+        "invalid `array.new_default`: {ty} field is not defaultable"
+    ) {
+        Ok(text) => Error::with_text(text, offset),
+        Err(_) => Error::out_of_memory(offset),
+    }
+}
+
+/// The refusal of an array that is packed where it must not be, or isn't where it must be.
+fn wrong_packing(offset: u64, sign: Option<Sign>) -> Error
+    ensures { result.offset ≡ offset }
+{
+    let text = match sign {
+        None => "cannot use array.get with packed storage types",
+        Some(Sign::Signed) => "cannot use array.get_s with non-packed storage types",
+        Some(Sign::Unsigned) => "cannot use array.get_u with non-packed storage types",
+    };
+    Error::new(text, offset)
+}
+
+/// What a data segment holds can be read as values of the array, and the segment is there. It refuses an
+/// array of references by this text.
+fn check_data<R: WasmModuleResources>(
+    stacks: &Stacks,
+    resources: &R,
+    offset: u64,
+    data_index: u32,
+    element: FieldType,
+    references: &'static str,
+) -> Result<(), Error>
+    ensures passed { OnOk result (is_read_from_data (R.context resources.now) data_index element ≡ true) }
+    ensures refused { OnErr result (is_read_from_data (R.context resources.now) data_index element ≡ false) }
+    ensures offset { IfErr result (λ e. e.offset ≡ offset) }
+{
+    match element.element_type.unpack() {
+        ValType::Ref(_) => Err(Error::new(references, offset)),
+        _ => check_data_segment(stacks, resources, offset, data_index),
+    }
+}
+
+/// The refusal of an element segment of another type than this operator's array.
+#[cold]
+#[inline(never)]
+fn other_elements(
+    stacks: &Stacks,
+    offset: u64,
+    name: &'static str,
+    elem_index: u32,
+    expected: RefType,
+    found: RefType,
+) -> Error
+    ensures { result.offset ≡ offset }
+{
+    match format!(in stacks.allocator();
+        "invalid {name} instruction: element segment {elem_index} type mismatch: expected {expected}, found {found}"
+    ) {
+        Ok(text) => Error::with_text(text, offset),
+        Err(_) => Error::out_of_memory(offset),
+    }
+}
+
+/// The refusal of an array that holds no references.
+#[cold]
+#[inline(never)]
+fn no_references(stacks: &Stacks, offset: u64, name: &'static str) -> Error
+    ensures { result.offset ≡ offset }
+{
+    match format!(in stacks.allocator();
+        "type mismatch: {name} can only create arrays with reference elements"
+    ) {
+        Ok(text) => Error::with_text(text, offset),
+        Err(_) => Error::out_of_memory(offset),
+    }
+}
+
+/// What an element segment holds can be put into places of the array, and the segment is there. A refusal
+/// names the operator.
+fn check_elements<R: WasmModuleResources>(
+    stacks: &Stacks,
+    resources: &R,
+    offset: u64,
+    elem_index: u32,
+    element: FieldType,
+    name: &'static str,
+) -> Result<(), Error>
+    requires { Valid (R.context resources.now) (field_value element) }
+    ensures passed { OnOk result (is_read_from_elements (R.context resources.now) elem_index element ≡ true) }
+    ensures refused { OnErr result (is_read_from_elements (R.context resources.now) elem_index element
+        ≡ false) }
+    ensures offset { IfErr result (λ e. e.offset ≡ offset) }
+{
+    laws(resources);
+    let ValType::Ref(expected) = element.element_type.unpack() else {
+        return Err(no_references(stacks, offset, name));
+    };
+    let found = element_type_at(stacks, resources, offset, elem_index)?;
+    if resources.is_subtype(ValType::Ref(found), ValType::Ref(expected)) {
+        Ok(())
+    } else {
+        Err(other_elements(stacks, offset, name, elem_index, expected, found))
+    }
+}
+
+/// The refusal of a copy into places of another storage type.
+#[cold]
+#[inline(never)]
+fn other_storage(stacks: &Stacks, offset: u64, expected: StorageType, found: StorageType) -> Error
+    ensures { result.offset ≡ offset }
+{
+    match format!(in stacks.allocator();
+        "array types do not match: expected {expected}, found {found}"
+    ) {
+        Ok(text) => Error::with_text(text, offset),
+        Err(_) => Error::out_of_memory(offset),
+    }
+}
+
+/// What the one array holds can be put into places of the other.
+fn check_copied<R: WasmModuleResources>(
+    stacks: &Stacks,
+    resources: &R,
+    offset: u64,
+    from: FieldType,
+    to: FieldType,
+) -> Result<(), Error>
+    requires from { Valid (R.context resources.now) (field_value from) }
+    requires to { Valid (R.context resources.now) (field_value to) }
+    ensures passed { OnOk result (may_be_copied (R.context resources.now) from.element_type to.element_type
+        ≡ true) }
+    ensures refused { OnErr result (may_be_copied (R.context resources.now) from.element_type
+        to.element_type ≡ false) }
+    ensures offset { IfErr result (λ e. e.offset ≡ offset) }
+{
+    let fits = match (from.element_type, to.element_type) {
+        (StorageType::I8, StorageType::I8) | (StorageType::I16, StorageType::I16) => true,
+        (StorageType::Val(from), StorageType::Val(to)) => resources.is_subtype(from, to),
+        _ => false,
+    };
+    if fits {
+        Ok(())
+    } else {
+        Err(other_storage(stacks, offset, to.element_type, from.element_type))
+    }
+}
+
+/// What an operator on arrays takes and gives, by the types and the segment that it names. `array.len`,
+/// which names none, looks at its operand.
+fn array_types<'a, R: WasmModuleResources>(
+    stacks: &Stacks,
+    resources: &'a R,
+    offset: u64,
+    op: ArrayOp,
+) -> Result<AggregateTypes<'a>, Error>
+    requires { op ≢ ArrayOp.ArrayLen }
+    ensures row { IfOk result (λ t. array_row (body_context (R.context resources.now) stacks.now.body) op
+        ≡ aggregate_row t) }
+    ensures valid { IfOk result (λ t. IsValidAggregate (R.context resources.now) t) }
+    ensures refused { IfErr result (λ e. e.wants_memory ≡ false
+        → (array_row (body_context (R.context resources.now) stacks.now.body) op).premise ≡ false) }
+    ensures offset { IfErr result (λ e. e.offset ≡ offset) }
+{
+    match op {
+        ArrayOp::ArrayLen => unreachable!(),
+        ArrayOp::ArrayNew(index) => {
+            let value = array_type_at(stacks, resources, offset, index)?
+                .element_type
+                .unpack();
+            let made = type_reference(stacks, resources, offset, false, index)?;
+            Ok(AggregateTypes {
+                wanted: Wanted::Few(Few::Two(value, ValType::I32)),
+                pushed: Few::One(made),
+            })
+        }
+        ArrayOp::ArrayNewDefault(index) => {
+            let value = array_type_at(stacks, resources, offset, index)?
+                .element_type
+                .unpack();
+            if !value.is_defaultable() {
+                return Err(not_defaultable(stacks, offset, value));
+            }
+            let made = type_reference(stacks, resources, offset, false, index)?;
+            Ok(AggregateTypes {
+                wanted: Wanted::Few(Few::One(ValType::I32)),
+                pushed: Few::One(made),
+            })
+        }
+        ArrayOp::ArrayNewFixed {
+            array_type_index,
+            array_size,
+        } => {
+            let element = array_type_at(stacks, resources, offset, array_type_index)?;
+            let made = type_reference(stacks, resources, offset, false, array_type_index)?;
+            Ok(AggregateTypes {
+                wanted: Wanted::Run(element.element_type.unpack(), array_size),
+                pushed: Few::One(made),
+            })
+        }
+        ArrayOp::ArrayNewData {
+            array_type_index,
+            array_data_index,
+        } => {
+            let element = array_type_at(stacks, resources, offset, array_type_index)?;
+            check_data(
+                stacks,
+                resources,
+                offset,
+                array_data_index,
+                element,
+                NEW_DATA,
+            )?;
+            let made = type_reference(stacks, resources, offset, false, array_type_index)?;
+            Ok(AggregateTypes {
+                wanted: Wanted::Few(Few::Two(ValType::I32, ValType::I32)),
+                pushed: Few::One(made),
+            })
+        }
+        ArrayOp::ArrayNewElem {
+            array_type_index,
+            array_elem_index,
+        } => {
+            let element = array_type_at(stacks, resources, offset, array_type_index)?;
+            check_elements(
+                stacks,
+                resources,
+                offset,
+                array_elem_index,
+                element,
+                "array.new_elem",
+            )?;
+            let made = type_reference(stacks, resources, offset, false, array_type_index)?;
+            Ok(AggregateTypes {
+                wanted: Wanted::Few(Few::Two(ValType::I32, ValType::I32)),
+                pushed: Few::One(made),
+            })
+        }
+        ArrayOp::ArrayGet(index) => {
+            let element = array_type_at(stacks, resources, offset, index)?;
+            if element.element_type.is_packed() {
+                return Err(wrong_packing(offset, None));
+            }
+            let from = type_reference(stacks, resources, offset, true, index)?;
+            Ok(AggregateTypes {
+                wanted: Wanted::Few(Few::Two(from, ValType::I32)),
+                pushed: Few::One(element.element_type.unpack()),
+            })
+        }
+        ArrayOp::ArrayGetPacked(sign, index) => {
+            let element = array_type_at(stacks, resources, offset, index)?;
+            if !element.element_type.is_packed() {
+                return Err(wrong_packing(offset, Some(sign)));
+            }
+            let from = type_reference(stacks, resources, offset, true, index)?;
+            Ok(AggregateTypes {
+                wanted: Wanted::Few(Few::Two(from, ValType::I32)),
+                pushed: Few::One(element.element_type.unpack()),
+            })
+        }
+        ArrayOp::ArraySet(index) => {
+            let element = array_type_at(stacks, resources, offset, index)?;
+            check_mutable_array(offset, element)?;
+            let into = type_reference(stacks, resources, offset, true, index)?;
+            let value = element.element_type.unpack();
+            Ok(AggregateTypes {
+                wanted: Wanted::Few(Few::Three(into, ValType::I32, value)),
+                pushed: Few::Zero,
+            })
+        }
+        ArrayOp::ArrayFill(index) => {
+            let element = array_type_at(stacks, resources, offset, index)?;
+            check_mutable_array(offset, element)?;
+            let into = type_reference(stacks, resources, offset, true, index)?;
+            let value = element.element_type.unpack();
+            Ok(AggregateTypes {
+                wanted: Wanted::Few(Few::Four(into, ValType::I32, value, ValType::I32)),
+                pushed: Few::Zero,
+            })
+        }
+        ArrayOp::ArrayCopy {
+            array_type_index_dst,
+            array_type_index_src,
+        } => {
+            let dst = array_type_at(stacks, resources, offset, array_type_index_dst)?;
+            check_mutable_array(offset, dst)?;
+            let src = array_type_at(stacks, resources, offset, array_type_index_src)?;
+            check_copied(stacks, resources, offset, src, dst)?;
+            let into = type_reference(stacks, resources, offset, true, array_type_index_dst)?;
+            let from = type_reference(stacks, resources, offset, true, array_type_index_src)?;
+            Ok(AggregateTypes {
+                wanted: Wanted::Few(Few::Five(
+                    into,
+                    ValType::I32,
+                    from,
+                    ValType::I32,
+                    ValType::I32,
+                )),
+                pushed: Few::Zero,
+            })
+        }
+        ArrayOp::ArrayInitData {
+            array_type_index,
+            array_data_index,
+        } => {
+            let element = array_type_at(stacks, resources, offset, array_type_index)?;
+            check_mutable_array(offset, element)?;
+            check_data(
+                stacks,
+                resources,
+                offset,
+                array_data_index,
+                element,
+                INIT_DATA,
+            )?;
+            let into = type_reference(stacks, resources, offset, true, array_type_index)?;
+            Ok(AggregateTypes {
+                wanted: Wanted::Few(Few::Four(into, ValType::I32, ValType::I32, ValType::I32)),
+                pushed: Few::Zero,
+            })
+        }
+        ArrayOp::ArrayInitElem {
+            array_type_index,
+            array_elem_index,
+        } => {
+            let element = array_type_at(stacks, resources, offset, array_type_index)?;
+            check_mutable_array(offset, element)?;
+            check_elements(
+                stacks,
+                resources,
+                offset,
+                array_elem_index,
+                element,
+                "array.init_elem",
+            )?;
+            let into = type_reference(stacks, resources, offset, true, array_type_index)?;
+            Ok(AggregateTypes {
+                wanted: Wanted::Few(Few::Four(into, ValType::I32, ValType::I32, ValType::I32)),
+                pushed: Few::Zero,
+            })
+        }
+    }
+}
+
+/// The check of an operator on arrays, its gate aside.
+pub fn check_array_row<R: WasmModuleResources>(
+    stacks: &mut Stacks,
+    resources: &R,
+    offset: u64,
+    op: ArrayOp,
+) -> Result<(), Error>
+    requires { MayVisit (R.context resources.now) stacks.old }
+    ensures { Meets (R.context resources.now) (λ cx. row_operator (array_row cx op)) offset
+        stacks.old.body result stacks.new.body }
+{
+    match op {
+        ArrayOp::ArrayLen => check_measure(stacks, resources, offset, AbstractHeapType::Array),
+        _ => {
+            let types = array_types(stacks, resources, offset, op)?;
+            check_aggregate(stacks, resources, offset, types)
+        }
+    }
+}

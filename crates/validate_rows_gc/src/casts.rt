@@ -1,0 +1,366 @@
+//! Casts, tests of casts, and branches by a cast (WebAssembly core specification, "Reference Instructions"
+//! and "Control Instructions").
+
+ghost use Rattle.std.specs.Prelude.{◌≡◌, true, false, None, Some, IfOk, OnOk, OnErr, IfErr};
+ghost use Rattle.validate_resources.specs.Context.{Valid};
+ghost use Rattle.validation_rules.specs.Casts.{checked_ref as ref_checked, is_castable, cast_type as type_of_cast, cast_operand, ref_test_row, ref_cast_row, may_cast as may_be_cast, checked_cast as cast_checked, split_last as ending, cast_branch_row, br_on_cast_row, br_on_cast_fail_row};
+ghost use Rattle.validation_rules.specs.Operators.{row_operator, staying_operator};
+ghost use Rattle.validate_stacks.specs.State.{body_context};
+ghost use Rattle.validate_stacks.specs.Visits.{MayVisit, Meets};
+ghost use Rattle.validate_rows_gc.specs.Casts.{types_of};
+
+use validate_resources::WasmModuleResources;
+use validate_resources::uses::laws;
+use validate_shapes::labels::label;
+use validate_shapes::plain::{check_onto, check_plain};
+use validate_stacks::Stacks;
+use validate_stacks::blocks::label_types;
+use validate_types::{AbstractHeapType, Error, HeapType, RefType, ValType};
+use validate_visit::BranchCast;
+
+/// A reference type whose gates are open and whose indices are known, in canonical form (wasmparser's
+/// `check_ref_type`).
+fn checked_ref<R: WasmModuleResources>(
+    stacks: &Stacks,
+    resources: &R,
+    offset: u64,
+    ty: RefType,
+) -> Result<RefType, Error>
+    ensures found { IfOk result (λ r. ref_checked (body_context (R.context resources.now) stacks.now.body) ty
+        ≡ Some r) }
+    ensures valid { IfOk result (λ r. Valid (R.context resources.now) (ValType.Ref r)) }
+    ensures refused { IfErr result (λ e. e.wants_memory ≡ false
+        → ref_checked (body_context (R.context resources.now) stacks.now.body) ty ≡ None) }
+    ensures offset { IfErr result (λ e. e.offset ≡ offset) }
+{
+    laws(resources);
+    match stacks.features().check_ref_type(ty) {
+        Ok(()) => {
+            let mut checked = ty;
+            resources.check_ref_type(&mut checked, offset)?;
+            Ok(checked)
+        }
+        Err(text) => Err(Error::new(text, offset)),
+    }
+}
+
+/// Refuses a type that no cast leads to (wasmparser's `check_cast_to_allowed`).
+fn check_castable<R: WasmModuleResources>(
+    resources: &R,
+    offset: u64,
+    ty: RefType,
+) -> Result<(), Error>
+    requires { Valid (R.context resources.now) (ValType.Ref ty) }
+    ensures passed { OnOk result (is_castable (R.context resources.now) ty ≡ true) }
+    ensures refused { OnErr result (is_castable (R.context resources.now) ty ≡ false) }
+    ensures offset { IfErr result (λ e. e.offset ≡ offset) }
+{
+    match resources.top_type(&ty.heap_type()) {
+        HeapType::Abstract {
+            ty: AbstractHeapType::Cont,
+            ..
+        } => { Err(Error::new("invalid cast: cannot cast to a continuation type", offset)) }
+        _ => Ok(()),
+    }
+}
+
+/// The type of a test or a cast to a heap type, which may be cast to (wasmparser's `check_downcast`).
+fn cast_type<R: WasmModuleResources>(
+    stacks: &Stacks,
+    resources: &R,
+    offset: u64,
+    nullable: bool,
+    heap_type: HeapType,
+) -> Result<RefType, Error>
+    ensures found { IfOk result (λ r. type_of_cast (body_context (R.context resources.now) stacks.now.body)
+        nullable heap_type ≡ Some r) }
+    ensures valid { IfOk result (λ r. Valid (R.context resources.now) (ValType.Ref r)) }
+    ensures refused { IfErr result (λ e. e.wants_memory ≡ false → type_of_cast
+        (body_context (R.context resources.now) stacks.now.body) nullable heap_type ≡ None) }
+    ensures offset { IfErr result (λ e. e.offset ≡ offset) }
+{
+    let Some(ty) = RefType::new(nullable, heap_type) else {
+        return Err(Error::new("implementation limit: type index too large", offset));
+    };
+    let checked = checked_ref(stacks, resources, offset, ty)?;
+    check_castable(resources, offset, checked)?;
+    Ok(checked)
+}
+
+/// What is tested or cast: any reference of the hierarchy, or null.
+fn operand_of_cast<R: WasmModuleResources>(resources: &R, ty: RefType) -> ValType
+    requires { Valid (R.context resources.now) (ValType.Ref ty) }
+    ensures exact { result ≡ cast_operand (R.context resources.now) ty }
+    ensures valid { Valid (R.context resources.now) result }
+{
+    laws(resources);
+    ValType::Ref(RefType {
+        nullable: true,
+        heap_type: resources.top_type(&ty.heap_type()),
+    })
+}
+
+/// `ref.test`: `[(ref null top)] -> [i32]`, with the top type of the hierarchy of the type tested.
+pub fn check_ref_test<R: WasmModuleResources>(
+    stacks: &mut Stacks,
+    resources: &R,
+    offset: u64,
+    nullable: bool,
+    heap_type: HeapType,
+) -> Result<(), Error>
+    requires { MayVisit (R.context resources.now) stacks.old }
+    ensures { Meets (R.context resources.now) (λ cx. row_operator (ref_test_row cx nullable heap_type))
+        offset stacks.old.body result stacks.new.body }
+{
+    let ty = cast_type(stacks, resources, offset, nullable, heap_type)?;
+    let operand = operand_of_cast(resources, ty);
+    check_plain(stacks, resources, offset, &[operand], &[ValType::I32])
+}
+
+/// `ref.cast`: `[(ref null top)] -> [t]`, with the top type of the hierarchy of the type t cast to.
+pub fn check_ref_cast<R: WasmModuleResources>(
+    stacks: &mut Stacks,
+    resources: &R,
+    offset: u64,
+    nullable: bool,
+    heap_type: HeapType,
+) -> Result<(), Error>
+    requires { MayVisit (R.context resources.now) stacks.old }
+    ensures { Meets (R.context resources.now) (λ cx. row_operator (ref_cast_row cx nullable heap_type))
+        offset stacks.old.body result stacks.new.body }
+{
+    let ty = cast_type(stacks, resources, offset, nullable, heap_type)?;
+    let operand = operand_of_cast(resources, ty);
+    check_plain(stacks, resources, offset, &[operand], &[ValType::Ref(ty)])
+}
+
+/// Refuses a cast to a type that doesn't lie below the one cast from, or that no cast leads to
+/// (wasmparser's `check_br_on_cast_type_hierarchy`).
+fn check_may_cast<R: WasmModuleResources>(
+    stacks: &Stacks,
+    resources: &R,
+    offset: u64,
+    from: RefType,
+    to: RefType,
+) -> Result<(), Error>
+    requires from { Valid (R.context resources.now) (ValType.Ref from) }
+    requires to { Valid (R.context resources.now) (ValType.Ref to) }
+    ensures passed { OnOk result (may_be_cast (R.context resources.now) from to ≡ true) }
+    ensures refused { OnErr result (may_be_cast (R.context resources.now) from to ≡ false) }
+    ensures offset { IfErr result (λ e. e.offset ≡ offset) }
+{
+    check_castable(resources, offset, to)?;
+    if resources.is_subtype(ValType::Ref(to), ValType::Ref(from)) {
+        Ok(())
+    } else {
+        Err(not_below(stacks, offset, from, to))
+    }
+}
+
+/// The refusal of a cast to a type that doesn't lie below the one cast from.
+#[cold]
+#[inline(never)]
+fn not_below(stacks: &Stacks, offset: u64, from: RefType, to: RefType) -> Error
+    ensures { result.offset ≡ offset }
+{
+    match format!(in stacks.allocator(); "type mismatch: expected {from}, found {to}") {
+        Ok(text) => Error::with_text(text, offset),
+        Err(_) => Error::out_of_memory(offset),
+    }
+}
+
+/// Both types of a branch by a cast, in canonical form; the one may be cast to the other.
+fn checked_cast<R: WasmModuleResources>(
+    stacks: &Stacks,
+    resources: &R,
+    offset: u64,
+    cast: BranchCast,
+) -> Result<(RefType, RefType), Error>
+    ensures found { IfOk result (λ p. cast_checked (body_context (R.context resources.now) stacks.now.body)
+        cast ≡ Some p) }
+    ensures from { IfOk result (λ p. Valid (R.context resources.now) (ValType.Ref p.0)) }
+    ensures to { IfOk result (λ p. Valid (R.context resources.now) (ValType.Ref p.1)) }
+    ensures refused { IfErr result (λ e. e.wants_memory ≡ false
+        → cast_checked (body_context (R.context resources.now) stacks.now.body) cast ≡ None) }
+    ensures offset { IfErr result (λ e. e.offset ≡ offset) }
+{
+    let from = checked_ref(stacks, resources, offset, cast.from_ref_type)?;
+    let to = checked_ref(stacks, resources, offset, cast.to_ref_type)?;
+    check_may_cast(stacks, resources, offset, from, to)?;
+    Ok((from, to))
+}
+
+/// Where a branch by a cast is taken.
+#[derive(Clone, Copy)]
+enum Taken {
+    /// Where the operand is of the type cast to: `br_on_cast`.
+    OnCast,
+    /// Where it isn't: `br_on_cast_fail`.
+    OnCastFail,
+}
+
+/// The types of a label but its last, and its last.
+fn split_last(types: &[ValType], offset: u64, taken: Taken) -> Result<(&[ValType], ValType), Error>
+    ensures found { IfOk result (λ p. ending types.now ≡ Some (p.0.now, p.1)) }
+    ensures refused { OnErr result (ending types.now ≡ None) }
+    ensures offset { IfErr result (λ e. e.offset ≡ offset) }
+{
+    match types.split_last() {
+        Some((last, others)) => Ok((others, *last)),
+        None => Err(Error::new(
+            match taken {
+                Taken::OnCast => {
+                    "type mismatch: br_on_cast to label with empty types, must have a reference type"
+                }
+                Taken::OnCastFail => "type mismatch: expected a reference type, found nothing",
+            },
+            offset,
+        )),
+    }
+}
+
+/// The refusal of a label whose last type doesn't lie above what is carried there.
+#[cold]
+#[inline(never)]
+fn label_not_above(
+    stacks: &Stacks,
+    offset: u64,
+    taken: Taken,
+    label: ValType,
+    carried: RefType,
+) -> Error
+    ensures { result.offset ≡ offset }
+{
+    let text = match taken {
+        Taken::OnCast => {
+            format!(in stacks.allocator();
+                "type mismatch: casting to type {carried}, but it does not match label result type {label}"
+            )
+        }
+        Taken::OnCastFail => {
+            format!(in stacks.allocator();
+                "type mismatch: expected label result type {label}, found {carried}"
+            )
+        }
+    };
+    match text {
+        Ok(text) => Error::with_text(text, offset),
+        Err(_) => Error::out_of_memory(offset),
+    }
+}
+
+/// What is carried to a label lies below its last type.
+fn check_carried<R: WasmModuleResources>(
+    stacks: &Stacks,
+    resources: &R,
+    offset: u64,
+    taken: Taken,
+    label: ValType,
+    carried: RefType,
+) -> Result<(), Error>
+    requires label { Valid (R.context resources.now) label }
+    requires carried { Valid (R.context resources.now) (ValType.Ref carried) }
+    ensures passed { OnOk result ((R.context resources.now).below (ValType.Ref carried) label ≡ true) }
+    ensures refused { OnErr result ((R.context resources.now).below (ValType.Ref carried) label ≡ false) }
+    ensures offset { IfErr result (λ e. e.offset ≡ offset) }
+{
+    if resources.is_subtype(ValType::Ref(carried), label) {
+        Ok(())
+    } else {
+        Err(label_not_above(stacks, offset, taken, label, carried))
+    }
+}
+
+/// The types of a branch by a cast.
+#[derive(Clone, Copy)]
+struct CastTypes {
+    /// That of the operand.
+    from: RefType,
+    /// What is carried to the label.
+    carried: RefType,
+    /// What is left where the branch isn't taken.
+    left: RefType,
+}
+
+/// A branch by a cast, of types that are checked: `[t from] -> [t left]`, with the types t of the label but
+/// its last, which lies above what is carried there.
+fn check_cast_branch<R: WasmModuleResources>(
+    stacks: &mut Stacks,
+    resources: &R,
+    offset: u64,
+    relative_depth: u32,
+    taken: Taken,
+    cast: CastTypes,
+) -> Result<(), Error>
+    requires visit { MayVisit (R.context resources.now) stacks.old }
+    requires from { Valid (R.context resources.now) (ValType.Ref cast.from) }
+    requires carried { Valid (R.context resources.now) (ValType.Ref cast.carried) }
+    requires left { Valid (R.context resources.now) (ValType.Ref cast.left) }
+    ensures { Meets (R.context resources.now) (λ cx. staying_operator
+        (λ hs. cast_branch_row cx hs relative_depth (types_of cast))) offset stacks.old.body result
+        stacks.new.body }
+{
+    let (block_type, kind) = label(stacks, offset, relative_depth)?;
+    let types = label_types(resources, &block_type, kind);
+    let (others, last) = split_last(types, offset, taken)?;
+    check_carried(stacks, resources, offset, taken, last, cast.carried)?;
+    stacks.pop_types(resources, offset, &[ValType::Ref(cast.from)])?;
+    check_onto(stacks, resources, offset, others, ValType::Ref(cast.left))
+}
+
+/// `br_on_cast`: `[t from] -> [t left]`, with the types t of the label but its last. What is cast is carried
+/// to the label, and goes on without what it was cast to.
+pub fn check_br_on_cast<R: WasmModuleResources>(
+    stacks: &mut Stacks,
+    resources: &R,
+    offset: u64,
+    cast: BranchCast,
+) -> Result<(), Error>
+    requires { MayVisit (R.context resources.now) stacks.old }
+    ensures { Meets (R.context resources.now) (λ cx. staying_operator (λ hs. br_on_cast_row cx hs cast))
+        offset stacks.old.body result stacks.new.body }
+{
+    let (from, to) = checked_cast(stacks, resources, offset, cast)?;
+    let types = CastTypes {
+        from,
+        carried: to,
+        left: RefType::difference(from, to),
+    };
+    check_cast_branch(
+        stacks,
+        resources,
+        offset,
+        cast.relative_depth,
+        Taken::OnCast,
+        types,
+    )
+}
+
+/// `br_on_cast_fail`: `[t from] -> [t to]`, with the types t of the label but its last. What isn't cast is
+/// carried to the label.
+pub fn check_br_on_cast_fail<R: WasmModuleResources>(
+    stacks: &mut Stacks,
+    resources: &R,
+    offset: u64,
+    cast: BranchCast,
+) -> Result<(), Error>
+    requires { MayVisit (R.context resources.now) stacks.old }
+    ensures { Meets (R.context resources.now)
+        (λ cx. staying_operator (λ hs. br_on_cast_fail_row cx hs cast)) offset stacks.old.body result
+        stacks.new.body }
+{
+    let (from, to) = checked_cast(stacks, resources, offset, cast)?;
+    let types = CastTypes {
+        from,
+        carried: RefType::difference(from, to),
+        left: to,
+    };
+    check_cast_branch(
+        stacks,
+        resources,
+        offset,
+        cast.relative_depth,
+        Taken::OnCastFail,
+        types,
+    )
+}

@@ -1,0 +1,144 @@
+//! Operators on structs (WebAssembly core specification, "Aggregate Instructions").
+
+ghost use Rattle.std.specs.Prelude.{◌≡◌, true, false, OnOk, OnErr, IfOk, IfErr};
+ghost use Rattle.std.specs.List.{list_all};
+ghost use Rattle.validate_types.specs.Types.{is_defaultable as has_default, unpacked_fields};
+ghost use Rattle.validation_rules.specs.Operators.{row_operator};
+ghost use Rattle.validation_rules.specs.Structs.{struct_row};
+ghost use Rattle.validate_stacks.specs.State.{body_context};
+ghost use Rattle.validate_stacks.specs.Visits.{MayVisit, Meets};
+ghost use Rattle.validate_rows_gc.specs.Types.{aggregate_row, IsValidAggregate};
+
+use crate::types::{AggregateTypes, Wanted, check_aggregate};
+use validate_resources::WasmModuleResources;
+use validate_shapes::aggregates::{struct_field_at, struct_type_at, type_reference};
+use validate_shapes::types::Few;
+use validate_stacks::Stacks;
+use validate_types::{Error, FieldType, ValType};
+use validate_visit::{Sign, StructOp};
+
+/// Each field has a default value.
+fn check_defaultable(stacks: &Stacks, offset: u64, fields: &[FieldType]) -> Result<(), Error>
+    ensures passed { OnOk result (list_all has_default (unpacked_fields fields.now) ≡ true) }
+    ensures refused { OnErr result (list_all has_default (unpacked_fields fields.now) ≡ false) }
+    ensures offset { IfErr result (λ e. e.offset ≡ offset) }
+{
+    let mut rest = fields;
+    while let Some((field, others)) = rest.split_first() {
+        let ty = field.element_type.unpack();
+        if !ty.is_defaultable() {
+            return Err(not_defaultable(stacks, offset, ty));
+        }
+        rest = others;
+    }
+    Ok(())
+}
+
+#[cold]
+#[inline(never)]
+fn not_defaultable(stacks: &Stacks, offset: u64, ty: ValType) -> Error
+    ensures { result.offset ≡ offset }
+{
+    match format!(in stacks.allocator();
+        "invalid `struct.new_default`: {ty} field is not defaultable"
+    ) {
+        Ok(text) => Error::with_text(text, offset),
+        Err(_) => Error::out_of_memory(offset),
+    }
+}
+
+/// The refusal of a field that is packed where it must not be, or isn't where it must be.
+fn wrong_packing(offset: u64, sign: Option<Sign>) -> Error
+    ensures { result.offset ≡ offset }
+{
+    let text = match sign {
+        None => "can only use struct `get` with non-packed storage types",
+        Some(Sign::Signed) => "cannot use struct.get_s with non-packed storage types",
+        Some(Sign::Unsigned) => "cannot use struct.get_u with non-packed storage types",
+    };
+    Error::new(text, offset)
+}
+
+/// What an operator on structs takes and gives, by the type and the field that it names.
+fn struct_types<'a, R: WasmModuleResources>(
+    stacks: &Stacks,
+    resources: &'a R,
+    offset: u64,
+    op: StructOp,
+) -> Result<AggregateTypes<'a>, Error>
+    ensures row { IfOk result (λ t. struct_row (body_context (R.context resources.now) stacks.now.body) op
+        ≡ aggregate_row t) }
+    ensures valid { IfOk result (λ t. IsValidAggregate (R.context resources.now) t) }
+    ensures refused { IfErr result (λ e. e.wants_memory ≡ false
+        → (struct_row (body_context (R.context resources.now) stacks.now.body) op).premise ≡ false) }
+    ensures offset { IfErr result (λ e. e.offset ≡ offset) }
+{
+    let (wanted, pushed) = match op {
+        StructOp::StructNew(index) => {
+            let struct_type = struct_type_at(stacks, resources, offset, index)?;
+            let made = type_reference(stacks, resources, offset, false, index)?;
+            (
+                Wanted::Fields(struct_type.fields.as_slice()),
+                Few::One(made),
+            )
+        }
+        StructOp::StructNewDefault(index) => {
+            let struct_type = struct_type_at(stacks, resources, offset, index)?;
+            check_defaultable(stacks, offset, struct_type.fields.as_slice())?;
+            let made = type_reference(stacks, resources, offset, false, index)?;
+            (Wanted::Few(Few::Zero), Few::One(made))
+        }
+        StructOp::StructGet(index) => {
+            let field = struct_field_at(stacks, resources, offset, index)?;
+            if field.element_type.is_packed() {
+                return Err(wrong_packing(offset, None));
+            }
+            let from = type_reference(stacks, resources, offset, true, index.struct_type_index)?;
+            (
+                Wanted::Few(Few::One(from)),
+                Few::One(field.element_type.unpack()),
+            )
+        }
+        StructOp::StructGetPacked(sign, index) => {
+            let field = struct_field_at(stacks, resources, offset, index)?;
+            if !field.element_type.is_packed() {
+                return Err(wrong_packing(offset, Some(sign)));
+            }
+            let from = type_reference(stacks, resources, offset, true, index.struct_type_index)?;
+            (
+                Wanted::Few(Few::One(from)),
+                Few::One(field.element_type.unpack()),
+            )
+        }
+        StructOp::StructSet(index) => {
+            let field = struct_field_at(stacks, resources, offset, index)?;
+            if !field.mutable {
+                return Err(Error::new(
+                    "invalid struct modification: struct field is immutable",
+                    offset,
+                ));
+            }
+            let into = type_reference(stacks, resources, offset, true, index.struct_type_index)?;
+            (
+                Wanted::Few(Few::Two(into, field.element_type.unpack())),
+                Few::Zero,
+            )
+        }
+    };
+    Ok(AggregateTypes { wanted, pushed })
+}
+
+/// The check of an operator on structs, its gate aside.
+pub fn check_struct_row<R: WasmModuleResources>(
+    stacks: &mut Stacks,
+    resources: &R,
+    offset: u64,
+    op: StructOp,
+) -> Result<(), Error>
+    requires { MayVisit (R.context resources.now) stacks.old }
+    ensures { Meets (R.context resources.now) (λ cx. row_operator (struct_row cx op)) offset
+        stacks.old.body result stacks.new.body }
+{
+    let types = struct_types(stacks, resources, offset, op)?;
+    check_aggregate(stacks, resources, offset, types)
+}

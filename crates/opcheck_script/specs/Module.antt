@@ -3,8 +3,8 @@ use Rattle.validate_resources.specs.Lists.{Declared}
 use Rattle.script_parts.specs.declared.script.Declarations.{Declarations}
 
 -- the lists themselves
-abbrev pub declared_by : Declarations → Declared
-declared_by d =
+abbrev pub declared_in : Declarations → Declared
+declared_in d =
     record {
       types = d.types.items;
       functions = d.functions.items;

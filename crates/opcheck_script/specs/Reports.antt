@@ -60,8 +60,8 @@ pub record ScriptBody : Type 0 where
   pub locals : List LocalLine
   pub operators : Attempted
 
-abbrev pub body_of : Script → ScriptBody
-body_of script =
+abbrev pub script_body : Script → ScriptBody
+script_body script =
     record {
       features = script.features;
       line = script.body;

@@ -7,9 +7,9 @@ ghost use Rattle.validate_resources.specs.Kept.{declared_lists};
 ghost use Rattle.validate_resources.specs.Lists.{context_of, module_of};
 ghost use Rattle.validate_stacks.specs.State.{IsStarting};
 ghost use Rattle.validate_body.specs.Start.{state};
-ghost use Rattle.opcheck_script.specs.Module.{declared_by};
+ghost use Rattle.opcheck_script.specs.Module.{declared_in};
 ghost use Rattle.opcheck_script.specs.Begin.{IsExpressionStart, IsBodyStart, CannotStart, HasLocals, CannotBegin};
-ghost use Rattle.opcheck_script.specs.Reports.{IsReport, body_of, may_be_body};
+ghost use Rattle.opcheck_script.specs.Reports.{IsReport, script_body, may_be_body};
 ghost use Rattle.script_parts.specs.Written.{may_all_be_attempted};
 ghost use Rattle.opcheck_script.specs.declared.failure.BadScript.{BadScript};
 ghost use Rattle.opcheck_script.specs.declared.failure.Failure.{Failure};
@@ -29,14 +29,14 @@ use validate_visit::{Op, has_module_immediates, is_well_ordered};
 /// Checks a script: first its order, then its module, then its body.
 pub fn check_script(alloc: Global, script: Script<'_>) -> Result<Report, Failure>
     ensures ordered { OnOk result (may_be_body script.entry.operators.ops.items ≡ true) }
-    ensures module { OnOk result (IsSome (module_of (declared_by script.entry.declarations))) }
-    ensures report { IfOk result (λ report. IfSome (module_of (declared_by script.entry.declarations))
-        (λ lists. IsReport (context_of lists) (body_of script.entry) report)) }
+    ensures module { OnOk result (IsSome (module_of (declared_in script.entry.declarations))) }
+    ensures report { IfOk result (λ report. IfSome (module_of (declared_in script.entry.declarations))
+        (λ lists. IsReport (context_of lists) (script_body script.entry) report)) }
     ensures cause { IfErr result (λ failure. (failure ≡ Failure.OutOfMemory)
         ⊎ ((failure ≡ Failure.BadScript BadScript.Order)
         × (may_be_body script.entry.operators.ops.items ≡ false))
         ⊎ ((failure ≡ Failure.BadScript BadScript.Module)
-        × (module_of (declared_by script.entry.declarations) ≡ None))) }
+        × (module_of (declared_in script.entry.declarations) ≡ None))) }
 {
     let Script {
         features,
@@ -71,8 +71,8 @@ fn check_operators(
     requires each { length attempts.now ≡ length ops.now }
     requires allowed { may_all_be_attempted ops.now attempts.now ≡ true }
     ensures ordered { OnOk result (may_be_body ops.now ≡ true) }
-    ensures module { OnOk result (IsSome (module_of (declared_by declarations))) }
-    ensures report { IfOk result (λ report. IfSome (module_of (declared_by declarations))
+    ensures module { OnOk result (IsSome (module_of (declared_in declarations))) }
+    ensures report { IfOk result (λ report. IfSome (module_of (declared_in declarations))
         (λ lists. IsReport (context_of lists) (record {
           features = features;
           line = line;
@@ -82,7 +82,7 @@ fn check_operators(
     ensures cause { IfErr result (λ failure. (failure ≡ Failure.OutOfMemory)
         ⊎ ((failure ≡ Failure.BadScript BadScript.Order) × (may_be_body ops.now ≡ false))
         ⊎ ((failure ≡ Failure.BadScript BadScript.Module)
-        × (module_of (declared_by declarations) ≡ None))) }
+        × (module_of (declared_in declarations) ≡ None))) }
 {
     if !may_be_body(ops) {
         return Err(Failure::BadScript(BadScript::Order));
@@ -114,10 +114,10 @@ fn have_module_immediates(operators: &[(Op<'_>, u64)]) -> bool
 
 /// The module of these declarations, in its canonical form.
 pub fn module_lists(alloc: Global, declarations: Declarations) -> Result<ModuleLists, Failure>
-    ensures kept { IfOk result (λ lists. module_of (declared_by declarations) ≡ Some (declared_lists lists)) }
+    ensures kept { IfOk result (λ lists. module_of (declared_in declarations) ≡ Some (declared_lists lists)) }
     ensures cause { IfErr result (λ failure. (failure ≡ Failure.OutOfMemory)
         ⊎ ((failure ≡ Failure.BadScript BadScript.Module)
-        × (module_of (declared_by declarations) ≡ None))) }
+        × (module_of (declared_in declarations) ≡ None))) }
 {
     let Declarations {
         types,

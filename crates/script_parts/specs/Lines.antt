@@ -39,20 +39,20 @@ part_of d = if is_some d.body then (if vec_len d.operators.ops == 0 then Locals 
 -- Whether a line may stand after lines that have come to this part and have said how many data segments
 -- there are, if they have: proposals and declarations before the `func` or `expr` line, that number once,
 -- locals after the line, and operators last.
-abbrev pub may_stand : Line → Part → Option ℕ → Bool
-may_stand (OnFeature named) Module _ = true
-may_stand (OnType ty) Module _ = true
-may_stand (OnFunction function) Module _ = true
-may_stand (OnTable ty) Module _ = true
-may_stand (OnMemory ty) Module _ = true
-may_stand (OnGlobal ty) Module _ = true
-may_stand (OnElement ty) Module _ = true
-may_stand (OnDataCount count) Module None = true
-may_stand (OnBody body) Module _ = true
-may_stand (OnLocals n ty) Locals _ = true
-may_stand (OnOperator op) Locals _ = true
-may_stand (OnOperator op) Operators _ = true
-may_stand _ _ _ = false
+abbrev pub may_stand_in : Line → Part → Option ℕ → Bool
+may_stand_in (OnFeature named) Module _ = true
+may_stand_in (OnType ty) Module _ = true
+may_stand_in (OnFunction function) Module _ = true
+may_stand_in (OnTable ty) Module _ = true
+may_stand_in (OnMemory ty) Module _ = true
+may_stand_in (OnGlobal ty) Module _ = true
+may_stand_in (OnElement ty) Module _ = true
+may_stand_in (OnDataCount count) Module None = true
+may_stand_in (OnBody body) Module _ = true
+may_stand_in (OnLocals n ty) Locals _ = true
+may_stand_in (OnOperator op) Locals _ = true
+may_stand_in (OnOperator op) Operators _ = true
+may_stand_in _ _ _ = false
 
 -- every proposal
 abbrev pub all_features : WasmFeatures

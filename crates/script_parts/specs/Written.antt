@@ -26,9 +26,9 @@ labels_of (Control (BrTable table)) = table.targets.now ++ table.default ∷ []
 labels_of _ = []
 
 -- the types of a `select` of several values
-abbrev pub types_of : Op → List ValType
-types_of (Control (TypedSelectMulti types)) = types.now
-types_of _ = []
+abbrev pub select_types : Op → List ValType
+select_types (Control (TypedSelectMulti types)) = types.now
+select_types _ = []
 
 -- none of the labels of a table is missing
 abbrev pub is_complete : Op → Bool

@@ -4,7 +4,7 @@ ghost use Rattle.std.specs.Prelude.{◌≡◌, ◌≢◌, [], true, All, IfOk, I
 ghost use Rattle.std.specs.Str.Parse.{digits_value};
 ghost use Rattle.script_parts.specs.Listed.{listed_labels, listed_types};
 ghost use Rattle.script_parts.specs.Numbers.{IsIndex};
-ghost use Rattle.script_parts.specs.Written.{labels_of, types_of, is_complete};
+ghost use Rattle.script_parts.specs.Written.{labels_of, select_types, is_complete};
 ghost use Rattle.script_parts.specs.declared.failure.LineError.{LineError};
 
 use crate::failure::LineError;
@@ -32,7 +32,7 @@ impl OperatorList {
     /// The operator that has this list.
     pub fn op(&self) -> Op<'_>
         ensures labels { labels_of result ≡ listed_labels self.now }
-        ensures types { types_of result ≡ listed_types self.now }
+        ensures types { select_types result ≡ listed_types self.now }
         ensures complete { is_complete result ≡ true }
     {
         Op::Control(match self {

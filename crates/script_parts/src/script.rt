@@ -99,7 +99,7 @@ enum Part {
 
 impl<'a> Draft<'a> {
     ghost use Rattle.script_parts.specs.declared.failure.LineError.{LineError};
-    ghost use Rattle.script_parts.specs.Lines.{part_of, may_stand, features_or_all, AddsLine};
+    ghost use Rattle.script_parts.specs.Lines.{part_of, may_stand_in, features_or_all, AddsLine};
 
     /// No lines yet.
     pub fn new(alloc: Global) -> Draft<'a> {
@@ -137,7 +137,7 @@ impl<'a> Draft<'a> {
     pub fn add(&mut self, line: Line<'a>, offset: u64) -> Result<(), LineError>
         ensures added { OnOk result (AddsLine self.old self.new line.entry offset) }
         ensures bad { IsErrOf result LineError.Bad
-            ↔ (may_stand line.entry (part_of self.old) self.old.declarations.data_count ≡ false) }
+            ↔ (may_stand_in line.entry (part_of self.old) self.old.declarations.data_count ≡ false) }
     {
         match (line, self.part(), self.declarations.data_count) {
             (Line::Feature(named), Part::Module, _) => {

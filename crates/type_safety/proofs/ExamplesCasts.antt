@@ -229,7 +229,7 @@ stuck_at_wrong d =
     let a = (d'.targets 0 (carrying (null (abstract Extern))) refl).1.0 in
     absurd cc
 
--- ---- references compared, and one converted
+-- ---- references compared, and one converted_operand
 
 abbrev looking_ops : List Op
 looking_ops = ref_null (abstract EqHeap) ∷ ref_null (abstract I31) ∷ Reference RefEq ∷ drops ∷ ref_null (shared Extern) ∷ Reference AnyConvertExtern ∷ drops ∷ end ∷ []

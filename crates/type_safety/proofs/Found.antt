@@ -10,7 +10,7 @@ use Rattle.validate_types.specs.declared.heap.HeapType.TheVariants.{Abstract}
 use Rattle.validate_types.specs.declared.refs.RefType.{RefType}
 use Rattle.validation_rules.specs.Context.{ValType, I32, Ref, Context, IsValidBelow, AllBelow}
 use Rattle.validation_rules.specs.Fits.{MaybeType, Known}
-use Rattle.validation_rules.specs.Found.{abstract_beside, is_found_below, found_pushes, converted, is_same_sharedness, ref_eq_pushes}
+use Rattle.validation_rules.specs.Found.{abstract_beside, is_found_below, found_pushes, converted_operand, is_same_sharedness, ref_eq_pushes}
 use Rattle.validation_rules.specs.Rows.{Looks, guard}
 use Rattle.validation_rules.proofs.Below.{and_true, true_and, below-trans}
 use Rattle.validation_rules.proofs.Steps.{some_injective, guard_some}
@@ -68,9 +68,9 @@ module _ (cx : Context) (laws : IsLawful cx.of_module) where
   abstract_below false true s a h = laws.non_null_below (reference true (Abstract s a)) refl
   abstract_below true false s a h = let e : true ≡ false = h refl in absurd cc
 
-  pub converted_monotone : (from into : AbstractHeapType) (xs ys : List ValType) (pushed : List MaybeType) → AllBelow cx ys xs → found_pushes cx.of_module from (converted cx.of_module into) (map Known xs) ≡ Some pushed → IsMonotoneAt cx (Looks 1 (found_pushes cx.of_module from (converted cx.of_module into))) xs ys pushed
+  pub converted_monotone : (from into : AbstractHeapType) (xs ys : List ValType) (pushed : List MaybeType) → AllBelow cx ys xs → found_pushes cx.of_module from (converted_operand cx.of_module into) (map Known xs) ≡ Some pushed → IsMonotoneAt cx (Looks 1 (found_pushes cx.of_module from (converted_operand cx.of_module into))) xs ys pushed
   converted_monotone from into =
-      found_monotone from (converted cx.of_module into) (λ r. Ref (reference r.nullable (abstract_beside cx.of_module r into))) (λ r. refl)
+      found_monotone from (converted_operand cx.of_module into) (λ r. Ref (reference r.nullable (abstract_beside cx.of_module r into))) (λ r. refl)
       (λ y r l.
       subst (λ s. IsValidBelow cx.of_module (Ref (reference l.lower.nullable (Abstract s into))) (Ref (reference r.nullable (abstract_beside cx.of_module r into)))) (sym l.sharedness)
       (abstract_below l.lower.nullable r.nullable (cx.of_module.is_shared r) into l.without_null))

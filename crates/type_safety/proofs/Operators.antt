@@ -34,7 +34,7 @@ use Rattle.validation_rules.specs.Access.{is_loadable, is_storable, address_type
 use Rattle.validation_rules.specs.Memories.{memory_address_type, memory_copy_row_for}
 use Rattle.validation_rules.specs.Fits.{MaybeType, Known}
 use Rattle.validation_rules.specs.Indirect.{type_reference, function_place, function_reference, typed_callee, call_operand_row, return_call_operand_row}
-use Rattle.validation_rules.specs.Found.{found_pushes, measure_row, converted, ref_eq_pushes}
+use Rattle.validation_rules.specs.Found.{found_pushes, measure_row, converted_operand, ref_eq_pushes}
 use Rattle.validation_rules.specs.Casts.{cast_type, types_on_cast, types_on_cast_fail}
 use Rattle.validation_rules.specs.Structs.{struct_type, struct_field}
 use Rattle.validation_rules.specs.Arrays.{array_type, array_copy_row_for}
@@ -235,8 +235,8 @@ module _ (cx : Context) (laws : IsLawful cx.of_module) where
   reference_lawful (BrOnCastFail cast) = cast_branch_lawful cx laws types_on_cast_fail cast
   reference_lawful RefI31 = plain_lawful cx laws _ _ _ _ _ _
   reference_lawful (I31Get sign) = measure_lawful I31
-  reference_lawful AnyConvertExtern = looking_lawful cx laws _ 1 (found_pushes cx.of_module Extern (converted cx.of_module Any)) (converted_monotone cx laws Extern Any)
-  reference_lawful ExternConvertAny = looking_lawful cx laws _ 1 (found_pushes cx.of_module Any (converted cx.of_module Extern)) (converted_monotone cx laws Any Extern)
+  reference_lawful AnyConvertExtern = looking_lawful cx laws _ 1 (found_pushes cx.of_module Extern (converted_operand cx.of_module Any)) (converted_monotone cx laws Extern Any)
+  reference_lawful ExternConvertAny = looking_lawful cx laws _ 1 (found_pushes cx.of_module Any (converted_operand cx.of_module Extern)) (converted_monotone cx laws Any Extern)
 
   table_lawful : (op : TableOp) → IsLawfulOperator cx (row_operator (table_row cx op))
   table_lawful (TableInit segment i) = by_lookup_lawful (table_type cx i) (λ t. lookup_row (cx.of_module.element_at segment) (table_init_row_for cx t)) (λ t. by_lookup_lawful _ (table_init_row_for cx t) (λ r. plain_lawful cx laws _ _ _ _ _ _))

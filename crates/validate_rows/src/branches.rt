@@ -6,7 +6,7 @@ ghost use Rattle.validation_rules.specs.Operators.{staying_operator};
 ghost use Rattle.validate_stacks.specs.Pops.{IsKept};
 ghost use Rattle.validate_stacks.specs.State.{IsValidBody, body_context};
 ghost use Rattle.validate_stacks.specs.Visits.{step_body, MayVisit, Meets};
-ghost use Rattle.validate_rows.specs.Targets.{is_target, are_targets};
+ghost use Rattle.validate_rows.specs.Targets.{is_table_target, are_targets};
 
 use validate_resources::WasmModuleResources;
 use validate_shapes::labels::label;
@@ -93,13 +93,13 @@ fn check_target<R: WasmModuleResources>(
     count: usize,
 ) -> Result<(), Error>
     requires { IsValidBody (R.context resources.now) stacks.old.body }
-    ensures fits { OnOk result (is_target (R.context resources.now) stacks.old.body count relative_depth
+    ensures fits { OnOk result (is_table_target (R.context resources.now) stacks.old.body count relative_depth
         ≡ true) }
     ensures same { OnOk result (stacks.new ≡ stacks.old) }
     ensures refused { IfErr result (λ e. e.wants_memory ≡ false
-        → is_target (R.context resources.now) stacks.old.body count relative_depth ≡ false) }
+        → is_table_target (R.context resources.now) stacks.old.body count relative_depth ≡ false) }
     ensures idle { stacks.old.body.undone ≡ None
-        → OnErr result (is_target (R.context resources.now) stacks.old.body count relative_depth
+        → OnErr result (is_table_target (R.context resources.now) stacks.old.body count relative_depth
         ≡ false) }
     ensures offset { IfErr result (λ e. e.offset ≡ offset) }
     ensures valid { IsValidBody (R.context resources.now) stacks.new.body }

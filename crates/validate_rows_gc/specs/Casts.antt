@@ -3,5 +3,5 @@
 use Rattle.validation_rules.specs.Casts.{CastTypes}
 use Rattle.validate_rows_gc.specs.declared.casts.CastTypes.{CastTypes as CheckedTypes}
 
-abbrev pub types_of : CheckedTypes → CastTypes
-types_of cast = record { from = cast.from; carried = cast.carried; left = cast.left }
+abbrev pub cast_types : CheckedTypes → CastTypes
+cast_types cast = record { from = cast.from; carried = cast.carried; left = cast.left }

@@ -7,7 +7,7 @@ ghost use Rattle.validation_rules.specs.Casts.{checked_ref as ref_checked, is_ca
 ghost use Rattle.validation_rules.specs.Operators.{row_operator, staying_operator};
 ghost use Rattle.validate_stacks.specs.State.{body_context};
 ghost use Rattle.validate_stacks.specs.Visits.{MayVisit, Meets};
-ghost use Rattle.validate_rows_gc.specs.Casts.{types_of};
+ghost use Rattle.validate_rows_gc.specs.Casts.{cast_types};
 
 use validate_resources::WasmModuleResources;
 use validate_resources::uses::laws;
@@ -297,7 +297,7 @@ fn check_cast_branch<R: WasmModuleResources>(
     requires carried { Valid (R.context resources.now) (ValType.Ref cast.carried) }
     requires left { Valid (R.context resources.now) (ValType.Ref cast.left) }
     ensures { Meets (R.context resources.now) (λ cx. staying_operator
-        (λ hs. cast_branch_row cx hs relative_depth (types_of cast))) offset stacks.old.body result
+        (λ hs. cast_branch_row cx hs relative_depth (cast_types cast))) offset stacks.old.body result
         stacks.new.body }
 {
     let (block_type, kind) = label(stacks, offset, relative_depth)?;

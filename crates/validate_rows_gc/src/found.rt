@@ -3,7 +3,7 @@
 
 ghost use Rattle.std.specs.Prelude.{◌≡◌, true, false, None, Some, IfOk, OnOk, OnErr, IfErr};
 ghost use Rattle.std.specs.Option.{option_and_then};
-ghost use Rattle.validation_rules.specs.Found.{is_found_below, operand_found_below, measure_row, converted as reference_converted, convert_ref_row, is_same_sharedness as are_alike, ref_eq_row};
+ghost use Rattle.validation_rules.specs.Found.{is_found_below, operand_found_below, measure_row, converted_operand, convert_ref_row, is_same_sharedness as are_alike, ref_eq_row};
 ghost use Rattle.validation_rules.specs.Operators.{row_operator, conversion_row};
 ghost use Rattle.validation_rules.specs.References.{i31};
 ghost use Rattle.validation_rules.specs.Valid.{IsValidOperand};
@@ -141,7 +141,7 @@ fn converted<R: WasmModuleResources>(
     found: MaybeType,
 ) -> MaybeType
     requires { IsValidOperand (R.context resources.now) found }
-    ensures exact { result ≡ reference_converted (R.context resources.now) ty found }
+    ensures exact { result ≡ converted_operand (R.context resources.now) ty found }
     ensures valid { IsValidOperand (R.context resources.now) result }
 {
     match found {

@@ -65,8 +65,8 @@ use Rattle.validation_rules.specs.Calls.{may_access, accessible_global, global_t
 use Rattle.validation_rules.specs.Indirect.{type_reference, function_place, function_reference, typed_callee}
 use Rattle.validation_rules.specs.References.{operand_without_null, null_test_pushes, non_null_pushes, br_on_null_row, last_reference, br_on_non_null_row_for, br_on_non_null_row, null_heap, is_null_gate_open, reference_row}
 use Rattle.validation_rules.specs.Tables.{accessible_table, table_type, table_init_row_for, table_copy_row_for, table_row}
-use Rattle.validation_rules.specs.Found.{found_pushes, measure_row, converted, ref_eq_pushes}
-use Rattle.validation_rules.specs.Casts.{CastTypes, checked_ref, is_castable, castable, cast_type, may_cast, checked_cast, split_last, cast_branch_row_for, cast_branch_row, types_on_cast, types_on_cast_fail}
+use Rattle.validation_rules.specs.Found.{found_pushes, measure_row, converted_operand, ref_eq_pushes}
+use Rattle.validation_rules.specs.Casts.{CastTypes, checked_ref, is_castable, castable_type, cast_type, may_cast, checked_cast, split_last, cast_branch_row_for, cast_branch_row, types_on_cast, types_on_cast_fail}
 use Rattle.validation_rules.specs.Structs.{struct_fields, accessible_struct, struct_type, struct_field, field_value, is_packed_field, is_whole_field, struct_row}
 use Rattle.validation_rules.specs.Arrays.{array_element, accessible_array, array_type, is_read_from_data, is_read_from_elements, may_be_copied, array_copy_row_for, array_row}
 use Rattle.validation_rules.specs.Fits.{MaybeType, Bottom, UnknownRef, Known, fits}
@@ -594,7 +594,7 @@ module _ (cx : Context) (laws : IsLawful cx.of_module) where
   measure_valid : (a : AbstractHeapType) → PushesValid cx (row_operator (measure_row cx a))
   measure_valid a = looks_valid _ 1 (found_pushes cx.of_module a (λ x. Known I32)) (found_pushes_valid a (λ x. Known I32) (λ x. refl))
 
-  converted_valid : (a : AbstractHeapType) (x : MaybeType) → IsValidOperand cx.of_module (converted cx.of_module a x)
+  converted_valid : (a : AbstractHeapType) (x : MaybeType) → IsValidOperand cx.of_module (converted_operand cx.of_module a x)
   converted_valid a (Known (Ref r)) = refl
   converted_valid a (Known _) = tt
   converted_valid a (UnknownRef b) = tt
@@ -615,7 +615,7 @@ module _ (cx : Context) (laws : IsLawful cx.of_module) where
 
   pub cast_type_valid : (nullable : Bool) (h : HeapType) (r : RefType) → cast_type cx nullable h ≡ Some r → Valid cx.of_module (Ref r)
   cast_type_valid nullable h r e =
-      let a = and_then_given (option_and_then (checked_ref cx) (reference_to nullable h)) (castable cx.of_module) r e in
+      let a = and_then_given (option_and_then (checked_ref cx) (reference_to nullable h)) (castable_type cx.of_module) r e in
       let b = and_then_given (reference_to nullable h) (checked_ref cx) a.0 a.1 in
       let g = guard_some (is_castable cx.of_module a.0) _ _ a.2 in
       subst (λ (q : RefType). Valid cx.of_module (Ref q)) (some_injective _ _ g.1) (checked_ref_valid b.0 a.0 b.2)
@@ -681,8 +681,8 @@ module _ (cx : Context) (laws : IsLawful cx.of_module) where
   reference_valid (BrOnCastFail cast) = cast_branch_valid types_on_cast_fail (λ p v w. w) cast
   reference_valid RefI31 = plain_valid _ _ _ _ _ _ (λ p. (refl, tt))
   reference_valid (I31Get sign) = measure_valid I31
-  reference_valid AnyConvertExtern = looks_valid _ 1 (found_pushes cx.of_module Extern (converted cx.of_module Any)) (found_pushes_valid Extern (converted cx.of_module Any) (converted_valid Any))
-  reference_valid ExternConvertAny = looks_valid _ 1 (found_pushes cx.of_module Any (converted cx.of_module Extern)) (found_pushes_valid Any (converted cx.of_module Extern) (converted_valid Extern))
+  reference_valid AnyConvertExtern = looks_valid _ 1 (found_pushes cx.of_module Extern (converted_operand cx.of_module Any)) (found_pushes_valid Extern (converted_operand cx.of_module Any) (converted_valid Any))
+  reference_valid ExternConvertAny = looks_valid _ 1 (found_pushes cx.of_module Any (converted_operand cx.of_module Extern)) (found_pushes_valid Any (converted_operand cx.of_module Extern) (converted_valid Extern))
 
   -- ---- tables
 

@@ -34,15 +34,15 @@ abbrev pub is_castable : ModuleContext → RefType → Bool
 is_castable md r = not (is_cont (top_of md r))
 
 -- the type, where a cast may lead to it
-abbrev pub castable : ModuleContext → RefType → Option RefType
-castable md r = guard (is_castable md r) (Some r)
+abbrev pub castable_type : ModuleContext → RefType → Option RefType
+castable_type md r = guard (is_castable md r) (Some r)
 
 -- ---- tests and casts: of any reference of the hierarchy, or null
 
 -- the type of a test or a cast, where a reference to the heap type can be made
 abbrev pub cast_type : Context → Bool → HeapType → Option RefType
 cast_type cx nullable h =
-    option_and_then (castable cx.of_module) (option_and_then (checked_ref cx) (reference_to nullable h))
+    option_and_then (castable_type cx.of_module) (option_and_then (checked_ref cx) (reference_to nullable h))
 
 -- what is tested or cast
 abbrev pub cast_operand : ModuleContext → RefType → ValType

@@ -44,13 +44,13 @@ abbrev pub measure_row : Context → AbstractHeapType → Row
 measure_row cx a = looking_row 1 (found_pushes cx.of_module a (λ x. Known I32))
 
 -- a reference to this abstract type, with null and sharedness as the found one has them
-abbrev pub converted : ModuleContext → AbstractHeapType → MaybeType → MaybeType
-converted md a (Known (Ref r)) = Known (Ref (reference r.nullable (abstract_beside md r a)))
-converted md a _ = UnknownRef (Some a)
+abbrev pub converted_operand : ModuleContext → AbstractHeapType → MaybeType → MaybeType
+converted_operand md a (Known (Ref r)) = Known (Ref (reference r.nullable (abstract_beside md r a)))
+converted_operand md a _ = UnknownRef (Some a)
 
 -- the operand below the one abstract type becomes a reference to the other
 abbrev pub convert_ref_row : Context → AbstractHeapType → AbstractHeapType → Row
-convert_ref_row cx from into = looking_row 1 (found_pushes cx.of_module from (converted cx.of_module into))
+convert_ref_row cx from into = looking_row 1 (found_pushes cx.of_module from (converted_operand cx.of_module into))
 
 -- two operands are of the same sharedness, where both are known
 abbrev pub is_same_sharedness : ModuleContext → MaybeType → MaybeType → Bool

@@ -11,6 +11,7 @@ declared_in d =
       tables = d.tables.items;
       memories = d.memories.items;
       globals = d.globals.items;
+      tags = d.tags.items;
       elements = d.elements.items;
       data_count = d.data_count;
     }

@@ -125,11 +125,12 @@ pub fn module_lists(alloc: Global, declarations: Declarations) -> Result<ModuleL
         tables,
         memories,
         globals,
+        tags,
         elements,
         data_count,
     } = declarations;
     ModuleLists::new(
-        alloc, types, functions, tables, memories, globals, elements, data_count,
+        alloc, types, functions, tables, memories, globals, tags, elements, data_count,
     )
     .map_err(|error| {
         if error.is_out_of_memory() {

@@ -35,3 +35,13 @@ module _ {X : Type 0} (names : List ℕ → X → Type 0) (words : List (Bor (Li
       at (w ∷ ws) i within unnamed [] fit named = absurd named
       at (w ∷ ws) zero within unnamed (x ∷ xs) fit named = unnamed x (both_true (fits x) (list_all fits xs) fit).0 named.0
       at (w ∷ ws) (suc i) within unnamed (x ∷ xs) fit named = at ws i (search (arith)) unnamed xs (both_true (fits x) (list_all fits xs) fit).1 named.1
+
+  -- the same of words that name nothing, whether it fits or not
+  pub not_any_named : (i : ℕ) (d : Bor (List ℕ)) (found : Option X) → i < length words → IfNone found ((x : X) → names (get_or words i d).now x → ⊥) → found ≡ None → (xs : List X) → AllZip names (map text_of words) xs → ⊥
+  not_any_named i d found within read none xs =
+      let unnamed = subst (λ o. IfNone o ((x : X) → names (get_or words i d).now x → ⊥)) none read in
+      not_all_named (λ x. true) i d None within (λ x fits. unnamed x) refl xs (each xs)
+    where
+      each : (xs : List X) → list_all (λ x. true) xs ≡ true
+      each [] = refl
+      each (x ∷ xs) = each xs

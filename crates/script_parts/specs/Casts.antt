@@ -1,12 +1,11 @@
 -- Tests of references, and casts, as a script writes them (the crate's own).
-use Rattle.std.specs.Prelude.{◌≡◌, ℕ, List, [], ◌∷◌, if◌then◌else◌}
-use Rattle.std.specs.Str.Parse.{digits_value}
+use Rattle.std.specs.Prelude.{ℕ, List, [], ◌∷◌, if◌then◌else◌}
 use Rattle.validate_types.specs.declared.refs.RefType.{RefType}
 use Rattle.validate_visit.specs.declared.op.BranchCast.{BranchCast}
 use Rattle.validate_visit.specs.declared.op.ReferenceOp.{ReferenceOp}
 use Rattle.validate_visit.specs.declared.op.ReferenceOp.TheVariants.{RefTestNonNull, RefTestNullable}
 use Rattle.validate_visit.specs.declared.op.ReferenceOp.TheVariants.{RefCastNonNull, RefCastNullable}
-use Rattle.script_parts.specs.Numbers.{IsIndex}
+use Rattle.script_parts.specs.Numbers.{WritesIndex}
 use Rattle.script_parts.specs.References.{IsReferenceName}
 
 -- a test for the values of this type
@@ -20,7 +19,7 @@ cast_to r = if r.nullable then RefCastNullable r.heap_type else RefCastNonNull r
 -- the words write the label, the type of the operand, and the one that it is cast to
 abbrev pub IsBranchCast : List (List ℕ) → BranchCast → Type 0
 IsBranchCast (label ∷ from ∷ to ∷ []) cast =
-    IsIndex label × (cast.relative_depth ≡ digits_value 10 label)
+    WritesIndex label cast.relative_depth
     × IsReferenceName from cast.from_ref_type
     × IsReferenceName to cast.to_ref_type
 IsBranchCast words cast = ⊥

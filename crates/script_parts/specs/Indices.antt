@@ -10,12 +10,15 @@ use Rattle.validate_visit.specs.declared.op.ControlOp.TheVariants.{Br, BrIf, Cal
 use Rattle.validate_visit.specs.declared.op.ControlOp.TheVariants.{ReturnCallRef, CallIndirect}
 use Rattle.validate_visit.specs.declared.op.ControlOp.TheVariants.{ReturnCallIndirect, LocalGet, LocalSet}
 use Rattle.validate_visit.specs.declared.op.ControlOp.TheVariants.{LocalTee, GlobalGet, GlobalSet}
+use Rattle.validate_visit.specs.declared.op.ExceptionOp.{ExceptionOp}
+use Rattle.validate_visit.specs.declared.op.ExceptionOp.TheVariants.{Throw, Catch, Delegate, Rethrow}
 use Rattle.validate_visit.specs.declared.op.MemoryOp.{MemoryOp}
 use Rattle.validate_visit.specs.declared.op.MemoryOp.TheVariants.{MemorySize, MemoryGrow, MemoryInit}
 use Rattle.validate_visit.specs.declared.op.MemoryOp.TheVariants.{DataDrop, MemoryCopy, MemoryFill}
 use Rattle.validate_visit.specs.declared.op.MemoryOp.TheVariants.{MemoryDiscard}
 use Rattle.validate_visit.specs.declared.op.Op.{Op}
 use Rattle.validate_visit.specs.declared.op.Op.TheVariants.{Control, Memory, Reference, Table, Struct, Array}
+use Rattle.validate_visit.specs.declared.op.Op.TheVariants.{Exception}
 use Rattle.validate_visit.specs.declared.op.ReferenceOp.{ReferenceOp}
 use Rattle.validate_visit.specs.declared.op.ReferenceOp.TheVariants.{RefFunc, BrOnNull, BrOnNonNull}
 use Rattle.validate_visit.specs.declared.op.StructOp.{StructOp}
@@ -96,6 +99,14 @@ array_indices (ArrayInitData type segment) = type ∷ segment ∷ []
 array_indices (ArrayInitElem type segment) = type ∷ segment ∷ []
 array_indices _ = []
 
+-- the tag or the label of an operator on exceptions
+abbrev pub exception_indices : ExceptionOp → List ℕ
+exception_indices (Throw tag) = tag ∷ []
+exception_indices (Catch tag) = tag ∷ []
+exception_indices (Delegate label) = label ∷ []
+exception_indices (Rethrow label) = label ∷ []
+exception_indices _ = []
+
 abbrev pub op_indices : Op → List ℕ
 op_indices (Control op) = control_indices op
 op_indices (Reference op) = reference_indices op
@@ -103,4 +114,5 @@ op_indices (Memory op) = memory_indices op
 op_indices (Table op) = table_indices op
 op_indices (Struct op) = struct_indices op
 op_indices (Array op) = array_indices op
+op_indices (Exception op) = exception_indices op
 op_indices _ = []

@@ -2,7 +2,9 @@ pub mod Numbers
 pub mod Written
 pub mod References
 pub mod Values
+pub mod Blocks
 pub mod Casts
+pub mod Catches
 pub mod Fields
 pub mod Types
 pub mod Functions

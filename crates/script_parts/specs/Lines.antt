@@ -23,6 +23,7 @@ use Rattle.script_parts.specs.declared.line.Line.TheVariants.{Function as OnFunc
 use Rattle.script_parts.specs.declared.line.Line.TheVariants.{Table as OnTable}
 use Rattle.script_parts.specs.declared.line.Line.TheVariants.{Memory as OnMemory}
 use Rattle.script_parts.specs.declared.line.Line.TheVariants.{Global as OnGlobal}
+use Rattle.script_parts.specs.declared.line.Line.TheVariants.{Tag as OnTag}
 use Rattle.script_parts.specs.declared.line.Line.TheVariants.{Element as OnElement}
 use Rattle.script_parts.specs.declared.line.Line.TheVariants.{DataCount as OnDataCount}
 use Rattle.script_parts.specs.declared.line.Line.TheVariants.{Body as OnBody, Locals as OnLocals}
@@ -46,6 +47,7 @@ may_stand_in (OnFunction function) Module _ = true
 may_stand_in (OnTable ty) Module _ = true
 may_stand_in (OnMemory ty) Module _ = true
 may_stand_in (OnGlobal ty) Module _ = true
+may_stand_in (OnTag index) Module _ = true
 may_stand_in (OnElement ty) Module _ = true
 may_stand_in (OnDataCount count) Module None = true
 may_stand_in (OnBody body) Module _ = true
@@ -73,42 +75,46 @@ features_after (OnFeature named) None = Some named
 features_after (OnFeature named) (Some before) = Some (joined_features before named)
 features_after _ before = before
 
--- what a line, the one of this number, adds to each list
-abbrev pub types_of : Line → List SubType
-types_of (OnType ty) = ty ∷ []
-types_of _ = []
+-- each list after a line, the one of this number
+abbrev pub types_after : Line → List SubType → List SubType
+types_after (OnType ty) before = before ++ ty ∷ []
+types_after _ before = before
 
-abbrev pub functions_of : Line → List FuncDecl
-functions_of (OnFunction function) = function ∷ []
-functions_of _ = []
+abbrev pub functions_after : Line → List FuncDecl → List FuncDecl
+functions_after (OnFunction function) before = before ++ function ∷ []
+functions_after _ before = before
 
-abbrev pub tables_of : Line → List TableType
-tables_of (OnTable ty) = ty ∷ []
-tables_of _ = []
+abbrev pub tables_after : Line → List TableType → List TableType
+tables_after (OnTable ty) before = before ++ ty ∷ []
+tables_after _ before = before
 
-abbrev pub memories_of : Line → List MemoryType
-memories_of (OnMemory ty) = ty ∷ []
-memories_of _ = []
+abbrev pub memories_after : Line → List MemoryType → List MemoryType
+memories_after (OnMemory ty) before = before ++ ty ∷ []
+memories_after _ before = before
 
-abbrev pub globals_of : Line → List GlobalType
-globals_of (OnGlobal ty) = ty ∷ []
-globals_of _ = []
+abbrev pub globals_after : Line → List GlobalType → List GlobalType
+globals_after (OnGlobal ty) before = before ++ ty ∷ []
+globals_after _ before = before
 
-abbrev pub elements_of : Line → List RefType
-elements_of (OnElement ty) = ty ∷ []
-elements_of _ = []
+abbrev pub tags_after : Line → List ℕ → List ℕ
+tags_after (OnTag index) before = before ++ index ∷ []
+tags_after _ before = before
 
-abbrev pub locals_of : Line → ℕ → List LocalLine
-locals_of (OnLocals n t) number = record { count = n; ty = t; offset = number } ∷ []
-locals_of _ number = []
+abbrev pub elements_after : Line → List RefType → List RefType
+elements_after (OnElement ty) before = before ++ ty ∷ []
+elements_after _ before = before
 
-abbrev pub operators_of : Line → ℕ → List (Op × ℕ)
-operators_of (OnOperator written) number = (written.op, number) ∷ []
-operators_of _ number = []
+abbrev pub locals_after : Line → ℕ → List LocalLine → List LocalLine
+locals_after (OnLocals n t) number before = before ++ record { count = n; ty = t; offset = number } ∷ []
+locals_after _ number before = before
 
-abbrev pub attempts_of : Line → List Bool
-attempts_of (OnOperator written) = written.attempted ∷ []
-attempts_of _ = []
+abbrev pub operators_after : Line → ℕ → List (Op × ℕ) → List (Op × ℕ)
+operators_after (OnOperator written) number before = before ++ (written.op, number) ∷ []
+operators_after _ number before = before
+
+abbrev pub attempts_after : Line → List Bool → List Bool
+attempts_after (OnOperator written) before = before ++ written.attempted ∷ []
+attempts_after _ before = before
 
 -- the `func` or `expr` line after a line
 abbrev pub body_after : Line → ℕ → Option BodyLine → Option BodyLine
@@ -123,14 +129,15 @@ data_count_after _ before = before
 -- the draft with a line, the one of this number, added to it
 pub record AddsLine (old new : Draft) (line : Line) (number : ℕ) : Type 0 where
   pub features : new.features ≡ features_after line old.features
-  pub types : new.declarations.types.items ≡ old.declarations.types.items ++ types_of line
-  pub functions : new.declarations.functions.items ≡ old.declarations.functions.items ++ functions_of line
-  pub tables : new.declarations.tables.items ≡ old.declarations.tables.items ++ tables_of line
-  pub memories : new.declarations.memories.items ≡ old.declarations.memories.items ++ memories_of line
-  pub globals : new.declarations.globals.items ≡ old.declarations.globals.items ++ globals_of line
-  pub elements : new.declarations.elements.items ≡ old.declarations.elements.items ++ elements_of line
+  pub types : new.declarations.types.items ≡ types_after line old.declarations.types.items
+  pub functions : new.declarations.functions.items ≡ functions_after line old.declarations.functions.items
+  pub tables : new.declarations.tables.items ≡ tables_after line old.declarations.tables.items
+  pub memories : new.declarations.memories.items ≡ memories_after line old.declarations.memories.items
+  pub globals : new.declarations.globals.items ≡ globals_after line old.declarations.globals.items
+  pub tags : new.declarations.tags.items ≡ tags_after line old.declarations.tags.items
+  pub elements : new.declarations.elements.items ≡ elements_after line old.declarations.elements.items
   pub data_count : new.declarations.data_count ≡ data_count_after line old.declarations.data_count
   pub body : new.body ≡ body_after line number old.body
-  pub locals : new.locals.items ≡ old.locals.items ++ locals_of line number
-  pub operators : new.operators.ops.items ≡ old.operators.ops.items ++ operators_of line number
-  pub attempts : new.operators.attempts.items ≡ old.operators.attempts.items ++ attempts_of line
+  pub locals : new.locals.items ≡ locals_after line number old.locals.items
+  pub operators : new.operators.ops.items ≡ operators_after line number old.operators.ops.items
+  pub attempts : new.operators.attempts.items ≡ attempts_after line old.operators.attempts.items

@@ -1,5 +1,5 @@
 -- Numbers as a script writes them (the crate's own).
-use Rattle.std.specs.Prelude.{ℕ, ◌<◌, ◌^◌, ℤ, pos, neg_ℤ, List, drop, if◌then◌else◌}
+use Rattle.std.specs.Prelude.{◌≡◌, ℕ, ◌<◌, ◌^◌, ℤ, pos, neg_ℤ, List, drop, if◌then◌else◌}
 use Rattle.std.specs.Str.Parse.{IsNumeral, digits_value, starts_with_minus}
 use Rattle.std.specs.Int.RustNames.{FitsSigned}
 use mir.Syntax.{Width}
@@ -7,6 +7,10 @@ use mir.Syntax.{Width}
 -- digits that write a number in the range of an index
 abbrev pub IsIndex : List ℕ → Type 0
 IsIndex bs = IsNumeral 10 bs × (digits_value 10 bs < 2 ^ 32)
+
+-- digits that write this index
+abbrev pub WritesIndex : List ℕ → ℕ → Type 0
+WritesIndex bs n = IsIndex bs × (n ≡ digits_value 10 bs)
 
 -- digits that write a number in the range of the exponent of an alignment
 abbrev pub IsExponent : List ℕ → Type 0

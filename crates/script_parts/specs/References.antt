@@ -1,17 +1,16 @@
 -- Reference types, as a script writes them (the crate's own).
 use Rattle.std.specs.Prelude.{◌≡◌, ◌⊎◌, ◌++◌, ℕ, List, Bool, true, false, codes}
-use Rattle.std.specs.Str.Parse.{digits_value}
 use Rattle.validate_types.specs.Abstract.{plain_name, heap_name}
 use Rattle.validate_types.specs.declared.heap.HeapType.{HeapType}
 use Rattle.validate_types.specs.declared.heap.HeapType.TheVariants.{Abstract, Concrete}
 use Rattle.validate_types.specs.declared.heap.UnpackedIndex.{UnpackedIndex}
 use Rattle.validate_types.specs.declared.heap.UnpackedIndex.TheVariants.{Module, Id}
 use Rattle.validate_types.specs.declared.refs.RefType.{RefType}
-use Rattle.script_parts.specs.Numbers.{IsIndex}
+use Rattle.script_parts.specs.Numbers.{WritesIndex}
 
 -- the word is the index of a type in the module; no word is an id
 abbrev pub IsIndexOf : List ℕ → UnpackedIndex → Type 0
-IsIndexOf word (Module n) = IsIndex word × (n ≡ digits_value 10 word)
+IsIndexOf word (Module n) = WritesIndex word n
 IsIndexOf word (Id id) = ⊥
 
 -- the word names the heap type

@@ -1,10 +1,14 @@
 -- Operators as a script writes them: plain, or in a `try` line (the crate's own).
 use Rattle.std.specs.Prelude.{ℕ, Bool, true, false, not, ◌&&◌, ◌||◌, List, [], ◌∷◌, ◌++◌}
+use Rattle.std.specs.Prelude.{Option, Some, None}
 use Rattle.validate_visit.specs.Order.{Nesting, nesting, Stays}
 use Rattle.validate_types.specs.declared.types.ValType.{ValType}
+use Rattle.validate_visit.specs.declared.catch.Catch.{Catch}
+use Rattle.validate_visit.specs.declared.frame.BlockType.{BlockType}
+use Rattle.validate_visit.specs.declared.op.ExceptionOp.TheVariants.{TryTable as TryTableOp}
 use Rattle.validate_visit.specs.declared.op.ControlOp.TheVariants.{BrTable, TypedSelectMulti}
 use Rattle.validate_visit.specs.declared.op.Op.{Op}
-use Rattle.validate_visit.specs.declared.op.Op.TheVariants.{Control}
+use Rattle.validate_visit.specs.declared.op.Op.TheVariants.{Control, Exception}
 
 abbrev pub is_staying : Nesting → Bool
 is_staying Stays = true
@@ -29,6 +33,11 @@ labels_of _ = []
 abbrev pub select_types : Op → List ValType
 select_types (Control (TypedSelectMulti types)) = types.now
 select_types _ = []
+
+-- the type and the clauses of a `try_table`
+abbrev pub try_table_of : Op → Option (BlockType × List Catch)
+try_table_of (Exception (TryTableOp table)) = Some (table.ty, table.catches.now)
+try_table_of _ = None
 
 -- none of the labels of a table is missing
 abbrev pub is_complete : Op → Bool

@@ -2,11 +2,11 @@
 
 ghost use Rattle.std.specs.Prelude.{◌≡◌, [], ◌∷◌, IfSome, map};
 ghost use Rattle.std.specs.Str.Parse.{digits_value};
-ghost use Rattle.script_parts.specs.Indices.{array_indices, op_indices, struct_indices};
+ghost use Rattle.script_parts.specs.Indices.{array_indices, exception_indices, op_indices, struct_indices};
 
 use crate::numbers::read_index;
 use validate_visit::{
-    ArrayOp, ControlOp, FieldIndex, MemoryOp, Op, ReferenceOp, StructOp, TableOp,
+    ArrayOp, ControlOp, ExceptionOp, FieldIndex, MemoryOp, Op, ReferenceOp, StructOp, TableOp,
 };
 
 /// The operator with the indices that these words write in the place of its own, if it has so many.
@@ -54,6 +54,7 @@ fn with_index(op: Op<'static>, index: u32) -> Option<Op<'static>>
         Op::Table(TableOp::ElemDrop(_)) => Op::Table(TableOp::ElemDrop(index)),
         Op::Struct(op) => Op::Struct(struct_with_index(op, index)?),
         Op::Array(op) => Op::Array(array_with_index(op, index)?),
+        Op::Exception(op) => Op::Exception(exception_with_index(op, index)?),
         _ => return None,
     })
 }
@@ -82,6 +83,19 @@ fn array_with_index(op: ArrayOp, index: u32) -> Option<ArrayOp>
         ArrayOp::ArrayFill(_) => ArrayOp::ArrayFill(index),
         _ => return None,
     })
+}
+
+/// The operator on exceptions with this index, if it has one index alone.
+fn exception_with_index(op: ExceptionOp<'static>, index: u32) -> Option<ExceptionOp<'static>>
+    ensures { IfSome result (λ op. exception_indices op ≡ index ∷ []) }
+{
+    match op {
+        ExceptionOp::Throw(_) => Some(ExceptionOp::Throw(index)),
+        ExceptionOp::Catch(_) => Some(ExceptionOp::Catch(index)),
+        ExceptionOp::Delegate(_) => Some(ExceptionOp::Delegate(index)),
+        ExceptionOp::Rethrow(_) => Some(ExceptionOp::Rethrow(index)),
+        _ => None,
+    }
 }
 
 /// The operator with these indices, if it has two.

@@ -3,7 +3,9 @@
 #![tactic(auto)]
 
 pub mod access;
+pub mod blocks;
 pub mod casts;
+pub mod catches;
 pub mod failure;
 pub mod fields;
 pub mod functions;

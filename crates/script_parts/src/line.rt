@@ -20,6 +20,8 @@ pub enum Line<'a> {
     Memory(MemoryType),
     /// `global ..`: the module declares a global of this type.
     Global(GlobalType),
+    /// `tag N`: the module declares a tag of the type at this index.
+    Tag(u32),
     /// `elem T`: the module declares an element segment of this type.
     Element(RefType),
     /// `data COUNT`: the module has this many data segments.

@@ -1,18 +1,24 @@
 //! The lists of operators, each read before the operator that lends it.
 
-ghost use Rattle.std.specs.Prelude.{◌≡◌, ◌≢◌, [], true, All, IfOk, IsErrOf, OnOk, map};
+ghost use Rattle.std.specs.Prelude.{◌≡◌, ◌≢◌, List, [], true, All, IfOk, IsErrOf, IsSomeAnd, OnOk, map};
 ghost use Rattle.std.specs.Str.Parse.{digits_value};
-ghost use Rattle.script_parts.specs.Listed.{listed_labels, listed_types};
+ghost use Rattle.script_parts.specs.Listed.{listed_labels, listed_types, listed_try_table};
+ghost use Rattle.validate_visit.specs.declared.catch.Catch.{Catch};
+ghost use Rattle.validate_visit.specs.declared.frame.BlockType.{BlockType};
+ghost use Rattle.script_parts.specs.Blocks.{fits_block};
+ghost use Rattle.script_parts.specs.Catches.{AreTryImmediates};
 ghost use Rattle.script_parts.specs.Numbers.{IsIndex};
-ghost use Rattle.script_parts.specs.Written.{labels_of, select_types, is_complete};
+ghost use Rattle.script_parts.specs.Written.{labels_of, select_types, try_table_of, is_complete};
 ghost use Rattle.script_parts.specs.declared.failure.LineError.{LineError};
 
+use crate::blocks::read_block_type;
+use crate::catches::read_catches;
 use crate::failure::LineError;
 use crate::numbers::{read_index, read_indices};
 use crate::values::read_value_types;
 use std::alloc::Global;
 use validate_types::ValType;
-use validate_visit::{BrTable, ControlOp, Op};
+use validate_visit::{BlockType, BrTable, Catch, ControlOp, ExceptionOp, Op, TryTable};
 
 /// The list of an operator that has one.
 #[derive(Drop)]
@@ -26,6 +32,13 @@ pub enum OperatorList {
     },
     /// The types of a `select` of several values.
     Types(Vec<ValType>),
+    /// The clauses of a `try_table`.
+    Catches {
+        /// The type of the block.
+        ty: BlockType,
+        /// The clauses.
+        catches: Vec<Catch>,
+    },
 }
 
 impl OperatorList {
@@ -33,22 +46,28 @@ impl OperatorList {
     pub fn op(&self) -> Op<'_>
         ensures labels { labels_of result ≡ listed_labels self.now }
         ensures types { select_types result ≡ listed_types self.now }
+        ensures try_table { try_table_of result ≡ listed_try_table self.now }
         ensures complete { is_complete result ≡ true }
     {
-        Op::Control(match self {
-            OperatorList::Labels { targets, default } => ControlOp::BrTable(BrTable {
-                targets,
-                complete: true,
-                default: *default,
-            }),
-            OperatorList::Types(types) => ControlOp::TypedSelectMulti(types),
-        })
+        match self {
+            OperatorList::Labels { targets, default } => {
+                Op::Control(ControlOp::BrTable(BrTable {
+                    targets,
+                    complete: true,
+                    default: *default,
+                }))
+            }
+            OperatorList::Types(types) => Op::Control(ControlOp::TypedSelectMulti(types)),
+            OperatorList::Catches { ty, catches } => {
+                Op::Exception(ExceptionOp::TryTable(TryTable { ty: *ty, catches }))
+            }
+        }
     }
 }
 
 /// Whether the operator of this name has a list.
 pub fn has_list(name: &str) -> bool {
-    matches!(name, "br_table" | "select_multi")
+    matches!(name, "br_table" | "select_multi" | "try_table")
 }
 
 /// Reads the list of an operator: its name, and the words of the list after it.
@@ -58,6 +77,7 @@ pub fn read_list(alloc: Global, words: &[&str]) -> Result<OperatorList, LineErro
         Some((&"select_multi", types)) => {
             Ok(OperatorList::Types(read_value_types(alloc, types)?))
         }
+        Some((&"try_table", immediates)) => read_try_table(alloc, immediates),
         _ => Err(LineError::Bad),
     }
 }
@@ -74,4 +94,24 @@ fn read_labels(alloc: Global, labels: &[&str]) -> Result<OperatorList, LineError
     let default = read_index(default).ok_or(LineError::Bad)?;
     let targets = read_indices(alloc, targets)?;
     Ok(OperatorList::Labels { targets, default })
+}
+
+/// The immediates of a `try_table`: its type, or none, which means the empty one, and its clauses.
+fn read_try_table(alloc: Global, words: &[&str]) -> Result<OperatorList, LineError>
+    ensures read { IfOk result (λ list. IsSomeAnd (listed_try_table list)
+        (λ table. AreTryImmediates (map (λ word. word.now) words.now) table.0 table.1)) }
+    ensures bad { IsErrOf result LineError.Bad → (ty : BlockType) → (catches : List Catch)
+        → fits_block ty ≡ true → ¬ (AreTryImmediates (map (λ word. word.now) words.now) ty catches) }
+{
+    if let Some((first, clauses)) = words.split_first() {
+        if let Some(ty) = read_block_type(first) {
+            let catches = read_catches(alloc, clauses)?;
+            return Ok(OperatorList::Catches { ty, catches });
+        }
+    }
+    let catches = read_catches(alloc, words)?;
+    Ok(OperatorList::Catches {
+        ty: BlockType::Empty,
+        catches,
+    })
 }

@@ -53,6 +53,8 @@ pub struct Declarations {
     pub memories: Vec<MemoryType>,
     /// Its globals.
     pub globals: Vec<GlobalType>,
+    /// The indices of the types of its tags.
+    pub tags: Vec<u32>,
     /// The types of its element segments.
     pub elements: Vec<RefType>,
     /// How many data segments it has, if it says so.
@@ -111,6 +113,7 @@ impl<'a> Draft<'a> {
                 tables: Vec::new(alloc),
                 memories: Vec::new(alloc),
                 globals: Vec::new(alloc),
+                tags: Vec::new(alloc),
                 elements: Vec::new(alloc),
                 data_count: None,
             },
@@ -151,6 +154,7 @@ impl<'a> Draft<'a> {
             (Line::Table(ty), Part::Module, _) => self.declarations.tables.push(ty)?,
             (Line::Memory(ty), Part::Module, _) => self.declarations.memories.push(ty)?,
             (Line::Global(ty), Part::Module, _) => self.declarations.globals.push(ty)?,
+            (Line::Tag(index), Part::Module, _) => self.declarations.tags.push(index)?,
             (Line::Element(ty), Part::Module, _) => self.declarations.elements.push(ty)?,
             (Line::DataCount(count), Part::Module, None) => {
                 self.declarations.data_count = Some(count);

@@ -4,7 +4,7 @@ ghost use Rattle.std.specs.Prelude.{◌≡◌, ◌++◌, ◌∷◌, [], true, fa
 ghost use Rattle.script_parts.specs.Written.{may_be_attempted, may_all_be_attempted};
 
 use std::alloc::{AllocError, Global};
-use validate_visit::{ControlOp, Op};
+use validate_visit::{ControlOp, ExceptionOp, Op};
 
 /// An operator, and whether its line is a `try` line.
 #[derive(Drop)]
@@ -96,6 +96,12 @@ fn may_be_attempted(op: Op<'_>) -> bool
                 | ControlOp::If(_)
                 | ControlOp::Else
                 | ControlOp::End
+        ) | Op::Exception(
+            ExceptionOp::TryTable(_)
+                | ExceptionOp::Try(_)
+                | ExceptionOp::Catch(_)
+                | ExceptionOp::CatchAll
+                | ExceptionOp::Delegate(_)
         )
     )
 }

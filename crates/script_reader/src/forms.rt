@@ -10,9 +10,10 @@ use crate::conversions::CONVERSIONS;
 use crate::memory::LOADS_AND_STORES;
 use crate::numeric::numeric_operator;
 use script_parts::names::named_in;
-use validate_visit::Op::{Array, Atomic, Control, Memory, Reference, Struct, Table};
+use validate_visit::Op::{Array, Atomic, Control, Exception, Memory, Reference, Struct, Table};
 use validate_visit::{
-    ArrayOp, AtomicOp, BlockType, ControlOp, MemoryOp, NumberType, Op, ReferenceOp, Sign, TableOp,
+    ArrayOp, AtomicOp, BlockType, ControlOp, ExceptionOp, MemoryOp, NumberType, Op, ReferenceOp,
+    Sign, TableOp,
 };
 
 /// The immediates of an operator, with the operator that has them: those of a line come in the place of
@@ -24,7 +25,7 @@ pub enum Form {
     /// One index or two.
     Indexed(Op<'static>),
     /// A block type, or none, which means the empty one.
-    Block(ControlOp<'static>),
+    Block(Op<'static>),
     /// A constant of this type, or none, which means 0.
     Constant(NumberType),
     /// The type of a `select`.
@@ -50,9 +51,9 @@ pub enum Form {
 const FORMS: &[(&str, Form)] = &[
     ("unreachable", Plain(Control(ControlOp::Unreachable))),
     ("nop", Plain(Control(ControlOp::Nop))),
-    ("block", Block(ControlOp::Block(BlockType::Empty))),
-    ("loop", Block(ControlOp::Loop(BlockType::Empty))),
-    ("if", Block(ControlOp::If(BlockType::Empty))),
+    ("block", Block(Control(ControlOp::Block(BlockType::Empty)))),
+    ("loop", Block(Control(ControlOp::Loop(BlockType::Empty)))),
+    ("if", Block(Control(ControlOp::If(BlockType::Empty)))),
     ("else", Plain(Control(ControlOp::Else))),
     ("end", Plain(Control(ControlOp::End))),
     ("return", Plain(Control(ControlOp::Return))),
@@ -168,6 +169,16 @@ const FORMS: &[(&str, Form)] = &[
         "memory.discard",
         Indexed(Memory(MemoryOp::MemoryDiscard(0))),
     ),
+    (
+        "legacy_try",
+        Block(Exception(ExceptionOp::Try(BlockType::Empty))),
+    ),
+    ("catch", Indexed(Exception(ExceptionOp::Catch(0)))),
+    ("catch_all", Plain(Exception(ExceptionOp::CatchAll))),
+    ("delegate", Indexed(Exception(ExceptionOp::Delegate(0)))),
+    ("throw", Indexed(Exception(ExceptionOp::Throw(0)))),
+    ("throw_ref", Plain(Exception(ExceptionOp::ThrowRef))),
+    ("rethrow", Indexed(Exception(ExceptionOp::Rethrow(0)))),
     ("atomic.fence", Fence),
     ("pause", Plain(Atomic(AtomicOp::Pause))),
 ];

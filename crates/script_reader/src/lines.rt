@@ -67,6 +67,7 @@ fn read_single(keyword: &str, words: &[&str]) -> Option<Line<'static>> {
     };
     match keyword {
         "feature" => Some(Line::Feature(read_feature(word)?)),
+        "tag" => Some(Line::Tag(read_index(word)?)),
         "elem" => Some(Line::Element(read_reference(word)?)),
         "data" => Some(Line::DataCount(read_index(word)?)),
         "func" => Some(Line::Body(Body::Function(read_index(word)?))),

@@ -3,6 +3,7 @@
 use crate::access::with_access;
 use crate::forms::{Form, form_of};
 use script_parts::OperatorList;
+use script_parts::blocks::read_block_type;
 use script_parts::casts::{read_branch_cast, ref_cast, ref_test};
 use script_parts::indexed::read_indexed;
 use script_parts::listed::has_list;
@@ -12,8 +13,8 @@ use script_parts::references::{read_heap_type, read_reference};
 use script_parts::values::read_value_type;
 use std::slice;
 use validate_visit::{
-    AtomicOp, BlockType, ControlOp, Ieee32, Ieee64, NumberType, NumericOp, Op, Ordering,
-    ReferenceOp,
+    AtomicOp, BlockType, ControlOp, ExceptionOp, Ieee32, Ieee64, NumberType, NumericOp, Op,
+    Ordering, ReferenceOp,
 };
 
 /// The orderings of a fence.
@@ -44,7 +45,7 @@ fn read_flat_operator(words: &[&str]) -> Option<Op<'static>> {
         (Form::Plain(op), []) => Some(op),
         (Form::Indexed(op), _) => read_indexed(op, immediates),
         (Form::Access(op), _) => with_access(op, immediates),
-        (Form::Block(op), []) => Some(Op::Control(op)),
+        (Form::Block(op), []) => Some(op),
         (Form::Constant(ty), []) => constant(ty, "0"),
         (Form::BranchCast, _) => {
             let cast = read_branch_cast(immediates)?;
@@ -62,7 +63,7 @@ fn read_flat_operator(words: &[&str]) -> Option<Op<'static>> {
 /// The operator of this form that has this word as its immediate.
 fn read_with(form: Form, immediate: &str) -> Option<Op<'static>> {
     match form {
-        Form::Block(op) => Some(Op::Control(with_block_type(op, read_block_type(immediate)?))),
+        Form::Block(op) => Some(with_block_type(op, read_block_type(immediate)?)),
         Form::Constant(ty) => constant(ty, immediate),
         Form::SelectType => {
             let ty = read_value_type(immediate)?;
@@ -97,19 +98,12 @@ fn constant(ty: NumberType, value: &str) -> Option<Op<'static>> {
 }
 
 /// The opener with this block type.
-fn with_block_type(op: ControlOp<'static>, ty: BlockType) -> ControlOp<'static> {
+fn with_block_type(op: Op<'static>, ty: BlockType) -> Op<'static> {
     match op {
-        ControlOp::Block(_) => ControlOp::Block(ty),
-        ControlOp::Loop(_) => ControlOp::Loop(ty),
-        ControlOp::If(_) => ControlOp::If(ty),
+        Op::Control(ControlOp::Block(_)) => Op::Control(ControlOp::Block(ty)),
+        Op::Control(ControlOp::Loop(_)) => Op::Control(ControlOp::Loop(ty)),
+        Op::Control(ControlOp::If(_)) => Op::Control(ControlOp::If(ty)),
+        Op::Exception(ExceptionOp::Try(_)) => Op::Exception(ExceptionOp::Try(ty)),
         other => other,
-    }
-}
-
-/// The block type that a word names: a value type, or the index of a function type.
-fn read_block_type(word: &str) -> Option<BlockType> {
-    match read_value_type(word) {
-        Some(ty) => Some(BlockType::Val(ty)),
-        None => read_index(word).map(BlockType::FuncType),
     }
 }

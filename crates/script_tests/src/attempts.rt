@@ -7,8 +7,8 @@ use std::process::Abort;
 use std::test::Fail;
 
 /// The first words of lines that are no operators, and the operators that can't be attempted.
-const PLAIN: &str = "feature type fn table memory global elem data func expr local \
-    block loop if else end try";
+const PLAIN: &str = "feature type fn table memory global tag elem data func expr local \
+    block loop if else end try_table legacy_try catch catch_all delegate try";
 
 /// Whether the line is an operator that may be attempted.
 fn may_be_attempted(line: &str) -> bool {

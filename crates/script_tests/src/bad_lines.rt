@@ -119,6 +119,18 @@ global I32
 global func
 global 0
 
+tag
+tag x
+tag 0 0
+tag -1
+tag +1
+tag 4294967296
+tag i32
+tag func
+tag func ->
+Tag 0
+tags 0
+
 memory shared 64
 memory 32
 memory 64 64
@@ -149,7 +161,6 @@ local 1 func
 local 1 i8
 local 1 mut:i32
 table.atomic.get 0
-try_table
 v128.const 0
 f32.const -1
 f32.const 4294967296
@@ -344,6 +355,127 @@ pause 0
 i32.add offset=1
 ";
 
+/// Bad lines in a body: operators on exceptions, and clauses.
+const ON_EXCEPTIONS: &str = "
+tag 0
+throw
+throw x
+throw i32
+throw 0 0
+throw -1
+throw 4294967296
+throw_ref 0
+throw.ref
+rethrow
+rethrow x
+rethrow 0 0
+rethrow 4294967296
+legacy_try x
+legacy_try func
+legacy_try -1
+legacy_try 0 0
+legacy_try i32 i32
+legacy_try 4294967296
+legacy_try catch:0:0
+legacy_catch 0
+catch
+catch x
+catch 0 0
+catch i32
+catch -1
+catch 4294967296
+catch:0:0
+catch_ref 0
+catch_all 0
+catch_all:0
+catch_all_ref
+delegate
+delegate x
+delegate 0 0
+delegate +0
+delegate 4294967296
+try try_table
+try try_table i32
+try try_table catch_all:0
+try try_table catch:0:0 catch_all_ref:0
+try legacy_try
+try legacy_try i32
+try catch 0
+try catch_all
+try delegate 0
+try throw
+try rethrow
+try throw_ref 0
+
+try_table x
+try_table i8
+try_table func
+try_table i32 i32
+try_table 0 0
+try_table 0 i32
+try_table -1
+try_table 4294967296
+try_table ref:1048576
+try_table ->
+try_table catch
+try_table catch:
+try_table catch:0
+try_table catch:0:
+try_table catch::0
+try_table catch::
+try_table catch:0:0:
+try_table catch:0:0:0
+try_table catch:x:0
+try_table catch:0:x
+try_table catch:-1:0
+try_table catch:0:-1
+try_table catch:+0:0
+try_table catch:0:+0
+try_table catch:4294967296:0
+try_table catch:0:4294967296
+try_table catch 0 0
+try_table catch: 0:0
+try_table catch:0 :0
+try_table catch=0:0
+try_table catch:0,0
+try_table Catch:0:0
+try_table xcatch:0:0
+try_table catch:0:0,
+try_table catch_ref
+try_table catch_ref:0
+try_table catch_ref:0:
+try_table catch_ref::0
+try_table catch_ref:0:0:0
+try_table catch_ref:x:0
+try_table catch_ref:0:x
+try_table catch_ref:4294967296:0
+try_table catch_ref:0:4294967296
+try_table catch_all
+try_table catch_all:
+try_table catch_all:x
+try_table catch_all:-1
+try_table catch_all:+0
+try_table catch_all:0:0
+try_table catch_all:4294967296
+try_table catch_all_ref
+try_table catch_all_ref:
+try_table catch_all_ref:x
+try_table catch_all_ref:0:0
+try_table catch_all_ref:4294967296
+try_table catch_reference:0
+try_table catch-all:0
+try_table all:0
+try_table delegate:0
+try_table catch:0:0 i32
+try_table catch_all:0 0
+try_table i32 catch_all:0 0
+try_table catch:0:0 catch_all
+try_table catch:0:0 x catch_all:0
+try_table 0 catch:0
+Try_table
+try-table
+";
+
 /// Lines that would be good elsewhere. The first bad one counts, and where the body's line is missing, the
 /// one behind the last.
 const OUT_OF_PLACE: &str = "
@@ -418,5 +550,6 @@ fn bad_lines(rt: HostRuntime) -> Result<(), Fail> {
     expect_bad_lines(&rt, "", FIRST)?;
     expect_bad_lines(&rt, "type func ->\n", IN_A_MODULE)?;
     expect_bad_lines(&rt, HEAD, IN_A_BODY)?;
+    expect_bad_lines(&rt, HEAD, ON_EXCEPTIONS)?;
     expect_transcript(&rt, "", OUT_OF_PLACE)
 }

@@ -40,6 +40,10 @@ mod composite_table;
 #[cfg(test)]
 mod composites;
 #[cfg(test)]
+mod exception_rules;
+#[cfg(test)]
+mod exceptions;
+#[cfg(test)]
 mod expressions;
 #[cfg(test)]
 mod externals;
@@ -55,6 +59,8 @@ mod globals;
 mod i31;
 #[cfg(test)]
 mod indirect_rules;
+#[cfg(test)]
+mod legacy_exceptions;
 #[cfg(test)]
 mod lines;
 #[cfg(test)]
@@ -83,6 +89,8 @@ mod tables;
 mod transcript;
 #[cfg(test)]
 mod undone;
+#[cfg(test)]
+mod unwinding;
 #[cfg(test)]
 mod values;
 #[cfg(test)]

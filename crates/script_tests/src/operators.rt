@@ -4,7 +4,7 @@
 ghost use Rattle.std.specs.Prelude.{◌<◌, vec_len};
 
 use crate::composite_table::{COMPOSITES, DECLARED_COMPOSITES};
-use crate::tables::{ATOMIC, CONVERSIONS, MEMORY, NUMERIC, TABLE};
+use crate::tables::{ATOMIC, CONVERSIONS, EXCEPTIONS, MEMORY, NUMERIC, TABLE};
 use crate::transcript::{expect_behind, expect_run};
 use std::process::Abort;
 use std::test::Fail;
@@ -22,7 +22,7 @@ sign_extension:          sign extension operations support is not enabled
 saturating_float_to_int: saturating float to int conversions support is not enabled
 threads:                 threads support is not enabled
 shared_everything_threads
-exceptions
+exceptions:              exceptions support is not enabled
 legacy_exceptions
 tail_call:               tail calls support is not enabled
 function_references:     function references support is not enabled
@@ -83,6 +83,7 @@ const OTHERS: &[(&str, &str)] = &[
     ("f64", "f32"),
     ("funcref", "externref"),
     ("externref", "funcref"),
+    ("exnref", "externref"),
 ];
 
 /// Whether a word names a reference type by what it refers to.
@@ -119,6 +120,7 @@ const CONSTANTS: &[(&str, &str)] = &[
     ("f64", "f64.const"),
     ("funcref", "ref.null func"),
     ("externref", "ref.null extern"),
+    ("exnref", "ref.null exn"),
 ];
 
 /// The operator that gives one value of this type, if the tables name it.
@@ -474,4 +476,10 @@ fn operators_on_a_table_of_32_bits(rt: HostRuntime) -> Result<(), Fail> {
 fn operators_on_a_table_of_64_bits(rt: HostRuntime) -> Result<(), Fail> {
     let module = "type func i32 i64 -> f32\ntable funcref 64\nelem funcref\n";
     expect_table(&rt, TABLE, 10, module, "i64")
+}
+
+#[test]
+fn operators_on_exceptions(rt: HostRuntime) -> Result<(), Fail> {
+    let module = "type func i32 ->\ntype func f64 funcref i32 ->\ntag 0\ntag 1\ntag 2\n";
+    expect_table(&rt, EXCEPTIONS, 4, module, "")
 }

@@ -275,3 +275,12 @@ table.copy 0 0:    it it it      ->         | bulk_memory
 ref.null func:                   -> funcref | reference_types
 call_indirect 1 0: i32 i64 it    -> f32
 ";
+
+/// Throws of tags 0 to 2, whose types are `[] -> []`, `[i32] -> []` and `[f64 funcref i32] -> []`, and of a
+/// reference.
+pub const EXCEPTIONS: &str = "
+throw 0:                   -> | exceptions
+throw 1:   i32             -> | exceptions
+throw 2:   f64 funcref i32 -> | exceptions
+throw_ref: exnref          -> | exceptions
+";

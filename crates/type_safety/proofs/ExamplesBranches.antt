@@ -26,7 +26,7 @@ abbrev types : List SubType
 types = a_type [] [] ∷ a_type (I32 ∷ []) (I64 ∷ []) ∷ []
 
 abbrev declared : Declared
-declared = record { types = types; functions = []; tables = []; memories = []; globals = []; elements = []; data_count = None }
+declared = record { types = types; functions = []; tables = []; memories = []; globals = []; tags = []; elements = []; data_count = None }
 
 abbrev to_nothing : BlockType
 to_nothing = FuncType 0

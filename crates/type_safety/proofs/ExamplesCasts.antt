@@ -52,7 +52,7 @@ abbrev gives : List ValType → SubType
 gives results = a_type (FuncInner (record { params = []; results = results }))
 
 abbrev declared : Declared
-declared = record { types = gives [] ∷ gives (I32 ∷ null (abstract Any) ∷ []) ∷ a_type (StructInner []) ∷ []; functions = []; tables = []; memories = []; globals = []; elements = []; data_count = None }
+declared = record { types = gives [] ∷ gives (I32 ∷ null (abstract Any) ∷ []) ∷ a_type (StructInner []) ∷ []; functions = []; tables = []; memories = []; globals = []; tags = []; elements = []; data_count = None }
 
 abbrev cx : Context
 cx = record { of_module = context_of declared; features = record { 0 = multi_value + reference_types + gc + shared_everything_threads }; shared = false; locals = []; set_at_entry = [] }

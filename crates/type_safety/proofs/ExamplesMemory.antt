@@ -28,7 +28,7 @@ use Rattle.type_safety.specs.Theorem.{IsTypeSafe}
 use Rattle.type_safety.proofs.Bodies.{body_safety}
 
 abbrev declared : Declared
-declared = record { types = []; functions = []; globals = []; tables = []; memories = record { memory64 = false; shared = false } ∷ record { memory64 = true; shared = false } ∷ []; elements = []; data_count = None }
+declared = record { types = []; functions = []; globals = []; tags = []; tables = []; memories = record { memory64 = false; shared = false } ∷ record { memory64 = true; shared = false } ∷ []; elements = []; data_count = None }
 
 abbrev cx : Context
 cx = record { of_module = context_of declared; features = record { 0 = bulk_memory_opt }; shared = false; locals = []; set_at_entry = [] }

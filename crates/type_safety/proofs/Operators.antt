@@ -9,7 +9,7 @@ use Rattle.validate_types.specs.Refs.{nullable_reference, non_null_reference}
 use Rattle.validate_visit.specs.Gates.{gate_of}
 use Rattle.validate_visit.specs.Numbers.{number_type, integer_type, packed_type, access_type}
 use Rattle.validate_visit.specs.declared.op.Op.{Op}
-use Rattle.validate_visit.specs.declared.op.Op.TheVariants.{Control, Numeric, Convert, Memory, Atomic, Reference, Table, Struct, Array}
+use Rattle.validate_visit.specs.declared.op.Op.TheVariants.{Control, Numeric, Convert, Memory, Atomic, Reference, Table, Struct, Array, Exception}
 use Rattle.validate_visit.specs.declared.op.ControlOp.{ControlOp}
 use Rattle.validate_visit.specs.declared.op.ControlOp.TheVariants.{Unreachable, Nop, Block as BlockOp, Loop as LoopOp, If as IfOp, Else as ElseOp, End, Br, BrIf, BrTable, Return, Call, ReturnCall, CallIndirect, ReturnCallIndirect, CallRef, ReturnCallRef, Drop, Select, TypedSelect, TypedSelectMulti, LocalGet, LocalSet, LocalTee, GlobalGet, GlobalSet}
 use Rattle.validate_visit.specs.declared.op.NumericOp.{NumericOp}
@@ -28,6 +28,8 @@ use Rattle.validate_visit.specs.declared.op.StructOp.{StructOp}
 use Rattle.validate_visit.specs.declared.op.StructOp.TheVariants.{StructNew, StructNewDefault, StructGet, StructGetPacked, StructSet}
 use Rattle.validate_visit.specs.declared.op.ArrayOp.{ArrayOp}
 use Rattle.validate_visit.specs.declared.op.ArrayOp.TheVariants.{ArrayNew, ArrayNewDefault, ArrayNewFixed, ArrayNewData, ArrayNewElem, ArrayGet, ArrayGetPacked, ArraySet, ArrayLen, ArrayFill, ArrayCopy, ArrayInitData, ArrayInitElem}
+use Rattle.validate_visit.specs.declared.op.ExceptionOp.{ExceptionOp}
+use Rattle.validate_visit.specs.declared.op.ExceptionOp.TheVariants.{TryTable as TryTableOp, Throw, ThrowRef, Try, Catch as CatchOp, CatchAll, Delegate, Rethrow}
 use Rattle.validation_rules.specs.Calls.{global_type, callee, tail_call_row}
 use Rattle.validation_rules.specs.Context.{Signature, ValType, I32, I64, F32, F64, V128, BlockType, Context, AllBelow, block_signature}
 use Rattle.validation_rules.specs.Access.{is_loadable, is_storable, address_types, atomic_address_types, access_row}
@@ -40,7 +42,9 @@ use Rattle.validation_rules.specs.Structs.{struct_type, struct_field}
 use Rattle.validation_rules.specs.Arrays.{array_type, array_copy_row_for}
 use Rattle.validation_rules.specs.References.{null_heap, null_test_pushes, non_null_pushes}
 use Rattle.validation_rules.specs.Tables.{table_type, table_init_row_for, table_copy_row_for}
-use Rattle.validation_rules.specs.Rows.{FrameKind, Block, If, Loop, Head, params, BeginsElse, Ends, Plain, Looks, Row, Operator, guard}
+use Rattle.validation_rules.specs.Exceptions.{exception_types, catch_clauses, operator_catching, catch_operator, exception_operator}
+use Rattle.validation_rules.specs.Branches.{has_label}
+use Rattle.validation_rules.specs.Rows.{FrameKind, Block, If, Loop, TryTable, LegacyTry, Head, params, Opens, BeginsElse, BeginsCatch, Ends, Delegates, Clause, is_if, is_instruction, Plain, Looks, Row, Operator, guard}
 use Rattle.validation_rules.specs.Operators.{plain_row, plain_row_if, checked_block, opening_operator_if, opener, staying_operator, row_operator, lookup_row, drop_pushes, select_pushes, lookups_row, struct_row, array_row, control_operator, numeric_row, convert_row, memory_row, atomic_row, reference_row, table_row, ungated_operator, operator, operators}
 use Rattle.validation_rules.proofs.Steps.{some_injective, guard_some}
 use Rattle.type_safety.proofs.Laws.{IsMonotoneAt, IsLawfulOperator}
@@ -48,7 +52,7 @@ use Rattle.type_safety.proofs.Branches.{br_lawful, br_if_lawful, br_table_lawful
 use Rattle.type_safety.proofs.Found.{measure_monotone, converted_monotone, ref_eq_monotone}
 use Rattle.type_safety.proofs.Casts.{cast_branch_lawful}
 use Rattle.type_safety.proofs.References.{is_null_monotone, non_null_monotone, br_on_null_lawful, br_on_non_null_lawful}
-use Rattle.type_safety.proofs.Plain.{plain_monotone, plain_below, below_front, no_target, found_lawful, flat_lawful, plain_lawful, looking_lawful, closing_lawful, behind_lawful}
+use Rattle.type_safety.proofs.Plain.{plain_monotone, plain_below, below_front, no_target, found_lawful, flat_lawful, plain_lawful, looking_lawful, delimiting_lawful, closing_lawful, behind_lawful}
 
 module _ (cx : Context) (laws : IsLawful cx.of_module) where
   -- ---- the operators of the table
@@ -281,6 +285,45 @@ module _ (cx : Context) (laws : IsLawful cx.of_module) where
   array_lawful (ArrayFill i) = lookups_lawful (array_type cx i) (taken i) _ (λ f t. plain_lawful cx laws _ _ _ _ _ _)
   array_lawful (ArrayInitData i segment) = lookups_lawful (array_type cx i) (taken i) _ (λ f t. plain_lawful cx laws _ _ _ _ _ _)
 
+  -- ---- exceptions
+
+  -- the clauses of an operator that opens a frame of another kind than `if`
+  catching_lawful : (op : Operator) (h : Head) → op.form ≡ Opens h → is_if h.kind ≡ false → IsLawfulOperator cx op → (o : Option (List Clause)) → IsLawfulOperator cx (operator_catching op o)
+  catching_lawful op h opens other v (Some clauses) =
+      record {
+        row = λ hs. record { monotone = (v.row hs).monotone; reaches = (v.row hs).reaches };
+        closing = λ hs i. let clash : true ≡ false = sym (ap is_instruction opens) ∙ i in absurd cc;
+        takes_params = v.takes_params;
+      }
+  catching_lawful op h opens other v None =
+      record {
+        row = λ hs. no_target cx laws hs _ refl (plain_monotone cx laws [] [] []);
+        closing = λ hs i. let clash : true ≡ false = sym (ap is_instruction opens) ∙ i in absurd cc;
+        takes_params = λ hs k ys pushed e i.
+            let same : Opens h ≡ Opens k = sym opens ∙ e in
+            let kinds : h ≡ k = cc in
+            let clash : false ≡ true = sym other ∙ (ap (λ (j : Head). is_if j.kind) kinds ∙ i) in
+            absurd cc;
+      }
+
+  try_table_lawful : (declared : BlockType) (bt : Option BlockType) (clauses : Option (List Clause)) → IsLawfulOperator cx (operator_catching (opener cx TryTable [] declared bt) clauses)
+  try_table_lawful declared (Some bt) clauses = catching_lawful _ (record { kind = TryTable; block_type = bt }) refl refl (opens_lawful TryTable [] true bt) clauses
+  try_table_lawful declared None clauses = catching_lawful _ (record { kind = TryTable; block_type = declared }) refl refl (opens_lawful TryTable [] false declared) clauses
+
+  catch_lawful : (o : Option (List ValType)) → IsLawfulOperator cx (catch_operator o)
+  catch_lawful (Some types) = closing_lawful cx laws (BeginsCatch false types) refl
+  catch_lawful None = delimiting_lawful cx laws (BeginsCatch false []) (λ hs. false) refl
+
+  exception_lawful : (op : ExceptionOp) → IsLawfulOperator cx (exception_operator cx op)
+  exception_lawful (TryTableOp t) = try_table_lawful t.ty (checked_block cx t.ty) (catch_clauses cx.of_module t.catches.now)
+  exception_lawful (Throw tag) = by_lookup_lawful (exception_types cx.of_module tag) _ (λ ts. plain_lawful cx laws _ _ _ _ _ _)
+  exception_lawful ThrowRef = plain_lawful cx laws _ _ _ _ _ _
+  exception_lawful (Try bt) = opener_lawful LegacyTry [] bt (checked_block cx bt)
+  exception_lawful (CatchOp tag) = catch_lawful (exception_types cx.of_module tag)
+  exception_lawful CatchAll = closing_lawful cx laws (BeginsCatch true []) refl
+  exception_lawful (Delegate d) = delimiting_lawful cx laws Delegates (λ hs. has_label hs (suc d)) refl
+  exception_lawful (Rethrow d) = flat_lawful cx laws _ (λ hs. no_target cx laws hs _ refl (plain_monotone cx laws [] [] []))
+
   ungated_lawful : (op : Op) → IsLawfulOperator cx (ungated_operator cx op)
   ungated_lawful (Control op) = control_lawful op
   ungated_lawful (Numeric op) = numeric_lawful op
@@ -291,6 +334,7 @@ module _ (cx : Context) (laws : IsLawful cx.of_module) where
   ungated_lawful (Table op) = table_lawful op
   ungated_lawful (Struct op) = struct_lawful op
   ungated_lawful (Array op) = array_lawful op
+  ungated_lawful (Exception op) = exception_lawful op
 
   pub operator_lawful : (op : Op) → IsLawfulOperator cx (operator cx op)
   operator_lawful op = behind_lawful cx laws (gate_of op) (ungated_operator cx op) (ungated_lawful op)

@@ -6,7 +6,7 @@ use Rattle.validate_types.specs.declared.gate.Gate.{Gate}
 use Rattle.validation_rules.specs.Context.{ValType, Context, AllBelow}
 use Rattle.validation_rules.specs.Fits.{MaybeType, Known, all_fit}
 use Rattle.validation_rules.specs.Rows.{Head, Form, Plain, Looks, Target, Row, Operator, guard, all_fit_each, pushed_for, is_instruction}
-use Rattle.validation_rules.specs.Operators.{lookup_row, looking_row_if, staying_operator, row_operator, delimiter_operator, gated_operator}
+use Rattle.validation_rules.specs.Operators.{plain_row_if, lookup_row, looking_row_if, staying_operator, row_operator, delimiter_operator, gated_operator}
 use Rattle.validation_rules.proofs.Below.{and_true, true_and, below-trans, below_of_fit, fit_of_below}
 use Rattle.validation_rules.proofs.Steps.{some_injective, guard_some}
 use Rattle.type_safety.proofs.Laws.{IsMonotoneAt, IsLawfulRow, IsLawfulOperator}
@@ -71,13 +71,17 @@ module _ (cx : Context) (laws : IsLawful cx.of_module) where
   pub looking_lawful : (premise : Bool) (n : ℕ) (f : List MaybeType → Option (List MaybeType)) → ((xs ys : List ValType) (pushed : List MaybeType) → AllBelow cx ys xs → f (map Known xs) ≡ Some pushed → IsMonotoneAt cx (Looks n f) xs ys pushed) → IsLawfulOperator cx (row_operator (looking_row_if premise n f))
   looking_lawful premise n f h = flat_lawful _ (λ hs. no_target hs _ refl h)
 
-  pub closing_lawful : (form : Form) → is_instruction form ≡ false → IsLawfulOperator cx (delimiter_operator form)
-  closing_lawful form i =
+  -- a delimiter, whose row holds at the frames of the premise
+  pub delimiting_lawful : (form : Form) (premise : List Head → Bool) → is_instruction form ≡ false → IsLawfulOperator cx (record { form = form; row = λ hs. plain_row_if (premise hs) [] [] })
+  delimiting_lawful form premise i =
       record {
         row = λ hs. no_target hs _ refl (plain_monotone [] [] []);
         closing = λ hs k. (refl, refl);
         takes_params = λ hs h ys pushed e. let d : true ≡ false = ap is_instruction (sym e) ∙ i in absurd cc;
       }
+
+  pub closing_lawful : (form : Form) → is_instruction form ≡ false → IsLawfulOperator cx (delimiter_operator form)
+  closing_lawful form i = delimiting_lawful form (λ hs. true) i
 
   -- a gate takes nothing away from that
   pub behind_lawful : (gate : Gate) (op : Operator) → IsLawfulOperator cx op → IsLawfulOperator cx (gated_operator cx gate op)

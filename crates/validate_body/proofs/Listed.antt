@@ -11,8 +11,8 @@ use Rattle.validate_visit.specs.declared.op.Op.{Op}
 use Rattle.validation_rules.specs.Context.{ValType, Context}
 use Rattle.validation_rules.specs.Fits.{MaybeType}
 use Rattle.validation_rules.specs.Order.{nesting_of}
-use Rattle.validation_rules.specs.Rows.{results, Form, Stays, Opens, BeginsElse, BeginsCatch, Ends, Delegates, Row}
-use Rattle.validation_rules.specs.Static.{Frame, State, heads, locals_set, state_after_exit, state_after, open_frames, step, step_in, state_before, IsAccepted, start, operand_count, frame_count}
+use Rattle.validation_rules.specs.Rows.{results, Form, Stays, Opens, BeginsElse, BeginsCatch, Ends, Delegates, Row, Operator}
+use Rattle.validation_rules.specs.Static.{Frame, State, heads, state_after_exit, state_after, open_frames, step, step_in, state_before, IsAccepted, start, operand_count, frame_count}
 use Rattle.validation_rules.specs.Operators.{operator, operators}
 use Rattle.validation_rules.proofs.Below.{and_true}
 use Rattle.validation_rules.proofs.Order.{operator_nests}
@@ -83,15 +83,15 @@ pub visit_offset : (md : ModuleContext) (op : Op) (offset : ℕ) (v w : BodyStat
 unfolding Meets
 visit_offset md op offset v w e m = m.at_offset
 
-pub visit_at : (md : ModuleContext) (op : Op) (offset : ℕ) (v w : BodyState) (r : Result (Unit {0}) Refusal) → Meets md (λ cx. operator cx op) offset v r w → IfErr r (λ e. e.offset ≡ offset)
+pub visit_at : (md : ModuleContext) (op : Context → Operator) (offset : ℕ) (v w : BodyState) (r : Result (Unit {0}) Refusal) → Meets md op offset v r w → IfErr r (λ e. e.offset ≡ offset)
 unfolding Meets
 visit_at md op offset v w r m = m.at_offset
 
-pub visit_valid : (md : ModuleContext) (op : Op) (offset : ℕ) (v w : BodyState) (r : Result (Unit {0}) Refusal) → Meets md (λ cx. operator cx op) offset v r w → IsValidBody md w
+pub visit_valid : (md : ModuleContext) (op : Context → Operator) (offset : ℕ) (v w : BodyState) (r : Result (Unit {0}) Refusal) → Meets md op offset v r w → IsValidBody md w
 unfolding Meets
 visit_valid md op offset v w r m = m.valid
 
-pub visit_kept : (md : ModuleContext) (op : Op) (offset : ℕ) (v w : BodyState) (r : Result (Unit {0}) Refusal) → Meets md (λ cx. operator cx op) offset v r w → IsKept v w
+pub visit_kept : (md : ModuleContext) (op : Context → Operator) (offset : ℕ) (v w : BodyState) (r : Result (Unit {0}) Refusal) → Meets md op offset v r w → IsKept v w
 unfolding Meets
 visit_kept md op offset v w r m = m.kept
 

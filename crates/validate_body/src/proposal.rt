@@ -18,8 +18,8 @@ use validate_resources::WasmModuleResources;
 use validate_stacks::Pops;
 use validate_types::{Error, RefType, SubType, ValType};
 use validate_visit::{
-    ArrayOp, AtomicOp, BlockType, ControlOp, ConvertOp, FrameKind, FrameStack, MemoryOp,
-    ModuleArity, NumericOp, Op, ReferenceOp, StructOp, TableOp,
+    ArrayOp, AtomicOp, BlockType, ControlOp, ConvertOp, ExceptionOp, FrameKind, FrameStack,
+    MemoryOp, ModuleArity, NumericOp, Op, ReferenceOp, StructOp, TableOp,
 };
 
 /// A validator that is about to visit an operator, with the lookup and the operator's offset
@@ -66,6 +66,8 @@ impl<'validator, 'resources, R> FrameStack for WasmProposalValidator<'validator,
 
 impl<'validator, 'resources, R: WasmModuleResources> ModuleArity
     for WasmProposalValidator<'validator, 'resources, R> {
+    ghost tag_at = { λ v. (R.context v.resources.now).tag_at };
+
     ghost type_index_of = { λ v. (R.context v.resources.now).type_index_of };
 
     ghost type_at = { λ v. (R.context v.resources.now).type_at };
@@ -75,6 +77,13 @@ impl<'validator, 'resources, R: WasmModuleResources> ModuleArity
     ghost open_frames = { λ v. frame_count (state v.inner.now).present };
 
     ghost label_at = { λ v. label_at (state v.inner.now) };
+
+    fn tag_type_arity(&self, tag_index: u32) -> Option<(u32, u32)> {
+        let func_type = self.resources.tag_at(tag_index)?;
+        let params = u32::try_from(func_type.params().len()).ok()?;
+        let results = u32::try_from(func_type.results().len()).ok()?;
+        Some((params, results))
+    }
 
     fn type_index_of_function(&self, function_index: u32) -> Option<u32> {
         self.resources.type_index_of_function(function_index)
@@ -235,6 +244,21 @@ impl<'validator, 'resources, R: WasmModuleResources> WasmProposalValidator<
             self.old.offset (state self.old.inner.now) result (state self.new.inner.now) }
     {
         self.inner.check_array(self.resources, self.offset, op)
+    }
+
+    /// The check of an operator on exceptions.
+    #[inline(always)]
+    pub fn check_exception<'a>(&mut self, op: ExceptionOp<'a>) -> Result<(), Error>
+        requires { MayVisit (R.context self.old.resources.now) (stacks_of self.old.inner.now) }
+        ensures same_reference { self.new.inner.ghost_name ≡ self.old.inner.ghost_name }
+        ensures offset { self.new.offset ≡ self.old.offset }
+        ensures resources { self.new.resources ≡ self.old.resources }
+        ensures row { Meets (R.context self.old.resources.now) (λ cx. operator cx (Op.Exception op.entry))
+            self.old.offset (state self.old.inner.now) result (state self.new.inner.now) }
+        ensures memory { TakesNoMemory (R.context self.old.resources.now) (Op.Exception op.entry)
+            (state self.old.inner.now) result }
+    {
+        self.inner.check_exception(self.resources, self.offset, op)
     }
 
     /// Pops `n` operands of this type, and ticks for each pop that it tries, also for one that is refused:

@@ -18,16 +18,16 @@ ghost use Rattle.validate_body.specs.Start.{state, stacks_of, func_start, const_
 
 use validate_locals::Locals;
 use validate_operators::{
-    check_array, check_atomic, check_control, check_convert, check_memory, check_numeric,
-    check_operator, check_reference, check_struct, check_table,
+    check_array, check_atomic, check_control, check_convert, check_exception, check_memory,
+    check_numeric, check_operator, check_reference, check_struct, check_table,
 };
 use validate_resources::WasmModuleResources;
 use validate_resources::kinds::{expected_func_type, func_type_of};
 use validate_stacks::{OperatorValidatorAllocations, Pops, Stacks};
 use validate_types::{Error, FuncType, ValType, WasmFeatures};
 use validate_visit::{
-    ArrayOp, AtomicOp, BlockType, ControlOp, ConvertOp, Frame, FrameKind, MemoryOp, NumericOp, Op,
-    ReferenceOp, StructOp, TableOp,
+    ArrayOp, AtomicOp, BlockType, ControlOp, ConvertOp, ExceptionOp, Frame, FrameKind, MemoryOp,
+    NumericOp, Op, ReferenceOp, StructOp, TableOp,
 };
 
 /// The validator of a body (wasmparser's `OperatorValidator`). Contracts see what it stands for by
@@ -276,6 +276,23 @@ impl OperatorValidator {
             (state self.old) result (state self.new) }
     {
         check_array(&mut self.stacks, resources, offset, op)
+    }
+
+    /// The check of an operator on exceptions, as [`OperatorValidator::check`].
+    #[inline(always)]
+    pub fn check_exception<R: WasmModuleResources>(
+        &mut self,
+        resources: &R,
+        offset: u64,
+        op: ExceptionOp,
+    ) -> Result<(), Error>
+        requires { MayVisit (R.context resources.now) (stacks_of self.old) }
+        ensures row { Meets (R.context resources.now) (λ cx. operator cx (Op.Exception op.entry)) offset
+            (state self.old) result (state self.new) }
+        ensures memory { TakesNoMemory (R.context resources.now) (Op.Exception op.entry) (state self.old)
+            result }
+    {
+        check_exception(&mut self.stacks, resources, offset, op)
     }
 
     /// Pops `n` operands of this type, as [`Stacks::pop_run`].

@@ -4,9 +4,10 @@ use Rattle.std.specs.Prelude.{◌≡◌, None, Result, OnErr}
 use Rattle.validate_resources.specs.Context.{ModuleContext}
 use Rattle.validate_types.specs.Refusal.{Refusal}
 use Rattle.validate_visit.specs.declared.op.Op.{Op}
-use Rattle.validate_visit.specs.declared.op.Op.TheVariants.{Control}
+use Rattle.validate_visit.specs.declared.op.Op.TheVariants.{Control, Exception}
 use Rattle.validate_visit.specs.declared.op.ControlOp.TheVariants.{Unreachable, Nop, Br, BrTable, Return}
 use Rattle.validate_visit.specs.declared.op.ControlOp.TheVariants.{Drop}
+use Rattle.validate_visit.specs.declared.op.ExceptionOp.TheVariants.{Throw, ThrowRef, Rethrow}
 use Rattle.validation_rules.specs.Operators.{operator}
 use Rattle.validate_stacks.specs.State.{BodyState}
 use Rattle.validate_stacks.specs.Visits.{step_body}
@@ -22,4 +23,7 @@ TakesNoMemory md (Control (Br depth)) v answer = RefusedByRow md (Control (Br de
 TakesNoMemory md (Control (BrTable table)) v answer = RefusedByRow md (Control (BrTable table)) v answer
 TakesNoMemory md (Control Return) v answer = RefusedByRow md (Control Return) v answer
 TakesNoMemory md (Control Drop) v answer = RefusedByRow md (Control Drop) v answer
+TakesNoMemory md (Exception (Throw tag)) v answer = RefusedByRow md (Exception (Throw tag)) v answer
+TakesNoMemory md (Exception ThrowRef) v answer = RefusedByRow md (Exception ThrowRef) v answer
+TakesNoMemory md (Exception (Rethrow depth)) v answer = RefusedByRow md (Exception (Rethrow depth)) v answer
 TakesNoMemory md _ v answer = Unit {0}

@@ -5,14 +5,13 @@ ghost use Rattle.validate_types.specs.Gates.{is_open};
 ghost use Rattle.validate_types.specs.declared.gate.Gate.{Gate};
 ghost use Rattle.validate_visit.specs.Gates.{reference_gate};
 ghost use Rattle.validate_visit.specs.declared.op.Op.{Op};
-ghost use Rattle.validation_rules.specs.Operators.{operator, staying_operator, control_operator};
+ghost use Rattle.validation_rules.specs.Operators.{operator, staying_operator, control_operator, exception_operator};
 ghost use Rattle.validation_rules.specs.References.{reference_row};
 ghost use Rattle.validate_stacks.specs.Visits.{MayVisit, Meets};
 ghost use Rattle.validate_operators.specs.Memory.{TakesNoMemory};
 
 use validate_resources::WasmModuleResources;
 use validate_rows::atomic::check_atomic_row;
-use validate_rows::blocks::check_opener;
 use validate_rows::branches::{check_br, check_br_if, check_br_table, check_return};
 use validate_rows::calls::{check_call, check_return_call};
 use validate_rows::control::{check_else, check_end, check_nop, check_unreachable};
@@ -25,14 +24,18 @@ use validate_rows::parametric::{
 use validate_rows::tables::check_table_row;
 use validate_rows::variables::{check_local_get, check_local_set, check_local_tee};
 use validate_rows::{indirect, references};
+use validate_rows_exceptions::clauses::check_try_table;
+use validate_rows_exceptions::legacy::{check_catch, check_catch_all, check_delegate};
+use validate_rows_exceptions::throws::{check_rethrow, check_throw, check_throw_ref};
 use validate_rows_gc::arrays::check_array_row;
 use validate_rows_gc::structs::check_struct_row;
 use validate_rows_gc::{casts, found};
+use validate_shapes::blocks::check_opener;
 use validate_stacks::Stacks;
 use validate_types::{AbstractHeapType, Error, Gate, ValType};
 use validate_visit::{
-    ArrayOp, AtomicOp, ControlOp, ConvertOp, FrameKind, MemoryOp, NumericOp, ReferenceOp, StructOp,
-    TableOp,
+    ArrayOp, AtomicOp, ControlOp, ConvertOp, ExceptionOp, FrameKind, MemoryOp, NumericOp,
+    ReferenceOp, StructOp, TableOp,
 };
 
 /// Refuses where the gate is closed (wasmparser's `check_enabled`).
@@ -349,4 +352,51 @@ pub fn check_array<R: WasmModuleResources>(
 {
     check_enabled(stacks, offset, Gate::Gc)?;
     check_array_row(stacks, resources, offset, op)
+}
+
+/// The check of an operator on exceptions, its gate aside.
+fn check_exception_operator<R: WasmModuleResources>(
+    stacks: &mut Stacks,
+    resources: &R,
+    offset: u64,
+    op: ExceptionOp,
+) -> Result<(), Error>
+    requires { MayVisit (R.context resources.now) stacks.old }
+    ensures row { Meets (R.context resources.now) (λ cx. exception_operator cx op.entry) offset
+        stacks.old.body result stacks.new.body }
+    ensures memory { TakesNoMemory (R.context resources.now) (Op.Exception op.entry) stacks.old.body result }
+{
+    match op {
+        ExceptionOp::TryTable(table) => check_try_table(stacks, resources, offset, table),
+        ExceptionOp::Throw(tag_index) => check_throw(stacks, resources, offset, tag_index),
+        ExceptionOp::ThrowRef => check_throw_ref(stacks, resources, offset),
+        ExceptionOp::Try(ty) => {
+            check_opener(stacks, resources, offset, FrameKind::LegacyTry, &[], ty)
+        }
+        ExceptionOp::Catch(tag_index) => check_catch(stacks, resources, offset, tag_index),
+        ExceptionOp::CatchAll => check_catch_all(stacks, resources, offset),
+        ExceptionOp::Delegate(relative_depth) => {
+            check_delegate(stacks, resources, offset, relative_depth)
+        }
+        ExceptionOp::Rethrow(relative_depth) => {
+            check_rethrow(stacks, resources, offset, relative_depth)
+        }
+    }
+}
+
+/// The check of an operator on exceptions: accepted exactly where its row holds, memory aside, with the
+/// static step. A refusal carries the offset.
+pub fn check_exception<R: WasmModuleResources>(
+    stacks: &mut Stacks,
+    resources: &R,
+    offset: u64,
+    op: ExceptionOp,
+) -> Result<(), Error>
+    requires { MayVisit (R.context resources.now) stacks.old }
+    ensures row { Meets (R.context resources.now) (λ cx. operator cx (Op.Exception op.entry)) offset
+        stacks.old.body result stacks.new.body }
+    ensures memory { TakesNoMemory (R.context resources.now) (Op.Exception op.entry) stacks.old.body result }
+{
+    check_enabled(stacks, offset, op.gate())?;
+    check_exception_operator(stacks, resources, offset, op)
 }

@@ -5,8 +5,8 @@ ghost use Rattle.validate_stacks.specs.Visits.{MayVisit, Meets};
 ghost use Rattle.validate_operators.specs.Memory.{TakesNoMemory};
 
 use crate::groups::{
-    check_array, check_atomic, check_control, check_convert, check_memory, check_numeric,
-    check_reference, check_struct, check_table,
+    check_array, check_atomic, check_control, check_convert, check_exception, check_memory,
+    check_numeric, check_reference, check_struct, check_table,
 };
 use validate_resources::WasmModuleResources;
 use validate_stacks::Stacks;
@@ -37,6 +37,7 @@ pub fn check_operator<R: WasmModuleResources>(
         Op::Table(op) => check_table(stacks, resources, offset, op),
         Op::Struct(op) => check_struct(stacks, resources, offset, op),
         Op::Array(op) => check_array(stacks, resources, offset, op),
+        Op::Exception(op) => check_exception(stacks, resources, offset, op),
     }
 }
 

@@ -38,6 +38,8 @@ pub record ModuleContext : Type 0 where
   pub table_at : ℕ → Option TableType
   pub memory_at : ℕ → Option MemoryType
   pub global_at : ℕ → Option GlobalType
+  -- what an exception with the tag at an index carries, and what is given back for it
+  pub tag_at : ℕ → Option Signature
   -- the type of an element segment
   pub element_at : ℕ → Option RefType
   -- how many data segments there are, where the module says so
@@ -159,12 +161,13 @@ pub record IsLawful (md : ModuleContext) : Type 0 where
   pub below_with_null : (r : RefType) → Valid md (Ref r) → IsValidBelow md (Ref r) (Ref (with_null r))
   pub top : (r : RefType) → Valid md (Ref r) → IsTop md r (md.top_type r.heap_type)
   -- whatever a look-up hands out is valid and canonical: a declared type, by its index or its id, and the
-  -- types of functions, tables, globals and element segments
+  -- types of functions, tables, globals, tags and element segments
   pub types : (i : ℕ) (s : SubType) → md.type_at i ≡ Some s → IsValidType md s
   pub types_of_ids : (id : CoreTypeId) (s : SubType) → md.type_of_id id ≡ Some s → IsValidType md s
   pub functions : (f : ℕ) (id : CoreTypeId) → md.type_id_of f ≡ Some id → is_valid_index md (Id id) ≡ true
   pub tables : (i : ℕ) (t : TableType) → md.table_at i ≡ Some t → Valid md (Ref t.element_type)
   pub globals : (i : ℕ) (g : GlobalType) → md.global_at i ≡ Some g → Valid md g.content_type
+  pub tags : (i : ℕ) (f : Signature) → md.tag_at i ≡ Some f → AllValid md f.params × AllValid md f.results
   pub elements : (i : ℕ) (r : RefType) → md.element_at i ≡ Some r → Valid md (Ref r)
   -- where a check passes, it writes a valid and canonical form
   pub checked : (features : WasmFeatures) (t u : ValType) → md.canonical_type features t ≡ Some u → Valid md u

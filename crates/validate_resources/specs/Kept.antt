@@ -6,4 +6,4 @@ use Rattle.validate_resources.specs.Lists.{Declared, declared_by}
 abbrev pub declared_lists : ModuleLists → Declared
 declared_lists m =
     declared_by m.types.items m.functions.items m.tables.items m.memories.items
-    m.globals.items m.elements.items m.data_count
+    m.globals.items m.tags.items m.elements.items m.data_count

@@ -3,7 +3,7 @@ pub mod Chains
 pub mod Matching
 pub mod Forms
 use Rattle.std.specs.Prelude.{◌≡◌, ℕ, ◌≤◌, Bool, true, false, ◌&&◌, ◌||◌, not, nat_le, nat_lt, length, slice_get}
-use Rattle.std.specs.Prelude.{option_map, Option, Some, None, refl, if◌then◌else◌}
+use Rattle.std.specs.Prelude.{option_map, option_and_then, Option, Some, None, refl, if◌then◌else◌}
 use Rattle.std.specs.List.{list_all}
 use Rattle.std.proofs.Common.{sym, ap, ◌∙◌, subst, leb-true}
 use Rattle.std.proofs.lemmas.Bool.{and_parts, and_from, or_right}
@@ -11,6 +11,7 @@ use Rattle.std.proofs.lemmas.Option.{cond_some}
 use Rattle.validate_types.specs.Abstract.{abstract_top}
 use Rattle.validate_types.specs.Features.{is_type_enabled}
 use Rattle.validate_types.specs.Heap.{number_of}
+use Rattle.validate_types.specs.Types.{Signature}
 use Rattle.validate_types.specs.declared.features.WasmFeatures.{WasmFeatures}
 use Rattle.validate_types.specs.declared.heap.CoreTypeId.{CoreTypeId}
 use Rattle.validate_types.specs.declared.heap.HeapType.{HeapType}
@@ -23,13 +24,13 @@ use Rattle.validate_types.specs.declared.types.ValType.TheVariants.{I32, I64, Re
 use Rattle.validate_resources.specs.declared.lists.FuncDecl.{FuncDecl}
 use Rattle.validate_resources.specs.declared.lists.TheConstants.{MAX_TYPES}
 use Rattle.validate_resources.specs.Context.{ModuleContext, IsLawful, IsBelowReference, IsTop, IsValidType}
-use Rattle.validate_resources.specs.Context.{Valid, is_valid_index, is_valid_heap}
+use Rattle.validate_resources.specs.Context.{Valid, AllValid, is_valid_index, is_valid_heap, signature_of}
 use Rattle.validate_resources.specs.Indices.{is_id, is_known, heap_indices_pass, ref_indices_pass, type_indices_pass, table_indices_pass}
 use Rattle.validate_resources.specs.Indices.{global_indices_pass, sub_indices_pass, heap_with_id, ref_with_id, type_with_id}
 use Rattle.validate_resources.specs.Indices.{supertype_indices_pass}
 use Rattle.validate_resources.specs.Order.{is_heap_below, have_fitting_supertypes, is_type_below, heap_top, declared_top}
 use Rattle.validate_resources.specs.Order.{is_heap_shared, is_shared_at}
-use Rattle.validate_resources.specs.Lists.{Declared, is_module, list_indices_pass, context_of}
+use Rattle.validate_resources.specs.Lists.{Declared, is_module, is_func_type, list_indices_pass, context_of, tag_signature}
 use Rattle.validate_resources.specs.Lists.{is_valid_below, canonical_under, type_id}
 use Rattle.validate_resources.specs.Lawful.Matching.{passes-at, heap-shared, ref-reflexive, type-reflexive}
 use Rattle.validate_resources.specs.Lawful.Matching.{type-transitive, number-below, below-ref}
@@ -72,7 +73,7 @@ facts d h =
     let (f, elements) = and_parts (p && q && r) _ e in
     let (g, globals) = and_parts (p && q) _ f in
     let (types, tables) = and_parts p _ g in
-    record { small = leb-true _ _ small; types = types; tables = tables; globals = globals; elements = elements; functions = known-types d.types d.functions func_types; supertypes = supertypes }
+    record { small = leb-true _ _ small; types = types; tables = tables; globals = globals; elements = elements; functions = known-types (λ (f : FuncDecl). f.type_index) d.types d.functions (and_parts (list_all (λ (f : FuncDecl). is_func_type (slice_get d.types f.type_index)) d.functions) _ func_types).0; supertypes = supertypes }
 
 type_valid : (d : Declared) → Facts d → (i : ℕ) (s : SubType) → slice_get d.types i ≡ Some s → IsValidType (context_of d) s
 type_valid d m i s h = type-is-valid d m.small s (passes-at (sub_indices_pass (is_id (length d.types))) i d.types s m.types h)
@@ -102,6 +103,16 @@ function_of d m f id (Some decl) is h =
     let e : type_id decl.type_index ≡ id = cc in
     subst (λ i. is_valid_index (context_of d) (Id i) ≡ true) e
     (heap-valid d m.small (Concrete (Id (type_id decl.type_index))) ∙ passes-at _ f d.functions decl m.functions is)
+
+tag_signature_valid : (d : Declared) → Facts d → (n : ℕ) (o : Option SubType) (f : Signature) → slice_get d.types n ≡ o → option_and_then signature_of o ≡ Some f → AllValid (context_of d) f.params × AllValid (context_of d) f.results
+tag_signature_valid d m n None f is h = cc
+tag_signature_valid d m n (Some s) f is h =
+    let v = type_valid d m n s is in
+    (v.params f h, v.results f h)
+
+tag_of : (d : Declared) → Facts d → (o : Option ℕ) (f : Signature) → option_and_then (tag_signature d.types) o ≡ Some f → AllValid (context_of d) f.params × AllValid (context_of d) f.results
+tag_of d m None f h = cc
+tag_of d m (Some n) f h = tag_signature_valid d m n (slice_get d.types n) f refl h
 
 checked_type : (d : Declared) → Facts d → (features : WasmFeatures) (t u : ValType) → canonical_under (length d.types) features t ≡ Some u → Valid (context_of d) u
 checked_type d m features t u h =
@@ -137,6 +148,7 @@ lawful_lists d h =
       functions = λ f id e. function_of d m f id (slice_get d.functions f) refl e;
       tables = λ i t e. heap-valid d m.small t.element_type.heap_type ∙ passes-at (table_indices_pass (is_id (length d.types))) i d.tables t m.tables e;
       globals = λ i g e. type-valid d m.small g.content_type ∙ passes-at (global_indices_pass (is_id (length d.types))) i d.globals g m.globals e;
+      tags = λ i f e. tag_of d m (slice_get d.tags i) f e;
       elements = λ i r e. heap-valid d m.small r.heap_type ∙ passes-at (ref_indices_pass (is_id (length d.types))) i d.elements r m.elements e;
       checked = checked_type d m;
       checked_ref = λ r s e.

@@ -1,9 +1,10 @@
 -- What a module declares, as lists, and its context (WebAssembly core specification, "Modules", and
 -- "Conventions" of validation: contexts).
 use Rattle.std.specs.Prelude.{ℕ, Bool, List, false, ◌&&◌, map, nat_le, length, Option, Some, None}
-use Rattle.std.specs.Prelude.{slice_get, option_map, unwrap_or, is_some, if◌then◌else◌}
+use Rattle.std.specs.Prelude.{slice_get, option_map, option_and_then, unwrap_or, is_some, if◌then◌else◌}
 use Rattle.std.specs.List.{list_all}
 use Rattle.validate_types.specs.Features.{is_type_enabled}
+use Rattle.validate_types.specs.Types.{Signature}
 use Rattle.validate_types.specs.declared.features.WasmFeatures.{WasmFeatures}
 use Rattle.validate_types.specs.declared.heap.CoreTypeId.{CoreTypeId}
 use Rattle.validate_types.specs.declared.heap.UnpackedIndex.{UnpackedIndex}
@@ -29,18 +30,21 @@ pub record Declared : Type 0 where
   pub tables : List TableType
   pub memories : List MemoryType
   pub globals : List GlobalType
+  -- of each tag the index of its type
+  pub tags : List ℕ
   pub elements : List RefType
   pub data_count : Option ℕ
 
 -- what these lists declare
 abbrev pub declared_by : List SubType → List FuncDecl → List TableType → List MemoryType
-    → List GlobalType → List RefType → Option ℕ → Declared
-declared_by types functions tables memories globals elements data_count = record {
+    → List GlobalType → List ℕ → List RefType → Option ℕ → Declared
+declared_by types functions tables memories globals tags elements data_count = record {
   types = types;
   functions = functions;
   tables = tables;
   memories = memories;
   globals = globals;
+  tags = tags;
   elements = elements;
   data_count = data_count;
 }
@@ -60,12 +64,14 @@ abbrev pub is_func_type : Option SubType → Bool
 is_func_type None = false
 is_func_type (Some s) = is_some (signature_of s)
 
--- the type of each function is there, and is one of functions
+-- the type of each function and of each tag is there, and is one of functions
 abbrev pub have_func_types : Declared → Bool
-have_func_types d = list_all (λ (f : FuncDecl). is_func_type (slice_get d.types f.type_index)) d.functions
+have_func_types d =
+    list_all (λ (f : FuncDecl). is_func_type (slice_get d.types f.type_index)) d.functions
+    && list_all (λ i. is_func_type (slice_get d.types i)) d.tags
 
 -- at most 1,000,000 types; each index passes the test, at their number; each supertype is an earlier type of
--- the same kind and sharedness; each function is of one of functions
+-- the same kind and sharedness; each function and each tag is of one of functions
 abbrev pub is_module : (ℕ → UnpackedIndex → Bool) → Declared → Bool
 is_module p d =
     nat_le (length d.types) MAX_TYPES
@@ -104,6 +110,10 @@ is_valid_below types t u =
 abbrev pub type_id : ℕ → CoreTypeId
 type_id i = record { index = i }
 
+-- what the type at an index takes and gives, if it is one of functions
+abbrev pub tag_signature : List SubType → ℕ → Option Signature
+tag_signature types i = option_and_then signature_of (slice_get types i)
+
 -- the context of these declarations
 abbrev pub context_of : Declared → ModuleContext
 context_of d = record {
@@ -116,6 +126,7 @@ context_of d = record {
   table_at = slice_get d.tables;
   memory_at = slice_get d.memories;
   global_at = slice_get d.globals;
+  tag_at = λ i. option_and_then (tag_signature d.types) (slice_get d.tags i);
   element_at = slice_get d.elements;
   data_count = d.data_count;
   below = is_valid_below d.types;

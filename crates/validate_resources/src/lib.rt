@@ -13,8 +13,8 @@ ghost use Rattle.validate_resources.specs.Context.{ModuleContext, IsLawful, Vali
 
 pub use crate::lists::{FuncDecl, ModuleLists};
 use validate_types::{
-    CoreTypeId, Error, GlobalType, HeapType, MemoryType, RefType, SubType, TableType, ValType,
-    WasmFeatures,
+    CoreTypeId, Error, FuncType, GlobalType, HeapType, MemoryType, RefType, SubType, TableType,
+    ValType, WasmFeatures,
 };
 
 /// What a module declares (wasmparser's `WasmModuleResources`).
@@ -37,6 +37,11 @@ pub trait WasmModuleResources {
     /// The type of the global at this index, or None past the end.
     fn global_at(&self, global_index: u32) -> Option<GlobalType>
         ensures { result ≡ (context self.now).global_at global_index };
+
+    /// What an exception with the tag at this index carries, and what is given back for it; None past the
+    /// end.
+    fn tag_at(&self, tag_index: u32) -> Option<&FuncType>
+        ensures { option_copied result ≡ (context self.now).tag_at tag_index };
 
     /// The type declared at this index, or None past the end.
     fn sub_type_at(&self, type_index: u32) -> Option<&SubType>

@@ -3,7 +3,7 @@
 mod canonical;
 mod order;
 
-ghost use Rattle.std.specs.Prelude.{◌≡◌, ◌<◌, ◌≤◌, length, codes, slice_get, Some, None, Ok, true, false, nat_lt, is_ok, IfOk, OnOk, OnErr, IfErr};
+ghost use Rattle.std.specs.Prelude.{◌≡◌, ◌<◌, ◌≤◌, ◌&&◌, length, codes, slice_get, Some, None, Ok, true, false, nat_lt, is_ok, IfOk, OnOk, OnErr, IfErr};
 ghost use Rattle.std.specs.List.{list_all};
 ghost use Rattle.validate_resources.specs.Indices.{is_id, unknown_text};
 ghost use Rattle.validate_resources.specs.Lists.{declared_by, is_module, is_func_type, module_of};
@@ -16,8 +16,8 @@ use crate::lists::canonical::{
 use crate::lists::order::{heap_top, is_heap_shared, is_type_below, supertypes_fit};
 use std::alloc::Global;
 use validate_types::{
-    CoreTypeId, Error, GlobalType, HeapType, MemoryType, RefType, SubType, TableType, ValType,
-    WasmFeatures,
+    CoreTypeId, Error, FuncType, GlobalType, HeapType, MemoryType, RefType, SubType, TableType,
+    ValType, WasmFeatures,
 };
 
 /// How many types a lookup over lists holds at the most.
@@ -43,10 +43,11 @@ pub struct ModuleLists {
     tables: Vec<TableType>,
     memories: Vec<MemoryType>,
     globals: Vec<GlobalType>,
+    tags: Vec<u32>,
     elements: Vec<RefType>,
     data_count: Option<u32>,
     ghost module: { is_module is_id (declared_by types.items functions.items tables.items
-        memories.items globals.items elements.items data_count) ≡ true },
+        memories.items globals.items tags.items elements.items data_count) ≡ true },
 }
 
 impl ModuleLists {
@@ -58,7 +59,7 @@ impl ModuleLists {
     /// It refuses at offset 0: `too many types` for more than [`MAX_TYPES`]; else `unknown type` where
     /// there is no type for an index; else `invalid supertype` where a supertype isn't an earlier
     /// type or is of another kind or sharedness; else `expected func type` where the type of a function
-    /// isn't one of functions. It takes memory for the canonical lists, and refuses where there is none.
+    /// or of a tag isn't one of functions. It takes memory for the canonical lists, and refuses where there is none.
     pub fn new(
         alloc: Global,
         types: Vec<SubType>,
@@ -66,14 +67,15 @@ impl ModuleLists {
         tables: Vec<TableType>,
         memories: Vec<MemoryType>,
         globals: Vec<GlobalType>,
+        tags: Vec<u32>,
         elements: Vec<RefType>,
         data_count: Option<u32>,
     ) -> Result<ModuleLists, Error>
         ensures kept { IfOk result (λ m. module_of (declared_by types.items functions.items tables.items
-            memories.items globals.items elements.items data_count) ≡ Some (declared_lists m)) }
+            memories.items globals.items tags.items elements.items data_count) ≡ Some (declared_lists m)) }
         ensures refused { IfErr result (λ e. e.wants_memory ≡ false
             → module_of (declared_by types.items functions.items tables.items
-            memories.items globals.items elements.items data_count) ≡ None) }
+            memories.items globals.items tags.items elements.items data_count) ≡ None) }
         ensures too_many { MAX_TYPES < length types.items
             → IfErr result (λ e. e ≡ record {
               offset = 0;
@@ -84,16 +86,16 @@ impl ModuleLists {
     {
         check_count(types.len())?;
         let forms = canonical_lists(alloc, &types, &tables, &globals, &elements)?;
-        if !have_types(&functions, types.len()) {
+        if !have_known_types(&functions, &tags, types.len()) {
             return Err(Error::new("unknown type", 0));
         }
         if !supertypes_fit(&types) {
             return Err(Error::new("invalid supertype", 0));
         }
-        if !have_func_types(&types, &functions) {
+        if !have_func_types(&types, &functions, &tags) {
             return Err(Error::new("expected func type", 0));
         }
-        Ok(ModuleLists::from_forms(alloc, forms, functions, memories, data_count))
+        Ok(ModuleLists::from_forms(alloc, forms, functions, memories, tags, data_count))
     }
 
     /// Keeps the canonical forms with the other lists. It takes no memory.
@@ -102,12 +104,13 @@ impl ModuleLists {
         forms: Forms,
         functions: Vec<FuncDecl>,
         memories: Vec<MemoryType>,
+        tags: Vec<u32>,
         data_count: Option<u32>,
     ) -> ModuleLists
         requires { is_module is_id (declared_by forms.types.items functions.items forms.tables.items
-            memories.items forms.globals.items forms.elements.items data_count) ≡ true }
+            memories.items forms.globals.items tags.items forms.elements.items data_count) ≡ true }
         ensures { declared_lists result ≡ declared_by forms.types.items functions.items forms.tables.items
-            memories.items forms.globals.items forms.elements.items data_count }
+            memories.items forms.globals.items tags.items forms.elements.items data_count }
     {
         let Forms {
             types,
@@ -122,6 +125,7 @@ impl ModuleLists {
             tables,
             memories,
             globals,
+            tags,
             elements,
             data_count,
         }
@@ -144,6 +148,14 @@ fn check_count(count: usize) -> Result<(), Error>
     Ok(())
 }
 
+/// Whether each function and each tag is of one of so many types.
+fn have_known_types(functions: &[FuncDecl], tags: &[u32], count: usize) -> bool
+    ensures { result ≡ (list_all (λ (f : _). nat_lt f.type_index count) functions.now
+        && list_all (λ i. nat_lt i count) tags.now) }
+{
+    have_types(functions, count) && are_types(tags, count)
+}
+
 /// Whether each function is of one of so many types.
 fn have_types(functions: &[FuncDecl], count: usize) -> bool
     ensures { result ≡ list_all (λ (f : _). nat_lt f.type_index count) functions.now }
@@ -151,6 +163,13 @@ fn have_types(functions: &[FuncDecl], count: usize) -> bool
     functions
         .iter()
         .all(|function| (function.type_index as usize) < count)
+}
+
+/// Whether each index is one of so many types.
+fn are_types(indices: &[u32], count: usize) -> bool
+    ensures { result ≡ list_all (λ i. nat_lt i count) indices.now }
+{
+    indices.iter().all(|index| (*index as usize) < count)
 }
 
 /// Whether the type at this index is there, and is one of functions.
@@ -163,13 +182,28 @@ fn is_func_type(types: &[SubType], index: u32) -> bool
     }
 }
 
+/// Whether the type of each function and of each tag is one of functions.
+fn have_func_types(types: &[SubType], functions: &[FuncDecl], tags: &[u32]) -> bool
+    ensures { result ≡ (list_all (λ (f : _). is_func_type (slice_get types.now f.type_index)) functions.now
+        && list_all (λ i. is_func_type (slice_get types.now i)) tags.now) }
+{
+    are_functions(types, functions) && are_func_types(types, tags)
+}
+
 /// Whether the type of each function is one of functions.
-fn have_func_types(types: &[SubType], functions: &[FuncDecl]) -> bool
+fn are_functions(types: &[SubType], functions: &[FuncDecl]) -> bool
     ensures { result ≡ list_all (λ (f : _). is_func_type (slice_get types.now f.type_index)) functions.now }
 {
     functions
         .iter()
         .all(|function| is_func_type(types, function.type_index))
+}
+
+/// Whether the type at each index is one of functions.
+fn are_func_types(types: &[SubType], indices: &[u32]) -> bool
+    ensures { result ≡ list_all (λ i. is_func_type (slice_get types.now i)) indices.now }
+{
+    indices.iter().all(|index| is_func_type(types, *index))
 }
 
 /// Writes a canonical form, or refuses where there is no type of the number handed in. The text of
@@ -216,6 +250,11 @@ impl WasmModuleResources for ModuleLists {
 
     fn global_at(&self, global_index: u32) -> Option<GlobalType> {
         self.globals.get(global_index as usize).copied()
+    }
+
+    fn tag_at(&self, tag_index: u32) -> Option<&FuncType> {
+        let index = *self.tags.get(tag_index as usize)?;
+        func_type_of(self.types.get(index as usize)?)
     }
 
     fn sub_type_at(&self, type_index: u32) -> Option<&SubType> {

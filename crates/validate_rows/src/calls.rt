@@ -14,6 +14,7 @@ ghost use Rattle.validate_stacks.specs.Visits.{MayVisit, Meets};
 use std::alloc::{AllocError, Global};
 use validate_resources::WasmModuleResources;
 use validate_shapes::functions::type_of_function;
+use validate_shapes::matching::are_below;
 use validate_shapes::plain::check_plain;
 use validate_stacks::Stacks;
 use validate_stacks::blocks::label_types;
@@ -34,24 +35,6 @@ pub fn check_call<R: WasmModuleResources>(
     let func_type = type_of_function(stacks, resources, offset, function_index)?;
     let (params, results) = (func_type.params(), func_type.results());
     check_plain(stacks, resources, offset, params, results)
-}
-
-/// Whether the types are as many as those above them, and each is below its place.
-fn are_below<R: WasmModuleResources>(resources: &R, types: &[ValType], above: &[ValType]) -> bool
-    requires types { AllByRecursion (Valid (R.context resources.now)) types.now }
-    requires above { AllByRecursion (Valid (R.context resources.now)) above.now }
-    ensures { (cx : Context) → cx.of_module ≡ R.context resources.now → result
-        ≡ all_fit cx (map Known types.now) above.now }
-{
-    if types.len() != above.len() {
-        return false;
-    }
-    for index in 0..types.len() {
-        if !resources.is_subtype(types[index], above[index]) {
-            return false;
-        }
-    }
-    true
 }
 
 /// The results of a function that is called in the place of the rest of the body: as many as the

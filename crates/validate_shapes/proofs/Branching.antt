@@ -159,14 +159,24 @@ module _ (md : ModuleContext) (v : BodyState) (o : v.present.frames ≢ []) (row
     pub br_passes : (u w : BodyState) → body_popped_each md (reverse ts) v ≡ Some u → w ≡ body_unreachable u → step_body md (λ c. staying_operator (row c)) v ≡ Some w
     br_passes u w p q = br_is ∙ (ap (option_map body_unreachable) p ∙ ap Some (sym q))
 
--- ---- `unreachable`
+-- ---- operators that take what they want, and end the live part
+
+module _ (md : ModuleContext) (v : BodyState) (o : v.present.frames ≢ []) (wanted : List ValType) where
+  ending_is : step_body md (λ c. staying_operator (λ hs. ending_row wanted)) v ≡ option_map body_unreachable (body_popped_each md (reverse wanted) v)
+  ending_is = ends_is md v o (λ c hs. ending_row wanted) true wanted [] [] refl ∙ only v.present.frames refl
+    where
+      only : (fs : List Frame) → v.present.frames ≡ fs → guard (each_fits (body_context md v) (length wanted) v.present.frames []) (option_map body_unreachable (body_popped_each md (reverse wanted) v)) ≡ option_map body_unreachable (body_popped_each md (reverse wanted) v)
+      only [] e = absurd (o e)
+      only (f ∷ fs) e = ap (λ gs. guard (each_fits (body_context md v) (length wanted) gs []) (option_map body_unreachable (body_popped_each md (reverse wanted) v))) e
+
+  pub ending_refused : body_popped_each md (reverse wanted) v ≡ None → step_body md (λ c. staying_operator (λ hs. ending_row wanted)) v ≡ None
+  ending_refused n = ending_is ∙ ap (option_map body_unreachable) n
+
+  pub ending_passes : (u w : BodyState) → body_popped_each md (reverse wanted) v ≡ Some u → w ≡ body_unreachable u → step_body md (λ c. staying_operator (λ hs. ending_row wanted)) v ≡ Some w
+  ending_passes u w p q = ending_is ∙ (ap (option_map body_unreachable) p ∙ ap Some (sym q))
 
 pub unreachable_is : (md : ModuleContext) (v w : BodyState) → v.present.frames ≢ [] → w ≡ body_unreachable v → step_body md (λ c. staying_operator (λ hs. ending_row [])) v ≡ Some w
-unreachable_is md v w o e = ends_is md v o (λ c hs. ending_row []) true [] [] [] refl ∙ ap (λ o. guard (each_fits (body_context md v) 0 v.present.frames []) (option_map body_unreachable o)) (popped_none md v) ∙ (only v.present.frames refl ∙ ap Some (sym e))
-  where
-    only : (fs : List Frame) → v.present.frames ≡ fs → guard (each_fits (body_context md v) 0 v.present.frames []) (Some (body_unreachable v)) ≡ Some (body_unreachable v)
-    only [] h = absurd (o h)
-    only (f ∷ fs) h = ap (λ gs. guard (each_fits (body_context md v) 0 gs []) (Some (body_unreachable v))) h
+unreachable_is md v w o e = ending_passes md v o [] v w (popped_none md v) e
 
 -- ---- pops leave the labels
 

@@ -4,3 +4,6 @@ pub mod Found
 pub mod Branching
 pub mod Looking
 pub mod Reaching
+pub mod Opening
+pub mod Comparing
+pub mod Parts

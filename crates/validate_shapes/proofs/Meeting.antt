@@ -78,3 +78,9 @@ pub meets_from : (md : ModuleContext) (op op' : Context → Operator) (offset : 
 unfolding Meets
 meets_from md op op' offset v u w (Ok x) same k m = record { accepted = same ∙ m.accepted; refused = tt; at_offset = tt; valid = m.valid; kept = kept_on v u w k m.kept }
 meets_from md op op' offset v u w (Err e) same k m = record { accepted = tt; refused = λ f. same ∙ m.refused f; at_offset = m.at_offset; valid = m.valid; kept = kept_on v u w k m.kept }
+
+-- what a visit answers, said clause by clause
+pub meets_stated : (md : ModuleContext) (op : Context → Operator) (offset : ℕ) (v w : BodyState) (r : Result (Unit {0}) Refusal) → OnOk r (step_body md op v ≡ Some w) → IfErr r (λ e. e.wants_memory ≡ false → step_body md op v ≡ None) → IfErr r (λ e. e.offset ≡ offset) → IsValidBody md w → IsKept v w → Meets md op offset v r w
+unfolding Meets
+meets_stated md op offset v w (Ok u) p n o x y = record { accepted = p; refused = tt; at_offset = tt; valid = x; kept = y }
+meets_stated md op offset v w (Err e) p n o x y = record { accepted = tt; refused = n; at_offset = o; valid = x; kept = y }

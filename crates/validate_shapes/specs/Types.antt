@@ -1,5 +1,5 @@
 -- What an operator takes and gives, as a value (the crate's own).
-use Rattle.std.specs.Prelude.{true, List, [], ◌∷◌}
+use Rattle.std.specs.Prelude.{List, [], ◌∷◌}
 use Rattle.std.specs.List.{AllByRecursion}
 use Rattle.validate_resources.specs.Context.{ModuleContext, Valid}
 use Rattle.validation_rules.specs.Context.{ValType}

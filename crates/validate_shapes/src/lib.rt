@@ -4,12 +4,15 @@
 
 pub mod accesses;
 pub mod aggregates;
+pub mod blocks;
 pub mod functions;
 pub mod globals;
 pub mod labels;
+pub mod matching;
 pub mod memories;
 pub mod numbers;
 pub mod plain;
 pub mod references;
 pub mod tables;
+pub mod tags;
 pub mod types;

@@ -1,10 +1,10 @@
 //! Operators whose wanted and pushed types don't depend on what is found.
 
-ghost use Rattle.std.specs.Prelude.{true, [], ◌∷◌, ◌++◌};
+ghost use Rattle.std.specs.Prelude.{◌≡◌, None, true, [], ◌∷◌, ◌++◌, OnErr};
 ghost use Rattle.std.specs.List.{AllByRecursion};
 ghost use Rattle.validate_resources.specs.Context.{Valid};
-ghost use Rattle.validation_rules.specs.Operators.{plain_row, row_operator};
-ghost use Rattle.validate_stacks.specs.Visits.{MayVisit, Meets};
+ghost use Rattle.validation_rules.specs.Operators.{plain_row, ending_row, row_operator};
+ghost use Rattle.validate_stacks.specs.Visits.{step_body, MayVisit, Meets};
 
 use validate_resources::WasmModuleResources;
 use validate_stacks::Stacks;
@@ -48,4 +48,24 @@ pub fn check_onto<R: WasmModuleResources>(
     stacks.pop_types(resources, offset, types)?;
     stacks.push_types(offset, types)?;
     stacks.push_types(offset, &[above])
+}
+
+/// `[types] -> []`, and the live part of the frame ends. It takes no memory but for the text of a refusal:
+/// it is refused only where its row doesn't hold.
+pub fn check_ending<R: WasmModuleResources>(
+    stacks: &mut Stacks,
+    resources: &R,
+    offset: u64,
+    types: &[ValType],
+) -> Result<(), Error>
+    requires visit { MayVisit (R.context resources.now) stacks.old }
+    requires types { AllByRecursion (Valid (R.context resources.now)) types.now }
+    ensures row { Meets (R.context resources.now) (λ cx. row_operator (ending_row types.now)) offset
+        stacks.old.body result stacks.new.body }
+    ensures memory { stacks.old.body.undone ≡ None
+        → OnErr result (step_body (R.context resources.now) (λ cx. row_operator (ending_row types.now))
+        stacks.old.body ≡ None) }
+{
+    stacks.pop_types(resources, offset, types)?;
+    stacks.end_live_part(offset)
 }

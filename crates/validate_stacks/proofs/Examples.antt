@@ -16,7 +16,7 @@ use Rattle.validate_stacks.specs.Steps.{empty_body}
 abbrev md : ModuleContext
 md =
     context_of
-    (record { types = []; functions = []; tables = []; memories = []; globals = []; elements = []; data_count = None })
+    (record { types = []; functions = []; tables = []; memories = []; globals = []; tags = []; elements = []; data_count = None })
 
 -- so many operands of i32, the top first
 abbrev i32s : ℕ → List MaybeType

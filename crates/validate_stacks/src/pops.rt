@@ -53,7 +53,7 @@ fn nothing_there(alloc: Global, expected: Option<ValType>, offset: u64) -> Error
 /// The refusal of an operand of another type.
 #[cold]
 #[inline(never)]
-fn mismatch(alloc: Global, expected: ValType, found: ValType, offset: u64) -> Error
+pub fn mismatch(alloc: Global, expected: ValType, found: ValType, offset: u64) -> Error
     ensures { result.offset ≡ offset }
 {
     let expected = ty_to_str(expected);

@@ -19,11 +19,15 @@ fn param_count(ty: &SubType) -> usize {
     }
 }
 
-/// What is asked of the types and the labels, through the trait: function 0 is of type 1, `[i32] -> []`,
-/// there are four types, and one frame of type 0 is open.
+/// What is asked of the tags, the types and the labels, through the trait: function 0 is of type 1,
+/// `[i32] -> []`, the tags are of types 0, 2 and 3, there are four types, and one frame of type 0 is open.
 fn expect_names<M: ModuleArity>(rt: &impl Abort, body: &M) {
     expect_same(rt, body.type_index_of_function(0), Some(1));
     expect_same(rt, body.type_index_of_function(1), None);
+    expect_same(rt, body.tag_type_arity(0), Some((0, 0)));
+    expect_same(rt, body.tag_type_arity(1), Some((1, 1)));
+    expect_same(rt, body.tag_type_arity(2), Some((0, 2)));
+    expect_same(rt, body.tag_type_arity(3), None);
     expect_same(rt, body.sub_type_at(1).map(param_count), Some(1));
     expect(rt, body.sub_type_at(4).is_none());
     expect_same(
@@ -59,7 +63,7 @@ fn expect_body(
 /// In new buffers, and in those that it leaves.
 #[test]
 fn what_a_body_names(rt: HostRuntime) -> Result<(), Fail> {
-    let head = format!(in rt.alloc(); "fn 1\n{FOUR_TYPES}")?;
+    let head = format!(in rt.alloc(); "fn 1\ntag 0\ntag 2\ntag 3\n{FOUR_TYPES}")?;
     let setting = Setting::read(&rt, &head)?;
     let new = OperatorValidatorAllocations::new(rt.alloc());
     let used = expect_body(&rt, &setting, new)?;

@@ -52,6 +52,7 @@ fn lookup(rt: &impl AllocGlobal) -> Result<ModuleLists, Fail> {
         Vec::new(rt.alloc()),
         Vec::new(rt.alloc()),
         Vec::new(rt.alloc()),
+        Vec::new(rt.alloc()),
         None,
     );
     Ok(lists?)

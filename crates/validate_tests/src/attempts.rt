@@ -103,7 +103,10 @@ fn kind_name(kind: FrameKind) -> &'static str {
         FrameKind::Loop => "loop",
         FrameKind::If => "if",
         FrameKind::Else => "else",
-        _ => "another",
+        FrameKind::TryTable => "try_table",
+        FrameKind::LegacyTry => "legacy_try",
+        FrameKind::LegacyCatch => "catch",
+        FrameKind::LegacyCatchAll => "catch_all",
     }
 }
 
@@ -233,13 +236,22 @@ fn expect_attempts_in(
     Ok(v.into_allocations())
 }
 
-/// The same, in new buffers, and again in those that this leaves.
-fn expect_attempts(rt: &(impl Abort + AllocGlobal), text: &str) -> Result<(), Fail> {
-    let setting = Setting::read(rt, FOUR_TYPES)?;
+/// The same over what these lines declare, in new buffers, and again in those that this leaves.
+pub fn expect_attempts_over(
+    rt: &(impl Abort + AllocGlobal),
+    declarations: &str,
+    text: &str,
+) -> Result<(), Fail> {
+    let setting = Setting::read(rt, declarations)?;
     let new = OperatorValidatorAllocations::new(rt.alloc());
     let used = expect_attempts_in(rt, &setting, text, new)?;
     expect_attempts_in(rt, &setting, text, used)?;
     Ok(())
+}
+
+/// The same, over four types.
+fn expect_attempts(rt: &(impl Abort + AllocGlobal), text: &str) -> Result<(), Fail> {
+    expect_attempts_over(rt, FOUR_TYPES, text)
 }
 
 #[test]

@@ -100,6 +100,7 @@ fn lookup(
         Vec::new(rt.alloc()),
         Vec::new(rt.alloc()),
         Vec::new(rt.alloc()),
+        Vec::new(rt.alloc()),
         None,
     ))
 }

@@ -24,6 +24,10 @@ pub enum Gate {
     SaturatingFloatToInt,
     /// The proposal `threads`.
     Threads,
+    /// The proposal `exceptions`.
+    Exceptions,
+    /// The proposal `legacy_exceptions`.
+    LegacyExceptions,
     /// The proposal `tail_call`.
     TailCall,
     /// The proposal `function_references`.
@@ -53,6 +57,8 @@ impl Gate {
             Gate::SignExtension => features.sign_extension(),
             Gate::SaturatingFloatToInt => features.saturating_float_to_int(),
             Gate::Threads => features.threads(),
+            Gate::Exceptions => features.exceptions(),
+            Gate::LegacyExceptions => features.legacy_exceptions(),
             Gate::TailCall => features.tail_call(),
             Gate::FunctionReferences => features.function_references(),
             Gate::Gc => features.gc(),
@@ -74,6 +80,8 @@ impl Gate {
                 "saturating float to int conversions support is not enabled"
             }
             Gate::Threads => "threads support is not enabled",
+            Gate::Exceptions => "exceptions support is not enabled",
+            Gate::LegacyExceptions => "legacy exceptions support is not enabled",
             Gate::TailCall => "tail calls support is not enabled",
             Gate::FunctionReferences => "function references support is not enabled",
             Gate::Gc => "gc support is not enabled",

@@ -1,148 +1,130 @@
--- What is noted of the open parts: bits in a ring of words.
-use Rattle.std.proofs.Common.{◌≡◌, ◌≢◌, ℕ, zero, suc, ◌+◌, ◌-◌, ◌<◌, inl, inr, min, Bool, true, false, Some, None, List, refl, ap, sym, subst, ◌∙◌, arith}
+-- What is noted of the open parts: bits in rings of words.
+use Rattle.std.proofs.Common.{◌≡◌, ◌≢◌, ℕ, zero, suc, ◌+◌, ◌-◌, ◌<◌, ◌≤◌, inl, inr, min, Bool, true, false, not, Some, List, [], ◌∷◌, length, drop, refl, ap, sym, ◌∙◌, arith}
+use Rattle.std.specs.Int.{from_bool}
 use Rattle.std.proofs.lemmas.Bool.{cases_eq}
+use Rattle.std.proofs.lemmas.List.{length-drop, drop-drop}
 use Rattle.validate_visit.specs.declared.frame.FrameKind.{FrameKind}
-use Rattle.validate_visit.specs.Order.{Nesting, Stays, Opens, BeginsElse, BeginsCatch, Ends, Delegates, is_part_opener, is_part_closer, is_if, part_begun}
-use Rattle.validate_visit.specs.Parts.{is_if_under, most_noted, is_noted_at, AreNoted}
+use Rattle.validate_visit.specs.declared.frame.FrameKind.TheVariants.{If, LegacyTry}
+use Rattle.validate_visit.specs.declared.order.Notes.{Notes}
+use Rattle.validate_visit.specs.Order.{Nesting, Opens, BeginsElse, BeginsCatch, Delegates, is_part_opener, is_part_closer, is_if, is_try, may_catch, may_stand, may_stand_anywhere, part_begun}
 use Rattle.validate_visit.specs.Order.{parts_after}
-use Rattle.validate_visit.proofs.Reading.{counted}
-use Rattle.validate_visit.proofs.LookingBack.{back-closed, back-begun, back-opened, back-turned}
+use Rattle.validate_visit.specs.Parts.{outermost, is_first_part, may_stand_in, most_noted, is_noted_at, NotesAt, has_innermost, Tell, AreNoted}
+use Rattle.validate_visit.proofs.LookingBack.{opened, length-closed, drop-closed, length-begun, innermost-begun, drop-begun}
 
--- the notes of other parts stay
-abbrev pub OthersStay : ℕ → List ℕ → List ℕ → Type 0
-OthersStay depth ws ws' = (other : ℕ) → other ≢ depth → depth < other + most_noted → other < depth + most_noted → is_noted_at ws' other ≡ is_noted_at ws other
+-- ---- one ring
 
--- ---- what an operator does
+module _ (is_such : FrameKind → Bool) (d n : ℕ) (ws : List ℕ) where
+  -- reading an operator that closes a part
+  tell-closed : (ks : List FrameKind) (op : Nesting) → is_part_closer op ≡ true → Tell ws is_such d n ks → Tell ws is_such (d - 1) (n - 1) (parts_after ks op)
+  tell-closed ks op h tell = λ under l.
+      let e : d - 1 - under ≡ d - suc under = omega arith in
+      ap (is_noted_at ws) e ∙ tell (suc under) (omega (arith, l)) ∙ ap (has_innermost is_such) (sym (drop-closed under ks op h))
 
--- an operator that opens a part begins one, and one that closes a part doesn't open one
-pub none_opened : (op : Nesting) → part_begun op ≡ None → is_part_opener op ≡ false
-none_opened (Opens k) e = absurd cc
-none_opened Stays e = refl
-none_opened BeginsElse e = refl
-none_opened (BeginsCatch all) e = refl
-none_opened Ends e = refl
-none_opened Delegates e = refl
+  -- reading one that begins a part of this kind
+  tell-begun : (ws' : List ℕ) (ks : List FrameKind) (op : Nesting) (k : FrameKind) → part_begun op ≡ Some k → n ≤ d → opened op ≤ 1 → 0 < length (parts_after ks op) → NotesAt (d + opened op) (is_such k) ws ws' → Tell ws is_such d n ks → Tell ws' is_such (d + opened op) (min (n + opened op) most_noted) (parts_after ks op)
+  tell-begun ws' ks op k begun within one some notes tell = at
+    where
+      at : (under : ℕ) → under < min (n + opened op) most_noted → is_noted_at ws' (d + opened op - under) ≡ has_innermost is_such (drop under (parts_after ks op))
+      at zero l =
+          let e : d + opened op - 0 ≡ d + opened op = omega arith in
+          ap (is_noted_at ws') e ∙ notes.here ∙ sym (innermost-begun is_such ks op k begun some)
+      at (suc under) l =
+          let e : d + opened op - suc under ≡ d - (suc under - opened op) = omega (arith, one, l, within) in
+          let other : d - (suc under - opened op) ≢ d + opened op = omega (arith, one, l, within) in
+          ap (is_noted_at ws') e ∙ notes.others (d - (suc under - opened op)) other (omega (arith, one, l, within)) (omega arith)
+          ∙ tell (suc under - opened op) (omega (arith, one, l)) ∙ ap (has_innermost is_such) (sym (drop-begun under ks op k begun))
 
-pub closer_opens_none : (op : Nesting) → is_part_closer op ≡ true → is_part_opener op ≡ false
-closer_opens_none (Opens k) e = absurd cc
-closer_opens_none Stays e = refl
-closer_opens_none BeginsElse e = refl
-closer_opens_none (BeginsCatch all) e = refl
-closer_opens_none Ends e = refl
-closer_opens_none Delegates e = refl
+  -- taking back one that begins the part to be noted next
+  tell-found : (ws' : List ℕ) (ks whole : List FrameKind) (op : Nesting) (k : FrameKind) → n < d → n < most_noted → part_begun op ≡ Some k → 0 < length (parts_after ks op) → parts_after ks op ≡ drop n whole → NotesAt (d - n) (is_such k) ws ws' → Tell ws is_such d n whole → Tell ws' is_such d (n + 1) whole
+  tell-found ws' ks whole op k deeper room begun some rest notes tell = λ under l. elim (cases_eq under n) [
+    | inl e ↦
+        ap (λ i. is_noted_at ws' (d - i)) e ∙ notes.here ∙ sym (innermost-begun is_such ks op k begun some)
+        ∙ ap (has_innermost is_such) (rest ∙ ap (λ i. drop i whole) (sym e))
+    | inr ne ↦
+        let other : d - under ≢ d - n = omega (arith, l, deeper, ne) in
+        notes.others (d - under) other (omega (arith, l, room, deeper)) (omega (arith, l, room, deeper)) ∙ tell under (omega (arith, l, ne))
+  ]
 
-pub begins_no_closer : (op : Nesting) (k : FrameKind) → part_begun op ≡ Some k → is_part_closer op ≡ false
-begins_no_closer Ends k e = absurd cc
-begins_no_closer Delegates k e = absurd cc
-begins_no_closer (Opens j) k e = refl
-begins_no_closer Stays k e = refl
-begins_no_closer BeginsElse k e = refl
-begins_no_closer (BeginsCatch all) k e = refl
+-- ---- the two rings
 
--- ---- reading an operator
+at_most_one : (op : Nesting) → opened op ≤ 1
+at_most_one (Opens k) = omega arith
+at_most_one _ = omega arith
 
-pub noted-closed : (d n : ℕ) (ws : List ℕ) (ks : List FrameKind) (op : Nesting) → 0 < d → is_part_closer op ≡ true → is_part_opener op ≡ false → AreNoted d n ws ks → AreNoted (d - 1) (n - 1) ws (parts_after ks op)
-noted-closed d n ws ks op some h g v = record {
-  counted = counted ks op d (d - 1) v.counted (λ o. absurd (cc (o, g))) (λ _. omega (arith, some)) (λ _ c. absurd (cc (c, h)));
+pub noted-closed : (d n : ℕ) (notes : Notes) (ks : List FrameKind) (op : Nesting) → is_part_closer op ≡ true → AreNoted d n notes ks → AreNoted (d - 1) (n - 1) notes (parts_after ks op)
+noted-closed d n notes ks op h v = record {
+  counted = omega (arith, v.counted, length-closed ks op h);
   within = omega (arith, v.within);
   within_limit = omega (arith, v.within_limit);
-  same = λ j l.
-      let e : d - 1 - j ≡ d - suc j = omega arith in
-      ap (is_noted_at ws) e ∙ v.same (suc j) (omega (arith, l)) ∙ sym (back-closed j ks op h);
+  firsts = tell-closed is_first_part d n notes.firsts ks op h v.firsts;
+  catching = tell-closed may_catch d n notes.catching ks op h v.catching;
 }
 
-pub noted-opened : (d n : ℕ) (ws ws' : List ℕ) (ks : List FrameKind) (op : Nesting) (k : FrameKind) → is_part_closer op ≡ false → is_part_opener op ≡ true → part_begun op ≡ Some k → is_noted_at ws' (d + 1) ≡ is_if k → OthersStay (d + 1) ws ws' → AreNoted d n ws ks → AreNoted (d + 1) (min (n + 1) most_noted) ws' (parts_after ks op)
-noted-opened d n ws ws' ks op k h g p here others v = record {
-  counted = counted ks op d (d + 1) v.counted (λ _. refl) (λ c. absurd (cc (c, h))) (λ o. absurd (cc (o, g)));
+pub noted-begun : (d n : ℕ) (notes notes' : Notes) (ks : List FrameKind) (op : Nesting) (k : FrameKind) → part_begun op ≡ Some k → 0 < d → NotesAt (d + opened op) (is_first_part k) notes.firsts notes'.firsts → NotesAt (d + opened op) (may_catch k) notes.catching notes'.catching → AreNoted d n notes ks → AreNoted (d + opened op) (min (n + opened op) most_noted) notes' (parts_after ks op)
+noted-begun d n notes notes' ks op k begun some first catches v = record {
+  counted = counted;
   within = omega (arith, v.within);
   within_limit = omega arith;
-  same = at;
+  firsts = tell-begun is_first_part d n notes.firsts notes'.firsts ks op k begun v.within (at_most_one op) left first v.firsts;
+  catching = tell-begun may_catch d n notes.catching notes'.catching ks op k begun v.within (at_most_one op) left catches v.catching;
 }
   where
-    at : (j : ℕ) → j < min (n + 1) most_noted → is_noted_at ws' (d + 1 - j) ≡ is_if_under j (parts_after ks op)
-    at zero l =
-        let e : d + 1 - 0 ≡ d + 1 = omega arith in
-        ap (is_noted_at ws') e ∙ here ∙ sym (back-begun ks op k p h)
-    at (suc j) l =
-        let e : d + 1 - suc j ≡ d - j = omega arith in
-        let i : suc j - 1 ≡ j = omega arith in
-        let w : d - j ≢ d + 1 = omega arith in
-        ap (is_noted_at ws') e ∙ others (d - j) w (omega (arith, l)) (omega arith) ∙ v.same j (omega (arith, l))
-        ∙ ap (λ m. is_if_under m ks) (sym i) ∙ sym (back-opened (suc j) ks op (omega arith) g)
+    counted : d + opened op ≡ length (parts_after ks op)
+    counted = omega (arith, v.counted, length-begun ks op k begun)
 
-pub noted-turned : (d n : ℕ) (ws ws' : List ℕ) (ks : List FrameKind) (op : Nesting) (k : FrameKind) → is_part_closer op ≡ false → is_part_opener op ≡ false → part_begun op ≡ Some k → is_noted_at ws' d ≡ is_if k → OthersStay d ws ws' → AreNoted d n ws ks → AreNoted d n ws' (parts_after ks op)
-noted-turned d n ws ws' ks op k h g p here others v = record {
-  counted = counted ks op d d v.counted (λ o. absurd (cc (o, g))) (λ c. absurd (cc (c, h))) (λ _ _. refl);
-  within = v.within;
-  within_limit = v.within_limit;
-  same = at;
-}
-  where
-    at : (j : ℕ) → j < n → is_noted_at ws' (d - j) ≡ is_if_under j (parts_after ks op)
-    at zero l =
-        let e : d - 0 ≡ d = omega arith in
-        ap (is_noted_at ws') e ∙ here ∙ sym (back-begun ks op k p h)
-    at (suc j) l =
-        let w : d - suc j ≢ d = omega (arith, l, v.within) in
-        others (d - suc j) w (omega (arith, l, v.within_limit)) (omega arith) ∙ v.same (suc j) l
-        ∙ sym (back-turned (suc j) ks op (omega arith) g h)
+    left : 0 < length (parts_after ks op)
+    left = omega (arith, some, counted)
 
-pub noted-begun : (d n o : ℕ) (ws ws' : List ℕ) (ks : List FrameKind) (op : Nesting) (k : FrameKind) → part_begun op ≡ Some k → (is_part_opener op ≡ true → o ≡ 1) → (is_part_opener op ≡ false → o ≡ 0) → is_noted_at ws' (d + o) ≡ is_if k → OthersStay (d + o) ws ws' → AreNoted d n ws ks → AreNoted (d + o) (min (n + o) most_noted) ws' (parts_after ks op)
-noted-begun d n o ws ws' ks op k p opens turns here others v = at (is_part_opener op) refl
-  where
-    h : is_part_closer op ≡ false
-    h = begins_no_closer op k p
-
-    at : (b : Bool) → is_part_opener op ≡ b → AreNoted (d + o) (min (n + o) most_noted) ws' (parts_after ks op)
-    at true g =
-        let e = opens g in
-        subst (λ m. AreNoted (d + m) (min (n + m) most_noted) ws' (parts_after ks op)) (sym e) (noted-opened d n ws ws' ks op k h g p (subst (λ m. is_noted_at ws' (d + m) ≡ is_if k) e here) (subst (λ m. OthersStay (d + m) ws ws') e others) v)
-    at false g =
-        let e : d ≡ d + o = omega (arith, turns g) in
-        let m : n ≡ min (n + o) most_noted = omega (arith, turns g, v.within_limit) in
-        subst (λ i. AreNoted i (min (n + o) most_noted) ws' (parts_after ks op)) e (subst (λ i. AreNoted d i ws' (parts_after ks op)) m (noted-turned d n ws ws' ks op k h g p (subst (λ i. is_noted_at ws' i ≡ is_if k) (sym e) here) (subst (λ i. OthersStay i ws ws') (sym e) others) v))
-
--- ---- taking an operator back
-
--- from the part to be noted next on, these parts under so many are those
-abbrev pub AreRest : ℕ → List FrameKind → ℕ → List FrameKind → Type 0
-AreRest under ks noted whole = (j : ℕ) → is_if_under (under + j) ks ≡ is_if_under (noted + j) whole
-
--- it begins the part to be noted next
-pub noted-found : (d n : ℕ) (ws ws' : List ℕ) (ks whole : List FrameKind) (op : Nesting) (k : FrameKind) → n < d → n < most_noted → is_part_closer op ≡ false → part_begun op ≡ Some k → is_noted_at ws' (d - n) ≡ is_if k → OthersStay (d - n) ws ws' → AreRest 0 (parts_after ks op) n whole → AreNoted d n ws whole → AreNoted d (n + 1) ws' whole
-noted-found d n ws ws' ks whole op k deeper room h p here others rest v = record {
+pub noted-found : (d n : ℕ) (notes notes' : Notes) (ks whole : List FrameKind) (op : Nesting) (k : FrameKind) → n < d → n < most_noted → part_begun op ≡ Some k → parts_after ks op ≡ drop n whole → NotesAt (d - n) (is_first_part k) notes.firsts notes'.firsts → NotesAt (d - n) (may_catch k) notes.catching notes'.catching → AreNoted d n notes whole → AreNoted d (n + 1) notes' whole
+noted-found d n notes notes' ks whole op k deeper room begun rest first catches v = record {
   counted = v.counted;
   within = omega (arith, deeper);
   within_limit = omega (arith, room);
-  same = λ j l. elim (cases_eq j n) [
-    | inl e ↦
-        let z : n + 0 ≡ j = omega (arith, e) in
-        ap (λ i. is_noted_at ws' (d - i)) e ∙ here ∙ sym (back-begun ks op k p h) ∙ rest 0 ∙ ap (λ i. is_if_under i whole) z
-    | inr ne ↦
-        let w : d - j ≢ d - n = omega (arith, l, deeper, ne) in
-        others (d - j) w (omega (arith, l, room, deeper)) (omega (arith, l, room, deeper)) ∙ v.same j (omega (arith, l, ne))
-  ];
+  firsts = tell-found is_first_part d n notes.firsts notes'.firsts ks whole op k deeper room begun some rest first v.firsts;
+  catching = tell-found may_catch d n notes.catching notes'.catching ks whole op k deeper room begun some rest catches v.catching;
 }
-
-next : (n j : ℕ) (ks whole : List FrameKind) (op : Nesting) → AreRest 0 (parts_after ks op) n whole → is_if_under (suc j) (parts_after ks op) ≡ is_if_under (n + 1 + j) whole
-next n j ks whole op rest =
-    let a : suc j ≡ 0 + suc j = omega arith in
-    let b : n + suc j ≡ n + 1 + j = omega arith in
-    ap (λ i. is_if_under i (parts_after ks op)) a ∙ rest (suc j) ∙ ap (λ i. is_if_under i whole) b
-
-pub rest-opened : (n : ℕ) (ks whole : List FrameKind) (op : Nesting) → is_part_opener op ≡ true → AreRest 0 (parts_after ks op) n whole → AreRest 0 ks (n + 1) whole
-rest-opened n ks whole op g rest = λ j.
-    let i : 0 + j ≡ suc j - 1 = omega arith in
-    ap (λ m. is_if_under m ks) i ∙ sym (back-opened (suc j) ks op (omega arith) g) ∙ next n j ks whole op rest
-
-pub rest-turned : (n : ℕ) (ks whole : List FrameKind) (op : Nesting) → is_part_opener op ≡ false → is_part_closer op ≡ false → AreRest 0 (parts_after ks op) n whole → AreRest 1 ks (n + 1) whole
-rest-turned n ks whole op g h rest = λ j.
-    let i : 1 + j ≡ suc j = omega arith in
-    ap (λ m. is_if_under m ks) i ∙ sym (back-turned (suc j) ks op (omega arith) g h) ∙ next n j ks whole op rest
-
-pub rest-begun : (n r : ℕ) (ks whole : List FrameKind) (op : Nesting) → is_part_closer op ≡ false → (is_part_opener op ≡ true → r ≡ 0) → (is_part_opener op ≡ false → r ≡ 1) → AreRest 0 (parts_after ks op) n whole → AreRest r ks (n + 1) whole
-rest-begun n r ks whole op h opens turns rest = at (is_part_opener op) refl
   where
-    at : (b : Bool) → is_part_opener op ≡ b → AreRest r ks (n + 1) whole
-    at true g = subst (λ m. AreRest m ks (n + 1) whole) (sym (opens g)) (rest-opened n ks whole op g rest)
-    at false g = subst (λ m. AreRest m ks (n + 1) whole) (sym (turns g)) (rest-turned n ks whole op g h rest)
+    some : 0 < length (parts_after ks op)
+    some = omega (arith, deeper, v.counted, ap length rest, length-drop n whole)
+
+-- the part after that one
+pub rest-begun : (n : ℕ) (ks whole : List FrameKind) (op : Nesting) (k : FrameKind) → part_begun op ≡ Some k → parts_after ks op ≡ drop n whole → drop (from_bool (not (is_part_opener op))) ks ≡ drop (n + 1) whole
+rest-begun n ks whole op k begun rest =
+    ap (λ i. drop i ks) (by_test (is_part_opener op)) ∙ sym (drop-begun 0 ks op k begun) ∙ ap (drop 1) rest ∙ drop-drop 1 n whole
+  where
+    by_test : (b : Bool) → from_bool (not b) ≡ 1 - from_bool b
+    by_test true = refl
+    by_test false = refl
+
+-- ---- whether an operator may stand, by what is noted
+
+if_is : (k : FrameKind) → may_stand_in (is_first_part k) (may_catch k) BeginsElse ≡ is_if k
+if_is If = refl
+if_is LegacyTry = refl
+if_is _ = refl
+
+try_is : (k : FrameKind) → may_stand_in (is_first_part k) (may_catch k) Delegates ≡ is_try k
+try_is If = refl
+try_is LegacyTry = refl
+try_is _ = refl
+
+stands_in : (ks : List FrameKind) (op : Nesting) → 0 < length ks → may_stand_in (has_innermost is_first_part ks) (has_innermost may_catch ks) op ≡ may_stand ks op
+stands_in [] op some = absurd (omega (arith, some))
+stands_in (k ∷ ks) BeginsElse some = if_is k
+stands_in (k ∷ ks) Delegates some = try_is k
+stands_in (k ∷ ks) _ some = refl
+
+pub noted-stands : (d n : ℕ) (notes : Notes) (ks : List FrameKind) (op : Nesting) → 0 < n → AreNoted d n notes ks → may_stand_in (is_noted_at notes.firsts d) (is_noted_at notes.catching d) op ≡ may_stand ks op
+noted-stands d n notes ks op some v =
+    let e : d ≡ d - 0 = omega arith in
+    let left : 0 < length ks = omega (arith, some, v.within, v.counted) in
+    ap (λ b. may_stand_in b (is_noted_at notes.catching d) op) (ap (is_noted_at notes.firsts) e ∙ v.firsts 0 some)
+    ∙ ap (λ b. may_stand_in (has_innermost is_first_part ks) b op) (ap (is_noted_at notes.catching) e ∙ v.catching 0 some)
+    ∙ stands_in ks op left
+
+-- an operator that asks for a part stands in no outermost frame
+pub outermost_refuses : (op : Nesting) → may_stand_anywhere op ≡ false → may_stand outermost op ≡ false
+outermost_refuses BeginsElse h = refl
+outermost_refuses (BeginsCatch all) h = refl
+outermost_refuses Delegates h = refl
+outermost_refuses _ h = absurd cc

@@ -4,13 +4,12 @@ use Rattle.std.proofs.lemmas.List.{take_more, map-append}
 use Rattle.std.proofs.Math.Bool.{and_assoc, and-true}
 use Rattle.std.proofs.Math.Seq.{split_at}
 use Rattle.validate_visit.specs.declared.frame.FrameKind.{FrameKind}
-use Rattle.validate_visit.specs.declared.frame.FrameKind.TheVariants.{Else}
 use Rattle.validate_visit.specs.declared.op.Op.{Op}
-use Rattle.validate_visit.specs.declared.op.Op.TheVariants.{Control, Numeric, Convert, Memory, Atomic, Reference, Table, Struct, Array}
-use Rattle.validate_visit.specs.declared.op.ControlOp.TheVariants.{Nop, Block as BlockOp, Loop as LoopOp, If as IfOp, Else as ElseOp}
+use Rattle.validate_visit.specs.declared.op.Op.TheVariants.{Control}
+use Rattle.validate_visit.specs.declared.op.ControlOp.TheVariants.{Nop}
 use Rattle.validate_visit.specs.Parts.{outermost, parts_after_list}
-use Rattle.validate_visit.specs.Order.{with_innermost_kind, parts_after}
-use Rattle.validate_visit.specs.Order.{Nesting, Stays, Opens, BeginsElse, BeginsCatch, Ends, Delegates, nesting, is_part_opener, is_part_closer, begins_else, is_if, is_try, may_catch, catch_kind, is_ordered_from, is_well_ordered_list, may_stand}
+use Rattle.validate_visit.specs.Order.{parts_after}
+use Rattle.validate_visit.specs.Order.{Nesting, Stays, Opens, Ends, nesting, may_stand_anywhere, is_ordered_from, is_well_ordered_list, may_stand}
 
 -- the operators of a list with offsets, and what they do to the open parts
 abbrev pub operators : List (Op × ℕ) → List Op
@@ -25,22 +24,13 @@ nestings ps = map nesting (operators ps)
 reads_one : (ks : List FrameKind) (n : Nesting) (ns : List Nesting) → is_ordered_from ks (n ∷ ns) ≡ may_stand ks n && is_ordered_from (parts_after ks n) ns
 reads_one ks n ns = refl
 
--- an operator other than `else` may_stand wherever `nop` does
-as_nop : (ks : List FrameKind) (op : Op) → begins_else (nesting op) ≡ false → may_stand ks (nesting op) ≡ may_stand ks Stays
-as_nop [] op h = refl
-as_nop (k ∷ ks) (Control (BlockOp bt)) h = refl
-as_nop (k ∷ ks) (Control (LoopOp bt)) h = refl
-as_nop (k ∷ ks) (Control (IfOp bt)) h = refl
-as_nop (k ∷ ks) (Control ElseOp) h = absurd cc
-as_nop (k ∷ ks) (Control _) h = refl
-as_nop (k ∷ ks) (Numeric op) h = refl
-as_nop (k ∷ ks) (Convert op) h = refl
-as_nop (k ∷ ks) (Memory op) h = refl
-as_nop (k ∷ ks) (Atomic op) h = refl
-as_nop (k ∷ ks) (Reference op) h = refl
-as_nop (k ∷ ks) (Table op) h = refl
-as_nop (k ∷ ks) (Struct op) h = refl
-as_nop (k ∷ ks) (Array op) h = refl
+-- such an operator may stand wherever `nop` does
+as_nop : (ks : List FrameKind) (n : Nesting) → may_stand_anywhere n ≡ true → may_stand ks n ≡ may_stand ks Stays
+as_nop [] n h = refl
+as_nop (k ∷ ks) Stays h = refl
+as_nop (k ∷ ks) (Opens kind) h = refl
+as_nop (k ∷ ks) Ends h = refl
+as_nop (k ∷ ks) _ h = absurd cc
 
 nop_stands : (ks : List FrameKind) (n : ℕ) → n ≡ length ks → n ≢ 0 → may_stand ks Stays ≡ true
 nop_stands [] n e some = absurd (some e)
@@ -49,21 +39,6 @@ nop_stands (k ∷ ks) n e some = refl
 none_stands : (ks : List FrameKind) (n : Nesting) → 0 ≡ length ks → may_stand ks n ≡ false
 none_stands [] n e = refl
 none_stands (k ∷ ks) n e = absurd (omega (arith, e))
-
-length-turned : (j : FrameKind) (ks : List FrameKind) → length ks ≡ length (with_innermost_kind j ks)
-length-turned j [] = refl
-length-turned j (k ∷ ks) = refl
-
--- so many parts are open after it
-pub counted : (ks : List FrameKind) (n : Nesting) (c m : ℕ) → c ≡ length ks → (is_part_opener n ≡ true → m ≡ c + 1) → (is_part_closer n ≡ true → m + 1 ≡ c) → (is_part_opener n ≡ false → is_part_closer n ≡ false → m ≡ c) → m ≡ length (parts_after ks n)
-counted ks Stays c m e opens closes stays = stays refl refl ∙ e
-counted ks (Opens kind) c m e opens closes stays = let h = opens refl in omega (arith, e, h)
-counted ks BeginsElse c m e opens closes stays = stays refl refl ∙ e ∙ length-turned Else ks
-counted ks (BeginsCatch all) c m e opens closes stays = stays refl refl ∙ e ∙ length-turned (catch_kind all) ks
-counted [] Ends c m e opens closes stays = let h = closes refl in absurd (omega (arith, e, h))
-counted (k ∷ ks) Ends c m e opens closes stays = let h = closes refl in omega (arith, e, h)
-counted [] Delegates c m e opens closes stays = let h = closes refl in absurd (omega (arith, e, h))
-counted (k ∷ ks) Delegates c m e opens closes stays = let h = closes refl in omega (arith, e, h)
 
 -- ---- a list
 
@@ -113,10 +88,10 @@ ordered-front ps op h =
     let e = ap (is_ordered_from outermost) (map-append nesting (operators ps) (op ∷ [])) ∙ reads-append outermost (nestings ps) (nesting op ∷ []) in
     left_of_and (is_ordered_from outermost (nestings ps)) (is_ordered_from (parts_after_list outermost (nestings ps)) (nesting op ∷ [])) (sym e ∙ h)
 
-pub follows-as_nop : (ps : List (Op × ℕ)) (op : Op) → is_well_ordered_list (operators ps ++ Control Nop ∷ []) ≡ true → begins_else (nesting op) ≡ false → is_well_ordered_list (operators ps ++ op ∷ []) ≡ true
+pub follows-as_nop : (ps : List (Op × ℕ)) (op : Op) → is_well_ordered_list (operators ps ++ Control Nop ∷ []) ≡ true → may_stand_anywhere (nesting op) ≡ true → is_well_ordered_list (operators ps ++ op ∷ []) ≡ true
 follows-as_nop ps op nop h =
     let front = ordered-front ps (Control Nop) nop in
-    follows ps op front ∙ as_nop (parts_after_list outermost (nestings ps)) op h ∙ sym (follows ps (Control Nop) front) ∙ nop
+    follows ps op front ∙ as_nop (parts_after_list outermost (nestings ps)) (nesting op) h ∙ sym (follows ps (Control Nop) front) ∙ nop
 
 -- ---- reading on at an index, where so many parts are open
 
@@ -145,10 +120,6 @@ module _ (ps : List (Op × ℕ)) (i : ℕ) (d : Op × ℕ) (h : i < length ps) (
     where
       nestings-further : nestings (take (i + 1) ps) ≡ map nesting (operators (take i ps) ++ next ∷ [])
       nestings-further = nestings-more ps i d h ∙ sym (map-append nesting (operators (take i ps)) (next ∷ []))
-
-  pub parts-further : (open_parts m : ℕ) → open_parts ≡ length now → (is_part_opener (nesting next) ≡ true → m ≡ open_parts + 1) → (is_part_closer (nesting next) ≡ true → m + 1 ≡ open_parts) → (is_part_opener (nesting next) ≡ false → is_part_closer (nesting next) ≡ false → m ≡ open_parts) → m ≡ length (parts_after_list outermost (nestings (take (i + 1) ps)))
-  parts-further n m e opens closes stays =
-      counted now (nesting next) n m e opens closes stays ∙ ap length (sym (parts-more ps i d h))
 
 pub stops-none_open : (ps : List (Op × ℕ)) (i : ℕ) → i < length ps → is_well_ordered_list (operators (take i ps)) ≡ true → 0 ≡ length (parts_after_list outermost (nestings (take i ps))) → is_well_ordered_list (operators ps) ≡ false
 stops-none_open ps i h ordered e =

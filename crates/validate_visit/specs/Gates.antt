@@ -4,13 +4,14 @@ use Rattle.validate_types.specs.declared.gate.Gate.{Gate}
 use Rattle.validate_types.specs.declared.gate.Gate.TheVariants.{Mvp, Floats, ReferenceTypes, BulkMemory}
 use Rattle.validate_types.specs.declared.gate.Gate.TheVariants.{BulkMemoryOpt, SignExtension}
 use Rattle.validate_types.specs.declared.gate.Gate.TheVariants.{SaturatingFloatToInt, Threads, TailCall}
+use Rattle.validate_types.specs.declared.gate.Gate.TheVariants.{Exceptions, LegacyExceptions}
 use Rattle.validate_types.specs.declared.gate.Gate.TheVariants.{FunctionReferences, Gc, MemoryControl}
 use Rattle.validate_types.specs.declared.gate.Gate.TheVariants.{WideArithmetic, AcquireReleaseAtomics}
 use Rattle.validate_visit.specs.declared.numbers.NumberType.{NumberType}
 use Rattle.validate_visit.specs.declared.numbers.NumberType.TheVariants.{I32, I64, F32, F64}
 use Rattle.validate_visit.specs.declared.op.Op.{Op}
 use Rattle.validate_visit.specs.declared.op.Op.TheVariants.{Control, Numeric, Convert, Memory, Atomic}
-use Rattle.validate_visit.specs.declared.op.Op.TheVariants.{Reference, Table, Struct, Array}
+use Rattle.validate_visit.specs.declared.op.Op.TheVariants.{Reference, Table, Struct, Array, Exception}
 use Rattle.validate_visit.specs.declared.op.AtomicOp.{AtomicOp}
 use Rattle.validate_visit.specs.declared.op.AtomicOp.TheVariants.{Pause}
 use Rattle.validate_visit.specs.declared.op.ControlOp.{ControlOp}
@@ -21,6 +22,8 @@ use Rattle.validate_visit.specs.declared.op.ConvertOp.{ConvertOp}
 use Rattle.validate_visit.specs.declared.op.ConvertOp.TheVariants.{Wrap, Extend, ExtendPacked, Trunc}
 use Rattle.validate_visit.specs.declared.op.ConvertOp.TheVariants.{TruncSat, Convert as ConvertInteger}
 use Rattle.validate_visit.specs.declared.op.ConvertOp.TheVariants.{Demote, Promote, Reinterpret}
+use Rattle.validate_visit.specs.declared.op.ExceptionOp.{ExceptionOp}
+use Rattle.validate_visit.specs.declared.op.ExceptionOp.TheVariants.{TryTable, Throw, ThrowRef}
 use Rattle.validate_visit.specs.declared.op.MemoryOp.{MemoryOp}
 use Rattle.validate_visit.specs.declared.op.MemoryOp.TheVariants.{Load, Store, MemoryInit, DataDrop}
 use Rattle.validate_visit.specs.declared.op.MemoryOp.TheVariants.{MemoryCopy, MemoryFill, MemoryDiscard}
@@ -102,6 +105,12 @@ table_gate (ElemDrop segment) = BulkMemory
 table_gate (TableCopy dst src) = BulkMemory
 table_gate _ = ReferenceTypes
 
+abbrev pub exception_gate : ExceptionOp → Gate
+exception_gate (TryTable table) = Exceptions
+exception_gate (Throw tag) = Exceptions
+exception_gate ThrowRef = Exceptions
+exception_gate _ = LegacyExceptions
+
 abbrev pub gate_of : Op → Gate
 gate_of (Control op) = control_gate op
 gate_of (Numeric op) = numeric_gate op
@@ -112,3 +121,4 @@ gate_of (Reference op) = reference_gate op
 gate_of (Table op) = table_gate op
 gate_of (Struct op) = Gc
 gate_of (Array op) = Gc
+gate_of (Exception op) = exception_gate op

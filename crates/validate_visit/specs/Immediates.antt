@@ -8,11 +8,14 @@ use Rattle.validate_types.specs.declared.heap.UnpackedIndex.TheVariants.{Module,
 use Rattle.validate_types.specs.declared.types.ValType.{ValType}
 use Rattle.validate_types.specs.declared.types.ValType.TheVariants.{Ref}
 use Rattle.validate_visit.specs.declared.br_table.BrTable.{BrTable}
+use Rattle.validate_visit.specs.declared.catch.Catch.{Catch}
+use Rattle.validate_visit.specs.declared.catch.Catch.TheVariants.{One, OneRef, All, AllRef}
+use Rattle.validate_visit.specs.declared.catch.TryTable.{TryTable}
 use Rattle.validate_visit.specs.declared.frame.BlockType.{BlockType}
 use Rattle.validate_visit.specs.declared.frame.BlockType.TheVariants.{Empty, Val, FuncType}
 use Rattle.validate_visit.specs.declared.op.Op.{Op}
 use Rattle.validate_visit.specs.declared.op.Op.TheVariants.{Control, Numeric, Convert, Memory, Atomic}
-use Rattle.validate_visit.specs.declared.op.Op.TheVariants.{Reference, Table, Struct, Array}
+use Rattle.validate_visit.specs.declared.op.Op.TheVariants.{Reference, Table, Struct, Array, Exception}
 use Rattle.validate_visit.specs.declared.op.ControlOp.{ControlOp}
 use Rattle.validate_visit.specs.declared.op.ControlOp.TheVariants.{Unreachable, Nop, Block, Loop, If, Else}
 use Rattle.validate_visit.specs.declared.op.ControlOp.TheVariants.{End, Br, BrIf, BrTable as BrTableOp}
@@ -52,6 +55,10 @@ use Rattle.validate_visit.specs.declared.op.ArrayOp.TheVariants.{ArrayNewData, A
 use Rattle.validate_visit.specs.declared.op.ArrayOp.TheVariants.{ArrayGetPacked, ArraySet, ArrayLen}
 use Rattle.validate_visit.specs.declared.op.ArrayOp.TheVariants.{ArrayFill, ArrayCopy, ArrayInitData}
 use Rattle.validate_visit.specs.declared.op.ArrayOp.TheVariants.{ArrayInitElem}
+use Rattle.validate_visit.specs.declared.op.ExceptionOp.{ExceptionOp}
+use Rattle.validate_visit.specs.declared.op.ExceptionOp.TheVariants.{TryTable as TryTableOp, Throw, ThrowRef}
+use Rattle.validate_visit.specs.declared.op.ExceptionOp.TheVariants.{Try, Catch as CatchOp, CatchAll}
+use Rattle.validate_visit.specs.declared.op.ExceptionOp.TheVariants.{Delegate, Rethrow}
 use Rattle.validate_types.specs.declared.refs.RefType.{RefType}
 use Rattle.validate_visit.specs.declared.op.TableOp.{TableOp}
 use Rattle.validate_visit.specs.declared.op.TableOp.TheVariants.{TableGet, TableSet, TableGrow, TableSize}
@@ -219,6 +226,26 @@ is_module_array (ArrayCopy i j) = is_index i && is_index j
 is_module_array (ArrayInitData i j) = is_index i && is_index j
 is_module_array (ArrayInitElem i j) = is_index i && is_index j
 
+-- a tag, where the clause names one, and a label
+abbrev pub is_module_catch : Catch → Bool
+is_module_catch (One tag label) = is_index tag && is_index label
+is_module_catch (OneRef tag label) = is_index tag && is_index label
+is_module_catch (All label) = is_index label
+is_module_catch (AllRef label) = is_index label
+
+abbrev pub is_module_try_table : TryTable → Bool
+is_module_try_table t = is_module_block_type t.ty && list_all is_module_catch t.catches.now
+
+abbrev pub is_module_exception : ExceptionOp → Bool
+is_module_exception (TryTableOp table) = is_module_try_table table
+is_module_exception (Throw i) = is_index i
+is_module_exception ThrowRef = true
+is_module_exception (Try bt) = is_module_block_type bt
+is_module_exception (CatchOp i) = is_index i
+is_module_exception CatchAll = true
+is_module_exception (Delegate i) = is_index i
+is_module_exception (Rethrow i) = is_index i
+
 abbrev pub is_module_op : Op → Bool
 is_module_op (Control op) = is_module_control op
 is_module_op (Numeric op) = is_module_numeric op
@@ -229,3 +256,4 @@ is_module_op (Reference op) = is_module_reference op
 is_module_op (Table op) = is_module_table op
 is_module_op (Struct op) = is_module_struct op
 is_module_op (Array op) = is_module_array op
+is_module_op (Exception op) = is_module_exception op

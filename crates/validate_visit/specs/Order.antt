@@ -3,14 +3,17 @@
 -- what each operator does to the open parts.
 use Rattle.std.specs.Prelude.{Bool, true, false, ◌&&◌, Option, Some, None, List, [], ◌∷◌, map}
 use Rattle.validate_visit.specs.declared.frame.FrameKind.{FrameKind}
-use Rattle.validate_visit.specs.declared.frame.FrameKind.TheVariants.{Block, Loop, If, Else, LegacyTry}
-use Rattle.validate_visit.specs.declared.frame.FrameKind.TheVariants.{LegacyCatch, LegacyCatchAll}
+use Rattle.validate_visit.specs.declared.frame.FrameKind.TheVariants.{Block, Loop, If, Else, TryTable}
+use Rattle.validate_visit.specs.declared.frame.FrameKind.TheVariants.{LegacyTry, LegacyCatch, LegacyCatchAll}
 use Rattle.validate_visit.specs.declared.op.Op.{Op}
 use Rattle.validate_visit.specs.declared.op.Op.TheVariants.{Control, Numeric, Convert, Memory, Atomic}
-use Rattle.validate_visit.specs.declared.op.Op.TheVariants.{Reference, Table, Struct, Array}
+use Rattle.validate_visit.specs.declared.op.Op.TheVariants.{Reference, Table, Struct, Array, Exception}
 use Rattle.validate_visit.specs.declared.op.ControlOp.{ControlOp}
 use Rattle.validate_visit.specs.declared.op.ControlOp.TheVariants.{Block as BlockOp, Loop as LoopOp}
 use Rattle.validate_visit.specs.declared.op.ControlOp.TheVariants.{If as IfOp, Else as ElseOp, End}
+use Rattle.validate_visit.specs.declared.op.ExceptionOp.{ExceptionOp}
+use Rattle.validate_visit.specs.declared.op.ExceptionOp.TheVariants.{TryTable as TryTableOp, Try, Catch}
+use Rattle.validate_visit.specs.declared.op.ExceptionOp.TheVariants.{CatchAll, Delegate}
 
 -- What an operator does to the open parts. A `catch` begins another part, a `catch_all` too (`all`).
 pub data Nesting : Type 0 where
@@ -32,10 +35,12 @@ is_part_closer Ends = true
 is_part_closer Delegates = true
 is_part_closer _ = false
 
--- an operator that begins an `else` part
-abbrev pub begins_else : Nesting → Bool
-begins_else BeginsElse = true
-begins_else _ = false
+-- an operator that may stand in any part
+abbrev pub may_stand_anywhere : Nesting → Bool
+may_stand_anywhere BeginsElse = false
+may_stand_anywhere (BeginsCatch all) = false
+may_stand_anywhere Delegates = false
+may_stand_anywhere _ = true
 
 -- the first part of an `if`
 abbrev pub is_if : FrameKind → Bool
@@ -106,6 +111,14 @@ control_nesting ElseOp = BeginsElse
 control_nesting End = Ends
 control_nesting _ = Stays
 
+abbrev pub exception_nesting : ExceptionOp → Nesting
+exception_nesting (TryTableOp table) = Opens TryTable
+exception_nesting (Try bt) = Opens LegacyTry
+exception_nesting (Catch tag) = BeginsCatch false
+exception_nesting CatchAll = BeginsCatch true
+exception_nesting (Delegate d) = Delegates
+exception_nesting _ = Stays
+
 -- what each operator does to the open parts
 abbrev pub nesting : Op → Nesting
 nesting (Control op) = control_nesting op
@@ -117,6 +130,7 @@ nesting (Reference op) = Stays
 nesting (Table op) = Stays
 nesting (Struct op) = Stays
 nesting (Array op) = Stays
+nesting (Exception op) = exception_nesting op
 
 -- Reading from an open outermost frame: openers nest, `else` stands in an `if` part, `catch` and
 -- `catch_all` in a `try` or `catch` part, `delegate` closes a `try` part, `end` closes any, and nothing

@@ -3,6 +3,7 @@
 #![tactic(auto)]
 
 pub mod br_table;
+pub mod catch;
 pub mod frame;
 pub mod frame_stack;
 pub mod gates;
@@ -16,6 +17,7 @@ pub mod op;
 pub mod order;
 
 pub use crate::br_table::{BrTable, BrTableTargets, IncompleteTable};
+pub use crate::catch::{Catch, TryTable};
 pub use crate::frame::{BlockType, Frame, FrameKind};
 pub use crate::frame_stack::FrameStack;
 pub use crate::ieee::{Ieee32, Ieee64};
@@ -28,7 +30,7 @@ pub use crate::numeric::{
     IntegerUnaryOp,
 };
 pub use crate::op::{
-    ArrayOp, AtomicOp, BranchCast, ControlOp, ConvertOp, FieldIndex, MemoryOp, NumericOp, Op,
-    ReferenceOp, StructOp, TableOp,
+    ArrayOp, AtomicOp, BranchCast, ControlOp, ConvertOp, ExceptionOp, FieldIndex, MemoryOp,
+    NumericOp, Op, ReferenceOp, StructOp, TableOp,
 };
 pub use crate::order::is_well_ordered;

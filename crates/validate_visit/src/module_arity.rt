@@ -1,10 +1,11 @@
-//! Who knows what the operators of a body name: types, functions and labels.
+//! Who knows what the operators of a body name: tags, types, functions and labels.
 
 ghost use Rattle.std.specs.Prelude.{◌≡◌, ◌<◌, ◌^◌, ℕ, Option, IsSome, option_and_then};
+ghost use Rattle.validate_types.specs.Types.{Signature};
 ghost use Rattle.std.specs.Option.{option_copied, ForSome};
 ghost use Rattle.validate_types.specs.declared.heap.CoreTypeId.{CoreTypeId};
 ghost use Rattle.validate_types.specs.declared.types.SubType.{SubType};
-ghost use Rattle.validate_visit.specs.Arity.{id_in};
+ghost use Rattle.validate_visit.specs.Arity.{id_in, arity_of};
 ghost use Rattle.validate_visit.specs.declared.frame.BlockType.{BlockType};
 ghost use Rattle.validate_visit.specs.declared.frame.FrameKind.{FrameKind};
 
@@ -14,6 +15,9 @@ use validate_types::{RefType, SubType};
 /// Knows what says how many operands an operator of a body takes and gives (wasmparser's
 /// `ModuleArity`): the types that it names, and the open frames.
 pub trait ModuleArity {
+    /// What the tag at this index carries, and what is given back for it.
+    ghost tag_at: { Self → ℕ → Option Signature };
+
     /// The index of the type of the function at this index.
     ghost type_index_of: { Self → ℕ → Option ℕ };
 
@@ -28,6 +32,11 @@ pub trait ModuleArity {
 
     /// The block type and the kind of the frame at this depth, the innermost at 0.
     ghost label_at: { Self → ℕ → Option (BlockType × FrameKind) };
+
+    /// How many operands the tag at this index carries, and how many are given back for it; None past
+    /// the end, and where either number doesn't fit.
+    fn tag_type_arity(&self, tag_index: u32) -> Option<(u32, u32)>
+        ensures { result ≡ option_and_then arity_of (tag_at self.now tag_index) };
 
     /// The index of the type of the function at this index, or None past the end.
     fn type_index_of_function(&self, function_index: u32) -> Option<u32>

@@ -1,37 +1,42 @@
 //! Which lists of operators are well ordered.
 
-ghost use Rattle.std.specs.Prelude.{◌≡◌, ◌≢◌, ℕ, ◌+◌, ◌-◌, ◌<◌, ◌≤◌, ◌^◌, ◌++◌, [], ◌∷◌, List, Bool, None, true, false, map, length, cond};
+ghost use Rattle.std.specs.Prelude.{◌≡◌, ◌≢◌, ℕ, ◌+◌, ◌-◌, ◌<◌, ◌≤◌, ◌^◌, ◌++◌, [], ◌∷◌, List, None, true, map, drop, cond};
 ghost use Rattle.std.specs.Int.{bit_at};
-ghost use Rattle.validate_visit.specs.Order.{is_well_ordered_list, is_part_opener, is_part_closer, is_if, begins_else, part_begun, nesting};
-ghost use Rattle.validate_visit.specs.Parts.{parts_left, is_if_under, most_noted, is_noted_at, AreNoted};
+ghost use Rattle.validate_visit.specs.Order.{is_well_ordered_list, is_part_opener, is_part_closer, may_stand_anywhere, may_catch, part_begun, nesting};
+ghost use Rattle.validate_visit.specs.Parts.{outermost, parts_left, is_first_part, may_stand_in, most_noted, is_noted_at, NotesAt, AreNoted};
 ghost use Rattle.validate_visit.specs.Order.{parts_after};
 ghost use Rattle.validate_visit.specs.declared.frame.FrameKind.{FrameKind};
 ghost use Rattle.validate_visit.specs.declared.op.Op.{Op};
 ghost use Rattle.validate_visit.specs.declared.op.ControlOp.{ControlOp};
 
 use crate::frame::FrameKind;
-use crate::op::{ControlOp, Op};
+use crate::op::{ControlOp, ExceptionOp, Op};
 
-/// How many words hold what is noted of the innermost parts.
+/// How many words hold a bit for each of the innermost parts.
 const WORDS: usize = 1024;
 
 /// Of how many parts it can be noted what they are.
 const MOST_NOTED: usize = 64 * WORDS;
 
-/// Whether the operators stand in an order that a body can have, reading from an open outermost
-/// frame: openers nest, `else` stands in the first part of an `if`, `end` closes the innermost part, and
-/// nothing follows the outermost `end`. The list may stop early, and the empty list is well ordered. The
-/// offsets don't matter.
+/// Whether the operators stand in an order that a body can have, reading from an open outermost frame.
+/// `block`, `loop`, `if`, `try_table` and `try` open a part, and `end` closes the innermost one, whatever
+/// it is. `else` stands in the first part of an `if`, and begins its other part. `catch` and `catch_all`
+/// stand in the body of a legacy `try`, or in the part of a `catch` before, and begin a part of their own.
+/// `delegate` closes the body of a legacy `try`. Nothing follows the outermost `end`. The list may stop
+/// early, and the empty list is well ordered. The offsets don't matter.
 ///
-/// It takes no memory: it counts the open parts, and notes of the innermost 65,536 whether they are the
-/// first part of an `if`. Only where the list comes up from deeper does it look back for the next ones.
+/// It takes no memory: it counts the open parts, and notes of the innermost 65,536 what may stand in
+/// them. Only where the list comes up from deeper does it look back for the next ones.
 pub fn is_well_ordered(ops: &[(Op<'_>, u64)]) -> bool
     ensures { result ≡ is_well_ordered_list (map (λ (p : _). p.0) ops.now) }
 {
     let mut parts = OpenParts {
         depth: 1,
         noted: 0,
-        firsts: [0; WORDS],
+        notes: Notes {
+            firsts: [0; WORDS],
+            catching: [0; WORDS],
+        },
     };
     for (index, pair) in ops.iter().enumerate() {
         let (op, _) = *pair;
@@ -43,15 +48,24 @@ pub fn is_well_ordered(ops: &[(Op<'_>, u64)]) -> bool
     true
 }
 
-/// The parts that are open, and of the innermost whether they are the first part of an `if`.
+/// The parts that are open, and what is noted of the innermost.
 #[derive(Drop)]
 struct OpenParts {
     /// How many are open.
     depth: usize,
     /// How many of the innermost are noted.
     noted: usize,
-    /// A bit for each of those, at its depth in a ring.
+    /// What is noted of those.
+    notes: Notes,
+}
+
+/// What is noted of parts: for each two bits, at its depth in a ring.
+#[derive(Drop)]
+struct Notes {
+    /// Whether it is the first part of an `if` or of a legacy `try`.
     firsts: [u64; WORDS],
+    /// Whether a `catch` may follow it.
+    catching: [u64; WORDS],
 }
 
 impl OpenParts {
@@ -60,19 +74,19 @@ impl OpenParts {
     fn may_follow(&mut self, op: Op<'_>, before: &[(Op<'_>, u64)]) -> bool
         requires nop { is_well_ordered_list (map (λ (p : _). p.0) before.now
             ++ (Op.Control ControlOp.Nop) ∷ []) ≡ true }
-        requires noted { AreNoted self.old.depth self.old.noted self.old.firsts
+        requires noted { AreNoted self.old.depth self.old.noted self.old.notes
             (parts_left (map (λ (p : _). p.0) before.now)) }
         requires some { 0 < self.old.depth }
         ensures answer { result ≡ is_well_ordered_list (map (λ (p : _). p.0) before.now ++ op.entry ∷ []) }
-        ensures noted { AreNoted self.new.depth self.new.noted self.new.firsts
+        ensures noted { AreNoted self.new.depth self.new.noted self.new.notes
             (parts_left (map (λ (p : _). p.0) before.now)) }
         ensures depth { self.new.depth ≡ self.old.depth }
     {
-        if !is_else(op) {
+        if may_stand_anywhere(op) {
             return true;
         }
         self.look_back(before);
-        self.noted > 0 && is_noted(&self.firsts, self.depth)
+        self.noted > 0 && self.notes.may_stand(op, self.depth)
     }
 
     /// Reads an operator that may stand there.
@@ -81,8 +95,8 @@ impl OpenParts {
         requires some { 0 < self.old.depth }
         requires within_limit { self.old.depth < 2 ^ 63 }
         ensures at_most { self.new.depth ≤ self.old.depth + 1 }
-        ensures noted { (kinds : List FrameKind) → AreNoted self.old.depth self.old.noted self.old.firsts
-            kinds → AreNoted self.new.depth self.new.noted self.new.firsts
+        ensures noted { (kinds : List FrameKind) → AreNoted self.old.depth self.old.noted self.old.notes
+            kinds → AreNoted self.new.depth self.new.noted self.new.notes
             (parts_after kinds (nesting op.entry)) }
     {
         if closes(op) {
@@ -92,7 +106,7 @@ impl OpenParts {
             let opened = usize::from(opens(op));
             self.depth += opened;
             self.noted = self.noted.saturating_add(opened).min(MOST_NOTED);
-            note(&mut self.firsts, self.depth, is_first(kind));
+            self.notes.note(self.depth, kind);
         }
     }
 
@@ -100,13 +114,12 @@ impl OpenParts {
     /// found and noted.
     #[inline(never)]
     fn look_back(&mut self, before: &[(Op<'_>, u64)])
-        requires noted { AreNoted self.old.depth self.old.noted self.old.firsts
+        requires noted { AreNoted self.old.depth self.old.noted self.old.notes
             (parts_left (map (λ (p : _). p.0) before.now)) }
         requires some { 0 < self.old.depth }
-        ensures noted { AreNoted self.new.depth self.new.noted self.new.firsts
+        ensures noted { AreNoted self.new.depth self.new.noted self.new.notes
             (parts_left (map (λ (p : _). p.0) before.now)) }
-        ensures none { self.new.noted ≡ 0 → is_if_under 0 (parts_left (map (λ (p : _). p.0) before.now))
-            ≡ false }
+        ensures none { self.new.noted ≡ 0 → parts_left (map (λ (p : _). p.0) before.now) ≡ outermost }
         ensures depth { self.new.depth ≡ self.old.depth }
     {
         if self.noted > 0 {
@@ -134,13 +147,12 @@ impl OpenParts {
         ensures depth { self.new.depth ≡ self.old.depth }
         ensures at_most { result ≤ under + 1 }
         ensures noted { (kinds whole : List FrameKind) → AreNoted self.old.depth self.old.noted
-            self.old.firsts whole → ((j : ℕ) → is_if_under (under + j) (parts_after kinds (nesting op.entry))
-            ≡ is_if_under (self.old.noted + j) whole) → AreNoted self.new.depth self.new.noted
-            self.new.firsts whole × ((j : ℕ) → is_if_under (result + j) kinds
-            ≡ is_if_under (self.new.noted + j) whole) }
+            self.old.notes whole → drop under (parts_after kinds (nesting op.entry))
+            ≡ drop self.old.noted whole → AreNoted self.new.depth self.new.noted self.new.notes whole
+            × (drop result kinds ≡ drop self.new.noted whole) }
     {
         if let Some(kind) = begins_under(op, under) {
-            note(&mut self.firsts, self.depth - self.noted, is_first(kind));
+            self.notes.note(self.depth - self.noted, kind);
             self.noted += 1;
             return usize::from(!opens(op));
         }
@@ -154,24 +166,51 @@ impl OpenParts {
     }
 }
 
-/// Whether the part at this depth is noted as the first part of an `if`.
-#[inline(always)]
-fn is_noted(firsts: &[u64; WORDS], depth: usize) -> bool
-    ensures { result ≡ is_noted_at firsts.now depth }
-{
-    (firsts[depth / 64 % WORDS] >> (depth % 64)) & 1 == 1
+impl Notes {
+    /// Whether the operator may stand in the part at this depth, by what is noted of it.
+    #[inline(always)]
+    fn may_stand(&self, op: Op<'_>, depth: usize) -> bool
+        ensures { result ≡ may_stand_in (is_noted_at self.now.firsts depth)
+            (is_noted_at self.now.catching depth) (nesting op.entry) }
+    {
+        let is_first = is_noted(&self.firsts, depth);
+        let may_catch = is_noted(&self.catching, depth);
+        match op {
+            Op::Control(ControlOp::Else) => is_first && !may_catch,
+            Op::Exception(ExceptionOp::Catch(_) | ExceptionOp::CatchAll) => may_catch,
+            Op::Exception(ExceptionOp::Delegate(_)) => is_first && may_catch,
+            _ => true,
+        }
+    }
+
+    /// Notes that the part at this depth is of this kind, and leaves what is noted of the others that can
+    /// be noted beside it.
+    #[inline(always)]
+    fn note(&mut self, depth: usize, kind: FrameKind)
+        ensures firsts { NotesAt depth (is_first_part kind) self.old.firsts self.new.firsts }
+        ensures catching { NotesAt depth (may_catch kind) self.old.catching self.new.catching }
+    {
+        note(&mut self.firsts, depth, is_first_part(kind));
+        note(&mut self.catching, depth, may_catch(kind));
+    }
 }
 
-/// Notes of the part at this depth whether it is the first part of an `if`, and leaves what is noted of
-/// the others that can be noted beside it.
+/// Whether the bit for the part at this depth is set.
 #[inline(always)]
-fn note(firsts: &mut [u64; WORDS], depth: usize, is_first: bool)
-    ensures same { is_noted_at firsts.new depth ≡ is_first }
-    ensures others { (other : ℕ) → other ≢ depth → depth < other + most_noted → other < depth + most_noted
-        → is_noted_at firsts.new other ≡ is_noted_at firsts.old other }
+fn is_noted(words: &[u64; WORDS], depth: usize) -> bool
+    ensures { result ≡ is_noted_at words.now depth }
+{
+    (words[depth / 64 % WORDS] >> (depth % 64)) & 1 == 1
+}
+
+/// Sets the bit for the part at this depth, or clears it, and leaves those of the others that can be noted
+/// beside it.
+#[inline(always)]
+fn note(words: &mut [u64; WORDS], depth: usize, is_set: bool)
+    ensures { NotesAt depth is_set words.old words.new }
 {
     let place = depth / 64 % WORDS;
-    firsts[place] = with_bit(firsts[place], depth % 64, is_first);
+    words[place] = with_bit(words[place], depth % 64, is_set);
 }
 
 /// The word with this bit set, or not.
@@ -188,12 +227,20 @@ fn with_bit(word: u64, bit: usize, is_set: bool) -> u64
     }
 }
 
-/// Whether it is the first part of an `if`.
+/// Whether it is the first part of an `if` or of a legacy `try`.
 #[inline(always)]
-fn is_first(kind: FrameKind) -> bool
-    ensures { result ≡ is_if kind }
+fn is_first_part(kind: FrameKind) -> bool
+    ensures { result ≡ is_first_part kind }
 {
-    matches!(kind, FrameKind::If)
+    matches!(kind, FrameKind::If | FrameKind::LegacyTry)
+}
+
+/// Whether a legacy `catch` may follow the part.
+#[inline(always)]
+fn may_catch(kind: FrameKind) -> bool
+    ensures { result ≡ may_catch kind }
+{
+    matches!(kind, FrameKind::LegacyTry | FrameKind::LegacyCatch)
 }
 
 /// The kind of the part that the operator begins, under no others.
@@ -215,6 +262,10 @@ fn begins(op: Op<'_>) -> Option<FrameKind>
         Op::Control(ControlOp::Loop(_)) => Some(FrameKind::Loop),
         Op::Control(ControlOp::If(_)) => Some(FrameKind::If),
         Op::Control(ControlOp::Else) => Some(FrameKind::Else),
+        Op::Exception(ExceptionOp::TryTable(_)) => Some(FrameKind::TryTable),
+        Op::Exception(ExceptionOp::Try(_)) => Some(FrameKind::LegacyTry),
+        Op::Exception(ExceptionOp::Catch(_)) => Some(FrameKind::LegacyCatch),
+        Op::Exception(ExceptionOp::CatchAll) => Some(FrameKind::LegacyCatchAll),
         _ => None,
     }
 }
@@ -224,10 +275,14 @@ fn begins(op: Op<'_>) -> Option<FrameKind>
 fn opens(op: Op<'_>) -> bool
     ensures { result ≡ is_part_opener (nesting op.entry) }
 {
-    matches!(
-        op,
-        Op::Control(ControlOp::Block(_) | ControlOp::Loop(_) | ControlOp::If(_))
-    )
+    match op {
+        Op::Control(op) => matches!(
+            op,
+            ControlOp::Block(_) | ControlOp::Loop(_) | ControlOp::If(_)
+        ),
+        Op::Exception(op) => matches!(op, ExceptionOp::TryTable(_) | ExceptionOp::Try(_)),
+        _ => false,
+    }
 }
 
 /// Whether the operator closes the innermost part.
@@ -235,13 +290,23 @@ fn opens(op: Op<'_>) -> bool
 fn closes(op: Op<'_>) -> bool
     ensures { result ≡ is_part_closer (nesting op.entry) }
 {
-    matches!(op, Op::Control(ControlOp::End))
+    matches!(
+        op,
+        Op::Control(ControlOp::End) | Op::Exception(ExceptionOp::Delegate(_))
+    )
 }
 
-/// Whether the operator is an `else`.
+/// Whether the operator may stand in any part.
 #[inline(always)]
-fn is_else(op: Op<'_>) -> bool
-    ensures { result ≡ begins_else (nesting op.entry) }
+fn may_stand_anywhere(op: Op<'_>) -> bool
+    ensures { result ≡ may_stand_anywhere (nesting op.entry) }
 {
-    matches!(op, Op::Control(ControlOp::Else))
+    match op {
+        Op::Control(op) => !matches!(op, ControlOp::Else),
+        Op::Exception(op) => !matches!(
+            op,
+            ExceptionOp::Catch(_) | ExceptionOp::CatchAll | ExceptionOp::Delegate(_)
+        ),
+        _ => true,
+    }
 }

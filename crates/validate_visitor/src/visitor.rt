@@ -10,10 +10,10 @@ ghost use Rattle.validate_visit.specs.declared.numbers.Sign.TheVariants.{Signed,
 
 use validate_types::{HeapType, RefType, ValType};
 use validate_visit::{
-    ArrayOp, AtomicRmwOp, BlockType, BrTable, ControlOp, ConvertOp, FloatBinaryOp,
+    ArrayOp, AtomicRmwOp, BlockType, BrTable, ControlOp, ConvertOp, ExceptionOp, FloatBinaryOp,
     FloatComparisonOp, FloatType, FloatUnaryOp, Ieee32, Ieee64, IntegerBinaryOp,
     IntegerComparisonOp, IntegerType, IntegerUnaryOp, MemArg, MemoryOp, NumberType, Op, Ordering,
-    ReferenceOp, StructOp, TableOp,
+    ReferenceOp, StructOp, TableOp, TryTable,
 };
 
 /// Visits operators (wasmparser's `VisitOperator`): one call for each operator, with its immediates.
@@ -1853,6 +1853,46 @@ pub trait VisitOperator<'a> {
         requires { can_visit self.old (Op.Array (ArrayOp.ArrayInitElem array_type_index array_elem_index)) }
         ensures { visits self.old (Op.Array (ArrayOp.ArrayInitElem array_type_index array_elem_index))
             result self.new };
+
+    /// `try_table`
+    fn visit_try_table(&mut self, ty: TryTable<'a>) -> Self::Output
+        requires { can_visit self.old (Op.Exception (ExceptionOp.TryTable ty)) }
+        ensures { visits self.old (Op.Exception (ExceptionOp.TryTable ty.entry)) result self.new };
+
+    /// `throw`
+    fn visit_throw(&mut self, tag_index: u32) -> Self::Output
+        requires { can_visit self.old (Op.Exception (ExceptionOp.Throw tag_index)) }
+        ensures { visits self.old (Op.Exception (ExceptionOp.Throw tag_index)) result self.new };
+
+    /// `throw_ref`
+    fn visit_throw_ref(&mut self) -> Self::Output
+        requires { can_visit self.old (Op.Exception ExceptionOp.ThrowRef) }
+        ensures { visits self.old (Op.Exception ExceptionOp.ThrowRef) result self.new };
+
+    /// A legacy `try`.
+    fn visit_try(&mut self, ty: BlockType) -> Self::Output
+        requires { can_visit self.old (Op.Exception (ExceptionOp.Try ty)) }
+        ensures { visits self.old (Op.Exception (ExceptionOp.Try ty)) result self.new };
+
+    /// A legacy `catch`.
+    fn visit_catch(&mut self, tag_index: u32) -> Self::Output
+        requires { can_visit self.old (Op.Exception (ExceptionOp.Catch tag_index)) }
+        ensures { visits self.old (Op.Exception (ExceptionOp.Catch tag_index)) result self.new };
+
+    /// A legacy `catch_all`.
+    fn visit_catch_all(&mut self) -> Self::Output
+        requires { can_visit self.old (Op.Exception ExceptionOp.CatchAll) }
+        ensures { visits self.old (Op.Exception ExceptionOp.CatchAll) result self.new };
+
+    /// A legacy `delegate`.
+    fn visit_delegate(&mut self, relative_depth: u32) -> Self::Output
+        requires { can_visit self.old (Op.Exception (ExceptionOp.Delegate relative_depth)) }
+        ensures { visits self.old (Op.Exception (ExceptionOp.Delegate relative_depth)) result self.new };
+
+    /// A legacy `rethrow`.
+    fn visit_rethrow(&mut self, relative_depth: u32) -> Self::Output
+        requires { can_visit self.old (Op.Exception (ExceptionOp.Rethrow relative_depth)) }
+        ensures { visits self.old (Op.Exception (ExceptionOp.Rethrow relative_depth)) result self.new };
 
     /// The visit that `op` names.
     fn visit_operator(&mut self, op: Op<'a>) -> Self::Output

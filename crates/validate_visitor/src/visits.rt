@@ -15,9 +15,9 @@ use validate_visit::AtomicAccess::{Packed, Whole};
 use validate_visit::Sign::{Signed, Unsigned};
 use validate_visit::{
     ArrayOp, AtomicOp, AtomicRmwOp, BlockType, BrTable, BranchCast, ControlOp, ConvertOp,
-    FieldIndex, FloatBinaryOp, FloatComparisonOp, FloatType, FloatUnaryOp, Ieee32, Ieee64,
-    IntegerBinaryOp, IntegerComparisonOp, IntegerType, IntegerUnaryOp, MemArg, MemoryOp,
-    NumberType, NumericOp, Op, Ordering, PackedInteger, ReferenceOp, StructOp, TableOp,
+    ExceptionOp, FieldIndex, FloatBinaryOp, FloatComparisonOp, FloatType, FloatUnaryOp, Ieee32,
+    Ieee64, IntegerBinaryOp, IntegerComparisonOp, IntegerType, IntegerUnaryOp, MemArg, MemoryOp,
+    NumberType, NumericOp, Op, Ordering, PackedInteger, ReferenceOp, StructOp, TableOp, TryTable,
 };
 
 impl<'a, 'validator, 'resources, R: WasmModuleResources> VisitOperator<'a>
@@ -1571,6 +1571,38 @@ impl<'a, 'validator, 'resources, R: WasmModuleResources> VisitOperator<'a>
             array_type_index,
             array_elem_index,
         })
+    }
+
+    fn visit_try_table(&mut self, ty: TryTable<'a>) -> Result<(), Error> {
+        self.check_exception(ExceptionOp::TryTable(ty))
+    }
+
+    fn visit_throw(&mut self, tag_index: u32) -> Result<(), Error> {
+        self.check_exception(ExceptionOp::Throw(tag_index))
+    }
+
+    fn visit_throw_ref(&mut self) -> Result<(), Error> {
+        self.check_exception(ExceptionOp::ThrowRef)
+    }
+
+    fn visit_try(&mut self, ty: BlockType) -> Result<(), Error> {
+        self.check_exception(ExceptionOp::Try(ty))
+    }
+
+    fn visit_catch(&mut self, tag_index: u32) -> Result<(), Error> {
+        self.check_exception(ExceptionOp::Catch(tag_index))
+    }
+
+    fn visit_catch_all(&mut self) -> Result<(), Error> {
+        self.check_exception(ExceptionOp::CatchAll)
+    }
+
+    fn visit_delegate(&mut self, relative_depth: u32) -> Result<(), Error> {
+        self.check_exception(ExceptionOp::Delegate(relative_depth))
+    }
+
+    fn visit_rethrow(&mut self, relative_depth: u32) -> Result<(), Error> {
+        self.check_exception(ExceptionOp::Rethrow(relative_depth))
     }
 
     fn visit_operator(&mut self, op: Op<'a>) -> Result<(), Error> {

@@ -1,34 +1,47 @@
 -- Small bodies, computed: good ones are accepted and bad ones refused. What is expected is what the
 -- standard's rules say of them.
-use Rattle.std.proofs.Common.{◌≡◌, ℕ, pos, Bool, true, false, List, [], ◌∷◌, ◌++◌, length, Option, Some, None, refl, slice_get}
+use Rattle.std.proofs.Common.{◌≡◌, ℕ, pos, Bool, true, false, List, [], ◌∷◌, length, Option, Some, None, refl, slice_get}
 use Rattle.validate_resources.specs.Context.{is_same_number_or_vector}
 use Rattle.validate_resources.specs.Lists.{Declared, context_of}
 use Rattle.validate_types.specs.declared.types.CompositeInnerType.TheVariants.{Func}
+use Rattle.validate_visit.specs.declared.catch.Catch.{Catch}
+use Rattle.validate_visit.specs.declared.catch.Catch.TheVariants.{One}
 use Rattle.validate_visit.specs.declared.numbers.IntegerType.TheVariants.{I32 as IntegerI32, I64 as IntegerI64}
 use Rattle.validate_visit.specs.declared.numeric.IntegerBinaryOp.TheVariants.{Add}
 use Rattle.validate_visit.specs.declared.op.Op.{Op}
-use Rattle.validate_visit.specs.declared.op.Op.TheVariants.{Control, Numeric}
-use Rattle.validate_visit.specs.declared.op.ControlOp.TheVariants.{Nop, End, Drop, LocalGet, LocalSet, LocalTee}
+use Rattle.validate_visit.specs.declared.op.Op.TheVariants.{Control, Numeric, Exception}
+use Rattle.validate_visit.specs.declared.op.ControlOp.TheVariants.{Unreachable, Nop, Block as BlockOp, Loop as LoopOp, If as IfOp, Else as ElseOp, End, Br, BrIf, BrTable, Return, Drop, LocalGet, LocalSet, LocalTee}
+use Rattle.validate_visit.specs.declared.op.ExceptionOp.TheVariants.{TryTable as TryTableOp, Throw, Try, Catch as CatchOp, CatchAll, Delegate, Rethrow}
 use Rattle.validate_visit.specs.declared.op.NumericOp.TheVariants.{Eqz, IntegerBinary, I32Const, I64Const}
-use Rattle.validation_rules.specs.Context.{SubType, WasmFeatures, ValType, I32, I64, BlockType, Empty, Val, FuncType, Context}
+use Rattle.validation_rules.specs.Context.{Signature, SubType, ValType, I32, I64, BlockType, Empty, Val, FuncType, Context}
 use Rattle.validation_rules.specs.Fits.{MaybeType, Bottom, Known}
 use Rattle.validation_rules.specs.Rows.{FrameKind, Block, Else, Loop, TryTable, LegacyCatch, LegacyCatchAll, Operator}
-use Rattle.validation_rules.specs.Static.{Frame, State, state_before, start, frame_count, operand_count, operands_found}
+use Rattle.validation_rules.specs.Static.{Frame, State, open_state, state_before, start, frame_count, operand_count, operands_found}
 use Rattle.validation_rules.specs.Pops.{frame_after_pops}
 use Rattle.validation_rules.specs.Operators.{operators}
-use Rattle.validation_rules.proofs.Handmade.{unreachable, a_block, a_loop, an_if, an_else, br, br_if, br_table, a_return, a_try_table, throw, a_try, a_catch, a_catch_all, delegate, rethrow}
+use Rattle.validation_rules.proofs.Refusals.{IsRefusedAtLast}
 
--- ---- a module of four types, and a function with two locals of which the first is set at entry
+-- ---- a module of five types and three tags, and a function with two locals of which the first is set at entry
 
-abbrev a_type : List ValType → List ValType → SubType
-a_type params results =
-    record { is_final = true; supertype_idx = None; composite_type = record { inner = Func (record { params = params; results = results }); shared = false } }
+abbrev signature : List ValType → List ValType → Signature
+signature params results = record { params = params; results = results }
+
+abbrev a_type : Signature → SubType
+a_type f =
+    record { is_final = true; supertype_idx = None; composite_type = record { inner = Func f; shared = false } }
 
 abbrev types : List SubType
-types = a_type [] [] ∷ a_type (I32 ∷ []) [] ∷ a_type (I32 ∷ []) (I32 ∷ []) ∷ a_type (I32 ∷ I64 ∷ []) (I64 ∷ I32 ∷ []) ∷ []
+types =
+    a_type (signature [] [])
+    ∷ a_type (signature (I32 ∷ []) [])
+    ∷ a_type (signature (I32 ∷ []) (I32 ∷ []))
+    ∷ a_type (signature (I32 ∷ I64 ∷ []) (I64 ∷ I32 ∷ []))
+    ∷ a_type (signature (I32 ∷ I64 ∷ []) [])
+    ∷ []
 
+-- exceptions carry an i32, nothing, or an i32 and an i64
 abbrev declared : Declared
-declared = record { types = types; functions = []; tables = []; memories = []; globals = []; elements = []; data_count = None }
+declared = record { types = types; functions = []; tables = []; memories = []; globals = []; tags = 1 ∷ 0 ∷ 4 ∷ []; elements = []; data_count = None }
 
 -- from nothing to nothing, from i32 to nothing, from i32 to i32, and two in and out
 abbrev to_nothing : BlockType
@@ -43,531 +56,595 @@ one_to_one = FuncType 2
 abbrev two_to_two : BlockType
 two_to_two = FuncType 3
 
-module _ (features : WasmFeatures) where
-  abbrev cx : Context
-  cx = record { of_module = context_of declared; features = features; shared = false; locals = I32 ∷ I64 ∷ []; set_at_entry = true ∷ false ∷ [] }
+-- with these proposals on
+abbrev under : ℕ → Context
+under bits = record { of_module = context_of declared; features = record { 0 = bits }; shared = false; locals = I32 ∷ I64 ∷ []; set_at_entry = true ∷ false ∷ [] }
 
-  -- ---- operators, as the rules see them
+-- all of them
+abbrev every : ℕ
+every = 2097151
 
-  abbrev table_op : Op → List Operator
-  table_op op = operators cx (op ∷ [])
+abbrev cx : Context
+cx = under every
 
-  abbrev i32_const : List Operator
-  i32_const = table_op (Numeric (I32Const (pos 0)))
+-- ---- operators
 
-  abbrev i64_const : List Operator
-  i64_const = table_op (Numeric (I64Const (pos 0)))
+abbrev i32_const : Op
+i32_const = Numeric (I32Const (pos 0))
 
-  abbrev i32_eqz : List Operator
-  i32_eqz = table_op (Numeric (Eqz IntegerI32))
+abbrev i64_const : Op
+i64_const = Numeric (I64Const (pos 0))
 
-  abbrev i32_add : List Operator
-  i32_add = table_op (Numeric (IntegerBinary IntegerI32 Add))
+abbrev i32_eqz : Op
+i32_eqz = Numeric (Eqz IntegerI32)
 
-  abbrev i64_add : List Operator
-  i64_add = table_op (Numeric (IntegerBinary IntegerI64 Add))
+abbrev i32_add : Op
+i32_add = Numeric (IntegerBinary IntegerI32 Add)
 
-  abbrev local_get : ℕ → List Operator
-  local_get i = table_op (Control (LocalGet i))
+abbrev i64_add : Op
+i64_add = Numeric (IntegerBinary IntegerI64 Add)
 
-  abbrev local_set : ℕ → List Operator
-  local_set i = table_op (Control (LocalSet i))
+abbrev local_get : ℕ → Op
+local_get i = Control (LocalGet i)
 
-  abbrev local_tee : ℕ → List Operator
-  local_tee i = table_op (Control (LocalTee i))
+abbrev local_set : ℕ → Op
+local_set i = Control (LocalSet i)
 
-  abbrev nop : List Operator
-  nop = table_op (Control Nop)
+abbrev local_tee : ℕ → Op
+local_tee i = Control (LocalTee i)
 
-  abbrev end : List Operator
-  end = table_op (Control End)
+abbrev nop : Op
+nop = Control Nop
 
-  abbrev drops : List Operator
-  drops = table_op (Control Drop)
+abbrev unreachable : Op
+unreachable = Control Unreachable
 
-  abbrev hand : Operator → List Operator
-  hand op = op ∷ []
+abbrev drops : Op
+drops = Control Drop
 
-  -- ---- outcomes
+abbrev block : BlockType → Op
+block bt = Control (BlockOp bt)
 
-  -- the state after the whole list
-  abbrev after_all : BlockType → List Operator → Option State
-  after_all ty code = state_before cx code (start ty) (length code)
+abbrev loop : BlockType → Op
+loop bt = Control (LoopOp bt)
 
-  abbrev Refused : BlockType → List Operator → Type 0
-  Refused ty code = after_all ty code ≡ None
+abbrev an_if : BlockType → Op
+an_if bt = Control (IfOp bt)
 
-  -- accepted up to the outermost `end`, with these types left, the top first
-  abbrev Done : BlockType → List Operator → List MaybeType → Type 0
-  Done ty code left = after_all ty code ≡ Some (record { frames = []; left = left })
+abbrev an_else : Op
+an_else = Control ElseOp
 
-  abbrev frame : FrameKind → BlockType → List MaybeType → Bool → Frame
-  frame kind ty own dead = record { head = record { kind = kind; block_type = ty }; operands = own; dead = dead; first_set = [] }
+abbrev end : Op
+end = Control End
 
-  -- accepted so far, with these frames open
-  abbrev Open : BlockType → List Operator → List Frame → Type 0
-  Open ty code frames = after_all ty code ≡ Some (record { frames = frames; left = [] })
+abbrev br : ℕ → Op
+br d = Control (Br d)
 
-  -- ---- operators of the table
+abbrev br_if : ℕ → Op
+br_if d = Control (BrIf d)
 
-  -- the body of a function from i32 to i32 that adds, place by place
-  abbrev adding : List Operator
-  adding = operators cx (Control (LocalGet 0) ∷ Numeric (I32Const (pos 1)) ∷ Numeric (IntegerBinary IntegerI32 Add) ∷ Control End ∷ [])
+abbrev br_table : List ℕ → ℕ → Op
+br_table ds d = Control (BrTable (record { targets = record { ref_ptr = (0, 0); now = ds }; complete = true; default = d }))
 
-  abbrev body_frame : List MaybeType → Frame
-  body_frame own = frame Block one_to_one own false
+abbrev a_return : Op
+a_return = Control Return
 
-  abbrev standing : List MaybeType → Option State
-  standing own = Some (record { frames = body_frame own ∷ []; left = [] })
+-- a clause for exceptions with this tag, to this label
+abbrev catch : ℕ → ℕ → Catch
+catch tag label = One tag label
 
-  adding_0 : state_before cx adding (start one_to_one) 0 ≡ standing []
-  adding_0 = refl
+abbrev try_table : BlockType → List Catch → Op
+try_table bt catches = Exception (TryTableOp (record { ty = bt; catches = record { ref_ptr = (0, 0); now = catches } }))
 
-  adding_1 : state_before cx adding (start one_to_one) 1 ≡ standing (Known I32 ∷ [])
-  adding_1 = refl
+abbrev throw : ℕ → Op
+throw tag = Exception (Throw tag)
 
-  adding_2 : state_before cx adding (start one_to_one) 2 ≡ standing (Known I32 ∷ Known I32 ∷ [])
-  adding_2 = refl
+abbrev legacy_try : BlockType → Op
+legacy_try bt = Exception (Try bt)
 
-  adding_3 : state_before cx adding (start one_to_one) 3 ≡ standing (Known I32 ∷ [])
-  adding_3 = refl
+abbrev legacy_catch : ℕ → Op
+legacy_catch tag = Exception (CatchOp tag)
 
-  adding_4 : state_before cx adding (start one_to_one) 4 ≡ Some (record { frames = []; left = Known I32 ∷ [] })
-  adding_4 = refl
+abbrev legacy_catch_all : Op
+legacy_catch_all = Exception CatchAll
 
-  -- there is no place behind the last
-  adding_5 : state_before cx adding (start one_to_one) 5 ≡ None
-  adding_5 = refl
+abbrev delegate : ℕ → Op
+delegate d = Exception (Delegate d)
 
-  -- operands and frames, counted
-  abbrev heights_of : Option State → Option (ℕ × ℕ)
-  heights_of None = None
-  heights_of (Some s) = Some (operand_count s, frame_count s)
+abbrev rethrow : ℕ → Op
+rethrow d = Exception (Rethrow d)
 
-  heights_0 : heights_of (state_before cx adding (start one_to_one) 0) ≡ Some (0, 1)
-  heights_0 = refl
+-- ---- outcomes
 
-  heights_1 : heights_of (state_before cx adding (start one_to_one) 1) ≡ Some (1, 1)
-  heights_1 = refl
+-- the state after the whole list
+abbrev after_in : Context → BlockType → List Op → Option State
+after_in c ty ops = state_before c (operators c ops) (start ty) (length ops)
 
-  heights_2 : heights_of (state_before cx adding (start one_to_one) 2) ≡ Some (2, 1)
-  heights_2 = refl
+abbrev after_all : BlockType → List Op → Option State
+after_all ty ops = after_in cx ty ops
 
-  heights_3 : heights_of (state_before cx adding (start one_to_one) 3) ≡ Some (1, 1)
-  heights_3 = refl
+-- the row of the last operator doesn't hold, and those of all before it do
+abbrev Refused : BlockType → List Op → Type 0
+Refused ty ops = IsRefusedAtLast cx ty ops
 
-  heights_4 : heights_of (state_before cx adding (start one_to_one) 4) ≡ Some (1, 0)
-  heights_4 = refl
+-- accepted up to the outermost `end`, with these types left, the top first
+abbrev DoneIn : Context → BlockType → List Op → List MaybeType → Type 0
+DoneIn c ty ops left = after_in c ty ops ≡ Some (record { frames = []; left = left })
 
-  -- nothing to add
-  add_at_once : Refused to_nothing i32_add
-  add_at_once = refl
+abbrev Done : BlockType → List Op → List MaybeType → Type 0
+Done ty ops left = DoneIn cx ty ops left
 
-  -- one operand short
-  add_one : Refused to_nothing (i32_const ++ i32_add)
-  add_one = refl
+abbrev frame : FrameKind → BlockType → List MaybeType → Bool → Frame
+frame kind ty own dead = record { head = record { kind = kind; block_type = ty }; operands = own; dead = dead; first_set = [] }
 
-  -- one operand of another type, on top and below it
-  add_wrong_top : Refused to_nothing (i32_const ++ i64_const ++ i32_add)
-  add_wrong_top = refl
+-- accepted so far, with these frames open
+abbrev Open : BlockType → List Op → List Frame → Type 0
+Open ty ops frames = after_all ty ops ≡ Some (open_state frames)
 
-  add_wrong_below : Refused to_nothing (i64_const ++ i32_const ++ i32_add)
-  add_wrong_below = refl
+-- ---- operators of the table
 
-  -- the rows of the two operators before it hold
-  add_wrong_before : Open to_nothing (i32_const ++ i64_const) (frame Block to_nothing (Known I64 ∷ Known I32 ∷ []) false ∷ [])
-  add_wrong_before = refl
+-- the body of a function from i32 to i32 that adds, place by place
+abbrev adding : List Operator
+adding = operators cx (Control (LocalGet 0) ∷ Numeric (I32Const (pos 1)) ∷ Numeric (IntegerBinary IntegerI32 Add) ∷ Control End ∷ [])
 
-  -- operands below those that are wanted stay
-  add_above : Open to_nothing (i64_const ++ i32_const ++ i32_const ++ i32_add) (frame Block to_nothing (Known I32 ∷ Known I64 ∷ []) false ∷ [])
-  add_above = refl
+abbrev body_frame : List MaybeType → Frame
+body_frame own = frame Block one_to_one own false
 
-  test_gives_i32 : Open to_nothing (i32_const ++ i32_eqz) (frame Block to_nothing (Known I32 ∷ []) false ∷ [])
-  test_gives_i32 = refl
+abbrev standing : List MaybeType → Option State
+standing own = Some (record { frames = body_frame own ∷ []; left = [] })
 
-  drop_at_once : Refused to_nothing drops
-  drop_at_once = refl
+adding_0 : state_before cx adding (start one_to_one) 0 ≡ standing []
+adding_0 = refl
 
-  drop_any : Open to_nothing (i64_const ++ i32_const ++ drops) (frame Block to_nothing (Known I64 ∷ []) false ∷ [])
-  drop_any = refl
+adding_1 : state_before cx adding (start one_to_one) 1 ≡ standing (Known I32 ∷ [])
+adding_1 = refl
 
-  nop_leaves : Open to_nothing (i32_const ++ nop) (frame Block to_nothing (Known I32 ∷ []) false ∷ [])
-  nop_leaves = refl
+adding_2 : state_before cx adding (start one_to_one) 2 ≡ standing (Known I32 ∷ Known I32 ∷ [])
+adding_2 = refl
 
-  -- `end` asks for the results and for nothing else
-  end_of_nothing : Done to_nothing end []
-  end_of_nothing = refl
+adding_3 : state_before cx adding (start one_to_one) 3 ≡ standing (Known I32 ∷ [])
+adding_3 = refl
 
-  end_with_more : Refused to_nothing (i32_const ++ end)
-  end_with_more = refl
+adding_4 : state_before cx adding (start one_to_one) 4 ≡ Some (record { frames = []; left = Known I32 ∷ [] })
+adding_4 = refl
 
-  end_without : Refused one_to_one end
-  end_without = refl
+-- there is no place behind the last
+adding_5 : state_before cx adding (start one_to_one) 5 ≡ None
+adding_5 = refl
 
-  end_with_two : Refused one_to_one (i32_const ++ i32_const ++ end)
-  end_with_two = refl
+-- operands and frames, counted
+abbrev heights_of : Option State → Option (ℕ × ℕ)
+heights_of None = None
+heights_of (Some s) = Some (operand_count s, frame_count s)
 
-  end_of_other : Refused one_to_one (i64_const ++ end)
-  end_of_other = refl
+heights_0 : heights_of (state_before cx adding (start one_to_one) 0) ≡ Some (0, 1)
+heights_0 = refl
 
-  end_of_one : Done (Val I64) (i64_const ++ end) (Known I64 ∷ [])
-  end_of_one = refl
+heights_1 : heights_of (state_before cx adding (start one_to_one) 1) ≡ Some (1, 1)
+heights_1 = refl
 
-  -- two results, the last on top
-  end_of_two : Done two_to_two (i64_const ++ i32_const ++ end) (Known I32 ∷ Known I64 ∷ [])
-  end_of_two = refl
+heights_2 : heights_of (state_before cx adding (start one_to_one) 2) ≡ Some (2, 1)
+heights_2 = refl
 
-  end_of_two_turned : Refused two_to_two (i32_const ++ i64_const ++ end)
-  end_of_two_turned = refl
+heights_3 : heights_of (state_before cx adding (start one_to_one) 3) ≡ Some (1, 1)
+heights_3 = refl
 
-  -- nothing follows the outermost `end`
-  after_end : Refused to_nothing (end ++ nop)
-  after_end = refl
+heights_4 : heights_of (state_before cx adding (start one_to_one) 4) ≡ Some (1, 0)
+heights_4 = refl
 
-  end_twice : Refused to_nothing (end ++ end)
-  end_twice = refl
+-- nothing to add
+add_at_once : Refused to_nothing (i32_add ∷ [])
+add_at_once = refl
 
-  -- ---- locals
+-- one operand short
+add_one : Refused to_nothing (i32_const ∷ i32_add ∷ [])
+add_one = refl
 
-  get_missing : Refused to_nothing (local_get 2)
-  get_missing = refl
+-- one operand of another type, on top and below it
+add_wrong_top : Refused to_nothing (i32_const ∷ i64_const ∷ i32_add ∷ [])
+add_wrong_top = refl
 
-  set_missing : Refused to_nothing (i32_const ++ local_set 2)
-  set_missing = refl
+add_wrong_below : Refused to_nothing (i64_const ∷ i32_const ∷ i32_add ∷ [])
+add_wrong_below = refl
 
-  tee_missing : Refused to_nothing (i32_const ++ local_tee 2)
-  tee_missing = refl
+-- the rows of the two operators before it hold
+add_wrong_before : Open to_nothing (i32_const ∷ i64_const ∷ []) (frame Block to_nothing (Known I64 ∷ Known I32 ∷ []) false ∷ [])
+add_wrong_before = refl
 
-  get_set_at_entry : Open to_nothing (local_get 0) (frame Block to_nothing (Known I32 ∷ []) false ∷ [])
-  get_set_at_entry = refl
+-- operands below those that are wanted stay
+add_above : Open to_nothing (i64_const ∷ i32_const ∷ i32_const ∷ i32_add ∷ []) (frame Block to_nothing (Known I32 ∷ Known I64 ∷ []) false ∷ [])
+add_above = refl
 
-  get_unset : Refused to_nothing (local_get 1)
-  get_unset = refl
+test_gives_i32 : Open to_nothing (i32_const ∷ i32_eqz ∷ []) (frame Block to_nothing (Known I32 ∷ []) false ∷ [])
+test_gives_i32 = refl
 
-  -- it is set where `local.set` or `local.tee` has set it, and joins the frame's list once
-  set_then_get : after_all to_nothing (i64_const ++ local_set 1 ++ local_get 1) ≡ Some (record { frames = record (frame Block to_nothing (Known I64 ∷ []) false) { first_set = 1 ∷ [] } ∷ []; left = [] })
-  set_then_get = refl
+drop_at_once : Refused to_nothing (drops ∷ [])
+drop_at_once = refl
 
-  tee_then_get : after_all to_nothing (i64_const ++ local_tee 1 ++ local_get 1) ≡ Some (record { frames = record (frame Block to_nothing (Known I64 ∷ Known I64 ∷ []) false) { first_set = 1 ∷ [] } ∷ []; left = [] })
-  tee_then_get = refl
+drop_any : Open to_nothing (i64_const ∷ i32_const ∷ drops ∷ []) (frame Block to_nothing (Known I64 ∷ []) false ∷ [])
+drop_any = refl
 
-  set_twice : after_all to_nothing (i64_const ++ local_tee 1 ++ local_set 1) ≡ Some (record { frames = record (frame Block to_nothing [] false) { first_set = 1 ∷ [] } ∷ []; left = [] })
-  set_twice = refl
+nop_leaves : Open to_nothing (i32_const ∷ nop ∷ []) (frame Block to_nothing (Known I32 ∷ []) false ∷ [])
+nop_leaves = refl
 
-  -- one that was set at entry joins no list
-  set_again : Open to_nothing (i32_const ++ local_set 0) (frame Block to_nothing [] false ∷ [])
-  set_again = refl
+-- `end` asks for the results and for nothing else
+end_of_nothing : Done to_nothing (end ∷ []) []
+end_of_nothing = refl
 
-  set_wrong : Refused to_nothing (i32_const ++ local_set 1)
-  set_wrong = refl
+end_with_more : Refused to_nothing (i32_const ∷ end ∷ [])
+end_with_more = refl
 
-  set_nothing : Refused to_nothing (local_set 0)
-  set_nothing = refl
+end_without : Refused one_to_one (end ∷ [])
+end_without = refl
 
-  -- ---- blocks
+end_with_two : Refused one_to_one (i32_const ∷ i32_const ∷ end ∷ [])
+end_with_two = refl
 
-  block_gives : Done (Val I32) (hand (a_block cx (Val I32)) ++ i32_const ++ end ++ end) (Known I32 ∷ [])
-  block_gives = refl
+end_of_other : Refused one_to_one (i64_const ∷ end ∷ [])
+end_of_other = refl
 
-  values_remain : Refused to_nothing (hand (a_block cx Empty) ++ i32_const ++ end)
-  values_remain = refl
+end_of_one : Done (Val I64) (i64_const ∷ end ∷ []) (Known I64 ∷ [])
+end_of_one = refl
 
-  -- operands below a block aren't its own
-  below_block : Refused to_nothing (i32_const ++ hand (a_block cx Empty) ++ i32_eqz)
-  below_block = refl
+-- two results, the last on top
+end_of_two : Done two_to_two (i64_const ∷ i32_const ∷ end ∷ []) (Known I32 ∷ Known I64 ∷ [])
+end_of_two = refl
 
-  drop_below_block : Refused to_nothing (i32_const ++ hand (a_block cx Empty) ++ drops)
-  drop_below_block = refl
+end_of_two_turned : Refused two_to_two (i32_const ∷ i64_const ∷ end ∷ [])
+end_of_two_turned = refl
 
-  -- but its parameters are, and they leave the frame outside it
-  block_takes : Open to_nothing (i32_const ++ hand (a_block cx takes_one)) (frame Block takes_one (Known I32 ∷ []) false ∷ frame Block to_nothing [] false ∷ [])
-  block_takes = refl
+-- nothing follows the outermost `end`
+after_end : Refused to_nothing (end ∷ nop ∷ [])
+after_end = refl
 
-  block_takes_two : Open to_nothing (i32_const ++ i64_const ++ hand (a_block cx two_to_two)) (frame Block two_to_two (Known I64 ∷ Known I32 ∷ []) false ∷ frame Block to_nothing [] false ∷ [])
-  block_takes_two = refl
+end_twice : Refused to_nothing (end ∷ end ∷ [])
+end_twice = refl
 
-  block_wants : Refused to_nothing (hand (a_block cx takes_one))
-  block_wants = refl
+-- ---- locals
 
-  -- a local that a block has set is unset where the block ends, and still set in a block inside
-  set_in_block : Refused to_nothing (hand (a_block cx Empty) ++ i64_const ++ local_set 1 ++ end ++ local_get 1)
-  set_in_block = refl
+get_missing : Refused to_nothing (local_get 2 ∷ [])
+get_missing = refl
 
-  set_inside_block : Open to_nothing (hand (a_block cx Empty) ++ i64_const ++ local_set 1 ++ local_get 1 ++ drops ++ end) (frame Block to_nothing [] false ∷ [])
-  set_inside_block = refl
+set_missing : Refused to_nothing (i32_const ∷ local_set 2 ∷ [])
+set_missing = refl
 
-  set_outside_block : after_all to_nothing (i64_const ++ local_set 1 ++ hand (a_block cx Empty) ++ local_get 1) ≡ Some (record { frames = frame Block Empty (Known I64 ∷ []) false ∷ record (frame Block to_nothing [] false) { first_set = 1 ∷ [] } ∷ []; left = [] })
-  set_outside_block = refl
+tee_missing : Refused to_nothing (i32_const ∷ local_tee 2 ∷ [])
+tee_missing = refl
 
-  -- ---- dead code
+get_set_at_entry : Open to_nothing (local_get 0 ∷ []) (frame Block to_nothing (Known I32 ∷ []) false ∷ [])
+get_set_at_entry = refl
 
-  -- the frame's operands go, and anything is found below those that come
-  dead_add : Open to_nothing (hand unreachable ++ i32_add) (frame Block to_nothing (Known I32 ∷ []) true ∷ [])
-  dead_add = refl
+get_unset : Refused to_nothing (local_get 1 ∷ [])
+get_unset = refl
 
-  operands_go : Open to_nothing (i64_const ++ hand unreachable) (frame Block to_nothing [] true ∷ [])
-  operands_go = refl
+-- it is set where `local.set` or `local.tee` has set it, and joins the frame's list once
+set_then_get : after_all to_nothing (i64_const ∷ local_set 1 ∷ local_get 1 ∷ []) ≡ Some (record { frames = record (frame Block to_nothing (Known I64 ∷ []) false) { first_set = 1 ∷ [] } ∷ []; left = [] })
+set_then_get = refl
 
-  operands_gone : Open to_nothing (i64_const ++ hand unreachable ++ i32_add) (frame Block to_nothing (Known I32 ∷ []) true ∷ [])
-  operands_gone = refl
+tee_then_get : after_all to_nothing (i64_const ∷ local_tee 1 ∷ local_get 1 ∷ []) ≡ Some (record { frames = record (frame Block to_nothing (Known I64 ∷ Known I64 ∷ []) false) { first_set = 1 ∷ [] } ∷ []; left = [] })
+tee_then_get = refl
 
-  -- own operands are found first, and they count
-  dead_one_own : Open to_nothing (hand unreachable ++ i32_const ++ i32_add) (frame Block to_nothing (Known I32 ∷ []) true ∷ [])
-  dead_one_own = refl
+set_twice : after_all to_nothing (i64_const ∷ local_tee 1 ∷ local_set 1 ∷ []) ≡ Some (record { frames = record (frame Block to_nothing [] false) { first_set = 1 ∷ [] } ∷ []; left = [] })
+set_twice = refl
 
-  dead_wrong_own : Refused to_nothing (hand unreachable ++ i64_const ++ i32_add)
-  dead_wrong_own = refl
+-- one that was set at entry joins no list
+set_again : Open to_nothing (i32_const ∷ local_set 0 ∷ []) (frame Block to_nothing [] false ∷ [])
+set_again = refl
 
-  dead_drop : Open to_nothing (hand unreachable ++ drops ++ drops) (frame Block to_nothing [] true ∷ [])
-  dead_drop = refl
+set_wrong : Refused to_nothing (i32_const ∷ local_set 1 ∷ [])
+set_wrong = refl
 
-  dead_end : Done one_to_one (hand unreachable ++ end) (Known I32 ∷ [])
-  dead_end = refl
+set_nothing : Refused to_nothing (local_set 0 ∷ [])
+set_nothing = refl
 
-  dead_end_of_two : Done two_to_two (hand unreachable ++ i32_const ++ end) (Known I32 ∷ Known I64 ∷ [])
-  dead_end_of_two = refl
+-- ---- blocks
 
-  dead_end_of_other : Refused one_to_one (hand unreachable ++ i64_const ++ end)
-  dead_end_of_other = refl
+block_gives : Done (Val I32) (block (Val I32) ∷ i32_const ∷ end ∷ end ∷ []) (Known I32 ∷ [])
+block_gives = refl
 
-  dead_end_with_more : Refused one_to_one (hand unreachable ++ i32_const ++ i32_const ++ end)
-  dead_end_with_more = refl
+values_remain : Refused to_nothing (block Empty ∷ i32_const ∷ end ∷ [])
+values_remain = refl
 
-  -- what lies below the frame is never found, and stays
-  dead_below : Open to_nothing (i32_const ++ hand (a_block cx (Val I64)) ++ hand unreachable ++ i64_add) (frame Block (Val I64) (Known I64 ∷ []) true ∷ frame Block to_nothing (Known I32 ∷ []) false ∷ [])
-  dead_below = refl
+-- operands below a block aren't its own
+below_block : Refused to_nothing (i32_const ∷ block Empty ∷ i32_eqz ∷ [])
+below_block = refl
 
-  -- after the block the code is live again
-  live_again : Refused to_nothing (hand (a_block cx Empty) ++ hand unreachable ++ end ++ i32_eqz)
-  live_again = refl
+drop_below_block : Refused to_nothing (i32_const ∷ block Empty ∷ drops ∷ [])
+drop_below_block = refl
 
-  -- a block opened in dead code is live
-  live_block : Refused to_nothing (hand unreachable ++ hand (a_block cx Empty) ++ i32_eqz)
-  live_block = refl
+-- but its parameters are, and they leave the frame outside it
+block_takes : Open to_nothing (i32_const ∷ block takes_one ∷ []) (frame Block takes_one (Known I32 ∷ []) false ∷ frame Block to_nothing [] false ∷ [])
+block_takes = refl
 
-  live_block_takes : Open to_nothing (hand unreachable ++ hand (a_block cx takes_one)) (frame Block takes_one (Known I32 ∷ []) false ∷ frame Block to_nothing [] true ∷ [])
-  live_block_takes = refl
+block_takes_two : Open to_nothing (i32_const ∷ i64_const ∷ block two_to_two ∷ []) (frame Block two_to_two (Known I64 ∷ Known I32 ∷ []) false ∷ frame Block to_nothing [] false ∷ [])
+block_takes_two = refl
 
-  -- `local.get` asks that the local is set, also in dead code
-  dead_get_unset : Refused to_nothing (hand unreachable ++ local_get 1)
-  dead_get_unset = refl
+block_wants : Refused to_nothing (block takes_one ∷ [])
+block_wants = refl
 
-  dead_set_in_block : Refused to_nothing (hand (a_block cx Empty) ++ hand unreachable ++ local_set 1 ++ local_get 1 ++ drops ++ end ++ local_get 1)
-  dead_set_in_block = refl
+-- a local that a block has set is unset where the block ends, and still set in a block inside
+set_in_block : Refused to_nothing (block Empty ∷ i64_const ∷ local_set 1 ∷ end ∷ local_get 1 ∷ [])
+set_in_block = refl
 
-  dead_set_inside : Open to_nothing (hand (a_block cx Empty) ++ hand unreachable ++ local_set 1 ++ local_get 1 ++ drops ++ end) (frame Block to_nothing [] false ∷ [])
-  dead_set_inside = refl
+set_inside_block : Open to_nothing (block Empty ∷ i64_const ∷ local_set 1 ∷ local_get 1 ∷ drops ∷ end ∷ []) (frame Block to_nothing [] false ∷ [])
+set_inside_block = refl
 
-  -- what pops find, one by one: own operands, then anything in a dead frame, nothing in a live one
-  abbrev dead_frame : Frame
-  dead_frame = frame Block Empty (Known I32 ∷ []) true
+set_outside_block : after_all to_nothing (i64_const ∷ local_set 1 ∷ block Empty ∷ local_get 1 ∷ []) ≡ Some (record { frames = frame Block Empty (Known I64 ∷ []) false ∷ record (frame Block to_nothing [] false) { first_set = 1 ∷ [] } ∷ []; left = [] })
+set_outside_block = refl
 
-  pops_in_dead : frame_after_pops cx (I32 ∷ I64 ∷ I64 ∷ []) dead_frame ≡ Some (frame Block Empty [] true)
-  pops_in_dead = refl
+-- ---- dead code
 
-  pops_in_live : frame_after_pops cx (I32 ∷ I64 ∷ []) (frame Block Empty (Known I32 ∷ []) false) ≡ None
-  pops_in_live = refl
+-- the frame's operands go, and anything is found below those that come
+dead_add : Open to_nothing (unreachable ∷ i32_add ∷ []) (frame Block to_nothing (Known I32 ∷ []) true ∷ [])
+dead_add = refl
 
-  pops_none : frame_after_pops cx [] dead_frame ≡ Some dead_frame
-  pops_none = refl
+operands_go : Open to_nothing (i64_const ∷ unreachable ∷ []) (frame Block to_nothing [] true ∷ [])
+operands_go = refl
 
-  found_in_dead : operands_found 3 dead_frame ≡ Bottom ∷ Bottom ∷ Known I32 ∷ []
-  found_in_dead = refl
+operands_gone : Open to_nothing (i64_const ∷ unreachable ∷ i32_add ∷ []) (frame Block to_nothing (Known I32 ∷ []) true ∷ [])
+operands_gone = refl
 
-  found_in_live : operands_found 3 (frame Block Empty (Known I32 ∷ []) false) ≡ Known I32 ∷ []
-  found_in_live = refl
+-- own operands are found first, and they count
+dead_one_own : Open to_nothing (unreachable ∷ i32_const ∷ i32_add ∷ []) (frame Block to_nothing (Known I32 ∷ []) true ∷ [])
+dead_one_own = refl
 
-  -- ---- branches
+dead_wrong_own : Refused to_nothing (unreachable ∷ i64_const ∷ i32_add ∷ [])
+dead_wrong_own = refl
 
-  branch_out : Done (Val I32) (i32_const ++ hand (br cx 0) ++ end) (Known I32 ∷ [])
-  branch_out = refl
+dead_drop : Open to_nothing (unreachable ∷ drops ∷ drops ∷ []) (frame Block to_nothing [] true ∷ [])
+dead_drop = refl
 
-  branch_without : Refused (Val I32) (hand (br cx 0))
-  branch_without = refl
+dead_end : Done one_to_one (unreachable ∷ end ∷ []) (Known I32 ∷ [])
+dead_end = refl
 
-  -- a branch takes no more than the label's types, and the rest goes
-  branch_above : Done (Val I32) (i64_const ++ i32_const ++ hand (br cx 0) ++ end) (Known I32 ∷ [])
-  branch_above = refl
+dead_end_of_two : Done two_to_two (unreachable ∷ i32_const ∷ end ∷ []) (Known I32 ∷ Known I64 ∷ [])
+dead_end_of_two = refl
 
-  branch_at_once : Open to_nothing (hand (br cx 0)) (frame Block to_nothing [] true ∷ [])
-  branch_at_once = refl
+dead_end_of_other : Refused one_to_one (unreachable ∷ i64_const ∷ end ∷ [])
+dead_end_of_other = refl
 
-  no_label : Refused to_nothing (hand (br cx 1))
-  no_label = refl
+dead_end_with_more : Refused one_to_one (unreachable ∷ i32_const ∷ i32_const ∷ end ∷ [])
+dead_end_with_more = refl
 
-  no_label_in_dead : Refused to_nothing (hand unreachable ++ hand (br cx 1))
-  no_label_in_dead = refl
+-- what lies below the frame is never found, and stays
+dead_below : Open to_nothing (i32_const ∷ block (Val I64) ∷ unreachable ∷ i64_add ∷ []) (frame Block (Val I64) (Known I64 ∷ []) true ∷ frame Block to_nothing (Known I32 ∷ []) false ∷ [])
+dead_below = refl
 
-  -- back to a loop with its parameters, not with its results
-  loops : Done to_nothing (i32_const ++ hand (a_loop cx takes_one) ++ hand (br cx 0) ++ end ++ end) []
-  loops = refl
+-- after the block the code is live again
+live_again : Refused to_nothing (block Empty ∷ unreachable ∷ end ∷ i32_eqz ∷ [])
+live_again = refl
 
-  loops_without : Refused to_nothing (i32_const ++ hand (a_loop cx takes_one) ++ drops ++ hand (br cx 0))
-  loops_without = refl
+-- a block opened in dead code is live
+live_block : Refused to_nothing (unreachable ∷ block Empty ∷ i32_eqz ∷ [])
+live_block = refl
 
-  loops_without_results : Open to_nothing (hand (a_loop cx (Val I32)) ++ hand (br cx 0)) (frame Loop (Val I32) [] true ∷ frame Block to_nothing [] false ∷ [])
-  loops_without_results = refl
+live_block_takes : Open to_nothing (unreachable ∷ block takes_one ∷ []) (frame Block takes_one (Known I32 ∷ []) false ∷ frame Block to_nothing [] true ∷ [])
+live_block_takes = refl
 
-  loop_gives : Done (Val I32) (hand (a_loop cx (Val I32)) ++ i32_const ++ end ++ end) (Known I32 ∷ [])
-  loop_gives = refl
+-- `local.get` asks that the local is set, also in dead code
+dead_get_unset : Refused to_nothing (unreachable ∷ local_get 1 ∷ [])
+dead_get_unset = refl
 
-  -- over a frame, out of it
-  branch_over : Done (Val I32) (hand (a_block cx Empty) ++ i32_const ++ hand (br cx 1) ++ end ++ i32_const ++ end) (Known I32 ∷ [])
-  branch_over = refl
+dead_set_in_block : Refused to_nothing (block Empty ∷ unreachable ∷ local_set 1 ∷ local_get 1 ∷ drops ∷ end ∷ local_get 1 ∷ [])
+dead_set_in_block = refl
 
-  branch_if : Open (Val I32) (i32_const ++ i32_const ++ hand (br_if cx 0)) (frame Block (Val I32) (Known I32 ∷ []) false ∷ [])
-  branch_if = refl
+dead_set_inside : Open to_nothing (block Empty ∷ unreachable ∷ local_set 1 ∷ local_get 1 ∷ drops ∷ end ∷ []) (frame Block to_nothing [] false ∷ [])
+dead_set_inside = refl
 
-  branch_if_without_test : Refused (Val I32) (i32_const ++ hand (br_if cx 0))
-  branch_if_without_test = refl
+-- what pops find, one by one: own operands, then anything in a dead frame, nothing in a live one
+abbrev dead_frame : Frame
+dead_frame = frame Block Empty (Known I32 ∷ []) true
 
-  returns_from_inside : Done (Val I32) (hand (a_block cx Empty) ++ hand (a_loop cx Empty) ++ i32_const ++ hand (a_return cx) ++ end ++ end ++ i32_const ++ end) (Known I32 ∷ [])
-  returns_from_inside = refl
+pops_in_dead : frame_after_pops cx (I32 ∷ I64 ∷ I64 ∷ []) dead_frame ≡ Some (frame Block Empty [] true)
+pops_in_dead = refl
 
-  returns_other : Refused (Val I32) (hand (a_block cx Empty) ++ i64_const ++ hand (a_return cx))
-  returns_other = refl
+pops_in_live : frame_after_pops cx (I32 ∷ I64 ∷ []) (frame Block Empty (Known I32 ∷ []) false) ≡ None
+pops_in_live = refl
 
-  -- every label of a table wants what the default wants
-  table_counts : Refused to_nothing (hand (a_block cx (Val I32)) ++ hand (a_block cx Empty) ++ i32_const ++ i32_const ++ hand (br_table cx (0 ∷ []) 1))
-  table_counts = refl
+pops_none : frame_after_pops cx [] dead_frame ≡ Some dead_frame
+pops_none = refl
 
-  table_types : Refused to_nothing (hand (a_block cx (Val I64)) ++ hand (a_block cx (Val I32)) ++ i32_const ++ i32_const ++ hand (br_table cx (1 ∷ []) 0))
-  table_types = refl
+found_in_dead : operands_found 3 dead_frame ≡ Bottom ∷ Bottom ∷ Known I32 ∷ []
+found_in_dead = refl
 
-  table_alike : Open to_nothing (hand (a_block cx (Val I32)) ++ hand (a_block cx (Val I32)) ++ i32_const ++ i32_const ++ hand (br_table cx (1 ∷ 0 ∷ []) 0)) (frame Block (Val I32) [] true ∷ frame Block (Val I32) [] false ∷ frame Block to_nothing [] false ∷ [])
-  table_alike = refl
+found_in_live : operands_found 3 (frame Block Empty (Known I32 ∷ []) false) ≡ Known I32 ∷ []
+found_in_live = refl
 
-  table_no_label : Refused to_nothing (i32_const ++ hand (br_table cx (7 ∷ []) 0))
-  table_no_label = refl
+-- ---- branches
 
-  -- in dead code labels of different types pass, where what is found is unknown
-  table_dead : Open to_nothing (hand (a_block cx (Val I64)) ++ hand (a_block cx (Val I32)) ++ hand unreachable ++ hand (br_table cx (1 ∷ []) 0)) (frame Block (Val I32) [] true ∷ frame Block (Val I64) [] false ∷ frame Block to_nothing [] false ∷ [])
-  table_dead = refl
+branch_out : Done (Val I32) (i32_const ∷ br 0 ∷ end ∷ []) (Known I32 ∷ [])
+branch_out = refl
 
-  -- ---- `if`
+branch_without : Refused (Val I32) (br 0 ∷ [])
+branch_without = refl
 
-  if_with_else : Done (Val I32) (i32_const ++ hand (an_if cx (Val I32)) ++ i32_const ++ hand an_else ++ i32_const ++ i32_eqz ++ end ++ end) (Known I32 ∷ [])
-  if_with_else = refl
+-- a branch takes no more than the label's types, and the rest goes
+branch_above : Done (Val I32) (i64_const ∷ i32_const ∷ br 0 ∷ end ∷ []) (Known I32 ∷ [])
+branch_above = refl
 
-  if_without_else : Refused to_nothing (i32_const ++ hand (an_if cx (Val I32)) ++ i32_const ++ end)
-  if_without_else = refl
+branch_at_once : Open to_nothing (br 0 ∷ []) (frame Block to_nothing [] true ∷ [])
+branch_at_once = refl
 
-  -- also where the part is dead
-  if_without_else_dead : Refused to_nothing (i32_const ++ hand (an_if cx (Val I32)) ++ hand unreachable ++ end)
-  if_without_else_dead = refl
+no_label : Refused to_nothing (br 1 ∷ [])
+no_label = refl
 
-  -- its parameters are its results
-  if_balanced : Done (Val I32) (i32_const ++ i32_const ++ hand (an_if cx one_to_one) ++ i32_eqz ++ end ++ end) (Known I32 ∷ [])
-  if_balanced = refl
+no_label_in_dead : Refused to_nothing (unreachable ∷ br 1 ∷ [])
+no_label_in_dead = refl
 
-  if_without_test : Refused to_nothing (hand (an_if cx Empty))
-  if_without_test = refl
+-- back to a loop with its parameters, not with its results
+loops : Done to_nothing (i32_const ∷ loop takes_one ∷ br 0 ∷ end ∷ end ∷ []) []
+loops = refl
 
-  -- the second part has the parameters again
-  else_has_params : Open to_nothing (i32_const ++ i32_const ++ hand (an_if cx one_to_one) ++ hand an_else) (frame Else one_to_one (Known I32 ∷ []) false ∷ frame Block to_nothing [] false ∷ [])
-  else_has_params = refl
+loops_without : Refused to_nothing (i32_const ∷ loop takes_one ∷ drops ∷ br 0 ∷ [])
+loops_without = refl
 
-  -- and is live
-  else_is_live : Open to_nothing (i32_const ++ hand (an_if cx (Val I32)) ++ hand unreachable ++ hand an_else) (frame Else (Val I32) [] false ∷ frame Block to_nothing [] false ∷ [])
-  else_is_live = refl
+loops_without_results : Open to_nothing (loop (Val I32) ∷ br 0 ∷ []) (frame Loop (Val I32) [] true ∷ frame Block to_nothing [] false ∷ [])
+loops_without_results = refl
 
-  -- the first part has to give the results
-  else_without : Refused to_nothing (i32_const ++ hand (an_if cx (Val I32)) ++ hand an_else)
-  else_without = refl
+loop_gives : Done (Val I32) (loop (Val I32) ∷ i32_const ∷ end ∷ end ∷ []) (Known I32 ∷ [])
+loop_gives = refl
 
-  else_alone : Refused to_nothing (hand (a_block cx Empty) ++ hand an_else)
-  else_alone = refl
+-- over a frame, out of it
+branch_over : Done (Val I32) (block Empty ∷ i32_const ∷ br 1 ∷ end ∷ i32_const ∷ end ∷ []) (Known I32 ∷ [])
+branch_over = refl
 
-  else_twice : Refused to_nothing (i32_const ++ hand (an_if cx Empty) ++ hand an_else ++ hand an_else)
-  else_twice = refl
+branch_if : Open (Val I32) (i32_const ∷ i32_const ∷ br_if 0 ∷ []) (frame Block (Val I32) (Known I32 ∷ []) false ∷ [])
+branch_if = refl
 
-  -- a local that the first part has set isn't set in the second
-  set_in_part : Refused to_nothing (i32_const ++ hand (an_if cx Empty) ++ i64_const ++ local_set 1 ++ hand an_else ++ local_get 1)
-  set_in_part = refl
+branch_if_without_test : Refused (Val I32) (i32_const ∷ br_if 0 ∷ [])
+branch_if_without_test = refl
 
-  if_ends : Open to_nothing (i32_const ++ hand (an_if cx Empty) ++ end) (frame Block to_nothing [] false ∷ [])
-  if_ends = refl
+returns_from_inside : Done (Val I32) (block Empty ∷ loop Empty ∷ i32_const ∷ a_return ∷ end ∷ end ∷ i32_const ∷ end ∷ []) (Known I32 ∷ [])
+returns_from_inside = refl
 
-  -- ---- exceptions
+returns_other : Refused (Val I32) (block Empty ∷ i64_const ∷ a_return ∷ [])
+returns_other = refl
 
-  -- a clause's label is counted outside its own frame
-  clause_outside : Done to_nothing (hand (a_block cx (Val I32)) ++ hand (a_try_table cx Empty (record { depth = 0; types = I32 ∷ [] } ∷ [])) ++ end ++ i32_const ++ end ++ drops ++ end) []
-  clause_outside = refl
+-- every label of a table wants what the default wants
+table_counts : Refused to_nothing (block (Val I32) ∷ block Empty ∷ i32_const ∷ i32_const ∷ br_table (0 ∷ []) 1 ∷ [])
+table_counts = refl
 
-  clause_too_far : Refused to_nothing (hand (a_block cx (Val I32)) ++ hand (a_try_table cx Empty (record { depth = 1; types = I32 ∷ [] } ∷ [])))
-  clause_too_far = refl
+table_types : Refused to_nothing (block (Val I64) ∷ block (Val I32) ∷ i32_const ∷ i32_const ∷ br_table (1 ∷ []) 0 ∷ [])
+table_types = refl
 
-  clause_no_label : Refused to_nothing (hand (a_try_table cx Empty (record { depth = 1; types = [] } ∷ [])))
-  clause_no_label = refl
+table_alike : Open to_nothing (block (Val I32) ∷ block (Val I32) ∷ i32_const ∷ i32_const ∷ br_table (1 ∷ 0 ∷ []) 0 ∷ []) (frame Block (Val I32) [] true ∷ frame Block (Val I32) [] false ∷ frame Block to_nothing [] false ∷ [])
+table_alike = refl
 
-  -- each clause counts
-  second_clause : Refused to_nothing (hand (a_block cx (Val I32)) ++ hand (a_try_table cx Empty (record { depth = 0; types = I32 ∷ [] } ∷ record { depth = 1; types = I32 ∷ [] } ∷ [])))
-  second_clause = refl
+table_no_label : Refused to_nothing (i32_const ∷ br_table (7 ∷ []) 0 ∷ [])
+table_no_label = refl
 
-  -- to a loop it carries the parameters
-  clause_to_loop : Open to_nothing (i32_const ++ hand (a_loop cx takes_one) ++ hand (a_try_table cx Empty (record { depth = 0; types = I32 ∷ [] } ∷ []))) (frame TryTable Empty [] false ∷ frame Loop takes_one (Known I32 ∷ []) false ∷ frame Block to_nothing [] false ∷ [])
-  clause_to_loop = refl
+-- in dead code labels of different types pass, where what is found is unknown
+table_dead : Open to_nothing (block (Val I64) ∷ block (Val I32) ∷ unreachable ∷ br_table (1 ∷ []) 0 ∷ []) (frame Block (Val I32) [] true ∷ frame Block (Val I64) [] false ∷ frame Block to_nothing [] false ∷ [])
+table_dead = refl
 
-  throw_wants : Refused to_nothing (hand (throw (I32 ∷ [])))
-  throw_wants = refl
+-- ---- `if`
 
-  throw_ends : Open to_nothing (i32_const ++ hand (throw (I32 ∷ []))) (frame Block to_nothing [] true ∷ [])
-  throw_ends = refl
+if_with_else : Done (Val I32) (i32_const ∷ an_if (Val I32) ∷ i32_const ∷ an_else ∷ i32_const ∷ i32_eqz ∷ end ∷ end ∷ []) (Known I32 ∷ [])
+if_with_else = refl
 
-  -- a part starts with the tag's parameters
-  legacy : Done (Val I32) (hand (a_try cx (Val I32)) ++ i32_const ++ hand (a_catch (I32 ∷ [])) ++ end ++ end) (Known I32 ∷ [])
-  legacy = refl
+if_without_else : Refused to_nothing (i32_const ∷ an_if (Val I32) ∷ i32_const ∷ end ∷ [])
+if_without_else = refl
 
-  catch_begins : Open to_nothing (hand (a_try cx Empty) ++ hand (a_catch (I32 ∷ I64 ∷ []))) (frame LegacyCatch Empty (Known I64 ∷ Known I32 ∷ []) false ∷ frame Block to_nothing [] false ∷ [])
-  catch_begins = refl
+-- also where the part is dead
+if_without_else_dead : Refused to_nothing (i32_const ∷ an_if (Val I32) ∷ unreachable ∷ end ∷ [])
+if_without_else_dead = refl
 
-  catch_all_begins : Open to_nothing (hand (a_try cx Empty) ++ hand (a_catch []) ++ hand a_catch_all) (frame LegacyCatchAll Empty [] false ∷ frame Block to_nothing [] false ∷ [])
-  catch_all_begins = refl
+-- its parameters are its results
+if_balanced : Done (Val I32) (i32_const ∷ i32_const ∷ an_if one_to_one ∷ i32_eqz ∷ end ∷ end ∷ []) (Known I32 ∷ [])
+if_balanced = refl
 
-  -- each part has to give the results
-  catch_without : Refused to_nothing (hand (a_try cx (Val I32)) ++ hand (a_catch []))
-  catch_without = refl
+if_without_test : Refused to_nothing (an_if Empty ∷ [])
+if_without_test = refl
 
-  catch_with_more : Refused to_nothing (hand (a_try cx Empty) ++ i32_const ++ hand (a_catch []))
-  catch_with_more = refl
+-- the second part has the parameters again
+else_has_params : Open to_nothing (i32_const ∷ i32_const ∷ an_if one_to_one ∷ an_else ∷ []) (frame Else one_to_one (Known I32 ∷ []) false ∷ frame Block to_nothing [] false ∷ [])
+else_has_params = refl
 
-  catch_alone : Refused to_nothing (hand (a_block cx Empty) ++ hand (a_catch []))
-  catch_alone = refl
+-- and is live
+else_is_live : Open to_nothing (i32_const ∷ an_if (Val I32) ∷ unreachable ∷ an_else ∷ []) (frame Else (Val I32) [] false ∷ frame Block to_nothing [] false ∷ [])
+else_is_live = refl
 
-  catch_after_all : Refused to_nothing (hand (a_try cx Empty) ++ hand a_catch_all ++ hand (a_catch []))
-  catch_after_all = refl
+-- the first part has to give the results
+else_without : Refused to_nothing (i32_const ∷ an_if (Val I32) ∷ an_else ∷ [])
+else_without = refl
 
-  catch_all_twice : Refused to_nothing (hand (a_try cx Empty) ++ hand a_catch_all ++ hand a_catch_all)
-  catch_all_twice = refl
+else_alone : Refused to_nothing (block Empty ∷ an_else ∷ [])
+else_alone = refl
 
-  set_in_try : Refused to_nothing (hand (a_try cx Empty) ++ i64_const ++ local_set 1 ++ hand (a_catch []) ++ local_get 1)
-  set_in_try = refl
+else_twice : Refused to_nothing (i32_const ∷ an_if Empty ∷ an_else ∷ an_else ∷ [])
+else_twice = refl
 
-  -- `delegate` closes the body of a `try`, and gives the results
-  delegates : Done (Val I32) (hand (a_try cx (Val I32)) ++ i32_const ++ hand (delegate 0) ++ end) (Known I32 ∷ [])
-  delegates = refl
+-- a local that the first part has set isn't set in the second
+set_in_part : Refused to_nothing (i32_const ∷ an_if Empty ∷ i64_const ∷ local_set 1 ∷ an_else ∷ local_get 1 ∷ [])
+set_in_part = refl
 
-  delegate_without : Refused to_nothing (hand (a_try cx (Val I32)) ++ hand (delegate 0))
-  delegate_without = refl
+if_ends : Open to_nothing (i32_const ∷ an_if Empty ∷ end ∷ []) (frame Block to_nothing [] false ∷ [])
+if_ends = refl
 
-  delegate_alone : Refused to_nothing (hand (a_block cx Empty) ++ hand (delegate 0))
-  delegate_alone = refl
+-- none of these operators needs a proposal
+without_proposals : DoneIn (under 0) (Val I32) (nop ∷ local_get 0 ∷ local_tee 0 ∷ local_set 0 ∷ block Empty ∷ loop (Val I64) ∷ i32_const ∷ br_if 1 ∷ i32_const ∷ br_table [] 1 ∷ end ∷ drops ∷ end ∷ i32_const ∷ an_if Empty ∷ br 0 ∷ an_else ∷ unreachable ∷ end ∷ i32_const ∷ a_return ∷ end ∷ []) (Known I32 ∷ [])
+without_proposals = refl
 
-  delegate_after_catch : Refused to_nothing (hand (a_try cx Empty) ++ hand (a_catch []) ++ hand (delegate 0))
-  delegate_after_catch = refl
+-- ---- exceptions
 
-  delegate_no_label : Refused to_nothing (hand (a_try cx Empty) ++ hand (delegate 1))
-  delegate_no_label = refl
+-- a clause's label is counted outside its own frame
+clause_outside : Done to_nothing (block (Val I32) ∷ try_table Empty (catch 0 0 ∷ []) ∷ end ∷ i32_const ∷ end ∷ drops ∷ end ∷ []) []
+clause_outside = refl
 
-  set_in_delegated : Refused to_nothing (hand (a_try cx Empty) ++ i64_const ++ local_set 1 ++ hand (delegate 0) ++ local_get 1)
-  set_in_delegated = refl
+clause_too_far : Refused to_nothing (block (Val I32) ∷ try_table Empty (catch 0 1 ∷ []) ∷ [])
+clause_too_far = refl
 
-  -- `rethrow` names a part that caught
-  rethrows : Open to_nothing (hand (a_try cx Empty) ++ hand (a_catch []) ++ hand (rethrow 0)) (frame LegacyCatch Empty [] true ∷ frame Block to_nothing [] false ∷ [])
-  rethrows = refl
+clause_no_label : Refused to_nothing (try_table Empty (catch 1 1 ∷ []) ∷ [])
+clause_no_label = refl
 
-  rethrow_outside : Refused to_nothing (hand (a_try cx Empty) ++ hand (rethrow 0))
-  rethrow_outside = refl
+-- each clause counts
+second_clause : Refused to_nothing (block (Val I32) ∷ try_table Empty (catch 0 0 ∷ catch 0 1 ∷ []) ∷ [])
+second_clause = refl
+
+-- to a loop it carries the parameters
+clause_to_loop : Open to_nothing (i32_const ∷ loop takes_one ∷ try_table Empty (catch 0 0 ∷ []) ∷ []) (frame TryTable Empty [] false ∷ frame Loop takes_one (Known I32 ∷ []) false ∷ frame Block to_nothing [] false ∷ [])
+clause_to_loop = refl
+
+throw_wants : Refused to_nothing (throw 0 ∷ [])
+throw_wants = refl
+
+throw_ends : Open to_nothing (i32_const ∷ throw 0 ∷ []) (frame Block to_nothing [] true ∷ [])
+throw_ends = refl
+
+-- a part starts with the tag's parameters
+legacy : Done (Val I32) (legacy_try (Val I32) ∷ i32_const ∷ legacy_catch 0 ∷ end ∷ end ∷ []) (Known I32 ∷ [])
+legacy = refl
+
+catch_begins : Open to_nothing (legacy_try Empty ∷ legacy_catch 2 ∷ []) (frame LegacyCatch Empty (Known I64 ∷ Known I32 ∷ []) false ∷ frame Block to_nothing [] false ∷ [])
+catch_begins = refl
+
+catch_all_begins : Open to_nothing (legacy_try Empty ∷ legacy_catch 1 ∷ legacy_catch_all ∷ []) (frame LegacyCatchAll Empty [] false ∷ frame Block to_nothing [] false ∷ [])
+catch_all_begins = refl
+
+-- each part has to give the results
+catch_without : Refused to_nothing (legacy_try (Val I32) ∷ legacy_catch 1 ∷ [])
+catch_without = refl
+
+catch_with_more : Refused to_nothing (legacy_try Empty ∷ i32_const ∷ legacy_catch 1 ∷ [])
+catch_with_more = refl
+
+catch_alone : Refused to_nothing (block Empty ∷ legacy_catch 1 ∷ [])
+catch_alone = refl
+
+catch_after_all : Refused to_nothing (legacy_try Empty ∷ legacy_catch_all ∷ legacy_catch 1 ∷ [])
+catch_after_all = refl
+
+catch_all_twice : Refused to_nothing (legacy_try Empty ∷ legacy_catch_all ∷ legacy_catch_all ∷ [])
+catch_all_twice = refl
+
+set_in_try : Refused to_nothing (legacy_try Empty ∷ i64_const ∷ local_set 1 ∷ legacy_catch 1 ∷ local_get 1 ∷ [])
+set_in_try = refl
+
+-- `delegate` closes the body of a `try`, and gives the results
+delegates : Done (Val I32) (legacy_try (Val I32) ∷ i32_const ∷ delegate 0 ∷ end ∷ []) (Known I32 ∷ [])
+delegates = refl
+
+delegate_without : Refused to_nothing (legacy_try (Val I32) ∷ delegate 0 ∷ [])
+delegate_without = refl
+
+delegate_alone : Refused to_nothing (block Empty ∷ delegate 0 ∷ [])
+delegate_alone = refl
+
+delegate_after_catch : Refused to_nothing (legacy_try Empty ∷ legacy_catch 1 ∷ delegate 0 ∷ [])
+delegate_after_catch = refl
+
+delegate_no_label : Refused to_nothing (legacy_try Empty ∷ delegate 1 ∷ [])
+delegate_no_label = refl
+
+set_in_delegated : Refused to_nothing (legacy_try Empty ∷ i64_const ∷ local_set 1 ∷ delegate 0 ∷ local_get 1 ∷ [])
+set_in_delegated = refl
+
+-- `rethrow` names a part that caught
+rethrows : Open to_nothing (legacy_try Empty ∷ legacy_catch 1 ∷ rethrow 0 ∷ []) (frame LegacyCatch Empty [] true ∷ frame Block to_nothing [] false ∷ [])
+rethrows = refl
+
+rethrow_outside : Refused to_nothing (legacy_try Empty ∷ rethrow 0 ∷ [])
+rethrow_outside = refl
 
 -- ---- an order in which i32 lies below i64: which way each rule asks it
 
@@ -575,49 +652,40 @@ abbrev tilted : ValType → ValType → Bool
 tilted I32 I64 = true
 tilted t u = is_same_number_or_vector t u
 
-module _ (features : WasmFeatures) where
-  abbrev tilted_context : Context
-  tilted_context = record {
-    of_module = record { type_at = slice_get (a_type (I32 ∷ []) (I64 ∷ []) ∷ a_type (I64 ∷ []) (I32 ∷ []) ∷ []); type_of_id = λ i. None; type_index_of = λ i. None; type_id_of = λ i. None; is_referenced = λ i. false; table_at = λ i. None; memory_at = λ i. None; global_at = λ i. None; element_at = λ i. None; data_count = None; below = tilted; is_shared = λ r. false; top_type = λ h. h; canonical_type = λ f t. None; canonical_ref = λ r. None; canonical_heap = λ h. None };
-    features = features;
-    shared = false;
-    locals = [];
-    set_at_entry = [];
-  }
+-- two types of functions, and two tags
+abbrev tilted_context : Context
+tilted_context = record {
+  of_module = record { type_at = slice_get (a_type (signature (I32 ∷ []) (I64 ∷ [])) ∷ a_type (signature (I64 ∷ []) (I32 ∷ [])) ∷ []); type_of_id = λ i. None; type_index_of = λ i. None; type_id_of = λ i. None; is_referenced = λ i. false; table_at = λ i. None; memory_at = λ i. None; global_at = λ i. None; tag_at = slice_get (signature (I32 ∷ []) [] ∷ signature (I64 ∷ []) [] ∷ []); element_at = λ i. None; data_count = None; below = tilted; is_shared = λ r. false; top_type = λ h. h; canonical_type = λ f t. None; canonical_ref = λ r. None; canonical_heap = λ h. None };
+  features = record { 0 = every };
+  shared = false;
+  locals = [];
+  set_at_entry = [];
+}
 
-  abbrev TiltedDone : BlockType → List Operator → List MaybeType → Type 0
-  TiltedDone ty code left = state_before tilted_context code (start ty) (length code) ≡ Some (record { frames = []; left = left })
+-- what is found lies below what is wanted, and what is pushed is the row's type
+found_below : DoneIn tilted_context (Val I64) (i32_const ∷ i64_const ∷ i64_add ∷ end ∷ []) (Known I64 ∷ [])
+found_below = refl
 
-  abbrev TiltedRefused : BlockType → List Operator → Type 0
-  TiltedRefused ty code = state_before tilted_context code (start ty) (length code) ≡ None
+found_above : IsRefusedAtLast tilted_context (Val I32) (i64_const ∷ i32_eqz ∷ [])
+found_above = refl
 
-  abbrev tilted_ops : List Op → List Operator
-  tilted_ops ops = operators tilted_context ops
+-- results lie below those of the frame, which gives its own
+result_below : DoneIn tilted_context (Val I64) (i32_const ∷ end ∷ []) (Known I64 ∷ [])
+result_below = refl
 
-  -- what is found lies below what is wanted, and what is pushed is the row's type
-  found_below : TiltedDone (Val I64) (tilted_ops (Numeric (I32Const (pos 0)) ∷ Numeric (I64Const (pos 0)) ∷ Numeric (IntegerBinary IntegerI64 Add) ∷ Control End ∷ [])) (Known I64 ∷ [])
-  found_below = refl
+result_above : IsRefusedAtLast tilted_context (Val I32) (i64_const ∷ end ∷ [])
+result_above = refl
 
-  found_above : TiltedRefused (Val I32) (tilted_ops (Numeric (I64Const (pos 0)) ∷ Numeric (Eqz IntegerI32) ∷ []))
-  found_above = refl
+-- the parameters of an `if` without `else` lie below its results
+if_below : DoneIn tilted_context (Val I64) (i32_const ∷ i32_const ∷ an_if (FuncType 0) ∷ end ∷ end ∷ []) (Known I64 ∷ [])
+if_below = refl
 
-  -- results lie below those of the frame, which gives its own
-  result_below : TiltedDone (Val I64) (tilted_ops (Numeric (I32Const (pos 0)) ∷ Control End ∷ [])) (Known I64 ∷ [])
-  result_below = refl
+if_above : IsRefusedAtLast tilted_context (Val I32) (i64_const ∷ i32_const ∷ an_if (FuncType 1) ∷ drops ∷ i32_const ∷ end ∷ [])
+if_above = refl
 
-  result_above : TiltedRefused (Val I32) (tilted_ops (Numeric (I64Const (pos 0)) ∷ Control End ∷ []))
-  result_above = refl
+-- what a clause carries lies below the types of its label
+clause_below : after_in tilted_context (Val I64) (try_table Empty (catch 0 0 ∷ []) ∷ []) ≡ Some (open_state (frame TryTable Empty [] false ∷ frame Block (Val I64) [] false ∷ []))
+clause_below = refl
 
-  -- the parameters of an `if` without `else` lie below its results
-  if_below : TiltedDone (Val I64) (tilted_ops (Numeric (I32Const (pos 0)) ∷ Numeric (I32Const (pos 0)) ∷ []) ++ an_if tilted_context (FuncType 0) ∷ tilted_ops (Control End ∷ Control End ∷ [])) (Known I64 ∷ [])
-  if_below = refl
-
-  if_above : TiltedRefused (Val I32) (tilted_ops (Numeric (I64Const (pos 0)) ∷ Numeric (I32Const (pos 0)) ∷ []) ++ an_if tilted_context (FuncType 1) ∷ tilted_ops (Control Drop ∷ Numeric (I32Const (pos 0)) ∷ Control End ∷ []))
-  if_above = refl
-
-  -- what a clause carries lies below the types of its label
-  clause_below : state_before tilted_context (a_try_table tilted_context Empty (record { depth = 0; types = I32 ∷ [] } ∷ []) ∷ []) (start (Val I64)) 1 ≡ Some (record { frames = record { head = record { kind = TryTable; block_type = Empty }; operands = []; dead = false; first_set = [] } ∷ record { head = record { kind = Block; block_type = Val I64 }; operands = []; dead = false; first_set = [] } ∷ []; left = [] })
-  clause_below = refl
-
-  clause_above : TiltedRefused (Val I32) (a_try_table tilted_context Empty (record { depth = 0; types = I64 ∷ [] } ∷ []) ∷ [])
-  clause_above = refl
+clause_above : IsRefusedAtLast tilted_context (Val I32) (try_table Empty (catch 1 0 ∷ []) ∷ [])
+clause_above = refl

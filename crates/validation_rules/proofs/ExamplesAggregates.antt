@@ -94,7 +94,7 @@ abbrev elements : List RefType
 elements = reference true any ∷ reference true eq ∷ reference false eq ∷ reference true func ∷ []
 
 abbrev declared : Declared
-declared = record { types = types; functions = []; tables = []; memories = []; globals = []; elements = elements; data_count = Some 2 }
+declared = record { types = types; functions = []; tables = []; memories = []; globals = []; tags = []; elements = elements; data_count = Some 2 }
 
 -- with these proposals on
 abbrev under : ℕ → Bool → Context

@@ -16,8 +16,8 @@ use Rattle.validation_rules.specs.Context.{SubType, ValType, I32, I64, F32, F64,
 use Rattle.validation_rules.specs.Fits.{MaybeType, Bottom, Known}
 use Rattle.validation_rules.specs.Rows.{FrameKind, Block, If, Else, Loop}
 use Rattle.validation_rules.specs.Static.{Frame, State, open_state, state_before, start, step, step_in}
-use Rattle.validation_rules.specs.Operators.{never_row, row_operator, checked_block, opener, operator, operators}
-use Rattle.validation_rules.proofs.Handmade as hand
+use Rattle.validation_rules.specs.Operators.{never_row, row_operator, operator, operators}
+use Rattle.validation_rules.proofs.Refusals.{IsRefusedAtLast}
 
 -- ---- a module of three types, and a function without locals
 
@@ -29,7 +29,7 @@ abbrev types : List SubType
 types = a_type false [] [] ∷ a_type true (I32 ∷ []) (I64 ∷ []) ∷ a_type true (I64 ∷ []) (I64 ∷ []) ∷ []
 
 abbrev declared : Declared
-declared = record { types = types; functions = []; tables = []; memories = []; globals = []; elements = []; data_count = None }
+declared = record { types = types; functions = []; tables = []; memories = []; globals = []; tags = []; elements = []; data_count = None }
 
 abbrev to_nothing : BlockType
 to_nothing = FuncType 0
@@ -112,8 +112,9 @@ typed_select_multi ts = Control (TypedSelectMulti (record { ref_ptr = (0, 0); no
 abbrev after_all : Context → BlockType → List Op → Option State
 after_all c ty ops = state_before c (operators c ops) (start ty) (length ops)
 
+-- the row of the last operator doesn't hold, and those of all before it do
 abbrev RefusedUnder : Context → BlockType → List Op → Type 0
-RefusedUnder c ty ops = after_all c ty ops ≡ None
+RefusedUnder c ty ops = IsRefusedAtLast c ty ops
 
 abbrev Refused : BlockType → List Op → Type 0
 Refused ty ops = RefusedUnder cx ty ops
@@ -135,40 +136,6 @@ Open ty ops frames = OpenUnder cx ty ops frames
 -- in the outermost frame of a body without results
 abbrev Leaves : List Op → List MaybeType → Bool → Type 0
 Leaves ops own dead = Open to_nothing ops (frame Block to_nothing own dead ∷ [])
-
--- ---- the table's operators are those made by hand, so the examples of those are of the table too; an
--- opener's where the check leaves its block type as it is
-
-module _ (c : Context) where
-  is_unreachable : operator c unreachable ≡ hand.unreachable
-  is_unreachable = refl
-
-  is_block : (bt : BlockType) → checked_block c bt ≡ Some bt → operator c (block bt) ≡ hand.a_block c bt
-  is_block bt e = ap (λ o. opener c Block [] bt o) e
-
-  is_loop : (bt : BlockType) → checked_block c bt ≡ Some bt → operator c (loop bt) ≡ hand.a_loop c bt
-  is_loop bt e = ap (λ o. opener c Loop [] bt o) e
-
-  is_if : (bt : BlockType) → checked_block c bt ≡ Some bt → operator c (an_if bt) ≡ hand.an_if c bt
-  is_if bt e = ap (λ o. opener c If (I32 ∷ []) bt o) e
-
-  is_else : operator c an_else ≡ hand.an_else
-  is_else = refl
-
-  is_end : operator c end ≡ hand.an_end
-  is_end = refl
-
-  is_br : (d : ℕ) → operator c (br d) ≡ hand.br c d
-  is_br d = refl
-
-  is_br_if : (d : ℕ) → operator c (br_if d) ≡ hand.br_if c d
-  is_br_if d = refl
-
-  is_br_table : (ds : List ℕ) (d : ℕ) → operator c (br_table ds d) ≡ hand.br_table c ds d
-  is_br_table ds d = refl
-
-  is_return : operator c a_return ≡ hand.a_return c
-  is_return = refl
 
 -- ---- `unreachable` and `select`
 

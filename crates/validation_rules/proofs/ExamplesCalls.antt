@@ -16,6 +16,7 @@ use Rattle.validation_rules.specs.Fits.{MaybeType, Known}
 use Rattle.validation_rules.specs.Rows.{Head, FrameKind, Block, Loop, body_head}
 use Rattle.validation_rules.specs.Static.{Frame, State, open_state, state_before, start}
 use Rattle.validation_rules.specs.Operators.{row_operator, plain_row, operator, operators}
+use Rattle.validation_rules.proofs.Refusals.{states_of, IsRefusedAtLast}
 
 -- ---- a module of six types, seven functions and three globals: function i has type i, and the last one
 -- has type 2
@@ -37,7 +38,7 @@ abbrev globals : List GlobalType
 globals = a_global I32 false false ∷ a_global I64 true false ∷ a_global F32 true true ∷ []
 
 abbrev declared : Declared
-declared = record { types = types; functions = functions; tables = []; memories = []; globals = globals; elements = []; data_count = None }
+declared = record { types = types; functions = functions; tables = []; memories = []; globals = globals; tags = []; elements = []; data_count = None }
 
 -- with these proposals on
 abbrev under : ℕ → Bool → Context
@@ -102,11 +103,11 @@ abbrev after_all : Context → BlockType → List Op → Option State
 after_all c ty ops = state_before c (operators c ops) (start ty) (length ops)
 
 abbrev Refused : BlockType → List Op → Type 0
-Refused ty ops = after_all cx ty ops ≡ None
+Refused ty ops = IsRefusedAtLast cx ty ops
 
--- each of these bodies alone
+-- each of these bodies alone is refused, at its last operator
 abbrev AllRefusedUnder : Context → BlockType → List (List Op) → Type 0
-AllRefusedUnder c ty bodies = map (after_all c ty) bodies ≡ map (λ ops. None) bodies
+AllRefusedUnder c ty bodies = map (states_of c ty) bodies ≡ map length bodies
 
 abbrev AllRefused : BlockType → List (List Op) → Type 0
 AllRefused ty bodies = AllRefusedUnder cx ty bodies

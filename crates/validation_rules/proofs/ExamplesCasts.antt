@@ -67,7 +67,7 @@ types =
     ∷ []
 
 abbrev declared : Declared
-declared = record { types = types; functions = []; tables = []; memories = []; globals = []; elements = []; data_count = None }
+declared = record { types = types; functions = []; tables = []; memories = []; globals = []; tags = []; elements = []; data_count = None }
 
 -- with these proposals on
 abbrev under : ℕ → Context

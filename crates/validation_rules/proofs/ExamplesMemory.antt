@@ -38,6 +38,7 @@ use Rattle.validation_rules.specs.Fits.{MaybeType, Known}
 use Rattle.validation_rules.specs.Rows.{Block}
 use Rattle.validation_rules.specs.Static.{State, open_state, state_before, start}
 use Rattle.validation_rules.specs.Operators.{row_operator, plain_row, operator, operators}
+use Rattle.validation_rules.proofs.Refusals.{IsRefusedAtLast}
 
 -- ---- a module of two memories and two data segments: memory 0, which is shared, has addresses of 32
 -- bits, and memory 1 of 64; whether it is shared is nothing to any of these operators
@@ -46,7 +47,7 @@ abbrev memories : List MemoryType
 memories = record { memory64 = false; shared = true } ∷ record { memory64 = true; shared = false } ∷ []
 
 abbrev with_count : Option ℕ → Declared
-with_count count = record { types = []; functions = []; globals = []; tables = []; memories = memories; elements = []; data_count = count }
+with_count count = record { types = []; functions = []; globals = []; tags = []; tables = []; memories = memories; elements = []; data_count = count }
 
 -- with these proposals on
 abbrev over : Option ℕ → ℕ → Context
@@ -343,7 +344,7 @@ abbrev after_all : BlockType → List Op → Option State
 after_all ty ops = state_before cx (operators cx ops) (start ty) (length ops)
 
 abbrev Refused : List Op → Type 0
-Refused ops = after_all Empty ops ≡ None
+Refused ops = IsRefusedAtLast cx Empty ops
 
 -- accepted so far, with these operands in the outermost frame, the top first
 abbrev Stands : List Op → List MaybeType → Bool → Type 0

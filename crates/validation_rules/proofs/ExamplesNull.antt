@@ -21,6 +21,7 @@ use Rattle.validation_rules.specs.Fits.{MaybeType, UnknownRef, Known}
 use Rattle.validation_rules.specs.Rows.{Head, FrameKind, Block, Loop, body_head, operands_wanted}
 use Rattle.validation_rules.specs.Static.{Frame, State, open_state, state_before, start}
 use Rattle.validation_rules.specs.Operators.{row_operator, plain_row, operator, operators}
+use Rattle.validation_rules.proofs.Refusals.{states_of}
 
 abbrev func : HeapType
 func = Abstract false Func
@@ -52,7 +53,7 @@ abbrev functions : List FuncDecl
 functions = record { type_index = 0; referenced = true } ∷ record { type_index = 3; referenced = true } ∷ record { type_index = 0; referenced = false } ∷ []
 
 abbrev declared : Declared
-declared = record { types = types; functions = functions; tables = []; memories = []; globals = []; elements = []; data_count = None }
+declared = record { types = types; functions = functions; tables = []; memories = []; globals = []; tags = []; elements = []; data_count = None }
 
 -- with these proposals on
 abbrev under : ℕ → Context
@@ -135,9 +136,9 @@ br_on_non_null d = Reference (BrOnNonNull d)
 abbrev after_all : Context → BlockType → List Op → Option State
 after_all c ty ops = state_before c (operators c ops) (start ty) (length ops)
 
--- each of these bodies alone
+-- each of these bodies alone is refused, at its last operator
 abbrev AllRefused : BlockType → List (List Op) → Type 0
-AllRefused ty bodies = map (after_all cx ty) bodies ≡ map (λ ops. None) bodies
+AllRefused ty bodies = map (states_of cx ty) bodies ≡ map length bodies
 
 -- accepted up to the outermost `end`, with these types left, the top first
 abbrev Done : BlockType → List Op → List MaybeType → Type 0

@@ -19,6 +19,7 @@ use Rattle.validation_rules.specs.Context.{SubType, ValType, I32, I64, Ref, Bloc
 use Rattle.validation_rules.specs.Fits.{MaybeType, Bottom, UnknownRef, Known, fits}
 use Rattle.validation_rules.specs.Static.{state_before, start}
 use Rattle.validation_rules.specs.Operators.{select_result, operators}
+use Rattle.validation_rules.proofs.Refusals.{IsRefusedAtLast}
 
 -- ---- a module of four function types: 1 is declared below 0, 2 below 1, and 3 is shared
 
@@ -54,7 +55,7 @@ abbrev globals : List GlobalType
 globals = record { content_type = null (heap Func); mutable = true; shared = false } ∷ []
 
 abbrev declared : Declared
-declared = record { types = types; functions = []; tables = []; memories = []; globals = globals; elements = []; data_count = None }
+declared = record { types = types; functions = []; tables = []; memories = []; globals = globals; tags = []; elements = []; data_count = None }
 
 -- all proposals on; a local of each of four types, of which the second and the fourth begin unset
 abbrev locals : List ValType
@@ -149,7 +150,7 @@ abbrev Done : BlockType → List Op → List MaybeType → Type 0
 Done ty ops left = state_before cx (operators cx ops) (start ty) (length ops) ≡ Some (record { frames = []; left = left })
 
 abbrev Refused : BlockType → List Op → Type 0
-Refused ty ops = state_before cx (operators cx ops) (start ty) (length ops) ≡ None
+Refused ty ops = IsRefusedAtLast cx ty ops
 
 read_with_default : Done (Val (null (heap Func))) (local_get 0 ∷ end ∷ []) (Known (null (heap Func)) ∷ [])
 read_with_default = refl
@@ -192,7 +193,7 @@ abbrev a_giver : ValType → SubType
 a_giver t = record { is_final = true; supertype_idx = None; composite_type = record { inner = FuncInner (record { params = []; results = t ∷ [] }); shared = false } }
 
 abbrev givers : Declared
-givers = record { types = a_giver (no_null (heap Func)) ∷ a_giver (null (heap Func)) ∷ []; functions = record { type_index = 0; referenced = false } ∷ record { type_index = 1; referenced = false } ∷ []; tables = []; memories = []; globals = []; elements = []; data_count = None }
+givers = record { types = a_giver (no_null (heap Func)) ∷ a_giver (null (heap Func)) ∷ []; functions = record { type_index = 0; referenced = false } ∷ record { type_index = 1; referenced = false } ∷ []; tables = []; memories = []; globals = []; tags = []; elements = []; data_count = None }
 
 abbrev calling : Context
 calling = record { of_module = context_of givers; features = record { 0 = 2097151 }; shared = false; locals = []; set_at_entry = [] }

@@ -25,6 +25,7 @@ use Rattle.validation_rules.specs.Fits.{MaybeType, Known}
 use Rattle.validation_rules.specs.Rows.{Head, Block, Loop, body_head}
 use Rattle.validation_rules.specs.Static.{State, open_state, state_before, start}
 use Rattle.validation_rules.specs.Operators.{row_operator, plain_row, operator, operators}
+use Rattle.validation_rules.proofs.Refusals.{states_of}
 
 -- ---- a module of six types, two functions, seven tables and five element segments
 
@@ -69,7 +70,7 @@ abbrev elements : List RefType
 elements = reference true func ∷ reference false func ∷ reference true extern ∷ reference true (concrete 0) ∷ reference true shared_func ∷ []
 
 abbrev declared : Declared
-declared = record { types = types; functions = functions; tables = tables; memories = []; globals = []; elements = elements; data_count = None }
+declared = record { types = types; functions = functions; tables = tables; memories = []; globals = []; tags = []; elements = elements; data_count = None }
 
 -- with these proposals on
 abbrev under : ℕ → Bool → Context
@@ -166,9 +167,9 @@ return_call_ref type = Control (ReturnCallRef type)
 abbrev after_all : Context → BlockType → List Op → Option State
 after_all c ty ops = state_before c (operators c ops) (start ty) (length ops)
 
--- each of these bodies alone
+-- each of these bodies alone is refused, at its last operator
 abbrev AllRefusedUnder : Context → BlockType → List (List Op) → Type 0
-AllRefusedUnder c ty bodies = map (after_all c ty) bodies ≡ map (λ ops. None) bodies
+AllRefusedUnder c ty bodies = map (states_of c ty) bodies ≡ map length bodies
 
 abbrev AllRefused : BlockType → List (List Op) → Type 0
 AllRefused ty bodies = AllRefusedUnder cx ty bodies

@@ -5,7 +5,8 @@ pub mod Rows
 pub mod Order
 pub mod Keeping
 pub mod Valid
-pub mod Handmade
+pub mod ValidBodies
+pub mod Refusals
 mod Examples
 mod ExamplesBranches
 mod ExamplesCalls
@@ -15,3 +16,4 @@ mod ExamplesNull
 mod ExamplesTables
 mod ExamplesAggregates
 mod ExamplesCasts
+mod ExamplesExceptions

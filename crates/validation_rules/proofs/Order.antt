@@ -1,14 +1,17 @@
 -- A list whose rows all hold is well ordered: the rows of `else`, `catch`, `catch_all` and `delegate`
 -- ask for the kind of the innermost frame, so type safety needs no premise on the order.
-use Rattle.std.proofs.Common.{◌&&◌, ◌≡◌, ℕ, Bool, true, List, [], ◌∷◌, length, map, Option, Some, None, refl, sym, ap, ◌∙◌, subst}
-use Rattle.validate_visit.specs.Order.{Nesting, is_ordered_from, nesting, may_stand, parts_after, control_nesting}
+use Rattle.std.proofs.Common.{◌&&◌, ◌≡◌, ℕ, Bool, true, false, List, [], ◌∷◌, length, map, Option, Some, None, refl, sym, ap, ◌∙◌, subst}
+use Rattle.validate_visit.specs.Order.{Nesting, is_ordered_from, nesting, may_stand, parts_after, control_nesting, exception_nesting}
 use Rattle.validate_visit.specs.declared.op.Op.{Op}
-use Rattle.validate_visit.specs.declared.op.Op.TheVariants.{Control}
+use Rattle.validate_visit.specs.declared.op.Op.TheVariants.{Control, Exception}
 use Rattle.validate_visit.specs.declared.op.ControlOp.{ControlOp}
 use Rattle.validate_visit.specs.declared.op.ControlOp.TheVariants.{Block as BlockOp, Loop as LoopOp, If as IfOp, Else as ElseOp, End}
+use Rattle.validate_visit.specs.declared.op.ExceptionOp.{ExceptionOp}
+use Rattle.validate_visit.specs.declared.op.ExceptionOp.TheVariants.{TryTable as TryTableOp, Try, Catch as CatchOp}
 use Rattle.validation_rules.specs.Context.{ValType, I32, BlockType, Context}
 use Rattle.validation_rules.specs.Fits.{MaybeType}
-use Rattle.validation_rules.specs.Rows.{FrameKind, Block, If, Loop, Head, results, is_if, is_try, may_catch, Form, Stays, Opens, BeginsElse, BeginsCatch, Ends, Delegates, Row, Operator}
+use Rattle.validation_rules.specs.Exceptions.{exception_types, catch_clauses, operator_catching, catch_operator, exception_operator}
+use Rattle.validation_rules.specs.Rows.{FrameKind, Block, If, Loop, TryTable, LegacyTry, Clause, Head, results, is_if, is_try, may_catch, Form, Stays, Opens, BeginsElse, BeginsCatch, Ends, Delegates, Row, Operator}
 use Rattle.validation_rules.specs.Static.{Frame, State, heads, locals_set, state_after_exit, state_after, open_frames, step_in, state_before, start}
 use Rattle.validation_rules.specs.Order.{nesting_of, RowsHold, RowsAreOrdered, BodiesAreOrdered}
 use Rattle.validation_rules.specs.Operators.{checked_block, opener, operator, control_operator, operators}
@@ -63,9 +66,26 @@ control_nests cx ElseOp = refl
 control_nests cx End = refl
 control_nests cx _ = refl
 
+catching_nests : (op : Operator) (o : Option (List Clause)) → (operator_catching op o).form ≡ op.form
+catching_nests op (Some clauses) = refl
+catching_nests op None = refl
+
+catch_nests : (o : Option (List ValType)) → nesting_of (catch_operator o).form ≡ Nesting.BeginsCatch false
+catch_nests (Some types) = refl
+catch_nests None = refl
+
+exception_nests : (cx : Context) (op : ExceptionOp) → nesting_of (exception_operator cx op).form ≡ exception_nesting op
+exception_nests cx (TryTableOp t) =
+    let opens = opener cx TryTable [] t.ty (checked_block cx t.ty) in
+    ap nesting_of (catching_nests opens (catch_clauses cx.of_module t.catches.now)) ∙ opener_nests cx TryTable [] t.ty (checked_block cx t.ty)
+exception_nests cx (Try bt) = opener_nests cx LegacyTry [] bt (checked_block cx bt)
+exception_nests cx (CatchOp tag) = catch_nests (exception_types cx.of_module tag)
+exception_nests cx _ = refl
+
 -- an operator's form says of the open parts what the operator does to them
 pub operator_nests : (cx : Context) (op : Op) → nesting_of (operator cx op).form ≡ nesting op
 operator_nests cx (Control op) = control_nests cx op
+operator_nests cx (Exception op) = exception_nests cx op
 operator_nests cx _ = refl
 
 body_nests : (cx : Context) (ops : List Op) → nestings (operators cx ops) ≡ map nesting ops

@@ -4,9 +4,7 @@ use Rattle.std.specs.List.{AllByRecursion, list_all}
 use Rattle.std.specs.Option.{option_map}
 use Rattle.std.specs.Option.{option_and_then}
 use Rattle.validate_types.specs.Features.{has, multi_value}
-use Rattle.validate_types.specs.Gates.{is_open}
 use Rattle.validate_types.specs.Types.{address_type_of_memory, address_type_of_table}
-use Rattle.validate_types.specs.declared.gate.Gate.{Gate}
 use Rattle.validate_types.specs.declared.types.GlobalType.{GlobalType}
 use Rattle.validate_types.specs.declared.types.MemoryType.{MemoryType}
 use Rattle.validate_types.specs.declared.types.TableType.{TableType}
@@ -23,7 +21,6 @@ use Rattle.validate_types.specs.Refs.{nullable_reference, non_null_reference, re
 use Rattle.validate_types.specs.Types.{unpacked_type, unpacked_fields}
 use Rattle.std.proofs.lemmas.Option.{slice_get-map}
 use Rattle.validate_resources.specs.Context.{IsLawful, IsValidType, Valid, is_valid_heap, is_number_or_vector, signature_of, inner_fields}
-use Rattle.validate_visit.specs.Gates.{gate_of}
 use Rattle.validate_visit.specs.Numbers.{number_type, integer_type, float_type, packed_type, access_type}
 use Rattle.validate_visit.specs.declared.memory.AtomicAccess.{AtomicAccess}
 use Rattle.validate_visit.specs.declared.memory.AtomicAccess.TheVariants.{Whole, Packed}
@@ -35,8 +32,6 @@ use Rattle.validate_visit.specs.declared.numbers.NumberType.{NumberType}
 use Rattle.validate_visit.specs.declared.numbers.NumberType.TheVariants.{I32 as NumberI32, I64 as NumberI64, F32 as NumberF32, F64 as NumberF64}
 use Rattle.validate_visit.specs.declared.numbers.PackedInteger.{PackedInteger}
 use Rattle.validate_visit.specs.declared.numbers.PackedInteger.TheVariants.{I32Bits8, I32Bits16, I64Bits8, I64Bits16, I64Bits32}
-use Rattle.validate_visit.specs.declared.op.Op.{Op}
-use Rattle.validate_visit.specs.declared.op.Op.TheVariants.{Control, Numeric, Convert, Memory, Atomic, Reference, Table, Struct, Array}
 use Rattle.validate_visit.specs.declared.op.ControlOp.{ControlOp}
 use Rattle.validate_visit.specs.declared.op.ControlOp.TheVariants.{Unreachable, Nop, Block as BlockOp, Loop as LoopOp, If as IfOp, Else as ElseOp, End, Br, BrIf, BrTable, Return, Call, ReturnCall, CallIndirect, ReturnCallIndirect, CallRef, ReturnCallRef, Drop, Select, TypedSelect, TypedSelectMulti, LocalGet, LocalSet, LocalTee, GlobalGet, GlobalSet}
 use Rattle.validate_visit.specs.declared.op.NumericOp.{NumericOp}
@@ -71,9 +66,9 @@ use Rattle.validation_rules.specs.Structs.{struct_fields, accessible_struct, str
 use Rattle.validation_rules.specs.Arrays.{array_element, accessible_array, array_type, is_read_from_data, is_read_from_elements, may_be_copied, array_copy_row_for, array_row}
 use Rattle.validation_rules.specs.Fits.{MaybeType, Bottom, UnknownRef, Known, fits}
 use Rattle.validation_rules.specs.Rows.{FrameKind, Block, If, Loop, is_loop, Head, params, results, Form, Stays, Opens, BeginsElse, BeginsCatch, Ends, Delegates, Plain, Row, Operator, pushed_for, operands_wanted, guard}
-use Rattle.validation_rules.specs.Static.{Frame, State, heads, locals_set, stack_with, operands_on_top, operands_found, operands_under, pushed_by_row, operands_after, state_after_exit, state_after, open_frames, step, step_in, state_before}
-use Rattle.validation_rules.specs.Operators.{plain_row, plain_row_if, is_accessible_func_type, checked_block, opener, staying_operator, row_operator, delimiter_operator, looking_row_if, drop_pushes, select_result, select_pushes, lookup_row, lookups_row, gated_operator, control_operator, numeric_row, convert_row, memory_row, atomic_row, ungated_operator, operator, operators}
-use Rattle.validation_rules.specs.Valid.{IsValidOperand, Resolves, IsValidBlock, IsValidFrame, IsValidStateIn, RowsKeepValid}
+use Rattle.validation_rules.specs.Static.{Frame, State, heads, locals_set, stack_with, operands_on_top, operands_found, operands_under, pushed_by_row, operands_after, state_after_exit, state_after, open_frames, step_in}
+use Rattle.validation_rules.specs.Operators.{plain_row, plain_row_if, is_accessible_func_type, checked_block, opener, staying_operator, row_operator, delimiter_operator, looking_row_if, drop_pushes, select_result, select_pushes, lookup_row, lookups_row, control_operator, numeric_row, convert_row, memory_row, atomic_row}
+use Rattle.validation_rules.specs.Valid.{IsValidOperand, Resolves, IsValidBlock, IsValidFrame}
 use Rattle.validation_rules.proofs.Keeping.{HeadIsValid, PushesValid, StepsKeepValid}
 use Rattle.validation_rules.proofs.Below.{and_true}
 use Rattle.validation_rules.proofs.Steps.{onto-next, pushed_by_form, label_by, some_injective, guard_some, and_then_given, mapped_some, stepped}
@@ -217,7 +212,7 @@ module _ (cx : Context) (laws : IsLawful cx.of_module) where
   drops_valid [] pushed v e = absurd cc
   drops_valid (x ∷ y ∷ xs) pushed v e = absurd cc
 
-  nothing_pushed : (pushed : List MaybeType) (b : Bool) → guard b (Some []) ≡ Some pushed → Operands pushed
+  pub nothing_pushed : (pushed : List MaybeType) (b : Bool) → guard b (Some []) ≡ Some pushed → Operands pushed
   nothing_pushed pushed b g = subst Operands (some_injective _ _ (guard_some _ _ _ g).1) tt
 
   else_valid : PushesValid cx (delimiter_operator BeginsElse)
@@ -261,7 +256,7 @@ module _ (cx : Context) (laws : IsLawful cx.of_module) where
   selects_valid (a ∷ b ∷ c ∷ d ∷ xs) pushed v h = absurd cc
 
   -- an operator whose row is plain and depends on the open frames, where what it pushes is valid
-  flat_valid : (row : List Head → Row) (wanted push : List Head → List ValType) (also : List Head → List (List ValType)) → ((hs : List Head) → (row hs).type ≡ Plain (wanted hs) (also hs) (push hs)) → ((hs : List Head) → AllByRecursion (HeadIsValid cx) hs → AllByRecursion (Valid cx.of_module) (push hs)) → PushesValid cx (staying_operator row)
+  pub flat_valid : (row : List Head → Row) (wanted push : List Head → List ValType) (also : List Head → List (List ValType)) → ((hs : List Head) → (row hs).type ≡ Plain (wanted hs) (also hs) (push hs)) → ((hs : List Head) → AllByRecursion (HeadIsValid cx) hs → AllByRecursion (Valid cx.of_module) (push hs)) → PushesValid cx (staying_operator row)
   flat_valid row wanted push also is h =
       record {
         pushed = λ hs xs pushed p v f g.
@@ -315,7 +310,7 @@ module _ (cx : Context) (laws : IsLawful cx.of_module) where
       let g = guard_some _ _ _ h in
       subst (λ b. IsValidBlock cx.of_module cx.shared b) (some_injective _ _ g.1) (named_resolves i (cx.of_module.type_at i) refl (and_true (has cx.features multi_value) _ g.0).1)
 
-  opener_valid : (kind : FrameKind) (above : List ValType) (declared : BlockType) (o : Option BlockType) → checked_block cx declared ≡ o → PushesValid cx (opener cx kind above declared o)
+  pub opener_valid : (kind : FrameKind) (above : List ValType) (declared : BlockType) (o : Option BlockType) → checked_block cx declared ≡ o → PushesValid cx (opener cx kind above declared o)
   opener_valid kind above declared (Some bt) e =
       record {
         pushed = λ hs xs pushed p v f g. nothing_pushed pushed _ g;
@@ -380,7 +375,7 @@ module _ (cx : Context) (laws : IsLawful cx.of_module) where
   return_call_by_valid (Some t) None = flat_valid _ (λ hs. []) (λ hs. []) (λ hs. []) (λ hs. refl) (λ hs v. tt)
   return_call_by_valid (Some t) (Some s) = flat_valid _ (λ hs. s.params ++ t ∷ []) (λ hs. []) (λ hs. []) (λ hs. refl) (λ hs v. tt)
 
-  control_valid : (op : ControlOp) → AllByRecursion (Valid cx.of_module) cx.locals → PushesValid cx (control_operator cx op)
+  pub control_valid : (op : ControlOp) → AllByRecursion (Valid cx.of_module) cx.locals → PushesValid cx (control_operator cx op)
   control_valid Unreachable l = plain_valid _ _ _ _ [] _ (λ p. tt)
   control_valid Nop l = plain_valid _ _ _ _ [] _ (λ p. tt)
   control_valid (BlockOp bt) l = opener_valid Block [] bt (checked_block cx bt) refl
@@ -459,14 +454,14 @@ module _ (cx : Context) (laws : IsLawful cx.of_module) where
   access_is_valid (Packed packed) = packed_is_valid packed
 
   -- every row of the group pushes one number, or two
-  numeric_valid : (op : NumericOp) → PushesValid cx (row_operator (numeric_row op))
+  pub numeric_valid : (op : NumericOp) → PushesValid cx (row_operator (numeric_row op))
   numeric_valid (IntegerUnary t op) = plain_valid _ _ _ _ _ _ (λ p. (integer_is_valid t, tt))
   numeric_valid (IntegerBinary t op) = plain_valid _ _ _ _ _ _ (λ p. (integer_is_valid t, tt))
   numeric_valid (FloatUnary t op) = plain_valid _ _ _ _ _ _ (λ p. (float_is_valid t, tt))
   numeric_valid (FloatBinary t op) = plain_valid _ _ _ _ _ _ (λ p. (float_is_valid t, tt))
   numeric_valid _ = numbers_pushed _ _ _ _ _ _ refl
 
-  convert_valid : (op : ConvertOp) → PushesValid cx (row_operator (convert_row op))
+  pub convert_valid : (op : ConvertOp) → PushesValid cx (row_operator (convert_row op))
   convert_valid (ExtendPacked packed) = plain_valid _ _ _ _ _ _ (λ p. (packed_is_valid packed, tt))
   convert_valid (Trunc into from sign) = plain_valid _ _ _ _ _ _ (λ p. (integer_is_valid into, tt))
   convert_valid (TruncSat into from sign) = plain_valid _ _ _ _ _ _ (λ p. (integer_is_valid into, tt))
@@ -475,7 +470,7 @@ module _ (cx : Context) (laws : IsLawful cx.of_module) where
   convert_valid _ = numbers_pushed _ _ _ _ _ _ refl
 
   -- a row for an address, or for what else was found, is one for the type of it
-  by_lookup_valid : {A : Type 0} (o : Option A) (row : A → Row) → ((t : A) → o ≡ Some t → PushesValid cx (row_operator (row t))) → PushesValid cx (row_operator (lookup_row o row))
+  pub by_lookup_valid : {A : Type 0} (o : Option A) (row : A → Row) → ((t : A) → o ≡ Some t → PushesValid cx (row_operator (row t))) → PushesValid cx (row_operator (lookup_row o row))
   by_lookup_valid None row h = plain_valid _ None None [] [] false (λ p. tt)
   by_lookup_valid (Some t) row h = h t refl
 
@@ -492,7 +487,7 @@ module _ (cx : Context) (laws : IsLawful cx.of_module) where
   access_valid None above push h = plain_valid _ None None [] [] false (λ p. tt)
   access_valid (Some types) above push h = plain_valid _ None None (types ++ above) push false (λ p. h)
 
-  memory_valid : (op : MemoryOp) → PushesValid cx (row_operator (memory_row cx op))
+  pub memory_valid : (op : MemoryOp) → PushesValid cx (row_operator (memory_row cx op))
   memory_valid (Load t arg) = access_valid (address_types cx is_loadable arg) [] (number_type t ∷ []) (number_is_valid t, tt)
   memory_valid (LoadPacked packed sign arg) = access_valid (address_types cx is_loadable arg) [] (packed_type packed ∷ []) (packed_is_valid packed, tt)
   memory_valid (Store t arg) = access_valid (address_types cx is_storable arg) (number_type t ∷ []) [] tt
@@ -505,7 +500,7 @@ module _ (cx : Context) (laws : IsLawful cx.of_module) where
   memory_valid (MemoryFill m) = by_lookup_valid (memory_address_type cx.of_module m) _ (λ t e. numbers_pushed _ _ _ _ _ _ refl)
   memory_valid (MemoryDiscard m) = by_lookup_valid (memory_address_type cx.of_module m) _ (λ t e. numbers_pushed _ _ _ _ _ _ refl)
 
-  atomic_valid : (op : AtomicOp) → PushesValid cx (row_operator (atomic_row cx op))
+  pub atomic_valid : (op : AtomicOp) → PushesValid cx (row_operator (atomic_row cx op))
   atomic_valid (AtomicNotify arg) = access_valid (atomic_address_types cx.of_module arg) (I32 ∷ []) (I32 ∷ []) (refl, tt)
   atomic_valid (AtomicWait t arg) = access_valid (atomic_address_types cx.of_module arg) (integer_type t ∷ I64 ∷ []) (I32 ∷ []) (refl, tt)
   atomic_valid (AtomicFence ordering) = numbers_pushed _ _ _ _ _ _ refl
@@ -665,7 +660,7 @@ module _ (cx : Context) (laws : IsLawful cx.of_module) where
           let c = checked_cast_valid cast p k in
           there hs xs pushed (types p) (keeps p c.0 c.1) v _ refl g
 
-  reference_valid : (op : ReferenceOp) → PushesValid cx (staying_operator (λ hs. reference_row cx hs op))
+  pub reference_valid : (op : ReferenceOp) → PushesValid cx (staying_operator (λ hs. reference_row cx hs op))
   reference_valid (RefNull h) = null_valid h
   reference_valid RefIsNull = looks_valid _ 1 null_test_pushes is_null_valid
   reference_valid (RefFunc f) = by_lookup_valid (cx.of_module.type_id_of f) _ (λ id e. plain_valid _ _ _ _ _ _ (λ p. (laws.functions f id e, tt)))
@@ -695,7 +690,7 @@ module _ (cx : Context) (laws : IsLawful cx.of_module) where
   place_valid : (i : ℕ) (t : TableType) → table_type cx i ≡ Some t → Valid cx.of_module (address_type_of_table t)
   place_valid i t e = number_valid _ (address_is_number t.table64)
 
-  table_valid : (op : TableOp) → PushesValid cx (row_operator (table_row cx op))
+  pub table_valid : (op : TableOp) → PushesValid cx (row_operator (table_row cx op))
   table_valid (TableGet i) = by_lookup_valid (table_type cx i) _ (λ t e. plain_valid _ _ _ _ _ _ (λ p. (laws.tables i t (table_found i t e), tt)))
   table_valid (TableGrow i) = by_lookup_valid (table_type cx i) _ (λ t e. plain_valid _ _ _ _ _ _ (λ p. (place_valid i t e, tt)))
   table_valid (TableSize i) = by_lookup_valid (table_type cx i) _ (λ t e. plain_valid _ _ _ _ _ _ (λ p. (place_valid i t e, tt)))
@@ -765,7 +760,7 @@ module _ (cx : Context) (laws : IsLawful cx.of_module) where
   nothing_left : (o : Option FieldType) (p : Option ValType) (premise : FieldType → Bool) (wanted : FieldType → ValType → List ValType) → PushesValid cx (row_operator (lookups_row o p (λ f t. plain_row_if (premise f) (wanted f t) [])))
   nothing_left o p premise wanted = lookups_valid o p (λ f t. plain_row_if (premise f) (wanted f t) []) (λ f t e k. plain_valid _ _ _ _ [] _ (λ q. tt))
 
-  struct_valid : (op : StructOp) → PushesValid cx (row_operator (struct_row cx op))
+  pub struct_valid : (op : StructOp) → PushesValid cx (row_operator (struct_row cx op))
   struct_valid (StructNew i) = made_pushed (struct_type cx i) i _ _
   struct_valid (StructNewDefault i) = made_pushed (struct_type cx i) i _ _
   struct_valid (StructGet index) = value_pushed (struct_field cx index) (struct_reference index) is_whole_field (λ t. t ∷ []) (field_valid index)
@@ -775,7 +770,7 @@ module _ (cx : Context) (laws : IsLawful cx.of_module) where
   abbrev array_reference : ℕ → Option ValType
   array_reference i = type_reference cx nullable_reference i
 
-  array_valid : (op : ArrayOp) → PushesValid cx (row_operator (array_row cx op))
+  pub array_valid : (op : ArrayOp) → PushesValid cx (row_operator (array_row cx op))
   array_valid (ArrayNew i) = made_pushed (array_type cx i) i _ _
   array_valid (ArrayNewDefault i) = made_pushed (array_type cx i) i _ _
   array_valid (ArrayNewFixed i n) = made_pushed (array_type cx i) i _ _
@@ -791,47 +786,3 @@ module _ (cx : Context) (laws : IsLawful cx.of_module) where
       (λ to d e k. nothing_left (array_type cx src) (array_reference src) (λ from. to.mutable && may_be_copied cx.of_module from.element_type to.element_type) (λ from s. d ∷ I32 ∷ s ∷ I32 ∷ I32 ∷ []))
   array_valid (ArrayInitData i segment) = nothing_left (array_type cx i) (array_reference i) (λ f. f.mutable && is_read_from_data cx.of_module segment f) (λ f t. t ∷ I32 ∷ I32 ∷ I32 ∷ [])
   array_valid (ArrayInitElem i segment) = nothing_left (array_type cx i) (array_reference i) (λ f. f.mutable && is_read_from_elements cx.of_module segment f) (λ f t. t ∷ I32 ∷ I32 ∷ I32 ∷ [])
-
-  ungated_valid : (op : Op) → AllByRecursion (Valid cx.of_module) cx.locals → PushesValid cx (ungated_operator cx op)
-  ungated_valid (Control op) l = control_valid op l
-  ungated_valid (Numeric op) l = numeric_valid op
-  ungated_valid (Convert op) l = convert_valid op
-  ungated_valid (Memory op) l = memory_valid op
-  ungated_valid (Atomic op) l = atomic_valid op
-  ungated_valid (Reference op) l = reference_valid op
-  ungated_valid (Table op) l = table_valid op
-  ungated_valid (Struct op) l = struct_valid op
-  ungated_valid (Array op) l = array_valid op
-
-  -- a gate takes nothing away from that
-  behind_valid : (gate : Gate) (op : Operator) → PushesValid cx op → PushesValid cx (gated_operator cx gate op)
-  behind_valid gate op v =
-      record {
-        pushed = λ hs xs pushed p h f g. v.pushed hs xs pushed (and_true (is_open cx.features gate) _ p).1 h f g;
-        opened = λ hs h p e. v.opened hs h (and_true (is_open cx.features gate) _ p).1 e;
-        begun = λ hs all types p e. v.begun hs all types (and_true (is_open cx.features gate) _ p).1 e;
-      }
-
-  pub operator_valid : (op : Op) → AllByRecursion (Valid cx.of_module) cx.locals → PushesValid cx (operator cx op)
-  operator_valid op l = behind_valid (gate_of op) (ungated_operator cx op) (ungated_valid op l)
-
-pub rows_keep_valid : (md : ModuleContext) → IsLawful md → RowsKeepValid md
-rows_keep_valid md laws cx op s u same h e =
-    let l = subst IsLawful (sym same) laws in
-    steps_keep_valid cx l (operator cx op) s u (operator_valid cx l op h.locals_valid) h e
-
--- ---- whole lists
-
-module _ (cx : Context) (laws : IsLawful cx.of_module) where
-  -- the state before each place of a list
-  pub before_valid : (code : List Operator) (s : State) (k : ℕ) (t : State) → ((j : ℕ) (op : Operator) → slice_get code j ≡ Some op → PushesValid cx op) → IsValidStateIn cx s → state_before cx code s k ≡ Some t → IsValidStateIn cx t
-  before_valid code s zero t each h e = subst (λ (v : State). IsValidStateIn cx v) (some_injective s t e) h
-  before_valid [] s (suc k) t each h e = absurd cc
-  before_valid (op ∷ code) s (suc k) t each h e =
-      let m = and_then_given (step cx op s) (λ v. state_before cx code v k) t e in
-      before_valid code m.0 k t (λ j o g. each (suc j) o g) (steps_keep_valid cx laws op s m.0 (each 0 op refl) h m.1) m.2
-
-  body_each : (ops : List Op) → AllByRecursion (Valid cx.of_module) cx.locals → (j : ℕ) (op : Operator) → slice_get (operators cx ops) j ≡ Some op → PushesValid cx op
-  body_each [] l j op e = absurd cc
-  body_each (x ∷ ops) l zero op e = subst (PushesValid cx) (some_injective _ _ e) (operator_valid cx laws x l)
-  body_each (x ∷ ops) l (suc j) op e = body_each ops l j op e

@@ -20,5 +20,7 @@ pub mod Arrays
 pub mod Access
 pub mod Memory
 pub mod Atomic
+pub mod Blocks
+pub mod Exceptions
 pub mod Operators
 pub mod Order

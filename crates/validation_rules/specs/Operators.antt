@@ -6,15 +6,14 @@ pub use Rattle.validation_rules.specs.Shapes.{looking_row, looking_row_if, stayi
 pub use Rattle.validation_rules.specs.Shapes.{row_operator, delimiter_operator, constant_row, test_row}
 pub use Rattle.validation_rules.specs.Shapes.{unary_row, binary_row, comparison_row, conversion_row}
 pub use Rattle.validation_rules.specs.Shapes.{wide_binary_row, wide_multiply_row, gated_row, gated_operator}
-use Rattle.std.specs.Prelude.{ℕ, Bool, true, false, ◌&&◌, List, [], ◌∷◌, ◌++◌, Option, Some}
-use Rattle.std.specs.Prelude.{None, is_some, map, slice_get}
+use Rattle.std.specs.Prelude.{ℕ, Bool, true, false, List, [], ◌∷◌, Option, Some}
+use Rattle.std.specs.Prelude.{None, map, slice_get}
 use Rattle.std.specs.Option.{option_map}
-use Rattle.validate_resources.specs.Context.{is_number_or_vector, is_same_number_or_vector, signature_of}
-use Rattle.validate_types.specs.Features.{has, multi_value}
+use Rattle.validate_resources.specs.Context.{is_number_or_vector, is_same_number_or_vector}
 use Rattle.validate_visit.specs.Gates.{gate_of}
 use Rattle.validate_visit.specs.declared.op.Op.{Op}
 use Rattle.validate_visit.specs.declared.op.Op.TheVariants.{Control, Numeric, Convert, Memory, Atomic}
-use Rattle.validate_visit.specs.declared.op.Op.TheVariants.{Reference, Table, Struct, Array}
+use Rattle.validate_visit.specs.declared.op.Op.TheVariants.{Reference, Table, Struct, Array, Exception}
 use Rattle.validate_visit.specs.declared.op.ControlOp.{ControlOp}
 use Rattle.validate_visit.specs.declared.op.ControlOp.TheVariants.{Unreachable, Nop, Block as BlockOp}
 use Rattle.validate_visit.specs.declared.op.ControlOp.TheVariants.{Loop as LoopOp, If as IfOp}
@@ -24,6 +23,8 @@ use Rattle.validate_visit.specs.declared.op.ControlOp.TheVariants.{ReturnCallInd
 use Rattle.validate_visit.specs.declared.op.ControlOp.TheVariants.{ReturnCallRef, Drop, Select, TypedSelect}
 use Rattle.validate_visit.specs.declared.op.ControlOp.TheVariants.{TypedSelectMulti, LocalGet, LocalSet}
 use Rattle.validate_visit.specs.declared.op.ControlOp.TheVariants.{LocalTee, GlobalGet, GlobalSet}
+pub use Rattle.validation_rules.specs.Blocks.{is_accessible_func_type, checked_block, opening_operator_if}
+pub use Rattle.validation_rules.specs.Blocks.{opening_operator, opener}
 pub use Rattle.validation_rules.specs.Numeric.{numeric_row}
 pub use Rattle.validation_rules.specs.Convert.{convert_row}
 pub use Rattle.validation_rules.specs.Memory.{memory_row}
@@ -32,15 +33,15 @@ pub use Rattle.validation_rules.specs.References.{reference_row}
 pub use Rattle.validation_rules.specs.Tables.{table_row}
 pub use Rattle.validation_rules.specs.Structs.{struct_row}
 pub use Rattle.validation_rules.specs.Arrays.{array_row}
+pub use Rattle.validation_rules.specs.Exceptions.{exception_operator}
 use Rattle.validation_rules.specs.Branches.{br_row, br_if_row, br_table_row, return_row}
-use Rattle.validation_rules.specs.Calls.{may_access, call_row, return_call_row, global_get_row}
+use Rattle.validation_rules.specs.Calls.{call_row, return_call_row, global_get_row}
 use Rattle.validation_rules.specs.Calls.{global_set_row}
 use Rattle.validation_rules.specs.Indirect.{call_indirect_row, return_call_indirect_row, call_ref_row}
 use Rattle.validation_rules.specs.Indirect.{return_call_ref_row}
-use Rattle.validation_rules.specs.Context.{SubType, ValType, I32, BlockType, Empty, Val, FuncType, Context}
-use Rattle.validation_rules.specs.Context.{block_signature}
+use Rattle.validation_rules.specs.Context.{ValType, I32, Context}
 use Rattle.validation_rules.specs.Fits.{MaybeType, Bottom, UnknownRef, Known, fits}
-use Rattle.validation_rules.specs.Rows.{FrameKind, Block, If, Loop, Opens, BeginsElse, Ends, guard, Row}
+use Rattle.validation_rules.specs.Rows.{Block, If, Loop, BeginsElse, Ends, guard, Row}
 use Rattle.validation_rules.specs.Rows.{Operator}
 
 -- ---- variables
@@ -88,39 +89,6 @@ abbrev pub typed_select_row : Context → ValType → Row
 typed_select_row cx t =
     lookup_row (cx.of_module.canonical_type cx.features t) (λ u. plain_row (u ∷ u ∷ I32 ∷ []) (u ∷ []))
 
--- ---- blocks
-
--- the type is declared, it is one of functions, and the function may access it
-abbrev pub is_accessible_func_type : Context → Option SubType → Bool
-is_accessible_func_type cx (Some s) = is_some (signature_of s) && may_access cx s.composite_type.shared
-is_accessible_func_type cx None = false
-
--- A block type as a frame keeps it, if it passes: a value type in its canonical form, a function type
--- where `multi_value` is on.
-abbrev pub checked_block : Context → BlockType → Option BlockType
-checked_block cx Empty = Some Empty
-checked_block cx (Val t) = option_map (λ u. Val u) (cx.of_module.canonical_type cx.features t)
-checked_block cx (FuncType i) =
-    guard (has cx.features multi_value && is_accessible_func_type cx (cx.of_module.type_at i))
-    (Some (FuncType i))
-
--- an operator that takes the parameters, with these operands above them, and opens a frame over them
-abbrev pub opening_operator_if : Bool → Context → FrameKind → List ValType → BlockType → Operator
-opening_operator_if premise cx kind above bt =
-    record {
-      form = Opens (record { kind = kind; block_type = bt });
-      row = λ hs. plain_row_if premise ((block_signature cx.of_module bt).params ++ above) [];
-    }
-
--- one without a premise
-abbrev pub opening_operator : Context → FrameKind → List ValType → BlockType → Operator
-opening_operator cx kind above bt = opening_operator_if true cx kind above bt
-
--- with the block type that its check answered
-abbrev pub opener : Context → FrameKind → List ValType → BlockType → Option BlockType → Operator
-opener cx kind above declared (Some bt) = opening_operator cx kind above bt
-opener cx kind above declared None = opening_operator_if false cx kind above declared
-
 -- ---- the groups
 
 abbrev pub control_operator : Context → ControlOp → Operator
@@ -164,6 +132,7 @@ ungated_operator cx (Reference op) = staying_operator (λ hs. reference_row cx h
 ungated_operator cx (Table op) = row_operator (table_row cx op)
 ungated_operator cx (Struct op) = row_operator (struct_row cx op)
 ungated_operator cx (Array op) = row_operator (array_row cx op)
+ungated_operator cx (Exception op) = exception_operator cx op
 
 abbrev pub operator : Context → Op → Operator
 operator cx op = gated_operator cx (gate_of op) (ungated_operator cx op)

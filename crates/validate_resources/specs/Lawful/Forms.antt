@@ -173,11 +173,12 @@ func-same (Some s) = inner_same s.composite_type.inner
     inner_same (Array a) = refl
     inner_same (Struct fields) = refl
 
-functions-same : (types : List SubType) (functions : List FuncDecl)
-    → list_all (λ (f : FuncDecl). is_func_type (slice_get (map sub_with_ids types) f.type_index)) functions ≡ list_all (λ (f : FuncDecl). is_func_type (slice_get types f.type_index)) functions
-functions-same types [] = refl
-functions-same types (f ∷ functions) =
-    ap₂ (λ a b. a && b) (ap is_func_type (slice_get-map sub_with_ids types f.type_index) ∙ func-same (slice_get types f.type_index)) (functions-same types functions)
+-- of all that name a type by its index
+functions-same : {A : Type 0} (index : A → ℕ) (types : List SubType) (xs : List A)
+    → list_all (λ (x : A). is_func_type (slice_get (map sub_with_ids types) (index x))) xs ≡ list_all (λ (x : A). is_func_type (slice_get types (index x))) xs
+functions-same index types [] = refl
+functions-same index types (x ∷ xs) =
+    ap₂ (λ a b. a && b) (ap is_func_type (slice_get-map sub_with_ids types (index x)) ∙ func-same (slice_get types (index x))) (functions-same index types xs)
 
 enumerated-same : {X Y : Type 0} (p : ℕ × Y → Bool) (q : ℕ × X → Bool) (f : X → Y) → ((k : ℕ) (x : X) → p (k, f x) ≡ q (k, x)) → (n : ℕ) (xs : List X) → list_all p (enumerate_from n (map f xs)) ≡ list_all q (enumerate_from n xs)
 enumerated-same p q f same n [] = refl
@@ -200,7 +201,8 @@ module-same d =
     let at : ℕ → Bool = λ m. nat_le m MAX_TYPES && list_indices_pass (is_id m) (map sub_with_ids d.types) (map table_with_id d.tables) (map global_with_id d.globals) (map ref_with_id d.elements) && have_fitting_supertypes (map sub_with_ids d.types) && have_func_types (canonical_lists d) in
     ap at (length-map d.types sub_with_ids)
     ∙ ap₂ (λ a b. nat_le n MAX_TYPES && a && b && have_func_types (canonical_lists d)) (indices-same n d) (supertypes-same d.types)
-    ∙ ap (λ b. nat_le n MAX_TYPES && list_indices_pass (is_known n) d.types d.tables d.globals d.elements && have_fitting_supertypes d.types && b) (functions-same d.types d.functions)
+    ∙ ap (λ b. nat_le n MAX_TYPES && list_indices_pass (is_known n) d.types d.tables d.globals d.elements && have_fitting_supertypes d.types && b)
+    (ap₂ (λ a b. a && b) (functions-same (λ (f : FuncDecl). f.type_index) d.types d.functions) (functions-same (λ (i : ℕ). i) d.types d.tags))
 
 -- ---- a function whose type is one of functions is of one of the types
 
@@ -210,18 +212,27 @@ known-at types i h =
     (λ (le, is). let none : false ≡ true = sym (ap is_func_type is) ∙ h in absurd cc)
     (slice_get_cases types i).1
 
-pub known-types : (types : List SubType) (functions : List FuncDecl) → list_all (λ (f : FuncDecl). is_func_type (slice_get types f.type_index)) functions ≡ true → list_all (λ (f : FuncDecl). nat_lt f.type_index (length types)) functions ≡ true
-known-types types [] h = refl
-known-types types (f ∷ functions) h =
-    let p = and_parts (is_func_type (slice_get types f.type_index)) _ h in
-    and_from _ _ (known-at types f.type_index p.0) (known-types types functions p.1)
+pub known-types : {A : Type 0} (index : A → ℕ) (types : List SubType) (xs : List A) → list_all (λ (x : A). is_func_type (slice_get types (index x))) xs ≡ true → list_all (λ (x : A). nat_lt (index x) (length types)) xs ≡ true
+known-types index types [] h = refl
+known-types index types (x ∷ xs) h =
+    let p = and_parts (is_func_type (slice_get types (index x))) _ h in
+    and_from _ _ (known-at types (index x) p.0) (known-types index types xs p.1)
 
 false-by : (b : Bool) → (b ≡ true → true ≡ false) → b ≡ false
 false-by true k = k refl
 false-by false k = refl
 
--- where the type of a function isn't there, the lists are no module
-pub no-module : (d : Declared) → list_all (λ (f : FuncDecl). nat_lt f.type_index (length d.types)) d.functions ≡ false → module_of d ≡ None
+-- the type of each function and of each tag is there
+abbrev pub have_known_types : Declared → Bool
+have_known_types d = list_all (λ (f : FuncDecl). nat_lt f.type_index (length d.types)) d.functions && list_all (λ i. nat_lt i (length d.types)) d.tags
+
+known-in : (d : Declared) → have_func_types d ≡ true → have_known_types d ≡ true
+known-in d h =
+    let p = and_parts (list_all (λ (f : FuncDecl). is_func_type (slice_get d.types f.type_index)) d.functions) _ h in
+    and_from _ _ (known-types (λ (f : FuncDecl). f.type_index) d.types d.functions p.0) (known-types (λ (i : ℕ). i) d.types d.tags p.1)
+
+-- where one isn't, the lists are no module
+pub no-module : (d : Declared) → have_known_types d ≡ false → module_of d ≡ None
 no-module d h =
     let rest : Bool = nat_le (length d.types) MAX_TYPES && list_indices_pass (is_known (length d.types)) d.types d.tables d.globals d.elements && have_fitting_supertypes d.types in
-    ap (λ b. if b then Some (canonical_lists d) else None) (false-by (is_module is_known d) (λ e. sym (known-types d.types d.functions (and_parts rest _ e).1) ∙ h))
+    ap (λ b. if b then Some (canonical_lists d) else None) (false-by (is_module is_known d) (λ e. sym (known-in d (and_parts rest _ e).1) ∙ h))

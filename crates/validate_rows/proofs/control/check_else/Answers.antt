@@ -1,9 +1,9 @@
 use Rattle.std.proofs.Common.{rules, ◌≡◌, true, false}
-use Rattle.validation_rules.specs.Rows.{is_if}
+use Rattle.validation_rules.specs.Rows.{BeginsElse, is_if}
 use Rattle.validate_visit.specs.declared.frame.FrameKind.TheVariants.{Else}
 use Rattle.validate_stacks.specs.Blocks.{body_with_block}
 use Rattle.validate_stacks.proofs.Validity.{kept_on}
-use Rattle.validate_rows.proofs.Elses.{else_none, else_of_another, else_passes}
+use Rattle.validate_shapes.proofs.Parts.{params_of, else_begins, part_none, part_of_another, part_passes}
 use Rattle.validate_shapes.proofs.Meeting.{meets_none, meets_last, meets_refused}
 use Rattle.validate_stacks.proofs.Phases.{step_frame, step_unset}
 use Rattle.validate_rows.proofs.control.check_else.Goals as goal
@@ -12,7 +12,7 @@ pub returns-in_err-frame : goal.returns-in_err-frame
 returns-in_err-frame g c =
     let md = g.R.WasmModuleResources.context c.args.resources.now in
     let v = c.args.stacks.now.body in
-    let none = else_none md v c.requires.open_frame in
+    let none = part_none BeginsElse is_if Else params_of else_begins md v c.requires.open_frame in
     meets_refused md _ c.args.offset v c.pop_ctrl.new.self.body _ (search rules) (search (rules, none)) (search rules) c.pop_ctrl.ensures.valid c.pop_ctrl.ensures.kept
 
 pub returns-then-not-is_if_part : goal.returns-then-not-is_if_part
@@ -20,7 +20,7 @@ returns-then-not-is_if_part g c =
     let md = g.R.WasmModuleResources.context c.args.resources.now in
     let v = c.args.stacks.now.body in
     let k : is_if c.in_ok-frame.frame.kind ≡ false = search rules in
-    let none = else_of_another md v c.in_ok-frame.frame c.in_ok-frame.ensures.frame k in
+    let none = part_of_another BeginsElse is_if Else params_of else_begins md v c.in_ok-frame.frame c.in_ok-frame.ensures.frame k in
     meets_none md _ c.args.offset v c.pop_ctrl.new.self.body _ (search rules) none (search rules) c.pop_ctrl.ensures.valid c.pop_ctrl.ensures.kept
 
 pub returns : goal.returns
@@ -30,7 +30,7 @@ returns g c =
     let u = c.pop_ctrl.new.self.body in
     let f = c.in_ok-frame.frame in
     let k : is_if f.kind ≡ true = search rules in
-    meets_last md _ c.args.offset v c.push_ctrl.new.self.body (body_with_block md Else f.block_type u) c.push_ctrl.result (λ q. else_passes md v f c.in_ok-frame.ensures.frame u c.push_ctrl.new.self.body c.in_ok-frame.ensures.closed k q) c.push_ctrl.ensures.entered c.push_ctrl.ensures.memory c.push_ctrl.ensures.offset
+    meets_last md _ c.args.offset v c.push_ctrl.new.self.body (body_with_block md Else f.block_type u) c.push_ctrl.result (λ q. part_passes BeginsElse is_if Else params_of else_begins md v f c.in_ok-frame.ensures.frame u c.push_ctrl.new.self.body c.in_ok-frame.ensures.closed k q) c.push_ctrl.ensures.entered c.push_ctrl.ensures.memory c.push_ctrl.ensures.offset
     c.push_ctrl.ensures.valid (kept_on v u c.push_ctrl.new.self.body c.pop_ctrl.ensures.kept c.push_ctrl.ensures.kept)
 
 pub pop_ctrl-requires-clause-frames : goal.pop_ctrl-requires-clause-frames

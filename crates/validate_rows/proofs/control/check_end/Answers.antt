@@ -1,4 +1,4 @@
-use Rattle.std.proofs.Common.{rules, ◌≡◌, None, true, false, sym, ap, ◌∙◌}
+use Rattle.std.proofs.Common.{rules, ◌≡◌, None, false, sym, ap, ◌∙◌}
 use Rattle.validation_rules.specs.Rows.{Ends}
 use Rattle.validation_rules.specs.Operators.{delimiter_operator}
 use Rattle.validate_stacks.specs.Blocks.{may_close_as_if}

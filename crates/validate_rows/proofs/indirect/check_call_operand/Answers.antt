@@ -1,4 +1,4 @@
-use Rattle.std.proofs.Common.{rules, true, sym, ap₂, ◌∙◌}
+use Rattle.std.proofs.Common.{rules, sym, ap₂, ◌∙◌}
 use Rattle.validate_rows.proofs.Naming.{call_found, call_unknown, call_missing}
 use Rattle.validate_shapes.proofs.Meeting.{meets_none, meets_from, meets_refused}
 use Rattle.validation_rules.specs.Operators.{plain_row, row_operator}

@@ -1,4 +1,4 @@
-use Rattle.std.proofs.Common.{rules, true, [], ◌∷◌}
+use Rattle.std.proofs.Common.{rules, [], ◌∷◌}
 use Rattle.validation_rules.specs.Access.{load_row}
 use Rattle.validation_rules.specs.Operators.{plain_row}
 use Rattle.validate_shapes.proofs.Found.{meets_barred, meets_found}

@@ -1,4 +1,4 @@
-use Rattle.std.proofs.Common.{rules, true, [], ◌∷◌}
+use Rattle.std.proofs.Common.{rules, [], ◌∷◌}
 use Rattle.validation_rules.specs.Context.{I32}
 use Rattle.validation_rules.specs.Operators.{plain_row, typed_select_row}
 use Rattle.validate_shapes.proofs.Found.{meets_barred, meets_found}

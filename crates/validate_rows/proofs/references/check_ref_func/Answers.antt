@@ -1,4 +1,4 @@
-use Rattle.std.proofs.Common.{rules, true, false, [], ◌∷◌, sym, ap, ◌∙◌}
+use Rattle.std.proofs.Common.{rules, false, [], ◌∷◌, sym, ap, ◌∙◌}
 use Rattle.validate_types.specs.Refs.{reference}
 use Rattle.validate_types.specs.declared.heap.CoreTypeId.{CoreTypeId}
 use Rattle.validate_types.specs.declared.heap.HeapType.TheVariants.{Concrete}

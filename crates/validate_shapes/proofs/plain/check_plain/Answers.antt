@@ -1,4 +1,4 @@
-use Rattle.std.proofs.Common.{rules, ◌≡◌, true, None, reverse}
+use Rattle.std.proofs.Common.{rules, ◌≡◌, None, reverse}
 use Rattle.validation_rules.specs.Operators.{plain_row, row_operator}
 use Rattle.validate_stacks.specs.Pops.{body_popped_each, body_pushed_each}
 use Rattle.validate_stacks.specs.Visits.{step_body}

@@ -26,5 +26,5 @@ loop-index-preserved c =
     record {
       within_limit = omega (arith, c.read.ensures.at_most, e.depth);
       ordered = one_further c.args.ops.now c.loop-index.index _ c.loop-index-test.true v.ordered (sym e.answer ∙ c.if-not-may_follow.false);
-      noted = subst (AreNoted c.read.new.self.depth c.read.new.self.noted c.read.new.self.firsts) (sym (parts-more c.args.ops.now c.loop-index.index _ c.loop-index-test.true)) (c.read.ensures.noted _ e.noted);
+      noted = subst (AreNoted c.read.new.self.depth c.read.new.self.noted c.read.new.self.notes) (sym (parts-more c.args.ops.now c.loop-index.index _ c.loop-index-test.true)) (c.read.ensures.noted _ e.noted);
     }

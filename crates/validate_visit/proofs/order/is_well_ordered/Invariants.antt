@@ -9,5 +9,5 @@ abbrev pub invariant-loop-index : goal.invariant-loop-index
 invariant-loop-index l = record {
   within_limit : l.parts.depth ≤ l.index + 1;
   ordered : is_ordered_from outermost (nestings (take l.index l.ops)) ≡ true;
-  noted : AreNoted l.parts.depth l.parts.noted l.parts.firsts (parts_after_list outermost (nestings (take l.index l.ops)));
+  noted : AreNoted l.parts.depth l.parts.noted l.parts.notes (parts_after_list outermost (nestings (take l.index l.ops)));
 }

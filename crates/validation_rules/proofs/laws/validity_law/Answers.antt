@@ -1,4 +1,4 @@
-use Rattle.validation_rules.proofs.Valid.{rows_keep_valid}
+use Rattle.validation_rules.proofs.ValidBodies.{rows_keep_valid}
 use Rattle.validation_rules.proofs.laws.validity_law.Goals as goal
 
 pub returns : goal.returns

@@ -1,0 +1,182 @@
+-- The clauses of a `try_table`, and its step.
+use Rattle.std.proofs.Common.{◌≡◌, ◌≢◌, ◌<◌, ℕ, zero, suc, pred, arith, Bool, true, false, ◌&&◌, List, [], ◌∷◌, ◌++◌, map, reverse, drop, length, get_or, slice_get, Option, Some, None, refl, sym, ap, ap₂, ◌∙◌, append-nil}
+use Rattle.std.proofs.Math.Bool.{and-true}
+use Rattle.std.specs.List.{AllByRecursion}
+use Rattle.std.specs.Option.{option_map, option_and_then}
+use Rattle.validate_resources.specs.Context.{ModuleContext}
+use Rattle.validate_types.specs.declared.types.ValType.{ValType}
+use Rattle.validate_visit.specs.declared.catch.Catch.{Catch}
+use Rattle.validate_visit.specs.declared.catch.TryTable.{TryTable}
+use Rattle.validate_visit.specs.declared.frame.BlockType.{BlockType}
+use Rattle.validation_rules.specs.Context.{Context, block_signature}
+use Rattle.validation_rules.specs.Exceptions.{catch_clause, catch_clauses, operator_catching, try_table_operator, is_catch_part, has_first_caught}
+use Rattle.validation_rules.specs.Fits.{Known, all_fit}
+use Rattle.validation_rules.specs.Operators.{checked_block, opener, opening_operator, opening_operator_if}
+use Rattle.validation_rules.specs.Rows.{FrameKind, TryTable as TryTableFrame, Head, label_types, Clause, guard}
+use Rattle.validation_rules.specs.Static.{Frame, State, heads, label_accepts, clause_fits, clauses_fit, step_in}
+use Rattle.validation_rules.proofs.Pops.{and_false}
+use Rattle.validation_rules.proofs.Steps.{some_injective}
+use Rattle.validate_stacks.specs.Blocks.{body_with_block}
+use Rattle.validate_stacks.specs.Pops.{body_popped_each}
+use Rattle.validate_stacks.specs.State.{BodyState, body_context}
+use Rattle.validate_stacks.specs.Steps.{head_of, type_and_kind}
+use Rattle.validate_stacks.specs.Visits.{step_body}
+use Rattle.validate_shapes.proofs.Opening.{opened_is}
+use Rattle.validate_rows_exceptions.specs.Clauses.{is_fitting_clause, is_fitting_catch, are_fitting_catches}
+
+-- ---- one clause
+
+-- the label that was found at this depth
+pub accepts_there : (cx : Context) (types : List ValType) (hs : List Head) (d : ℕ) (bt : BlockType) (kind : FrameKind) → option_map type_and_kind (slice_get hs d) ≡ Some (bt, kind) → label_accepts cx (drop d hs) types ≡ all_fit cx (map Known types) (label_types cx (head_of kind bt))
+accepts_there cx types [] zero bt kind e = absurd cc
+accepts_there cx types [] (suc d) bt kind e = absurd cc
+accepts_there cx types (h ∷ hs) zero bt kind e =
+    let both : (h.block_type, h.kind) ≡ (bt, kind) = some_injective _ _ e in
+    ap₂ (λ k b. all_fit cx (map Known types) (label_types cx (head_of k b))) (ap (λ (p : BlockType × FrameKind). p.1) both) (ap (λ (p : BlockType × FrameKind). p.0) both)
+accepts_there cx types (h ∷ hs) (suc d) bt kind e = accepts_there cx types hs d bt kind e
+
+-- the types of that label
+pub carried_at : (cx : Context) (types wanted : List ValType) (hs : List Head) (d : ℕ) (bt : BlockType) (kind : FrameKind) → option_map type_and_kind (slice_get hs d) ≡ Some (bt, kind) → wanted ≡ label_types cx (head_of kind bt) → label_accepts cx (drop d hs) types ≡ all_fit cx (map Known types) wanted
+carried_at cx types wanted hs d bt kind there same = accepts_there cx types hs d bt kind there ∙ ap (all_fit cx (map Known types)) (sym same)
+
+pub accepts_none : (cx : Context) (types : List ValType) (hs : List Head) (d : ℕ) → option_map type_and_kind (slice_get hs d) ≡ None → label_accepts cx (drop d hs) types ≡ false
+accepts_none cx types [] zero e = refl
+accepts_none cx types [] (suc d) e = refl
+accepts_none cx types (h ∷ hs) zero e = absurd cc
+accepts_none cx types (h ∷ hs) (suc d) e = accepts_none cx types hs d e
+
+-- one more type behind as many
+pub fits_with_last : (cx : Context) (ts ws : List ValType) (t w : ValType) → length ts ≡ length ws → all_fit cx (map Known (ts ++ t ∷ [])) (ws ++ w ∷ []) ≡ (all_fit cx (map Known ts) ws && cx.of_module.below t w)
+fits_with_last cx [] [] t w e = and-true (cx.of_module.below t w)
+fits_with_last cx [] (y ∷ ws) t w e = absurd cc
+fits_with_last cx (x ∷ ts) [] t w e = absurd cc
+fits_with_last cx (x ∷ ts) (y ∷ ws) t w e = ap (λ b. cx.of_module.below x y && b) (fits_with_last cx ts ws t w (ap pred e)) ∙ sym (assoc (cx.of_module.below x y) (all_fit cx (map Known ts) ws) (cx.of_module.below t w))
+  where
+    assoc : (a b c : Bool) → ((a && b) && c) ≡ (a && (b && c))
+    assoc true b c = refl
+    assoc false b c = refl
+
+-- one more type where there is none
+pub last_none : (cx : Context) (ts ws : List ValType) (t : ValType) → length ws ≡ 0 → all_fit cx (map Known (ts ++ t ∷ [])) ws ≡ false
+last_none cx [] [] t e = refl
+last_none cx (x ∷ ts) [] t e = refl
+last_none cx ts (w ∷ ws) t e = absurd cc
+
+-- one more type behind another number
+pub last_of_others : (cx : Context) (ts ws : List ValType) (t w : ValType) → (length ws ≡ length ts → ⊥) → all_fit cx (map Known (ts ++ t ∷ [])) (ws ++ w ∷ []) ≡ false
+last_of_others cx [] [] t w n = absurd (n refl)
+last_of_others cx [] (y ∷ ws) t w n = ap (λ b. cx.of_module.below t y && b) (none ws) ∙ and_false (cx.of_module.below t y)
+  where
+    none : (ws : List ValType) → all_fit cx [] (ws ++ w ∷ []) ≡ false
+    none [] = refl
+    none (y ∷ ws) = refl
+last_of_others cx (x ∷ ts) [] t w n = ap (λ b. cx.of_module.below x w && b) (last_none cx ts [] t refl) ∙ and_false (cx.of_module.below x w)
+last_of_others cx (x ∷ ts) (y ∷ ws) t w n = ap (λ b. cx.of_module.below x y && b) (last_of_others cx ts ws t w (λ e. n (ap suc e))) ∙ and_false (cx.of_module.below x y)
+
+-- what holds of a list holds of its front and of its last
+pub front_and_last : {A : Type 0} (P : A → Type 0) (xs : List A) (x : A) → AllByRecursion P (xs ++ x ∷ []) → AllByRecursion P xs × P x
+front_and_last P [] x h = (tt, h.0)
+front_and_last P (y ∷ xs) x h = let r = front_and_last P xs x h.1 in ((h.0, r.0), r.1)
+
+-- a part that caught an exception, at the label that was found
+pub caught_there : (hs : List Head) (d : ℕ) (bt : BlockType) (kind : FrameKind) → option_map type_and_kind (slice_get hs d) ≡ Some (bt, kind) → has_first_caught (drop d hs) ≡ is_catch_part kind
+caught_there [] zero bt kind e = absurd cc
+caught_there [] (suc d) bt kind e = absurd cc
+caught_there (h ∷ hs) zero bt kind e =
+    let both : (h.block_type, h.kind) ≡ (bt, kind) = some_injective _ _ e in
+    ap (λ (p : BlockType × FrameKind). is_catch_part p.1) both
+caught_there (h ∷ hs) (suc d) bt kind e = caught_there hs d bt kind e
+
+pub caught_none : (hs : List Head) (d : ℕ) → option_map type_and_kind (slice_get hs d) ≡ None → has_first_caught (drop d hs) ≡ false
+caught_none [] zero e = refl
+caught_none [] (suc d) e = refl
+caught_none (h ∷ hs) zero e = absurd cc
+caught_none (h ∷ hs) (suc d) e = caught_none hs d e
+
+-- ---- all clauses
+
+-- the rest of the clauses, by the next one
+pub catches_next : (cx : Context) (hs : List Head) (catches : List Catch) (i : ℕ) (d : Catch) → i < length catches → are_fitting_catches cx hs (drop i catches) ≡ (is_fitting_catch cx hs (get_or catches i d) && are_fitting_catches cx hs (drop (suc i) catches))
+catches_next cx hs [] i d l = absurd (omega (arith, l))
+catches_next cx hs (c ∷ catches) zero d l = refl
+catches_next cx hs (c ∷ catches) (suc i) d l = catches_next cx hs catches i d (omega (arith, l))
+
+-- each is there and fits, or one isn't
+abbrev are_fitting_clauses : Context → List Head → Option (List Clause) → Bool
+are_fitting_clauses cx hs None = false
+are_fitting_clauses cx hs (Some clauses) = clauses_fit cx hs clauses
+
+clauses_by : (cx : Context) (hs : List Head) (catches : List Catch) → are_fitting_catches cx hs catches ≡ are_fitting_clauses cx hs (catch_clauses cx.of_module catches)
+clauses_by cx hs [] = refl
+clauses_by cx hs (c ∷ catches) =
+    ap (λ b. is_fitting_catch cx hs c && b) (clauses_by cx hs catches)
+    ∙ by (catch_clause cx.of_module c) (catch_clauses cx.of_module catches)
+  where
+    by : (o : Option Clause) (p : Option (List Clause)) → (is_fitting_clause cx hs o && are_fitting_clauses cx hs p) ≡ are_fitting_clauses cx hs (option_and_then (λ clause. option_map (λ others. clause ∷ others) p) o)
+    by None p = refl
+    by (Some clause) None = and_false (clause_fits cx hs clause)
+    by (Some clause) (Some clauses) = refl
+
+-- ---- the step of `try_table`
+
+module _ (md : ModuleContext) (v : BodyState) (t : TryTable) where
+  abbrev cx : Context
+  cx = body_context md v
+
+  abbrev hs_now : List Head
+  hs_now = heads v.present.frames
+
+  -- with a block type that didn't pass
+  pub table_not_checked : checked_block cx t.ty ≡ None → step_body md (λ c. try_table_operator c t) v ≡ None
+  table_not_checked n =
+      ap (λ o. step_body md (λ c. operator_catching (opener c TryTableFrame [] t.ty o) (catch_clauses md t.catches.now)) v) n
+      ∙ by (catch_clauses md t.catches.now) v.present.frames
+    where
+      by : (o : Option (List Clause)) (fs : List Frame) → option_map (λ (s : State). record v { present = s }) (step_in cx (operator_catching (opening_operator_if false cx TryTableFrame [] t.ty) o) fs v.present.left) ≡ None
+      by o [] = refl
+      by None (f ∷ fs) = refl
+      by (Some clauses) (f ∷ fs) = refl
+
+  module _ (o : v.present.frames ≢ []) (bt : BlockType) (checked : checked_block cx t.ty ≡ Some bt) where
+    abbrev ps : List ValType
+    ps = (block_signature md bt).params
+
+    catching : (clauses : Option (List Clause)) → step_body md (λ c. operator_catching (opening_operator c TryTableFrame [] bt) clauses) v ≡ guard (are_fitting_clauses cx hs_now clauses) (step_body md (λ c. opening_operator c TryTableFrame [] bt) v)
+    catching None = none v.present.frames
+      where
+        none : (fs : List Frame) → option_map (λ (s : State). record v { present = s }) (step_in cx (operator_catching (opening_operator cx TryTableFrame [] bt) None) fs v.present.left) ≡ None
+        none [] = refl
+        none (f ∷ fs) = refl
+    catching (Some clauses) = some v.present.frames
+      where
+        some : (fs : List Frame) → option_map (λ (s : State). record v { present = s }) (step_in cx (operator_catching (opening_operator cx TryTableFrame [] bt) (Some clauses)) fs v.present.left) ≡ guard (clauses_fit cx (heads fs) clauses) (option_map (λ (s : State). record v { present = s }) (step_in cx (opening_operator cx TryTableFrame [] bt) fs v.present.left))
+        some [] = nothing (clauses_fit cx [] clauses)
+          where
+            nothing : (b : Bool) → None ≡ guard {A = BodyState} b None
+            nothing true = refl
+            nothing false = refl
+        some (f ∷ fs) = by (clauses_fit cx (heads (f ∷ fs)) clauses) refl
+          where
+            by : (b : Bool) → clauses_fit cx (heads (f ∷ fs)) clauses ≡ b → option_map (λ (s : State). record v { present = s }) (step_in cx (operator_catching (opening_operator cx TryTableFrame [] bt) (Some clauses)) (f ∷ fs) v.present.left) ≡ guard b (option_map (λ (s : State). record v { present = s }) (step_in cx (opening_operator cx TryTableFrame [] bt) (f ∷ fs) v.present.left))
+            by true e = rw e refl
+            by false e = rw e refl
+
+    table_is : step_body md (λ c. try_table_operator c t) v ≡ guard (are_fitting_catches cx hs_now t.catches.now) (option_map (λ u. body_with_block md TryTableFrame bt u) (body_popped_each md (reverse ps) v))
+    table_is =
+        ap (λ p. step_body md (λ c. operator_catching (opener c TryTableFrame [] t.ty p) (catch_clauses md t.catches.now)) v) checked
+        ∙ catching (catch_clauses md t.catches.now)
+        ∙ ap₂ (λ b s. guard b s) (sym (clauses_by cx hs_now t.catches.now)) (opened_is md v TryTableFrame [] bt o ∙ ap (λ ws. option_map (λ u. body_with_block md TryTableFrame bt u) (body_popped_each md (reverse ws) v)) (append-nil ps))
+
+    none_either : (b : Bool) → guard {A = BodyState} b None ≡ None
+    none_either true = refl
+    none_either false = refl
+
+    pub table_refused : body_popped_each md (reverse ps) v ≡ None → step_body md (λ c. try_table_operator c t) v ≡ None
+    table_refused n = table_is ∙ ap (λ s. guard (are_fitting_catches cx hs_now t.catches.now) (option_map (λ u. body_with_block md TryTableFrame bt u) s)) n ∙ none_either (are_fitting_catches cx hs_now t.catches.now)
+
+    pub table_not_fitting : are_fitting_catches cx hs_now t.catches.now ≡ false → step_body md (λ c. try_table_operator c t) v ≡ None
+    table_not_fitting n = table_is ∙ ap (λ b. guard b (option_map (λ u. body_with_block md TryTableFrame bt u) (body_popped_each md (reverse ps) v))) n
+
+    pub table_passes : (u w : BodyState) → body_popped_each md (reverse ps) v ≡ Some u → are_fitting_catches cx hs_now t.catches.now ≡ true → w ≡ body_with_block md TryTableFrame bt u → step_body md (λ c. try_table_operator c t) v ≡ Some w
+    table_passes u w p fit q =
+        table_is ∙ ap₂ (λ b s. guard b (option_map (λ u. body_with_block md TryTableFrame bt u) s)) fit p ∙ ap Some (sym q)

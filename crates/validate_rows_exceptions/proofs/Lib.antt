@@ -1,0 +1,2 @@
+pub mod Catching
+pub mod Parting

@@ -1,0 +1,125 @@
+//! Operators that open a frame (WebAssembly core specification, "Control Instructions").
+
+ghost use Rattle.std.specs.Prelude.{◌≡◌, true, false, None, Some, ◌&&◌, IfOk, OnOk, IfErr};
+ghost use Rattle.std.specs.List.{AllByRecursion};
+ghost use Rattle.validate_resources.specs.Context.{Valid};
+ghost use Rattle.validate_types.specs.Features.{has, multi_value};
+ghost use Rattle.validation_rules.specs.Operators.{opener, opening_operator, checked_block, is_accessible_func_type};
+ghost use Rattle.validation_rules.specs.Valid.{IsValidBlock};
+ghost use Rattle.validate_stacks.specs.State.{body_context};
+ghost use Rattle.validate_stacks.specs.Visits.{MayVisit, Meets};
+
+use validate_resources::WasmModuleResources;
+use validate_resources::kinds::{expected_func_type, func_type_of};
+use validate_stacks::Stacks;
+use validate_stacks::blocks::params;
+use validate_types::{Error, ValType};
+use validate_visit::{BlockType, FrameKind};
+
+const NEEDS_MULTI_VALUE: &str =
+    "blocks, loops, and ifs may only produce a resulttype when multi-value is not enabled";
+
+/// A function type that a block names: it needs `multi_value`, has to be declared and of functions, and
+/// in a shared function has to be shared.
+fn check_function_type<R: WasmModuleResources>(
+    stacks: &Stacks,
+    resources: &R,
+    offset: u64,
+    type_index: u32,
+) -> Result<(), Error>
+    ensures accepted { OnOk result ((has stacks.now.body.features multi_value && is_accessible_func_type
+        (body_context (R.context resources.now) stacks.now.body)
+        ((R.context resources.now).type_at type_index)) ≡ true) }
+    ensures refused { IfErr result (λ e. e.wants_memory ≡ false
+        → (has stacks.now.body.features multi_value && is_accessible_func_type
+        (body_context (R.context resources.now) stacks.now.body)
+        ((R.context resources.now).type_at type_index)) ≡ false) }
+    ensures offset { IfErr result (λ e. e.offset ≡ offset) }
+{
+    if !stacks.features().multi_value() {
+        return Err(Error::new(NEEDS_MULTI_VALUE, offset));
+    }
+    let Some(sub_type) = resources.sub_type_at(type_index) else {
+        return Err(Error::new("unknown type: type index out of bounds", offset));
+    };
+    if func_type_of(sub_type).is_none() {
+        return Err(expected_func_type(stacks.allocator(), offset, type_index, sub_type));
+    }
+    if stacks.is_shared() && !sub_type.composite_type.shared {
+        return Err(Error::new("shared functions cannot access unshared functions", offset));
+    }
+    Ok(())
+}
+
+/// The block type as a frame keeps it (wasmparser's `check_block_type`): a value type in its
+/// canonical form. It refuses a value type as the lookup does, and a function type where
+/// `multi_value` is off, where no type has its index or the type there is of another kind, and an
+/// unshared one in a shared function.
+#[inline(always)]
+pub fn check_block_type<R: WasmModuleResources>(
+    stacks: &Stacks,
+    resources: &R,
+    offset: u64,
+    block_type: BlockType,
+) -> Result<BlockType, Error>
+    ensures checked { IfOk result (λ bt. checked_block
+        (body_context (R.context resources.now) stacks.now.body) block_type ≡ Some bt) }
+    ensures refused { IfErr result (λ e. e.wants_memory ≡ false
+        → checked_block (body_context (R.context resources.now) stacks.now.body) block_type ≡ None) }
+    ensures offset { IfErr result (λ e. e.offset ≡ offset) }
+{
+    match block_type {
+        BlockType::Empty => Ok(BlockType::Empty),
+        BlockType::Val(ty) => {
+            let mut checked = ty;
+            resources.check_value_type(&mut checked, &stacks.features(), offset)?;
+            Ok(BlockType::Val(checked))
+        }
+        BlockType::FuncType(index) => {
+            check_function_type(stacks, resources, offset, index)?;
+            Ok(BlockType::FuncType(index))
+        }
+    }
+}
+
+/// Takes the operands above, and then the parameters of a checked block type, and opens a frame over
+/// the parameters.
+#[inline(always)]
+fn open_frame<R: WasmModuleResources>(
+    stacks: &mut Stacks,
+    resources: &R,
+    offset: u64,
+    kind: FrameKind,
+    above: &[ValType],
+    block_type: BlockType,
+) -> Result<(), Error>
+    requires visit { MayVisit (R.context resources.now) stacks.old }
+    requires above { AllByRecursion (Valid (R.context resources.now)) above.now }
+    requires block { IsValidBlock (R.context resources.now) stacks.old.body.shared block_type }
+    ensures { Meets (R.context resources.now) (λ cx. opening_operator cx kind above.now block_type)
+        offset stacks.old.body result stacks.new.body }
+{
+    stacks.pop_types(resources, offset, above)?;
+    stacks.pop_types(resources, offset, params(resources, &block_type))?;
+    stacks.push_ctrl(resources, offset, kind, block_type)
+}
+
+/// An opener: `[params above] -> [results]` of its block type, over a frame of this kind with the
+/// parameters. `above` is empty for `block` and `loop`, and the test for `if`.
+#[inline(always)]
+pub fn check_opener<R: WasmModuleResources>(
+    stacks: &mut Stacks,
+    resources: &R,
+    offset: u64,
+    kind: FrameKind,
+    above: &[ValType],
+    block_type: BlockType,
+) -> Result<(), Error>
+    requires visit { MayVisit (R.context resources.now) stacks.old }
+    requires above { AllByRecursion (Valid (R.context resources.now)) above.now }
+    ensures { Meets (R.context resources.now) (λ cx. opener cx kind above.now block_type
+        (checked_block cx block_type)) offset stacks.old.body result stacks.new.body }
+{
+    let checked = check_block_type(stacks, resources, offset, block_type)?;
+    open_frame(stacks, resources, offset, kind, above, checked)
+}

@@ -64,12 +64,12 @@ a_struct shared fields = a_type shared (StructInner fields)
 abbrev an_array : Bool → FieldType → SubType
 an_array shared f = a_type shared (ArrayInner (record { 0 = f }))
 
--- 0 is of functions, 1 to 4 are structs, of which 2 has a field without a default value, and 3 is shared
+-- 0 is of functions, 1 to 4 are structs, of which 2 has a field without a default value, between two that have one, and 3 is shared
 abbrev structs : List SubType → List SubType
 structs arrays =
     a_type false (FuncInner (record { params = []; results = [] }))
     ∷ a_struct false (written I8 ∷ fixed I16 ∷ written (Value F64) ∷ fixed (Value I64) ∷ [])
-    ∷ a_struct false (written (Value (null func)) ∷ written (Value (no_null func)) ∷ [])
+    ∷ a_struct false (written (Value (null func)) ∷ written (Value (no_null func)) ∷ written (Value I32) ∷ [])
     ∷ a_struct true (written (Value I32) ∷ [])
     ∷ a_struct false []
     ∷ arrays
@@ -229,6 +229,9 @@ new_of_fields = (refl, refl)
 new_of_none : Says (struct_new 4) [] (no_null (concrete 4) ∷ [])
 new_of_none = (refl, refl)
 
+new_without_default : Says (struct_new 2) (null func ∷ no_null func ∷ I32 ∷ []) (no_null (concrete 2) ∷ [])
+new_without_default = (refl, refl)
+
 new_default : Says (struct_new_default 1) [] (no_null (concrete 1) ∷ [])
 new_default = (refl, refl)
 
@@ -248,7 +251,7 @@ new_takes : Goes (struct_new 1) (I64 ∷ F64 ∷ I32 ∷ I32 ∷ F32 ∷ []) (no
 new_takes = refl
 
 -- the fields in the other order, one too few, null where a field has none, and another reference
-fields_refused : NoneGoes ((struct_new 1, I32 ∷ I32 ∷ F64 ∷ I64 ∷ []) ∷ (struct_new 1, I64 ∷ F64 ∷ I32 ∷ []) ∷ (struct_new 2, null func ∷ null func ∷ []) ∷ (struct_new 2, no_null func ∷ no_null eq ∷ []) ∷ [])
+fields_refused : NoneGoes ((struct_new 1, I32 ∷ I32 ∷ F64 ∷ I64 ∷ []) ∷ (struct_new 1, I64 ∷ F64 ∷ I32 ∷ []) ∷ (struct_new 2, I32 ∷ null func ∷ null func ∷ []) ∷ (struct_new 2, I32 ∷ no_null func ∷ no_null eq ∷ []) ∷ [])
 fields_refused = refl
 
 defaults : AllHold (struct_new_default 1 ∷ struct_new_default 3 ∷ struct_new_default 4 ∷ [])

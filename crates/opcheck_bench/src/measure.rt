@@ -18,7 +18,7 @@ use std::time::Instant;
 use validate_body::{OperatorValidator, check_ops, try_op};
 use validate_resources::{ModuleLists, WasmModuleResources};
 use validate_types::{Error, WasmFeatures};
-use validate_visit::{Op, has_module_immediates, is_well_ordered};
+use validate_visit::{Op, have_module_immediates, is_well_ordered};
 
 /// A body, in its module.
 #[derive(Clone, Copy)]
@@ -74,13 +74,6 @@ pub fn best_time(
         best = best.min(time(rt, way, subject, &mut heights)?);
     }
     Ok(best)
-}
-
-/// Whether the immediates are those of a module.
-fn have_module_immediates(ops: &[(Op<'_>, u64)]) -> bool
-    ensures { result ≡ list_all (λ (pair : _). is_module_op pair.0) ops.now }
-{
-    ops.iter().all(|pair| has_module_immediates(&pair.0))
 }
 
 /// The time of one run, the making of the validator with it.

@@ -24,7 +24,7 @@ use validate_resources::uses::laws;
 use validate_resources::{ModuleLists, WasmModuleResources};
 use validate_stacks::OperatorValidatorAllocations;
 use validate_types::{Error, ValType, WasmFeatures};
-use validate_visit::{Op, has_module_immediates, is_well_ordered};
+use validate_visit::{Op, have_module_immediates, is_well_ordered};
 
 /// Checks a script: first its order, then its module, then its body.
 pub fn check_script(alloc: Global, script: Script<'_>) -> Result<Report, Failure>
@@ -103,13 +103,6 @@ fn may_be_body(operators: &[(Op<'_>, u64)]) -> bool
     ensures { result ≡ may_be_body operators.now }
 {
     is_well_ordered(operators) && have_module_immediates(operators)
-}
-
-/// Whether the immediates are those of a module, as they are of all operators that a script can write.
-fn have_module_immediates(operators: &[(Op<'_>, u64)]) -> bool
-    ensures { result ≡ list_all (λ (pair : _). is_module_op pair.0) operators.now }
-{
-    operators.iter().all(|pair| has_module_immediates(&pair.0))
 }
 
 /// The module of these declarations, in its canonical form.

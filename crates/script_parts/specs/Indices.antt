@@ -5,6 +5,9 @@ use Rattle.validate_visit.specs.declared.op.ArrayOp.TheVariants.{ArrayNew, Array
 use Rattle.validate_visit.specs.declared.op.ArrayOp.TheVariants.{ArrayNewData, ArrayNewElem, ArrayGet}
 use Rattle.validate_visit.specs.declared.op.ArrayOp.TheVariants.{ArrayGetPacked, ArraySet, ArrayFill}
 use Rattle.validate_visit.specs.declared.op.ArrayOp.TheVariants.{ArrayCopy, ArrayInitData, ArrayInitElem}
+use Rattle.validate_visit.specs.declared.op.ContinuationOp.{ContinuationOp}
+use Rattle.validate_visit.specs.declared.op.ContinuationOp.TheVariants.{ContNew, ContBind, Suspend, Resume}
+use Rattle.validate_visit.specs.declared.op.ContinuationOp.TheVariants.{ResumeThrow, ResumeThrowRef, Switch}
 use Rattle.validate_visit.specs.declared.op.ControlOp.{ControlOp}
 use Rattle.validate_visit.specs.declared.op.ControlOp.TheVariants.{Br, BrIf, Call, ReturnCall, CallRef}
 use Rattle.validate_visit.specs.declared.op.ControlOp.TheVariants.{ReturnCallRef, CallIndirect}
@@ -18,9 +21,15 @@ use Rattle.validate_visit.specs.declared.op.MemoryOp.TheVariants.{DataDrop, Memo
 use Rattle.validate_visit.specs.declared.op.MemoryOp.TheVariants.{MemoryDiscard}
 use Rattle.validate_visit.specs.declared.op.Op.{Op}
 use Rattle.validate_visit.specs.declared.op.Op.TheVariants.{Control, Memory, Reference, Table, Struct, Array}
-use Rattle.validate_visit.specs.declared.op.Op.TheVariants.{Exception}
+use Rattle.validate_visit.specs.declared.op.Op.TheVariants.{Exception, Continuation}
+use Rattle.validate_visit.specs.declared.op.Op.TheVariants.{Shared}
 use Rattle.validate_visit.specs.declared.op.ReferenceOp.{ReferenceOp}
 use Rattle.validate_visit.specs.declared.op.ReferenceOp.TheVariants.{RefFunc, BrOnNull, BrOnNonNull}
+use Rattle.validate_visit.specs.declared.shared.SharedOp.{SharedOp}
+use Rattle.validate_visit.specs.declared.shared.SharedOp.TheVariants.{Global as SharedGlobal, RefI31Shared}
+use Rattle.validate_visit.specs.declared.shared.SharedOp.TheVariants.{Table as SharedTable}
+use Rattle.validate_visit.specs.declared.shared.SharedOp.TheVariants.{Struct as SharedStruct}
+use Rattle.validate_visit.specs.declared.shared.SharedOp.TheVariants.{Array as SharedArray}
 use Rattle.validate_visit.specs.declared.op.StructOp.{StructOp}
 use Rattle.validate_visit.specs.declared.op.StructOp.TheVariants.{StructNew, StructNewDefault, StructGet}
 use Rattle.validate_visit.specs.declared.op.StructOp.TheVariants.{StructGetPacked, StructSet}
@@ -107,6 +116,24 @@ exception_indices (Delegate label) = label ∷ []
 exception_indices (Rethrow label) = label ∷ []
 exception_indices _ = []
 
+-- the type or the tag of an operator on continuations, or both, or two types
+abbrev pub continuation_indices : ContinuationOp → List ℕ
+continuation_indices (ContNew type) = type ∷ []
+continuation_indices (ContBind from to) = from ∷ to ∷ []
+continuation_indices (Suspend tag) = tag ∷ []
+continuation_indices (Resume type table) = type ∷ []
+continuation_indices (ResumeThrow type tag table) = type ∷ tag ∷ []
+continuation_indices (ResumeThrowRef type table) = type ∷ []
+continuation_indices (Switch type tag) = type ∷ tag ∷ []
+
+-- the global, the table, the type, or the type and then the field of an operator of shared-everything threads
+abbrev pub shared_indices : SharedOp → List ℕ
+shared_indices (SharedGlobal access ordering global) = global ∷ []
+shared_indices (SharedTable access ordering table) = table ∷ []
+shared_indices (SharedStruct access ordering field) = field.struct_type_index ∷ field.field_index ∷ []
+shared_indices (SharedArray access ordering type) = type ∷ []
+shared_indices RefI31Shared = []
+
 abbrev pub op_indices : Op → List ℕ
 op_indices (Control op) = control_indices op
 op_indices (Reference op) = reference_indices op
@@ -115,4 +142,6 @@ op_indices (Table op) = table_indices op
 op_indices (Struct op) = struct_indices op
 op_indices (Array op) = array_indices op
 op_indices (Exception op) = exception_indices op
+op_indices (Continuation op) = continuation_indices op
+op_indices (Shared op) = shared_indices op
 op_indices _ = []

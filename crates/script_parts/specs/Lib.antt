@@ -5,6 +5,7 @@ pub mod Values
 pub mod Blocks
 pub mod Casts
 pub mod Catches
+pub mod Handlers
 pub mod Fields
 pub mod Types
 pub mod Functions

@@ -1,5 +1,5 @@
 -- Types, as a script declares them (the crate's own).
-use Rattle.std.specs.Prelude.{◌≡◌, ◌++◌, ◌||◌, ◌&&◌, ◌<◌, ℕ, Bool, List, [], ◌∷◌, Option, IfSome, codes}
+use Rattle.std.specs.Prelude.{◌≡◌, ◌++◌, ◌||◌, ◌&&◌, ◌<◌, ℕ, Bool, true, List, [], ◌∷◌, Option, IfSome, codes}
 use Rattle.std.specs.Prelude.{bytes_eq, drop, not, length}
 use Rattle.std.specs.List.{AllZip, list_all, list_any, filter, before_first, position_or_len}
 use Rattle.std.specs.Option.{option_map}
@@ -8,7 +8,8 @@ use Rattle.validate_types.specs.Types.{Signature}
 use Rattle.validate_types.specs.declared.heap.UnpackedIndex.{UnpackedIndex}
 use Rattle.validate_types.specs.declared.heap.UnpackedIndex.TheVariants.{Module}
 use Rattle.validate_types.specs.declared.types.CompositeInnerType.{CompositeInnerType}
-use Rattle.validate_types.specs.declared.types.CompositeInnerType.TheVariants.{Func, Array, Struct}
+use Rattle.validate_types.specs.declared.types.CompositeInnerType.TheVariants.{Func, Array, Struct, Cont}
+use Rattle.validate_types.specs.declared.types.ContType.{ContType}
 use Rattle.validate_types.specs.declared.heap.TheConstants.PackedIndex.{LIMIT}
 use Rattle.script_parts.specs.Access.{text_after, one_if_some}
 use Rattle.script_parts.specs.Numbers.{IsIndex}
@@ -19,6 +20,7 @@ use Rattle.script_parts.specs.Values.{IsValueName, fits_value}
 abbrev pub is_kind : List ℕ → Bool
 is_kind word =
     bytes_eq word (codes "func") || bytes_eq word (codes "struct") || bytes_eq word (codes "array")
+    || bytes_eq word (codes "cont")
 
 -- the marks of a type: the words before its kind
 abbrev pub type_marks : List (List ℕ) → List (List ℕ)
@@ -58,11 +60,16 @@ IsSignature words signature =
     × AllZip IsValueName params signature.params
     × AllZip IsValueName results signature.results
 
+-- the word writes the index of a continuation's function type
+abbrev pub IsContName : List ℕ → ContType → Type 0
+IsContName word cont = IsPackedIndex word × (cont.0 ≡ Module (digits_value 10 word))
+
 -- the words say the kind, and write what the type is made of
 abbrev pub IsComposite : List (List ℕ) → CompositeInnerType → Type 0
 IsComposite (kind ∷ words) (Func signature) = (kind ≡ codes "func") × IsSignature words signature
 IsComposite (kind ∷ words) (Struct fields) = (kind ≡ codes "struct") × AllZip IsFieldName words fields
 IsComposite (kind ∷ words) (Array array) = (kind ≡ codes "array") × AllZip IsFieldName words (array.0 ∷ [])
+IsComposite (kind ∷ words) (Cont cont) = (kind ≡ codes "cont") × AllZip IsContName words (cont ∷ [])
 IsComposite [] inner = ⊥
 
 -- each type index in it is packed
@@ -73,3 +80,4 @@ abbrev pub fits_composite : CompositeInnerType → Bool
 fits_composite (Func signature) = fits_signature signature
 fits_composite (Struct fields) = list_all fits_field fields
 fits_composite (Array array) = fits_field array.0
+fits_composite (Cont cont) = true

@@ -8,7 +8,10 @@ use Rattle.validate_visit.specs.declared.frame.BlockType.{BlockType}
 use Rattle.validate_visit.specs.declared.op.ExceptionOp.TheVariants.{TryTable as TryTableOp}
 use Rattle.validate_visit.specs.declared.op.ControlOp.TheVariants.{BrTable, TypedSelectMulti}
 use Rattle.validate_visit.specs.declared.op.Op.{Op}
-use Rattle.validate_visit.specs.declared.op.Op.TheVariants.{Control, Exception}
+use Rattle.validate_visit.specs.declared.op.Op.TheVariants.{Control, Exception, Continuation}
+use Rattle.validate_visit.specs.declared.op.ContinuationOp.{ContinuationOp}
+use Rattle.validate_visit.specs.declared.op.ContinuationOp.TheVariants.{Resume, ResumeThrow, ResumeThrowRef}
+use Rattle.validate_visit.specs.declared.resume.Handle.{Handle}
 
 abbrev pub is_staying : Nesting → Bool
 is_staying Stays = true
@@ -38,6 +41,17 @@ select_types _ = []
 abbrev pub try_table_of : Op → Option (BlockType × List Catch)
 try_table_of (Exception (TryTableOp table)) = Some (table.ty, table.catches.now)
 try_table_of _ = None
+
+-- the handlers of a `resume`
+abbrev pub handlers_in : ContinuationOp → List Handle
+handlers_in (Resume type table) = table.handlers.now
+handlers_in (ResumeThrow type tag table) = table.handlers.now
+handlers_in (ResumeThrowRef type table) = table.handlers.now
+handlers_in _ = []
+
+abbrev pub handlers_of : Op → List Handle
+handlers_of (Continuation op) = handlers_in op
+handlers_of _ = []
 
 -- none of the labels of a table is missing
 abbrev pub is_complete : Op → Bool

@@ -37,7 +37,7 @@ pub fn read_catch(word: &str) -> Option<Catch>
 }
 
 /// The index of a tag and the label that a word writes, if it does, with a colon between them.
-fn read_tag_and_label(word: &str) -> Option<(u32, u32)>
+pub fn read_tag_and_label(word: &str) -> Option<(u32, u32)>
     ensures named { IfSome result (λ both. IsTagAndLabel word.now both.0 both.1) }
     ensures other { IfNone result ((tag label : ℕ) → ¬ (IsTagAndLabel word.now tag label)) }
 {

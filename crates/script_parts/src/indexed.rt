@@ -2,11 +2,12 @@
 
 ghost use Rattle.std.specs.Prelude.{◌≡◌, [], ◌∷◌, IfSome, map};
 ghost use Rattle.std.specs.Str.Parse.{digits_value};
-ghost use Rattle.script_parts.specs.Indices.{array_indices, exception_indices, op_indices, struct_indices};
+ghost use Rattle.script_parts.specs.Indices.{array_indices, continuation_indices, exception_indices, op_indices, struct_indices};
 
 use crate::numbers::read_index;
 use validate_visit::{
-    ArrayOp, ControlOp, ExceptionOp, FieldIndex, MemoryOp, Op, ReferenceOp, StructOp, TableOp,
+    ArrayOp, ContinuationOp, ControlOp, ExceptionOp, FieldIndex, MemoryOp, Op, ReferenceOp,
+    StructOp, TableOp,
 };
 
 /// The operator with the indices that these words write in the place of its own, if it has so many.
@@ -55,6 +56,7 @@ fn with_index(op: Op<'static>, index: u32) -> Option<Op<'static>>
         Op::Struct(op) => Op::Struct(struct_with_index(op, index)?),
         Op::Array(op) => Op::Array(array_with_index(op, index)?),
         Op::Exception(op) => Op::Exception(exception_with_index(op, index)?),
+        Op::Continuation(op) => Op::Continuation(continuation_with_index(op, index)?),
         _ => return None,
     })
 }
@@ -98,6 +100,41 @@ fn exception_with_index(op: ExceptionOp<'static>, index: u32) -> Option<Exceptio
     }
 }
 
+/// The operator on continuations with this index, if it has one index alone.
+fn continuation_with_index(
+    op: ContinuationOp<'static>,
+    index: u32,
+) -> Option<ContinuationOp<'static>>
+    ensures { IfSome result (λ op. continuation_indices op ≡ index ∷ []) }
+{
+    match op {
+        ContinuationOp::ContNew(_) => Some(ContinuationOp::ContNew(index)),
+        ContinuationOp::Suspend(_) => Some(ContinuationOp::Suspend(index)),
+        _ => None,
+    }
+}
+
+/// The operator on continuations with these indices, if it has two and no handlers.
+fn continuation_with_indices(
+    op: ContinuationOp<'static>,
+    first: u32,
+    second: u32,
+) -> Option<ContinuationOp<'static>>
+    ensures { IfSome result (λ op. continuation_indices op ≡ first ∷ second ∷ []) }
+{
+    match op {
+        ContinuationOp::ContBind { .. } => Some(ContinuationOp::ContBind {
+            argument_index: first,
+            result_index: second,
+        }),
+        ContinuationOp::Switch { .. } => Some(ContinuationOp::Switch {
+            cont_type_index: first,
+            tag_index: second,
+        }),
+        _ => None,
+    }
+}
+
 /// The operator with these indices, if it has two.
 fn with_indices(op: Op<'static>, first: u32, second: u32) -> Option<Op<'static>>
     ensures { IfSome result (λ op. op_indices op ≡ first ∷ second ∷ []) }
@@ -131,6 +168,7 @@ fn with_indices(op: Op<'static>, first: u32, second: u32) -> Option<Op<'static>>
         }),
         Op::Struct(op) => Op::Struct(struct_with_indices(op, first, second)?),
         Op::Array(op) => Op::Array(array_with_indices(op, first, second)?),
+        Op::Continuation(op) => Op::Continuation(continuation_with_indices(op, first, second)?),
         _ => return None,
     })
 }

@@ -2,23 +2,28 @@
 
 ghost use Rattle.std.specs.Prelude.{◌≡◌, ◌≢◌, List, [], true, All, IfOk, IsErrOf, IsSomeAnd, OnOk, map};
 ghost use Rattle.std.specs.Str.Parse.{digits_value};
-ghost use Rattle.script_parts.specs.Listed.{listed_labels, listed_types, listed_try_table};
+ghost use Rattle.script_parts.specs.Listed.{listed_labels, listed_types, listed_try_table, listed_handlers, resumption_indices};
 ghost use Rattle.validate_visit.specs.declared.catch.Catch.{Catch};
 ghost use Rattle.validate_visit.specs.declared.frame.BlockType.{BlockType};
 ghost use Rattle.script_parts.specs.Blocks.{fits_block};
 ghost use Rattle.script_parts.specs.Catches.{AreTryImmediates};
+ghost use Rattle.script_parts.specs.Indices.{continuation_indices};
 ghost use Rattle.script_parts.specs.Numbers.{IsIndex};
-ghost use Rattle.script_parts.specs.Written.{labels_of, select_types, try_table_of, is_complete};
+ghost use Rattle.script_parts.specs.Written.{labels_of, select_types, try_table_of, handlers_in, handlers_of, is_complete};
 ghost use Rattle.script_parts.specs.declared.failure.LineError.{LineError};
 
 use crate::blocks::read_block_type;
 use crate::catches::read_catches;
 use crate::failure::LineError;
+use crate::handlers::read_handlers;
 use crate::numbers::{read_index, read_indices};
 use crate::values::read_value_types;
 use std::alloc::Global;
 use validate_types::ValType;
-use validate_visit::{BlockType, BrTable, Catch, ControlOp, ExceptionOp, Op, TryTable};
+use validate_visit::{
+    BlockType, BrTable, Catch, ContinuationOp, ControlOp, ExceptionOp, Handle, Op, ResumeTable,
+    TryTable,
+};
 
 /// The list of an operator that has one.
 #[derive(Drop)]
@@ -39,6 +44,49 @@ pub enum OperatorList {
         /// The clauses.
         catches: Vec<Catch>,
     },
+    /// The handlers of a `resume`.
+    Handlers {
+        /// What is resumed, and how.
+        resumption: Resumption,
+        /// The handlers.
+        handlers: Vec<Handle>,
+    },
+}
+
+/// What is resumed, and with what.
+#[derive(Clone, Copy)]
+pub enum Resumption {
+    /// A continuation of the type at this index, with what it takes.
+    Resume(u32),
+    /// A continuation of the type at the first index, with an exception of the tag at the second.
+    Throw(u32, u32),
+    /// A continuation of the type at this index, with a reference to an exception.
+    ThrowRef(u32),
+}
+
+impl Resumption {
+    /// The operator that resumes it with these handlers.
+    fn op(self, handlers: &[Handle]) -> ContinuationOp<'_>
+        ensures handlers { handlers_in result ≡ handlers.now }
+        ensures indices { continuation_indices result ≡ resumption_indices self }
+    {
+        let resume_table = ResumeTable { handlers };
+        match self {
+            Resumption::Resume(cont_type_index) => ContinuationOp::Resume {
+                cont_type_index,
+                resume_table,
+            },
+            Resumption::Throw(cont_type_index, tag_index) => ContinuationOp::ResumeThrow {
+                cont_type_index,
+                tag_index,
+                resume_table,
+            },
+            Resumption::ThrowRef(cont_type_index) => ContinuationOp::ResumeThrowRef {
+                cont_type_index,
+                resume_table,
+            },
+        }
+    }
 }
 
 impl OperatorList {
@@ -47,6 +95,7 @@ impl OperatorList {
         ensures labels { labels_of result ≡ listed_labels self.now }
         ensures types { select_types result ≡ listed_types self.now }
         ensures try_table { try_table_of result ≡ listed_try_table self.now }
+        ensures handlers { handlers_of result ≡ listed_handlers self.now }
         ensures complete { is_complete result ≡ true }
     {
         match self {
@@ -61,13 +110,20 @@ impl OperatorList {
             OperatorList::Catches { ty, catches } => {
                 Op::Exception(ExceptionOp::TryTable(TryTable { ty: *ty, catches }))
             }
+            OperatorList::Handlers {
+                resumption,
+                handlers,
+            } => Op::Continuation(resumption.op(handlers)),
         }
     }
 }
 
 /// Whether the operator of this name has a list.
 pub fn has_list(name: &str) -> bool {
-    matches!(name, "br_table" | "select_multi" | "try_table")
+    matches!(
+        name,
+        "br_table" | "select_multi" | "try_table" | "resume" | "resume_throw" | "resume_throw_ref"
+    )
 }
 
 /// Reads the list of an operator: its name, and the words of the list after it.
@@ -78,6 +134,9 @@ pub fn read_list(alloc: Global, words: &[&str]) -> Result<OperatorList, LineErro
             Ok(OperatorList::Types(read_value_types(alloc, types)?))
         }
         Some((&"try_table", immediates)) => read_try_table(alloc, immediates),
+        Some((&"resume", immediates)) => read_resume(alloc, immediates),
+        Some((&"resume_throw", immediates)) => read_resume_throw(alloc, immediates),
+        Some((&"resume_throw_ref", immediates)) => read_resume_throw_ref(alloc, immediates),
         _ => Err(LineError::Bad),
     }
 }
@@ -113,5 +172,37 @@ fn read_try_table(alloc: Global, words: &[&str]) -> Result<OperatorList, LineErr
     Ok(OperatorList::Catches {
         ty: BlockType::Empty,
         catches,
+    })
+}
+
+/// The immediates of a `resume`: a type, and its handlers.
+fn read_resume(alloc: Global, words: &[&str]) -> Result<OperatorList, LineError> {
+    let (ty, handlers) = words.split_first().ok_or(LineError::Bad)?;
+    let ty = read_index(ty).ok_or(LineError::Bad)?;
+    Ok(OperatorList::Handlers {
+        resumption: Resumption::Resume(ty),
+        handlers: read_handlers(alloc, handlers)?,
+    })
+}
+
+/// The immediates of a `resume_throw`: a type, a tag, and its handlers.
+fn read_resume_throw(alloc: Global, words: &[&str]) -> Result<OperatorList, LineError> {
+    let (ty, rest) = words.split_first().ok_or(LineError::Bad)?;
+    let (tag, handlers) = rest.split_first().ok_or(LineError::Bad)?;
+    let ty = read_index(ty).ok_or(LineError::Bad)?;
+    let tag = read_index(tag).ok_or(LineError::Bad)?;
+    Ok(OperatorList::Handlers {
+        resumption: Resumption::Throw(ty, tag),
+        handlers: read_handlers(alloc, handlers)?,
+    })
+}
+
+/// The immediates of a `resume_throw_ref`: a type, and its handlers.
+fn read_resume_throw_ref(alloc: Global, words: &[&str]) -> Result<OperatorList, LineError> {
+    let (ty, handlers) = words.split_first().ok_or(LineError::Bad)?;
+    let ty = read_index(ty).ok_or(LineError::Bad)?;
+    Ok(OperatorList::Handlers {
+        resumption: Resumption::ThrowRef(ty),
+        handlers: read_handlers(alloc, handlers)?,
     })
 }

@@ -3,13 +3,14 @@
 ghost use Rattle.std.specs.Prelude.{◌≡◌, ◌↔◌, [], ◌∷◌, IfNone, IfOk, IfSome, IsErrOf, IsSome, OnOk, map, true};
 ghost use Rattle.std.specs.List.{AllZip};
 ghost use Rattle.validate_types.specs.declared.types.ArrayType.{ArrayType};
+ghost use Rattle.validate_types.specs.declared.types.ContType.{ContType};
 ghost use Rattle.validate_types.specs.Types.{Signature};
 ghost use Rattle.validate_types.specs.declared.types.CompositeInnerType.{CompositeInnerType};
 ghost use Rattle.script_parts.specs.Fields.{IsFieldName, fits_field};
 ghost use Rattle.std.specs.Option.{SomeIff};
 ghost use Rattle.std.specs.Str.Parse.{digits_value};
 ghost use Rattle.validate_types.specs.declared.heap.UnpackedIndex.{UnpackedIndex};
-ghost use Rattle.script_parts.specs.Types.{AreMarks, IsPackedIndex, IsComposite, IsSignature, is_kind, is_marked_shared, type_marks, kind_onwards, supertype_in, fits_composite, fits_signature};
+ghost use Rattle.script_parts.specs.Types.{AreMarks, IsPackedIndex, IsContName, IsComposite, IsSignature, is_kind, is_marked_shared, type_marks, kind_onwards, supertype_in, fits_composite, fits_signature};
 ghost use Rattle.script_parts.specs.declared.failure.LineError.{LineError};
 
 use crate::access::text_after;
@@ -19,8 +20,8 @@ use crate::numbers::read_index;
 use crate::values::read_value_types;
 use std::alloc::Global;
 use validate_types::{
-    ArrayType, CompositeInnerType, CompositeType, FuncType, PackedIndex, StructType, SubType,
-    UnpackedIndex,
+    ArrayType, CompositeInnerType, CompositeType, ContType, FuncType, PackedIndex, StructType,
+    SubType, UnpackedIndex,
 };
 
 /// The type that a `type` line declares, from the words after `type`: the marks, the kind, and what it is
@@ -56,7 +57,7 @@ pub fn read_type(alloc: Global, words: &[&str]) -> Result<SubType, LineError>
 fn is_kind(word: &str) -> bool
     ensures { result ≡ is_kind word.now }
 {
-    matches!(word, "func" | "struct" | "array")
+    matches!(word, "func" | "struct" | "array" | "cont")
 }
 
 /// What the marks of a type say.
@@ -81,7 +82,7 @@ fn read_marks(marks: &[&str]) -> Option<Marks>
         return None;
     }
     let supertype_idx = match supertype {
-        Some(digits) => Some(read_supertype(digits)?),
+        Some(digits) => Some(read_packed_index(digits)?),
         None => None,
     };
     Some(Marks {
@@ -90,15 +91,15 @@ fn read_marks(marks: &[&str]) -> Option<Marks>
     })
 }
 
-/// The index of a supertype that these digits write, if they do.
-fn read_supertype(digits: &str) -> Option<PackedIndex>
+/// The index of a type that these digits write, if they do.
+fn read_packed_index(digits: &str) -> Option<PackedIndex>
     ensures { SomeIff result (IsPackedIndex digits.now) (UnpackedIndex.Module (digits_value 10 digits.now)) }
 {
     UnpackedIndex::Module(read_index(digits)?).pack()
 }
 
 /// What a type is made of, from its kind and the words after it: the signature of functions, the fields
-/// of a struct, or the one field of an array.
+/// of a struct, the one field of an array, or the function type of a continuation.
 fn read_composite(alloc: Global, words: &[&str]) -> Result<CompositeInnerType, LineError>
     ensures read { IfOk result (λ inner. IsComposite (map (λ word. word.now) words.now) inner) }
     ensures bad { IsErrOf result LineError.Bad → (inner : CompositeInnerType) → fits_composite inner ≡ true
@@ -112,6 +113,7 @@ fn read_composite(alloc: Global, words: &[&str]) -> Result<CompositeInnerType, L
             Ok(CompositeInnerType::Struct(StructType { fields }))
         }
         "array" => Ok(CompositeInnerType::Array(read_array(rest).ok_or(LineError::Bad)?)),
+        "cont" => Ok(CompositeInnerType::Cont(read_cont(rest).ok_or(LineError::Bad)?)),
         _ => Err(LineError::Bad),
     }
 }
@@ -124,6 +126,18 @@ fn read_array(words: &[&str]) -> Option<ArrayType>
 {
     match *words {
         [word] => Some(ArrayType(read_field(word)?)),
+        _ => None,
+    }
+}
+
+/// A continuation type: the index of its function type.
+fn read_cont(words: &[&str]) -> Option<ContType>
+    ensures read { IfSome result (λ ty. AllZip IsContName (map (λ word. word.now) words.now) (ty ∷ [])) }
+    ensures other { IfNone result ((ty : ContType)
+        → ¬ (AllZip IsContName (map (λ word. word.now) words.now) (ty ∷ []))) }
+{
+    match *words {
+        [word] => Some(ContType(read_packed_index(word)?)),
         _ => None,
     }
 }

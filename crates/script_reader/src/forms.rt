@@ -1,19 +1,22 @@
 //! What stands behind an operator's name: one table, by the names.
 
 use self::Form::{
-    Access, Block, BranchCast, BranchCastFail, CastType, Constant, Fence, Indexed, NullType, Plain,
-    SelectType, TestType,
+    Access, Block, BranchCast, BranchCastFail, CastType, Constant, Fence, Indexed, NullType,
+    Ordered, Plain, SelectType, TestType,
 };
 use crate::atomic::ATOMIC_ACCESSES;
 use crate::composites::{ARRAY_OPERATORS, STRUCT_OPERATORS};
 use crate::conversions::CONVERSIONS;
 use crate::memory::LOADS_AND_STORES;
 use crate::numeric::numeric_operator;
+use crate::shared::shared_operator;
 use script_parts::names::named_in;
-use validate_visit::Op::{Array, Atomic, Control, Exception, Memory, Reference, Struct, Table};
+use validate_visit::Op::{
+    Array, Atomic, Continuation, Control, Exception, Memory, Reference, Shared, Struct, Table,
+};
 use validate_visit::{
-    ArrayOp, AtomicOp, BlockType, ControlOp, ExceptionOp, MemoryOp, NumberType, Op, ReferenceOp,
-    Sign, TableOp,
+    ArrayOp, AtomicOp, BlockType, ContinuationOp, ControlOp, ExceptionOp, MemoryOp, NumberType, Op,
+    ReferenceOp, SharedOp, Sign, TableOp,
 };
 
 /// The immediates of an operator, with the operator that has them: those of a line come in the place of
@@ -42,12 +45,14 @@ pub enum Form {
     BranchCastFail,
     /// The ordering of a fence.
     Fence,
+    /// An ordering, and then one index or two.
+    Ordered(SharedOp),
     /// Those of an access.
     Access(Op<'static>),
 }
 
-/// The operators but those on numbers, the accesses, and those on structs and arrays, which have tables of
-/// their own. The one on arrays without immediates stands here.
+/// The operators but those on numbers, the accesses, and those on structs and arrays, and atomic ones, which have
+/// tables of their own. The one on arrays without immediates stands here.
 const FORMS: &[(&str, Form)] = &[
     ("unreachable", Plain(Control(ControlOp::Unreachable))),
     ("nop", Plain(Control(ControlOp::Nop))),
@@ -110,6 +115,7 @@ const FORMS: &[(&str, Form)] = &[
     ("br_on_cast", BranchCast),
     ("br_on_cast_fail", BranchCastFail),
     ("ref.i31", Plain(Reference(ReferenceOp::RefI31))),
+    ("ref.i31_shared", Plain(Shared(SharedOp::RefI31Shared))),
     (
         "i31.get_s",
         Plain(Reference(ReferenceOp::I31Get(Sign::Signed))),
@@ -179,6 +185,25 @@ const FORMS: &[(&str, Form)] = &[
     ("throw", Indexed(Exception(ExceptionOp::Throw(0)))),
     ("throw_ref", Plain(Exception(ExceptionOp::ThrowRef))),
     ("rethrow", Indexed(Exception(ExceptionOp::Rethrow(0)))),
+    (
+        "cont.new",
+        Indexed(Continuation(ContinuationOp::ContNew(0))),
+    ),
+    (
+        "cont.bind",
+        Indexed(Continuation(ContinuationOp::ContBind {
+            argument_index: 0,
+            result_index: 0,
+        })),
+    ),
+    ("suspend", Indexed(Continuation(ContinuationOp::Suspend(0)))),
+    (
+        "switch",
+        Indexed(Continuation(ContinuationOp::Switch {
+            cont_type_index: 0,
+            tag_index: 0,
+        })),
+    ),
     ("atomic.fence", Fence),
     ("pause", Plain(Atomic(AtomicOp::Pause))),
 ];
@@ -196,6 +221,9 @@ pub fn form_of(name: &str) -> Option<Form> {
     }
     if let Some(op) = named_in(ARRAY_OPERATORS, name) {
         return Some(Indexed(Array(op)));
+    }
+    if let Some(op) = shared_operator(name) {
+        return Some(Ordered(op));
     }
     if let Some(op) = named_in(LOADS_AND_STORES, name) {
         return Some(Access(Memory(op)));

@@ -14,6 +14,7 @@ pub mod memory;
 pub mod numeric;
 pub mod operators;
 pub mod script;
+pub mod shared;
 
 pub use crate::lists::read_lists;
 pub use crate::script::read_script;

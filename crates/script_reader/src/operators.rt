@@ -7,21 +7,15 @@ use script_parts::blocks::read_block_type;
 use script_parts::casts::{read_branch_cast, ref_cast, ref_test};
 use script_parts::indexed::read_indexed;
 use script_parts::listed::has_list;
-use script_parts::names::named_in;
 use script_parts::numbers::{read_i32, read_i64, read_index, read_u64};
 use script_parts::references::{read_heap_type, read_reference};
+use script_parts::shared::{read_ordering, read_shared};
 use script_parts::values::read_value_type;
 use std::slice;
 use validate_visit::{
     AtomicOp, BlockType, ControlOp, ExceptionOp, Ieee32, Ieee64, NumberType, NumericOp, Op,
-    Ordering, ReferenceOp,
+    ReferenceOp,
 };
-
-/// The orderings of a fence.
-const ORDERINGS: &[(&str, Ordering)] = &[
-    ("seq_cst", Ordering::SeqCst),
-    ("acq_rel", Ordering::AcqRel),
-];
 
 /// The operator that a line's words write, if they do: its name, and its immediates after it. One with a
 /// list takes the next of these, which were read before; where none is left its words are no list.
@@ -45,6 +39,7 @@ fn read_flat_operator(words: &[&str]) -> Option<Op<'static>> {
         (Form::Plain(op), []) => Some(op),
         (Form::Indexed(op), _) => read_indexed(op, immediates),
         (Form::Access(op), _) => with_access(op, immediates),
+        (Form::Ordered(op), _) => Some(Op::Shared(read_shared(op, immediates)?)),
         (Form::Block(op), []) => Some(op),
         (Form::Constant(ty), []) => constant(ty, "0"),
         (Form::BranchCast, _) => {
@@ -76,12 +71,13 @@ fn read_with(form: Form, immediate: &str) -> Option<Op<'static>> {
         Form::TestType => Some(Op::Reference(ref_test(read_reference(immediate)?))),
         Form::CastType => Some(Op::Reference(ref_cast(read_reference(immediate)?))),
         Form::Fence => {
-            let ordering = named_in(ORDERINGS, immediate)?;
+            let ordering = read_ordering(immediate)?;
             Some(Op::Atomic(AtomicOp::AtomicFence(ordering)))
         }
         Form::Plain(_)
         | Form::Indexed(_)
         | Form::Access(_)
+        | Form::Ordered(_)
         | Form::BranchCast
         | Form::BranchCastFail => None,
     }

@@ -132,7 +132,6 @@ struct.get 0 x
 struct.get_s
 struct.get_u 0 4294967296
 struct.set 0
-struct.atomic.get seq_cst 0 0
 
 array.new
 array.new 0 0
@@ -150,7 +149,6 @@ array.fill 0 0
 array.copy 0
 array.init_data 0
 array.init_elem x 0
-array.atomic.get seq_cst 0
 
 ref.eq 0
 ref.eq anyref
@@ -183,7 +181,7 @@ br_on_cast_fail
 br_on_cast_fail 0 any i31
 br_on_cast_fail 0 anyref
 ref.i31 0
-ref.i31_shared
+ref.i31_shared 0
 i31.get
 i31.get_s 0
 any.convert_extern 0

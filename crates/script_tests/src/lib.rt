@@ -40,6 +40,12 @@ mod composite_table;
 #[cfg(test)]
 mod composites;
 #[cfg(test)]
+mod continuation_rules;
+#[cfg(test)]
+mod continuation_table;
+#[cfg(test)]
+mod continuations;
+#[cfg(test)]
 mod exception_rules;
 #[cfg(test)]
 mod exceptions;
@@ -77,6 +83,10 @@ mod reference_rules;
 mod references;
 #[cfg(test)]
 mod selects;
+#[cfg(test)]
+mod shared_rules;
+#[cfg(test)]
+mod shared_table;
 #[cfg(test)]
 mod struct_rules;
 #[cfg(test)]

@@ -4,6 +4,8 @@
 ghost use Rattle.std.specs.Prelude.{◌<◌, vec_len};
 
 use crate::composite_table::{COMPOSITES, DECLARED_COMPOSITES};
+use crate::continuation_table::{CONTINUATIONS, DECLARED_CONTINUATIONS};
+use crate::shared_table::{DECLARED_SHARED, SHARED};
 use crate::tables::{ATOMIC, CONVERSIONS, EXCEPTIONS, MEMORY, NUMERIC, TABLE};
 use crate::transcript::{expect_behind, expect_run};
 use std::process::Abort;
@@ -21,14 +23,14 @@ bulk_memory_opt:         bulk memory support is not enabled
 sign_extension:          sign extension operations support is not enabled
 saturating_float_to_int: saturating float to int conversions support is not enabled
 threads:                 threads support is not enabled
-shared_everything_threads
+shared_everything_threads: shared-everything-threads support is not enabled
 exceptions:              exceptions support is not enabled
 legacy_exceptions
 tail_call:               tail calls support is not enabled
 function_references:     function references support is not enabled
 gc:                      gc support is not enabled
 custom_descriptors
-stack_switching
+stack_switching:         stack switching support is not enabled
 memory_control:          memory control support is not enabled
 wide_arithmetic:         wide arithmetic support is not enabled
 acquire_release_atomics: acquire-release atomics support is not enabled
@@ -84,6 +86,7 @@ const OTHERS: &[(&str, &str)] = &[
     ("funcref", "externref"),
     ("externref", "funcref"),
     ("exnref", "externref"),
+    ("eqref", "externref"),
 ];
 
 /// Whether a word names a reference type by what it refers to.
@@ -101,10 +104,16 @@ fn another(ty: &str) -> Option<&'static str> {
 
 /// How refusals call the type that a table names.
 fn text_of(ty: &str) -> &str {
-    if ty.starts_with("refnull:") {
+    if ty == "refnull:shared-any" {
+        "(ref null (shared any))"
+    } else if ty == "refnull:shared-eq" {
+        "(ref null (shared eq))"
+    } else if ty.starts_with("refnull:") {
         "(ref null (type))"
     } else if ty == "ref:i31" {
         "(ref i31)"
+    } else if ty == "ref:shared-i31" {
+        "(ref (shared i31))"
     } else if is_long_name(ty) {
         "(ref (type))"
     } else {
@@ -121,6 +130,7 @@ const CONSTANTS: &[(&str, &str)] = &[
     ("funcref", "ref.null func"),
     ("externref", "ref.null extern"),
     ("exnref", "ref.null exn"),
+    ("eqref", "ref.null eq"),
 ];
 
 /// The operator that gives one value of this type, if the tables name it.
@@ -464,6 +474,16 @@ fn atomic_operators_on_a_memory_of_64_bits(rt: HostRuntime) -> Result<(), Fail> 
 #[test]
 fn operators_on_structs_and_arrays(rt: HostRuntime) -> Result<(), Fail> {
     expect_table(&rt, COMPOSITES, 41, DECLARED_COMPOSITES, "")
+}
+
+#[test]
+fn operators_of_shared_everything_threads(rt: HostRuntime) -> Result<(), Fail> {
+    expect_table(&rt, SHARED, 56, DECLARED_SHARED, "")
+}
+
+#[test]
+fn operators_on_continuations(rt: HostRuntime) -> Result<(), Fail> {
+    expect_table(&rt, CONTINUATIONS, 9, DECLARED_CONTINUATIONS, "")
 }
 
 #[test]

@@ -9,7 +9,8 @@ use Rattle.validate_types.specs.Refs.{nullable_reference, non_null_reference}
 use Rattle.validate_visit.specs.Gates.{gate_of}
 use Rattle.validate_visit.specs.Numbers.{number_type, integer_type, packed_type, access_type}
 use Rattle.validate_visit.specs.declared.op.Op.{Op}
-use Rattle.validate_visit.specs.declared.op.Op.TheVariants.{Control, Numeric, Convert, Memory, Atomic, Reference, Table, Struct, Array, Exception}
+use Rattle.validate_visit.specs.declared.op.Op.TheVariants.{Control, Numeric, Convert, Memory, Atomic, Reference, Table, Struct, Array, Exception, Continuation}
+use Rattle.validate_visit.specs.declared.op.Op.TheVariants.{Shared}
 use Rattle.validate_visit.specs.declared.op.ControlOp.{ControlOp}
 use Rattle.validate_visit.specs.declared.op.ControlOp.TheVariants.{Unreachable, Nop, Block as BlockOp, Loop as LoopOp, If as IfOp, Else as ElseOp, End, Br, BrIf, BrTable, Return, Call, ReturnCall, CallIndirect, ReturnCallIndirect, CallRef, ReturnCallRef, Drop, Select, TypedSelect, TypedSelectMulti, LocalGet, LocalSet, LocalTee, GlobalGet, GlobalSet}
 use Rattle.validate_visit.specs.declared.op.NumericOp.{NumericOp}
@@ -30,6 +31,8 @@ use Rattle.validate_visit.specs.declared.op.ArrayOp.{ArrayOp}
 use Rattle.validate_visit.specs.declared.op.ArrayOp.TheVariants.{ArrayNew, ArrayNewDefault, ArrayNewFixed, ArrayNewData, ArrayNewElem, ArrayGet, ArrayGetPacked, ArraySet, ArrayLen, ArrayFill, ArrayCopy, ArrayInitData, ArrayInitElem}
 use Rattle.validate_visit.specs.declared.op.ExceptionOp.{ExceptionOp}
 use Rattle.validate_visit.specs.declared.op.ExceptionOp.TheVariants.{TryTable as TryTableOp, Throw, ThrowRef, Try, Catch as CatchOp, CatchAll, Delegate, Rethrow}
+use Rattle.validate_visit.specs.declared.shared.SharedOp.{SharedOp}
+use Rattle.validate_visit.specs.declared.shared.SharedOp.TheVariants.{Global as SharedGlobal, Table as SharedTable, Struct as SharedStruct, Array as SharedArray, RefI31Shared}
 use Rattle.validation_rules.specs.Calls.{global_type, callee, tail_call_row}
 use Rattle.validation_rules.specs.Context.{Signature, ValType, I32, I64, F32, F64, V128, BlockType, Context, AllBelow, block_signature}
 use Rattle.validation_rules.specs.Access.{is_loadable, is_storable, address_types, atomic_address_types, access_row}
@@ -45,12 +48,13 @@ use Rattle.validation_rules.specs.Tables.{table_type, table_init_row_for, table_
 use Rattle.validation_rules.specs.Exceptions.{exception_types, catch_clauses, operator_catching, catch_operator, exception_operator}
 use Rattle.validation_rules.specs.Branches.{has_label}
 use Rattle.validation_rules.specs.Rows.{FrameKind, Block, If, Loop, TryTable, LegacyTry, Head, params, Opens, BeginsElse, BeginsCatch, Ends, Delegates, Clause, is_if, is_instruction, Plain, Looks, Row, Operator, guard}
-use Rattle.validation_rules.specs.Operators.{plain_row, plain_row_if, checked_block, opening_operator_if, opener, staying_operator, row_operator, lookup_row, drop_pushes, select_pushes, lookups_row, struct_row, array_row, control_operator, numeric_row, convert_row, memory_row, atomic_row, reference_row, table_row, ungated_operator, operator, operators}
+use Rattle.validation_rules.specs.Operators.{plain_row, plain_row_if, checked_block, opening_operator_if, opener, staying_operator, row_operator, lookup_row, drop_pushes, select_pushes, lookups_row, struct_row, array_row, control_operator, numeric_row, convert_row, memory_row, atomic_row, reference_row, table_row, shared_row, ungated_operator, operator, operators}
 use Rattle.validation_rules.proofs.Steps.{some_injective, guard_some}
 use Rattle.type_safety.proofs.Laws.{IsMonotoneAt, IsLawfulOperator}
 use Rattle.type_safety.proofs.Branches.{br_lawful, br_if_lawful, br_table_lawful, tail_call_lawful}
 use Rattle.type_safety.proofs.Found.{measure_monotone, converted_monotone, ref_eq_monotone}
 use Rattle.type_safety.proofs.Casts.{cast_branch_lawful}
+use Rattle.type_safety.proofs.Continuations.{continuations_lawful}
 use Rattle.type_safety.proofs.References.{is_null_monotone, non_null_monotone, br_on_null_lawful, br_on_non_null_lawful}
 use Rattle.type_safety.proofs.Plain.{plain_monotone, plain_below, below_front, no_target, found_lawful, flat_lawful, plain_lawful, looking_lawful, delimiting_lawful, closing_lawful, behind_lawful}
 
@@ -324,6 +328,15 @@ module _ (cx : Context) (laws : IsLawful cx.of_module) where
   exception_lawful (Delegate d) = delimiting_lawful cx laws Delegates (λ hs. has_label hs (suc d)) refl
   exception_lawful (Rethrow d) = flat_lawful cx laws _ (λ hs. no_target cx laws hs _ refl (plain_monotone cx laws [] [] []))
 
+  -- ---- shared-everything threads
+
+  shared_lawful : (op : SharedOp) → IsLawfulOperator cx (row_operator (shared_row cx op))
+  shared_lawful (SharedGlobal access ordering i) = by_lookup_lawful (global_type cx i) _ (λ g. plain_lawful cx laws _ _ _ _ _ _)
+  shared_lawful (SharedTable access ordering i) = by_lookup_lawful (table_type cx i) _ (λ t. plain_lawful cx laws _ _ _ _ _ _)
+  shared_lawful (SharedStruct access ordering index) = lookups_lawful (struct_field cx index) (taken index.struct_type_index) _ (λ f t. plain_lawful cx laws _ _ _ _ _ _)
+  shared_lawful (SharedArray access ordering i) = lookups_lawful (array_type cx i) (taken i) _ (λ f t. plain_lawful cx laws _ _ _ _ _ _)
+  shared_lawful RefI31Shared = plain_lawful cx laws _ _ _ _ _ _
+
   ungated_lawful : (op : Op) → IsLawfulOperator cx (ungated_operator cx op)
   ungated_lawful (Control op) = control_lawful op
   ungated_lawful (Numeric op) = numeric_lawful op
@@ -335,6 +348,8 @@ module _ (cx : Context) (laws : IsLawful cx.of_module) where
   ungated_lawful (Struct op) = struct_lawful op
   ungated_lawful (Array op) = array_lawful op
   ungated_lawful (Exception op) = exception_lawful op
+  ungated_lawful (Continuation op) = continuations_lawful cx laws op
+  ungated_lawful (Shared op) = shared_lawful op
 
   pub operator_lawful : (op : Op) → IsLawfulOperator cx (operator cx op)
   operator_lawful op = behind_lawful cx laws (gate_of op) (ungated_operator cx op) (ungated_lawful op)

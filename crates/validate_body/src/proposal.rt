@@ -15,15 +15,20 @@ ghost use Rattle.validate_body.specs.Start.{state, current_kind, stacks_of};
 
 use crate::validator::OperatorValidator;
 use validate_resources::WasmModuleResources;
+use validate_resources::kinds::func_type_of;
 use validate_stacks::Pops;
-use validate_types::{Error, RefType, SubType, ValType};
+use validate_types::{ContType, Error, FuncType, RefType, SubType, ValType};
 use validate_visit::{
-    ArrayOp, AtomicOp, BlockType, ControlOp, ConvertOp, ExceptionOp, FrameKind, FrameStack,
-    MemoryOp, ModuleArity, NumericOp, Op, ReferenceOp, StructOp, TableOp,
+    ArrayOp, AtomicOp, BlockType, ContinuationOp, ControlOp, ConvertOp, ExceptionOp, FrameKind,
+    FrameStack, MemoryOp, ModuleArity, NumericOp, Op, ReferenceOp, SharedOp, StructOp, TableOp,
 };
 
 /// A validator that is about to visit an operator, with the lookup and the operator's offset
 /// (wasmparser's `WasmProposalValidator`).
+///
+/// Each check and each visit asks for three things: a frame is open (`control_stack_height` isn't 0), the
+/// lookup is the one that the validator was made with, and no attempt is pending that has something to
+/// undo (`can_attempt`, or no attempt).
 #[derive(Drop)]
 pub struct WasmProposalValidator<'validator, 'resources, R> {
     /// The operator's offset, which a refusal carries.
@@ -35,7 +40,8 @@ pub struct WasmProposalValidator<'validator, 'resources, R> {
 }
 
 impl OperatorValidator {
-    /// The validator, ready to visit the operator at this offset. It takes no memory.
+    /// The validator, ready to visit the operator at this offset. It takes no memory. The conditions of
+    /// the visit are those of [`WasmProposalValidator`].
     #[inline(always)]
     pub fn with_resources<'validator, 'resources, R: WasmModuleResources>(
         &'validator mut self,
@@ -91,6 +97,11 @@ impl<'validator, 'resources, R: WasmModuleResources> ModuleArity
 
     fn sub_type_at(&self, type_index: u32) -> Option<&SubType> {
         self.resources.sub_type_at(type_index)
+    }
+
+    fn func_type_of_cont_type(&self, cont_type: &ContType) -> Option<&FuncType> {
+        let id = cont_type.0.unpack().as_core_type_id()?;
+        func_type_of(self.resources.sub_type_at_id(id))
     }
 
     fn sub_type_of_ref_type(&self, ty: &RefType) -> Option<&SubType> {
@@ -231,6 +242,34 @@ impl<'validator, 'resources, R: WasmModuleResources> WasmProposalValidator<
             self.old.offset (state self.old.inner.now) result (state self.new.inner.now) }
     {
         self.inner.check_struct(self.resources, self.offset, op)
+    }
+
+    /// The check of an operator on continuations.
+    #[inline(always)]
+    pub fn check_continuation<'a>(&mut self, op: ContinuationOp<'a>) -> Result<(), Error>
+        requires { MayVisit (R.context self.old.resources.now) (stacks_of self.old.inner.now) }
+        ensures same_reference { self.new.inner.ghost_name ≡ self.old.inner.ghost_name }
+        ensures offset { self.new.offset ≡ self.old.offset }
+        ensures resources { self.new.resources ≡ self.old.resources }
+        ensures row { Meets (R.context self.old.resources.now)
+            (λ cx. operator cx (Op.Continuation op.entry)) self.old.offset (state self.old.inner.now) result
+            (state self.new.inner.now) }
+    {
+        self.inner
+            .check_continuation(self.resources, self.offset, op)
+    }
+
+    /// The check of an operator of shared-everything threads.
+    #[inline(always)]
+    pub fn check_shared(&mut self, op: SharedOp) -> Result<(), Error>
+        requires { MayVisit (R.context self.old.resources.now) (stacks_of self.old.inner.now) }
+        ensures same_reference { self.new.inner.ghost_name ≡ self.old.inner.ghost_name }
+        ensures offset { self.new.offset ≡ self.old.offset }
+        ensures resources { self.new.resources ≡ self.old.resources }
+        ensures row { Meets (R.context self.old.resources.now) (λ cx. operator cx (Op.Shared op))
+            self.old.offset (state self.old.inner.now) result (state self.new.inner.now) }
+    {
+        self.inner.check_shared(self.resources, self.offset, op)
     }
 
     /// The check of an operator on arrays.

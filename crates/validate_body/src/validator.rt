@@ -18,16 +18,17 @@ ghost use Rattle.validate_body.specs.Start.{state, stacks_of, func_start, const_
 
 use validate_locals::Locals;
 use validate_operators::{
-    check_array, check_atomic, check_control, check_convert, check_exception, check_memory,
-    check_numeric, check_operator, check_reference, check_struct, check_table,
+    check_array, check_atomic, check_continuation, check_control, check_convert, check_exception,
+    check_memory, check_numeric, check_operator, check_reference, check_shared, check_struct,
+    check_table,
 };
 use validate_resources::WasmModuleResources;
 use validate_resources::kinds::{expected_func_type, func_type_of};
 use validate_stacks::{OperatorValidatorAllocations, Pops, Stacks};
 use validate_types::{Error, FuncType, ValType, WasmFeatures};
 use validate_visit::{
-    ArrayOp, AtomicOp, BlockType, ControlOp, ConvertOp, ExceptionOp, Frame, FrameKind, MemoryOp,
-    NumericOp, Op, ReferenceOp, StructOp, TableOp,
+    ArrayOp, AtomicOp, BlockType, ContinuationOp, ControlOp, ConvertOp, ExceptionOp, Frame,
+    FrameKind, MemoryOp, NumericOp, Op, ReferenceOp, SharedOp, StructOp, TableOp,
 };
 
 /// The validator of a body (wasmparser's `OperatorValidator`). Contracts see what it stands for by
@@ -75,7 +76,8 @@ impl OperatorValidator {
 
     /// A validator of a constant expression: one frame that gives a value of this type is open, and
     /// there are no locals. The type has to be valid and canonical in the lookup of the later visits.
-    /// It refuses for want of memory alone, at offset 0, and gives up the buffers then.
+    /// It refuses for want of memory alone, at offset 0, and gives up the buffers then. That the expression
+    /// is constant isn't looked at: any operator may be visited.
     pub fn new_const_expr(
         features: &WasmFeatures,
         ty: ValType,
@@ -261,6 +263,36 @@ impl OperatorValidator {
             (state self.old) result (state self.new) }
     {
         check_struct(&mut self.stacks, resources, offset, op)
+    }
+
+    /// The check of an operator on continuations, as [`OperatorValidator::check`].
+    #[inline(always)]
+    pub fn check_continuation<R: WasmModuleResources>(
+        &mut self,
+        resources: &R,
+        offset: u64,
+        op: ContinuationOp,
+    ) -> Result<(), Error>
+        requires { MayVisit (R.context resources.now) (stacks_of self.old) }
+        ensures { Meets (R.context resources.now) (λ cx. operator cx (Op.Continuation op.entry)) offset
+            (state self.old) result (state self.new) }
+    {
+        check_continuation(&mut self.stacks, resources, offset, op)
+    }
+
+    /// The check of an operator of shared-everything threads, as [`OperatorValidator::check`].
+    #[inline(always)]
+    pub fn check_shared<R: WasmModuleResources>(
+        &mut self,
+        resources: &R,
+        offset: u64,
+        op: SharedOp,
+    ) -> Result<(), Error>
+        requires { MayVisit (R.context resources.now) (stacks_of self.old) }
+        ensures { Meets (R.context resources.now) (λ cx. operator cx (Op.Shared op)) offset
+            (state self.old) result (state self.new) }
+    {
+        check_shared(&mut self.stacks, resources, offset, op)
     }
 
     /// The check of an operator on arrays, as [`OperatorValidator::check`].

@@ -24,18 +24,20 @@ use validate_rows::parametric::{
 use validate_rows::tables::check_table_row;
 use validate_rows::variables::{check_local_get, check_local_set, check_local_tee};
 use validate_rows::{indirect, references};
+use validate_rows_continuations::check::check_continuation_row;
 use validate_rows_exceptions::clauses::check_try_table;
 use validate_rows_exceptions::legacy::{check_catch, check_catch_all, check_delegate};
 use validate_rows_exceptions::throws::{check_rethrow, check_throw, check_throw_ref};
 use validate_rows_gc::arrays::check_array_row;
 use validate_rows_gc::structs::check_struct_row;
 use validate_rows_gc::{casts, found};
+use validate_rows_shared::places::check_shared_row;
 use validate_shapes::blocks::check_opener;
 use validate_stacks::Stacks;
 use validate_types::{AbstractHeapType, Error, Gate, ValType};
 use validate_visit::{
-    ArrayOp, AtomicOp, ControlOp, ConvertOp, ExceptionOp, FrameKind, MemoryOp, NumericOp,
-    ReferenceOp, StructOp, TableOp,
+    ArrayOp, AtomicOp, ContinuationOp, ControlOp, ConvertOp, ExceptionOp, FrameKind, MemoryOp,
+    NumericOp, ReferenceOp, SharedOp, StructOp, TableOp,
 };
 
 /// Refuses where the gate is closed (wasmparser's `check_enabled`).
@@ -399,4 +401,36 @@ pub fn check_exception<R: WasmModuleResources>(
 {
     check_enabled(stacks, offset, op.gate())?;
     check_exception_operator(stacks, resources, offset, op)
+}
+
+/// The check of an operator on continuations: accepted exactly where its row holds, memory aside, with the
+/// static step. A refusal carries the offset.
+pub fn check_continuation<R: WasmModuleResources>(
+    stacks: &mut Stacks,
+    resources: &R,
+    offset: u64,
+    op: ContinuationOp,
+) -> Result<(), Error>
+    requires { MayVisit (R.context resources.now) stacks.old }
+    ensures { Meets (R.context resources.now) (λ cx. operator cx (Op.Continuation op.entry)) offset
+        stacks.old.body result stacks.new.body }
+{
+    check_enabled(stacks, offset, Gate::StackSwitching)?;
+    check_continuation_row(stacks, resources, offset, op)
+}
+
+/// The check of an operator of shared-everything threads: accepted exactly where its row holds, memory
+/// aside, with the static step. A refusal carries the offset.
+pub fn check_shared<R: WasmModuleResources>(
+    stacks: &mut Stacks,
+    resources: &R,
+    offset: u64,
+    op: SharedOp,
+) -> Result<(), Error>
+    requires { MayVisit (R.context resources.now) stacks.old }
+    ensures { Meets (R.context resources.now) (λ cx. operator cx (Op.Shared op)) offset
+        stacks.old.body result stacks.new.body }
+{
+    check_enabled(stacks, offset, Gate::SharedEverythingThreads)?;
+    check_shared_row(stacks, resources, offset, op)
 }

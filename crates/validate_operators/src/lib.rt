@@ -5,7 +5,7 @@ pub mod groups;
 pub mod operator;
 
 pub use crate::groups::{
-    check_array, check_atomic, check_control, check_convert, check_exception, check_memory,
-    check_numeric, check_reference, check_struct, check_table,
+    check_array, check_atomic, check_continuation, check_control, check_convert, check_exception,
+    check_memory, check_numeric, check_reference, check_shared, check_struct, check_table,
 };
 pub use crate::operator::check_operator;

@@ -5,8 +5,8 @@ ghost use Rattle.validate_stacks.specs.Visits.{MayVisit, Meets};
 ghost use Rattle.validate_operators.specs.Memory.{TakesNoMemory};
 
 use crate::groups::{
-    check_array, check_atomic, check_control, check_convert, check_exception, check_memory,
-    check_numeric, check_reference, check_struct, check_table,
+    check_array, check_atomic, check_continuation, check_control, check_convert, check_exception,
+    check_memory, check_numeric, check_reference, check_shared, check_struct, check_table,
 };
 use validate_resources::WasmModuleResources;
 use validate_stacks::Stacks;
@@ -38,6 +38,8 @@ pub fn check_operator<R: WasmModuleResources>(
         Op::Struct(op) => check_struct(stacks, resources, offset, op),
         Op::Array(op) => check_array(stacks, resources, offset, op),
         Op::Exception(op) => check_exception(stacks, resources, offset, op),
+        Op::Continuation(op) => check_continuation(stacks, resources, offset, op),
+        Op::Shared(op) => check_shared(stacks, resources, offset, op),
     }
 }
 

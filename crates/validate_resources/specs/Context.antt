@@ -6,6 +6,7 @@ use Rattle.std.specs.Option.{option_and_then}
 use Rattle.validate_types.specs.Heap.{is_small}
 use Rattle.validate_types.specs.Refs.{without_null, with_null}
 use Rattle.validate_types.specs.Types.{Signature, unpacked_fields}
+pub use Rattle.validate_types.specs.Kinds.{inner_signature, signature_of, inner_continuation, continuation_of}
 use Rattle.validate_types.specs.declared.features.WasmFeatures.{WasmFeatures}
 use Rattle.validate_types.specs.declared.heap.AbstractHeapType.{AbstractHeapType}
 use Rattle.validate_types.specs.declared.heap.CoreTypeId.{CoreTypeId}
@@ -15,7 +16,7 @@ use Rattle.validate_types.specs.declared.heap.UnpackedIndex.{UnpackedIndex}
 use Rattle.validate_types.specs.declared.heap.UnpackedIndex.TheVariants.{Module, Id}
 use Rattle.validate_types.specs.declared.refs.RefType.{RefType}
 use Rattle.validate_types.specs.declared.types.CompositeInnerType.{CompositeInnerType}
-use Rattle.validate_types.specs.declared.types.CompositeInnerType.TheVariants.{Func, Array, Struct}
+use Rattle.validate_types.specs.declared.types.CompositeInnerType.TheVariants.{Func, Array, Struct, Cont}
 use Rattle.validate_types.specs.declared.types.FieldType.{FieldType}
 use Rattle.validate_types.specs.declared.types.GlobalType.{GlobalType}
 use Rattle.validate_types.specs.declared.types.MemoryType.{MemoryType}
@@ -99,24 +100,25 @@ is_address_type I32 = true
 is_address_type I64 = true
 is_address_type _ = false
 
--- what a type takes and gives, if it is one of functions
-abbrev pub inner_signature : CompositeInnerType → Option Signature
-inner_signature (Func f) = Some f
-inner_signature (Array a) = None
-inner_signature (Struct fields) = None
-
-abbrev pub signature_of : SubType → Option Signature
-signature_of s = inner_signature s.composite_type.inner
-
--- the same of the type at an index
+-- what the type at an index takes and gives, if it is one of functions
 abbrev pub signature_at : ModuleContext → ℕ → Option Signature
 signature_at md i = option_and_then signature_of (md.type_at i)
 
--- the fields of a struct, or the one that an array has in each place; a function has none
+-- the same of the type that an id names
+abbrev pub signature_of_id : ModuleContext → CoreTypeId → Option Signature
+signature_of_id md id = option_and_then signature_of (md.type_of_id id)
+
+-- the same of the function type of a continuation
+abbrev pub continued_signature : ModuleContext → UnpackedIndex → Option Signature
+continued_signature md (Module i) = None
+continued_signature md (Id id) = signature_of_id md id
+
+-- the fields of a struct, or the one that an array has in each place; a function or a continuation has none
 abbrev pub inner_fields : CompositeInnerType → List FieldType
 inner_fields (Func f) = []
 inner_fields (Array a) = a.0 ∷ []
 inner_fields (Struct fields) = fields
+inner_fields (Cont c) = []
 
 abbrev pub fields_of : SubType → List FieldType
 fields_of s = inner_fields s.composite_type.inner
@@ -130,12 +132,18 @@ pub record IsBelowReference (md : ModuleContext) (t : ValType) (r : RefType) : T
   pub same_sharedness : md.is_shared lower ≡ md.is_shared r
   pub without_null : r.nullable ≡ false → lower.nullable ≡ false
 
+-- the index of a continuation's function type: it is valid and canonical, and names a type of functions
+pub record IsContinuation (md : ModuleContext) (u : UnpackedIndex) : Type 0 where
+  pub valid : is_valid_index md u ≡ true
+  pub function : is_some (continued_signature md u) ≡ true
+
 -- what a declared type is made of is valid and canonical: what a function takes and gives, what fields
--- hold, and its supertype
+-- hold, what a continuation has still to run, and its supertype
 pub record IsValidType (md : ModuleContext) (s : SubType) : Type 0 where
   pub params : (f : Signature) → signature_of s ≡ Some f → AllValid md f.params
   pub results : (f : Signature) → signature_of s ≡ Some f → AllValid md f.results
   pub fields : AllValid md (unpacked_fields (fields_of s))
+  pub continuation : (u : UnpackedIndex) → continuation_of s ≡ Some u → IsContinuation md u
   pub supertype : (u : UnpackedIndex) → s.supertype_idx ≡ Some u → is_valid_index md u ≡ true
 
 -- what stands for the top type of the hierarchy of a reference's type: it is abstract, and a reference to

@@ -14,7 +14,8 @@ use Rattle.validate_types.specs.declared.heap.UnpackedIndex.TheVariants.{Module,
 use Rattle.validate_types.specs.declared.refs.RefType.{RefType}
 use Rattle.validate_types.specs.declared.types.ArrayType.{ArrayType}
 use Rattle.validate_types.specs.declared.types.CompositeInnerType.{CompositeInnerType}
-use Rattle.validate_types.specs.declared.types.CompositeInnerType.TheVariants.{Func, Array, Struct}
+use Rattle.validate_types.specs.declared.types.CompositeInnerType.TheVariants.{Func, Array, Struct, Cont}
+use Rattle.validate_types.specs.declared.types.ContType.{ContType}
 use Rattle.validate_types.specs.declared.types.FieldType.{FieldType}
 use Rattle.validate_types.specs.declared.types.GlobalType.{GlobalType}
 use Rattle.validate_types.specs.declared.types.StorageType.{StorageType}
@@ -71,6 +72,7 @@ abbrev pub inner_indices_pass : (UnpackedIndex → Bool) → CompositeInnerType 
 inner_indices_pass p (Func f) = signature_indices_pass p f
 inner_indices_pass p (Array a) = field_indices_pass p a.0
 inner_indices_pass p (Struct fields) = list_all (field_indices_pass p) fields
+inner_indices_pass p (Cont c) = p c.0
 
 abbrev pub sub_indices_pass : (UnpackedIndex → Bool) → SubType → Bool
 sub_indices_pass p s = supertype_indices_pass p s.supertype_idx && inner_indices_pass p s.composite_type.inner
@@ -115,10 +117,14 @@ field_with_id f = record f { element_type = storage_with_id f.element_type }
 abbrev pub array_with_id : ArrayType → ArrayType
 array_with_id a = record { 0 = field_with_id a.0 }
 
+abbrev pub cont_with_id : ContType → ContType
+cont_with_id c = record { 0 = index_with_id c.0 }
+
 abbrev pub inner_with_ids : CompositeInnerType → CompositeInnerType
 inner_with_ids (Func f) = Func (signature_with_ids f)
 inner_with_ids (Array a) = Array (array_with_id a)
 inner_with_ids (Struct fields) = Struct (map field_with_id fields)
+inner_with_ids (Cont c) = Cont (cont_with_id c)
 
 abbrev pub sub_with_ids : SubType → SubType
 sub_with_ids s = record s {

@@ -30,7 +30,7 @@ use Rattle.validate_resources.specs.Indices.{global_indices_pass, sub_indices_pa
 use Rattle.validate_resources.specs.Indices.{supertype_indices_pass}
 use Rattle.validate_resources.specs.Order.{is_heap_below, have_fitting_supertypes, is_type_below, heap_top, declared_top}
 use Rattle.validate_resources.specs.Order.{is_heap_shared, is_shared_at}
-use Rattle.validate_resources.specs.Lists.{Declared, is_module, is_func_type, list_indices_pass, context_of, tag_signature}
+use Rattle.validate_resources.specs.Lists.{Declared, is_module, is_func_type, continues_function, list_indices_pass, context_of, tag_signature}
 use Rattle.validate_resources.specs.Lists.{is_valid_below, canonical_under, type_id}
 use Rattle.validate_resources.specs.Lawful.Matching.{passes-at, heap-shared, ref-reflexive, type-reflexive}
 use Rattle.validate_resources.specs.Lawful.Matching.{type-transitive, number-below, below-ref}
@@ -61,22 +61,24 @@ record Facts (d : Declared) : Type 0 where
   elements : list_all (ref_indices_pass (is_id (length d.types))) d.elements ≡ true
   functions : list_all (λ (f : FuncDecl). nat_lt f.type_index (length d.types)) d.functions ≡ true
   supertypes : have_fitting_supertypes d.types ≡ true
+  continuations : list_all (continues_function d.types) d.types ≡ true
 
 facts : (d : Declared) → is_module is_id d ≡ true → Facts d
 facts d h =
     let (k, func_types) = and_parts (nat_le (length d.types) MAX_TYPES && list_indices_pass (is_id (length d.types)) d.types d.tables d.globals d.elements && have_fitting_supertypes d.types) _ h in
     let (b, supertypes) = and_parts (nat_le (length d.types) MAX_TYPES && list_indices_pass (is_id (length d.types)) d.types d.tables d.globals d.elements) _ k in
     let (small, e) = and_parts (nat_le (length d.types) MAX_TYPES) _ b in
+    let (callees, continuations) = and_parts (list_all (λ (f : FuncDecl). is_func_type (slice_get d.types f.type_index)) d.functions && list_all (λ i. is_func_type (slice_get d.types i)) d.tags) _ func_types in
     let p = list_all (sub_indices_pass (is_id (length d.types))) d.types in
     let q = list_all (table_indices_pass (is_id (length d.types))) d.tables in
     let r = list_all (global_indices_pass (is_id (length d.types))) d.globals in
     let (f, elements) = and_parts (p && q && r) _ e in
     let (g, globals) = and_parts (p && q) _ f in
     let (types, tables) = and_parts p _ g in
-    record { small = leb-true _ _ small; types = types; tables = tables; globals = globals; elements = elements; functions = known-types (λ (f : FuncDecl). f.type_index) d.types d.functions (and_parts (list_all (λ (f : FuncDecl). is_func_type (slice_get d.types f.type_index)) d.functions) _ func_types).0; supertypes = supertypes }
+    record { small = leb-true _ _ small; types = types; tables = tables; globals = globals; elements = elements; functions = known-types (λ (f : FuncDecl). f.type_index) d.types d.functions (and_parts (list_all (λ (f : FuncDecl). is_func_type (slice_get d.types f.type_index)) d.functions) _ callees).0; supertypes = supertypes; continuations = continuations }
 
 type_valid : (d : Declared) → Facts d → (i : ℕ) (s : SubType) → slice_get d.types i ≡ Some s → IsValidType (context_of d) s
-type_valid d m i s h = type-is-valid d m.small s (passes-at (sub_indices_pass (is_id (length d.types))) i d.types s m.types h)
+type_valid d m i s h = type-is-valid d m.small s (passes-at (sub_indices_pass (is_id (length d.types))) i d.types s m.types h) (passes-at (continues_function d.types) i d.types s m.continuations h)
 
 below_parts : (d : Declared) → Facts d → (t : ValType) (r : RefType) → Below d t (Ref r) → IsBelowReference (context_of d) t r
 below_parts d m t r b =

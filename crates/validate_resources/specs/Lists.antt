@@ -1,9 +1,10 @@
 -- What a module declares, as lists, and its context (WebAssembly core specification, "Modules", and
 -- "Conventions" of validation: contexts).
-use Rattle.std.specs.Prelude.{ℕ, Bool, List, false, ◌&&◌, map, nat_le, length, Option, Some, None}
+use Rattle.std.specs.Prelude.{ℕ, Bool, List, true, false, ◌&&◌, map, nat_le, length, Option, Some, None}
 use Rattle.std.specs.Prelude.{slice_get, option_map, option_and_then, unwrap_or, is_some, if◌then◌else◌}
 use Rattle.std.specs.List.{list_all}
 use Rattle.validate_types.specs.Features.{is_type_enabled}
+use Rattle.validate_types.specs.Heap.{number_of}
 use Rattle.validate_types.specs.Types.{Signature}
 use Rattle.validate_types.specs.declared.features.WasmFeatures.{WasmFeatures}
 use Rattle.validate_types.specs.declared.heap.CoreTypeId.{CoreTypeId}
@@ -16,7 +17,7 @@ use Rattle.validate_types.specs.declared.types.TableType.{TableType}
 use Rattle.validate_types.specs.declared.types.ValType.{ValType}
 use Rattle.validate_resources.specs.declared.lists.FuncDecl.{FuncDecl}
 use Rattle.validate_resources.specs.declared.lists.TheConstants.{MAX_TYPES}
-use Rattle.validate_resources.specs.Context.{ModuleContext, signature_of}
+use Rattle.validate_resources.specs.Context.{ModuleContext, signature_of, continuation_of}
 use Rattle.validate_resources.specs.Indices.{is_known, is_id, ref_indices_pass, type_indices_pass, table_indices_pass, global_indices_pass}
 use Rattle.validate_resources.specs.Indices.{sub_indices_pass, ref_with_id, table_with_id, global_with_id}
 use Rattle.validate_resources.specs.Indices.{sub_with_ids}
@@ -64,14 +65,23 @@ abbrev pub is_func_type : Option SubType → Bool
 is_func_type None = false
 is_func_type (Some s) = is_some (signature_of s)
 
--- the type of each function and of each tag is there, and is one of functions
+abbrev pub is_of_func_type : List SubType → Option UnpackedIndex → Bool
+is_of_func_type types None = true
+is_of_func_type types (Some i) = is_func_type (slice_get types (number_of i))
+
+-- a type of continuations is one of what runs a function
+abbrev pub continues_function : List SubType → SubType → Bool
+continues_function types s = is_of_func_type types (continuation_of s)
+
+-- the type of each function, of each tag and of each continuation is there, and is one of functions
 abbrev pub have_func_types : Declared → Bool
 have_func_types d =
     list_all (λ (f : FuncDecl). is_func_type (slice_get d.types f.type_index)) d.functions
     && list_all (λ i. is_func_type (slice_get d.types i)) d.tags
+    && list_all (continues_function d.types) d.types
 
 -- at most 1,000,000 types; each index passes the test, at their number; each supertype is an earlier type of
--- the same kind and sharedness; each function and each tag is of one of functions
+-- the same kind and sharedness; each function, each tag and each continuation is of one of functions
 abbrev pub is_module : (ℕ → UnpackedIndex → Bool) → Declared → Bool
 is_module p d =
     nat_le (length d.types) MAX_TYPES

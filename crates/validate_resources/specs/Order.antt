@@ -10,12 +10,13 @@ use Rattle.validate_types.specs.declared.heap.AbstractHeapType.TheVariants.{Func
 use Rattle.validate_types.specs.declared.heap.AbstractHeapType.TheVariants.{Array as AnyArray, Any}
 use Rattle.validate_types.specs.declared.heap.AbstractHeapType.TheVariants.{Struct as AnyStruct}
 use Rattle.validate_types.specs.declared.heap.AbstractHeapType.TheVariants.{None as NoAny}
+use Rattle.validate_types.specs.declared.heap.AbstractHeapType.TheVariants.{Cont as AnyCont, NoCont}
 use Rattle.validate_types.specs.declared.heap.HeapType.{HeapType}
 use Rattle.validate_types.specs.declared.heap.HeapType.TheVariants.{Abstract, Concrete}
 use Rattle.validate_types.specs.declared.heap.UnpackedIndex.{UnpackedIndex}
 use Rattle.validate_types.specs.declared.refs.RefType.{RefType}
 use Rattle.validate_types.specs.declared.types.CompositeInnerType.{CompositeInnerType}
-use Rattle.validate_types.specs.declared.types.CompositeInnerType.TheVariants.{Func, Array, Struct}
+use Rattle.validate_types.specs.declared.types.CompositeInnerType.TheVariants.{Func, Array, Struct, Cont}
 use Rattle.validate_types.specs.declared.types.CompositeType.{CompositeType}
 use Rattle.validate_types.specs.declared.types.SubType.{SubType}
 use Rattle.validate_types.specs.declared.types.ValType.{ValType}
@@ -38,11 +39,12 @@ is_heap_shared types (Concrete i) = is_shared_at types (number_of i)
 
 -- ---- kinds (Specification, "Composite Types")
 
--- both are of functions, of arrays or of structs
+-- both are of functions, of arrays, of structs or of continuations
 abbrev pub is_same_kind : CompositeInnerType → CompositeInnerType → Bool
 is_same_kind (Func f) (Func g) = true
 is_same_kind (Array a) (Array b) = true
 is_same_kind (Struct fields) (Struct others) = true
+is_same_kind (Cont c) (Cont d) = true
 is_same_kind _ _ = false
 
 -- the abstract type that each type of the kind is below
@@ -50,12 +52,14 @@ abbrev pub abstract_kind : CompositeInnerType → AbstractHeapType
 abstract_kind (Func f) = AnyFunc
 abstract_kind (Array a) = AnyArray
 abstract_kind (Struct fields) = AnyStruct
+abstract_kind (Cont c) = AnyCont
 
 -- the bottom type below each type of the kind
 abbrev pub kind_bottom : CompositeInnerType → AbstractHeapType
 kind_bottom (Func f) = NoFunc
 kind_bottom (Array a) = NoAny
 kind_bottom (Struct fields) = NoAny
+kind_bottom (Cont c) = NoCont
 
 -- ---- supertypes (Specification, "Validation: Types", sub types)
 

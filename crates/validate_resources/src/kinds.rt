@@ -2,10 +2,10 @@
 
 ghost use Rattle.std.specs.Prelude.{◌≡◌};
 ghost use Rattle.std.specs.Option.{option_copied};
-ghost use Rattle.validate_resources.specs.Context.{signature_of};
+ghost use Rattle.validate_resources.specs.Context.{signature_of, continuation_of};
 
 use std::alloc::Global;
-use validate_types::{CompositeInnerType, Error, FuncType, SubType};
+use validate_types::{CompositeInnerType, Error, FuncType, PackedIndex, SubType};
 
 /// What a type takes and gives, if it is one of functions.
 pub fn func_type_of(sub_type: &SubType) -> Option<&FuncType>
@@ -13,7 +13,22 @@ pub fn func_type_of(sub_type: &SubType) -> Option<&FuncType>
 {
     match &sub_type.composite_type.inner {
         CompositeInnerType::Func(func_type) => Some(func_type),
-        CompositeInnerType::Array(_) | CompositeInnerType::Struct(_) => None,
+        CompositeInnerType::Array(_)
+        | CompositeInnerType::Struct(_)
+        | CompositeInnerType::Cont(_) => None,
+    }
+}
+
+/// The index of the function type of a continuation, if the type is one of continuations (a proposal,
+/// "Stack Switching").
+pub fn continuation_of(sub_type: &SubType) -> Option<PackedIndex>
+    ensures { result ≡ continuation_of sub_type.now }
+{
+    match &sub_type.composite_type.inner {
+        CompositeInnerType::Cont(cont_type) => Some(cont_type.0),
+        CompositeInnerType::Func(_)
+        | CompositeInnerType::Array(_)
+        | CompositeInnerType::Struct(_) => None,
     }
 }
 

@@ -2,6 +2,7 @@
 //! lookup over lists.
 #![tactic(auto)]
 
+pub mod declarations;
 pub mod kinds;
 pub mod lists;
 pub mod uses;
@@ -11,6 +12,7 @@ ghost use Rattle.std.specs.Option.{option_copied};
 ghost use Rattle.validate_types.specs.declared.types.ValType.{ValType};
 ghost use Rattle.validate_resources.specs.Context.{ModuleContext, IsLawful, Valid, is_valid_heap};
 
+pub use crate::declarations::ModuleDeclarations;
 pub use crate::lists::{FuncDecl, ModuleLists};
 use validate_types::{
     CoreTypeId, Error, FuncType, GlobalType, HeapType, MemoryType, RefType, SubType, TableType,

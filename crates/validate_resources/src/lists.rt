@@ -6,12 +6,12 @@ mod order;
 ghost use Rattle.std.specs.Prelude.{◌≡◌, ◌<◌, ◌≤◌, ◌&&◌, length, codes, slice_get, Some, None, Ok, true, false, nat_lt, is_ok, IfOk, OnOk, OnErr, IfErr};
 ghost use Rattle.std.specs.List.{list_all};
 ghost use Rattle.validate_resources.specs.Indices.{is_id, unknown_text};
-ghost use Rattle.validate_resources.specs.Lists.{declared_by, is_module, is_func_type, module_of};
+ghost use Rattle.validate_resources.specs.Lists.{declared_by, is_module, is_func_type, continues_function, module_of};
 
 use crate::WasmModuleResources;
-use crate::kinds::func_type_of;
+use crate::kinds::{continuation_of, func_type_of};
 use crate::lists::canonical::{
-    Forms, canonical_heap, canonical_lists, canonical_ref, canonical_type,
+    Forms, canonical_heap, canonical_lists, canonical_ref, canonical_type, number,
 };
 use crate::lists::order::{heap_top, is_heap_shared, is_type_below, supertypes_fit};
 use std::alloc::Global;
@@ -58,8 +58,12 @@ impl ModuleLists {
     ///
     /// It refuses at offset 0: `too many types` for more than [`MAX_TYPES`]; else `unknown type` where
     /// there is no type for an index; else `invalid supertype` where a supertype isn't an earlier
-    /// type or is of another kind or sharedness; else `expected func type` where the type of a function
-    /// or of a tag isn't one of functions. It takes memory for the canonical lists, and refuses where there is none.
+    /// type or is of another kind or sharedness; else `expected func type` where the type of a function,
+    /// of a tag or of a continuation isn't one of functions. It takes memory for the canonical lists, and
+    /// refuses where there is none.
+    ///
+    /// A supertype is taken at its word: that the type fits it isn't looked at, but for kind and
+    /// sharedness, nor whether it is final. The module's other rules are the module validator's.
     pub fn new(
         alloc: Global,
         types: Vec<SubType>,
@@ -182,12 +186,30 @@ fn is_func_type(types: &[SubType], index: u32) -> bool
     }
 }
 
-/// Whether the type of each function and of each tag is one of functions.
+/// Whether the type of each function, of each tag and of each continuation is one of functions.
 fn have_func_types(types: &[SubType], functions: &[FuncDecl], tags: &[u32]) -> bool
     ensures { result ≡ (list_all (λ (f : _). is_func_type (slice_get types.now f.type_index)) functions.now
-        && list_all (λ i. is_func_type (slice_get types.now i)) tags.now) }
+        && list_all (λ i. is_func_type (slice_get types.now i)) tags.now
+        && list_all (continues_function types.now) types.now) }
 {
-    are_functions(types, functions) && are_func_types(types, tags)
+    are_functions(types, functions) && are_func_types(types, tags) && are_of_functions(types)
+}
+
+/// Whether a type is no continuation, or one of a function.
+fn continues_function(types: &[SubType], ty: &SubType) -> bool
+    ensures { result ≡ continues_function types.now ty.now }
+{
+    match continuation_of(ty) {
+        Some(index) => is_func_type(types, number(index.unpack())),
+        None => true,
+    }
+}
+
+/// Whether each continuation is of a function.
+fn are_of_functions(types: &[SubType]) -> bool
+    ensures { result ≡ list_all (continues_function types.now) types.now }
+{
+    types.iter().all(|ty| continues_function(types, ty))
 }
 
 /// Whether the type of each function is one of functions.

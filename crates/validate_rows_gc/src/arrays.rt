@@ -14,13 +14,15 @@ use crate::found::check_measure;
 use crate::types::{AggregateTypes, Wanted, check_aggregate};
 use validate_resources::WasmModuleResources;
 use validate_resources::uses::laws;
-use validate_shapes::aggregates::{array_type_at, check_mutable_array, type_reference};
+use validate_shapes::aggregates::{
+    array_type_at, check_mutable_array, type_reference, wrong_array_packing,
+};
 use validate_shapes::memories::check_data_segment;
 use validate_shapes::tables::element_type_at;
 use validate_shapes::types::Few;
 use validate_stacks::Stacks;
 use validate_types::{AbstractHeapType, Error, FieldType, RefType, StorageType, ValType};
-use validate_visit::{ArrayOp, Sign};
+use validate_visit::ArrayOp;
 
 /// The refusals of arrays of references by operators that read a data segment.
 const NEW_DATA: &'static str =
@@ -39,18 +41,6 @@ fn not_defaultable(stacks: &Stacks, offset: u64, ty: ValType) -> Error
         Ok(text) => Error::with_text(text, offset),
         Err(_) => Error::out_of_memory(offset),
     }
-}
-
-/// The refusal of an array that is packed where it must not be, or isn't where it must be.
-fn wrong_packing(offset: u64, sign: Option<Sign>) -> Error
-    ensures { result.offset ≡ offset }
-{
-    let text = match sign {
-        None => "cannot use array.get with packed storage types",
-        Some(Sign::Signed) => "cannot use array.get_s with non-packed storage types",
-        Some(Sign::Unsigned) => "cannot use array.get_u with non-packed storage types",
-    };
-    Error::new(text, offset)
 }
 
 /// What a data segment holds can be read as values of the array, and the segment is there. It refuses an
@@ -271,7 +261,7 @@ fn array_types<'a, R: WasmModuleResources>(
         ArrayOp::ArrayGet(index) => {
             let element = array_type_at(stacks, resources, offset, index)?;
             if element.element_type.is_packed() {
-                return Err(wrong_packing(offset, None));
+                return Err(wrong_array_packing(offset, None));
             }
             let from = type_reference(stacks, resources, offset, true, index)?;
             Ok(AggregateTypes {
@@ -282,7 +272,7 @@ fn array_types<'a, R: WasmModuleResources>(
         ArrayOp::ArrayGetPacked(sign, index) => {
             let element = array_type_at(stacks, resources, offset, index)?;
             if !element.element_type.is_packed() {
-                return Err(wrong_packing(offset, Some(sign)));
+                return Err(wrong_array_packing(offset, Some(sign)));
             }
             let from = type_reference(stacks, resources, offset, true, index)?;
             Ok(AggregateTypes {

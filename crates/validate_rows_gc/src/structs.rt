@@ -11,11 +11,13 @@ ghost use Rattle.validate_rows_gc.specs.Types.{aggregate_row, IsValidAggregate};
 
 use crate::types::{AggregateTypes, Wanted, check_aggregate};
 use validate_resources::WasmModuleResources;
-use validate_shapes::aggregates::{struct_field_at, struct_type_at, type_reference};
+use validate_shapes::aggregates::{
+    check_mutable_field, struct_field_at, struct_type_at, type_reference, wrong_field_packing,
+};
 use validate_shapes::types::Few;
 use validate_stacks::Stacks;
 use validate_types::{Error, FieldType, ValType};
-use validate_visit::{Sign, StructOp};
+use validate_visit::StructOp;
 
 /// Each field has a default value.
 fn check_defaultable(stacks: &Stacks, offset: u64, fields: &[FieldType]) -> Result<(), Error>
@@ -45,18 +47,6 @@ fn not_defaultable(stacks: &Stacks, offset: u64, ty: ValType) -> Error
         Ok(text) => Error::with_text(text, offset),
         Err(_) => Error::out_of_memory(offset),
     }
-}
-
-/// The refusal of a field that is packed where it must not be, or isn't where it must be.
-fn wrong_packing(offset: u64, sign: Option<Sign>) -> Error
-    ensures { result.offset ≡ offset }
-{
-    let text = match sign {
-        None => "can only use struct `get` with non-packed storage types",
-        Some(Sign::Signed) => "cannot use struct.get_s with non-packed storage types",
-        Some(Sign::Unsigned) => "cannot use struct.get_u with non-packed storage types",
-    };
-    Error::new(text, offset)
 }
 
 /// What an operator on structs takes and gives, by the type and the field that it names.
@@ -91,7 +81,7 @@ fn struct_types<'a, R: WasmModuleResources>(
         StructOp::StructGet(index) => {
             let field = struct_field_at(stacks, resources, offset, index)?;
             if field.element_type.is_packed() {
-                return Err(wrong_packing(offset, None));
+                return Err(wrong_field_packing(offset, None));
             }
             let from = type_reference(stacks, resources, offset, true, index.struct_type_index)?;
             (
@@ -102,7 +92,7 @@ fn struct_types<'a, R: WasmModuleResources>(
         StructOp::StructGetPacked(sign, index) => {
             let field = struct_field_at(stacks, resources, offset, index)?;
             if !field.element_type.is_packed() {
-                return Err(wrong_packing(offset, Some(sign)));
+                return Err(wrong_field_packing(offset, Some(sign)));
             }
             let from = type_reference(stacks, resources, offset, true, index.struct_type_index)?;
             (
@@ -112,12 +102,7 @@ fn struct_types<'a, R: WasmModuleResources>(
         }
         StructOp::StructSet(index) => {
             let field = struct_field_at(stacks, resources, offset, index)?;
-            if !field.mutable {
-                return Err(Error::new(
-                    "invalid struct modification: struct field is immutable",
-                    offset,
-                ));
-            }
+            check_mutable_field(offset, field)?;
             let into = type_reference(stacks, resources, offset, true, index.struct_type_index)?;
             (
                 Wanted::Few(Few::Two(into, field.element_type.unpack())),

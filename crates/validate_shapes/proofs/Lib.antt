@@ -2,6 +2,7 @@ pub mod Rows
 pub mod Meeting
 pub mod Found
 pub mod Branching
+pub mod Carrying
 pub mod Looking
 pub mod Reaching
 pub mod Opening

@@ -20,7 +20,7 @@ use validate_types::{
     CompositeInnerType, Error, FieldType, HeapType, RefType, StructType, SubType, UnpackedIndex,
     ValType,
 };
-use validate_visit::FieldIndex;
+use validate_visit::{FieldIndex, Sign};
 
 /// The struct that a type is, if it is one.
 fn struct_type_of(sub_type: &SubType) -> Option<&StructType>
@@ -28,7 +28,8 @@ fn struct_type_of(sub_type: &SubType) -> Option<&StructType>
 {
     match &sub_type.composite_type.inner {
         CompositeInnerType::Struct(struct_type) => Some(struct_type),
-        CompositeInnerType::Func(_) | CompositeInnerType::Array(_) => None,
+        CompositeInnerType::Func(_) | CompositeInnerType::Array(_) | CompositeInnerType::Cont(_) =>
+            None,
     }
 }
 
@@ -38,7 +39,8 @@ fn element_of(sub_type: &SubType) -> Option<FieldType>
 {
     match &sub_type.composite_type.inner {
         CompositeInnerType::Array(array_type) => Some(array_type.0),
-        CompositeInnerType::Func(_) | CompositeInnerType::Struct(_) => None,
+        CompositeInnerType::Func(_) | CompositeInnerType::Struct(_) | CompositeInnerType::Cont(_) =>
+            None,
     }
 }
 
@@ -158,6 +160,46 @@ pub fn check_mutable_array(offset: u64, places: FieldType) -> Result<(), Error>
     } else {
         Err(Error::new("invalid array modification: array is immutable", offset))
     }
+}
+
+/// Refuses a field that can't be written.
+pub fn check_mutable_field(offset: u64, field: FieldType) -> Result<(), Error>
+    ensures passed { OnOk result (field.mutable ≡ true) }
+    ensures refused { OnErr result (field.mutable ≡ false) }
+    ensures offset { IfErr result (λ e. e.offset ≡ offset) }
+{
+    if field.mutable {
+        Ok(())
+    } else {
+        Err(Error::new(
+            "invalid struct modification: struct field is immutable",
+            offset,
+        ))
+    }
+}
+
+/// The refusal of a field that is packed where it must not be, or isn't where it must be.
+pub fn wrong_field_packing(offset: u64, sign: Option<Sign>) -> Error
+    ensures { result.offset ≡ offset }
+{
+    let text = match sign {
+        None => "can only use struct `get` with non-packed storage types",
+        Some(Sign::Signed) => "cannot use struct.get_s with non-packed storage types",
+        Some(Sign::Unsigned) => "cannot use struct.get_u with non-packed storage types",
+    };
+    Error::new(text, offset)
+}
+
+/// The refusal of an array that is packed where it must not be, or isn't where it must be.
+pub fn wrong_array_packing(offset: u64, sign: Option<Sign>) -> Error
+    ensures { result.offset ≡ offset }
+{
+    let text = match sign {
+        None => "cannot use array.get with packed storage types",
+        Some(Sign::Signed) => "cannot use array.get_s with non-packed storage types",
+        Some(Sign::Unsigned) => "cannot use array.get_u with non-packed storage types",
+    };
+    Error::new(text, offset)
 }
 
 /// A reference, or one that may be null, to the type at this index, which has to be declared.

@@ -11,13 +11,15 @@ use validate_stacks::Stacks;
 use validate_types::{Error, FuncType, ValType};
 
 /// The type of a tag, which has to be declared (wasmparser's `tag_at`).
-fn tag_at<'a, R: WasmModuleResources>(
+pub fn tag_at<'a, R: WasmModuleResources>(
     stacks: &Stacks,
     resources: &'a R,
     offset: u64,
     tag_index: u32,
 ) -> Result<&'a FuncType, Error>
     ensures found { IfOk result (λ f. (R.context resources.now).tag_at tag_index ≡ Some f.now) }
+    ensures params { IfOk result (λ f. AllByRecursion (Valid (R.context resources.now)) f.now.params) }
+    ensures results { IfOk result (λ f. AllByRecursion (Valid (R.context resources.now)) f.now.results) }
     ensures refused { OnErr result ((R.context resources.now).tag_at tag_index ≡ None) }
     ensures offset { IfErr result (λ e. e.offset ≡ offset) }
 {

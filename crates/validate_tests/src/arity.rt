@@ -8,7 +8,7 @@ use std::process::Abort;
 use std::test::Fail;
 use wasmparser_validate::operators::OperatorValidatorAllocations;
 use wasmparser_validate::resources::kinds::func_type_of;
-use wasmparser_validate::types::{RefType, SubType};
+use wasmparser_validate::types::{ContType, RefType, SubType, UnpackedIndex};
 use wasmparser_validate::visit::{BlockType, FrameKind, ModuleArity};
 
 /// How many operands a function of this type takes.
@@ -56,6 +56,9 @@ fn expect_body(
     let body = v.with_resources(&setting.lists, 7);
     expect_names(rt, &body);
     expect(rt, body.sub_type_of_ref_type(&RefType::FUNCREF).is_none());
+    if let Some(index) = UnpackedIndex::Module(0).pack() {
+        expect(rt, body.func_type_of_cont_type(&ContType(index)).is_none());
+    }
     expect_same(rt, height_of(&body), 1);
     Ok(v.into_allocations())
 }

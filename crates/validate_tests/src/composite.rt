@@ -11,9 +11,9 @@ use std::test::Fail;
 use wasmparser_validate::operators::{OperatorValidator, OperatorValidatorAllocations};
 use wasmparser_validate::resources::{FuncDecl, ModuleLists, WasmModuleResources};
 use wasmparser_validate::types::{
-    AbstractHeapType, ArrayType, CompositeInnerType, CompositeType, CoreTypeId, Error, FieldType,
-    HeapType, RefType, StorageType, StructType, SubType, TableType, UnpackedIndex, ValType,
-    WasmFeatures,
+    AbstractHeapType, ArrayType, CompositeInnerType, CompositeType, ContType, CoreTypeId, Error,
+    FieldType, HeapType, RefType, StorageType, StructType, SubType, TableType, UnpackedIndex,
+    ValType, WasmFeatures,
 };
 
 /// A type of the module, by its index.
@@ -75,6 +75,14 @@ fn struct_of(rt: &impl AllocGlobal, fields: &[FieldType]) -> Result<CompositeInn
 /// An array type of such fields.
 fn array_of(field: FieldType) -> CompositeInnerType {
     CompositeInnerType::Array(ArrayType(field))
+}
+
+/// The type of the continuations of the type at this index.
+fn cont_of(index: u32) -> Result<CompositeInnerType, Fail> {
+    match UnpackedIndex::Module(index).pack() {
+        Some(index) => Ok(CompositeInnerType::Cont(ContType(index))),
+        None => Err(Fail::new("an index that no type can hold")),
+    }
 }
 
 /// The lookup over these types and functions of the types at these indices, with a table of functions.
@@ -260,7 +268,7 @@ fn top_types(rt: HostRuntime) -> Result<(), Fail> {
 /// The last field of a struct, or that of an array.
 fn last_field(lists: &ModuleLists, index: u32) -> Option<FieldType> {
     match &lists.sub_type_at(index)?.composite_type.inner {
-        CompositeInnerType::Func(_) => None,
+        CompositeInnerType::Func(_) | CompositeInnerType::Cont(_) => None,
         CompositeInnerType::Array(array) => Some(array.0),
         CompositeInnerType::Struct(fields) => fields.fields.last().copied(),
     }
@@ -416,4 +424,62 @@ fn expect_named(
         .map_or("accepted", |refusal| refusal.message());
     expect_same_in(rt, found, text, &line);
     Ok(v.into_allocations())
+}
+
+/// A continuation is of a function, whatever else its index names.
+#[test]
+fn continuations_are_of_functions(rt: HostRuntime) -> Result<(), Fail> {
+    for (index, text) in [
+        (0, "kept"),
+        (1, "expected func type"),
+        (4, "expected func type"),
+        (6, "expected func type"),
+        (7, "unknown type"),
+    ] {
+        expect_seventh(&rt, declared(cont_of(index)?, false, None), &[], text)?;
+    }
+    expect_seventh(
+        &rt,
+        declared(cont_of(0)?, false, Some(0)),
+        &[],
+        "invalid supertype",
+    )?;
+    expect_seventh(
+        &rt,
+        declared(cont_of(0)?, false, None),
+        &[6],
+        "expected func type",
+    )
+}
+
+/// The six types, and as type 6 the continuations of type 0.
+fn with_continuations(rt: &impl AllocGlobal) -> Result<ModuleLists, Fail> {
+    let mut types = six_types(rt)?;
+    types.push(declared(cont_of(0)?, false, None))?;
+    Ok(lookup(rt, types, &[])??)
+}
+
+/// What is below the continuations of a type, and above them.
+#[test]
+fn order_of_continuations(rt: HostRuntime) -> Result<(), Fail> {
+    let lists = with_continuations(&rt)?;
+    let none = plain(AbstractHeapType::NoCont);
+    let all = plain(AbstractHeapType::Cont);
+    for (low, high, below) in [
+        (by_id(6), all, true),
+        (none, by_id(6), true),
+        (none, all, true),
+        (by_id(6), by_id(6), true),
+        (by_id(6), by_id(0), false),
+        (by_id(0), by_id(6), false),
+        (by_id(6), plain(AbstractHeapType::Func), false),
+        (by_id(6), plain(AbstractHeapType::Any), false),
+        (plain(AbstractHeapType::NoFunc), by_id(6), false),
+        (all, by_id(6), false),
+    ] {
+        let found = lists.is_subtype(reference(low), reference(high));
+        expect_same_in(&rt, found, below, &(low, high));
+    }
+    expect_same(&rt, lists.top_type(&by_id(6)), all);
+    Ok(())
 }

@@ -1,12 +1,12 @@
 -- How types print (the crate's own).
 use Rattle.std.specs.Prelude.{ℕ, Bool, true, false, List, ◌++◌, codes, Some, None}
-use Rattle.std.specs.Fmt.{decimal}
+use Rattle.std.specs.Fmt.{decimal, digits}
 use Rattle.validate_types.specs.declared.heap.HeapType.{HeapType}
 use Rattle.validate_types.specs.declared.heap.HeapType.TheVariants.{Abstract, Concrete}
 use Rattle.validate_types.specs.declared.heap.UnpackedIndex.{UnpackedIndex}
 use Rattle.validate_types.specs.declared.heap.UnpackedIndex.TheVariants.{Module, Id}
 use Rattle.validate_types.specs.declared.types.CompositeInnerType.{CompositeInnerType}
-use Rattle.validate_types.specs.declared.types.CompositeInnerType.TheVariants.{Func, Array, Struct}
+use Rattle.validate_types.specs.declared.types.CompositeInnerType.TheVariants.{Func, Array, Struct, Cont}
 use Rattle.validate_types.specs.declared.types.MaybeType.{MaybeType}
 use Rattle.validate_types.specs.declared.types.MaybeType.TheVariants.{Bottom, UnknownRef, Known}
 use Rattle.validate_types.specs.declared.refs.RefType.{RefType}
@@ -16,6 +16,7 @@ use Rattle.validate_types.specs.declared.types.ValType.{ValType}
 use Rattle.validate_types.specs.declared.types.ValType.TheVariants.{I32, I64, F32, F64, V128, Ref}
 use Rattle.validate_types.specs.Abstract.{heap_name}
 use Rattle.validate_types.specs.Refs.{wat_of}
+use Rattle.validate_types.specs.Refusal.{Refusal}
 
 abbrev pub index_text : UnpackedIndex → List ℕ
 index_text (Module n) = codes "(module " ++ decimal n ++ codes ")"
@@ -55,3 +56,8 @@ abbrev pub kind_text : CompositeInnerType → List ℕ
 kind_text (Func f) = codes "func"
 kind_text (Array a) = codes "array"
 kind_text (Struct fields) = codes "struct"
+kind_text (Cont c) = codes "cont"
+
+-- a refusal's text, and its offset
+abbrev pub refusal_text : Refusal → List ℕ
+refusal_text e = e.text ++ codes " (at offset 0x" ++ digits 16 false e.offset ++ codes ")"

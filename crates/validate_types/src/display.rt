@@ -1,13 +1,14 @@
-//! How types print.
+//! How types and refusals print.
 
 ghost use Rattle.std.specs.Prelude.{Some};
 ghost use Rattle.std.specs.Fmt.{DisplaysOnOk};
-ghost use Rattle.validate_types.specs.Display.{index_text, reference_text, value_text, operand_text, storage_text, kind_text};
+ghost use Rattle.validate_types.specs.Display.{index_text, reference_text, value_text, operand_text, storage_text, kind_text, refusal_text};
 
+use crate::error::Error;
 use crate::heap::{HeapType, UnpackedIndex};
 use crate::refs::RefType;
 use crate::types::{CompositeInnerType, MaybeType, StorageType, SubType, ValType};
-use std::fmt;
+use std::{error, fmt};
 
 /// `(module N)` or `(id N)`.
 impl fmt::Display for UnpackedIndex {
@@ -99,7 +100,7 @@ impl fmt::Display for StorageType {
     }
 }
 
-/// The kind of the type: `func`, `array` or `struct`.
+/// The kind of the type: `func`, `array`, `struct` or `cont`.
 impl fmt::Display for SubType {
     ghost output = { λ s. Some (kind_text s.composite_type.inner) };
 
@@ -108,6 +109,20 @@ impl fmt::Display for SubType {
             CompositeInnerType::Func(_) => f.write_str("func"),
             CompositeInnerType::Array(_) => f.write_str("array"),
             CompositeInnerType::Struct(_) => f.write_str("struct"),
+            CompositeInnerType::Cont(_) => f.write_str("cont"),
         }
     }
 }
+
+/// The text of the refusal, and the offset in hexadecimal digits, as in `type mismatch (at offset 0x1f)`.
+impl fmt::Display for Error {
+    ghost output = { λ e. Some (refusal_text e) };
+
+    fn fmt<W: fmt::Write>(&self, f: &mut fmt::Formatter<W>) -> fmt::Result {
+        let message = self.message();
+        let offset = self.offset();
+        write!(f, "{message} (at offset 0x{offset:x})")
+    }
+}
+
+impl error::Error for Error {}

@@ -24,6 +24,8 @@ pub enum Gate {
     SaturatingFloatToInt,
     /// The proposal `threads`.
     Threads,
+    /// The proposal `shared_everything_threads`.
+    SharedEverythingThreads,
     /// The proposal `exceptions`.
     Exceptions,
     /// The proposal `legacy_exceptions`.
@@ -34,6 +36,8 @@ pub enum Gate {
     FunctionReferences,
     /// The proposal `gc`.
     Gc,
+    /// The proposal `stack_switching`.
+    StackSwitching,
     /// The proposal `memory_control`.
     MemoryControl,
     /// The proposal `wide_arithmetic`.
@@ -57,11 +61,13 @@ impl Gate {
             Gate::SignExtension => features.sign_extension(),
             Gate::SaturatingFloatToInt => features.saturating_float_to_int(),
             Gate::Threads => features.threads(),
+            Gate::SharedEverythingThreads => features.shared_everything_threads(),
             Gate::Exceptions => features.exceptions(),
             Gate::LegacyExceptions => features.legacy_exceptions(),
             Gate::TailCall => features.tail_call(),
             Gate::FunctionReferences => features.function_references(),
             Gate::Gc => features.gc(),
+            Gate::StackSwitching => features.stack_switching(),
             Gate::MemoryControl => features.memory_control(),
             Gate::WideArithmetic => features.wide_arithmetic(),
             Gate::AcquireReleaseAtomics => features.acquire_release_atomics(),
@@ -80,11 +86,13 @@ impl Gate {
                 "saturating float to int conversions support is not enabled"
             }
             Gate::Threads => "threads support is not enabled",
+            Gate::SharedEverythingThreads => { "shared-everything-threads support is not enabled" }
             Gate::Exceptions => "exceptions support is not enabled",
             Gate::LegacyExceptions => "legacy exceptions support is not enabled",
             Gate::TailCall => "tail calls support is not enabled",
             Gate::FunctionReferences => "function references support is not enabled",
             Gate::Gc => "gc support is not enabled",
+            Gate::StackSwitching => "stack switching support is not enabled",
             Gate::MemoryControl => "memory control support is not enabled",
             Gate::WideArithmetic => "wide arithmetic support is not enabled",
             Gate::AcquireReleaseAtomics => "acquire-release atomics support is not enabled",

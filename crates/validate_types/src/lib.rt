@@ -18,6 +18,7 @@ pub use crate::heap::{AbstractHeapType, CoreTypeId, HeapType, PackedIndex, Unpac
 pub use crate::refs::RefType;
 pub use crate::signature::func_signature_matches;
 pub use crate::types::{
-    ArrayType, CompositeInnerType, CompositeType, FieldType, FuncType, GlobalType, MaybeType,
-    MemoryType, StorageType, StructType, SubType, TableType, ValType,
+    ArrayType, CompositeInnerType, CompositeType, ContType, FieldType, FuncType, GlobalType,
+    MaybeType, MemoryType, StorageType, StructType, SubType, TableType, ValType,
 };
+pub use bitflags::Flags;

@@ -209,8 +209,13 @@ impl Model for StructType {
     ghost view = { λ s. s.fields.items };
 }
 
+/// The type of a continuation (wasmparser's `ContType`; a proposal, "Stack Switching": continuation types):
+/// the index of the function type of what it has still to run.
+#[derive(Clone, Copy, Debug, PartialEq, Eq)]
+pub struct ContType(pub PackedIndex);
+
 /// What a type is made of (wasmparser's `CompositeInnerType`; WebAssembly core specification, "Composite
-/// Types"). Continuations are not there yet.
+/// Types", and the proposal "Stack Switching" for continuations).
 #[derive(Debug, Drop)]
 pub enum CompositeInnerType {
     /// A function type.
@@ -219,6 +224,8 @@ pub enum CompositeInnerType {
     Array(ArrayType),
     /// A struct type.
     Struct(StructType),
+    /// A continuation type.
+    Cont(ContType),
 }
 
 /// What a type is made of, and its mark as shared.
@@ -233,7 +240,7 @@ pub struct CompositeType {
 /// A type as a module declares it (wasmparser's `SubType`).
 #[derive(Debug, Drop)]
 pub struct SubType {
-    /// Whether no type may be declared below it.
+    /// Whether no type may be declared below it. Nothing here looks at it: it is for the module validator.
     pub is_final: bool,
     /// The type that it is declared below, if there is one.
     pub supertype_idx: Option<PackedIndex>,

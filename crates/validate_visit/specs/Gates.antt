@@ -5,13 +5,17 @@ use Rattle.validate_types.specs.declared.gate.Gate.TheVariants.{Mvp, Floats, Ref
 use Rattle.validate_types.specs.declared.gate.Gate.TheVariants.{BulkMemoryOpt, SignExtension}
 use Rattle.validate_types.specs.declared.gate.Gate.TheVariants.{SaturatingFloatToInt, Threads, TailCall}
 use Rattle.validate_types.specs.declared.gate.Gate.TheVariants.{Exceptions, LegacyExceptions}
+use Rattle.validate_types.specs.declared.gate.Gate.TheVariants.{SharedEverythingThreads}
 use Rattle.validate_types.specs.declared.gate.Gate.TheVariants.{FunctionReferences, Gc, MemoryControl}
-use Rattle.validate_types.specs.declared.gate.Gate.TheVariants.{WideArithmetic, AcquireReleaseAtomics}
+use Rattle.validate_types.specs.declared.gate.Gate.TheVariants.{StackSwitching, WideArithmetic}
+use Rattle.validate_types.specs.declared.gate.Gate.TheVariants.{AcquireReleaseAtomics}
 use Rattle.validate_visit.specs.declared.numbers.NumberType.{NumberType}
 use Rattle.validate_visit.specs.declared.numbers.NumberType.TheVariants.{I32, I64, F32, F64}
 use Rattle.validate_visit.specs.declared.op.Op.{Op}
 use Rattle.validate_visit.specs.declared.op.Op.TheVariants.{Control, Numeric, Convert, Memory, Atomic}
 use Rattle.validate_visit.specs.declared.op.Op.TheVariants.{Reference, Table, Struct, Array, Exception}
+use Rattle.validate_visit.specs.declared.op.Op.TheVariants.{Continuation}
+use Rattle.validate_visit.specs.declared.op.Op.TheVariants.{Shared}
 use Rattle.validate_visit.specs.declared.op.AtomicOp.{AtomicOp}
 use Rattle.validate_visit.specs.declared.op.AtomicOp.TheVariants.{Pause}
 use Rattle.validate_visit.specs.declared.op.ControlOp.{ControlOp}
@@ -122,3 +126,5 @@ gate_of (Table op) = table_gate op
 gate_of (Struct op) = Gc
 gate_of (Array op) = Gc
 gate_of (Exception op) = exception_gate op
+gate_of (Continuation op) = StackSwitching
+gate_of (Shared op) = SharedEverythingThreads

@@ -16,6 +16,8 @@ use Rattle.validate_visit.specs.declared.frame.BlockType.TheVariants.{Empty, Val
 use Rattle.validate_visit.specs.declared.op.Op.{Op}
 use Rattle.validate_visit.specs.declared.op.Op.TheVariants.{Control, Numeric, Convert, Memory, Atomic}
 use Rattle.validate_visit.specs.declared.op.Op.TheVariants.{Reference, Table, Struct, Array, Exception}
+use Rattle.validate_visit.specs.declared.op.Op.TheVariants.{Continuation}
+use Rattle.validate_visit.specs.declared.op.Op.TheVariants.{Shared}
 use Rattle.validate_visit.specs.declared.op.ControlOp.{ControlOp}
 use Rattle.validate_visit.specs.declared.op.ControlOp.TheVariants.{Unreachable, Nop, Block, Loop, If, Else}
 use Rattle.validate_visit.specs.declared.op.ControlOp.TheVariants.{End, Br, BrIf, BrTable as BrTableOp}
@@ -55,6 +57,12 @@ use Rattle.validate_visit.specs.declared.op.ArrayOp.TheVariants.{ArrayNewData, A
 use Rattle.validate_visit.specs.declared.op.ArrayOp.TheVariants.{ArrayGetPacked, ArraySet, ArrayLen}
 use Rattle.validate_visit.specs.declared.op.ArrayOp.TheVariants.{ArrayFill, ArrayCopy, ArrayInitData}
 use Rattle.validate_visit.specs.declared.op.ArrayOp.TheVariants.{ArrayInitElem}
+use Rattle.validate_visit.specs.declared.op.ContinuationOp.{ContinuationOp}
+use Rattle.validate_visit.specs.declared.op.ContinuationOp.TheVariants.{ContNew, ContBind, Suspend, Resume}
+use Rattle.validate_visit.specs.declared.op.ContinuationOp.TheVariants.{ResumeThrow, ResumeThrowRef, Switch}
+use Rattle.validate_visit.specs.declared.resume.Handle.{Handle}
+use Rattle.validate_visit.specs.declared.resume.Handle.TheVariants.{OnLabel, OnSwitch}
+use Rattle.validate_visit.specs.declared.resume.ResumeTable.{ResumeTable}
 use Rattle.validate_visit.specs.declared.op.ExceptionOp.{ExceptionOp}
 use Rattle.validate_visit.specs.declared.op.ExceptionOp.TheVariants.{TryTable as TryTableOp, Throw, ThrowRef}
 use Rattle.validate_visit.specs.declared.op.ExceptionOp.TheVariants.{Try, Catch as CatchOp, CatchAll}
@@ -63,6 +71,11 @@ use Rattle.validate_types.specs.declared.refs.RefType.{RefType}
 use Rattle.validate_visit.specs.declared.op.TableOp.{TableOp}
 use Rattle.validate_visit.specs.declared.op.TableOp.TheVariants.{TableGet, TableSet, TableGrow, TableSize}
 use Rattle.validate_visit.specs.declared.op.TableOp.TheVariants.{TableFill, TableInit, ElemDrop, TableCopy}
+use Rattle.validate_visit.specs.declared.shared.SharedOp.{SharedOp}
+use Rattle.validate_visit.specs.declared.shared.SharedOp.TheVariants.{Global as SharedGlobal, RefI31Shared}
+use Rattle.validate_visit.specs.declared.shared.SharedOp.TheVariants.{Table as SharedTable}
+use Rattle.validate_visit.specs.declared.shared.SharedOp.TheVariants.{Struct as SharedStruct}
+use Rattle.validate_visit.specs.declared.shared.SharedOp.TheVariants.{Array as SharedArray}
 use Rattle.validate_visit.specs.declared.op.NumericOp.TheVariants.{I32Const, I64Const, F32Const, F64Const}
 
 -- an index
@@ -246,6 +259,28 @@ is_module_exception CatchAll = true
 is_module_exception (Delegate i) = is_index i
 is_module_exception (Rethrow i) = is_index i
 
+-- a tag, and a label where the handler names one
+abbrev pub is_module_handle : Handle → Bool
+is_module_handle (OnLabel tag label) = is_index tag && is_index label
+is_module_handle (OnSwitch tag) = is_index tag
+
+abbrev pub is_module_continuation : ContinuationOp → Bool
+is_module_continuation (ContNew i) = is_index i
+is_module_continuation (ContBind i j) = is_index i && is_index j
+is_module_continuation (Suspend i) = is_index i
+is_module_continuation (Resume i t) = is_index i && list_all is_module_handle t.handlers.now
+is_module_continuation (ResumeThrow i j t) =
+    is_index i && is_index j && list_all is_module_handle t.handlers.now
+is_module_continuation (ResumeThrowRef i t) = is_index i && list_all is_module_handle t.handlers.now
+is_module_continuation (Switch i j) = is_index i && is_index j
+
+abbrev pub is_module_shared : SharedOp → Bool
+is_module_shared (SharedGlobal access ordering i) = is_index i
+is_module_shared (SharedTable access ordering i) = is_index i
+is_module_shared (SharedStruct access ordering field) = is_module_field field
+is_module_shared (SharedArray access ordering i) = is_index i
+is_module_shared RefI31Shared = true
+
 abbrev pub is_module_op : Op → Bool
 is_module_op (Control op) = is_module_control op
 is_module_op (Numeric op) = is_module_numeric op
@@ -257,3 +292,5 @@ is_module_op (Table op) = is_module_table op
 is_module_op (Struct op) = is_module_struct op
 is_module_op (Array op) = is_module_array op
 is_module_op (Exception op) = is_module_exception op
+is_module_op (Continuation op) = is_module_continuation op
+is_module_op (Shared op) = is_module_shared op

@@ -8,6 +8,8 @@ use Rattle.validate_visit.specs.declared.frame.FrameKind.TheVariants.{LegacyTry,
 use Rattle.validate_visit.specs.declared.op.Op.{Op}
 use Rattle.validate_visit.specs.declared.op.Op.TheVariants.{Control, Numeric, Convert, Memory, Atomic}
 use Rattle.validate_visit.specs.declared.op.Op.TheVariants.{Reference, Table, Struct, Array, Exception}
+use Rattle.validate_visit.specs.declared.op.Op.TheVariants.{Continuation}
+use Rattle.validate_visit.specs.declared.op.Op.TheVariants.{Shared}
 use Rattle.validate_visit.specs.declared.op.ControlOp.{ControlOp}
 use Rattle.validate_visit.specs.declared.op.ControlOp.TheVariants.{Block as BlockOp, Loop as LoopOp}
 use Rattle.validate_visit.specs.declared.op.ControlOp.TheVariants.{If as IfOp, Else as ElseOp, End}
@@ -131,6 +133,8 @@ nesting (Table op) = Stays
 nesting (Struct op) = Stays
 nesting (Array op) = Stays
 nesting (Exception op) = exception_nesting op
+nesting (Continuation op) = Stays
+nesting (Shared op) = Stays
 
 -- Reading from an open outermost frame: openers nest, `else` stands in an `if` part, `catch` and
 -- `catch_all` in a `try` or `catch` part, `delegate` closes a `try` part, `end` closes any, and nothing

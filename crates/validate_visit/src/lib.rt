@@ -15,13 +15,15 @@ pub mod numbers;
 pub mod numeric;
 pub mod op;
 pub mod order;
+pub mod resume;
+pub mod shared;
 
 pub use crate::br_table::{BrTable, BrTableTargets, IncompleteTable};
 pub use crate::catch::{Catch, TryTable};
 pub use crate::frame::{BlockType, Frame, FrameKind};
 pub use crate::frame_stack::FrameStack;
 pub use crate::ieee::{Ieee32, Ieee64};
-pub use crate::immediates::has_module_immediates;
+pub use crate::immediates::{has_module_immediates, have_module_immediates};
 pub use crate::memory::{AtomicAccess, AtomicRmwOp, MemArg, MemArgTarget, Ordering};
 pub use crate::module_arity::ModuleArity;
 pub use crate::numbers::{FloatType, IntegerType, NumberType, PackedInteger, Sign};
@@ -30,7 +32,9 @@ pub use crate::numeric::{
     IntegerUnaryOp,
 };
 pub use crate::op::{
-    ArrayOp, AtomicOp, BranchCast, ControlOp, ConvertOp, ExceptionOp, FieldIndex, MemoryOp,
-    NumericOp, Op, ReferenceOp, StructOp, TableOp,
+    ArrayOp, AtomicOp, BranchCast, ContinuationOp, ControlOp, ConvertOp, ExceptionOp, FieldIndex,
+    MemoryOp, NumericOp, Op, ReferenceOp, StructOp, TableOp,
 };
 pub use crate::order::is_well_ordered;
+pub use crate::resume::{Handle, ResumeTable};
+pub use crate::shared::{FieldAccess, GlobalAccess, SharedOp, SharedRmwOp, TableAccess};

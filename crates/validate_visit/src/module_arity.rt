@@ -5,12 +5,14 @@ ghost use Rattle.validate_types.specs.Types.{Signature};
 ghost use Rattle.std.specs.Option.{option_copied, ForSome};
 ghost use Rattle.validate_types.specs.declared.heap.CoreTypeId.{CoreTypeId};
 ghost use Rattle.validate_types.specs.declared.types.SubType.{SubType};
+ghost use Rattle.validate_types.specs.Heap.{id_of};
+ghost use Rattle.validate_types.specs.Kinds.{signature_of};
 ghost use Rattle.validate_visit.specs.Arity.{id_in, arity_of};
 ghost use Rattle.validate_visit.specs.declared.frame.BlockType.{BlockType};
 ghost use Rattle.validate_visit.specs.declared.frame.FrameKind.{FrameKind};
 
 use crate::frame::{BlockType, FrameKind};
-use validate_types::{RefType, SubType};
+use validate_types::{ContType, FuncType, RefType, SubType};
 
 /// Knows what says how many operands an operator of a body takes and gives (wasmparser's
 /// `ModuleArity`): the types that it names, and the open frames.
@@ -45,6 +47,13 @@ pub trait ModuleArity {
     /// The type declared at this index, or None past the end.
     fn sub_type_at(&self, type_index: u32) -> Option<&SubType>
         ensures { option_copied result ≡ type_at self.now type_index };
+
+    /// The function type of a continuation, by the id in its type, which the module has to know; None where
+    /// the index in it is none, and where the id names no function type.
+    fn func_type_of_cont_type(&self, cont_type: &ContType) -> Option<&FuncType>
+        requires { ForSome (id_of cont_type.now.0) (λ id. IsSome (type_of_id self.now id)) }
+        ensures { option_copied result ≡ option_and_then signature_of
+            (option_and_then (type_of_id self.now) (id_of cont_type.now.0)) };
 
     /// The type that the reference points to by its id, which the module has to know; None where it
     /// points to an abstract type, or to a type by its index.

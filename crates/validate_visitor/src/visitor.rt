@@ -10,16 +10,19 @@ ghost use Rattle.validate_visit.specs.declared.numbers.Sign.TheVariants.{Signed,
 
 use validate_types::{HeapType, RefType, ValType};
 use validate_visit::{
-    ArrayOp, AtomicRmwOp, BlockType, BrTable, ControlOp, ConvertOp, ExceptionOp, FloatBinaryOp,
-    FloatComparisonOp, FloatType, FloatUnaryOp, Ieee32, Ieee64, IntegerBinaryOp,
-    IntegerComparisonOp, IntegerType, IntegerUnaryOp, MemArg, MemoryOp, NumberType, Op, Ordering,
-    ReferenceOp, StructOp, TableOp, TryTable,
+    ArrayOp, AtomicRmwOp, BlockType, BrTable, ContinuationOp, ControlOp, ConvertOp, ExceptionOp,
+    FieldAccess, FloatBinaryOp, FloatComparisonOp, FloatType, FloatUnaryOp, GlobalAccess, Ieee32,
+    Ieee64, IntegerBinaryOp, IntegerComparisonOp, IntegerType, IntegerUnaryOp, MemArg, MemoryOp,
+    NumberType, Op, Ordering, ReferenceOp, ResumeTable, SharedOp, SharedRmwOp, StructOp,
+    TableAccess, TableOp, TryTable,
 };
 
 /// Visits operators (wasmparser's `VisitOperator`): one call for each operator, with its immediates.
 ///
 /// Its meaning is two relations that the implementation gives: `can_visit` says at which visitors an
-/// operator may be visited, and `visits` what the visit answers and leaves.
+/// operator may be visited, and `visits` what the visit answers and leaves. Of the validator `can_visit` is
+/// the same for each operator: a frame is open, the lookup is the one that it was made with, and no
+/// attempt is pending that has something to undo.
 pub trait VisitOperator<'a> {
     /// What a visit answers.
     type Output;
@@ -1893,6 +1896,297 @@ pub trait VisitOperator<'a> {
     fn visit_rethrow(&mut self, relative_depth: u32) -> Self::Output
         requires { can_visit self.old (Op.Exception (ExceptionOp.Rethrow relative_depth)) }
         ensures { visits self.old (Op.Exception (ExceptionOp.Rethrow relative_depth)) result self.new };
+
+    /// `cont.new`: `[(ref null F)] -> [(ref N)]`, where F is the function type of N
+    fn visit_cont_new(&mut self, type_index: u32) -> Self::Output
+        requires { can_visit self.old (Op.Continuation (ContinuationOp.ContNew type_index)) }
+        ensures { visits self.old (Op.Continuation (ContinuationOp.ContNew type_index)) result self.new };
+
+    /// `cont.bind`: `[t* (ref null A)] -> [(ref B)]`, where t* are the parameters of A that B doesn't take
+    fn visit_cont_bind(&mut self, argument_index: u32, result_index: u32) -> Self::Output
+        requires { can_visit self.old (Op.Continuation (ContinuationOp.ContBind argument_index result_index)) }
+        ensures { visits self.old (Op.Continuation (ContinuationOp.ContBind argument_index result_index)) result self.new };
+
+    /// `suspend`: from the parameters of the tag to its results
+    fn visit_suspend(&mut self, tag_index: u32) -> Self::Output
+        requires { can_visit self.old (Op.Continuation (ContinuationOp.Suspend tag_index)) }
+        ensures { visits self.old (Op.Continuation (ContinuationOp.Suspend tag_index)) result self.new };
+
+    /// `resume`: `[t* (ref null N)] -> [u*]`, where N is a continuation of `[t*] -> [u*]`
+    fn visit_resume(&mut self, cont_type_index: u32, resume_table: ResumeTable<'a>) -> Self::Output
+        requires { can_visit self.old (Op.Continuation (ContinuationOp.Resume cont_type_index resume_table)) }
+        ensures { visits self.old (Op.Continuation (ContinuationOp.Resume cont_type_index resume_table.entry)) result self.new };
+
+    /// `resume_throw`: as `resume`, from the parameters of the tag
+    fn visit_resume_throw(
+        &mut self,
+        cont_type_index: u32,
+        tag_index: u32,
+        resume_table: ResumeTable<'a>,
+    ) -> Self::Output
+        requires { can_visit self.old (Op.Continuation (ContinuationOp.ResumeThrow cont_type_index tag_index resume_table)) }
+        ensures { visits self.old (Op.Continuation (ContinuationOp.ResumeThrow cont_type_index tag_index resume_table.entry)) result self.new };
+
+    /// `resume_throw_ref`: as `resume`, from a reference to an exception
+    fn visit_resume_throw_ref(
+        &mut self,
+        cont_type_index: u32,
+        resume_table: ResumeTable<'a>,
+    ) -> Self::Output
+        requires { can_visit self.old (Op.Continuation (ContinuationOp.ResumeThrowRef cont_type_index resume_table)) }
+        ensures { visits self.old (Op.Continuation (ContinuationOp.ResumeThrowRef cont_type_index resume_table.entry)) result self.new };
+
+    /// `switch`: `[t* (ref null N)] -> [u*]`, where N takes t* and a continuation that takes u*
+    fn visit_switch(&mut self, cont_type_index: u32, tag_index: u32) -> Self::Output
+        requires { can_visit self.old (Op.Continuation (ContinuationOp.Switch cont_type_index tag_index)) }
+        ensures { visits self.old (Op.Continuation (ContinuationOp.Switch cont_type_index tag_index)) result self.new };
+
+    /// `global.atomic.get`
+    fn visit_global_atomic_get(&mut self, ordering: Ordering, global_index: u32) -> Self::Output
+        requires { can_visit self.old (Op.Shared (SharedOp.Global (GlobalAccess.Value TableAccess.Get) ordering global_index)) }
+        ensures { visits self.old (Op.Shared (SharedOp.Global (GlobalAccess.Value TableAccess.Get) ordering global_index)) result self.new };
+
+    /// `global.atomic.set`
+    fn visit_global_atomic_set(&mut self, ordering: Ordering, global_index: u32) -> Self::Output
+        requires { can_visit self.old (Op.Shared (SharedOp.Global (GlobalAccess.Value TableAccess.Set) ordering global_index)) }
+        ensures { visits self.old (Op.Shared (SharedOp.Global (GlobalAccess.Value TableAccess.Set) ordering global_index)) result self.new };
+
+    /// `global.atomic.rmw.add`
+    fn visit_global_atomic_rmw_add(&mut self, ordering: Ordering, global_index: u32) -> Self::Output
+        requires { can_visit self.old (Op.Shared (SharedOp.Global (GlobalAccess.Rmw SharedRmwOp.Add) ordering global_index)) }
+        ensures { visits self.old (Op.Shared (SharedOp.Global (GlobalAccess.Rmw SharedRmwOp.Add) ordering global_index)) result self.new };
+
+    /// `global.atomic.rmw.sub`
+    fn visit_global_atomic_rmw_sub(&mut self, ordering: Ordering, global_index: u32) -> Self::Output
+        requires { can_visit self.old (Op.Shared (SharedOp.Global (GlobalAccess.Rmw SharedRmwOp.Sub) ordering global_index)) }
+        ensures { visits self.old (Op.Shared (SharedOp.Global (GlobalAccess.Rmw SharedRmwOp.Sub) ordering global_index)) result self.new };
+
+    /// `global.atomic.rmw.and`
+    fn visit_global_atomic_rmw_and(&mut self, ordering: Ordering, global_index: u32) -> Self::Output
+        requires { can_visit self.old (Op.Shared (SharedOp.Global (GlobalAccess.Rmw SharedRmwOp.And) ordering global_index)) }
+        ensures { visits self.old (Op.Shared (SharedOp.Global (GlobalAccess.Rmw SharedRmwOp.And) ordering global_index)) result self.new };
+
+    /// `global.atomic.rmw.or`
+    fn visit_global_atomic_rmw_or(&mut self, ordering: Ordering, global_index: u32) -> Self::Output
+        requires { can_visit self.old (Op.Shared (SharedOp.Global (GlobalAccess.Rmw SharedRmwOp.Or) ordering global_index)) }
+        ensures { visits self.old (Op.Shared (SharedOp.Global (GlobalAccess.Rmw SharedRmwOp.Or) ordering global_index)) result self.new };
+
+    /// `global.atomic.rmw.xor`
+    fn visit_global_atomic_rmw_xor(&mut self, ordering: Ordering, global_index: u32) -> Self::Output
+        requires { can_visit self.old (Op.Shared (SharedOp.Global (GlobalAccess.Rmw SharedRmwOp.Xor) ordering global_index)) }
+        ensures { visits self.old (Op.Shared (SharedOp.Global (GlobalAccess.Rmw SharedRmwOp.Xor) ordering global_index)) result self.new };
+
+    /// `global.atomic.rmw.xchg`
+    fn visit_global_atomic_rmw_xchg(
+        &mut self,
+        ordering: Ordering,
+        global_index: u32,
+    ) -> Self::Output
+        requires { can_visit self.old (Op.Shared (SharedOp.Global (GlobalAccess.Value TableAccess.Xchg) ordering global_index)) }
+        ensures { visits self.old (Op.Shared (SharedOp.Global (GlobalAccess.Value TableAccess.Xchg) ordering global_index)) result self.new };
+
+    /// `global.atomic.rmw.cmpxchg`
+    fn visit_global_atomic_rmw_cmpxchg(
+        &mut self,
+        ordering: Ordering,
+        global_index: u32,
+    ) -> Self::Output
+        requires { can_visit self.old (Op.Shared (SharedOp.Global (GlobalAccess.Value TableAccess.Cmpxchg) ordering global_index)) }
+        ensures { visits self.old (Op.Shared (SharedOp.Global (GlobalAccess.Value TableAccess.Cmpxchg) ordering global_index)) result self.new };
+
+    /// `table.atomic.get`
+    fn visit_table_atomic_get(&mut self, ordering: Ordering, table: u32) -> Self::Output
+        requires { can_visit self.old (Op.Shared (SharedOp.Table TableAccess.Get ordering table)) }
+        ensures { visits self.old (Op.Shared (SharedOp.Table TableAccess.Get ordering table)) result self.new };
+
+    /// `table.atomic.set`
+    fn visit_table_atomic_set(&mut self, ordering: Ordering, table: u32) -> Self::Output
+        requires { can_visit self.old (Op.Shared (SharedOp.Table TableAccess.Set ordering table)) }
+        ensures { visits self.old (Op.Shared (SharedOp.Table TableAccess.Set ordering table)) result self.new };
+
+    /// `table.atomic.rmw.xchg`
+    fn visit_table_atomic_rmw_xchg(&mut self, ordering: Ordering, table: u32) -> Self::Output
+        requires { can_visit self.old (Op.Shared (SharedOp.Table TableAccess.Xchg ordering table)) }
+        ensures { visits self.old (Op.Shared (SharedOp.Table TableAccess.Xchg ordering table)) result self.new };
+
+    /// `table.atomic.rmw.cmpxchg`
+    fn visit_table_atomic_rmw_cmpxchg(&mut self, ordering: Ordering, table: u32) -> Self::Output
+        requires { can_visit self.old (Op.Shared (SharedOp.Table TableAccess.Cmpxchg ordering table)) }
+        ensures { visits self.old (Op.Shared (SharedOp.Table TableAccess.Cmpxchg ordering table)) result self.new };
+
+    /// `struct.atomic.get`
+    fn visit_struct_atomic_get(
+        &mut self,
+        ordering: Ordering,
+        struct_type_index: u32,
+        field_index: u32,
+    ) -> Self::Output
+        requires { can_visit self.old (Op.Shared (SharedOp.Struct (FieldAccess.Whole (GlobalAccess.Value TableAccess.Get)) ordering (record { struct_type_index = struct_type_index; field_index = field_index }))) }
+        ensures { visits self.old (Op.Shared (SharedOp.Struct (FieldAccess.Whole (GlobalAccess.Value TableAccess.Get)) ordering (record { struct_type_index = struct_type_index; field_index = field_index }))) result self.new };
+
+    /// `struct.atomic.get_s`
+    fn visit_struct_atomic_get_s(
+        &mut self,
+        ordering: Ordering,
+        struct_type_index: u32,
+        field_index: u32,
+    ) -> Self::Output
+        requires { can_visit self.old (Op.Shared (SharedOp.Struct (FieldAccess.GetPacked Signed) ordering (record { struct_type_index = struct_type_index; field_index = field_index }))) }
+        ensures { visits self.old (Op.Shared (SharedOp.Struct (FieldAccess.GetPacked Signed) ordering (record { struct_type_index = struct_type_index; field_index = field_index }))) result self.new };
+
+    /// `struct.atomic.get_u`
+    fn visit_struct_atomic_get_u(
+        &mut self,
+        ordering: Ordering,
+        struct_type_index: u32,
+        field_index: u32,
+    ) -> Self::Output
+        requires { can_visit self.old (Op.Shared (SharedOp.Struct (FieldAccess.GetPacked Unsigned) ordering (record { struct_type_index = struct_type_index; field_index = field_index }))) }
+        ensures { visits self.old (Op.Shared (SharedOp.Struct (FieldAccess.GetPacked Unsigned) ordering (record { struct_type_index = struct_type_index; field_index = field_index }))) result self.new };
+
+    /// `struct.atomic.set`
+    fn visit_struct_atomic_set(
+        &mut self,
+        ordering: Ordering,
+        struct_type_index: u32,
+        field_index: u32,
+    ) -> Self::Output
+        requires { can_visit self.old (Op.Shared (SharedOp.Struct (FieldAccess.Whole (GlobalAccess.Value TableAccess.Set)) ordering (record { struct_type_index = struct_type_index; field_index = field_index }))) }
+        ensures { visits self.old (Op.Shared (SharedOp.Struct (FieldAccess.Whole (GlobalAccess.Value TableAccess.Set)) ordering (record { struct_type_index = struct_type_index; field_index = field_index }))) result self.new };
+
+    /// `struct.atomic.rmw.add`
+    fn visit_struct_atomic_rmw_add(
+        &mut self,
+        ordering: Ordering,
+        struct_type_index: u32,
+        field_index: u32,
+    ) -> Self::Output
+        requires { can_visit self.old (Op.Shared (SharedOp.Struct (FieldAccess.Whole (GlobalAccess.Rmw SharedRmwOp.Add)) ordering (record { struct_type_index = struct_type_index; field_index = field_index }))) }
+        ensures { visits self.old (Op.Shared (SharedOp.Struct (FieldAccess.Whole (GlobalAccess.Rmw SharedRmwOp.Add)) ordering (record { struct_type_index = struct_type_index; field_index = field_index }))) result self.new };
+
+    /// `struct.atomic.rmw.sub`
+    fn visit_struct_atomic_rmw_sub(
+        &mut self,
+        ordering: Ordering,
+        struct_type_index: u32,
+        field_index: u32,
+    ) -> Self::Output
+        requires { can_visit self.old (Op.Shared (SharedOp.Struct (FieldAccess.Whole (GlobalAccess.Rmw SharedRmwOp.Sub)) ordering (record { struct_type_index = struct_type_index; field_index = field_index }))) }
+        ensures { visits self.old (Op.Shared (SharedOp.Struct (FieldAccess.Whole (GlobalAccess.Rmw SharedRmwOp.Sub)) ordering (record { struct_type_index = struct_type_index; field_index = field_index }))) result self.new };
+
+    /// `struct.atomic.rmw.and`
+    fn visit_struct_atomic_rmw_and(
+        &mut self,
+        ordering: Ordering,
+        struct_type_index: u32,
+        field_index: u32,
+    ) -> Self::Output
+        requires { can_visit self.old (Op.Shared (SharedOp.Struct (FieldAccess.Whole (GlobalAccess.Rmw SharedRmwOp.And)) ordering (record { struct_type_index = struct_type_index; field_index = field_index }))) }
+        ensures { visits self.old (Op.Shared (SharedOp.Struct (FieldAccess.Whole (GlobalAccess.Rmw SharedRmwOp.And)) ordering (record { struct_type_index = struct_type_index; field_index = field_index }))) result self.new };
+
+    /// `struct.atomic.rmw.or`
+    fn visit_struct_atomic_rmw_or(
+        &mut self,
+        ordering: Ordering,
+        struct_type_index: u32,
+        field_index: u32,
+    ) -> Self::Output
+        requires { can_visit self.old (Op.Shared (SharedOp.Struct (FieldAccess.Whole (GlobalAccess.Rmw SharedRmwOp.Or)) ordering (record { struct_type_index = struct_type_index; field_index = field_index }))) }
+        ensures { visits self.old (Op.Shared (SharedOp.Struct (FieldAccess.Whole (GlobalAccess.Rmw SharedRmwOp.Or)) ordering (record { struct_type_index = struct_type_index; field_index = field_index }))) result self.new };
+
+    /// `struct.atomic.rmw.xor`
+    fn visit_struct_atomic_rmw_xor(
+        &mut self,
+        ordering: Ordering,
+        struct_type_index: u32,
+        field_index: u32,
+    ) -> Self::Output
+        requires { can_visit self.old (Op.Shared (SharedOp.Struct (FieldAccess.Whole (GlobalAccess.Rmw SharedRmwOp.Xor)) ordering (record { struct_type_index = struct_type_index; field_index = field_index }))) }
+        ensures { visits self.old (Op.Shared (SharedOp.Struct (FieldAccess.Whole (GlobalAccess.Rmw SharedRmwOp.Xor)) ordering (record { struct_type_index = struct_type_index; field_index = field_index }))) result self.new };
+
+    /// `struct.atomic.rmw.xchg`
+    fn visit_struct_atomic_rmw_xchg(
+        &mut self,
+        ordering: Ordering,
+        struct_type_index: u32,
+        field_index: u32,
+    ) -> Self::Output
+        requires { can_visit self.old (Op.Shared (SharedOp.Struct (FieldAccess.Whole (GlobalAccess.Value TableAccess.Xchg)) ordering (record { struct_type_index = struct_type_index; field_index = field_index }))) }
+        ensures { visits self.old (Op.Shared (SharedOp.Struct (FieldAccess.Whole (GlobalAccess.Value TableAccess.Xchg)) ordering (record { struct_type_index = struct_type_index; field_index = field_index }))) result self.new };
+
+    /// `struct.atomic.rmw.cmpxchg`
+    fn visit_struct_atomic_rmw_cmpxchg(
+        &mut self,
+        ordering: Ordering,
+        struct_type_index: u32,
+        field_index: u32,
+    ) -> Self::Output
+        requires { can_visit self.old (Op.Shared (SharedOp.Struct (FieldAccess.Whole (GlobalAccess.Value TableAccess.Cmpxchg)) ordering (record { struct_type_index = struct_type_index; field_index = field_index }))) }
+        ensures { visits self.old (Op.Shared (SharedOp.Struct (FieldAccess.Whole (GlobalAccess.Value TableAccess.Cmpxchg)) ordering (record { struct_type_index = struct_type_index; field_index = field_index }))) result self.new };
+
+    /// `array.atomic.get`
+    fn visit_array_atomic_get(&mut self, ordering: Ordering, type_index: u32) -> Self::Output
+        requires { can_visit self.old (Op.Shared (SharedOp.Array (FieldAccess.Whole (GlobalAccess.Value TableAccess.Get)) ordering type_index)) }
+        ensures { visits self.old (Op.Shared (SharedOp.Array (FieldAccess.Whole (GlobalAccess.Value TableAccess.Get)) ordering type_index)) result self.new };
+
+    /// `array.atomic.get_s`
+    fn visit_array_atomic_get_s(&mut self, ordering: Ordering, type_index: u32) -> Self::Output
+        requires { can_visit self.old (Op.Shared (SharedOp.Array (FieldAccess.GetPacked Signed) ordering type_index)) }
+        ensures { visits self.old (Op.Shared (SharedOp.Array (FieldAccess.GetPacked Signed) ordering type_index)) result self.new };
+
+    /// `array.atomic.get_u`
+    fn visit_array_atomic_get_u(&mut self, ordering: Ordering, type_index: u32) -> Self::Output
+        requires { can_visit self.old (Op.Shared (SharedOp.Array (FieldAccess.GetPacked Unsigned) ordering type_index)) }
+        ensures { visits self.old (Op.Shared (SharedOp.Array (FieldAccess.GetPacked Unsigned) ordering type_index)) result self.new };
+
+    /// `array.atomic.set`
+    fn visit_array_atomic_set(&mut self, ordering: Ordering, type_index: u32) -> Self::Output
+        requires { can_visit self.old (Op.Shared (SharedOp.Array (FieldAccess.Whole (GlobalAccess.Value TableAccess.Set)) ordering type_index)) }
+        ensures { visits self.old (Op.Shared (SharedOp.Array (FieldAccess.Whole (GlobalAccess.Value TableAccess.Set)) ordering type_index)) result self.new };
+
+    /// `array.atomic.rmw.add`
+    fn visit_array_atomic_rmw_add(&mut self, ordering: Ordering, type_index: u32) -> Self::Output
+        requires { can_visit self.old (Op.Shared (SharedOp.Array (FieldAccess.Whole (GlobalAccess.Rmw SharedRmwOp.Add)) ordering type_index)) }
+        ensures { visits self.old (Op.Shared (SharedOp.Array (FieldAccess.Whole (GlobalAccess.Rmw SharedRmwOp.Add)) ordering type_index)) result self.new };
+
+    /// `array.atomic.rmw.sub`
+    fn visit_array_atomic_rmw_sub(&mut self, ordering: Ordering, type_index: u32) -> Self::Output
+        requires { can_visit self.old (Op.Shared (SharedOp.Array (FieldAccess.Whole (GlobalAccess.Rmw SharedRmwOp.Sub)) ordering type_index)) }
+        ensures { visits self.old (Op.Shared (SharedOp.Array (FieldAccess.Whole (GlobalAccess.Rmw SharedRmwOp.Sub)) ordering type_index)) result self.new };
+
+    /// `array.atomic.rmw.and`
+    fn visit_array_atomic_rmw_and(&mut self, ordering: Ordering, type_index: u32) -> Self::Output
+        requires { can_visit self.old (Op.Shared (SharedOp.Array (FieldAccess.Whole (GlobalAccess.Rmw SharedRmwOp.And)) ordering type_index)) }
+        ensures { visits self.old (Op.Shared (SharedOp.Array (FieldAccess.Whole (GlobalAccess.Rmw SharedRmwOp.And)) ordering type_index)) result self.new };
+
+    /// `array.atomic.rmw.or`
+    fn visit_array_atomic_rmw_or(&mut self, ordering: Ordering, type_index: u32) -> Self::Output
+        requires { can_visit self.old (Op.Shared (SharedOp.Array (FieldAccess.Whole (GlobalAccess.Rmw SharedRmwOp.Or)) ordering type_index)) }
+        ensures { visits self.old (Op.Shared (SharedOp.Array (FieldAccess.Whole (GlobalAccess.Rmw SharedRmwOp.Or)) ordering type_index)) result self.new };
+
+    /// `array.atomic.rmw.xor`
+    fn visit_array_atomic_rmw_xor(&mut self, ordering: Ordering, type_index: u32) -> Self::Output
+        requires { can_visit self.old (Op.Shared (SharedOp.Array (FieldAccess.Whole (GlobalAccess.Rmw SharedRmwOp.Xor)) ordering type_index)) }
+        ensures { visits self.old (Op.Shared (SharedOp.Array (FieldAccess.Whole (GlobalAccess.Rmw SharedRmwOp.Xor)) ordering type_index)) result self.new };
+
+    /// `array.atomic.rmw.xchg`
+    fn visit_array_atomic_rmw_xchg(&mut self, ordering: Ordering, type_index: u32) -> Self::Output
+        requires { can_visit self.old (Op.Shared (SharedOp.Array (FieldAccess.Whole (GlobalAccess.Value TableAccess.Xchg)) ordering type_index)) }
+        ensures { visits self.old (Op.Shared (SharedOp.Array (FieldAccess.Whole (GlobalAccess.Value TableAccess.Xchg)) ordering type_index)) result self.new };
+
+    /// `array.atomic.rmw.cmpxchg`
+    fn visit_array_atomic_rmw_cmpxchg(
+        &mut self,
+        ordering: Ordering,
+        type_index: u32,
+    ) -> Self::Output
+        requires { can_visit self.old (Op.Shared (SharedOp.Array (FieldAccess.Whole (GlobalAccess.Value TableAccess.Cmpxchg)) ordering type_index)) }
+        ensures { visits self.old (Op.Shared (SharedOp.Array (FieldAccess.Whole (GlobalAccess.Value TableAccess.Cmpxchg)) ordering type_index)) result self.new };
+
+    /// `ref.i31_shared`
+    fn visit_ref_i31_shared(&mut self) -> Self::Output
+        requires { can_visit self.old (Op.Shared (SharedOp.RefI31Shared)) }
+        ensures { visits self.old (Op.Shared (SharedOp.RefI31Shared)) result self.new };
 
     /// The visit that `op` names.
     fn visit_operator(&mut self, op: Op<'a>) -> Self::Output

@@ -14,10 +14,11 @@ use validate_types::{Error, HeapType, RefType, ValType};
 use validate_visit::AtomicAccess::{Packed, Whole};
 use validate_visit::Sign::{Signed, Unsigned};
 use validate_visit::{
-    ArrayOp, AtomicOp, AtomicRmwOp, BlockType, BrTable, BranchCast, ControlOp, ConvertOp,
-    ExceptionOp, FieldIndex, FloatBinaryOp, FloatComparisonOp, FloatType, FloatUnaryOp, Ieee32,
-    Ieee64, IntegerBinaryOp, IntegerComparisonOp, IntegerType, IntegerUnaryOp, MemArg, MemoryOp,
-    NumberType, NumericOp, Op, Ordering, PackedInteger, ReferenceOp, StructOp, TableOp, TryTable,
+    ArrayOp, AtomicOp, AtomicRmwOp, BlockType, BrTable, BranchCast, ContinuationOp, ControlOp,
+    ConvertOp, ExceptionOp, FieldAccess, FieldIndex, FloatBinaryOp, FloatComparisonOp, FloatType,
+    FloatUnaryOp, GlobalAccess, Ieee32, Ieee64, IntegerBinaryOp, IntegerComparisonOp, IntegerType,
+    IntegerUnaryOp, MemArg, MemoryOp, NumberType, NumericOp, Op, Ordering, PackedInteger,
+    ReferenceOp, ResumeTable, SharedOp, SharedRmwOp, StructOp, TableAccess, TableOp, TryTable,
 };
 
 impl<'a, 'validator, 'resources, R: WasmModuleResources> VisitOperator<'a>
@@ -1603,6 +1604,511 @@ impl<'a, 'validator, 'resources, R: WasmModuleResources> VisitOperator<'a>
 
     fn visit_rethrow(&mut self, relative_depth: u32) -> Result<(), Error> {
         self.check_exception(ExceptionOp::Rethrow(relative_depth))
+    }
+
+    fn visit_cont_new(&mut self, type_index: u32) -> Result<(), Error> {
+        self.check_continuation(ContinuationOp::ContNew(type_index))
+    }
+
+    fn visit_cont_bind(&mut self, argument_index: u32, result_index: u32) -> Result<(), Error> {
+        self.check_continuation(ContinuationOp::ContBind {
+            argument_index,
+            result_index,
+        })
+    }
+
+    fn visit_suspend(&mut self, tag_index: u32) -> Result<(), Error> {
+        self.check_continuation(ContinuationOp::Suspend(tag_index))
+    }
+
+    fn visit_resume(
+        &mut self,
+        cont_type_index: u32,
+        resume_table: ResumeTable<'a>,
+    ) -> Result<(), Error> {
+        self.check_continuation(ContinuationOp::Resume {
+            cont_type_index,
+            resume_table,
+        })
+    }
+
+    fn visit_resume_throw(
+        &mut self,
+        cont_type_index: u32,
+        tag_index: u32,
+        resume_table: ResumeTable<'a>,
+    ) -> Result<(), Error> {
+        self.check_continuation(ContinuationOp::ResumeThrow {
+            cont_type_index,
+            tag_index,
+            resume_table,
+        })
+    }
+
+    fn visit_resume_throw_ref(
+        &mut self,
+        cont_type_index: u32,
+        resume_table: ResumeTable<'a>,
+    ) -> Result<(), Error> {
+        self.check_continuation(ContinuationOp::ResumeThrowRef {
+            cont_type_index,
+            resume_table,
+        })
+    }
+
+    fn visit_switch(&mut self, cont_type_index: u32, tag_index: u32) -> Result<(), Error> {
+        self.check_continuation(ContinuationOp::Switch {
+            cont_type_index,
+            tag_index,
+        })
+    }
+
+    fn visit_global_atomic_get(
+        &mut self,
+        ordering: Ordering,
+        global_index: u32,
+    ) -> Result<(), Error> {
+        self.check_shared(SharedOp::Global {
+            access: GlobalAccess::Value(TableAccess::Get),
+            ordering,
+            global_index,
+        })
+    }
+
+    fn visit_global_atomic_set(
+        &mut self,
+        ordering: Ordering,
+        global_index: u32,
+    ) -> Result<(), Error> {
+        self.check_shared(SharedOp::Global {
+            access: GlobalAccess::Value(TableAccess::Set),
+            ordering,
+            global_index,
+        })
+    }
+
+    fn visit_global_atomic_rmw_add(
+        &mut self,
+        ordering: Ordering,
+        global_index: u32,
+    ) -> Result<(), Error> {
+        self.check_shared(SharedOp::Global {
+            access: GlobalAccess::Rmw(SharedRmwOp::Add),
+            ordering,
+            global_index,
+        })
+    }
+
+    fn visit_global_atomic_rmw_sub(
+        &mut self,
+        ordering: Ordering,
+        global_index: u32,
+    ) -> Result<(), Error> {
+        self.check_shared(SharedOp::Global {
+            access: GlobalAccess::Rmw(SharedRmwOp::Sub),
+            ordering,
+            global_index,
+        })
+    }
+
+    fn visit_global_atomic_rmw_and(
+        &mut self,
+        ordering: Ordering,
+        global_index: u32,
+    ) -> Result<(), Error> {
+        self.check_shared(SharedOp::Global {
+            access: GlobalAccess::Rmw(SharedRmwOp::And),
+            ordering,
+            global_index,
+        })
+    }
+
+    fn visit_global_atomic_rmw_or(
+        &mut self,
+        ordering: Ordering,
+        global_index: u32,
+    ) -> Result<(), Error> {
+        self.check_shared(SharedOp::Global {
+            access: GlobalAccess::Rmw(SharedRmwOp::Or),
+            ordering,
+            global_index,
+        })
+    }
+
+    fn visit_global_atomic_rmw_xor(
+        &mut self,
+        ordering: Ordering,
+        global_index: u32,
+    ) -> Result<(), Error> {
+        self.check_shared(SharedOp::Global {
+            access: GlobalAccess::Rmw(SharedRmwOp::Xor),
+            ordering,
+            global_index,
+        })
+    }
+
+    fn visit_global_atomic_rmw_xchg(
+        &mut self,
+        ordering: Ordering,
+        global_index: u32,
+    ) -> Result<(), Error> {
+        self.check_shared(SharedOp::Global {
+            access: GlobalAccess::Value(TableAccess::Xchg),
+            ordering,
+            global_index,
+        })
+    }
+
+    fn visit_global_atomic_rmw_cmpxchg(
+        &mut self,
+        ordering: Ordering,
+        global_index: u32,
+    ) -> Result<(), Error> {
+        self.check_shared(SharedOp::Global {
+            access: GlobalAccess::Value(TableAccess::Cmpxchg),
+            ordering,
+            global_index,
+        })
+    }
+
+    fn visit_table_atomic_get(&mut self, ordering: Ordering, table: u32) -> Result<(), Error> {
+        self.check_shared(SharedOp::Table {
+            access: TableAccess::Get,
+            ordering,
+            table_index: table,
+        })
+    }
+
+    fn visit_table_atomic_set(&mut self, ordering: Ordering, table: u32) -> Result<(), Error> {
+        self.check_shared(SharedOp::Table {
+            access: TableAccess::Set,
+            ordering,
+            table_index: table,
+        })
+    }
+
+    fn visit_table_atomic_rmw_xchg(&mut self, ordering: Ordering, table: u32) -> Result<(), Error> {
+        self.check_shared(SharedOp::Table {
+            access: TableAccess::Xchg,
+            ordering,
+            table_index: table,
+        })
+    }
+
+    fn visit_table_atomic_rmw_cmpxchg(
+        &mut self,
+        ordering: Ordering,
+        table: u32,
+    ) -> Result<(), Error> {
+        self.check_shared(SharedOp::Table {
+            access: TableAccess::Cmpxchg,
+            ordering,
+            table_index: table,
+        })
+    }
+
+    fn visit_struct_atomic_get(
+        &mut self,
+        ordering: Ordering,
+        struct_type_index: u32,
+        field_index: u32,
+    ) -> Result<(), Error> {
+        self.check_shared(SharedOp::Struct {
+            access: FieldAccess::Whole(GlobalAccess::Value(TableAccess::Get)),
+            ordering,
+            field: FieldIndex {
+                struct_type_index,
+                field_index,
+            },
+        })
+    }
+
+    fn visit_struct_atomic_get_s(
+        &mut self,
+        ordering: Ordering,
+        struct_type_index: u32,
+        field_index: u32,
+    ) -> Result<(), Error> {
+        self.check_shared(SharedOp::Struct {
+            access: FieldAccess::GetPacked(Signed),
+            ordering,
+            field: FieldIndex {
+                struct_type_index,
+                field_index,
+            },
+        })
+    }
+
+    fn visit_struct_atomic_get_u(
+        &mut self,
+        ordering: Ordering,
+        struct_type_index: u32,
+        field_index: u32,
+    ) -> Result<(), Error> {
+        self.check_shared(SharedOp::Struct {
+            access: FieldAccess::GetPacked(Unsigned),
+            ordering,
+            field: FieldIndex {
+                struct_type_index,
+                field_index,
+            },
+        })
+    }
+
+    fn visit_struct_atomic_set(
+        &mut self,
+        ordering: Ordering,
+        struct_type_index: u32,
+        field_index: u32,
+    ) -> Result<(), Error> {
+        self.check_shared(SharedOp::Struct {
+            access: FieldAccess::Whole(GlobalAccess::Value(TableAccess::Set)),
+            ordering,
+            field: FieldIndex {
+                struct_type_index,
+                field_index,
+            },
+        })
+    }
+
+    fn visit_struct_atomic_rmw_add(
+        &mut self,
+        ordering: Ordering,
+        struct_type_index: u32,
+        field_index: u32,
+    ) -> Result<(), Error> {
+        self.check_shared(SharedOp::Struct {
+            access: FieldAccess::Whole(GlobalAccess::Rmw(SharedRmwOp::Add)),
+            ordering,
+            field: FieldIndex {
+                struct_type_index,
+                field_index,
+            },
+        })
+    }
+
+    fn visit_struct_atomic_rmw_sub(
+        &mut self,
+        ordering: Ordering,
+        struct_type_index: u32,
+        field_index: u32,
+    ) -> Result<(), Error> {
+        self.check_shared(SharedOp::Struct {
+            access: FieldAccess::Whole(GlobalAccess::Rmw(SharedRmwOp::Sub)),
+            ordering,
+            field: FieldIndex {
+                struct_type_index,
+                field_index,
+            },
+        })
+    }
+
+    fn visit_struct_atomic_rmw_and(
+        &mut self,
+        ordering: Ordering,
+        struct_type_index: u32,
+        field_index: u32,
+    ) -> Result<(), Error> {
+        self.check_shared(SharedOp::Struct {
+            access: FieldAccess::Whole(GlobalAccess::Rmw(SharedRmwOp::And)),
+            ordering,
+            field: FieldIndex {
+                struct_type_index,
+                field_index,
+            },
+        })
+    }
+
+    fn visit_struct_atomic_rmw_or(
+        &mut self,
+        ordering: Ordering,
+        struct_type_index: u32,
+        field_index: u32,
+    ) -> Result<(), Error> {
+        self.check_shared(SharedOp::Struct {
+            access: FieldAccess::Whole(GlobalAccess::Rmw(SharedRmwOp::Or)),
+            ordering,
+            field: FieldIndex {
+                struct_type_index,
+                field_index,
+            },
+        })
+    }
+
+    fn visit_struct_atomic_rmw_xor(
+        &mut self,
+        ordering: Ordering,
+        struct_type_index: u32,
+        field_index: u32,
+    ) -> Result<(), Error> {
+        self.check_shared(SharedOp::Struct {
+            access: FieldAccess::Whole(GlobalAccess::Rmw(SharedRmwOp::Xor)),
+            ordering,
+            field: FieldIndex {
+                struct_type_index,
+                field_index,
+            },
+        })
+    }
+
+    fn visit_struct_atomic_rmw_xchg(
+        &mut self,
+        ordering: Ordering,
+        struct_type_index: u32,
+        field_index: u32,
+    ) -> Result<(), Error> {
+        self.check_shared(SharedOp::Struct {
+            access: FieldAccess::Whole(GlobalAccess::Value(TableAccess::Xchg)),
+            ordering,
+            field: FieldIndex {
+                struct_type_index,
+                field_index,
+            },
+        })
+    }
+
+    fn visit_struct_atomic_rmw_cmpxchg(
+        &mut self,
+        ordering: Ordering,
+        struct_type_index: u32,
+        field_index: u32,
+    ) -> Result<(), Error> {
+        self.check_shared(SharedOp::Struct {
+            access: FieldAccess::Whole(GlobalAccess::Value(TableAccess::Cmpxchg)),
+            ordering,
+            field: FieldIndex {
+                struct_type_index,
+                field_index,
+            },
+        })
+    }
+
+    fn visit_array_atomic_get(&mut self, ordering: Ordering, type_index: u32) -> Result<(), Error> {
+        self.check_shared(SharedOp::Array {
+            access: FieldAccess::Whole(GlobalAccess::Value(TableAccess::Get)),
+            ordering,
+            type_index,
+        })
+    }
+
+    fn visit_array_atomic_get_s(
+        &mut self,
+        ordering: Ordering,
+        type_index: u32,
+    ) -> Result<(), Error> {
+        self.check_shared(SharedOp::Array {
+            access: FieldAccess::GetPacked(Signed),
+            ordering,
+            type_index,
+        })
+    }
+
+    fn visit_array_atomic_get_u(
+        &mut self,
+        ordering: Ordering,
+        type_index: u32,
+    ) -> Result<(), Error> {
+        self.check_shared(SharedOp::Array {
+            access: FieldAccess::GetPacked(Unsigned),
+            ordering,
+            type_index,
+        })
+    }
+
+    fn visit_array_atomic_set(&mut self, ordering: Ordering, type_index: u32) -> Result<(), Error> {
+        self.check_shared(SharedOp::Array {
+            access: FieldAccess::Whole(GlobalAccess::Value(TableAccess::Set)),
+            ordering,
+            type_index,
+        })
+    }
+
+    fn visit_array_atomic_rmw_add(
+        &mut self,
+        ordering: Ordering,
+        type_index: u32,
+    ) -> Result<(), Error> {
+        self.check_shared(SharedOp::Array {
+            access: FieldAccess::Whole(GlobalAccess::Rmw(SharedRmwOp::Add)),
+            ordering,
+            type_index,
+        })
+    }
+
+    fn visit_array_atomic_rmw_sub(
+        &mut self,
+        ordering: Ordering,
+        type_index: u32,
+    ) -> Result<(), Error> {
+        self.check_shared(SharedOp::Array {
+            access: FieldAccess::Whole(GlobalAccess::Rmw(SharedRmwOp::Sub)),
+            ordering,
+            type_index,
+        })
+    }
+
+    fn visit_array_atomic_rmw_and(
+        &mut self,
+        ordering: Ordering,
+        type_index: u32,
+    ) -> Result<(), Error> {
+        self.check_shared(SharedOp::Array {
+            access: FieldAccess::Whole(GlobalAccess::Rmw(SharedRmwOp::And)),
+            ordering,
+            type_index,
+        })
+    }
+
+    fn visit_array_atomic_rmw_or(
+        &mut self,
+        ordering: Ordering,
+        type_index: u32,
+    ) -> Result<(), Error> {
+        self.check_shared(SharedOp::Array {
+            access: FieldAccess::Whole(GlobalAccess::Rmw(SharedRmwOp::Or)),
+            ordering,
+            type_index,
+        })
+    }
+
+    fn visit_array_atomic_rmw_xor(
+        &mut self,
+        ordering: Ordering,
+        type_index: u32,
+    ) -> Result<(), Error> {
+        self.check_shared(SharedOp::Array {
+            access: FieldAccess::Whole(GlobalAccess::Rmw(SharedRmwOp::Xor)),
+            ordering,
+            type_index,
+        })
+    }
+
+    fn visit_array_atomic_rmw_xchg(
+        &mut self,
+        ordering: Ordering,
+        type_index: u32,
+    ) -> Result<(), Error> {
+        self.check_shared(SharedOp::Array {
+            access: FieldAccess::Whole(GlobalAccess::Value(TableAccess::Xchg)),
+            ordering,
+            type_index,
+        })
+    }
+
+    fn visit_array_atomic_rmw_cmpxchg(
+        &mut self,
+        ordering: Ordering,
+        type_index: u32,
+    ) -> Result<(), Error> {
+        self.check_shared(SharedOp::Array {
+            access: FieldAccess::Whole(GlobalAccess::Value(TableAccess::Cmpxchg)),
+            ordering,
+            type_index,
+        })
+    }
+
+    fn visit_ref_i31_shared(&mut self) -> Result<(), Error> {
+        self.check_shared(SharedOp::RefI31Shared)
     }
 
     fn visit_operator(&mut self, op: Op<'a>) -> Result<(), Error> {

@@ -5,6 +5,8 @@ pub mod Rows
 pub mod Order
 pub mod Keeping
 pub mod Valid
+pub mod ValidContinuations
+pub mod ValidShared
 pub mod ValidBodies
 pub mod Refusals
 mod Examples
@@ -17,3 +19,4 @@ mod ExamplesTables
 mod ExamplesAggregates
 mod ExamplesCasts
 mod ExamplesExceptions
+mod ExamplesShared

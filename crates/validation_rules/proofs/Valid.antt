@@ -15,7 +15,7 @@ use Rattle.validate_types.specs.declared.heap.HeapType.{HeapType}
 use Rattle.validate_types.specs.declared.heap.HeapType.TheVariants.{Concrete}
 use Rattle.validate_types.specs.declared.heap.UnpackedIndex.TheVariants.{Module}
 use Rattle.validate_types.specs.declared.types.CompositeInnerType.{CompositeInnerType}
-use Rattle.validate_types.specs.declared.types.CompositeInnerType.TheVariants.{Func as FuncKind, Array as ArrayKind, Struct as StructKind}
+use Rattle.validate_types.specs.declared.types.CompositeInnerType.TheVariants.{Func as FuncKind, Array as ArrayKind, Struct as StructKind, Cont as ContKind}
 use Rattle.validate_types.specs.declared.types.FieldType.{FieldType}
 use Rattle.validate_types.specs.Refs.{nullable_reference, non_null_reference, reference_to, difference, without_null}
 use Rattle.validate_types.specs.Types.{unpacked_type, unpacked_fields}
@@ -328,7 +328,7 @@ module _ (cx : Context) (laws : IsLawful cx.of_module) where
 
   -- ---- what look-ups give
 
-  global_valid : (i : ℕ) (g : GlobalType) → global_type cx i ≡ Some g → Valid cx.of_module g.content_type
+  pub global_valid : (i : ℕ) (g : GlobalType) → global_type cx i ≡ Some g → Valid cx.of_module g.content_type
   global_valid i g e =
       let b = and_then_given (cx.of_module.global_at i) (accessible_global cx) g e in
       let k = guard_some (may_access cx b.0.shared) _ _ b.2 in
@@ -681,7 +681,7 @@ module _ (cx : Context) (laws : IsLawful cx.of_module) where
 
   -- ---- tables
 
-  table_found : (i : ℕ) (t : TableType) → table_type cx i ≡ Some t → cx.of_module.table_at i ≡ Some t
+  pub table_found : (i : ℕ) (t : TableType) → table_type cx i ≡ Some t → cx.of_module.table_at i ≡ Some t
   table_found i t e =
       let b = and_then_given (cx.of_module.table_at i) (accessible_table cx) t e in
       let k = guard_some (may_access cx b.0.shared) _ _ b.2 in
@@ -702,7 +702,7 @@ module _ (cx : Context) (laws : IsLawful cx.of_module) where
 
   -- ---- structs and arrays
 
-  lookups_valid : {A B : Type 0} (o : Option A) (p : Option B) (row : A → B → Row) → ((a : A) (b : B) → o ≡ Some a → p ≡ Some b → PushesValid cx (row_operator (row a b))) → PushesValid cx (row_operator (lookups_row o p row))
+  pub lookups_valid : {A B : Type 0} (o : Option A) (p : Option B) (row : A → B → Row) → ((a : A) (b : B) → o ≡ Some a → p ≡ Some b → PushesValid cx (row_operator (row a b))) → PushesValid cx (row_operator (lookups_row o p row))
   lookups_valid o p row h = by_lookup_valid o (λ a. lookup_row p (row a)) (λ a e. by_lookup_valid p (row a) (λ b k. h a b e k))
 
   type_reference_valid : (made : HeapType → RefType) → ((h : HeapType) → (made h).heap_type ≡ h) → (i : ℕ) (t : ValType) → type_reference cx made i ≡ Some t → Valid cx.of_module t
@@ -710,13 +710,14 @@ module _ (cx : Context) (laws : IsLawful cx.of_module) where
       let m = mapped_some (λ h. Ref (made h)) (cx.of_module.canonical_heap (Concrete (Module i))) t e in
       subst (Valid cx.of_module) m.2 (ap (is_valid_heap cx.of_module) (same m.0) ∙ laws.checked_heap _ m.0 m.1)
 
-  made_valid : (i : ℕ) (t : ValType) → type_reference cx non_null_reference i ≡ Some t → Valid cx.of_module t
+  pub made_valid : (i : ℕ) (t : ValType) → type_reference cx non_null_reference i ≡ Some t → Valid cx.of_module t
   made_valid i t e = type_reference_valid non_null_reference (λ h. refl) i t e
 
   pub struct_inner : (inner : CompositeInnerType) (fields : List FieldType) → struct_fields inner ≡ Some fields → inner_fields inner ≡ fields
   struct_inner (StructKind fs) fields e = some_injective _ _ e
   struct_inner (FuncKind f) fields e = absurd cc
   struct_inner (ArrayKind a) fields e = absurd cc
+  struct_inner (ContKind c) fields e = absurd cc
 
   fields_valid : (i : ℕ) (fields : List FieldType) → struct_type cx i ≡ Some fields → AllByRecursion (Valid cx.of_module) (unpacked_fields fields)
   fields_valid i fields e =
@@ -729,7 +730,7 @@ module _ (cx : Context) (laws : IsLawful cx.of_module) where
       get_valid (unpacked_fields fields) k (field_value f) v
       (slice_get-map (λ (f : FieldType). unpacked_type f.element_type) fields k ∙ ap (option_map (λ (f : FieldType). unpacked_type f.element_type)) e)
 
-  field_valid : (index : FieldIndex) (f : FieldType) → struct_field cx index ≡ Some f → Valid cx.of_module (field_value f)
+  pub field_valid : (index : FieldIndex) (f : FieldType) → struct_field cx index ≡ Some f → Valid cx.of_module (field_value f)
   field_valid index f e =
       let b = and_then_given (struct_type cx index.struct_type_index) (λ fields. slice_get fields index.field_index) f e in
       field_in b.0 index.field_index f (fields_valid index.struct_type_index b.0 b.1) b.2
@@ -738,8 +739,9 @@ module _ (cx : Context) (laws : IsLawful cx.of_module) where
   array_inner (ArrayKind a) f e = ap (λ (g : FieldType). g ∷ []) (some_injective _ _ e)
   array_inner (FuncKind s) f e = absurd cc
   array_inner (StructKind fs) f e = absurd cc
+  array_inner (ContKind c) f e = absurd cc
 
-  element_valid : (i : ℕ) (f : FieldType) → array_type cx i ≡ Some f → Valid cx.of_module (field_value f)
+  pub element_valid : (i : ℕ) (f : FieldType) → array_type cx i ≡ Some f → Valid cx.of_module (field_value f)
   element_valid i f e =
       let b = and_then_given (cx.of_module.type_at i) (accessible_array cx) f e in
       let g = guard_some (may_access cx b.0.composite_type.shared) _ _ b.2 in

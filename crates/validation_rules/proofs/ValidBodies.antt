@@ -9,7 +9,8 @@ use Rattle.validate_visit.specs.Gates.{gate_of}
 use Rattle.validate_visit.specs.declared.op.ExceptionOp.{ExceptionOp}
 use Rattle.validate_visit.specs.declared.op.ExceptionOp.TheVariants.{TryTable as TryTableOp, Throw, ThrowRef, Try, Catch as CatchOp, CatchAll, Delegate, Rethrow}
 use Rattle.validate_visit.specs.declared.op.Op.{Op}
-use Rattle.validate_visit.specs.declared.op.Op.TheVariants.{Control, Numeric, Convert, Memory, Atomic, Reference, Table, Struct, Array, Exception}
+use Rattle.validate_visit.specs.declared.op.Op.TheVariants.{Control, Numeric, Convert, Memory, Atomic, Reference, Table, Struct, Array, Exception, Continuation}
+use Rattle.validate_visit.specs.declared.op.Op.TheVariants.{Shared}
 use Rattle.validation_rules.specs.Context.{ModuleContext, ValType, Context}
 use Rattle.validation_rules.specs.Exceptions.{types_carried, exception_types, catch_clauses, operator_catching, catch_operator, delegate_operator, exception_operator}
 use Rattle.validation_rules.specs.Operators.{checked_block, delimiter_operator, gated_operator, ungated_operator, operator, operators}
@@ -19,7 +20,9 @@ use Rattle.validation_rules.specs.Valid.{IsValidStateIn, RowsKeepValid}
 use Rattle.validation_rules.proofs.Below.{and_true}
 use Rattle.validation_rules.proofs.Keeping.{PushesValid}
 use Rattle.validation_rules.proofs.Steps.{some_injective, guard_some, and_then_given}
+use Rattle.validation_rules.proofs.ValidContinuations.{continuations_valid}
 use Rattle.validation_rules.proofs.Valid.{steps_keep_valid, nothing_pushed, plain_valid, flat_valid, opener_valid, by_lookup_valid, control_valid, numeric_valid, convert_valid, memory_valid, atomic_valid, reference_valid, table_valid, struct_valid, array_valid}
+use Rattle.validation_rules.proofs.ValidShared.{shared_valid}
 
 module _ (cx : Context) (laws : IsLawful cx.of_module) where
   -- ---- exceptions
@@ -85,6 +88,8 @@ module _ (cx : Context) (laws : IsLawful cx.of_module) where
   ungated_valid (Struct op) l = struct_valid cx laws op
   ungated_valid (Array op) l = array_valid cx laws op
   ungated_valid (Exception op) l = exception_valid op
+  ungated_valid (Continuation op) l = continuations_valid cx laws op
+  ungated_valid (Shared op) l = shared_valid cx laws op
 
   -- a gate takes nothing away from that
   behind_valid : (gate : Gate) (op : Operator) → PushesValid cx op → PushesValid cx (gated_operator cx gate op)

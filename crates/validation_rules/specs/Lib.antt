@@ -22,5 +22,7 @@ pub mod Memory
 pub mod Atomic
 pub mod Blocks
 pub mod Exceptions
+pub mod Continuations
+pub mod Shared
 pub mod Operators
 pub mod Order

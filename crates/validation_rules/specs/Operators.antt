@@ -14,6 +14,8 @@ use Rattle.validate_visit.specs.Gates.{gate_of}
 use Rattle.validate_visit.specs.declared.op.Op.{Op}
 use Rattle.validate_visit.specs.declared.op.Op.TheVariants.{Control, Numeric, Convert, Memory, Atomic}
 use Rattle.validate_visit.specs.declared.op.Op.TheVariants.{Reference, Table, Struct, Array, Exception}
+use Rattle.validate_visit.specs.declared.op.Op.TheVariants.{Continuation}
+use Rattle.validate_visit.specs.declared.op.Op.TheVariants.{Shared}
 use Rattle.validate_visit.specs.declared.op.ControlOp.{ControlOp}
 use Rattle.validate_visit.specs.declared.op.ControlOp.TheVariants.{Unreachable, Nop, Block as BlockOp}
 use Rattle.validate_visit.specs.declared.op.ControlOp.TheVariants.{Loop as LoopOp, If as IfOp}
@@ -34,6 +36,8 @@ pub use Rattle.validation_rules.specs.Tables.{table_row}
 pub use Rattle.validation_rules.specs.Structs.{struct_row}
 pub use Rattle.validation_rules.specs.Arrays.{array_row}
 pub use Rattle.validation_rules.specs.Exceptions.{exception_operator}
+pub use Rattle.validation_rules.specs.Continuations.{continuation_row}
+pub use Rattle.validation_rules.specs.Shared.{shared_row}
 use Rattle.validation_rules.specs.Branches.{br_row, br_if_row, br_table_row, return_row}
 use Rattle.validation_rules.specs.Calls.{call_row, return_call_row, global_get_row}
 use Rattle.validation_rules.specs.Calls.{global_set_row}
@@ -133,6 +137,8 @@ ungated_operator cx (Table op) = row_operator (table_row cx op)
 ungated_operator cx (Struct op) = row_operator (struct_row cx op)
 ungated_operator cx (Array op) = row_operator (array_row cx op)
 ungated_operator cx (Exception op) = exception_operator cx op
+ungated_operator cx (Continuation op) = staying_operator (λ hs. continuation_row cx hs op)
+ungated_operator cx (Shared op) = row_operator (shared_row cx op)
 
 abbrev pub operator : Context → Op → Operator
 operator cx op = gated_operator cx (gate_of op) (ungated_operator cx op)

@@ -1,6 +1,6 @@
 -- Proofs, which need no belief: canonical forms, and the types that are valid in a context of lists.
 use Rattle.std.specs.Prelude.{◌≡◌, ℕ, ◌+◌, ◌≤◌, Bool, List, [], ◌∷◌, true, false, ◌&&◌, map, nat_lt, nat_le}
-use Rattle.std.specs.Prelude.{length, is_some, slice_get, option_map, Option, Some, None, refl, if◌then◌else◌}
+use Rattle.std.specs.Prelude.{length, is_some, slice_get, option_map, option_and_then, Option, Some, None, refl, if◌then◌else◌}
 use Rattle.std.specs.Bool.{beq}
 use Rattle.std.specs.List.{list_all, enumerate_from}
 use Rattle.std.proofs.Common.{arith, ap, ap₂, sym, subst, ◌∙◌, ⊎_elim, lt-ltb, le-ltb}
@@ -14,7 +14,7 @@ use Rattle.validate_types.specs.declared.heap.HeapType.TheVariants.{Abstract, Co
 use Rattle.validate_types.specs.declared.heap.UnpackedIndex.{UnpackedIndex}
 use Rattle.validate_types.specs.declared.heap.UnpackedIndex.TheVariants.{Module, Id}
 use Rattle.validate_types.specs.declared.types.CompositeInnerType.{CompositeInnerType}
-use Rattle.validate_types.specs.declared.types.CompositeInnerType.TheVariants.{Func, Array, Struct}
+use Rattle.validate_types.specs.declared.types.CompositeInnerType.TheVariants.{Func, Array, Struct, Cont}
 use Rattle.validate_types.specs.declared.types.FieldType.{FieldType}
 use Rattle.validate_types.specs.declared.types.StorageType.{StorageType}
 use Rattle.validate_types.specs.declared.types.StorageType.TheVariants.{I8, I16, Val}
@@ -23,9 +23,9 @@ use Rattle.validate_types.specs.declared.types.ValType.{ValType}
 use Rattle.validate_types.specs.declared.types.ValType.TheVariants.{I32, I64, F32, F64, V128, Ref}
 use Rattle.validate_resources.specs.declared.lists.FuncDecl.{FuncDecl}
 use Rattle.validate_resources.specs.declared.lists.TheConstants.{MAX_TYPES}
-use Rattle.validate_resources.specs.Context.{IsValidType, Valid}
+use Rattle.validate_resources.specs.Context.{IsValidType, IsContinuation, Valid}
 use Rattle.validate_resources.specs.Context.{AllValid, is_valid, is_valid_index, is_valid_heap}
-use Rattle.validate_resources.specs.Context.{inner_signature, inner_fields}
+use Rattle.validate_resources.specs.Context.{inner_signature, inner_fields, signature_of, inner_continuation, continued_signature}
 use Rattle.validate_types.specs.Types.{Signature, unpacked_type, unpacked_fields}
 use Rattle.validate_resources.specs.Indices.{is_known, is_id, heap_indices_pass, type_indices_pass, supertype_indices_pass}
 use Rattle.validate_resources.specs.Indices.{storage_indices_pass, field_indices_pass, storage_with_id, field_with_id, inner_indices_pass, sub_indices_pass, index_with_id, heap_with_id, ref_with_id}
@@ -33,7 +33,7 @@ use Rattle.validate_resources.specs.Indices.{type_with_id, table_with_id, global
 use Rattle.validate_resources.specs.Order.{is_same_kind, is_same_sort, has_fitting_supertype}
 use Rattle.validate_resources.specs.Order.{have_fitting_supertypes}
 use Rattle.validate_resources.specs.Order.{is_type_below}
-use Rattle.validate_resources.specs.Lists.{Declared, context_of, is_valid_below, list_indices_pass, is_func_type, have_func_types}
+use Rattle.validate_resources.specs.Lists.{Declared, context_of, is_valid_below, list_indices_pass, is_func_type, is_of_func_type, continues_function, have_func_types}
 use Rattle.validate_resources.specs.Lists.{is_module, module_of, canonical_lists}
 
 -- ---- validity in a context of lists
@@ -75,6 +75,7 @@ signature-valid d small (Func f) h s is =
     (all-valid d small f.params p.0, all-valid d small f.results p.1)
 signature-valid d small (Array a) h s is = cc
 signature-valid d small (Struct fields) h s is = cc
+signature-valid d small (Cont c) h s is = cc
 
 storage-valid : (d : Declared) → length d.types ≤ MAX_TYPES → (t : StorageType) → storage_indices_pass (is_id (length d.types)) t ≡ true → Valid (context_of d) (unpacked_type t)
 storage-valid d small I8 h = refl
@@ -90,14 +91,34 @@ inner-fields-valid : (d : Declared) → length d.types ≤ MAX_TYPES → (i : Co
 inner-fields-valid d small (Func f) h = tt
 inner-fields-valid d small (Array a) h = (storage-valid d small a.0.element_type h, tt)
 inner-fields-valid d small (Struct fields) h = fields-valid d small fields h
+inner-fields-valid d small (Cont c) h = tt
 
-pub type-is-valid : (d : Declared) → length d.types ≤ MAX_TYPES → (s : SubType) → sub_indices_pass (is_id (length d.types)) s ≡ true → IsValidType (context_of d) s
-type-is-valid d small s h =
+-- the index of a continuation's function type is an id, and that of a type of functions
+continuation-valid : (d : Declared) → length d.types ≤ MAX_TYPES → (i : CompositeInnerType) → inner_indices_pass (is_id (length d.types)) i ≡ true
+    → is_of_func_type d.types (inner_continuation i) ≡ true → (u : UnpackedIndex) → inner_continuation i ≡ Some u → IsContinuation (context_of d) u
+continuation-valid d small (Cont c) h e u is =
+    let same : c.0 ≡ u = cc in
+    subst (IsContinuation (context_of d)) same (record { valid = index-valid d small c.0 ∙ h; function = of_id c.0 h e })
+  where
+    of_some : (o : Option SubType) → is_func_type o ≡ true → is_some (option_and_then signature_of o) ≡ true
+    of_some None k = cc
+    of_some (Some s) k = k
+
+    of_id : (i : UnpackedIndex) → is_id (length d.types) i ≡ true → is_func_type (slice_get d.types (number_of i)) ≡ true → is_some (continued_signature (context_of d) i) ≡ true
+    of_id (Module i) k e = cc
+    of_id (Id id) k e = of_some (slice_get d.types id.index) e
+continuation-valid d small (Func f) h e u is = cc
+continuation-valid d small (Array a) h e u is = cc
+continuation-valid d small (Struct fields) h e u is = cc
+
+pub type-is-valid : (d : Declared) → length d.types ≤ MAX_TYPES → (s : SubType) → sub_indices_pass (is_id (length d.types)) s ≡ true → continues_function d.types s ≡ true → IsValidType (context_of d) s
+type-is-valid d small s h e =
     let p = and_parts (supertype_indices_pass (is_id (length d.types)) s.supertype_idx) _ h in
     record {
       params = λ f is. (signature-valid d small s.composite_type.inner p.1 f is).0;
       results = λ f is. (signature-valid d small s.composite_type.inner p.1 f is).1;
       fields = inner-fields-valid d small s.composite_type.inner p.1;
+      continuation = continuation-valid d small s.composite_type.inner p.1 e;
       supertype = λ u e. index-valid d small u ∙ (ap (supertype_indices_pass (is_id (length d.types))) (sym e) ∙ p.0);
     }
 
@@ -139,6 +160,7 @@ inner-ids : (n : ℕ) (i : CompositeInnerType) → inner_indices_pass (is_id n) 
 inner-ids n (Func f) = ap₂ (λ a b. a && b) (all-same _ _ type_with_id (type-ids n) f.params) (all-same _ _ type_with_id (type-ids n) f.results)
 inner-ids n (Array a) = storage-ids n a.0.element_type
 inner-ids n (Struct fields) = all-same _ _ field_with_id (λ f. storage-ids n f.element_type) fields
+inner-ids n (Cont c) = refl
 
 sub-ids : (n : ℕ) (s : SubType) → sub_indices_pass (is_id n) (sub_with_ids s) ≡ sub_indices_pass (is_known n) s
 sub-ids n s = ap₂ (λ a b. a && b) (supertype-ids n s.supertype_idx) (inner-ids n s.composite_type.inner)
@@ -147,12 +169,19 @@ kinds-same : (a b : CompositeInnerType) → is_same_kind (inner_with_ids a) (inn
 kinds-same (Func f) (Func g) = refl
 kinds-same (Func f) (Array b) = refl
 kinds-same (Func f) (Struct t) = refl
+kinds-same (Func f) (Cont d) = refl
 kinds-same (Array a) (Func g) = refl
 kinds-same (Array a) (Array b) = refl
 kinds-same (Array a) (Struct t) = refl
+kinds-same (Array a) (Cont d) = refl
 kinds-same (Struct s) (Func g) = refl
 kinds-same (Struct s) (Array b) = refl
 kinds-same (Struct s) (Struct t) = refl
+kinds-same (Struct s) (Cont d) = refl
+kinds-same (Cont c) (Func g) = refl
+kinds-same (Cont c) (Array b) = refl
+kinds-same (Cont c) (Struct t) = refl
+kinds-same (Cont c) (Cont d) = refl
 
 sort-same : (s : SubType) (o : Option SubType) → is_same_sort (sub_with_ids s).composite_type (option_map sub_with_ids o) ≡ is_same_sort s.composite_type o
 sort-same s None = refl
@@ -172,6 +201,16 @@ func-same (Some s) = inner_same s.composite_type.inner
     inner_same (Func f) = refl
     inner_same (Array a) = refl
     inner_same (Struct fields) = refl
+    inner_same (Cont c) = refl
+
+continued-same : (types : List SubType) (s : SubType) → continues_function (map sub_with_ids types) (sub_with_ids s) ≡ continues_function types s
+continued-same types s = inner_same s.composite_type.inner
+  where
+    inner_same : (i : CompositeInnerType) → is_of_func_type (map sub_with_ids types) (inner_continuation (inner_with_ids i)) ≡ is_of_func_type types (inner_continuation i)
+    inner_same (Func f) = refl
+    inner_same (Array a) = refl
+    inner_same (Struct fields) = refl
+    inner_same (Cont c) = ap is_func_type (slice_get-map sub_with_ids types (number_of c.0)) ∙ func-same (slice_get types (number_of c.0))
 
 -- of all that name a type by its index
 functions-same : {A : Type 0} (index : A → ℕ) (types : List SubType) (xs : List A)
@@ -202,7 +241,7 @@ module-same d =
     ap at (length-map d.types sub_with_ids)
     ∙ ap₂ (λ a b. nat_le n MAX_TYPES && a && b && have_func_types (canonical_lists d)) (indices-same n d) (supertypes-same d.types)
     ∙ ap (λ b. nat_le n MAX_TYPES && list_indices_pass (is_known n) d.types d.tables d.globals d.elements && have_fitting_supertypes d.types && b)
-    (ap₂ (λ a b. a && b) (functions-same (λ (f : FuncDecl). f.type_index) d.types d.functions) (functions-same (λ (i : ℕ). i) d.types d.tags))
+    (ap₂ (λ a b. a && b) (ap₂ (λ a b. a && b) (functions-same (λ (f : FuncDecl). f.type_index) d.types d.functions) (functions-same (λ (i : ℕ). i) d.types d.tags)) (all-same _ _ sub_with_ids (continued-same d.types) d.types))
 
 -- ---- a function whose type is one of functions is of one of the types
 
@@ -228,10 +267,17 @@ have_known_types d = list_all (λ (f : FuncDecl). nat_lt f.type_index (length d.
 
 known-in : (d : Declared) → have_func_types d ≡ true → have_known_types d ≡ true
 known-in d h =
-    let p = and_parts (list_all (λ (f : FuncDecl). is_func_type (slice_get d.types f.type_index)) d.functions) _ h in
+    let k = and_parts (list_all (λ (f : FuncDecl). is_func_type (slice_get d.types f.type_index)) d.functions && list_all (λ i. is_func_type (slice_get d.types i)) d.tags) _ h in
+    let p = and_parts (list_all (λ (f : FuncDecl). is_func_type (slice_get d.types f.type_index)) d.functions) _ k.0 in
     and_from _ _ (known-types (λ (f : FuncDecl). f.type_index) d.types d.functions p.0) (known-types (λ (i : ℕ). i) d.types d.tags p.1)
 
--- where one isn't, the lists are no module
+-- where one isn't of functions, the lists are no module
+pub no-functions : (d : Declared) → have_func_types d ≡ false → module_of d ≡ None
+no-functions d h =
+    let rest : Bool = nat_le (length d.types) MAX_TYPES && list_indices_pass (is_known (length d.types)) d.types d.tables d.globals d.elements && have_fitting_supertypes d.types in
+    ap (λ b. if b then Some (canonical_lists d) else None) (false-by (is_module is_known d) (λ e. sym (and_parts rest _ e).1 ∙ h))
+
+-- where one isn't there, neither
 pub no-module : (d : Declared) → have_known_types d ≡ false → module_of d ≡ None
 no-module d h =
     let rest : Bool = nat_le (length d.types) MAX_TYPES && list_indices_pass (is_known (length d.types)) d.types d.tables d.globals d.elements && have_fitting_supertypes d.types in

@@ -19,6 +19,7 @@ use Rattle.validate_types.specs.declared.types.CompositeInnerType.{CompositeInne
 use Rattle.validate_types.specs.declared.types.CompositeInnerType.TheVariants.{Func as FuncOf}
 use Rattle.validate_types.specs.declared.types.CompositeInnerType.TheVariants.{Array as ArrayOf}
 use Rattle.validate_types.specs.declared.types.CompositeInnerType.TheVariants.{Struct as StructOf}
+use Rattle.validate_types.specs.declared.types.CompositeInnerType.TheVariants.{Cont as ContOf}
 use Rattle.validate_types.specs.declared.types.SubType.{SubType}
 use Rattle.validate_types.specs.declared.types.ValType.{ValType}
 use Rattle.validate_types.specs.declared.types.ValType.TheVariants.{I32, I64, F32, F64, V128, Ref}
@@ -109,29 +110,39 @@ kind-same : (a b : CompositeInnerType) → is_same_kind a b ≡ true → abstrac
 kind-same (FuncOf f) (FuncOf g) h = refl
 kind-same (ArrayOf a) (ArrayOf b) h = refl
 kind-same (StructOf s) (StructOf t) h = refl
+kind-same (ContOf c) (ContOf d) h = refl
 kind-same _ _ h = cc
 
 bottom-same : (a b : CompositeInnerType) → is_same_kind a b ≡ true → kind_bottom a ≡ kind_bottom b
 bottom-same (FuncOf f) (FuncOf g) h = refl
 bottom-same (ArrayOf a) (ArrayOf b) h = refl
 bottom-same (StructOf s) (StructOf t) h = refl
+bottom-same (ContOf c) (ContOf d) h = refl
 bottom-same _ _ h = cc
 
 bottom-below : (a : CompositeInnerType) → is_abstract_below (kind_bottom a) (abstract_kind a) ≡ true
 bottom-below (FuncOf f) = refl
 bottom-below (ArrayOf a) = refl
 bottom-below (StructOf s) = refl
+bottom-below (ContOf c) = refl
 
 kind-above : (a b : CompositeInnerType) → is_abstract_below (abstract_kind a) (kind_bottom b) ≡ false
 kind-above (FuncOf f) (FuncOf g) = refl
 kind-above (FuncOf f) (ArrayOf b) = refl
 kind-above (FuncOf f) (StructOf t) = refl
+kind-above (FuncOf f) (ContOf d) = refl
 kind-above (ArrayOf a) (FuncOf g) = refl
 kind-above (ArrayOf a) (ArrayOf b) = refl
 kind-above (ArrayOf a) (StructOf t) = refl
+kind-above (ArrayOf a) (ContOf d) = refl
 kind-above (StructOf s) (FuncOf g) = refl
 kind-above (StructOf s) (ArrayOf b) = refl
 kind-above (StructOf s) (StructOf t) = refl
+kind-above (StructOf s) (ContOf d) = refl
+kind-above (ContOf c) (FuncOf g) = refl
+kind-above (ContOf c) (ArrayOf b) = refl
+kind-above (ContOf c) (StructOf t) = refl
+kind-above (ContOf c) (ContOf d) = refl
 
 -- what shows of a declared type, of the same kind and sharedness
 shared-kept : KeepsSort is_shared_type

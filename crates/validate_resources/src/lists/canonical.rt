@@ -3,13 +3,13 @@
 ghost use Rattle.std.specs.Prelude.{◌≡◌, ◌≤◌, ℕ, Bool, true, false, map, length, Option, ok_or, IfOk, OnOk, OnErr, IfErr, option_map};
 ghost use Rattle.std.specs.List.{list_all};
 ghost use Rattle.validate_types.specs.Heap.{number_of};
-ghost use Rattle.validate_resources.specs.Indices.{is_known, type_indices_pass, ref_indices_pass, table_indices_pass, global_indices_pass, sub_indices_pass, inner_indices_pass, storage_indices_pass, field_indices_pass, signature_indices_pass, supertype_indices_pass, type_with_id, ref_with_id, table_with_id, global_with_id, sub_with_ids, inner_with_ids, storage_with_id, field_with_id, array_with_id, signature_with_ids, index_with_id, canonical_index, canonical_heap, canonical_ref, canonical_type, heap_number, type_number};
+ghost use Rattle.validate_resources.specs.Indices.{is_known, type_indices_pass, ref_indices_pass, table_indices_pass, global_indices_pass, sub_indices_pass, inner_indices_pass, storage_indices_pass, field_indices_pass, signature_indices_pass, supertype_indices_pass, type_with_id, ref_with_id, table_with_id, global_with_id, sub_with_ids, inner_with_ids, storage_with_id, field_with_id, array_with_id, cont_with_id, signature_with_ids, index_with_id, canonical_index, canonical_heap, canonical_ref, canonical_type, heap_number, type_number};
 ghost use Rattle.validate_resources.specs.Lists.{list_indices_pass};
 ghost use Rattle.validate_resources.specs.declared.lists.TheConstants.{MAX_TYPES};
 
 use std::alloc::Global;
 use validate_types::{
-    ArrayType, CompositeInnerType, CompositeType, CoreTypeId, Error, FieldType, FuncType,
+    ArrayType, CompositeInnerType, CompositeType, ContType, CoreTypeId, Error, FieldType, FuncType,
     GlobalType, HeapType, PackedIndex, RefType, StorageType, StructType, SubType, TableType,
     UnpackedIndex, ValType,
 };
@@ -71,6 +71,20 @@ pub fn canonical_type(ty: ValType, count: usize) -> Result<ValType, u32>
     }
 }
 
+/// The id for an index that is packed, or its number where there is no such type among so many.
+fn canonical_packed(index: PackedIndex, count: usize) -> Result<PackedIndex, u32>
+    requires { count ≤ MAX_TYPES }
+    ensures known { OnOk result (is_known count index ≡ true) }
+    ensures form { IfOk result (λ x. x ≡ index_with_id index) }
+    ensures refused { OnErr result (is_known count index ≡ false) }
+{
+    let id = canonical_index(index.unpack(), count)?;
+    match id.pack() {
+        Some(id) => Ok(id),
+        None => unreachable!(),
+    }
+}
+
 /// The same of the supertype that a type declares.
 fn canonical_supertype(
     supertype: Option<PackedIndex>,
@@ -84,11 +98,8 @@ fn canonical_supertype(
     match supertype {
         None => Ok(None),
         Some(index) => {
-            let id = canonical_index(index.unpack(), count)?;
-            match id.pack() {
-                Some(id) => Ok(Some(id)),
-                None => unreachable!(),
-            }
+            let id = canonical_packed(index, count)?;
+            Ok(Some(id))
         }
     }
 }
@@ -241,6 +252,19 @@ impl Canonical for StructType {
     }
 }
 
+impl Canonical for ContType {
+    ghost known = { λ n c. is_known n c.0 };
+
+    ghost form = { cont_with_id };
+
+    fn canonical(&self, _alloc: Global, count: usize) -> Result<ContType, Error> {
+        match canonical_packed(self.0, count) {
+            Ok(index) => Ok(ContType(index)),
+            Err(_) => Err(unknown_type()),
+        }
+    }
+}
+
 impl Canonical for CompositeInnerType {
     ghost known = { λ n i. inner_indices_pass (is_known n) i };
 
@@ -259,6 +283,10 @@ impl Canonical for CompositeInnerType {
             CompositeInnerType::Struct(fields) => {
                 let fields = fields.canonical(alloc, count)?;
                 Ok(CompositeInnerType::Struct(fields))
+            }
+            CompositeInnerType::Cont(cont) => {
+                let cont = cont.canonical(alloc, count)?;
+                Ok(CompositeInnerType::Cont(cont))
             }
         }
     }

@@ -30,14 +30,15 @@ pub fn is_heap_shared(types: &[SubType], ty: HeapType) -> bool
     }
 }
 
-/// Whether both are of functions, of arrays or of structs.
+/// Whether both are of functions, of arrays, of structs or of continuations.
 fn is_same_kind(a: &CompositeInnerType, b: &CompositeInnerType) -> bool
     ensures { result ≡ is_same_kind a.now b.now }
 {
     match (a, b) {
         (CompositeInnerType::Func(_), CompositeInnerType::Func(_))
         | (CompositeInnerType::Array(_), CompositeInnerType::Array(_))
-        | (CompositeInnerType::Struct(_), CompositeInnerType::Struct(_)) => true,
+        | (CompositeInnerType::Struct(_), CompositeInnerType::Struct(_))
+        | (CompositeInnerType::Cont(_), CompositeInnerType::Cont(_)) => true,
         _ => false,
     }
 }
@@ -50,6 +51,7 @@ fn abstract_kind(inner: &CompositeInnerType) -> AbstractHeapType
         CompositeInnerType::Func(_) => AbstractHeapType::Func,
         CompositeInnerType::Array(_) => AbstractHeapType::Array,
         CompositeInnerType::Struct(_) => AbstractHeapType::Struct,
+        CompositeInnerType::Cont(_) => AbstractHeapType::Cont,
     }
 }
 
@@ -60,6 +62,7 @@ fn kind_bottom(inner: &CompositeInnerType) -> AbstractHeapType
     match inner {
         CompositeInnerType::Func(_) => AbstractHeapType::NoFunc,
         CompositeInnerType::Array(_) | CompositeInnerType::Struct(_) => AbstractHeapType::None,
+        CompositeInnerType::Cont(_) => AbstractHeapType::NoCont,
     }
 }
 

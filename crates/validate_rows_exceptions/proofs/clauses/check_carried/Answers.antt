@@ -3,7 +3,7 @@ use Rattle.validation_rules.specs.Static.{heads}
 use Rattle.validate_stacks.specs.State.{body_context}
 use Rattle.validate_shapes.proofs.Branching.{label_there, label_valid}
 use Rattle.validate_shapes.proofs.Comparing.{other_count}
-use Rattle.validate_rows_exceptions.proofs.Catching.{accepts_none, carried_at}
+use Rattle.validate_shapes.proofs.Carrying.{accepts_none, carried_at}
 use Rattle.validate_rows_exceptions.proofs.clauses.check_carried.Goals as goal
 
 pub returns-in_err-block_type-clause-refused : goal.returns-in_err-block_type-clause-refused

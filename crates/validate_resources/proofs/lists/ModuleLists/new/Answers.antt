@@ -5,7 +5,7 @@ use Rattle.validate_resources.specs.Indices.{is_known}
 use Rattle.validate_resources.specs.Lists.{Declared, declared_by, is_module, canonical_lists, list_indices_pass, have_func_types}
 use Rattle.validate_resources.specs.Order.{have_fitting_supertypes}
 use Rattle.validate_resources.specs.declared.lists.TheConstants.{MAX_TYPES}
-use Rattle.validate_resources.specs.Lawful.Forms.{module-same, have_known_types, no-module}
+use Rattle.validate_resources.specs.Lawful.Forms.{module-same, have_known_types, no-module, no-functions}
 use Rattle.validate_resources.proofs.lists.ModuleLists.new.Goals as goal
 
 pub from_forms-requires : goal.from_forms-requires
@@ -17,7 +17,9 @@ from_forms-requires c =
     let few : nat_le n MAX_TYPES ≡ true = grind (arith, common_steps) in
     let known : list_indices_pass (is_known n) d.types d.tables d.globals d.elements ≡ true = grind (arith, common_steps) in
     let supertypes : have_fitting_supertypes d.types ≡ true = grind (arith, common_steps) in
-    let func_types : have_func_types d ≡ true = grind (arith, common_steps) in
+    let func_types : have_func_types d ≡ true =
+    rw (sym c.deref-8.ensures.value, sym c.deref-9.ensures.value, sym c.deref-10.ensures.value)
+    (sym c.have_func_types.ensures ∙ c.if-not-have_func_types.false) in
     let holds : is_module is_known d ≡ true =
     and_from _ _ (and_from _ _ (and_from _ _ few known) supertypes) func_types in
     rw (c.in_ok-forms.ensures.types, c.in_ok-forms.ensures.tables, c.in_ok-forms.ensures.globals, c.in_ok-forms.ensures.elements)
@@ -51,3 +53,13 @@ returns-then-not-have_known_types-clause-refused c =
     c.args.globals.items c.args.tags.items c.args.elements.items c.args.data_count in
     let unknown : have_known_types d ≡ false = grind (arith, common_steps) in
     λ _. no-module d unknown
+
+pub returns-then-not-have_func_types-clause-refused : goal.returns-then-not-have_func_types-clause-refused
+returns-then-not-have_func_types-clause-refused c =
+    let d : Declared =
+    declared_by c.args.types.items c.args.functions.items c.args.tables.items c.args.memories.items
+    c.args.globals.items c.args.tags.items c.args.elements.items c.args.data_count in
+    let others : have_func_types d ≡ false =
+    rw (sym c.deref-8.ensures.value, sym c.deref-9.ensures.value, sym c.deref-10.ensures.value)
+    (sym c.have_func_types.ensures ∙ c.if-not-have_func_types.true) in
+    λ _. no-functions d others

@@ -1,0 +1,96 @@
+//! Atomic operators on globals, tables, structs and arrays by their names.
+
+use script_parts::names::named_in;
+use validate_visit::FieldAccess::{GetPacked, Whole};
+use validate_visit::GlobalAccess::{Rmw, Value};
+use validate_visit::SharedRmwOp::{Add, And, Or, Sub, Xor};
+use validate_visit::Sign::{Signed, Unsigned};
+use validate_visit::TableAccess::{Cmpxchg, Get, Set, Xchg};
+use validate_visit::{FieldAccess, FieldIndex, GlobalAccess, Ordering, SharedOp, TableAccess};
+
+/// The accesses to globals.
+const GLOBAL_ACCESSES: &[(&str, GlobalAccess)] = &[
+    ("global.atomic.get", Value(Get)),
+    ("global.atomic.set", Value(Set)),
+    ("global.atomic.rmw.add", Rmw(Add)),
+    ("global.atomic.rmw.sub", Rmw(Sub)),
+    ("global.atomic.rmw.and", Rmw(And)),
+    ("global.atomic.rmw.or", Rmw(Or)),
+    ("global.atomic.rmw.xor", Rmw(Xor)),
+    ("global.atomic.rmw.xchg", Value(Xchg)),
+    ("global.atomic.rmw.cmpxchg", Value(Cmpxchg)),
+];
+
+/// The accesses to tables.
+const TABLE_ACCESSES: &[(&str, TableAccess)] = &[
+    ("table.atomic.get", Get),
+    ("table.atomic.set", Set),
+    ("table.atomic.rmw.xchg", Xchg),
+    ("table.atomic.rmw.cmpxchg", Cmpxchg),
+];
+
+/// The accesses to structs.
+const STRUCT_ACCESSES: &[(&str, FieldAccess)] = &[
+    ("struct.atomic.get", Whole(Value(Get))),
+    ("struct.atomic.get_s", GetPacked(Signed)),
+    ("struct.atomic.get_u", GetPacked(Unsigned)),
+    ("struct.atomic.set", Whole(Value(Set))),
+    ("struct.atomic.rmw.add", Whole(Rmw(Add))),
+    ("struct.atomic.rmw.sub", Whole(Rmw(Sub))),
+    ("struct.atomic.rmw.and", Whole(Rmw(And))),
+    ("struct.atomic.rmw.or", Whole(Rmw(Or))),
+    ("struct.atomic.rmw.xor", Whole(Rmw(Xor))),
+    ("struct.atomic.rmw.xchg", Whole(Value(Xchg))),
+    ("struct.atomic.rmw.cmpxchg", Whole(Value(Cmpxchg))),
+];
+
+/// The accesses to arrays.
+const ARRAY_ACCESSES: &[(&str, FieldAccess)] = &[
+    ("array.atomic.get", Whole(Value(Get))),
+    ("array.atomic.get_s", GetPacked(Signed)),
+    ("array.atomic.get_u", GetPacked(Unsigned)),
+    ("array.atomic.set", Whole(Value(Set))),
+    ("array.atomic.rmw.add", Whole(Rmw(Add))),
+    ("array.atomic.rmw.sub", Whole(Rmw(Sub))),
+    ("array.atomic.rmw.and", Whole(Rmw(And))),
+    ("array.atomic.rmw.or", Whole(Rmw(Or))),
+    ("array.atomic.rmw.xor", Whole(Rmw(Xor))),
+    ("array.atomic.rmw.xchg", Whole(Value(Xchg))),
+    ("array.atomic.rmw.cmpxchg", Whole(Value(Cmpxchg))),
+];
+
+/// The atomic operator of this name, sequentially consistent, on the first place, if there is one.
+pub fn shared_operator(name: &str) -> Option<SharedOp> {
+    let ordering = Ordering::SeqCst;
+    if let Some(access) = named_in(GLOBAL_ACCESSES, name) {
+        return Some(SharedOp::Global {
+            access,
+            ordering,
+            global_index: 0,
+        });
+    }
+    if let Some(access) = named_in(TABLE_ACCESSES, name) {
+        return Some(SharedOp::Table {
+            access,
+            ordering,
+            table_index: 0,
+        });
+    }
+    if let Some(access) = named_in(STRUCT_ACCESSES, name) {
+        let field = FieldIndex {
+            struct_type_index: 0,
+            field_index: 0,
+        };
+        return Some(SharedOp::Struct {
+            access,
+            ordering,
+            field,
+        });
+    }
+    let access = named_in(ARRAY_ACCESSES, name)?;
+    Some(SharedOp::Array {
+        access,
+        ordering,
+        type_index: 0,
+    })
+}

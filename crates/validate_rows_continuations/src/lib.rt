@@ -1,0 +1,8 @@
+//! Checks of operators on continuations (a proposal, "Stack Switching"): each answers by the row of its
+//! operators.
+#![tactic(auto)]
+
+pub mod check;
+pub mod handlers;
+pub mod lookups;
+pub mod types;

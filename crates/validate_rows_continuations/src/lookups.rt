@@ -1,0 +1,143 @@
+//! Continuation types, looked up (a proposal, "Stack Switching": continuation types).
+
+ghost use Rattle.std.specs.Prelude.{◌≡◌, true, false, None, Some, IfOk, OnErr, IfErr};
+ghost use Rattle.std.specs.List.{AllByRecursion};
+ghost use Rattle.std.specs.Option.{option_copied};
+ghost use Rattle.validate_resources.specs.Context.{ModuleContext, Valid, IsContinuation, continued_signature};
+ghost use Rattle.validate_types.specs.Signatures.{is_signature_below};
+ghost use Rattle.validation_rules.specs.Continuations.{continuation_type, continuation_signature, referenced_continuation as referenced};
+ghost use Rattle.validate_stacks.specs.State.{body_context};
+
+use std::alloc::Global;
+use validate_resources::WasmModuleResources;
+use validate_resources::kinds::{continuation_of, func_type_of};
+use validate_stacks::Stacks;
+use validate_types::{
+    ContType, Error, FuncType, HeapType, UnpackedIndex, ValType, func_signature_matches,
+};
+
+/// The continuation type at an index, which has to be declared, and in a shared function has to be shared
+/// (wasmparser's `cont_type_at`). It refuses a type of another kind.
+pub fn cont_type_at<R: WasmModuleResources>(
+    stacks: &Stacks,
+    resources: &R,
+    offset: u64,
+    type_index: u32,
+) -> Result<ContType, Error>
+    ensures found { IfOk result (λ c. continuation_type
+        (body_context (R.context resources.now) stacks.now.body) type_index ≡ Some c.0) }
+    ensures continuation { IfOk result (λ c. IsContinuation (R.context resources.now) c.0) }
+    ensures refused { OnErr result (continuation_type
+        (body_context (R.context resources.now) stacks.now.body) type_index ≡ None) }
+    ensures offset { IfErr result (λ e. e.offset ≡ offset) }
+{
+    let Some(sub_type) = resources.sub_type_at(type_index) else {
+        return Err(Error::new("unknown type: type index out of bounds", offset));
+    };
+    let Some(index) = continuation_of(sub_type) else {
+        return Err(no_continuation(stacks.allocator(), offset, type_index));
+    };
+    if stacks.is_shared() && !sub_type.composite_type.shared {
+        return Err(Error::new(
+            "shared continuations cannot access unshared continuations",
+            offset,
+        ));
+    }
+    Ok(ContType(index))
+}
+
+#[cold]
+#[inline(never)]
+fn no_continuation(alloc: Global, offset: u64, type_index: u32) -> Error
+    ensures { result.offset ≡ offset }
+{
+    match format!(in alloc; "non-continuation type {type_index}") {
+        Ok(text) => Error::with_text(text, offset),
+        Err(_) => Error::out_of_memory(offset),
+    }
+}
+
+/// The function type of a continuation: what it still takes and gives (wasmparser's
+/// `func_type_of_cont_type`).
+pub fn func_type_of_cont_type<'a, R: WasmModuleResources>(
+    resources: &'a R,
+    cont_type: ContType,
+) -> &'a FuncType
+    requires { IsContinuation (R.context resources.now) cont_type.0 }
+    ensures found { continued_signature (R.context resources.now) cont_type.0 ≡ Some result.now }
+    ensures params { AllByRecursion (Valid (R.context resources.now)) result.now.params }
+    ensures results { AllByRecursion (Valid (R.context resources.now)) result.now.results }
+{
+    let Some(id) = cont_type.0.unpack().as_core_type_id() else {
+        unreachable!()
+    };
+    let Some(func_type) = func_type_of(resources.sub_type_at_id(id)) else {
+        unreachable!()
+    };
+    func_type
+}
+
+/// What a continuation of the type at an index still takes and gives. It refuses as [`cont_type_at`] does.
+pub fn func_type_of_cont_at<'a, R: WasmModuleResources>(
+    stacks: &Stacks,
+    resources: &'a R,
+    offset: u64,
+    type_index: u32,
+) -> Result<&'a FuncType, Error>
+    ensures found { IfOk result (λ f. continuation_signature
+        (body_context (R.context resources.now) stacks.now.body) type_index ≡ Some f.now) }
+    ensures params { IfOk result (λ f. AllByRecursion (Valid (R.context resources.now)) f.now.params) }
+    ensures results { IfOk result (λ f. AllByRecursion (Valid (R.context resources.now)) f.now.results) }
+    ensures refused { OnErr result (continuation_signature
+        (body_context (R.context resources.now) stacks.now.body) type_index ≡ None) }
+    ensures offset { IfErr result (λ e. e.offset ≡ offset) }
+{
+    let cont_type = cont_type_at(stacks, resources, offset, type_index)?;
+    Ok(func_type_of_cont_type(resources, cont_type))
+}
+
+/// Whether it is a reference to a type of the module.
+pub fn is_concrete_reference(ty: ValType) -> bool
+    ensures { (md : ModuleContext) → result ≡ false → referenced md ty ≡ None }
+{
+    match ty {
+        ValType::Ref(ty) => ty.is_concrete_type_ref(),
+        _ => false,
+    }
+}
+
+/// What a continuation still takes and gives that a reference is to; None of a type of another kind.
+pub fn referenced_continuation<'a, R: WasmModuleResources>(
+    resources: &'a R,
+    ty: ValType,
+) -> Option<&'a FuncType>
+    requires { Valid (R.context resources.now) ty }
+    ensures { option_copied result ≡ referenced (R.context resources.now) ty }
+{
+    let ValType::Ref(ty) = ty else {
+        return None;
+    };
+    let HeapType::Concrete(UnpackedIndex::Id(id)) = ty.heap_type() else {
+        return None;
+    };
+    let index = continuation_of(resources.sub_type_at_id(id))?;
+    Some(func_type_of_cont_type(resources, ContType(index)))
+}
+
+/// Whether `[p1] -> [r1]` is below `[p2] -> [r2]` (wasmparser's `is_func_subtype`).
+pub fn is_func_subtype<R: WasmModuleResources>(
+    resources: &R,
+    p1: &[ValType],
+    r1: &[ValType],
+    p2: &[ValType],
+    r2: &[ValType],
+) -> bool
+    requires p1 { AllByRecursion (Valid (R.context resources.now)) p1.now }
+    requires r1 { AllByRecursion (Valid (R.context resources.now)) r1.now }
+    requires p2 { AllByRecursion (Valid (R.context resources.now)) p2.now }
+    requires r2 { AllByRecursion (Valid (R.context resources.now)) r2.now }
+    ensures { result
+        ≡ is_signature_below (R.context resources.now).below p1.now r1.now p2.now r2.now }
+{
+    func_signature_matches(p1, r1, p2, r2, |a, b| resources.is_subtype(a, b))
+}

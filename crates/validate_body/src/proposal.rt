@@ -26,9 +26,19 @@ use validate_visit::{
 /// A validator that is about to visit an operator, with the lookup and the operator's offset
 /// (wasmparser's `WasmProposalValidator`).
 ///
-/// Each check and each visit asks for three things: a frame is open (`control_stack_height` isn't 0), the
-/// lookup is the one that the validator was made with, and no attempt is pending that has something to
-/// undo (`can_attempt`, or no attempt).
+/// Each check and each visit asks three things of its caller:
+/// - A frame is open. After the outermost `end` there is nothing to visit: `control_stack_height()` is 0
+///   then, and `current_frame()` is None.
+/// - The lookup is the one that the validator was made with and its locals were defined with, the same for
+///   each visit: types that are valid in one may mean nothing in another.
+/// - No attempt is pending, or the pending one has done no more than move operands. Where `can_attempt()`
+///   answers true, it has done nothing. After an operator that did more, `commit` or `rollback` comes first.
+///
+/// Nothing is asked of the operator. An `else`, `catch`, `catch_all` or `delegate` is refused where the
+/// innermost frame isn't one that it can end; a reader of binary modules asks `current_frame()` before it, to
+/// tell a malformed module from an invalid body. An index is refused that names nothing in the module, and so
+/// is a type that isn't valid there. That the operators are well ordered, and their immediates those of a
+/// module (none is the id of a type), is asked by `check_ops` alone, of its list.
 #[derive(Drop)]
 pub struct WasmProposalValidator<'validator, 'resources, R> {
     /// The operator's offset, which a refusal carries.
@@ -40,8 +50,10 @@ pub struct WasmProposalValidator<'validator, 'resources, R> {
 }
 
 impl OperatorValidator {
-    /// The validator, ready to visit the operator at this offset. It takes no memory. The conditions of
-    /// the visit are those of [`WasmProposalValidator`].
+    /// The validator, ready to visit the operator at this offset, which each refusal carries. It takes no
+    /// memory, and asks for nothing itself. The visit asks that a frame is open, that this lookup is the one
+    /// of the validator (that of `new_func`, of the locals and of each visit), and that a pending attempt has
+    /// done no more than move operands (`can_attempt()`); see [`WasmProposalValidator`].
     #[inline(always)]
     pub fn with_resources<'validator, 'resources, R: WasmModuleResources>(
         &'validator mut self,

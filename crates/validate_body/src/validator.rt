@@ -35,6 +35,7 @@ use validate_visit::{
 /// `state` of `specs/`.
 #[derive(Drop)]
 pub struct OperatorValidator {
+    /// The operands, the frames, the locals and the pending attempt.
     pub(crate) stacks: Stacks,
 }
 
@@ -126,8 +127,8 @@ impl OperatorValidator {
     }
 
     /// The check of one operator at this offset: accepted exactly where its row holds, memory aside, with
-    /// the static step. A refusal carries the offset. A frame has to be open, and the types of the state
-    /// are those of this lookup.
+    /// the static step. A refusal carries the offset. A frame has to be open, the types of the state are
+    /// those of this lookup, and a pending attempt has done no more than move operands (`can_attempt`).
     #[inline(always)]
     pub fn check<R: WasmModuleResources>(
         &mut self,

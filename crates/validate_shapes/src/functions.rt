@@ -64,6 +64,8 @@ pub fn func_type_at<'a, R: WasmModuleResources>(
     Ok(func_type)
 }
 
+/// The refusal of a function index past the end, at this offset: `unknown function N: function index out of
+/// bounds`, or want of memory for that text.
 #[cold]
 #[inline(never)]
 pub fn unknown_function(alloc: Global, offset: u64, function_index: u32) -> Error

@@ -14,10 +14,15 @@ use validate_visit::Frame;
 /// What an attempt changed.
 #[derive(Drop)]
 pub struct RollbackLog {
+    /// The operands, the newest change on top: a push as None, and a pop as the operand that it took.
     pub operands: Pile<Option<MaybeType>>,
+    /// The frames, the newest change on top: an opened one as None, and a closed one as it was.
     pub frames: Pile<Option<Frame>>,
+    /// The indices of the locals that closed frames unset, in order.
     pub inits: Vec<u32>,
+    /// How many locals had been set since they were declared when the attempt began.
     pub init_height: usize,
+    /// Whether the code of a frame became dead.
     pub unreachable: bool,
 }
 
@@ -54,6 +59,7 @@ impl Model for RollbackLogAllocations {
 }
 
 impl RollbackLogAllocations {
+    /// Empty buffers. It takes no memory.
     pub fn new(alloc: Global) -> Self {
         RollbackLogAllocations {
             operands: Pile::new(alloc),
@@ -88,6 +94,7 @@ impl RollbackLog {
         }
     }
 
+    /// What the buffers are allocated by.
     pub fn allocator(&self) -> Global {
         *self.inits.allocator()
     }
@@ -121,6 +128,7 @@ impl RollbackLog {
         }
     }
 
+    /// Records that an operand was pushed. Want of memory changes nothing.
     #[inline(never)]
     pub fn record_push(&mut self) -> Result<(), OutOfMemory>
         ensures { MatchResult result (λ _. self.new
@@ -131,6 +139,7 @@ impl RollbackLog {
         Ok(())
     }
 
+    /// Records that this operand was popped. Want of memory changes nothing.
     #[inline(never)]
     pub fn record_pop(&mut self, ty: &MaybeType) -> Result<(), OutOfMemory>
         ensures { MatchResult result (λ _. self.new
@@ -141,6 +150,7 @@ impl RollbackLog {
         Ok(())
     }
 
+    /// Records that a frame was opened. Want of memory changes nothing.
     #[inline(never)]
     pub fn push_ctrl(&mut self) -> Result<(), OutOfMemory>
         ensures { MatchResult result (λ _. self.new
@@ -151,6 +161,7 @@ impl RollbackLog {
         Ok(())
     }
 
+    /// Records that this frame was closed, and that it unset these locals. Want of memory changes nothing.
     #[inline(never)]
     pub fn pop_ctrl(&mut self, frame: &Frame, inits: &[u32]) -> Result<(), OutOfMemory>
         ensures { MatchResult result (λ _. self.new
@@ -166,6 +177,7 @@ impl RollbackLog {
         Ok(())
     }
 
+    /// Records that the code of a frame became dead. It takes no memory.
     pub fn set_unreachable(&mut self)
         ensures { self.new ≡ record self.old { unreachable = true } }
     {
@@ -176,6 +188,8 @@ impl RollbackLog {
 /// An attempt, or the buffers for the next one.
 #[derive(Drop)]
 pub enum Transaction {
+    /// An attempt is pending, with this log.
     Active(RollbackLog),
+    /// None is pending, and these buffers are for the next one.
     Inactive(RollbackLogAllocations),
 }

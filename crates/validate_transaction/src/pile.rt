@@ -34,6 +34,7 @@ impl<T> Pile<T> {
         }
     }
 
+    /// How many items there are.
     #[inline(always)]
     pub fn len(&self) -> usize
         ensures value { result ≡ length self.now.items }
@@ -42,6 +43,7 @@ impl<T> Pile<T> {
         self.vec.len()
     }
 
+    /// Whether there is none.
     #[inline(always)]
     pub fn is_empty(&self) -> bool
         ensures { result ≡ is_empty self.now.items }

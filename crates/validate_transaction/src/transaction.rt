@@ -59,6 +59,7 @@ impl Transaction {
         *self = Transaction::Active(RollbackLog::new(init_height, allocs));
     }
 
+    /// Whether an attempt is pending.
     #[inline(always)]
     pub fn is_active(&self) -> bool
         ensures { result ≡ is_some (log_of self.now) }
@@ -85,6 +86,8 @@ impl Transaction {
         }
     }
 
+    /// Records that an operand was pushed, if an attempt is pending. Want of memory changes nothing, and
+    /// there is none where no attempt is pending.
     #[inline(always)]
     pub fn record_push(&mut self) -> Result<(), OutOfMemory>
         ensures exact { MatchResult result (λ _. self.new ≡ with_push self.old) (λ _. self.new ≡ self.old) }
@@ -96,6 +99,8 @@ impl Transaction {
         }
     }
 
+    /// Records that this operand was popped, if an attempt is pending. Want of memory changes nothing, and
+    /// there is none where no attempt is pending.
     #[inline(always)]
     pub fn record_pop(&mut self, ty: &MaybeType) -> Result<(), OutOfMemory>
         ensures exact { MatchResult result (λ _. self.new ≡ with_pop ty.now self.old)
@@ -108,6 +113,8 @@ impl Transaction {
         }
     }
 
+    /// Records that a frame was opened, if an attempt is pending. Want of memory changes nothing, and there
+    /// is none where no attempt is pending.
     #[inline(always)]
     pub fn push_ctrl(&mut self) -> Result<(), OutOfMemory>
         ensures exact { MatchResult result (λ _. self.new ≡ with_opened self.old) (λ _. self.new ≡ self.old) }
@@ -119,6 +126,8 @@ impl Transaction {
         }
     }
 
+    /// Records that this frame was closed, and that it unset these locals, if an attempt is pending. Want of
+    /// memory changes nothing, and there is none where no attempt is pending.
     #[inline(always)]
     pub fn pop_ctrl(&mut self, frame: &Frame, inits: &[u32]) -> Result<(), OutOfMemory>
         ensures exact { MatchResult result (λ _. self.new ≡ with_closed frame.now inits.now self.old)
@@ -131,6 +140,7 @@ impl Transaction {
         }
     }
 
+    /// Records that the code of a frame became dead, if an attempt is pending. It takes no memory.
     #[inline(always)]
     pub fn set_unreachable(&mut self)
         ensures { self.new ≡ with_mark self.old }

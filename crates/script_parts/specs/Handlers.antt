@@ -1,5 +1,6 @@
 -- The handlers of a `resume`, as a script writes them (the crate's own).
-use Rattle.std.specs.Prelude.{◌≡◌, ◌++◌, ℕ, List, codes}
+use Rattle.std.specs.Prelude.{◌≡◌, ◌++◌, ℕ, List, [], ◌∷◌, codes}
+use Rattle.std.specs.List.{AllZip}
 use Rattle.validate_visit.specs.declared.resume.Handle.{Handle}
 use Rattle.validate_visit.specs.declared.resume.Handle.TheVariants.{OnLabel, OnSwitch}
 use Rattle.script_parts.specs.Catches.{IsTagAndLabel}
@@ -19,3 +20,13 @@ IsHandlerImmediates word (OnSwitch tag) = WritesIndex word tag
 abbrev pub IsHandlerName : List ℕ → Handle → Type 0
 IsHandlerName word handle =
     (rest : List ℕ) × (word ≡ handler_prefix handle ++ rest) × IsHandlerImmediates rest handle
+
+-- the words write the index of the type of what is resumed, and its handlers
+abbrev pub AreResumeImmediates : List (List ℕ) → ℕ → List Handle → Type 0
+AreResumeImmediates (word ∷ words) type handlers = WritesIndex word type × AllZip IsHandlerName words handlers
+AreResumeImmediates [] type handlers = ⊥
+
+-- the same, with the index of a tag between them
+abbrev pub AreThrowImmediates : List (List ℕ) → ℕ → ℕ → List Handle → Type 0
+AreThrowImmediates (word ∷ words) type tag handlers = WritesIndex word type × AreResumeImmediates words tag handlers
+AreThrowImmediates [] type tag handlers = ⊥

@@ -33,3 +33,18 @@ abbrev pub resumption_indices : Resumption → List ℕ
 resumption_indices (Resume type) = type ∷ []
 resumption_indices (Throw type tag) = type ∷ tag ∷ []
 resumption_indices (ThrowRef type) = type ∷ []
+
+-- the type and the handlers of a `resume`
+abbrev pub listed_resume : OperatorList → Option (ℕ × List Handle)
+listed_resume (Handlers (Resume type) handlers) = Some (type, handlers.items)
+listed_resume _ = None
+
+-- the type, the tag and the handlers of a `resume_throw`
+abbrev pub listed_throw : OperatorList → Option (ℕ × ℕ × List Handle)
+listed_throw (Handlers (Throw type tag) handlers) = Some (type, tag, handlers.items)
+listed_throw _ = None
+
+-- the type and the handlers of a `resume_throw_ref`
+abbrev pub listed_throw_ref : OperatorList → Option (ℕ × List Handle)
+listed_throw_ref (Handlers (ThrowRef type) handlers) = Some (type, handlers.items)
+listed_throw_ref _ = None

@@ -1,12 +1,14 @@
 //! The lists of operators, each read before the operator that lends it.
 
-ghost use Rattle.std.specs.Prelude.{◌≡◌, ◌≢◌, List, [], true, All, IfOk, IsErrOf, IsSomeAnd, OnOk, map};
+ghost use Rattle.std.specs.Prelude.{◌≡◌, ◌≢◌, ℕ, List, [], true, All, IfOk, IsErrOf, IsSomeAnd, OnOk, map};
 ghost use Rattle.std.specs.Str.Parse.{digits_value};
-ghost use Rattle.script_parts.specs.Listed.{listed_labels, listed_types, listed_try_table, listed_handlers, resumption_indices};
+ghost use Rattle.script_parts.specs.Listed.{listed_labels, listed_types, listed_try_table, listed_handlers, listed_resume, listed_throw, listed_throw_ref, resumption_indices};
 ghost use Rattle.validate_visit.specs.declared.catch.Catch.{Catch};
 ghost use Rattle.validate_visit.specs.declared.frame.BlockType.{BlockType};
 ghost use Rattle.script_parts.specs.Blocks.{fits_block};
+ghost use Rattle.validate_visit.specs.declared.resume.Handle.{Handle};
 ghost use Rattle.script_parts.specs.Catches.{AreTryImmediates};
+ghost use Rattle.script_parts.specs.Handlers.{AreResumeImmediates, AreThrowImmediates};
 ghost use Rattle.script_parts.specs.Indices.{continuation_indices};
 ghost use Rattle.script_parts.specs.Numbers.{IsIndex};
 ghost use Rattle.script_parts.specs.Written.{labels_of, select_types, try_table_of, handlers_in, handlers_of, is_complete};
@@ -176,7 +178,12 @@ fn read_try_table(alloc: Global, words: &[&str]) -> Result<OperatorList, LineErr
 }
 
 /// The immediates of a `resume`: a type, and its handlers.
-fn read_resume(alloc: Global, words: &[&str]) -> Result<OperatorList, LineError> {
+fn read_resume(alloc: Global, words: &[&str]) -> Result<OperatorList, LineError>
+    ensures read { IfOk result (λ list. IsSomeAnd (listed_resume list)
+        (λ p. AreResumeImmediates (map (λ word. word.now) words.now) p.0 p.1)) }
+    ensures bad { IsErrOf result LineError.Bad → (type : ℕ) → (handlers : List Handle)
+        → ¬ (AreResumeImmediates (map (λ word. word.now) words.now) type handlers) }
+{
     let (ty, handlers) = words.split_first().ok_or(LineError::Bad)?;
     let ty = read_index(ty).ok_or(LineError::Bad)?;
     Ok(OperatorList::Handlers {
@@ -186,7 +193,12 @@ fn read_resume(alloc: Global, words: &[&str]) -> Result<OperatorList, LineError>
 }
 
 /// The immediates of a `resume_throw`: a type, a tag, and its handlers.
-fn read_resume_throw(alloc: Global, words: &[&str]) -> Result<OperatorList, LineError> {
+fn read_resume_throw(alloc: Global, words: &[&str]) -> Result<OperatorList, LineError>
+    ensures read { IfOk result (λ list. IsSomeAnd (listed_throw list)
+        (λ p. AreThrowImmediates (map (λ word. word.now) words.now) p.0 p.1 p.2)) }
+    ensures bad { IsErrOf result LineError.Bad → (type : ℕ) → (tag : ℕ) → (handlers : List Handle)
+        → ¬ (AreThrowImmediates (map (λ word. word.now) words.now) type tag handlers) }
+{
     let (ty, rest) = words.split_first().ok_or(LineError::Bad)?;
     let (tag, handlers) = rest.split_first().ok_or(LineError::Bad)?;
     let ty = read_index(ty).ok_or(LineError::Bad)?;
@@ -198,7 +210,12 @@ fn read_resume_throw(alloc: Global, words: &[&str]) -> Result<OperatorList, Line
 }
 
 /// The immediates of a `resume_throw_ref`: a type, and its handlers.
-fn read_resume_throw_ref(alloc: Global, words: &[&str]) -> Result<OperatorList, LineError> {
+fn read_resume_throw_ref(alloc: Global, words: &[&str]) -> Result<OperatorList, LineError>
+    ensures read { IfOk result (λ list. IsSomeAnd (listed_throw_ref list)
+        (λ p. AreResumeImmediates (map (λ word. word.now) words.now) p.0 p.1)) }
+    ensures bad { IsErrOf result LineError.Bad → (type : ℕ) → (handlers : List Handle)
+        → ¬ (AreResumeImmediates (map (λ word. word.now) words.now) type handlers) }
+{
     let (ty, handlers) = words.split_first().ok_or(LineError::Bad)?;
     let ty = read_index(ty).ok_or(LineError::Bad)?;
     Ok(OperatorList::Handlers {

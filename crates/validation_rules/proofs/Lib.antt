@@ -20,3 +20,4 @@ mod ExamplesAggregates
 mod ExamplesCasts
 mod ExamplesExceptions
 mod ExamplesShared
+mod ExamplesContinuations

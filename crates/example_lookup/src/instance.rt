@@ -49,6 +49,14 @@ impl Value {
 }
 
 impl Variable {
+    /// A variable that can be written, with its first value.
+    pub fn new(value: Value) -> Variable {
+        Variable {
+            value,
+            mutable: true,
+        }
+    }
+
     /// Its type.
     fn ty(&self) -> GlobalType
         ensures { result ≡ variable_type self.now }

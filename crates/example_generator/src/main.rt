@@ -41,7 +41,6 @@ const ADD: Op<'static> = Op::Numeric(NumericOp::IntegerBinary(
 const WISHES: &[(&str, Op<'static>)] = &[
     ("i32.add", ADD),
     ("local.get 0", Op::Control(ControlOp::LocalGet(0))),
-    ("i32.add", ADD),
     ("i32.const 1", Op::Numeric(NumericOp::I32Const(1))),
     ("end", Op::Control(ControlOp::End)),
     ("i32.add", ADD),

@@ -2,9 +2,13 @@
 
 ghost use Rattle.std.specs.Prelude.{◌≡◌, ◌≢◌, true, false, OnOk, OnErr, IfOk, IfErr};
 ghost use Rattle.validate_resources.specs.Context.{Valid, is_number_or_vector};
-ghost use Rattle.validation_rules.specs.Arrays.{array_row, is_read_from_data, is_read_from_elements, may_be_copied};
+ghost use Rattle.validation_rules.specs.Arrays.{array_row, array_new_row, array_new_default_row};
+ghost use Rattle.validation_rules.specs.Arrays.{array_new_fixed_row, array_new_data_row, array_new_elem_row};
+ghost use Rattle.validation_rules.specs.Arrays.{array_read_row, array_set_row, array_fill_row};
+ghost use Rattle.validation_rules.specs.Arrays.{array_copy_row, array_init_data_row, array_init_elem_row};
+ghost use Rattle.validation_rules.specs.Arrays.{is_read_from_data, is_read_from_elements, may_be_copied};
 ghost use Rattle.validation_rules.specs.Operators.{row_operator};
-ghost use Rattle.validation_rules.specs.Structs.{field_value};
+ghost use Rattle.validation_rules.specs.Structs.{field_value, is_whole_field, is_packed_field};
 ghost use Rattle.validate_stacks.specs.State.{body_context};
 ghost use Rattle.validate_stacks.specs.Visits.{MayVisit, Meets};
 ghost use Rattle.validate_visit.specs.declared.op.ArrayOp.{ArrayOp};
@@ -22,7 +26,7 @@ use validate_shapes::tables::element_type_at;
 use validate_shapes::types::Few;
 use validate_stacks::Stacks;
 use validate_types::{AbstractHeapType, Error, FieldType, RefType, StorageType, ValType};
-use validate_visit::ArrayOp;
+use validate_visit::{ArrayOp, Sign};
 
 /// The refusals of arrays of references by operators that read a data segment.
 const NEW_DATA: &'static str =
@@ -168,14 +172,328 @@ fn check_copied<R: WasmModuleResources>(
     }
 }
 
+/// What `array.new` takes and gives: one value for all places, and so many.
+fn new_types<R: WasmModuleResources>(
+    stacks: &Stacks,
+    resources: &R,
+    offset: u64,
+    index: u32,
+) -> Result<AggregateTypes<'static>, Error>
+    ensures row { IfOk result (λ t. array_new_row
+        (body_context (R.context resources.now) stacks.now.body) index ≡ aggregate_row t) }
+    ensures valid { IfOk result (λ t. IsValidAggregate (R.context resources.now) t) }
+    ensures refused { IfErr result (λ e. e.wants_memory ≡ false → (array_new_row
+        (body_context (R.context resources.now) stacks.now.body) index).premise ≡ false) }
+    ensures offset { IfErr result (λ e. e.offset ≡ offset) }
+{
+    let value = array_type_at(stacks, resources, offset, index)?
+        .element_type
+        .unpack();
+    let made = type_reference(stacks, resources, offset, false, index)?;
+    Ok(AggregateTypes {
+        wanted: Wanted::Few(Few::Two(value, ValType::I32)),
+        pushed: Few::One(made),
+    })
+}
+
+/// What `array.new_default` takes and gives.
+fn new_default_types<R: WasmModuleResources>(
+    stacks: &Stacks,
+    resources: &R,
+    offset: u64,
+    index: u32,
+) -> Result<AggregateTypes<'static>, Error>
+    ensures row { IfOk result (λ t. array_new_default_row
+        (body_context (R.context resources.now) stacks.now.body) index ≡ aggregate_row t) }
+    ensures valid { IfOk result (λ t. IsValidAggregate (R.context resources.now) t) }
+    ensures refused { IfErr result (λ e. e.wants_memory ≡ false → (array_new_default_row
+        (body_context (R.context resources.now) stacks.now.body) index).premise ≡ false) }
+    ensures offset { IfErr result (λ e. e.offset ≡ offset) }
+{
+    let value = array_type_at(stacks, resources, offset, index)?
+        .element_type
+        .unpack();
+    if !value.is_defaultable() {
+        return Err(not_defaultable(stacks, offset, value));
+    }
+    let made = type_reference(stacks, resources, offset, false, index)?;
+    Ok(AggregateTypes {
+        wanted: Wanted::Few(Few::One(ValType::I32)),
+        pushed: Few::One(made),
+    })
+}
+
+/// What `array.new_fixed` takes and gives: a value for each place.
+fn new_fixed_types<R: WasmModuleResources>(
+    stacks: &Stacks,
+    resources: &R,
+    offset: u64,
+    index: u32,
+    size: u32,
+) -> Result<AggregateTypes<'static>, Error>
+    ensures row { IfOk result (λ t. array_new_fixed_row
+        (body_context (R.context resources.now) stacks.now.body) index size ≡ aggregate_row t) }
+    ensures valid { IfOk result (λ t. IsValidAggregate (R.context resources.now) t) }
+    ensures refused { IfErr result (λ e. e.wants_memory ≡ false → (array_new_fixed_row
+        (body_context (R.context resources.now) stacks.now.body) index size).premise ≡ false) }
+    ensures offset { IfErr result (λ e. e.offset ≡ offset) }
+{
+    let value = array_type_at(stacks, resources, offset, index)?
+        .element_type
+        .unpack();
+    let made = type_reference(stacks, resources, offset, false, index)?;
+    Ok(AggregateTypes {
+        wanted: Wanted::Run(value, size),
+        pushed: Few::One(made),
+    })
+}
+
+/// What `array.new_data` takes and gives: a place of the data segment, and so many.
+fn new_data_types<R: WasmModuleResources>(
+    stacks: &Stacks,
+    resources: &R,
+    offset: u64,
+    index: u32,
+    data_index: u32,
+) -> Result<AggregateTypes<'static>, Error>
+    ensures row { IfOk result (λ t. array_new_data_row
+        (body_context (R.context resources.now) stacks.now.body) index data_index ≡ aggregate_row t) }
+    ensures valid { IfOk result (λ t. IsValidAggregate (R.context resources.now) t) }
+    ensures refused { IfErr result (λ e. e.wants_memory ≡ false → (array_new_data_row
+        (body_context (R.context resources.now) stacks.now.body) index data_index).premise ≡ false) }
+    ensures offset { IfErr result (λ e. e.offset ≡ offset) }
+{
+    let element = array_type_at(stacks, resources, offset, index)?;
+    check_data(stacks, resources, offset, data_index, element, NEW_DATA)?;
+    let made = type_reference(stacks, resources, offset, false, index)?;
+    Ok(AggregateTypes {
+        wanted: Wanted::Few(Few::Two(ValType::I32, ValType::I32)),
+        pushed: Few::One(made),
+    })
+}
+
+/// What `array.new_elem` takes and gives: a place of the element segment, and so many.
+fn new_elem_types<R: WasmModuleResources>(
+    stacks: &Stacks,
+    resources: &R,
+    offset: u64,
+    index: u32,
+    elem_index: u32,
+) -> Result<AggregateTypes<'static>, Error>
+    ensures row { IfOk result (λ t. array_new_elem_row
+        (body_context (R.context resources.now) stacks.now.body) index elem_index ≡ aggregate_row t) }
+    ensures valid { IfOk result (λ t. IsValidAggregate (R.context resources.now) t) }
+    ensures refused { IfErr result (λ e. e.wants_memory ≡ false → (array_new_elem_row
+        (body_context (R.context resources.now) stacks.now.body) index elem_index).premise ≡ false) }
+    ensures offset { IfErr result (λ e. e.offset ≡ offset) }
+{
+    let element = array_type_at(stacks, resources, offset, index)?;
+    check_elements(
+        stacks,
+        resources,
+        offset,
+        elem_index,
+        element,
+        "array.new_elem",
+    )?;
+    let made = type_reference(stacks, resources, offset, false, index)?;
+    Ok(AggregateTypes {
+        wanted: Wanted::Few(Few::Two(ValType::I32, ValType::I32)),
+        pushed: Few::One(made),
+    })
+}
+
+/// What `array.get` takes and gives, of an array whose places hold whole values.
+fn get_types<R: WasmModuleResources>(
+    stacks: &Stacks,
+    resources: &R,
+    offset: u64,
+    index: u32,
+) -> Result<AggregateTypes<'static>, Error>
+    ensures row { IfOk result (λ t. array_read_row
+        (body_context (R.context resources.now) stacks.now.body) is_whole_field index ≡ aggregate_row t) }
+    ensures valid { IfOk result (λ t. IsValidAggregate (R.context resources.now) t) }
+    ensures refused { IfErr result (λ e. e.wants_memory ≡ false → (array_read_row
+        (body_context (R.context resources.now) stacks.now.body) is_whole_field index).premise ≡ false) }
+    ensures offset { IfErr result (λ e. e.offset ≡ offset) }
+{
+    let element = array_type_at(stacks, resources, offset, index)?;
+    if element.element_type.is_packed() {
+        return Err(wrong_array_packing(offset, None));
+    }
+    let from = type_reference(stacks, resources, offset, true, index)?;
+    Ok(AggregateTypes {
+        wanted: Wanted::Few(Few::Two(from, ValType::I32)),
+        pushed: Few::One(element.element_type.unpack()),
+    })
+}
+
+/// What `array.get_s` and `array.get_u` take and give, of an array whose places hold packed values.
+fn get_packed_types<R: WasmModuleResources>(
+    stacks: &Stacks,
+    resources: &R,
+    offset: u64,
+    sign: Sign,
+    index: u32,
+) -> Result<AggregateTypes<'static>, Error>
+    ensures row { IfOk result (λ t. array_read_row
+        (body_context (R.context resources.now) stacks.now.body) is_packed_field index ≡ aggregate_row t) }
+    ensures valid { IfOk result (λ t. IsValidAggregate (R.context resources.now) t) }
+    ensures refused { IfErr result (λ e. e.wants_memory ≡ false → (array_read_row
+        (body_context (R.context resources.now) stacks.now.body) is_packed_field index).premise ≡ false) }
+    ensures offset { IfErr result (λ e. e.offset ≡ offset) }
+{
+    let element = array_type_at(stacks, resources, offset, index)?;
+    if !element.element_type.is_packed() {
+        return Err(wrong_array_packing(offset, Some(sign)));
+    }
+    let from = type_reference(stacks, resources, offset, true, index)?;
+    Ok(AggregateTypes {
+        wanted: Wanted::Few(Few::Two(from, ValType::I32)),
+        pushed: Few::One(element.element_type.unpack()),
+    })
+}
+
+/// What `array.set` takes.
+fn set_types<R: WasmModuleResources>(
+    stacks: &Stacks,
+    resources: &R,
+    offset: u64,
+    index: u32,
+) -> Result<AggregateTypes<'static>, Error>
+    ensures row { IfOk result (λ t. array_set_row
+        (body_context (R.context resources.now) stacks.now.body) index ≡ aggregate_row t) }
+    ensures valid { IfOk result (λ t. IsValidAggregate (R.context resources.now) t) }
+    ensures refused { IfErr result (λ e. e.wants_memory ≡ false → (array_set_row
+        (body_context (R.context resources.now) stacks.now.body) index).premise ≡ false) }
+    ensures offset { IfErr result (λ e. e.offset ≡ offset) }
+{
+    let element = array_type_at(stacks, resources, offset, index)?;
+    check_mutable_array(offset, element)?;
+    let into = type_reference(stacks, resources, offset, true, index)?;
+    let value = element.element_type.unpack();
+    Ok(AggregateTypes {
+        wanted: Wanted::Few(Few::Three(into, ValType::I32, value)),
+        pushed: Few::Zero,
+    })
+}
+
+/// What `array.fill` takes: from this place on, with this value, so many.
+fn fill_types<R: WasmModuleResources>(
+    stacks: &Stacks,
+    resources: &R,
+    offset: u64,
+    index: u32,
+) -> Result<AggregateTypes<'static>, Error>
+    ensures row { IfOk result (λ t. array_fill_row
+        (body_context (R.context resources.now) stacks.now.body) index ≡ aggregate_row t) }
+    ensures valid { IfOk result (λ t. IsValidAggregate (R.context resources.now) t) }
+    ensures refused { IfErr result (λ e. e.wants_memory ≡ false → (array_fill_row
+        (body_context (R.context resources.now) stacks.now.body) index).premise ≡ false) }
+    ensures offset { IfErr result (λ e. e.offset ≡ offset) }
+{
+    let element = array_type_at(stacks, resources, offset, index)?;
+    check_mutable_array(offset, element)?;
+    let into = type_reference(stacks, resources, offset, true, index)?;
+    let value = element.element_type.unpack();
+    Ok(AggregateTypes {
+        wanted: Wanted::Few(Few::Four(into, ValType::I32, value, ValType::I32)),
+        pushed: Few::Zero,
+    })
+}
+
+/// What `array.copy` takes: to a place, from a place, so many.
+fn copy_types<R: WasmModuleResources>(
+    stacks: &Stacks,
+    resources: &R,
+    offset: u64,
+    dst_index: u32,
+    src_index: u32,
+) -> Result<AggregateTypes<'static>, Error>
+    ensures row { IfOk result (λ t. array_copy_row
+        (body_context (R.context resources.now) stacks.now.body) dst_index src_index ≡ aggregate_row t) }
+    ensures valid { IfOk result (λ t. IsValidAggregate (R.context resources.now) t) }
+    ensures refused { IfErr result (λ e. e.wants_memory ≡ false → (array_copy_row
+        (body_context (R.context resources.now) stacks.now.body) dst_index src_index).premise ≡ false) }
+    ensures offset { IfErr result (λ e. e.offset ≡ offset) }
+{
+    let dst = array_type_at(stacks, resources, offset, dst_index)?;
+    check_mutable_array(offset, dst)?;
+    let src = array_type_at(stacks, resources, offset, src_index)?;
+    check_copied(stacks, resources, offset, src, dst)?;
+    let into = type_reference(stacks, resources, offset, true, dst_index)?;
+    let from = type_reference(stacks, resources, offset, true, src_index)?;
+    Ok(AggregateTypes {
+        wanted: Wanted::Few(Few::Five(into, ValType::I32, from, ValType::I32, ValType::I32)),
+        pushed: Few::Zero,
+    })
+}
+
+/// What `array.init_data` takes: to a place, from one of the data segment, so many.
+fn init_data_types<R: WasmModuleResources>(
+    stacks: &Stacks,
+    resources: &R,
+    offset: u64,
+    index: u32,
+    data_index: u32,
+) -> Result<AggregateTypes<'static>, Error>
+    ensures row { IfOk result (λ t. array_init_data_row
+        (body_context (R.context resources.now) stacks.now.body) index data_index ≡ aggregate_row t) }
+    ensures valid { IfOk result (λ t. IsValidAggregate (R.context resources.now) t) }
+    ensures refused { IfErr result (λ e. e.wants_memory ≡ false → (array_init_data_row
+        (body_context (R.context resources.now) stacks.now.body) index data_index).premise ≡ false) }
+    ensures offset { IfErr result (λ e. e.offset ≡ offset) }
+{
+    let element = array_type_at(stacks, resources, offset, index)?;
+    check_mutable_array(offset, element)?;
+    check_data(stacks, resources, offset, data_index, element, INIT_DATA)?;
+    let into = type_reference(stacks, resources, offset, true, index)?;
+    Ok(AggregateTypes {
+        wanted: Wanted::Few(Few::Four(into, ValType::I32, ValType::I32, ValType::I32)),
+        pushed: Few::Zero,
+    })
+}
+
+/// What `array.init_elem` takes: to a place, from one of the element segment, so many.
+fn init_elem_types<R: WasmModuleResources>(
+    stacks: &Stacks,
+    resources: &R,
+    offset: u64,
+    index: u32,
+    elem_index: u32,
+) -> Result<AggregateTypes<'static>, Error>
+    ensures row { IfOk result (λ t. array_init_elem_row
+        (body_context (R.context resources.now) stacks.now.body) index elem_index ≡ aggregate_row t) }
+    ensures valid { IfOk result (λ t. IsValidAggregate (R.context resources.now) t) }
+    ensures refused { IfErr result (λ e. e.wants_memory ≡ false → (array_init_elem_row
+        (body_context (R.context resources.now) stacks.now.body) index elem_index).premise ≡ false) }
+    ensures offset { IfErr result (λ e. e.offset ≡ offset) }
+{
+    let element = array_type_at(stacks, resources, offset, index)?;
+    check_mutable_array(offset, element)?;
+    check_elements(
+        stacks,
+        resources,
+        offset,
+        elem_index,
+        element,
+        "array.init_elem",
+    )?;
+    let into = type_reference(stacks, resources, offset, true, index)?;
+    Ok(AggregateTypes {
+        wanted: Wanted::Few(Few::Four(into, ValType::I32, ValType::I32, ValType::I32)),
+        pushed: Few::Zero,
+    })
+}
+
 /// What an operator on arrays takes and gives, by the types and the segment that it names. `array.len`,
 /// which names none, looks at its operand.
-fn array_types<'a, R: WasmModuleResources>(
+fn array_types<R: WasmModuleResources>(
     stacks: &Stacks,
-    resources: &'a R,
+    resources: &R,
     offset: u64,
     op: ArrayOp,
-) -> Result<AggregateTypes<'a>, Error>
+) -> Result<AggregateTypes<'static>, Error>
     requires { op ≢ ArrayOp.ArrayLen }
     ensures row { IfOk result (λ t. array_row (body_context (R.context resources.now) stacks.now.body) op
         ≡ aggregate_row t) }
@@ -186,180 +504,77 @@ fn array_types<'a, R: WasmModuleResources>(
 {
     match op {
         ArrayOp::ArrayLen => unreachable!(),
-        ArrayOp::ArrayNew(index) => {
-            let value = array_type_at(stacks, resources, offset, index)?
-                .element_type
-                .unpack();
-            let made = type_reference(stacks, resources, offset, false, index)?;
-            Ok(AggregateTypes {
-                wanted: Wanted::Few(Few::Two(value, ValType::I32)),
-                pushed: Few::One(made),
-            })
-        }
-        ArrayOp::ArrayNewDefault(index) => {
-            let value = array_type_at(stacks, resources, offset, index)?
-                .element_type
-                .unpack();
-            if !value.is_defaultable() {
-                return Err(not_defaultable(stacks, offset, value));
-            }
-            let made = type_reference(stacks, resources, offset, false, index)?;
-            Ok(AggregateTypes {
-                wanted: Wanted::Few(Few::One(ValType::I32)),
-                pushed: Few::One(made),
-            })
-        }
+        ArrayOp::ArrayNew(index) => new_types(stacks, resources, offset, index),
+        ArrayOp::ArrayNewDefault(index) => new_default_types(stacks, resources, offset, index),
         ArrayOp::ArrayNewFixed {
             array_type_index,
             array_size,
-        } => {
-            let element = array_type_at(stacks, resources, offset, array_type_index)?;
-            let made = type_reference(stacks, resources, offset, false, array_type_index)?;
-            Ok(AggregateTypes {
-                wanted: Wanted::Run(element.element_type.unpack(), array_size),
-                pushed: Few::One(made),
-            })
-        }
+        } => { new_fixed_types(stacks, resources, offset, array_type_index, array_size) }
         ArrayOp::ArrayNewData {
             array_type_index,
             array_data_index,
         } => {
-            let element = array_type_at(stacks, resources, offset, array_type_index)?;
-            check_data(
+            new_data_types(
                 stacks,
                 resources,
                 offset,
+                array_type_index,
                 array_data_index,
-                element,
-                NEW_DATA,
-            )?;
-            let made = type_reference(stacks, resources, offset, false, array_type_index)?;
-            Ok(AggregateTypes {
-                wanted: Wanted::Few(Few::Two(ValType::I32, ValType::I32)),
-                pushed: Few::One(made),
-            })
+            )
         }
         ArrayOp::ArrayNewElem {
             array_type_index,
             array_elem_index,
         } => {
-            let element = array_type_at(stacks, resources, offset, array_type_index)?;
-            check_elements(
+            new_elem_types(
                 stacks,
                 resources,
                 offset,
+                array_type_index,
                 array_elem_index,
-                element,
-                "array.new_elem",
-            )?;
-            let made = type_reference(stacks, resources, offset, false, array_type_index)?;
-            Ok(AggregateTypes {
-                wanted: Wanted::Few(Few::Two(ValType::I32, ValType::I32)),
-                pushed: Few::One(made),
-            })
+            )
         }
-        ArrayOp::ArrayGet(index) => {
-            let element = array_type_at(stacks, resources, offset, index)?;
-            if element.element_type.is_packed() {
-                return Err(wrong_array_packing(offset, None));
-            }
-            let from = type_reference(stacks, resources, offset, true, index)?;
-            Ok(AggregateTypes {
-                wanted: Wanted::Few(Few::Two(from, ValType::I32)),
-                pushed: Few::One(element.element_type.unpack()),
-            })
-        }
-        ArrayOp::ArrayGetPacked(sign, index) => {
-            let element = array_type_at(stacks, resources, offset, index)?;
-            if !element.element_type.is_packed() {
-                return Err(wrong_array_packing(offset, Some(sign)));
-            }
-            let from = type_reference(stacks, resources, offset, true, index)?;
-            Ok(AggregateTypes {
-                wanted: Wanted::Few(Few::Two(from, ValType::I32)),
-                pushed: Few::One(element.element_type.unpack()),
-            })
-        }
-        ArrayOp::ArraySet(index) => {
-            let element = array_type_at(stacks, resources, offset, index)?;
-            check_mutable_array(offset, element)?;
-            let into = type_reference(stacks, resources, offset, true, index)?;
-            let value = element.element_type.unpack();
-            Ok(AggregateTypes {
-                wanted: Wanted::Few(Few::Three(into, ValType::I32, value)),
-                pushed: Few::Zero,
-            })
-        }
-        ArrayOp::ArrayFill(index) => {
-            let element = array_type_at(stacks, resources, offset, index)?;
-            check_mutable_array(offset, element)?;
-            let into = type_reference(stacks, resources, offset, true, index)?;
-            let value = element.element_type.unpack();
-            Ok(AggregateTypes {
-                wanted: Wanted::Few(Few::Four(into, ValType::I32, value, ValType::I32)),
-                pushed: Few::Zero,
-            })
-        }
+        ArrayOp::ArrayGet(index) => get_types(stacks, resources, offset, index),
+        ArrayOp::ArrayGetPacked(sign, index) => get_packed_types(
+            stacks, resources, offset, sign, index,
+        ),
+        ArrayOp::ArraySet(index) => set_types(stacks, resources, offset, index),
+        ArrayOp::ArrayFill(index) => fill_types(stacks, resources, offset, index),
         ArrayOp::ArrayCopy {
             array_type_index_dst,
             array_type_index_src,
         } => {
-            let dst = array_type_at(stacks, resources, offset, array_type_index_dst)?;
-            check_mutable_array(offset, dst)?;
-            let src = array_type_at(stacks, resources, offset, array_type_index_src)?;
-            check_copied(stacks, resources, offset, src, dst)?;
-            let into = type_reference(stacks, resources, offset, true, array_type_index_dst)?;
-            let from = type_reference(stacks, resources, offset, true, array_type_index_src)?;
-            Ok(AggregateTypes {
-                wanted: Wanted::Few(Few::Five(
-                    into,
-                    ValType::I32,
-                    from,
-                    ValType::I32,
-                    ValType::I32,
-                )),
-                pushed: Few::Zero,
-            })
+            copy_types(
+                stacks,
+                resources,
+                offset,
+                array_type_index_dst,
+                array_type_index_src,
+            )
         }
         ArrayOp::ArrayInitData {
             array_type_index,
             array_data_index,
         } => {
-            let element = array_type_at(stacks, resources, offset, array_type_index)?;
-            check_mutable_array(offset, element)?;
-            check_data(
+            init_data_types(
                 stacks,
                 resources,
                 offset,
+                array_type_index,
                 array_data_index,
-                element,
-                INIT_DATA,
-            )?;
-            let into = type_reference(stacks, resources, offset, true, array_type_index)?;
-            Ok(AggregateTypes {
-                wanted: Wanted::Few(Few::Four(into, ValType::I32, ValType::I32, ValType::I32)),
-                pushed: Few::Zero,
-            })
+            )
         }
         ArrayOp::ArrayInitElem {
             array_type_index,
             array_elem_index,
         } => {
-            let element = array_type_at(stacks, resources, offset, array_type_index)?;
-            check_mutable_array(offset, element)?;
-            check_elements(
+            init_elem_types(
                 stacks,
                 resources,
                 offset,
+                array_type_index,
                 array_elem_index,
-                element,
-                "array.init_elem",
-            )?;
-            let into = type_reference(stacks, resources, offset, true, array_type_index)?;
-            Ok(AggregateTypes {
-                wanted: Wanted::Few(Few::Four(into, ValType::I32, ValType::I32, ValType::I32)),
-                pushed: Few::Zero,
-            })
+            )
         }
     }
 }

@@ -1,13 +1,16 @@
 //! What the operators of a body name, asked of the validator that visits them.
 
 ghost use Rattle.std.specs.Prelude.{◌≡◌, ◌<◌, ◌^◌};
+ghost use Rattle.wasmparser_validate.specs.Start.{state};
+ghost use Rattle.wasmparser_validate.specs.State.{IsStarting};
 
 use crate::expect::{expect, expect_same};
 use crate::setting::{FOUR_TYPES, Setting};
 use std::process::Abort;
 use std::test::Fail;
-use wasmparser_validate::operators::OperatorValidatorAllocations;
+use wasmparser_validate::operators::{OperatorValidator, OperatorValidatorAllocations};
 use wasmparser_validate::resources::kinds::func_type_of;
+use wasmparser_validate::resources::{ModuleLists, WasmModuleResources};
 use wasmparser_validate::types::{ContType, RefType, SubType, UnpackedIndex};
 use wasmparser_validate::visit::{BlockType, FrameKind, ModuleArity};
 
@@ -53,14 +56,21 @@ fn expect_body(
     allocs: OperatorValidatorAllocations,
 ) -> Result<OperatorValidatorAllocations, Fail> {
     let mut v = setting.validator_in(allocs)?;
-    let body = v.with_resources(&setting.lists, 7);
+    expect_answers(rt, &mut v, &setting.lists);
+    Ok(v.into_allocations())
+}
+
+/// What a new body answers.
+fn expect_answers(rt: &impl Abort, v: &mut OperatorValidator, lists: &ModuleLists)
+    requires { IsStarting (⟦<ModuleLists as WasmModuleResources>⟧.context lists.now) (state v.old) }
+{
+    let body = v.with_resources(lists, 7);
     expect_names(rt, &body);
     expect(rt, body.sub_type_of_ref_type(&RefType::FUNCREF).is_none());
     if let Some(index) = UnpackedIndex::Module(0).pack() {
         expect(rt, body.func_type_of_cont_type(&ContType(index)).is_none());
     }
     expect_same(rt, height_of(&body), 1);
-    Ok(v.into_allocations())
 }
 
 /// In new buffers, and in those that it leaves.

@@ -1,5 +1,8 @@
 //! Loads and stores of arrays: which they access, which refusal comes first, and what they leave.
 
+ghost use Rattle.wasmparser_validate.specs.Start.{state};
+ghost use Rattle.wasmparser_validate.specs.State.{IsStarting};
+
 use crate::expect::expect_same_in;
 use crate::ops::{lists_of, read_ops};
 use crate::run::{check_list, left_on};
@@ -8,7 +11,7 @@ use bitflags::Flags;
 use std::process::Abort;
 use std::test::Fail;
 use wasmparser_validate::operators::{OperatorValidator, OperatorValidatorAllocations};
-use wasmparser_validate::resources::ModuleLists;
+use wasmparser_validate::resources::{ModuleLists, WasmModuleResources};
 use wasmparser_validate::types::{
     ArrayType, CompositeInnerType, CompositeType, FieldType, RefType, StorageType, SubType,
     ValType, WasmFeatures,
@@ -58,6 +61,39 @@ fn lookup(rt: &impl AllocGlobal) -> Result<ModuleLists, Fail> {
     Ok(lists?)
 }
 
+/// What the operators of a text leave in a new body, and behind it the refusal, if there is one.
+fn outcome(
+    rt: &(impl Abort + AllocGlobal),
+    v: &mut OperatorValidator,
+    lists: &ModuleLists,
+    written: &str,
+) -> Result<String, Fail>
+    requires { IsStarting (⟦<ModuleLists as WasmModuleResources>⟧.context lists.now) (state v.old) }
+{
+    let listed = lists_of(rt, written)?;
+    let ops = read_ops(rt, &listed, written)?;
+    let refusal = check_list(rt, v, lists, &ops, written)?;
+    let left = left_on(rt, v)?;
+    let text = refusal.as_ref().map_or("", |refusal| refusal.message());
+    Ok(format!(in rt.alloc(); "{} | {text}", left.trim())?)
+}
+
+/// Checks the operators of a line in a body of this type, and compares what comes out.
+fn expect_line(
+    rt: &(impl Abort + AllocGlobal),
+    type_index: u32,
+    features: WasmFeatures,
+    lists: &ModuleLists,
+    line: &str,
+) -> Result<(), Fail> {
+    let (written, wanted) = line.split_once("=>").unwrap_or((line, ""));
+    let allocs = OperatorValidatorAllocations::new(rt.alloc());
+    let mut v = OperatorValidator::new_func(type_index, 0, &features, lists, allocs)?;
+    let found = outcome(rt, &mut v, lists, written)?;
+    expect_same_in(rt, found.trim(), wanted.trim(), &line);
+    Ok(())
+}
+
 /// Checks the operators of each line in a body of this type, and compares what they leave, and behind it
 /// the refusal, if there is one.
 fn expect_table(
@@ -68,16 +104,7 @@ fn expect_table(
 ) -> Result<(), Fail> {
     let lists = lookup(rt)?;
     for line in table.lines().filter(|line| !line.is_empty()) {
-        let allocs = OperatorValidatorAllocations::new(rt.alloc());
-        let mut v = OperatorValidator::new_func(type_index, 0, &features, &lists, allocs)?;
-        let (written, wanted) = line.split_once("=>").unwrap_or((line, ""));
-        let listed = lists_of(rt, written)?;
-        let ops = read_ops(rt, &listed, written)?;
-        let refusal = check_list(rt, &mut v, &lists, &ops, line)?;
-        let left = left_on(rt, &v)?;
-        let text = refusal.as_ref().map_or("", |refusal| refusal.message());
-        let found = format!(in rt.alloc(); "{} | {text}", left.trim())?;
-        expect_same_in(rt, found.trim(), wanted.trim(), &line);
+        expect_line(rt, type_index, features, &lists, line)?;
     }
     Ok(())
 }

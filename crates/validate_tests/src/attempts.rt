@@ -395,6 +395,17 @@ fn undo_else<R: WasmModuleResources>(rt: &impl Abort, v: &mut OperatorValidator,
 fn the_order_of_first_set_locals_comes_back(rt: HostRuntime) -> Result<(), Fail> {
     let setting = Setting::read(&rt, FOUR_TYPES)?;
     let mut v = with_unset_locals(&setting, OperatorValidatorAllocations::new(rt.alloc()))?;
+    expect_order_kept(&rt, &mut v, &setting.lists)
+}
+
+/// In the live part of an `if`, where both locals were set.
+fn expect_order_kept(
+    rt: &(impl Abort + AllocGlobal),
+    v: &mut OperatorValidator,
+    lists: &ModuleLists,
+) -> Result<(), Fail>
+    requires { IsStarting (⟦<ModuleLists as WasmModuleResources>⟧.context lists.now) (state v.old) }
+{
     let text = "
 unreachable => 0 1
 if          => 0 2
@@ -402,16 +413,11 @@ unreachable => 0 2
 local.set 1 => 0 2
 local.set 0 => 0 2
 ";
-    expect_lines(&rt, &mut v, &setting.lists, text)?;
-    expect_first_set(&rt, &v, &[1, 0]);
-    undo_else(&rt, &mut v, &setting.lists);
-    expect_first_set(&rt, &v, &[1, 0]);
-    expect_lines(
-        &rt,
-        &mut v,
-        &setting.lists,
-        "local.get 0 => 1 2\nlocal.get 1 => 2 2",
-    )
+    expect_lines(rt, v, lists, text)?;
+    expect_first_set(rt, v, &[1, 0]);
+    undo_else(rt, v, lists);
+    expect_first_set(rt, v, &[1, 0]);
+    expect_lines(rt, v, lists, "local.get 0 => 1 2\nlocal.get 1 => 2 2")
 }
 
 /// An attempt that moved something allows no further operator, until it is committed.
@@ -444,13 +450,27 @@ fn expect_one_operator(
 #[test]
 fn a_pending_attempt_goes_with_its_validator(rt: HostRuntime) -> Result<(), Fail> {
     let setting = Setting::read(&rt, FOUR_TYPES)?;
-    let before = Seen::of(&rt, &setting.validator(&rt)?)?;
-    let mut v = setting.validator(&rt)?;
-    v.begin_try_op();
-    let answer = visit(&mut v, &setting.lists, Op::Control(ControlOp::Unreachable));
-    expect(&rt, answer.is_ok() && v.is_pending() && !v.can_attempt());
-    let v = setting.validator_in(v.into_allocations())?;
+    let before = seen_at_the_start(&rt, &setting)?;
+    let v = setting.validator_in(left_pending(&rt, &setting)?)?;
     expect(&rt, v.can_attempt() && !v.is_pending());
     before.expect(&rt, &v);
     Ok(())
+}
+
+/// What can be seen of a new validator.
+fn seen_at_the_start(rt: &impl AllocGlobal, setting: &Setting) -> Result<Seen, Fail> {
+    let v = setting.validator(rt)?;
+    Ok(Seen::of(rt, &v)?)
+}
+
+/// The buffers of a validator whose attempt is pending.
+fn left_pending(
+    rt: &(impl Abort + AllocGlobal),
+    setting: &Setting,
+) -> Result<OperatorValidatorAllocations, Fail> {
+    let mut v = setting.validator(rt)?;
+    v.begin_try_op();
+    let answer = visit(&mut v, &setting.lists, Op::Control(ControlOp::Unreachable));
+    expect(rt, answer.is_ok() && v.is_pending() && !v.can_attempt());
+    Ok(v.into_allocations())
 }

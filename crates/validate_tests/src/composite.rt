@@ -1,6 +1,9 @@
 //! Structs and arrays: their texts, their order, their top types, what a lookup keeps of them and
 //! refuses, and where a function type is wanted in their place.
 
+ghost use Rattle.wasmparser_validate.specs.Start.{state};
+ghost use Rattle.wasmparser_validate.specs.State.{IsStarting};
+
 use crate::expect::{expect_same, expect_same_in};
 use crate::ops::{lists_of, read_ops};
 use crate::run::check_list;
@@ -414,16 +417,28 @@ fn expect_named(
     allocs: OperatorValidatorAllocations,
     line: &str,
 ) -> Result<OperatorValidatorAllocations, Fail> {
+    let mut v = setting.validator_in(allocs)?;
+    expect_line(rt, &mut v, &setting.lists, line)?;
+    Ok(v.into_allocations())
+}
+
+/// The same, in a new body.
+fn expect_line(
+    rt: &(impl Abort + AllocGlobal),
+    v: &mut OperatorValidator,
+    lists: &ModuleLists,
+    line: &str,
+) -> Result<(), Fail>
+    requires { IsStarting (⟦<ModuleLists as WasmModuleResources>⟧.context lists.now) (state v.old) }
+{
     let (ops, text) = line.split_once(" => ").unwrap_or((line, ""));
     let listed = lists_of(rt, ops)?;
     let ops = read_ops(rt, &listed, ops)?;
-    let mut v = setting.validator_in(allocs)?;
-    let refusal = check_list(rt, &mut v, &setting.lists, &ops, line)?;
-    let found = refusal
-        .as_ref()
-        .map_or("accepted", |refusal| refusal.message());
-    expect_same_in(rt, found, text, &line);
-    Ok(v.into_allocations())
+    match check_list(rt, v, lists, &ops, line)? {
+        Some(refusal) => expect_same_in(rt, refusal.message(), text, &line),
+        None => expect_same_in(rt, "accepted", text, &line),
+    }
+    Ok(())
 }
 
 /// A continuation is of a function, whatever else its index names.

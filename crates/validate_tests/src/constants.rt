@@ -13,6 +13,7 @@ use crate::expect::expect;
 use crate::run::expect_line;
 use crate::setting::{FOUR_TYPES, Setting};
 use bitflags::Flags;
+use std::process::Abort;
 use std::test::Fail;
 use wasmparser_validate::operators::{OperatorValidator, OperatorValidatorAllocations, safety_law};
 use wasmparser_validate::resources::{ModuleLists, WasmModuleResources};
@@ -49,6 +50,19 @@ fn the_law_holds_of_lists(rt: HostRuntime) -> Result<(), Fail> {
     Ok(())
 }
 
+/// Checks a constant expression of type i32 in these buffers, which are given back.
+fn expect_constant(
+    rt: &(impl Abort + AllocGlobal),
+    lists: &ModuleLists,
+    line: &str,
+    allocs: OperatorValidatorAllocations,
+) -> Result<OperatorValidatorAllocations, Fail> {
+    let mut v = constant(lists, allocs)?;
+    expect_line(rt, &mut v, lists, line)?;
+    Ok(v.into_allocations())
+}
+
+/// Checks it in new buffers, and in those of the expression before it.
 #[test]
 fn a_constant_expression(rt: HostRuntime) -> Result<(), Fail> {
     let setting = Setting::read(&rt, FOUR_TYPES)?;
@@ -56,11 +70,8 @@ fn a_constant_expression(rt: HostRuntime) -> Result<(), Fail> {
     let mut used = OperatorValidatorAllocations::new(rt.alloc());
     for line in table.lines() {
         let new = OperatorValidatorAllocations::new(rt.alloc());
-        let mut v = constant(&setting.lists, new)?;
-        expect_line(&rt, &mut v, &setting.lists, line)?;
-        let mut v = constant(&setting.lists, used)?;
-        expect_line(&rt, &mut v, &setting.lists, line)?;
-        used = v.into_allocations();
+        expect_constant(&rt, &setting.lists, line, new)?;
+        used = expect_constant(&rt, &setting.lists, line, used)?;
     }
     Ok(())
 }

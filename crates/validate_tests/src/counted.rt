@@ -144,11 +144,17 @@ fn one_count_goes_on_over_runs(rt: HostRuntime) -> Result<(), Fail> {
     let mut v = setting.validator(&rt)?;
     expect_lines(&rt, &mut v, &setting.lists, LIVE_OF_TWO)?;
     expect(&rt, v.control_stack_height() > 0);
-    let mut pops = Pops::new();
-    let answer = pop_run(&mut v, &setting.lists, 1, &mut pops);
-    expect(&rt, answer.is_ok() && v.control_stack_height() > 0);
-    let answer = pop_run(&mut v, &setting.lists, 2, &mut pops);
-    expect(&rt, answer.is_err());
-    expect_same(&rt, pops.count(), 3);
+    expect_two_runs(&rt, &mut v, &setting.lists);
     Ok(())
+}
+
+/// A run of one pop, and one of two, of which the second finds nothing.
+fn expect_two_runs<R: WasmModuleResources>(rt: &impl Abort, v: &mut OperatorValidator, lists: &R)
+    requires { MayVisit (R.context lists.now) (stacks_of v.old) }
+{
+    let mut pops = Pops::new();
+    let is_popped = pop_run(v, lists, 1, &mut pops).is_ok();
+    expect(rt, is_popped && v.control_stack_height() > 0);
+    expect(rt, pop_run(v, lists, 2, &mut pops).is_err());
+    expect_same(rt, pops.count(), 3);
 }

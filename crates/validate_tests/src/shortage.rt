@@ -107,8 +107,28 @@ fn seen(rt: &impl AllocGlobal, v: &OperatorValidator) -> Result<Seen, AllocError
     }
 }
 
-/// Attempts the operator and takes it back, and then attempts it in earnest. Wherever memory is wanting
-/// everything is as before, and it is accepted at the next try.
+/// Attempts the operator. Where memory is wanting everything is as before, and it is accepted at the next try.
+fn expect_accepted<R: WasmModuleResources>(
+    rt: &impl Abort,
+    v: &mut OperatorValidator,
+    lists: &R,
+    op: Op<'_>,
+    before: &Seen,
+)
+    requires idle { (state v.old).undone ≡ None }
+    requires open { (state v.old).present.frames ≢ [] }
+    requires valid { IsValidBody (R.context lists.now) (state v.old) }
+    ensures idle { (state v.new).undone ≡ None }
+    ensures valid { IsValidBody (R.context lists.now) (state v.new) }
+{
+    if let Err(refusal) = attempt(v, lists, op) {
+        expect(rt, refusal.is_out_of_memory());
+        before.expect(rt, v);
+        expect(rt, attempt(v, lists, op).is_ok());
+    }
+}
+
+/// Attempts the operator and takes it back, which leaves everything as before, and then attempts it in earnest.
 fn expect_step<R: WasmModuleResources>(
     rt: &(impl Abort + AllocGlobal),
     v: &mut OperatorValidator,
@@ -126,12 +146,15 @@ fn expect_step<R: WasmModuleResources>(
     }
     attempt_undone(rt, v, lists, op);
     before.expect(rt, v);
-    if let Err(refusal) = attempt(v, lists, op) {
-        expect(rt, refusal.is_out_of_memory());
-        before.expect(rt, v);
-        expect(rt, attempt(v, lists, op).is_ok());
-    }
+    expect_accepted(rt, v, lists, op, &before);
     Ok(())
+}
+
+/// There are as many operands and frames as this text says.
+fn expect_heights(rt: &impl Abort, v: &OperatorValidator, heights: &str, line: &str) {
+    let (operands, frames) = heights.trim().split_once(' ').unwrap_or(("", ""));
+    expect_same_in(rt, operands.parse(), Ok(v.operand_stack_height()), &line);
+    expect_same_in(rt, frames.parse(), Ok(v.control_stack_height()), &line);
 }
 
 /// The operator of a line, with the numbers of operands and frames that it leaves behind an arrow.
@@ -147,12 +170,10 @@ fn expect_line<R: WasmModuleResources>(
     ensures valid { OnOk result (IsValidBody (R.context lists.now) (state v.new)) }
 {
     let (written, heights) = line.split_once("=>").unwrap_or((line, ""));
-    let (operands, frames) = heights.trim().split_once(' ').unwrap_or(("", ""));
     let list = list_of(rt, written)?;
     let op = read_op(rt, &list, written)?;
     expect_step(rt, v, lists, op)?;
-    expect_same_in(rt, operands.parse(), Ok(v.operand_stack_height()), &line);
-    expect_same_in(rt, frames.parse(), Ok(v.control_stack_height()), &line);
+    expect_heights(rt, v, heights, line);
     Ok(())
 }
 

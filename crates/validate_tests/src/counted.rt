@@ -150,7 +150,9 @@ fn one_count_goes_on_over_runs(rt: HostRuntime) -> Result<(), Fail> {
 
 /// A run of one pop, and one of two, of which the second finds nothing.
 fn expect_two_runs<R: WasmModuleResources>(rt: &impl Abort, v: &mut OperatorValidator, lists: &R)
-    requires { MayVisit (R.context lists.now) (stacks_of v.old) }
+    requires idle { (state v.old).undone ≡ None }
+    requires open { (state v.old).present.frames ≢ [] }
+    requires valid { IsValidBody (R.context lists.now) (state v.old) }
 {
     let mut pops = Pops::new();
     let is_popped = pop_run(v, lists, 1, &mut pops).is_ok();

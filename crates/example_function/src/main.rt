@@ -4,15 +4,13 @@
 
 ghost use Rattle.std.specs.Prelude.{◌≡◌, None};
 ghost use Rattle.wasmparser_validate.specs.Start.{state};
-ghost use Rattle.wasmparser_validate.specs.State.{IsValidBody};
+ghost use Rattle.wasmparser_validate.specs.State.{IsStarting, IsValidBody};
 
 use std::alloc::Global;
-use std::process::ExitCode;
+use std::io;
 use wasmparser_validate::operators::{OperatorValidator, OperatorValidatorAllocations};
 use wasmparser_validate::resources::{ModuleDeclarations, ModuleLists, WasmModuleResources};
-use wasmparser_validate::types::{
-    CompositeInnerType, CompositeType, Error, Flags, FuncType, SubType, ValType, WasmFeatures,
-};
+use wasmparser_validate::types::{Error, Flags, FuncType, SubType, ValType, WasmFeatures};
 use wasmparser_validate::visit::{ControlOp, IntegerBinaryOp, IntegerType, NumericOp, Op};
 
 /// A module that declares the one type `[i32] -> [i32]`, or None where memory is wanting.
@@ -20,14 +18,7 @@ fn declare(alloc: Global) -> Option<ModuleLists> {
     let params = vec![in alloc; ValType::I32].ok()?;
     let results = vec![in alloc; ValType::I32].ok()?;
     let mut declarations = ModuleDeclarations::new(alloc);
-    let ty = SubType {
-        is_final: true,
-        supertype_idx: None,
-        composite_type: CompositeType {
-            inner: CompositeInnerType::Func(FuncType::new(params, results)),
-            shared: false,
-        },
-    };
+    let ty = SubType::func(FuncType::new(params, results), false);
     declarations.types.push(ty).ok()?;
     ModuleLists::from_declarations(alloc, declarations).ok()
 }
@@ -50,30 +41,36 @@ fn visit<R: WasmModuleResources>(
     v.check(resources, offset, op)
 }
 
-/// Checks the body.
-fn check_body(alloc: Global, module: &ModuleLists, local: u32) -> Result<(), Error> {
-    let buffers = OperatorValidatorAllocations::new(alloc);
-    let mut v = OperatorValidator::new_func(0, 0, &WasmFeatures::all(), module, buffers)?;
-    v.define_locals(0, 1, ValType::I64, module)?;
-    visit(&mut v, module, 0, Op::Control(ControlOp::LocalGet(local)))?;
-    visit(&mut v, module, 2, Op::Numeric(NumericOp::I32Const(1)))?;
+/// Defines the local of type i64, and visits the operators of the body.
+fn visit_body<R: WasmModuleResources>(
+    v: &mut OperatorValidator,
+    resources: &R,
+    local: u32,
+) -> Result<(), Error>
+    requires { IsStarting (R.context resources.now) (state v.old) }
+{
+    v.define_locals(0, 1, ValType::I64, resources)?;
+    visit(v, resources, 0, Op::Control(ControlOp::LocalGet(local)))?;
+    visit(v, resources, 2, Op::Numeric(NumericOp::I32Const(1)))?;
     let add = NumericOp::IntegerBinary(IntegerType::I32, IntegerBinaryOp::Add);
-    visit(&mut v, module, 4, Op::Numeric(add))?;
-    visit(&mut v, module, 5, Op::Control(ControlOp::End))
+    visit(v, resources, 4, Op::Numeric(add))?;
+    visit(v, resources, 5, Op::Control(ControlOp::End))
 }
 
-fn main(rt: HostRuntime) -> ExitCode {
-    let Some(module) = declare(rt.alloc()) else {
-        return ExitCode::FAILURE;
-    };
+/// Checks the body.
+fn check<R: WasmModuleResources>(alloc: Global, resources: &R, local: u32) -> Result<(), Error> {
+    let buffers = OperatorValidatorAllocations::new(alloc);
+    let mut v = OperatorValidator::new_func(0, 0, &WasmFeatures::all(), resources, buffers)?;
+    visit_body(&mut v, resources, local)
+}
+
+fn main(rt: HostRuntime) -> io::Result<()> {
+    let module = declare(rt.alloc()).ok_or(io::ErrorKind::OutOfMemory)?;
     for local in [0, 1] {
-        let printed = match check_body(rt.alloc(), &module, local) {
-            Ok(()) => println!(rt; "local.get {local}: accepted"),
-            Err(refusal) => println!(rt; "local.get {local}: {refusal}"),
-        };
-        if printed.is_err() {
-            return ExitCode::FAILURE;
+        match check(rt.alloc(), &module, local) {
+            Ok(()) => println!(rt; "local.get {local}: accepted")?,
+            Err(refusal) => println!(rt; "local.get {local}: {refusal}")?,
         }
     }
-    ExitCode::SUCCESS
+    Ok(())
 }

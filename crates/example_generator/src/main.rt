@@ -4,15 +4,13 @@
 
 ghost use Rattle.std.specs.Prelude.{◌≡◌, None};
 ghost use Rattle.wasmparser_validate.specs.Start.{state};
-ghost use Rattle.wasmparser_validate.specs.State.{IsValidBody};
+ghost use Rattle.wasmparser_validate.specs.State.{IsStarting, IsValidBody};
 
 use std::alloc::Global;
 use std::process::ExitCode;
 use wasmparser_validate::operators::{OperatorValidator, OperatorValidatorAllocations, try_op};
 use wasmparser_validate::resources::{ModuleDeclarations, ModuleLists, WasmModuleResources};
-use wasmparser_validate::types::{
-    CompositeInnerType, CompositeType, Flags, FuncType, SubType, ValType, WasmFeatures,
-};
+use wasmparser_validate::types::{Flags, FuncType, SubType, ValType, WasmFeatures};
 use wasmparser_validate::visit::{ControlOp, IntegerBinaryOp, IntegerType, NumericOp, Op};
 
 /// A module that declares the one type `[i32] -> [i32]`, or None where memory is wanting.
@@ -20,30 +18,20 @@ fn declare(alloc: Global) -> Option<ModuleLists> {
     let params = vec![in alloc; ValType::I32].ok()?;
     let results = vec![in alloc; ValType::I32].ok()?;
     let mut declarations = ModuleDeclarations::new(alloc);
-    let ty = SubType {
-        is_final: true,
-        supertype_idx: None,
-        composite_type: CompositeType {
-            inner: CompositeInnerType::Func(FuncType::new(params, results)),
-            shared: false,
-        },
-    };
+    let ty = SubType::func(FuncType::new(params, results), false);
     declarations.types.push(ty).ok()?;
     ModuleLists::from_declarations(alloc, declarations).ok()
 }
 
-const ADD: Op<'static> = Op::Numeric(NumericOp::IntegerBinary(
-    IntegerType::I32,
-    IntegerBinaryOp::Add,
-));
+const ADD: NumericOp = NumericOp::IntegerBinary(IntegerType::I32, IntegerBinaryOp::Add);
 
 /// What is tried, in this order.
 const WISHES: &[(&str, Op<'static>)] = &[
-    ("i32.add", ADD),
+    ("i32.add", Op::Numeric(ADD)),
     ("local.get 0", Op::Control(ControlOp::LocalGet(0))),
     ("i32.const 1", Op::Numeric(NumericOp::I32Const(1))),
     ("end", Op::Control(ControlOp::End)),
-    ("i32.add", ADD),
+    ("i32.add", Op::Numeric(ADD)),
     ("end", Op::Control(ControlOp::End)),
 ];
 
@@ -57,18 +45,29 @@ fn attempt<R: WasmModuleResources>(v: &mut OperatorValidator, resources: &R, op:
     v.control_stack_height() > 0 && try_op(v, resources, 0, op).is_ok()
 }
 
-/// Makes the body, or answers None where it is refused, memory is wanting, or nothing can be printed.
-fn generate<R: WasmModuleResources>(rt: &HostRuntime, resources: &R) -> Option<()> {
-    let buffers = OperatorValidatorAllocations::new(rt.alloc());
-    let features = WasmFeatures::all();
-    let mut v = OperatorValidator::new_func(0, 0, &features, resources, buffers).ok()?;
+/// Tries each wish in turn, and prints those that are accepted. None where nothing can be printed.
+fn try_each<R: WasmModuleResources>(
+    rt: &HostRuntime,
+    v: &mut OperatorValidator,
+    resources: &R,
+) -> Option<()>
+    requires { IsStarting (R.context resources.now) (state v.old) }
+{
     for wish in WISHES {
         let (name, op) = *wish;
-        if attempt(&mut v, resources, op) {
+        if attempt(v, resources, op) {
             println!(rt; "{name}").ok()?;
         }
     }
     Some(())
+}
+
+/// Makes the body. None where it can't be printed, or memory is wanting.
+fn generate<R: WasmModuleResources>(rt: &HostRuntime, resources: &R) -> Option<()> {
+    let buffers = OperatorValidatorAllocations::new(rt.alloc());
+    let features = WasmFeatures::all();
+    let mut v = OperatorValidator::new_func(0, 0, &features, resources, buffers).ok()?;
+    try_each(rt, &mut v, resources)
 }
 
 fn main(rt: HostRuntime) -> ExitCode {

@@ -9,9 +9,7 @@ use std::alloc::Global;
 use std::process::ExitCode;
 use wasmparser_validate::operators::{OperatorValidator, OperatorValidatorAllocations, check_ops};
 use wasmparser_validate::resources::{ModuleDeclarations, ModuleLists, WasmModuleResources};
-use wasmparser_validate::types::{
-    CompositeInnerType, CompositeType, Error, Flags, FuncType, SubType, ValType, WasmFeatures,
-};
+use wasmparser_validate::types::{Error, Flags, FuncType, SubType, ValType, WasmFeatures};
 use wasmparser_validate::visit::{ControlOp, Op, have_module_immediates, is_well_ordered};
 
 /// An instance of a module that declares the type `[] -> [i32]`, with a variable that holds an i32 and one that
@@ -19,14 +17,7 @@ use wasmparser_validate::visit::{ControlOp, Op, have_module_immediates, is_well_
 fn start(alloc: Global) -> Option<Instance<ModuleLists>> {
     let results = vec![in alloc; ValType::I32].ok()?;
     let mut declarations = ModuleDeclarations::new(alloc);
-    let ty = SubType {
-        is_final: true,
-        supertype_idx: None,
-        composite_type: CompositeType {
-            inner: CompositeInnerType::Func(FuncType::new(Vec::new(alloc), results)),
-            shared: false,
-        },
-    };
+    let ty = SubType::func(FuncType::new(Vec::new(alloc), results), false);
     declarations.types.push(ty).ok()?;
     let first = Variable::new(Value::I32(7));
     let second = Variable::new(Value::I64(9));
@@ -36,22 +27,20 @@ fn start(alloc: Global) -> Option<Instance<ModuleLists>> {
     })
 }
 
-/// Checks a list whole, as the body of a function of type 0: `Ok(true)` where it is accepted and closed.
+/// Checks a list whole, as the body of a function of type 0: `Ok(true)` where it is accepted and closed,
+/// `Ok(false)` where it is accepted and a frame is open.
 fn check_list<R: WasmModuleResources>(
     alloc: Global,
     resources: &R,
     ops: &[(Op<'_>, u64)],
 ) -> Result<bool, Error> {
     if !is_well_ordered(ops) || !have_module_immediates(ops) {
-        return Ok(false);
+        return Err(Error::new("no body has these operators", 0));
     }
     let buffers = OperatorValidatorAllocations::new(alloc);
     let mut v = OperatorValidator::new_func(0, 0, &WasmFeatures::all(), resources, buffers)?;
     let mut heights = Vec::new(alloc);
-    match check_ops(&mut v, ops, resources, &mut heights) {
-        Ok(closed) => Ok(closed),
-        Err((_, refusal)) => Err(refusal),
-    }
+    check_ops(&mut v, ops, resources, &mut heights).map_err(|(_, refusal)| refusal)
 }
 
 /// Checks the expression over both variables, and over one that isn't there.

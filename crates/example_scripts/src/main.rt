@@ -20,12 +20,16 @@ const NAMES: &[&str] = &[
     "memory",
 ];
 
-/// Whether the script prints what is expected, or None where a file can't be read or memory is wanting.
+/// The text of a file, or None where it can't be read or memory is wanting.
+fn read(rt: &HostRuntime, name: &str, ending: &str) -> Option<String> {
+    let file = format!(in rt.alloc(); "{name}.{ending}").ok()?;
+    fs::read_to_string(rt, file.as_str()).ok()
+}
+
+/// Whether the script prints what is expected, or None where one of the two can't be read.
 fn is_as_expected(rt: &HostRuntime, name: &str) -> Option<bool> {
-    let script_name = format!(in rt.alloc(); "{name}.script").ok()?;
-    let expected_name = format!(in rt.alloc(); "{name}.expected").ok()?;
-    let script = fs::read_to_string(rt, script_name.as_str()).ok()?;
-    let expected = fs::read_to_string(rt, expected_name.as_str()).ok()?;
+    let script = read(rt, name, "script")?;
+    let expected = read(rt, name, "expected")?;
     let mut printed = Vec::new(rt.alloc());
     let status = opcheck_script::run(rt.alloc(), script.as_bytes(), &mut printed, rt.stderr());
     Some(status == 0 && printed.as_slice() == expected.as_bytes())

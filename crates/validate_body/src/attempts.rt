@@ -3,6 +3,8 @@
 ghost use Rattle.std.specs.Prelude.{◌≡◌, true, false, None, IsSome, OnOk, OnErr, IfErr};
 ghost use Rattle.validation_rules.specs.Operators.{operator};
 ghost use Rattle.validate_stacks.specs.Attempts.{stacks_committed, stacks_rolled_back};
+ghost use Rattle.validate_stacks.specs.Pops.{IsKept};
+ghost use Rattle.validate_stacks.specs.State.{IsValidBody};
 ghost use Rattle.validate_stacks.specs.Visits.{step_body, MayVisit, Meets};
 ghost use Rattle.validate_body.specs.Start.{state, stacks_of};
 
@@ -32,6 +34,10 @@ pub fn try_op<R: WasmModuleResources>(
 
     // A refused operator leaves no trace.
     ensures back { OnErr result (state v.new ≡ state v.old) }
+
+    // Whatever it answers, the types stay valid, and nothing but operands and frames changes.
+    ensures valid { IsValidBody (R.context resources.now) (state v.new) }
+    ensures kept { IsKept (state v.old) (state v.new) }
 {
     v.begin_try_op();
     let answer = v.check(resources, offset, op);

@@ -129,6 +129,7 @@ impl OperatorValidator {
     /// The check of one operator at this offset: accepted exactly where its row holds, memory aside, with
     /// the static step. A refusal carries the offset. A frame has to be open, the types of the state are
     /// those of this lookup, and a pending attempt has done no more than move operands (`can_attempt`).
+    /// Whatever it answers, the types stay valid, and nothing but operands and frames changes.
     #[inline(always)]
     pub fn check<R: WasmModuleResources>(
         &mut self,
@@ -140,6 +141,8 @@ impl OperatorValidator {
         ensures row { Meets (R.context resources.now) (λ cx. operator cx op.entry) offset
             (state self.old) result (state self.new) }
         ensures memory { TakesNoMemory (R.context resources.now) op.entry (state self.old) result }
+        ensures valid { IsValidBody (R.context resources.now) (state self.new) }
+        ensures kept { IsKept (state self.old) (state self.new) }
     {
         check_operator(&mut self.stacks, resources, offset, op)
     }

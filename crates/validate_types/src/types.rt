@@ -1,7 +1,8 @@
 //! Value types, and the types that a module declares (WebAssembly core specification, "Types").
 
-ghost use Rattle.std.specs.Prelude.{◌≡◌};
+ghost use Rattle.std.specs.Prelude.{◌≡◌, true, None};
 ghost use Rattle.validate_types.specs.Types.{address_type_of_memory as type_of_addresses, address_type_of_table, is_defaultable, unpacked_type, is_packed};
+ghost use Rattle.validate_types.specs.declared.types.CompositeInnerType.TheVariants.{Func};
 
 use crate::heap::{AbstractHeapType, PackedIndex};
 use crate::refs::RefType;
@@ -246,6 +247,26 @@ pub struct SubType {
     pub supertype_idx: Option<PackedIndex>,
     /// What it is made of.
     pub composite_type: CompositeType,
+}
+
+impl SubType {
+    /// The declaration of a function type and no more (wasmparser's `SubType::func`): it is final, and declared
+    /// below no type. It takes no memory.
+    pub fn func(signature: FuncType, shared: bool) -> SubType
+        ensures is_final { result.is_final ≡ true }
+        ensures supertype_idx { result.supertype_idx ≡ None }
+        ensures inner { result.composite_type.inner ≡ Func signature }
+        ensures shared { result.composite_type.shared ≡ shared }
+    {
+        SubType {
+            is_final: true,
+            supertype_idx: None,
+            composite_type: CompositeType {
+                inner: CompositeInnerType::Func(signature),
+                shared,
+            },
+        }
+    }
 }
 
 /// The type of a memory (wasmparser's `MemoryType`), without its limits.

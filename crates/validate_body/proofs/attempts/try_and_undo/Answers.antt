@@ -7,7 +7,7 @@ use Rattle.validation_rules.specs.Operators.{operator}
 use Rattle.validate_body.proofs.Attempted.{accepted_begun, refused_begun}
 use Rattle.validate_stacks.proofs.Phases.{undone_whole}
 use Rattle.validate_body.specs.Start.{state, stacks_of}
-use Rattle.validate_body.proofs.Listed.{visit_kept, visit_at}
+use Rattle.validate_body.proofs.Listed.{visit_at}
 use Rattle.validate_body.proofs.attempts.try_and_undo.Goals as goal
 
 pub check-answer-requires : goal.check-answer-requires
@@ -17,15 +17,11 @@ check-answer-requires g c =
 
 pub rollback-requires : goal.rollback-requires
 rollback-requires g c =
-    let md = g.R.WasmModuleResources.context c.args.resources.now in
-    let kept = visit_kept md _ _ (state c.begin_try_op.new.self) (state c.check-answer.new.self) _ c.check-answer.ensures.row in
-    subst IsSome (sym (ap (λ (x : BodyState). x.undone) kept ∙ ap (λ (x : Stacked). x.body.undone) c.begin_try_op.ensures.begun)) refl
+    subst IsSome (sym (ap (λ (x : BodyState). x.undone) c.check-answer.ensures.kept ∙ ap (λ (x : Stacked). x.body.undone) c.begin_try_op.ensures.begun)) refl
 
 pub returns-clause-same : goal.returns-clause-same
 returns-clause-same g c =
-    let md = g.R.WasmModuleResources.context c.args.resources.now in
-    let kept = visit_kept md _ _ (state c.begin_try_op.new.self) (state c.check-answer.new.self) _ c.check-answer.ensures.row in
-    ap body_of c.rollback.ensures.back ∙ undone_whole (stacks_of c.args.v.now) (stacks_of c.check-answer.new.self) c.requires.idle (subst (λ (x : Stacked). IsKept x.body (state c.check-answer.new.self)) c.begin_try_op.ensures.begun kept)
+    ap body_of c.rollback.ensures.back ∙ undone_whole (stacks_of c.args.v.now) (stacks_of c.check-answer.new.self) c.requires.idle (subst (λ (x : Stacked). IsKept x.body (state c.check-answer.new.self)) c.begin_try_op.ensures.begun c.check-answer.ensures.kept)
 
 pub returns-clause-offset : goal.returns-clause-offset
 returns-clause-offset g c =

@@ -1,7 +1,7 @@
 use Rattle.std.proofs.Common.{◌≡◌, None}
 use Rattle.wasmparser_validate.specs.Start.{state}
 use Rattle.wasmparser_validate.specs.State.{IsValidBody}
-use Rattle.example_generator.proofs.generate.Given as goal
+use Rattle.example_generator.proofs.try_each.Given as goal
 
 abbrev pub invariant-loop-wish : goal.invariant-loop-wish
 invariant-loop-wish g l =

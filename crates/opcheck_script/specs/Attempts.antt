@@ -1,14 +1,14 @@
 -- What the run of a script with `try` lines answers (the crate's own).
 use Rattle.std.specs.Prelude.{◌≡◌, ◌↔◌, ℕ, Bool, true, false, IsTrue, List, [], ◌∷◌, Some, None, Result, Ok}
 use Rattle.std.specs.Prelude.{Err, length, slice_get}
-use Rattle.validate_types.specs.Refusal.{Refusal}
-use Rattle.validate_resources.specs.Context.{ModuleContext}
-use Rattle.validate_visit.specs.declared.op.Op.{Op}
-use Rattle.validation_rules.specs.Context.{Context}
-use Rattle.validation_rules.specs.Static.{State, step}
-use Rattle.validation_rules.specs.Operators.{operator}
-use Rattle.validate_stacks.specs.State.{BodyState, body_context}
-use Rattle.validate_body.specs.Runs.{heights_of, body_before}
+use Rattle.wasmparser_validate.specs.Refusal.{Refusal}
+use Rattle.wasmparser_validate.specs.Context.{ModuleContext}
+use Rattle.wasmparser_validate.specs.Op.{Op}
+use Rattle.wasmparser_validate.specs.ValidationContext.{Context}
+use Rattle.wasmparser_validate.specs.Static.{State, step}
+use Rattle.wasmparser_validate.specs.Operators.{operator}
+use Rattle.wasmparser_validate.specs.State.{BodyState, body_context}
+use Rattle.wasmparser_validate.specs.Runs.{heights_of, body_before}
 
 -- the operators of a body, and which of them are attempted
 pub record Attempted : Type 0 where

@@ -1,5 +1,5 @@
 -- What the module of a script declares (the crate's own).
-use Rattle.validate_resources.specs.Lists.{Declared}
+use Rattle.wasmparser_validate.specs.Lists.{Declared}
 use Rattle.script_parts.specs.declared.script.Declarations.{Declarations}
 
 -- the lists themselves

@@ -2,26 +2,26 @@
 
 ghost use Rattle.std.specs.Prelude.{◌≡◌, ◌<◌, true, false, [], None, Ok, Some, IfOk, IfErr, OnErr, IfSome, length, slice_get};
 ghost use Rattle.std.specs.List.{list_all, list_any};
-ghost use Rattle.validate_visit.specs.Immediates.{is_module_op};
-ghost use Rattle.validate_visit.specs.Order.{is_well_ordered_list};
-ghost use Rattle.validate_visit.specs.declared.frame.BlockType.{BlockType};
-ghost use Rattle.validation_rules.specs.Static.{start};
-ghost use Rattle.validation_rules.specs.Operators.{operator};
-ghost use Rattle.validate_stacks.specs.Pops.{IsKept};
-ghost use Rattle.validate_stacks.specs.State.{IsStarting, IsValidBody, body_context};
-ghost use Rattle.validate_stacks.specs.Visits.{MayVisit, Meets};
-ghost use Rattle.validate_body.specs.Runs.{without_offsets, IsSafeFrom};
-ghost use Rattle.validate_body.specs.Start.{state, stacks_of};
+ghost use Rattle.wasmparser_validate.specs.Immediates.{is_module_op};
+ghost use Rattle.wasmparser_validate.specs.Order.{is_well_ordered_list};
+ghost use Rattle.wasmparser_validate.specs.BlockType.{BlockType};
+ghost use Rattle.wasmparser_validate.specs.Static.{start};
+ghost use Rattle.wasmparser_validate.specs.Operators.{operator};
+ghost use Rattle.wasmparser_validate.specs.Pops.{IsKept};
+ghost use Rattle.wasmparser_validate.specs.State.{IsStarting, IsValidBody, body_context};
+ghost use Rattle.wasmparser_validate.specs.Visits.{MayVisit, Meets};
+ghost use Rattle.wasmparser_validate.specs.Runs.{without_offsets, IsSafeFrom};
+ghost use Rattle.wasmparser_validate.specs.Start.{state, stacks_of};
 ghost use Rattle.opcheck_script.specs.Attempts.{IsAnswer, EndsRun, RunsAttempts, accepted_of};
 ghost use Rattle.script_parts.specs.Written.{may_all_be_attempted};
 ghost use Rattle.opcheck_script.specs.Reports.{Runs, accepted_in, is_attempted};
 
 use crate::report::{Answers, Report};
 use std::alloc::Global;
-use validate_body::{OperatorValidator, check_ops, try_op};
-use validate_resources::WasmModuleResources;
-use validate_types::Error;
-use validate_visit::Op;
+use wasmparser_validate::operators::{OperatorValidator, check_ops, try_op};
+use wasmparser_validate::resources::WasmModuleResources;
+use wasmparser_validate::types::Error;
+use wasmparser_validate::visit::Op;
 
 /// What is answered at an operator: how many operands and frames there are after it, or the refusal of
 /// an attempt.

@@ -2,11 +2,11 @@
 
 ghost use Rattle.std.specs.Prelude.{◌≡◌, ◌⊎◌, true, false, length, None, Some, IsSome, IfSome, IfOk, OnOk, IfErr};
 ghost use Rattle.std.specs.List.{list_all};
-ghost use Rattle.validate_visit.specs.Immediates.{is_module_op};
-ghost use Rattle.validate_resources.specs.Kept.{declared_lists};
-ghost use Rattle.validate_resources.specs.Lists.{context_of, module_of};
-ghost use Rattle.validate_stacks.specs.State.{IsStarting};
-ghost use Rattle.validate_body.specs.Start.{state};
+ghost use Rattle.wasmparser_validate.specs.Immediates.{is_module_op};
+ghost use Rattle.wasmparser_validate.specs.Kept.{declared_lists};
+ghost use Rattle.wasmparser_validate.specs.Lists.{context_of, module_of};
+ghost use Rattle.wasmparser_validate.specs.State.{IsStarting};
+ghost use Rattle.wasmparser_validate.specs.Start.{state};
 ghost use Rattle.opcheck_script.specs.Module.{declared_in};
 ghost use Rattle.opcheck_script.specs.Begin.{IsExpressionStart, IsBodyStart, CannotStart, HasLocals, CannotBegin};
 ghost use Rattle.opcheck_script.specs.Reports.{IsReport, script_body, may_be_body};
@@ -19,12 +19,11 @@ use crate::failure::{BadScript, Failure};
 use crate::report::{Answers, Report};
 use script_reader::{Body, BodyLine, Declarations, LocalLine, Operators, Script};
 use std::alloc::Global;
-use validate_body::OperatorValidator;
-use validate_resources::uses::laws;
-use validate_resources::{ModuleLists, WasmModuleResources};
-use validate_stacks::OperatorValidatorAllocations;
-use validate_types::{Error, ValType, WasmFeatures};
-use validate_visit::{Op, have_module_immediates, is_well_ordered};
+use wasmparser_validate::operators::{OperatorValidator, OperatorValidatorAllocations};
+use wasmparser_validate::resources::uses::laws;
+use wasmparser_validate::resources::{ModuleLists, WasmModuleResources};
+use wasmparser_validate::types::{Error, ValType, WasmFeatures};
+use wasmparser_validate::visit::{Op, have_module_immediates, is_well_ordered};
 
 /// Checks a script: first its order, then its module, then its body.
 pub fn check_script(alloc: Global, script: Script<'_>) -> Result<Report, Failure>

@@ -1,6 +1,6 @@
 //! What the check of a script comes to.
 
-use validate_types::Error;
+use wasmparser_validate::types::Error;
 
 /// What is answered at each operator, up to the end of the run.
 #[derive(Drop)]

@@ -1,9 +1,9 @@
 use Rattle.std.proofs.Common.{ℕ, sym, ap, subst, ◌∙◌}
-use Rattle.validate_types.specs.Refusal.{Refusal}
-use Rattle.validation_rules.specs.Static.{operand_count}
-use Rattle.validate_stacks.specs.State.{BodyState, body_context}
-use Rattle.validate_body.specs.Start.{state}
-use Rattle.validate_body.proofs.Listed.{visited, not_visited, visit_offset, visit_valid, visit_kept}
+use Rattle.wasmparser_validate.specs.Refusal.{Refusal}
+use Rattle.wasmparser_validate.specs.Static.{operand_count}
+use Rattle.wasmparser_validate.specs.State.{BodyState, body_context}
+use Rattle.wasmparser_validate.specs.Start.{state}
+use Rattle.wasmparser_validate.proofs.Listed.{visited, not_visited, visit_offset, visit_valid, visit_kept}
 use Rattle.opcheck_script.specs.Attempts.{Answer, IsAnswer, EndsRun}
 use Rattle.opcheck_script.proofs.Attempts.{ok_gives, err_gives}
 use Rattle.opcheck_script.proofs.body.answer_at.Goals as goal

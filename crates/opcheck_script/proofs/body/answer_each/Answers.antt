@@ -1,12 +1,12 @@
 use Rattle.std.proofs.Common.{◌≡◌, nat_eq, true, List, [], ◌∷◌, ◌++◌, ◌+◌, ◌<◌, length, drop, get_or, Err, refl, sym, ap, ◌∙◌, subst, arith, length-append}
 use Rattle.std.proofs.lemmas.List.{drop_more}
 use Rattle.std.proofs.lemmas.Bool.{eqb-true}
-use Rattle.validate_types.specs.Refusal.{Refusal}
-use Rattle.validation_rules.specs.Context.{Context}
-use Rattle.validate_stacks.specs.State.{body_context}
-use Rattle.validate_stacks.proofs.Validity.{kept_on}
-use Rattle.validate_body.specs.Start.{state}
-use Rattle.validate_body.proofs.Listed.{IsOrderedBelow, at_place, safe_list}
+use Rattle.wasmparser_validate.specs.Refusal.{Refusal}
+use Rattle.wasmparser_validate.specs.ValidationContext.{Context}
+use Rattle.wasmparser_validate.specs.State.{body_context}
+use Rattle.wasmparser_validate.proofs.Validity.{kept_on}
+use Rattle.wasmparser_validate.specs.Start.{state}
+use Rattle.wasmparser_validate.proofs.Listed.{IsOrderedBelow, at_place, safe_list}
 use Rattle.opcheck_script.specs.Attempts.{Answer, IsAnswer, AreAnswers, EndsRun, RunsAttempts, accepted_of}
 use Rattle.opcheck_script.proofs.Attempts.{next_answered, accepted_rows, still_ordered, attempted_flat, ends_at, short_of_memory, closed_is}
 use Rattle.opcheck_script.proofs.body.answer_each.Goals as goal

@@ -1,10 +1,10 @@
 -- There is an answer for each operator so far, the validator is in the state that they lead to, and the
 -- rest of the list is in order below its frames.
 use Rattle.std.proofs.Common.{◌≡◌, length, drop}
-use Rattle.validate_stacks.specs.Pops.{IsKept}
-use Rattle.validate_stacks.specs.State.{IsValidBody, body_context}
-use Rattle.validate_body.specs.Start.{state}
-use Rattle.validate_body.proofs.Listed.{IsOrderedBelow}
+use Rattle.wasmparser_validate.specs.Pops.{IsKept}
+use Rattle.wasmparser_validate.specs.State.{IsValidBody, body_context}
+use Rattle.wasmparser_validate.specs.Start.{state}
+use Rattle.wasmparser_validate.proofs.Listed.{IsOrderedBelow}
 use Rattle.opcheck_script.specs.Attempts.{AreAnswers}
 use Rattle.opcheck_script.proofs.body.answer_each.Given as goal
 

@@ -1,5 +1,5 @@
 use Rattle.std.proofs.Common.{◌≡◌, true, sym, ◌∙◌}
-use Rattle.validate_body.specs.Start.{state}
+use Rattle.wasmparser_validate.specs.Start.{state}
 use Rattle.opcheck_script.proofs.Reports.{ran_through, refused_at}
 use Rattle.opcheck_script.proofs.body.run_operators.Goals as goal
 use Rattle.opcheck_script.proofs.body.run_operators.Goals.{in-Ok, in-Err}

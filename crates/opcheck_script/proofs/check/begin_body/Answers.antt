@@ -1,5 +1,5 @@
 use Rattle.std.proofs.Common.{arith}
-use Rattle.validate_body.specs.Start.{state}
+use Rattle.wasmparser_validate.specs.Start.{state}
 use Rattle.opcheck_script.proofs.Locals.{one_local_more}
 use Rattle.opcheck_script.proofs.check.begin_body.Goals as goal
 

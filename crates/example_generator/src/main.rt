@@ -62,7 +62,7 @@ fn try_each<R: WasmModuleResources>(
     Some(())
 }
 
-/// Makes the body. None where it can't be printed, or memory is wanting.
+/// Makes the body. None where there is no such function, nothing can be printed, or memory is wanting.
 fn generate<R: WasmModuleResources>(rt: &HostRuntime, resources: &R) -> Option<()> {
     let buffers = OperatorValidatorAllocations::new(rt.alloc());
     let features = WasmFeatures::all();

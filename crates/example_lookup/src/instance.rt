@@ -119,6 +119,10 @@ impl<R: WasmModuleResources> WasmModuleResources for Instance<R> {
         self.declared.is_function_referenced(function_index)
     }
 
+    fn has_function_exact_type(&self, function_index: u32) -> bool {
+        self.declared.has_function_exact_type(function_index)
+    }
+
     fn is_subtype(&self, a: ValType, b: ValType) -> bool {
         self.declared.is_subtype(a, b)
     }

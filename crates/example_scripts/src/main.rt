@@ -13,6 +13,7 @@ const NAMES: &[&str] = &[
     "classes",
     "constant",
     "countdown",
+    "descriptors",
     "every_operator",
     "exceptions",
     "functions",

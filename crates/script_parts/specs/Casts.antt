@@ -5,6 +5,8 @@ use Rattle.validate_visit.specs.declared.op.BranchCast.{BranchCast}
 use Rattle.validate_visit.specs.declared.op.ReferenceOp.{ReferenceOp}
 use Rattle.validate_visit.specs.declared.op.ReferenceOp.TheVariants.{RefTestNonNull, RefTestNullable}
 use Rattle.validate_visit.specs.declared.op.ReferenceOp.TheVariants.{RefCastNonNull, RefCastNullable}
+use Rattle.validate_visit.specs.declared.op.ReferenceOp.TheVariants.{RefCastDescEqNonNull}
+use Rattle.validate_visit.specs.declared.op.ReferenceOp.TheVariants.{RefCastDescEqNullable}
 use Rattle.script_parts.specs.Numbers.{WritesIndex}
 use Rattle.script_parts.specs.References.{IsReferenceName}
 
@@ -15,6 +17,11 @@ test_for r = if r.nullable then RefTestNullable r.heap_type else RefTestNonNull 
 -- a cast to this type
 abbrev pub cast_to : RefType → ReferenceOp
 cast_to r = if r.nullable then RefCastNullable r.heap_type else RefCastNonNull r.heap_type
+
+-- a cast to this type by a descriptor
+abbrev pub cast_by_descriptor_to : RefType → ReferenceOp
+cast_by_descriptor_to r =
+    if r.nullable then RefCastDescEqNullable r.heap_type else RefCastDescEqNonNull r.heap_type
 
 -- the words write the label, the type of the operand, and the one that it is cast to
 abbrev pub IsBranchCast : List (List ℕ) → BranchCast → Type 0

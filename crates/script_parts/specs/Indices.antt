@@ -24,7 +24,7 @@ use Rattle.validate_visit.specs.declared.op.Op.TheVariants.{Control, Memory, Ref
 use Rattle.validate_visit.specs.declared.op.Op.TheVariants.{Exception, Continuation}
 use Rattle.validate_visit.specs.declared.op.Op.TheVariants.{Shared}
 use Rattle.validate_visit.specs.declared.op.ReferenceOp.{ReferenceOp}
-use Rattle.validate_visit.specs.declared.op.ReferenceOp.TheVariants.{RefFunc, BrOnNull, BrOnNonNull}
+use Rattle.validate_visit.specs.declared.op.ReferenceOp.TheVariants.{RefFunc, RefGetDesc, BrOnNull, BrOnNonNull}
 use Rattle.validate_visit.specs.declared.shared.SharedOp.{SharedOp}
 use Rattle.validate_visit.specs.declared.shared.SharedOp.TheVariants.{Global as SharedGlobal, RefI31Shared}
 use Rattle.validate_visit.specs.declared.shared.SharedOp.TheVariants.{Table as SharedTable}
@@ -33,6 +33,7 @@ use Rattle.validate_visit.specs.declared.shared.SharedOp.TheVariants.{Array as S
 use Rattle.validate_visit.specs.declared.op.StructOp.{StructOp}
 use Rattle.validate_visit.specs.declared.op.StructOp.TheVariants.{StructNew, StructNewDefault, StructGet}
 use Rattle.validate_visit.specs.declared.op.StructOp.TheVariants.{StructGetPacked, StructSet}
+use Rattle.validate_visit.specs.declared.op.StructOp.TheVariants.{StructNewDesc, StructNewDefaultDesc}
 use Rattle.validate_visit.specs.declared.op.TableOp.{TableOp}
 use Rattle.validate_visit.specs.declared.op.TableOp.TheVariants.{TableGet, TableSet, TableGrow, TableSize}
 use Rattle.validate_visit.specs.declared.op.TableOp.TheVariants.{TableFill, TableInit, ElemDrop, TableCopy}
@@ -55,9 +56,10 @@ control_indices (GlobalGet global) = global ∷ []
 control_indices (GlobalSet global) = global ∷ []
 control_indices _ = []
 
--- the label or the function of an operator on references
+-- the label, the function or the type of an operator on references
 abbrev pub reference_indices : ReferenceOp → List ℕ
 reference_indices (RefFunc function) = function ∷ []
+reference_indices (RefGetDesc type) = type ∷ []
 reference_indices (BrOnNull label) = label ∷ []
 reference_indices (BrOnNonNull label) = label ∷ []
 reference_indices _ = []
@@ -88,6 +90,8 @@ table_indices (TableCopy to from) = to ∷ from ∷ []
 abbrev pub struct_indices : StructOp → List ℕ
 struct_indices (StructNew type) = type ∷ []
 struct_indices (StructNewDefault type) = type ∷ []
+struct_indices (StructNewDesc type) = type ∷ []
+struct_indices (StructNewDefaultDesc type) = type ∷ []
 struct_indices (StructGet field) = field.struct_type_index ∷ field.field_index ∷ []
 struct_indices (StructGetPacked sign field) = field.struct_type_index ∷ field.field_index ∷ []
 struct_indices (StructSet field) = field.struct_type_index ∷ field.field_index ∷ []

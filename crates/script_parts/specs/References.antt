@@ -2,7 +2,7 @@
 use Rattle.std.specs.Prelude.{◌≡◌, ◌⊎◌, ◌++◌, ℕ, List, Bool, true, false, codes}
 use Rattle.validate_types.specs.Abstract.{plain_name, heap_name}
 use Rattle.validate_types.specs.declared.heap.HeapType.{HeapType}
-use Rattle.validate_types.specs.declared.heap.HeapType.TheVariants.{Abstract, Concrete}
+use Rattle.validate_types.specs.declared.heap.HeapType.TheVariants.{Abstract, Concrete, Exact}
 use Rattle.validate_types.specs.declared.heap.UnpackedIndex.{UnpackedIndex}
 use Rattle.validate_types.specs.declared.heap.UnpackedIndex.TheVariants.{Module, Id}
 use Rattle.validate_types.specs.declared.refs.RefType.{RefType}
@@ -18,6 +18,7 @@ abbrev pub IsHeapName : List ℕ → HeapType → Type 0
 IsHeapName word (Abstract false ty) = word ≡ plain_name ty
 IsHeapName word (Abstract true ty) = word ≡ codes "shared-" ++ plain_name ty
 IsHeapName word (Concrete i) = IsIndexOf word i
+IsHeapName word (Exact i) = (digits : List ℕ) × (word ≡ codes "exact-" ++ digits) × IsIndexOf digits i
 
 -- the word is the short name of a reference with null to an unshared abstract type
 abbrev pub IsShortName : List ℕ → Bool → HeapType → Type 0

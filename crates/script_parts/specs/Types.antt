@@ -1,5 +1,5 @@
 -- Types, as a script declares them (the crate's own).
-use Rattle.std.specs.Prelude.{◌≡◌, ◌++◌, ◌||◌, ◌&&◌, ◌<◌, ℕ, Bool, true, List, [], ◌∷◌, Option, IfSome, codes}
+use Rattle.std.specs.Prelude.{◌≡◌, ◌++◌, ◌||◌, ◌&&◌, ◌+◌, ◌<◌, ℕ, Bool, true, List, [], ◌∷◌, Option, IfSome, codes}
 use Rattle.std.specs.Prelude.{bytes_eq, drop, not, length}
 use Rattle.std.specs.List.{AllZip, list_all, list_any, filter, before_first, position_or_len}
 use Rattle.std.specs.Option.{option_map}
@@ -34,9 +34,19 @@ kind_onwards words = drop (position_or_len is_kind words) words
 abbrev pub is_marked_shared : List (List ℕ) → Bool
 is_marked_shared marks = list_any (λ mark. bytes_eq mark (codes "shared")) marks
 
--- the supertype that a mark gives by its index, if one does
+-- the index that a mark gives after this prefix, if one does
+abbrev pub index_in_mark : List ℕ → List (List ℕ) → Option UnpackedIndex
+index_in_mark prefix marks = option_map (λ digits. Module (digits_value 10 digits)) (text_after prefix marks)
+
+-- the supertype, the type of the descriptors, and the one whose values are described
 abbrev pub supertype_in : List (List ℕ) → Option UnpackedIndex
-supertype_in marks = option_map (λ digits. Module (digits_value 10 digits)) (text_after (codes "sub=") marks)
+supertype_in marks = index_in_mark (codes "sub=") marks
+
+abbrev pub descriptor_in : List (List ℕ) → Option UnpackedIndex
+descriptor_in marks = index_in_mark (codes "desc=") marks
+
+abbrev pub described_in : List (List ℕ) → Option UnpackedIndex
+described_in marks = index_in_mark (codes "describes=") marks
 
 -- the marks that aren't `shared`
 abbrev pub other_marks : List (List ℕ) → List (List ℕ)
@@ -46,11 +56,16 @@ other_marks marks = filter (λ mark. not (bytes_eq mark (codes "shared"))) marks
 abbrev pub IsPackedIndex : List ℕ → Type 0
 IsPackedIndex digits = IsIndex digits × (digits_value 10 digits < LIMIT)
 
--- Words that are the marks of a type: each is `shared`, but for one at most, which gives a supertype by an
--- index that is packed.
+-- Words that are the marks of a type: each is `shared`, but for one at most of each of three, which give a
+-- supertype, the type of the descriptors and the type that is described by indices that are packed.
 pub record AreMarks (marks : List (List ℕ)) : Type 0 where
-  pub known : length (other_marks marks) ≡ one_if_some (text_after (codes "sub=") marks)
+  pub known :
+      length (other_marks marks)
+      ≡ one_if_some (text_after (codes "sub=") marks) + one_if_some (text_after (codes "desc=") marks)
+      + one_if_some (text_after (codes "describes=") marks)
   pub supertype : IfSome (text_after (codes "sub=") marks) IsPackedIndex
+  pub descriptor : IfSome (text_after (codes "desc=") marks) IsPackedIndex
+  pub described : IfSome (text_after (codes "describes=") marks) IsPackedIndex
 
 -- the words name the parameters, and behind an arrow the results
 abbrev pub IsSignature : List (List ℕ) → Signature → Type 0

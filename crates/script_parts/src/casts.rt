@@ -1,7 +1,7 @@
 //! Tests of references, and casts.
 
 ghost use Rattle.std.specs.Prelude.{◌≡◌, IfSome, map};
-ghost use Rattle.script_parts.specs.Casts.{IsBranchCast, cast_to, test_for};
+ghost use Rattle.script_parts.specs.Casts.{IsBranchCast, cast_by_descriptor_to, cast_to, test_for};
 
 use crate::numbers::read_index;
 use crate::references::read_reference;
@@ -27,6 +27,17 @@ pub fn ref_cast(ty: RefType) -> ReferenceOp
         ReferenceOp::RefCastNullable(ty.heap_type)
     } else {
         ReferenceOp::RefCastNonNull(ty.heap_type)
+    }
+}
+
+/// The `ref.cast_desc_eq` to this type.
+pub fn ref_cast_desc_eq(ty: RefType) -> ReferenceOp
+    ensures { result ≡ cast_by_descriptor_to ty }
+{
+    if ty.nullable {
+        ReferenceOp::RefCastDescEqNullable(ty.heap_type)
+    } else {
+        ReferenceOp::RefCastDescEqNonNull(ty.heap_type)
     }
 }
 

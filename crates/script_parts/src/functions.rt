@@ -12,13 +12,16 @@ pub fn read_function(type_index: u32, marks: &[&str]) -> Option<FuncDecl>
     ensures read { IfSome result (λ f. map (λ mark. mark.now) marks.now ≡ function_marks f) }
     ensures other { IfNone result ((f : FuncDecl) → map (λ mark. mark.now) marks.now ≢ function_marks f) }
 {
-    let referenced = match *marks {
-        [] => false,
-        ["ref"] => true,
+    let (referenced, exact) = match *marks {
+        [] => (false, false),
+        ["ref"] => (true, false),
+        ["exact"] => (false, true),
+        ["ref", "exact"] => (true, true),
         _ => return None,
     };
     Some(FuncDecl {
         type_index,
         referenced,
+        exact,
     })
 }

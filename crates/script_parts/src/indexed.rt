@@ -38,6 +38,7 @@ fn with_index(op: Op<'static>, index: u32) -> Option<Op<'static>>
         Op::Control(ControlOp::GlobalGet(_)) => Op::Control(ControlOp::GlobalGet(index)),
         Op::Control(ControlOp::GlobalSet(_)) => Op::Control(ControlOp::GlobalSet(index)),
         Op::Reference(ReferenceOp::RefFunc(_)) => Op::Reference(ReferenceOp::RefFunc(index)),
+        Op::Reference(ReferenceOp::RefGetDesc(_)) => Op::Reference(ReferenceOp::RefGetDesc(index)),
         Op::Reference(ReferenceOp::BrOnNull(_)) => Op::Reference(ReferenceOp::BrOnNull(index)),
         Op::Reference(ReferenceOp::BrOnNonNull(_)) => {
             Op::Reference(ReferenceOp::BrOnNonNull(index))
@@ -68,6 +69,8 @@ fn struct_with_index(op: StructOp, index: u32) -> Option<StructOp>
     match op {
         StructOp::StructNew(_) => Some(StructOp::StructNew(index)),
         StructOp::StructNewDefault(_) => Some(StructOp::StructNewDefault(index)),
+        StructOp::StructNewDesc(_) => Some(StructOp::StructNewDesc(index)),
+        StructOp::StructNewDefaultDesc(_) => Some(StructOp::StructNewDefaultDesc(index)),
         _ => None,
     }
 }

@@ -27,7 +27,7 @@ pub fn read_reference(word: &str) -> Option<RefType>
 }
 
 /// The heap type that a word names, if it does: an abstract type, the shared copy of one, or the type of
-/// the module at this index.
+/// the module at this index, exact or not.
 pub fn read_heap_type(word: &str) -> Option<HeapType>
     ensures named { IfSome result (λ ty. IsHeapName word.now ty) }
     ensures other { IfNone result ((ty : HeapType) → ¬ (IsHeapName word.now ty)) }
@@ -38,6 +38,10 @@ pub fn read_heap_type(word: &str) -> Option<HeapType>
     if let Some(name) = word.strip_prefix("shared-") {
         let ty = abstract_named(name)?;
         return Some(HeapType::Abstract { shared: true, ty });
+    }
+    if let Some(digits) = word.strip_prefix("exact-") {
+        let index = read_index(digits)?;
+        return Some(HeapType::Exact(UnpackedIndex::Module(index)));
     }
     let index = read_index(word)?;
     Some(HeapType::Concrete(UnpackedIndex::Module(index)))

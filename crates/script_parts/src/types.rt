@@ -6,11 +6,12 @@ ghost use Rattle.validate_types.specs.declared.types.ArrayType.{ArrayType};
 ghost use Rattle.validate_types.specs.declared.types.ContType.{ContType};
 ghost use Rattle.validate_types.specs.Types.{Signature};
 ghost use Rattle.validate_types.specs.declared.types.CompositeInnerType.{CompositeInnerType};
+ghost use Rattle.script_parts.specs.Access.{text_after as text_behind};
 ghost use Rattle.script_parts.specs.Fields.{IsFieldName, fits_field};
 ghost use Rattle.std.specs.Option.{SomeIff};
 ghost use Rattle.std.specs.Str.Parse.{digits_value};
 ghost use Rattle.validate_types.specs.declared.heap.UnpackedIndex.{UnpackedIndex};
-ghost use Rattle.script_parts.specs.Types.{AreMarks, IsPackedIndex, IsContName, IsComposite, IsSignature, is_kind, is_marked_shared, type_marks, kind_onwards, supertype_in, fits_composite, fits_signature};
+ghost use Rattle.script_parts.specs.Types.{AreMarks, IsPackedIndex, index_in_mark, descriptor_in, described_in, IsContName, IsComposite, IsSignature, is_kind, is_marked_shared, type_marks, kind_onwards, supertype_in, fits_composite, fits_signature};
 ghost use Rattle.script_parts.specs.declared.failure.LineError.{LineError};
 
 use crate::access::text_after;
@@ -31,6 +32,10 @@ pub fn read_type(alloc: Global, words: &[&str]) -> Result<SubType, LineError>
         ≡ is_marked_shared (type_marks (map (λ word. word.now) words.now))) }
     ensures supertype { IfOk result (λ ty. ty.supertype_idx
         ≡ supertype_in (type_marks (map (λ word. word.now) words.now))) }
+    ensures descriptor { IfOk result (λ ty. ty.composite_type.descriptor_idx
+        ≡ descriptor_in (type_marks (map (λ word. word.now) words.now))) }
+    ensures described { IfOk result (λ ty. ty.composite_type.describes_idx
+        ≡ described_in (type_marks (map (λ word. word.now) words.now))) }
     ensures inner { IfOk result (λ ty. IsComposite (kind_onwards (map (λ word. word.now) words.now))
         ty.composite_type.inner) }
     ensures marks { OnOk result (AreMarks (type_marks (map (λ word. word.now) words.now))) }
@@ -49,6 +54,8 @@ pub fn read_type(alloc: Global, words: &[&str]) -> Result<SubType, LineError>
         composite_type: CompositeType {
             inner: read_composite(alloc, &words[kind..])?,
             shared: marks.shared,
+            descriptor_idx: marks.descriptor_idx,
+            describes_idx: marks.describes_idx,
         },
     })
 }
@@ -65,29 +72,55 @@ fn is_kind(word: &str) -> bool
 struct Marks {
     shared: bool,
     supertype_idx: Option<PackedIndex>,
+    descriptor_idx: Option<PackedIndex>,
+    describes_idx: Option<PackedIndex>,
 }
 
-/// What these marks of a type say, if they are those of one: `shared`, and `sub=N` at most once, in any
-/// order.
+/// The index that a mark of a type gives after this prefix, if there is one and it is packed. None of a mark
+/// that gives no such index.
+fn marked_index(marks: &[&str], prefix: &str) -> Option<Option<PackedIndex>>
+    ensures known { IsSome result ↔ IfSome (text_behind prefix.now (map (λ mark. mark.now) marks.now))
+        IsPackedIndex }
+    ensures index { IfSome result (λ i. i
+        ≡ index_in_mark prefix.now (map (λ mark. mark.now) marks.now)) }
+{
+    match text_after(marks, prefix) {
+        Some(digits) => {
+            let index = read_packed_index(digits)?;
+            Some(Some(index))
+        }
+        None => Some(None),
+    }
+}
+
+/// What these marks of a type say, if they are those of one: `shared`, and `sub=N`, `desc=N` and `describes=N` at
+/// most once each, in any order.
 fn read_marks(marks: &[&str]) -> Option<Marks>
     ensures known { IsSome result ↔ AreMarks (map (λ mark. mark.now) marks.now) }
     ensures shared { IfSome result (λ said. said.shared
         ≡ is_marked_shared (map (λ mark. mark.now) marks.now)) }
     ensures supertype { IfSome result (λ said. said.supertype_idx
         ≡ supertype_in (map (λ mark. mark.now) marks.now)) }
+    ensures descriptor { IfSome result (λ said. said.descriptor_idx
+        ≡ descriptor_in (map (λ mark. mark.now) marks.now)) }
+    ensures described { IfSome result (λ said. said.describes_idx
+        ≡ described_in (map (λ mark. mark.now) marks.now)) }
 {
-    let supertype = text_after(marks, "sub=");
+    let supertype_idx = marked_index(marks, "sub=")?;
+    let descriptor_idx = marked_index(marks, "desc=")?;
+    let describes_idx = marked_index(marks, "describes=")?;
     let others = marks.iter().filter(|mark| **mark != "shared").count();
-    if others != usize::from(supertype.is_some()) {
+    let given = usize::from(supertype_idx.is_some())
+        + usize::from(descriptor_idx.is_some())
+        + usize::from(describes_idx.is_some());
+    if others != given {
         return None;
     }
-    let supertype_idx = match supertype {
-        Some(digits) => Some(read_packed_index(digits)?),
-        None => None,
-    };
     Some(Marks {
         shared: marks.iter().any(|mark| *mark == "shared"),
         supertype_idx,
+        descriptor_idx,
+        describes_idx,
     })
 }
 

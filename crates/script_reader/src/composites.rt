@@ -6,7 +6,8 @@ use validate_visit::ArrayOp::{
 };
 use validate_visit::Sign::{Signed, Unsigned};
 use validate_visit::StructOp::{
-    StructGet, StructGetPacked, StructNew, StructNewDefault, StructSet,
+    StructGet, StructGetPacked, StructNew, StructNewDefault, StructNewDefaultDesc, StructNewDesc,
+    StructSet,
 };
 use validate_visit::{ArrayOp, FieldIndex, StructOp};
 
@@ -20,6 +21,8 @@ const FIRST_FIELD: FieldIndex = FieldIndex {
 pub const STRUCT_OPERATORS: &[(&str, StructOp)] = &[
     ("struct.new", StructNew(0)),
     ("struct.new_default", StructNewDefault(0)),
+    ("struct.new_desc", StructNewDesc(0)),
+    ("struct.new_default_desc", StructNewDefaultDesc(0)),
     ("struct.get", StructGet(FIRST_FIELD)),
     ("struct.get_s", StructGetPacked(Signed, FIRST_FIELD)),
     ("struct.get_u", StructGetPacked(Unsigned, FIRST_FIELD)),

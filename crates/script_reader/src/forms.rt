@@ -1,8 +1,9 @@
 //! What stands behind an operator's name: one table, by the names.
 
 use self::Form::{
-    Access, Block, BranchCast, BranchCastFail, CastType, Constant, Fence, Indexed, NullType,
-    Ordered, Plain, SelectType, TestType,
+    Access, Block, BranchCast, BranchCastDescEq, BranchCastDescEqFail, BranchCastFail,
+    CastDescEqType, CastType, Constant, Fence, Indexed, NullType, Ordered, Plain, SelectType,
+    TestType,
 };
 use crate::atomic::ATOMIC_ACCESSES;
 use crate::composites::{ARRAY_OPERATORS, STRUCT_OPERATORS};
@@ -39,10 +40,16 @@ pub enum Form {
     TestType,
     /// The reference type of a `ref.cast`.
     CastType,
+    /// The reference type of a `ref.cast_desc_eq`.
+    CastDescEqType,
     /// The label and the two reference types of a `br_on_cast`.
     BranchCast,
     /// Those of a `br_on_cast_fail`.
     BranchCastFail,
+    /// Those of a `br_on_cast_desc_eq`.
+    BranchCastDescEq,
+    /// Those of a `br_on_cast_desc_eq_fail`.
+    BranchCastDescEqFail,
     /// The ordering of a fence.
     Fence,
     /// An ordering, and then one index or two.
@@ -114,6 +121,13 @@ const FORMS: &[(&str, Form)] = &[
     ("ref.cast", CastType),
     ("br_on_cast", BranchCast),
     ("br_on_cast_fail", BranchCastFail),
+    (
+        "ref.get_desc",
+        Indexed(Reference(ReferenceOp::RefGetDesc(0))),
+    ),
+    ("ref.cast_desc_eq", CastDescEqType),
+    ("br_on_cast_desc_eq", BranchCastDescEq),
+    ("br_on_cast_desc_eq_fail", BranchCastDescEqFail),
     ("ref.i31", Plain(Reference(ReferenceOp::RefI31))),
     ("ref.i31_shared", Plain(Shared(SharedOp::RefI31Shared))),
     (

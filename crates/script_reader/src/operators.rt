@@ -4,7 +4,7 @@ use crate::access::with_access;
 use crate::forms::{Form, form_of};
 use script_parts::OperatorList;
 use script_parts::blocks::read_block_type;
-use script_parts::casts::{read_branch_cast, ref_cast, ref_test};
+use script_parts::casts::{read_branch_cast, ref_cast, ref_cast_desc_eq, ref_test};
 use script_parts::indexed::read_indexed;
 use script_parts::listed::has_list;
 use script_parts::numbers::{read_i32, read_i64, read_index, read_u64};
@@ -50,6 +50,14 @@ fn read_flat_operator(words: &[&str]) -> Option<Op<'static>> {
             let cast = read_branch_cast(immediates)?;
             Some(Op::Reference(ReferenceOp::BrOnCastFail(cast)))
         }
+        (Form::BranchCastDescEq, _) => {
+            let cast = read_branch_cast(immediates)?;
+            Some(Op::Reference(ReferenceOp::BrOnCastDescEq(cast)))
+        }
+        (Form::BranchCastDescEqFail, _) => {
+            let cast = read_branch_cast(immediates)?;
+            Some(Op::Reference(ReferenceOp::BrOnCastDescEqFail(cast)))
+        }
         (_, [immediate]) => read_with(form, immediate),
         _ => None,
     }
@@ -70,6 +78,9 @@ fn read_with(form: Form, immediate: &str) -> Option<Op<'static>> {
         }
         Form::TestType => Some(Op::Reference(ref_test(read_reference(immediate)?))),
         Form::CastType => Some(Op::Reference(ref_cast(read_reference(immediate)?))),
+        Form::CastDescEqType => {
+            Some(Op::Reference(ref_cast_desc_eq(read_reference(immediate)?)))
+        }
         Form::Fence => {
             let ordering = read_ordering(immediate)?;
             Some(Op::Atomic(AtomicOp::AtomicFence(ordering)))
@@ -79,7 +90,9 @@ fn read_with(form: Form, immediate: &str) -> Option<Op<'static>> {
         | Form::Access(_)
         | Form::Ordered(_)
         | Form::BranchCast
-        | Form::BranchCastFail => None,
+        | Form::BranchCastFail
+        | Form::BranchCastDescEq
+        | Form::BranchCastDescEqFail => None,
     }
 }
 

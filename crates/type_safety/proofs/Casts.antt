@@ -15,7 +15,7 @@ use Rattle.type_safety.proofs.Branches.{one_target, types_reach}
 use Rattle.type_safety.proofs.Plain.{plain_monotone, plain_below, no_target, found_lawful, flat_lawful}
 
 module _ (cx : Context) (laws : IsLawful cx.of_module) where
-  split_is : (ts : List ValType) (p : List ValType × ValType) → split_last ts ≡ Some p → p.0 ++ p.1 ∷ [] ≡ ts
+  pub split_is : (ts : List ValType) (p : List ValType × ValType) → split_last ts ≡ Some p → p.0 ++ p.1 ∷ [] ≡ ts
   split_is [] p e = absurd cc
   split_is (t ∷ []) p e = ap (λ (q : List ValType × ValType). q.0 ++ q.1 ∷ []) (sym (some_injective _ _ e))
   split_is (t ∷ u ∷ ts) p e =
@@ -23,7 +23,7 @@ module _ (cx : Context) (laws : IsLawful cx.of_module) where
       ap (λ (q : List ValType × ValType). q.0 ++ q.1 ∷ []) (sym m.2) ∙ ap (λ l. t ∷ l) (split_is (u ∷ ts) m.0 m.1)
 
   -- types below a list, with the last of them replaced by one below the last of another
-  last_replaced : (ts : List ValType) (from carried last : ValType) (ys : List ValType) → IsValidBelow cx.of_module carried last → AllBelow cx ys (ts ++ from ∷ []) → AllBelow cx (with_last carried ys) (ts ++ last ∷ [])
+  pub last_replaced : (ts : List ValType) (from carried last : ValType) (ys : List ValType) → IsValidBelow cx.of_module carried last → AllBelow cx ys (ts ++ from ∷ []) → AllBelow cx (with_last carried ys) (ts ++ last ∷ [])
   last_replaced [] from carried last (y ∷ []) c b = (c, tt)
   last_replaced [] from carried last [] c b = elim b [ ]
   last_replaced [] from carried last (y ∷ z ∷ ys) c b = elim b.1 [ ]

@@ -27,7 +27,7 @@ use Rattle.type_safety.proofs.Bodies.{body_safety}
 
 abbrev a_type : List ValType → List ValType → SubType
 a_type params results =
-    record { is_final = true; supertype_idx = None; composite_type = record { inner = Func (record { params = params; results = results }); shared = false } }
+    record { is_final = true; supertype_idx = None; composite_type = record { inner = Func (record { params = params; results = results }); shared = false; descriptor_idx = None; describes_idx = None } }
 
 abbrev types : List SubType
 types = a_type [] [] ∷ a_type (I32 ∷ []) [] ∷ a_type (I32 ∷ []) (I32 ∷ []) ∷ []
@@ -561,7 +561,7 @@ tilted t u = is_same_number_or_vector t u
 
 abbrev tilted_context : Context
 tilted_context = record {
-  of_module = record { type_at = λ i. None; type_of_id = λ i. None; type_index_of = λ i. None; type_id_of = λ i. None; is_referenced = λ i. false; table_at = λ i. None; memory_at = λ i. None; global_at = λ i. None; tag_at = λ i. None; element_at = λ i. None; data_count = None; below = tilted; is_shared = λ r. false; top_type = λ h. h; canonical_type = λ f t. None; canonical_ref = λ r. None; canonical_heap = λ h. None };
+  of_module = record { type_at = λ i. None; type_of_id = λ i. None; type_index_of = λ i. None; type_id_of = λ i. None; is_referenced = λ i. false; has_exact_type = λ i. false; table_at = λ i. None; memory_at = λ i. None; global_at = λ i. None; tag_at = λ i. None; element_at = λ i. None; data_count = None; below = tilted; is_shared = λ r. false; top_type = λ h. h; canonical_type = λ f t. None; canonical_ref = λ r. None; canonical_heap = λ h. None };
   features = record { 0 = every };
   shared = false;
   locals = [];

@@ -20,7 +20,7 @@ use Rattle.type_safety.proofs.Bodies.{body_safety}
 
 abbrev a_type : List ValType → List ValType → SubType
 a_type params results =
-    record { is_final = true; supertype_idx = None; composite_type = record { inner = Func (record { params = params; results = results }); shared = false } }
+    record { is_final = true; supertype_idx = None; composite_type = record { inner = Func (record { params = params; results = results }); shared = false; descriptor_idx = None; describes_idx = None } }
 
 abbrev types : List SubType
 types = a_type [] [] ∷ a_type (I32 ∷ []) (I64 ∷ []) ∷ []

@@ -23,10 +23,10 @@ use Rattle.type_safety.proofs.Bodies.{body_safety}
 
 abbrev a_type : List ValType → List ValType → SubType
 a_type params results =
-    record { is_final = true; supertype_idx = None; composite_type = record { inner = Func (record { params = params; results = results }); shared = false } }
+    record { is_final = true; supertype_idx = None; composite_type = record { inner = Func (record { params = params; results = results }); shared = false; descriptor_idx = None; describes_idx = None } }
 
 abbrev declared : Declared
-declared = record { types = a_type [] (I32 ∷ I64 ∷ []) ∷ a_type (I32 ∷ []) (I64 ∷ []) ∷ []; functions = record { type_index = 1; referenced = false } ∷ record { type_index = 0; referenced = false } ∷ []; tables = []; memories = []; globals = record { content_type = I32; mutable = false; shared = false } ∷ record { content_type = I64; mutable = true; shared = false } ∷ []; tags = []; elements = []; data_count = None }
+declared = record { types = a_type [] (I32 ∷ I64 ∷ []) ∷ a_type (I32 ∷ []) (I64 ∷ []) ∷ []; functions = record { type_index = 1; referenced = false; exact = false } ∷ record { type_index = 0; referenced = false; exact = false } ∷ []; tables = []; memories = []; globals = record { content_type = I32; mutable = false; shared = false } ∷ record { content_type = I64; mutable = true; shared = false } ∷ []; tags = []; elements = []; data_count = None }
 
 abbrev cx : Context
 cx = record { of_module = context_of declared; features = record { 0 = floats + tail_call }; shared = false; locals = []; set_at_entry = [] }

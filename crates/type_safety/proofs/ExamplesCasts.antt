@@ -46,7 +46,7 @@ no_null h = Ref (reference false h)
 -- ---- a function from nothing to nothing, a type of an i32 and any reference, and a struct
 
 abbrev a_type : CompositeInnerType → SubType
-a_type inner = record { is_final = true; supertype_idx = None; composite_type = record { inner = inner; shared = false } }
+a_type inner = record { is_final = true; supertype_idx = None; composite_type = record { inner = inner; shared = false; descriptor_idx = None; describes_idx = None } }
 
 abbrev gives : List ValType → SubType
 gives results = a_type (FuncInner (record { params = []; results = results }))

@@ -36,11 +36,11 @@ to i = Ref (reference false (Concrete (Id (record { index = i }))))
 
 abbrev func : List ValType → List ValType → SubType
 func params results =
-    record { is_final = true; supertype_idx = None; composite_type = record { inner = Func (record { params = params; results = results }); shared = false } }
+    record { is_final = true; supertype_idx = None; composite_type = record { inner = Func (record { params = params; results = results }); shared = false; descriptor_idx = None; describes_idx = None } }
 
 abbrev cont : ℕ → SubType
 cont i =
-    record { is_final = true; supertype_idx = None; composite_type = record { inner = Cont (record { 0 = Id (record { index = i }) }); shared = false } }
+    record { is_final = true; supertype_idx = None; composite_type = record { inner = Cont (record { 0 = Id (record { index = i }) }); shared = false; descriptor_idx = None; describes_idx = None } }
 
 -- 1, 3, 5 and 8 are the types of the continuations of those before; 4 ends with a continuation that is switched to
 abbrev types : List SubType

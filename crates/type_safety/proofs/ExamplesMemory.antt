@@ -114,7 +114,7 @@ copying_safe = body_safety (context_of declared) (lawful_lists declared refl) cx
 -- ---- what is loaded from memory 1 is stored in an array of type 0
 
 abbrev byte_array : SubType
-byte_array = record { is_final = true; supertype_idx = None; composite_type = record { inner = ArrayInner (record { 0 = record { element_type = I8; mutable = true } }); shared = false } }
+byte_array = record { is_final = true; supertype_idx = None; composite_type = record { inner = ArrayInner (record { 0 = record { element_type = I8; mutable = true } }); shared = false; descriptor_idx = None; describes_idx = None } }
 
 abbrev declared_array : Declared
 declared_array = record declared { types = byte_array ∷ [] }

@@ -43,10 +43,10 @@ no_null h = Ref (reference false h)
 
 abbrev a_type : List ValType → List ValType → SubType
 a_type params results =
-    record { is_final = true; supertype_idx = None; composite_type = record { inner = FuncInner (record { params = params; results = results }); shared = false } }
+    record { is_final = true; supertype_idx = None; composite_type = record { inner = FuncInner (record { params = params; results = results }); shared = false; descriptor_idx = None; describes_idx = None } }
 
 abbrev declared : Declared
-declared = record { types = a_type [] [] ∷ a_type [] (I32 ∷ no_null func ∷ []) ∷ []; functions = record { type_index = 0; referenced = true } ∷ []; tables = []; memories = []; globals = []; tags = []; elements = []; data_count = None }
+declared = record { types = a_type [] [] ∷ a_type [] (I32 ∷ no_null func ∷ []) ∷ []; functions = record { type_index = 0; referenced = true; exact = false } ∷ []; tables = []; memories = []; globals = []; tags = []; elements = []; data_count = None }
 
 abbrev cx : Context
 cx = record { of_module = context_of declared; features = record { 0 = multi_value + reference_types + function_references }; shared = false; locals = []; set_at_entry = [] }

@@ -1,11 +1,12 @@
 -- Every operator of the table keeps what the law asks of operators.
-use Rattle.std.proofs.Common.{◌≡◌, ℕ, zero, suc, pred, Bool, true, false, List, [], ◌∷◌, ◌++◌, length, map, take, Option, Some, None, refl, sym, ap, ◌∙◌, subst, slice_get}
+use Rattle.std.proofs.Common.{◌≡◌, ℕ, zero, suc, pred, Bool, true, false, List, [], ◌∷◌, ◌++◌, length, map, take, Option, Some, None, refl, sym, ap, ◌∙◌, subst, slice_get, is_none}
 use Rattle.std.specs.Option.{option_map}
 use Rattle.validate_resources.specs.Context.{IsLawful, is_number_or_vector, is_same_number_or_vector}
 use Rattle.validate_types.specs.declared.heap.AbstractHeapType.{AbstractHeapType}
 use Rattle.validate_types.specs.declared.heap.AbstractHeapType.TheVariants.{Any, Extern, I31, Array as AnyArray}
+use Rattle.validate_types.specs.declared.types.FieldType.{FieldType}
 use Rattle.validate_types.specs.declared.types.GlobalType.{GlobalType}
-use Rattle.validate_types.specs.Refs.{nullable_reference, non_null_reference}
+use Rattle.validate_types.specs.Refs.{nullable_reference}
 use Rattle.validate_visit.specs.Gates.{gate_of}
 use Rattle.validate_visit.specs.Numbers.{number_type, integer_type, packed_type, access_type}
 use Rattle.validate_visit.specs.declared.op.Op.{Op}
@@ -22,11 +23,11 @@ use Rattle.validate_visit.specs.declared.op.MemoryOp.TheVariants.{Load, LoadPack
 use Rattle.validate_visit.specs.declared.op.AtomicOp.{AtomicOp}
 use Rattle.validate_visit.specs.declared.op.AtomicOp.TheVariants.{AtomicNotify, AtomicWait, AtomicFence, AtomicLoad, AtomicStore, AtomicRmw, AtomicCmpxchg, Pause}
 use Rattle.validate_visit.specs.declared.op.ReferenceOp.{ReferenceOp}
-use Rattle.validate_visit.specs.declared.op.ReferenceOp.TheVariants.{RefNull, RefIsNull, RefFunc, RefAsNonNull, BrOnNull, BrOnNonNull, RefEq, RefTestNonNull, RefTestNullable, RefCastNonNull, RefCastNullable, BrOnCast, BrOnCastFail, RefI31, I31Get, AnyConvertExtern, ExternConvertAny}
+use Rattle.validate_visit.specs.declared.op.ReferenceOp.TheVariants.{RefNull, RefIsNull, RefFunc, RefAsNonNull, BrOnNull, BrOnNonNull, RefEq, RefTestNonNull, RefTestNullable, RefCastNonNull, RefCastNullable, BrOnCast, BrOnCastFail, RefGetDesc, RefCastDescEqNonNull, RefCastDescEqNullable, BrOnCastDescEq, BrOnCastDescEqFail, RefI31, I31Get, AnyConvertExtern, ExternConvertAny}
 use Rattle.validate_visit.specs.declared.op.TableOp.{TableOp}
 use Rattle.validate_visit.specs.declared.op.TableOp.TheVariants.{TableGet, TableSet, TableGrow, TableSize, TableFill, TableInit, ElemDrop, TableCopy}
 use Rattle.validate_visit.specs.declared.op.StructOp.{StructOp}
-use Rattle.validate_visit.specs.declared.op.StructOp.TheVariants.{StructNew, StructNewDefault, StructGet, StructGetPacked, StructSet}
+use Rattle.validate_visit.specs.declared.op.StructOp.TheVariants.{StructNew, StructNewDefault, StructNewDesc, StructNewDefaultDesc, StructGet, StructGetPacked, StructSet}
 use Rattle.validate_visit.specs.declared.op.ArrayOp.{ArrayOp}
 use Rattle.validate_visit.specs.declared.op.ArrayOp.TheVariants.{ArrayNew, ArrayNewDefault, ArrayNewFixed, ArrayNewData, ArrayNewElem, ArrayGet, ArrayGetPacked, ArraySet, ArrayLen, ArrayFill, ArrayCopy, ArrayInitData, ArrayInitElem}
 use Rattle.validate_visit.specs.declared.op.ExceptionOp.{ExceptionOp}
@@ -41,6 +42,8 @@ use Rattle.validation_rules.specs.Fits.{MaybeType, Known}
 use Rattle.validation_rules.specs.Indirect.{type_reference, function_place, function_reference, typed_callee, call_operand_row, return_call_operand_row}
 use Rattle.validation_rules.specs.Found.{found_pushes, measure_row, converted_operand, ref_eq_pushes}
 use Rattle.validation_rules.specs.Casts.{cast_type, types_on_cast, types_on_cast_fail}
+use Rattle.validation_rules.specs.Descriptors.{descriptor_at}
+use Rattle.validation_rules.specs.Exact.{allocated_reference}
 use Rattle.validation_rules.specs.Structs.{struct_type, struct_field}
 use Rattle.validation_rules.specs.Arrays.{array_type, array_copy_row_for}
 use Rattle.validation_rules.specs.References.{null_heap, null_test_pushes, non_null_pushes}
@@ -55,6 +58,7 @@ use Rattle.type_safety.proofs.Branches.{br_lawful, br_if_lawful, br_table_lawful
 use Rattle.type_safety.proofs.Found.{measure_monotone, converted_monotone, ref_eq_monotone}
 use Rattle.type_safety.proofs.Casts.{cast_branch_lawful}
 use Rattle.type_safety.proofs.Continuations.{continuations_lawful}
+use Rattle.type_safety.proofs.Descriptors.{get_desc_lawful, cast_desc_eq_lawful, descriptor_branch_lawful}
 use Rattle.type_safety.proofs.References.{is_null_monotone, non_null_monotone, br_on_null_lawful, br_on_non_null_lawful}
 use Rattle.type_safety.proofs.Plain.{plain_monotone, plain_below, below_front, no_target, found_lawful, flat_lawful, plain_lawful, looking_lawful, delimiting_lawful, closing_lawful, behind_lawful}
 
@@ -241,6 +245,11 @@ module _ (cx : Context) (laws : IsLawful cx.of_module) where
   reference_lawful (RefCastNullable h) = by_lookup_lawful (cast_type cx true h) _ (λ r. plain_lawful cx laws _ _ _ _ _ _)
   reference_lawful (BrOnCast cast) = cast_branch_lawful cx laws types_on_cast cast
   reference_lawful (BrOnCastFail cast) = cast_branch_lawful cx laws types_on_cast_fail cast
+  reference_lawful (RefGetDesc i) = get_desc_lawful cx laws i
+  reference_lawful (RefCastDescEqNonNull h) = cast_desc_eq_lawful cx laws false h
+  reference_lawful (RefCastDescEqNullable h) = cast_desc_eq_lawful cx laws true h
+  reference_lawful (BrOnCastDescEq cast) = descriptor_branch_lawful cx laws types_on_cast cast
+  reference_lawful (BrOnCastDescEqFail cast) = descriptor_branch_lawful cx laws types_on_cast_fail cast
   reference_lawful RefI31 = plain_lawful cx laws _ _ _ _ _ _
   reference_lawful (I31Get sign) = measure_lawful I31
   reference_lawful AnyConvertExtern = looking_lawful cx laws _ 1 (found_pushes cx.of_module Extern (converted_operand cx.of_module Any)) (converted_monotone cx laws Extern Any)
@@ -262,14 +271,20 @@ module _ (cx : Context) (laws : IsLawful cx.of_module) where
 
   -- a reference that is made, and one that is taken
   abbrev made : ℕ → Option ValType
-  made i = type_reference cx non_null_reference i
+  made i = allocated_reference cx i
 
   abbrev taken : ℕ → Option ValType
   taken i = type_reference cx nullable_reference i
 
+  -- a struct whose type has no descriptor
+  abbrev undescribed : ℕ → Option (List FieldType)
+  undescribed i = guard (is_none (descriptor_at cx.of_module i)) (struct_type cx i)
+
   struct_lawful : (op : StructOp) → IsLawfulOperator cx (row_operator (struct_row cx op))
-  struct_lawful (StructNew i) = lookups_lawful (struct_type cx i) (made i) _ (λ f t. plain_lawful cx laws _ _ _ _ _ _)
-  struct_lawful (StructNewDefault i) = lookups_lawful (struct_type cx i) (made i) _ (λ f t. plain_lawful cx laws _ _ _ _ _ _)
+  struct_lawful (StructNew i) = lookups_lawful (undescribed i) (made i) _ (λ f t. plain_lawful cx laws _ _ _ _ _ _)
+  struct_lawful (StructNewDefault i) = lookups_lawful (undescribed i) (made i) _ (λ f t. plain_lawful cx laws _ _ _ _ _ _)
+  struct_lawful (StructNewDesc i) = by_lookup_lawful (descriptor_at cx.of_module i) _ (λ d. lookups_lawful (struct_type cx i) (made i) _ (λ f t. plain_lawful cx laws _ _ _ _ _ _))
+  struct_lawful (StructNewDefaultDesc i) = by_lookup_lawful (descriptor_at cx.of_module i) _ (λ d. lookups_lawful (struct_type cx i) (made i) _ (λ f t. plain_lawful cx laws _ _ _ _ _ _))
   struct_lawful (StructGet index) = lookups_lawful (struct_field cx index) (taken index.struct_type_index) _ (λ f t. plain_lawful cx laws _ _ _ _ _ _)
   struct_lawful (StructGetPacked sign index) = lookups_lawful (struct_field cx index) (taken index.struct_type_index) _ (λ f t. plain_lawful cx laws _ _ _ _ _ _)
   struct_lawful (StructSet index) = lookups_lawful (struct_field cx index) (taken index.struct_type_index) _ (λ f t. plain_lawful cx laws _ _ _ _ _ _)

@@ -30,7 +30,7 @@ use validate_rows_exceptions::legacy::{check_catch, check_catch_all, check_deleg
 use validate_rows_exceptions::throws::{check_rethrow, check_throw, check_throw_ref};
 use validate_rows_gc::arrays::check_array_row;
 use validate_rows_gc::structs::check_struct_row;
-use validate_rows_gc::{casts, found};
+use validate_rows_gc::{casts, descriptors, found};
 use validate_rows_shared::places::check_shared_row;
 use validate_shapes::blocks::check_opener;
 use validate_stacks::Stacks;
@@ -242,6 +242,21 @@ fn check_reference_row<R: WasmModuleResources>(
         ReferenceOp::BrOnNonNull(relative_depth) => {
             references::check_br_on_non_null(stacks, resources, offset, relative_depth)
         }
+        ReferenceOp::RefGetDesc(type_index) => {
+            descriptors::check_ref_get_desc(stacks, resources, offset, type_index)
+        }
+        ReferenceOp::RefCastDescEqNonNull(heap_type) => {
+            descriptors::check_ref_cast_desc_eq(stacks, resources, offset, false, heap_type)
+        }
+        ReferenceOp::RefCastDescEqNullable(heap_type) => {
+            descriptors::check_ref_cast_desc_eq(stacks, resources, offset, true, heap_type)
+        }
+        ReferenceOp::BrOnCastDescEq(cast) => {
+            descriptors::check_br_on_cast_desc_eq(stacks, resources, offset, cast)
+        }
+        ReferenceOp::BrOnCastDescEqFail(cast) => {
+            descriptors::check_br_on_cast_desc_eq_fail(stacks, resources, offset, cast)
+        }
         _ => check_gc_reference_row(stacks, resources, offset, op),
     }
 }
@@ -336,7 +351,7 @@ pub fn check_struct<R: WasmModuleResources>(
     ensures { Meets (R.context resources.now) (λ cx. operator cx (Op.Struct op)) offset
         stacks.old.body result stacks.new.body }
 {
-    check_enabled(stacks, offset, Gate::Gc)?;
+    check_enabled(stacks, offset, op.gate())?;
     check_struct_row(stacks, resources, offset, op)
 }
 

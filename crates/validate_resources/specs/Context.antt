@@ -1,17 +1,19 @@
 -- What a validator knows of a module: its meaning, and the laws of the order on types
--- (WebAssembly core specification, "Types" and "Validation: Matching").
+-- (WebAssembly core specification, "Types" and "Validation: Matching"; exact types and descriptors are of a
+-- proposal, "Custom Descriptors").
 use Rattle.std.specs.Prelude.{◌≡◌, ℕ, Bool, List, [], ◌∷◌, true, false, ◌&&◌, Option, Some, None, is_some}
 use Rattle.std.specs.List.{AllByRecursion}
-use Rattle.std.specs.Option.{option_and_then}
+use Rattle.std.specs.Option.{option_map, option_and_then}
 use Rattle.validate_types.specs.Heap.{is_small}
-use Rattle.validate_types.specs.Refs.{without_null, with_null}
+use Rattle.validate_types.specs.Refs.{reference, without_null, with_null}
 use Rattle.validate_types.specs.Types.{Signature, unpacked_fields}
 pub use Rattle.validate_types.specs.Kinds.{inner_signature, signature_of, inner_continuation, continuation_of}
+pub use Rattle.validate_types.specs.Kinds.{is_struct, descriptor_of}
 use Rattle.validate_types.specs.declared.features.WasmFeatures.{WasmFeatures}
 use Rattle.validate_types.specs.declared.heap.AbstractHeapType.{AbstractHeapType}
 use Rattle.validate_types.specs.declared.heap.CoreTypeId.{CoreTypeId}
 use Rattle.validate_types.specs.declared.heap.HeapType.{HeapType}
-use Rattle.validate_types.specs.declared.heap.HeapType.TheVariants.{Abstract, Concrete}
+use Rattle.validate_types.specs.declared.heap.HeapType.TheVariants.{Abstract, Concrete, Exact}
 use Rattle.validate_types.specs.declared.heap.UnpackedIndex.{UnpackedIndex}
 use Rattle.validate_types.specs.declared.heap.UnpackedIndex.TheVariants.{Module, Id}
 use Rattle.validate_types.specs.declared.refs.RefType.{RefType}
@@ -24,6 +26,7 @@ use Rattle.validate_types.specs.declared.types.SubType.{SubType}
 use Rattle.validate_types.specs.declared.types.TableType.{TableType}
 use Rattle.validate_types.specs.declared.types.ValType.{ValType}
 use Rattle.validate_types.specs.declared.types.ValType.TheVariants.{I32, I64, F32, F64, V128, Ref}
+use Rattle.validate_resources.specs.Order.{kind_bottom}
 
 -- The look-ups by index, the types that ids name, the order on types, the top types of its hierarchies,
 -- and the canonical forms of types of the module, of value types under some features.
@@ -36,6 +39,8 @@ pub record ModuleContext : Type 0 where
   pub type_id_of : ℕ → Option CoreTypeId
   -- `ref.func` may name the function
   pub is_referenced : ℕ → Bool
+  -- a reference to the function is exact in the function's type
+  pub has_exact_type : ℕ → Bool
   pub table_at : ℕ → Option TableType
   pub memory_at : ℕ → Option MemoryType
   pub global_at : ℕ → Option GlobalType
@@ -65,6 +70,7 @@ is_valid_index md (Id id) = is_some (md.type_of_id id) && is_small (Id id)
 abbrev pub is_valid_heap : ModuleContext → HeapType → Bool
 is_valid_heap md (Abstract shared ty) = true
 is_valid_heap md (Concrete i) = is_valid_index md i
+is_valid_heap md (Exact i) = is_valid_index md i
 
 -- a number or vector type has no index
 abbrev pub is_valid : ModuleContext → ValType → Bool
@@ -113,6 +119,15 @@ abbrev pub continued_signature : ModuleContext → UnpackedIndex → Option Sign
 continued_signature md (Module i) = None
 continued_signature md (Id id) = signature_of_id md id
 
+-- the type that an index of either kind names
+abbrev pub type_named : ModuleContext → UnpackedIndex → Option SubType
+type_named md (Module i) = md.type_at i
+type_named md (Id id) = md.type_of_id id
+
+-- the bottom type of the kind of that type
+abbrev pub bottom_of : ModuleContext → UnpackedIndex → Option AbstractHeapType
+bottom_of md u = option_map (λ (s : SubType). kind_bottom s.composite_type.inner) (type_named md u)
+
 -- the fields of a struct, or the one that an array has in each place; a function or a continuation has none
 abbrev pub inner_fields : CompositeInnerType → List FieldType
 inner_fields (Func f) = []
@@ -137,14 +152,36 @@ pub record IsContinuation (md : ModuleContext) (u : UnpackedIndex) : Type 0 wher
   pub valid : is_valid_index md u ≡ true
   pub function : is_some (continued_signature md u) ≡ true
 
+-- the index of the type of a type's descriptors: it is valid and canonical, and the type is one of structs
+pub record IsDescriptor (md : ModuleContext) (s : SubType) (u : UnpackedIndex) : Type 0 where
+  pub valid : is_valid_index md u ≡ true
+  pub on_struct : is_struct s.composite_type.inner ≡ true
+
 -- what a declared type is made of is valid and canonical: what a function takes and gives, what fields
--- hold, what a continuation has still to run, and its supertype
+-- hold, what a continuation has still to run, its supertype, the type of its descriptors, and the one whose
+-- values its own describe
 pub record IsValidType (md : ModuleContext) (s : SubType) : Type 0 where
   pub params : (f : Signature) → signature_of s ≡ Some f → AllValid md f.params
   pub results : (f : Signature) → signature_of s ≡ Some f → AllValid md f.results
   pub fields : AllValid md (unpacked_fields (fields_of s))
   pub continuation : (u : UnpackedIndex) → continuation_of s ≡ Some u → IsContinuation md u
   pub supertype : (u : UnpackedIndex) → s.supertype_idx ≡ Some u → is_valid_index md u ≡ true
+  pub descriptor : (u : UnpackedIndex) → descriptor_of s ≡ Some u → IsDescriptor md s u
+  pub described : (u : UnpackedIndex) → s.composite_type.describes_idx ≡ Some u → is_valid_index md u ≡ true
+
+-- a heap type below one that is exact: exact in the same type, or the bottom type of its kind
+abbrev pub IsBelowExact : ModuleContext → HeapType → UnpackedIndex → Type 0
+IsBelowExact md (Exact v) u = v ≡ u
+IsBelowExact md (Concrete v) u = ⊥
+IsBelowExact md (Abstract shared ty) u = bottom_of md u ≡ Some ty
+
+-- the canonical form of the type at an index: an index that names the same type; the exact one passes the check
+-- too, in the same type
+pub record IsCheckedIndex (md : ModuleContext) (u : UnpackedIndex) (h : HeapType) : Type 0 where
+  pub index : UnpackedIndex
+  pub is : h ≡ Concrete index
+  pub same_type : type_named md index ≡ type_named md u
+  pub exact : md.canonical_heap (Exact u) ≡ Some (Exact index)
 
 -- what stands for the top type of the hierarchy of a reference's type: it is abstract, and a reference to
 -- it is of the same sharedness
@@ -168,6 +205,14 @@ pub record IsLawful (md : ModuleContext) : Type 0 where
   pub non_null_below : (r : RefType) → Valid md (Ref r) → IsValidBelow md (Ref (without_null r)) (Ref r)
   pub below_with_null : (r : RefType) → Valid md (Ref r) → IsValidBelow md (Ref r) (Ref (with_null r))
   pub top : (r : RefType) → Valid md (Ref r) → IsTop md r (md.top_type r.heap_type)
+  -- below an exact reference lie references exact in the same type and those of its kind's bottom type; it lies
+  -- below the one that isn't exact, and can be had where that can
+  pub below_exact : (r : RefType) (n : Bool) (u : UnpackedIndex) → IsValidBelow md (Ref r) (Ref (reference n (Exact u)))
+      → IsBelowExact md r.heap_type u
+  pub exact_below : (n : Bool) (u : UnpackedIndex) → is_valid_index md u ≡ true
+      → IsValidBelow md (Ref (reference n (Exact u))) (Ref (reference n (Concrete u)))
+  pub checked_exact : (u : UnpackedIndex) (h : HeapType) → md.canonical_heap (Concrete u) ≡ Some h
+      → IsCheckedIndex md u h
   -- whatever a look-up hands out is valid and canonical: a declared type, by its index or its id, and the
   -- types of functions, tables, globals, tags and element segments
   pub types : (i : ℕ) (s : SubType) → md.type_at i ≡ Some s → IsValidType md s

@@ -8,13 +8,14 @@ use Rattle.validate_types.specs.Heap.{number_of}
 use Rattle.validate_types.specs.Refs.{reference}
 use Rattle.validate_types.specs.Types.{Signature}
 use Rattle.validate_types.specs.declared.heap.HeapType.{HeapType}
-use Rattle.validate_types.specs.declared.heap.HeapType.TheVariants.{Abstract, Concrete}
+use Rattle.validate_types.specs.declared.heap.HeapType.TheVariants.{Abstract, Concrete, Exact}
 use Rattle.validate_types.specs.declared.heap.UnpackedIndex.{UnpackedIndex}
 use Rattle.validate_types.specs.declared.heap.UnpackedIndex.TheVariants.{Module, Id}
 use Rattle.validate_types.specs.declared.refs.RefType.{RefType}
 use Rattle.validate_types.specs.declared.types.ArrayType.{ArrayType}
 use Rattle.validate_types.specs.declared.types.CompositeInnerType.{CompositeInnerType}
 use Rattle.validate_types.specs.declared.types.CompositeInnerType.TheVariants.{Func, Array, Struct, Cont}
+use Rattle.validate_types.specs.declared.types.CompositeType.{CompositeType}
 use Rattle.validate_types.specs.declared.types.ContType.{ContType}
 use Rattle.validate_types.specs.declared.types.FieldType.{FieldType}
 use Rattle.validate_types.specs.declared.types.GlobalType.{GlobalType}
@@ -39,6 +40,7 @@ is_id n (Id id) = nat_lt id.index n
 abbrev pub heap_indices_pass : (UnpackedIndex → Bool) → HeapType → Bool
 heap_indices_pass p (Abstract shared ty) = true
 heap_indices_pass p (Concrete i) = p i
+heap_indices_pass p (Exact i) = p i
 
 abbrev pub ref_indices_pass : (UnpackedIndex → Bool) → RefType → Bool
 ref_indices_pass p r = heap_indices_pass p r.heap_type
@@ -53,9 +55,10 @@ table_indices_pass p t = ref_indices_pass p t.element_type
 abbrev pub global_indices_pass : (UnpackedIndex → Bool) → GlobalType → Bool
 global_indices_pass p g = type_indices_pass p g.content_type
 
-abbrev pub supertype_indices_pass : (UnpackedIndex → Bool) → Option UnpackedIndex → Bool
-supertype_indices_pass p None = true
-supertype_indices_pass p (Some i) = p i
+-- of an index that a type may have
+abbrev pub option_index_passes : (UnpackedIndex → Bool) → Option UnpackedIndex → Bool
+option_index_passes p None = true
+option_index_passes p (Some i) = p i
 
 abbrev pub signature_indices_pass : (UnpackedIndex → Bool) → Signature → Bool
 signature_indices_pass p f =
@@ -74,8 +77,13 @@ inner_indices_pass p (Array a) = field_indices_pass p a.0
 inner_indices_pass p (Struct fields) = list_all (field_indices_pass p) fields
 inner_indices_pass p (Cont c) = p c.0
 
+abbrev pub composite_indices_pass : (UnpackedIndex → Bool) → CompositeType → Bool
+composite_indices_pass p c =
+    inner_indices_pass p c.inner && option_index_passes p c.descriptor_idx
+    && option_index_passes p c.describes_idx
+
 abbrev pub sub_indices_pass : (UnpackedIndex → Bool) → SubType → Bool
-sub_indices_pass p s = supertype_indices_pass p s.supertype_idx && inner_indices_pass p s.composite_type.inner
+sub_indices_pass p s = option_index_passes p s.supertype_idx && composite_indices_pass p s.composite_type
 
 -- ---- the form of a type with an id for each index (Specification, "Types")
 
@@ -85,6 +93,7 @@ index_with_id i = Id (record { index = number_of i })
 abbrev pub heap_with_id : HeapType → HeapType
 heap_with_id (Abstract shared ty) = Abstract shared ty
 heap_with_id (Concrete i) = Concrete (index_with_id i)
+heap_with_id (Exact i) = Exact (index_with_id i)
 
 abbrev pub ref_with_id : RefType → RefType
 ref_with_id r = reference r.nullable (heap_with_id r.heap_type)
@@ -126,10 +135,17 @@ inner_with_ids (Array a) = Array (array_with_id a)
 inner_with_ids (Struct fields) = Struct (map field_with_id fields)
 inner_with_ids (Cont c) = Cont (cont_with_id c)
 
+abbrev pub composite_with_ids : CompositeType → CompositeType
+composite_with_ids c = record c {
+  inner = inner_with_ids c.inner;
+  descriptor_idx = option_map index_with_id c.descriptor_idx;
+  describes_idx = option_map index_with_id c.describes_idx;
+}
+
 abbrev pub sub_with_ids : SubType → SubType
 sub_with_ids s = record s {
   supertype_idx = option_map index_with_id s.supertype_idx;
-  composite_type = record s.composite_type { inner = inner_with_ids s.composite_type.inner };
+  composite_type = composite_with_ids s.composite_type;
 }
 
 -- ---- the canonical form of a type of a module of so many types, where it has one
@@ -151,6 +167,7 @@ canonical_type n t = if type_indices_pass (is_known n) t then Some (type_with_id
 abbrev pub heap_number : HeapType → ℕ
 heap_number (Abstract shared ty) = 0
 heap_number (Concrete i) = number_of i
+heap_number (Exact i) = number_of i
 
 abbrev pub type_number : ValType → ℕ
 type_number (Ref r) = heap_number r.heap_type

@@ -1,11 +1,12 @@
 -- Look-ups of one's own over types that another lookup declares (the crate's own): the types and their
 -- order stay, and so do their laws; what is left to prove is of what the own look-ups hand out.
 use Rattle.std.specs.Prelude.{◌≡◌, ℕ, Bool, List, [], ◌∷◌, true, Option, Some, is_some, refl}
+use Rattle.std.specs.Option.{option_map}
 use Rattle.std.proofs.Common.{sym, ap, ◌∙◌}
 use Rattle.validate_types.specs.Types.{Signature, unpacked_fields}
 use Rattle.validate_types.specs.declared.heap.CoreTypeId.{CoreTypeId}
 use Rattle.validate_types.specs.declared.heap.HeapType.{HeapType}
-use Rattle.validate_types.specs.declared.heap.HeapType.TheVariants.{Abstract, Concrete}
+use Rattle.validate_types.specs.declared.heap.HeapType.TheVariants.{Abstract, Concrete, Exact}
 use Rattle.validate_types.specs.declared.heap.UnpackedIndex.{UnpackedIndex}
 use Rattle.validate_types.specs.declared.heap.UnpackedIndex.TheVariants.{Module, Id}
 use Rattle.validate_types.specs.declared.refs.RefType.{RefType}
@@ -16,14 +17,17 @@ pub use Rattle.validate_types.specs.declared.types.TableType.{TableType}
 pub use Rattle.validate_types.specs.declared.types.ValType.{ValType}
 pub use Rattle.validate_types.specs.declared.types.ValType.TheVariants.{I32, I64, F32, F64, V128, Ref}
 use Rattle.validate_resources.specs.Context.{ModuleContext, IsLawful, IsBelowReference, IsTop, IsValidType, IsContinuation}
+use Rattle.validate_resources.specs.Context.{IsBelowExact, IsCheckedIndex, type_named}
 use Rattle.validate_resources.specs.Context.{Valid, AllValid, is_valid, is_valid_index, is_valid_heap}
 use Rattle.validate_resources.specs.Context.{continued_signature, fields_of}
+use Rattle.validate_resources.specs.Order.{kind_bottom}
 
 -- what a module has besides its types
 pub record Items : Type 0 where
   pub type_index_of : ℕ → Option ℕ
   pub type_id_of : ℕ → Option CoreTypeId
   pub is_referenced : ℕ → Bool
+  pub has_exact_type : ℕ → Bool
   pub table_at : ℕ → Option TableType
   pub memory_at : ℕ → Option MemoryType
   pub global_at : ℕ → Option GlobalType
@@ -37,6 +41,7 @@ items_of md = record {
   type_index_of = md.type_index_of;
   type_id_of = md.type_id_of;
   is_referenced = md.is_referenced;
+  has_exact_type = md.has_exact_type;
   table_at = md.table_at;
   memory_at = md.memory_at;
   global_at = md.global_at;
@@ -51,6 +56,7 @@ with_items md items = record md {
   type_index_of = items.type_index_of;
   type_id_of = items.type_id_of;
   is_referenced = items.is_referenced;
+  has_exact_type = items.has_exact_type;
   table_at = items.table_at;
   memory_at = items.memory_at;
   global_at = items.global_at;
@@ -80,6 +86,7 @@ module _ (md : ModuleContext) (items : Items) where
   heap : (h : HeapType) → is_valid_heap ours h ≡ is_valid_heap md h
   heap (Abstract shared ty) = refl
   heap (Concrete u) = index u
+  heap (Exact u) = index u
 
   type : (t : ValType) → is_valid ours t ≡ is_valid md t
   type I32 = refl
@@ -110,6 +117,8 @@ module _ (md : ModuleContext) (items : Items) where
     fields = all_valid (unpacked_fields (fields_of s)) v.fields;
     continuation = λ u e. continuation u (v.continuation u e);
     supertype = λ u e. index u ∙ v.supertype u e;
+    descriptor = λ u e. let d = v.descriptor u e in record { valid = index u ∙ d.valid; on_struct = d.on_struct };
+    described = λ u e. index u ∙ v.described u e;
   }
 
   below_reference : (t : ValType) (r : RefType) → IsBelowReference md t r → IsBelowReference ours t r
@@ -118,6 +127,23 @@ module _ (md : ModuleContext) (items : Items) where
     is = b.is;
     same_sharedness = b.same_sharedness;
     without_null = b.without_null;
+  }
+
+  named : (u : UnpackedIndex) → type_named ours u ≡ type_named md u
+  named (Module i) = refl
+  named (Id id) = refl
+
+  below_exact : (h : HeapType) (u : UnpackedIndex) → IsBelowExact md h u → IsBelowExact ours h u
+  below_exact (Exact v) u b = b
+  below_exact (Concrete v) u b = b
+  below_exact (Abstract shared ty) u b = ap (option_map (λ (s : SubType). kind_bottom s.composite_type.inner)) (named u) ∙ b
+
+  checked_index : (u : UnpackedIndex) (h : HeapType) → IsCheckedIndex md u h → IsCheckedIndex ours u h
+  checked_index u h c = record {
+    index = c.index;
+    is = c.is;
+    same_type = named c.index ∙ c.same_type ∙ sym (named u);
+    exact = c.exact;
   }
 
   top : (r : RefType) (h : HeapType) → IsTop md r h → IsTop ours r h
@@ -135,6 +161,9 @@ module _ (md : ModuleContext) (items : Items) where
     non_null_below = λ r h. laws.non_null_below r (sym (type (Ref r)) ∙ h);
     below_with_null = λ r h. laws.below_with_null r (sym (type (Ref r)) ∙ h);
     top = λ r h. top r (md.top_type r.heap_type) (laws.top r (sym (type (Ref r)) ∙ h));
+    below_exact = λ r n u e. below_exact r.heap_type u (laws.below_exact r n u e);
+    exact_below = λ n u e. laws.exact_below n u (sym (index u) ∙ e);
+    checked_exact = λ u h e. checked_index u h (laws.checked_exact u h e);
     types = λ i s e. valid_type s (laws.types i s e);
     types_of_ids = λ id s e. valid_type s (laws.types_of_ids id s e);
     functions = v.functions;

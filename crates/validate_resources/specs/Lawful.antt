@@ -5,36 +5,38 @@ pub mod Forms
 use Rattle.std.specs.Prelude.{◌≡◌, ℕ, ◌≤◌, Bool, true, false, ◌&&◌, ◌||◌, not, nat_le, nat_lt, length, slice_get}
 use Rattle.std.specs.Prelude.{option_map, option_and_then, Option, Some, None, refl, if◌then◌else◌}
 use Rattle.std.specs.List.{list_all}
-use Rattle.std.proofs.Common.{sym, ap, ◌∙◌, subst, leb-true}
+use Rattle.std.proofs.Common.{sym, ap, ◌∙◌, subst, leb-true, eqb-true}
 use Rattle.std.proofs.lemmas.Bool.{and_parts, and_from, or_right}
 use Rattle.std.proofs.lemmas.Option.{cond_some}
 use Rattle.validate_types.specs.Abstract.{abstract_top}
 use Rattle.validate_types.specs.Features.{is_type_enabled}
 use Rattle.validate_types.specs.Heap.{number_of}
+use Rattle.validate_types.specs.Refs.{reference}
 use Rattle.validate_types.specs.Types.{Signature}
 use Rattle.validate_types.specs.declared.features.WasmFeatures.{WasmFeatures}
 use Rattle.validate_types.specs.declared.heap.CoreTypeId.{CoreTypeId}
 use Rattle.validate_types.specs.declared.heap.HeapType.{HeapType}
-use Rattle.validate_types.specs.declared.heap.HeapType.TheVariants.{Abstract, Concrete}
-use Rattle.validate_types.specs.declared.heap.UnpackedIndex.TheVariants.{Id}
+use Rattle.validate_types.specs.declared.heap.HeapType.TheVariants.{Abstract, Concrete, Exact}
+use Rattle.validate_types.specs.declared.heap.UnpackedIndex.{UnpackedIndex}
+use Rattle.validate_types.specs.declared.heap.UnpackedIndex.TheVariants.{Module, Id}
 use Rattle.validate_types.specs.declared.refs.RefType.{RefType}
 use Rattle.validate_types.specs.declared.types.SubType.{SubType}
 use Rattle.validate_types.specs.declared.types.ValType.{ValType}
-use Rattle.validate_types.specs.declared.types.ValType.TheVariants.{I32, I64, Ref}
+use Rattle.validate_types.specs.declared.types.ValType.TheVariants.{Ref}
 use Rattle.validate_resources.specs.declared.lists.FuncDecl.{FuncDecl}
 use Rattle.validate_resources.specs.declared.lists.TheConstants.{MAX_TYPES}
-use Rattle.validate_resources.specs.Context.{ModuleContext, IsLawful, IsBelowReference, IsTop, IsValidType}
+use Rattle.validate_resources.specs.Context.{IsLawful, IsBelowReference, IsTop, IsValidType, IsBelowExact, IsCheckedIndex, type_named}
 use Rattle.validate_resources.specs.Context.{Valid, AllValid, is_valid_index, is_valid_heap, signature_of}
 use Rattle.validate_resources.specs.Indices.{is_id, is_known, heap_indices_pass, ref_indices_pass, type_indices_pass, table_indices_pass}
-use Rattle.validate_resources.specs.Indices.{global_indices_pass, sub_indices_pass, heap_with_id, ref_with_id, type_with_id}
-use Rattle.validate_resources.specs.Indices.{supertype_indices_pass}
-use Rattle.validate_resources.specs.Order.{is_heap_below, have_fitting_supertypes, is_type_below, heap_top, declared_top}
+use Rattle.validate_resources.specs.Indices.{global_indices_pass, sub_indices_pass, heap_with_id, ref_with_id, type_with_id, canonical_heap}
+use Rattle.validate_resources.specs.Indices.{index_with_id}
+use Rattle.validate_resources.specs.Order.{is_heap_below, have_fitting_supertypes, is_type_below, heap_top, declared_top, kind_bottom}
 use Rattle.validate_resources.specs.Order.{is_heap_shared, is_shared_at}
-use Rattle.validate_resources.specs.Lists.{Declared, is_module, is_func_type, continues_function, list_indices_pass, context_of, tag_signature}
+use Rattle.validate_resources.specs.Lists.{Declared, is_module, is_func_type, continues_function, have_func_types, has_fitting_descriptor, list_indices_pass, context_of, tag_signature}
 use Rattle.validate_resources.specs.Lists.{is_valid_below, canonical_under, type_id}
-use Rattle.validate_resources.specs.Lawful.Matching.{passes-at, heap-shared, ref-reflexive, type-reflexive}
+use Rattle.validate_resources.specs.Lawful.Matching.{passes-at, heap-shared, heap-reflexive, null-reflexive, bottom-below-exact, ref-reflexive, type-reflexive}
 use Rattle.validate_resources.specs.Lawful.Matching.{type-transitive, number-below, below-ref}
-use Rattle.validate_resources.specs.Lawful.Forms.{heap-valid, type-valid, type-is-valid}
+use Rattle.validate_resources.specs.Lawful.Forms.{index-valid, heap-valid, type-valid, type-is-valid}
 use Rattle.validate_resources.specs.Lawful.Forms.{heap-ids, type-ids, known-types}
 
 -- a type below another: both are valid, and the one is below the other
@@ -62,10 +64,13 @@ record Facts (d : Declared) : Type 0 where
   functions : list_all (λ (f : FuncDecl). nat_lt f.type_index (length d.types)) d.functions ≡ true
   supertypes : have_fitting_supertypes d.types ≡ true
   continuations : list_all (continues_function d.types) d.types ≡ true
+  descriptors : list_all has_fitting_descriptor d.types ≡ true
 
 facts : (d : Declared) → is_module is_id d ≡ true → Facts d
 facts d h =
-    let (k, func_types) = and_parts (nat_le (length d.types) MAX_TYPES && list_indices_pass (is_id (length d.types)) d.types d.tables d.globals d.elements && have_fitting_supertypes d.types) _ h in
+    let fits = nat_le (length d.types) MAX_TYPES && list_indices_pass (is_id (length d.types)) d.types d.tables d.globals d.elements && have_fitting_supertypes d.types in
+    let (l, descriptors) = and_parts (fits && have_func_types d) _ h in
+    let (k, func_types) = and_parts fits _ l in
     let (b, supertypes) = and_parts (nat_le (length d.types) MAX_TYPES && list_indices_pass (is_id (length d.types)) d.types d.tables d.globals d.elements) _ k in
     let (small, e) = and_parts (nat_le (length d.types) MAX_TYPES) _ b in
     let (callees, continuations) = and_parts (list_all (λ (f : FuncDecl). is_func_type (slice_get d.types f.type_index)) d.functions && list_all (λ i. is_func_type (slice_get d.types i)) d.tags) _ func_types in
@@ -75,10 +80,10 @@ facts d h =
     let (f, elements) = and_parts (p && q && r) _ e in
     let (g, globals) = and_parts (p && q) _ f in
     let (types, tables) = and_parts p _ g in
-    record { small = leb-true _ _ small; types = types; tables = tables; globals = globals; elements = elements; functions = known-types (λ (f : FuncDecl). f.type_index) d.types d.functions (and_parts (list_all (λ (f : FuncDecl). is_func_type (slice_get d.types f.type_index)) d.functions) _ callees).0; supertypes = supertypes; continuations = continuations }
+    record { small = leb-true _ _ small; types = types; tables = tables; globals = globals; elements = elements; functions = known-types (λ (f : FuncDecl). f.type_index) d.types d.functions (and_parts (list_all (λ (f : FuncDecl). is_func_type (slice_get d.types f.type_index)) d.functions) _ callees).0; supertypes = supertypes; continuations = continuations; descriptors = descriptors }
 
 type_valid : (d : Declared) → Facts d → (i : ℕ) (s : SubType) → slice_get d.types i ≡ Some s → IsValidType (context_of d) s
-type_valid d m i s h = type-is-valid d m.small s (passes-at (sub_indices_pass (is_id (length d.types))) i d.types s m.types h) (passes-at (continues_function d.types) i d.types s m.continuations h)
+type_valid d m i s h = type-is-valid d m.small s (passes-at (sub_indices_pass (is_id (length d.types))) i d.types s m.types h) (passes-at (continues_function d.types) i d.types s m.continuations h) (passes-at has_fitting_descriptor i d.types s m.descriptors h)
 
 below_parts : (d : Declared) → Facts d → (t : ValType) (r : RefType) → Below d t (Ref r) → IsBelowReference (context_of d) t r
 below_parts d m t r b =
@@ -131,6 +136,42 @@ top_of d r (Concrete i) is =
       is = refl;
       same_sharedness = sym (ap (is_heap_shared d.types) is);
     }
+top_of d r (Exact i) is =
+    record {
+      shared = is_shared_at d.types (number_of i);
+      ty = declared_top (slice_get d.types (number_of i));
+      is = refl;
+      same_sharedness = sym (ap (is_heap_shared d.types) is);
+    }
+
+-- ---- exact types
+
+-- ids of one number are one
+id_same : (n : ℕ) (u v : UnpackedIndex) → is_id n u ≡ true → is_id n v ≡ true → number_of v ≡ number_of u → v ≡ u
+id_same n (Id x) (Id y) h k e = ap (λ i. Id (record { index = i })) e
+id_same n (Module x) v h k e = cc
+id_same n (Id x) (Module y) h k e = cc
+
+-- an id names the type of its number
+named : (d : Declared) (u : UnpackedIndex) → is_id (length d.types) u ≡ true → type_named (context_of d) u ≡ slice_get d.types (number_of u)
+named d (Id id) h = refl
+named d (Module i) h = cc
+
+exact_parts : (d : Declared) (h : HeapType) (u : UnpackedIndex) → heap_indices_pass (is_id (length d.types)) h ≡ true → is_id (length d.types) u ≡ true → is_heap_below d.types h (Exact u) ≡ true → IsBelowExact (context_of d) h u
+exact_parts d (Exact v) u low high e = id_same (length d.types) u v high low (eqb-true (number_of v) (number_of u) e)
+exact_parts d (Concrete v) u low high e = cc
+exact_parts d (Abstract shared ty) u low high e =
+    ap (option_map (λ (s : SubType). kind_bottom s.composite_type.inner)) (named d u high) ∙ bottom-below-exact shared ty (slice_get d.types (number_of u)) e
+
+-- an index and the id that stands for it name one type
+named_by_id : (d : Declared) (u : UnpackedIndex) → type_named (context_of d) (index_with_id u) ≡ type_named (context_of d) u
+named_by_id d (Id id) = refl
+named_by_id d (Module i) = refl
+
+checked_index : (d : Declared) (u : UnpackedIndex) (h : HeapType) → canonical_heap (length d.types) (Concrete u) ≡ Some h → IsCheckedIndex (context_of d) u h
+checked_index d u h e =
+    let p = cond_some (is_known (length d.types) u) (Concrete (index_with_id u)) h e in
+    record { index = index_with_id u; is = sym p.1; same_type = named_by_id d u; exact = ap (λ b. if b then Some (Exact (index_with_id u)) else None) p.0 }
 
 pub lawful_lists : (d : Declared) → is_module is_id d ≡ true → IsLawful (context_of d)
 lawful_lists d h =
@@ -145,6 +186,13 @@ lawful_lists d h =
       non_null_below = λ r e. marked d r r (itself d m r e) false r.nullable (or_right r.nullable true refl);
       below_with_null = λ r e. marked d r r (itself d m r e) r.nullable true refl;
       top = λ r e. top_of d r r.heap_type refl;
+      below_exact = λ r n u e.
+          let b = parts d (Ref r) (Ref (reference n (Exact u))) e in
+          exact_parts d r.heap_type u b.low b.high (and_parts (is_heap_below d.types r.heap_type (Exact u)) _ b.order).0;
+      exact_below = λ n u e.
+          let v = sym (index-valid d m.small u) ∙ e in
+          from d (Ref (reference n (Exact u))) (Ref (reference n (Concrete u))) v v (and_from _ _ (heap-reflexive d.types (Concrete u)) (null-reflexive n));
+      checked_exact = checked_index d;
       types = type_valid d m;
       types_of_ids = λ id s e. type_valid d m id.index s e;
       functions = λ f id e. function_of d m f id (slice_get d.functions f) refl e;

@@ -1,6 +1,6 @@
 -- What a module declares, as lists, and its context (WebAssembly core specification, "Modules", and
 -- "Conventions" of validation: contexts).
-use Rattle.std.specs.Prelude.{ℕ, Bool, List, true, false, ◌&&◌, map, nat_le, length, Option, Some, None}
+use Rattle.std.specs.Prelude.{ℕ, Bool, List, true, false, ◌&&◌, ◌||◌, not, map, nat_le, length, Option, Some, None}
 use Rattle.std.specs.Prelude.{slice_get, option_map, option_and_then, unwrap_or, is_some, if◌then◌else◌}
 use Rattle.std.specs.List.{list_all}
 use Rattle.validate_types.specs.Features.{is_type_enabled}
@@ -17,7 +17,7 @@ use Rattle.validate_types.specs.declared.types.TableType.{TableType}
 use Rattle.validate_types.specs.declared.types.ValType.{ValType}
 use Rattle.validate_resources.specs.declared.lists.FuncDecl.{FuncDecl}
 use Rattle.validate_resources.specs.declared.lists.TheConstants.{MAX_TYPES}
-use Rattle.validate_resources.specs.Context.{ModuleContext, signature_of, continuation_of}
+use Rattle.validate_resources.specs.Context.{ModuleContext, signature_of, continuation_of, is_struct, descriptor_of}
 use Rattle.validate_resources.specs.Indices.{is_known, is_id, ref_indices_pass, type_indices_pass, table_indices_pass, global_indices_pass}
 use Rattle.validate_resources.specs.Indices.{sub_indices_pass, ref_with_id, table_with_id, global_with_id}
 use Rattle.validate_resources.specs.Indices.{sub_with_ids}
@@ -80,14 +80,20 @@ have_func_types d =
     && list_all (λ i. is_func_type (slice_get d.types i)) d.tags
     && list_all (continues_function d.types) d.types
 
+-- a type with a descriptor is one of structs (a proposal, "Custom Descriptors")
+abbrev pub has_fitting_descriptor : SubType → Bool
+has_fitting_descriptor s = not (is_some (descriptor_of s)) || is_struct s.composite_type.inner
+
 -- at most 1,000,000 types; each index passes the test, at their number; each supertype is an earlier type of
--- the same kind and sharedness; each function, each tag and each continuation is of one of functions
+-- the same kind and sharedness; each function, each tag and each continuation is of one of functions; each type
+-- with a descriptor is one of structs
 abbrev pub is_module : (ℕ → UnpackedIndex → Bool) → Declared → Bool
 is_module p d =
     nat_le (length d.types) MAX_TYPES
     && list_indices_pass (p (length d.types)) d.types d.tables d.globals d.elements
     && have_fitting_supertypes d.types
     && have_func_types d
+    && list_all has_fitting_descriptor d.types
 
 -- ---- the canonical lists
 
@@ -133,6 +139,8 @@ context_of d = record {
   type_id_of = λ i. option_map (λ (f : FuncDecl). type_id f.type_index) (slice_get d.functions i);
   is_referenced =
       λ i. unwrap_or (option_map (λ (f : FuncDecl). f.referenced) (slice_get d.functions i)) false;
+  has_exact_type =
+      λ i. unwrap_or (option_map (λ (f : FuncDecl). f.exact) (slice_get d.functions i)) false;
   table_at = slice_get d.tables;
   memory_at = slice_get d.memories;
   global_at = slice_get d.globals;

@@ -1,4 +1,5 @@
--- The order on the types of a module (WebAssembly core specification, "Matching").
+-- The order on the types of a module (WebAssembly core specification, "Matching"; exact types are of a
+-- proposal, "Custom Descriptors").
 use Rattle.std.specs.Prelude.{ℕ, Bool, List, [], ◌∷◌, ◌++◌, true, false, zero, suc, ◌&&◌, ◌||◌, ◌==◌, not}
 use Rattle.std.specs.Prelude.{nat_lt, slice_get, slice_index_or, Option, Some, None, if◌then◌else◌}
 use Rattle.std.specs.Bool.{beq}
@@ -12,7 +13,7 @@ use Rattle.validate_types.specs.declared.heap.AbstractHeapType.TheVariants.{Stru
 use Rattle.validate_types.specs.declared.heap.AbstractHeapType.TheVariants.{None as NoAny}
 use Rattle.validate_types.specs.declared.heap.AbstractHeapType.TheVariants.{Cont as AnyCont, NoCont}
 use Rattle.validate_types.specs.declared.heap.HeapType.{HeapType}
-use Rattle.validate_types.specs.declared.heap.HeapType.TheVariants.{Abstract, Concrete}
+use Rattle.validate_types.specs.declared.heap.HeapType.TheVariants.{Abstract, Concrete, Exact}
 use Rattle.validate_types.specs.declared.heap.UnpackedIndex.{UnpackedIndex}
 use Rattle.validate_types.specs.declared.refs.RefType.{RefType}
 use Rattle.validate_types.specs.declared.types.CompositeInnerType.{CompositeInnerType}
@@ -36,6 +37,7 @@ is_shared_at types i = is_shared_type (slice_get types i)
 abbrev pub is_heap_shared : List SubType → HeapType → Bool
 is_heap_shared types (Abstract shared ty) = shared
 is_heap_shared types (Concrete i) = is_shared_at types (number_of i)
+is_heap_shared types (Exact i) = is_shared_at types (number_of i)
 
 -- ---- kinds (Specification, "Composite Types")
 
@@ -134,12 +136,18 @@ is_below_declared s a None = false
 is_below_declared s a (Some d) =
     beq s d.composite_type.shared && is_abstract_below a (kind_bottom d.composite_type.inner)
 
--- (Specification, "Matching: Heap Types")
+-- (Specification, "Matching: Heap Types"). An exact type lies below the one that it is exact in, and has the
+-- same below it but for what is declared.
 abbrev pub is_heap_below : List SubType → HeapType → HeapType → Bool
 is_heap_below types (Abstract s a) (Abstract z b) = beq s z && is_abstract_below a b
 is_heap_below types (Abstract s a) (Concrete j) = is_below_declared s a (slice_get types (number_of j))
 is_heap_below types (Concrete i) (Abstract z b) = is_declared_below (slice_get types (number_of i)) z b
 is_heap_below types (Concrete i) (Concrete j) = is_index_below types (number_of i) (number_of j)
+is_heap_below types (Concrete i) (Exact j) = false
+is_heap_below types (Abstract s a) (Exact j) = is_below_declared s a (slice_get types (number_of j))
+is_heap_below types (Exact i) (Abstract z b) = is_declared_below (slice_get types (number_of i)) z b
+is_heap_below types (Exact i) (Concrete j) = is_index_below types (number_of i) (number_of j)
+is_heap_below types (Exact i) (Exact j) = number_of i == number_of j
 
 -- (Specification, "Matching: Reference Types")
 abbrev pub is_ref_below : List SubType → RefType → RefType → Bool
@@ -166,4 +174,6 @@ declared_top (Some s) = abstract_top (abstract_kind s.composite_type.inner)
 abbrev pub heap_top : List SubType → HeapType → HeapType
 heap_top types (Abstract shared ty) = Abstract shared (abstract_top ty)
 heap_top types (Concrete i) =
+    Abstract (is_shared_at types (number_of i)) (declared_top (slice_get types (number_of i)))
+heap_top types (Exact i) =
     Abstract (is_shared_at types (number_of i)) (declared_top (slice_get types (number_of i)))

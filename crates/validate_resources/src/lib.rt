@@ -74,6 +74,11 @@ pub trait WasmModuleResources {
     fn is_function_referenced(&self, function_index: u32) -> bool
         ensures { result ≡ (context self.now).is_referenced function_index };
 
+    /// Whether a reference to the function at this index is exact in its type, where exact references are on
+    /// (a proposal, "Custom Descriptors").
+    fn has_function_exact_type(&self, function_index: u32) -> bool
+        ensures { result ≡ (context self.now).has_exact_type function_index };
+
     /// Whether `a` is below `b` in the order of types. Nothing is said of types that aren't valid
     /// and canonical.
     fn is_subtype(&self, a: ValType, b: ValType) -> bool

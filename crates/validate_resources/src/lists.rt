@@ -6,7 +6,7 @@ mod order;
 ghost use Rattle.std.specs.Prelude.{◌≡◌, ◌<◌, ◌≤◌, ◌&&◌, length, codes, slice_get, Some, None, Ok, true, false, nat_lt, is_ok, IfOk, OnOk, OnErr, IfErr};
 ghost use Rattle.std.specs.List.{list_all};
 ghost use Rattle.validate_resources.specs.Indices.{is_id, unknown_text};
-ghost use Rattle.validate_resources.specs.Lists.{declared_by, is_module, is_func_type, continues_function, module_of};
+ghost use Rattle.validate_resources.specs.Lists.{declared_by, is_module, is_func_type, continues_function, has_fitting_descriptor, module_of};
 
 use crate::WasmModuleResources;
 use crate::kinds::{continuation_of, func_type_of};
@@ -16,8 +16,8 @@ use crate::lists::canonical::{
 use crate::lists::order::{heap_top, is_heap_shared, is_type_below, supertypes_fit};
 use std::alloc::Global;
 use validate_types::{
-    CoreTypeId, Error, FuncType, GlobalType, HeapType, MemoryType, RefType, SubType, TableType,
-    ValType, WasmFeatures,
+    CompositeInnerType, CoreTypeId, Error, FuncType, GlobalType, HeapType, MemoryType, RefType,
+    SubType, TableType, ValType, WasmFeatures,
 };
 
 /// How many types a lookup over lists holds at the most.
@@ -30,6 +30,8 @@ pub struct FuncDecl {
     pub type_index: u32,
     /// Whether `ref.func` may name it.
     pub referenced: bool,
+    /// Whether a reference to it is exact in its type, where exact references are on.
+    pub exact: bool,
 }
 
 /// A lookup over lists: item `i` of a list is the one at index `i`, and type `i` has id `i`.
@@ -59,8 +61,9 @@ impl ModuleLists {
     /// It refuses at offset 0: `too many types` for more than [`MAX_TYPES`]; else `unknown type` where
     /// there is no type for an index; else `invalid supertype` where a supertype isn't an earlier
     /// type or is of another kind or sharedness; else `expected func type` where the type of a function,
-    /// of a tag or of a continuation isn't one of functions. It takes memory for the canonical lists, and
-    /// refuses where there is none.
+    /// of a tag or of a continuation isn't one of functions; else `descriptor on non-struct type` where a
+    /// type with a descriptor isn't one of structs. It takes memory for the canonical lists, and refuses
+    /// where there is none.
     ///
     /// A supertype is taken at its word: that the type fits it isn't looked at, but for kind and
     /// sharedness, nor whether it is final. The module's other rules are the module validator's.
@@ -98,6 +101,9 @@ impl ModuleLists {
         }
         if !have_func_types(&types, &functions, &tags) {
             return Err(Error::new("expected func type", 0));
+        }
+        if !have_fitting_descriptors(&types) {
+            return Err(Error::new("descriptor on non-struct type", 0));
         }
         Ok(ModuleLists::from_forms(alloc, forms, functions, memories, tags, data_count))
     }
@@ -228,6 +234,21 @@ fn are_func_types(types: &[SubType], indices: &[u32]) -> bool
     indices.iter().all(|index| is_func_type(types, *index))
 }
 
+/// Whether a type has no descriptor, or is one of structs.
+fn has_fitting_descriptor(ty: &SubType) -> bool
+    ensures { result ≡ has_fitting_descriptor ty.now }
+{
+    ty.composite_type.descriptor_idx.is_none()
+        || matches!(&ty.composite_type.inner, CompositeInnerType::Struct(_))
+}
+
+/// Whether each type with a descriptor is one of structs.
+fn have_fitting_descriptors(types: &[SubType]) -> bool
+    ensures { result ≡ list_all has_fitting_descriptor types.now }
+{
+    types.iter().all(|ty| has_fitting_descriptor(ty))
+}
+
 /// Writes a canonical form, or refuses where there is no type of the number handed in. The text of
 /// that refusal takes memory.
 fn write_form<T: Copy>(
@@ -308,6 +329,13 @@ impl WasmModuleResources for ModuleLists {
     fn is_function_referenced(&self, function_index: u32) -> bool {
         match self.functions.get(function_index as usize) {
             Some(function) => function.referenced,
+            None => false,
+        }
+    }
+
+    fn has_function_exact_type(&self, function_index: u32) -> bool {
+        match self.functions.get(function_index as usize) {
+            Some(function) => function.exact,
             None => false,
         }
     }

@@ -3,6 +3,8 @@
 
 ghost use Rattle.std.specs.Prelude.{◌≡◌, true, false, [], None, Some, IfOk, OnOk, OnErr, IfErr};
 ghost use Rattle.validate_resources.specs.Context.{ModuleContext};
+ghost use Rattle.validate_types.specs.declared.heap.UnpackedIndex.{UnpackedIndex};
+ghost use Rattle.validation_rules.specs.Exact.{function_heap as heap_of_function};
 ghost use Rattle.validation_rules.specs.References.{is_null_gate_open, ref_null_row, ref_func_row, null_test_pushes, non_null_pushes, br_on_null_row, last_reference as ending, br_on_non_null_row};
 ghost use Rattle.validation_rules.specs.Operators.{looking_row, row_operator, staying_operator};
 ghost use Rattle.validate_stacks.specs.State.{body_context};
@@ -10,13 +12,14 @@ ghost use Rattle.validate_stacks.specs.Visits.{MayVisit, Meets};
 
 use validate_resources::WasmModuleResources;
 use validate_resources::uses::laws;
+use validate_shapes::aggregates::declared_heap;
 use validate_shapes::functions::unknown_function;
 use validate_shapes::labels::label;
 use validate_shapes::plain::check_plain;
 use validate_shapes::references::{pop_non_null_ref, push_found};
 use validate_stacks::Stacks;
 use validate_stacks::blocks::label_types;
-use validate_types::{Error, HeapType, RefType, UnpackedIndex, ValType};
+use validate_types::{CoreTypeId, Error, HeapType, RefType, UnpackedIndex, ValType};
 
 /// The gate of the type of null. A type index of 2^20 or more, to which no reference can be made, has none:
 /// a lookup of at most 1,000,000 types refuses it later on.
@@ -58,7 +61,23 @@ pub fn check_ref_null<R: WasmModuleResources>(
     check_plain(stacks, resources, offset, &[], &[ValType::Ref(ty)])
 }
 
-/// `ref.func`: `[] -> [(ref t)]` of a function that the module lets be referred to, of the type t.
+/// What a reference to a function points to, whose type this id names.
+fn function_heap<R: WasmModuleResources>(
+    stacks: &Stacks,
+    resources: &R,
+    function_index: u32,
+    id: CoreTypeId,
+) -> HeapType
+    ensures { result ≡ heap_of_function (body_context (R.context resources.now) stacks.now.body)
+        function_index (UnpackedIndex.Id id) }
+{
+    let exact = stacks.features().custom_descriptors()
+        && resources.has_function_exact_type(function_index);
+    declared_heap(exact, UnpackedIndex::Id(id))
+}
+
+/// `ref.func`: `[] -> [(ref t)]` of a function that the module lets be referred to, of the type t; exact, where
+/// references can be and the module says so.
 pub fn check_ref_func<R: WasmModuleResources>(
     stacks: &mut Stacks,
     resources: &R,
@@ -77,7 +96,8 @@ pub fn check_ref_func<R: WasmModuleResources>(
     if !resources.is_function_referenced(function_index) {
         return Err(Error::new("undeclared function reference", offset));
     }
-    let Some(ty) = RefType::new(false, HeapType::Concrete(UnpackedIndex::Id(id))) else {
+    let heap_type = function_heap(stacks, resources, function_index, id);
+    let Some(ty) = RefType::new(false, heap_type) else {
         unreachable!()
     };
     check_plain(stacks, resources, offset, &[], &[ValType::Ref(ty)])

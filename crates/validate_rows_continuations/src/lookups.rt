@@ -106,7 +106,7 @@ pub fn is_concrete_reference(ty: ValType) -> bool
     }
 }
 
-/// What a continuation still takes and gives that a reference is to; None of a type of another kind.
+/// What a continuation still takes and gives that a reference is to, exact or not; None of a type of another kind.
 pub fn referenced_continuation<'a, R: WasmModuleResources>(
     resources: &'a R,
     ty: ValType,
@@ -117,7 +117,8 @@ pub fn referenced_continuation<'a, R: WasmModuleResources>(
     let ValType::Ref(ty) = ty else {
         return None;
     };
-    let HeapType::Concrete(UnpackedIndex::Id(id)) = ty.heap_type() else {
+    let (HeapType::Concrete(UnpackedIndex::Id(id)) | HeapType::Exact(UnpackedIndex::Id(id))) =
+        ty.heap_type() else {
         return None;
     };
     let index = continuation_of(resources.sub_type_at_id(id))?;

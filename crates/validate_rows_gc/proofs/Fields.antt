@@ -1,9 +1,9 @@
 -- Pops of the values of fields, by the pop of the last of them.
-use Rattle.std.proofs.Common.{◌≡◌, ℕ, zero, suc, ◌-◌, ◌<◌, ◌≤◌, List, [], ◌∷◌, Some, map, take, length, reverse, get_or, refl, sym, ap, ◌∙◌, subst, arith}
+use Rattle.std.proofs.Common.{◌≡◌, ℕ, zero, suc, ◌-◌, ◌<◌, ◌≤◌, List, [], ◌∷◌, Some, take, length, reverse, get_or, refl, sym, ap, ◌∙◌, subst, arith}
 use Rattle.std.proofs.lemmas.List.{length-map}
 use Rattle.std.specs.List.{AllByRecursion}
 use Rattle.validate_resources.specs.Context.{ModuleContext, Valid}
-use Rattle.validate_types.specs.Types.{unpacked_type, unpacked_fields}
+use Rattle.validate_types.specs.Types.{unpacked_fields}
 use Rattle.validate_types.specs.declared.types.FieldType.{FieldType}
 use Rattle.validate_types.specs.declared.types.ValType.{ValType}
 use Rattle.validation_rules.specs.Rows.{guard}

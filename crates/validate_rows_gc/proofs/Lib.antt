@@ -1,3 +1,4 @@
 pub mod Fields
 pub mod Looking
 pub mod Casting
+pub mod Describing

@@ -1,5 +1,5 @@
 -- The steps of operators that look for references below an abstract type, by their pops.
-use Rattle.std.proofs.Common.{◌≡◌, ◌≢◌, Bool, true, false, ◌&&◌, List, [], ◌∷◌, Option, Some, None, refl, sym, ap, ◌∙◌}
+use Rattle.std.proofs.Common.{◌≡◌, ◌≢◌, Bool, true, false, ◌&&◌, [], ◌∷◌, Option, Some, None, refl, sym, ap, ◌∙◌}
 use Rattle.std.specs.Option.{option_map, option_and_then}
 use Rattle.validate_resources.specs.Context.{ModuleContext}
 use Rattle.validate_types.specs.declared.heap.AbstractHeapType.{AbstractHeapType}
@@ -12,7 +12,7 @@ use Rattle.validation_rules.specs.Rows.{guard}
 use Rattle.validate_stacks.specs.State.{BodyState}
 use Rattle.validate_stacks.specs.Steps.{found_in_body, body_popped, body_pushed}
 use Rattle.validate_stacks.specs.Visits.{step_body}
-use Rattle.validate_shapes.proofs.Looking.{with_one, with_two, one_is, two_is}
+use Rattle.validate_shapes.proofs.Looking.{with_two, one_is, two_is}
 
 -- x alone, where the test holds
 alone : (b : Bool) (x : MaybeType) → guard b (Some (x ∷ [])) ≡ option_map (λ (y : MaybeType). y ∷ []) (guard b (Some x))

@@ -19,7 +19,7 @@ use crate::types::{AggregateTypes, Wanted, check_aggregate};
 use validate_resources::WasmModuleResources;
 use validate_resources::uses::laws;
 use validate_shapes::aggregates::{
-    array_type_at, check_mutable_array, type_reference, wrong_array_packing,
+    allocated_reference, array_type_at, check_mutable_array, type_reference, wrong_array_packing,
 };
 use validate_shapes::memories::check_data_segment;
 use validate_shapes::tables::element_type_at;
@@ -189,7 +189,7 @@ fn new_types<R: WasmModuleResources>(
     let value = array_type_at(stacks, resources, offset, index)?
         .element_type
         .unpack();
-    let made = type_reference(stacks, resources, offset, false, index)?;
+    let made = allocated_reference(stacks, resources, offset, index)?;
     Ok(AggregateTypes {
         wanted: Wanted::Few(Few::Two(value, ValType::I32)),
         pushed: Few::One(made),
@@ -216,7 +216,7 @@ fn new_default_types<R: WasmModuleResources>(
     if !value.is_defaultable() {
         return Err(not_defaultable(stacks, offset, value));
     }
-    let made = type_reference(stacks, resources, offset, false, index)?;
+    let made = allocated_reference(stacks, resources, offset, index)?;
     Ok(AggregateTypes {
         wanted: Wanted::Few(Few::One(ValType::I32)),
         pushed: Few::One(made),
@@ -241,7 +241,7 @@ fn new_fixed_types<R: WasmModuleResources>(
     let value = array_type_at(stacks, resources, offset, index)?
         .element_type
         .unpack();
-    let made = type_reference(stacks, resources, offset, false, index)?;
+    let made = allocated_reference(stacks, resources, offset, index)?;
     Ok(AggregateTypes {
         wanted: Wanted::Run(value, size),
         pushed: Few::One(made),
@@ -265,7 +265,7 @@ fn new_data_types<R: WasmModuleResources>(
 {
     let element = array_type_at(stacks, resources, offset, index)?;
     check_data(stacks, resources, offset, data_index, element, NEW_DATA)?;
-    let made = type_reference(stacks, resources, offset, false, index)?;
+    let made = allocated_reference(stacks, resources, offset, index)?;
     Ok(AggregateTypes {
         wanted: Wanted::Few(Few::Two(ValType::I32, ValType::I32)),
         pushed: Few::One(made),
@@ -296,7 +296,7 @@ fn new_elem_types<R: WasmModuleResources>(
         element,
         "array.new_elem",
     )?;
-    let made = type_reference(stacks, resources, offset, false, index)?;
+    let made = allocated_reference(stacks, resources, offset, index)?;
     Ok(AggregateTypes {
         wanted: Wanted::Few(Few::Two(ValType::I32, ValType::I32)),
         pushed: Few::One(made),

@@ -3,7 +3,7 @@
 
 ghost use Rattle.std.specs.Prelude.{◌≡◌, true, false, None, Some, IfOk, OnOk, OnErr, IfErr};
 ghost use Rattle.validate_resources.specs.Context.{Valid};
-ghost use Rattle.validation_rules.specs.Casts.{checked_ref as ref_checked, is_castable, cast_type as type_of_cast, cast_operand, ref_test_row, ref_cast_row, may_cast as may_be_cast, checked_cast as cast_checked, split_last as ending, cast_branch_row, br_on_cast_row, br_on_cast_fail_row};
+ghost use Rattle.validation_rules.specs.Casts.{checked_ref as ref_checked, is_castable, cast_type as type_of_cast, cast_operand, ref_test_row, ref_cast_row, is_same_top as are_same_top, may_cast as may_be_cast, checked_cast as cast_checked, split_last as ending, cast_branch_row, br_on_cast_row, br_on_cast_fail_row};
 ghost use Rattle.validation_rules.specs.Operators.{row_operator, staying_operator};
 ghost use Rattle.validate_stacks.specs.State.{body_context};
 ghost use Rattle.validate_stacks.specs.Visits.{MayVisit, Meets};
@@ -65,7 +65,7 @@ fn check_castable<R: WasmModuleResources>(
 }
 
 /// The type of a test or a cast to a heap type, which may be cast to (wasmparser's `check_downcast`).
-fn cast_type<R: WasmModuleResources>(
+pub fn cast_type<R: WasmModuleResources>(
     stacks: &Stacks,
     resources: &R,
     offset: u64,
@@ -88,7 +88,7 @@ fn cast_type<R: WasmModuleResources>(
 }
 
 /// What is tested or cast: any reference of the hierarchy, or null.
-fn operand_of_cast<R: WasmModuleResources>(resources: &R, ty: RefType) -> ValType
+pub fn operand_of_cast<R: WasmModuleResources>(resources: &R, ty: RefType) -> ValType
     requires { Valid (R.context resources.now) (ValType.Ref ty) }
     ensures exact { result ≡ cast_operand (R.context resources.now) ty }
     ensures valid { Valid (R.context resources.now) result }
@@ -134,8 +134,24 @@ pub fn check_ref_cast<R: WasmModuleResources>(
     check_plain(stacks, resources, offset, &[operand], &[ValType::Ref(ty)])
 }
 
-/// Refuses a cast to a type that doesn't lie below the one cast from, or that no cast leads to
-/// (wasmparser's `check_br_on_cast_type_hierarchy`).
+/// Whether both are one abstract type, as top types are.
+fn is_same_top(a: HeapType, b: HeapType) -> bool
+    ensures { result ≡ are_same_top a b }
+{
+    match (a, b) {
+        (
+            HeapType::Abstract { shared, ty },
+            HeapType::Abstract {
+                shared: shared_too,
+                ty: other,
+            },
+        ) => shared == shared_too && (ty.is_subtype_of(other) && other.is_subtype_of(ty)),
+        _ => false,
+    }
+}
+
+/// Refuses a cast to a type that doesn't lie below the one cast from, or, where references can be exact, is of
+/// another hierarchy; and one that no cast leads to (wasmparser's `check_br_on_cast_type_hierarchy`).
 fn check_may_cast<R: WasmModuleResources>(
     stacks: &Stacks,
     resources: &R,
@@ -145,15 +161,39 @@ fn check_may_cast<R: WasmModuleResources>(
 ) -> Result<(), Error>
     requires from { Valid (R.context resources.now) (ValType.Ref from) }
     requires to { Valid (R.context resources.now) (ValType.Ref to) }
-    ensures passed { OnOk result (may_be_cast (R.context resources.now) from to ≡ true) }
-    ensures refused { OnErr result (may_be_cast (R.context resources.now) from to ≡ false) }
+    ensures passed { OnOk result (may_be_cast (body_context (R.context resources.now) stacks.now.body)
+        from to ≡ true) }
+    ensures refused { OnErr result (may_be_cast (body_context (R.context resources.now) stacks.now.body)
+        from to ≡ false) }
     ensures offset { IfErr result (λ e. e.offset ≡ offset) }
 {
     check_castable(resources, offset, to)?;
-    if resources.is_subtype(ValType::Ref(to), ValType::Ref(from)) {
+    if stacks.features().custom_descriptors() {
+        let from_top = resources.top_type(&from.heap_type());
+        let to_top = resources.top_type(&to.heap_type());
+        if is_same_top(from_top, to_top) {
+            Ok(())
+        } else {
+            Err(other_hierarchy(stacks, offset, from, to))
+        }
+    } else if resources.is_subtype(ValType::Ref(to), ValType::Ref(from)) {
         Ok(())
     } else {
         Err(not_below(stacks, offset, from, to))
+    }
+}
+
+/// The refusal of a cast to a type of another hierarchy.
+#[cold]
+#[inline(never)]
+fn other_hierarchy(stacks: &Stacks, offset: u64, from: RefType, to: RefType) -> Error
+    ensures { result.offset ≡ offset }
+{
+    match format!(in stacks.allocator();
+        "type mismatch: {from} and {to} have different heap type hierarchies"
+    ) {
+        Ok(text) => Error::with_text(text, offset),
+        Err(_) => Error::out_of_memory(offset),
     }
 }
 
@@ -170,7 +210,7 @@ fn not_below(stacks: &Stacks, offset: u64, from: RefType, to: RefType) -> Error
 }
 
 /// Both types of a branch by a cast, in canonical form; the one may be cast to the other.
-fn checked_cast<R: WasmModuleResources>(
+pub fn checked_cast<R: WasmModuleResources>(
     stacks: &Stacks,
     resources: &R,
     offset: u64,
@@ -192,7 +232,7 @@ fn checked_cast<R: WasmModuleResources>(
 
 /// Where a branch by a cast is taken.
 #[derive(Clone, Copy)]
-enum Taken {
+pub enum Taken {
     /// Where the operand is of the type cast to: `br_on_cast`.
     OnCast,
     /// Where it isn't: `br_on_cast_fail`.
@@ -273,18 +313,18 @@ fn check_carried<R: WasmModuleResources>(
 
 /// The types of a branch by a cast.
 #[derive(Clone, Copy)]
-struct CastTypes {
+pub struct CastTypes {
     /// That of the operand.
-    from: RefType,
+    pub from: RefType,
     /// What is carried to the label.
-    carried: RefType,
+    pub carried: RefType,
     /// What is left where the branch isn't taken.
-    left: RefType,
+    pub left: RefType,
 }
 
 /// A branch by a cast, of types that are checked: `[t from] -> [t left]`, with the types t of the label but
 /// its last, which lies above what is carried there.
-fn check_cast_branch<R: WasmModuleResources>(
+pub fn check_cast_branch<R: WasmModuleResources>(
     stacks: &mut Stacks,
     resources: &R,
     offset: u64,

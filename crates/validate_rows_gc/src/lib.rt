@@ -4,6 +4,7 @@
 
 pub mod arrays;
 pub mod casts;
+pub mod descriptors;
 pub mod found;
 pub mod structs;
 pub mod types;

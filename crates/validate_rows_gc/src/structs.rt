@@ -1,24 +1,33 @@
 //! Operators on structs (WebAssembly core specification, "Aggregate Instructions").
 
-ghost use Rattle.std.specs.Prelude.{◌≡◌, true, false, OnOk, OnErr, IfOk, IfErr};
-ghost use Rattle.std.specs.List.{list_all};
+ghost use Rattle.std.specs.Prelude.{◌≡◌, true, false, None, Some, is_none, OnOk, OnErr, IfOk, IfErr};
+ghost use Rattle.std.specs.List.{list_all, AllByRecursion};
+ghost use Rattle.validate_resources.specs.Context.{Valid};
 ghost use Rattle.validate_types.specs.Types.{is_defaultable as has_default, unpacked_fields};
 ghost use Rattle.validation_rules.specs.Operators.{row_operator};
-ghost use Rattle.validation_rules.specs.Structs.{struct_row, struct_new_row, struct_new_default_row};
+ghost use Rattle.validation_rules.specs.Descriptors.{descriptor_at as index_of_descriptor};
+ghost use Rattle.validation_rules.specs.Rows.{guard};
+ghost use Rattle.validation_rules.specs.Structs.{struct_type, struct_row, struct_new_row, struct_new_default_row};
 ghost use Rattle.validation_rules.specs.Structs.{struct_read_row, struct_set_row};
 ghost use Rattle.validation_rules.specs.Structs.{is_packed_field, is_whole_field};
-ghost use Rattle.validate_stacks.specs.State.{body_context};
-ghost use Rattle.validate_stacks.specs.Visits.{MayVisit, Meets};
+ghost use Rattle.validate_stacks.specs.Attempts.{phase_moved};
+ghost use Rattle.validate_stacks.specs.Pops.{IsKept};
+ghost use Rattle.validate_stacks.specs.State.{IsValidBody, body_context};
+ghost use Rattle.validate_stacks.specs.Steps.{found_in_body as top, body_popped};
+ghost use Rattle.validate_stacks.specs.Visits.{step_body, MayVisit, Meets};
+ghost use Rattle.validate_rows_gc.specs.Descriptors.{found_new_descriptor, fields_row, defaults_row, row_under_descriptor};
 ghost use Rattle.validate_rows_gc.specs.Types.{aggregate_row, IsValidAggregate};
 
+use crate::descriptors::pop_of_type;
 use crate::types::{AggregateTypes, Wanted, check_aggregate};
 use validate_resources::WasmModuleResources;
 use validate_shapes::aggregates::{
-    check_mutable_field, struct_field_at, struct_type_at, type_reference, wrong_field_packing,
+    allocated_reference, check_mutable_field, descriptor_at, struct_field_at, struct_type_at,
+    type_reference, wrong_field_packing,
 };
 use validate_shapes::types::Few;
 use validate_stacks::Stacks;
-use validate_types::{Error, FieldType, ValType};
+use validate_types::{Error, FieldType, RefType, StructType, ValType};
 use validate_visit::{FieldIndex, Sign, StructOp};
 
 /// Each field has a default value.
@@ -51,6 +60,82 @@ fn not_defaultable(stacks: &Stacks, offset: u64, ty: ValType) -> Error
     }
 }
 
+/// The struct type at an index, which has no descriptor: with one it is made by another operator.
+fn undescribed_struct_at<'a, R: WasmModuleResources>(
+    stacks: &Stacks,
+    resources: &'a R,
+    offset: u64,
+    index: u32,
+    name: &str,
+) -> Result<&'a StructType, Error>
+    ensures found { IfOk result (λ s. guard (is_none (index_of_descriptor (R.context resources.now) index))
+        (struct_type (body_context (R.context resources.now) stacks.now.body) index) ≡ Some s.now) }
+    ensures valid { IfOk result (λ s. AllByRecursion (Valid (R.context resources.now))
+        (unpacked_fields s.now)) }
+    ensures refused { OnErr result (guard (is_none (index_of_descriptor (R.context resources.now) index))
+        (struct_type (body_context (R.context resources.now) stacks.now.body) index) ≡ None) }
+    ensures offset { IfErr result (λ e. e.offset ≡ offset) }
+{
+    match descriptor_at(resources, offset, index)? {
+        None => struct_type_at(stacks, resources, offset, index),
+        Some(_) => Err(wants_descriptor(stacks, offset, index, name)),
+    }
+}
+
+#[cold]
+#[inline(never)]
+fn wants_descriptor(stacks: &Stacks, offset: u64, index: u32, name: &str) -> Error
+    ensures { result.offset ≡ offset }
+{
+    match format!(in stacks.allocator();
+        "type with descriptor requires descriptor allocation: `{name}` with type {index}"
+    ) {
+        Ok(text) => Error::with_text(text, offset),
+        Err(_) => Error::out_of_memory(offset),
+    }
+}
+
+/// Pops the descriptor with which a struct of the type at an index is made: exact in its type, or null. It refuses
+/// a type without descriptors.
+fn pop_new_descriptor<R: WasmModuleResources>(
+    stacks: &mut Stacks,
+    resources: &R,
+    offset: u64,
+    index: u32,
+    name: &str,
+) -> Result<(), Error>
+    requires state { IsValidBody (R.context resources.now) stacks.old.body }
+    ensures passed { OnOk result (found_new_descriptor
+        (body_context (R.context resources.now) stacks.old.body)
+        (index_of_descriptor (R.context resources.now) index) (top stacks.old.body) ≡ true) }
+    ensures popped { OnOk result (stacks.new.body ≡ body_popped stacks.old.body) }
+    ensures refused { IfErr result (λ e. e.wants_memory ≡ false → found_new_descriptor
+        (body_context (R.context resources.now) stacks.old.body)
+        (index_of_descriptor (R.context resources.now) index) (top stacks.old.body) ≡ false) }
+    ensures phase { phase_moved stacks.new.phase ≡ phase_moved stacks.old.phase }
+    ensures valid { IsValidBody (R.context resources.now) stacks.new.body }
+    ensures kept { IsKept stacks.old.body stacks.new.body }
+    ensures offset { IfErr result (λ e. e.offset ≡ offset) }
+{
+    let Some(descriptor) = descriptor_at(resources, offset, index)? else {
+        return Err(not_described(stacks, offset, index, name));
+    };
+    let wanted = ValType::Ref(RefType::exact(true, descriptor));
+    pop_of_type(stacks, resources, offset, wanted)?;
+    Ok(())
+}
+
+#[cold]
+#[inline(never)]
+fn not_described(stacks: &Stacks, offset: u64, index: u32, name: &str) -> Error
+    ensures { result.offset ≡ offset }
+{
+    match format!(in stacks.allocator(); "invalid `{name}`: type {index} is not described") {
+        Ok(text) => Error::with_text(text, offset),
+        Err(_) => Error::out_of_memory(offset),
+    }
+}
+
 /// What `struct.new` takes and gives: a value for each field.
 fn new_types<'a, R: WasmModuleResources>(
     stacks: &Stacks,
@@ -65,8 +150,8 @@ fn new_types<'a, R: WasmModuleResources>(
         (body_context (R.context resources.now) stacks.now.body) index).premise ≡ false) }
     ensures offset { IfErr result (λ e. e.offset ≡ offset) }
 {
-    let struct_type = struct_type_at(stacks, resources, offset, index)?;
-    let made = type_reference(stacks, resources, offset, false, index)?;
+    let struct_type = undescribed_struct_at(stacks, resources, offset, index, "struct.new")?;
+    let made = allocated_reference(stacks, resources, offset, index)?;
     Ok(AggregateTypes {
         wanted: Wanted::Fields(struct_type.fields.as_slice()),
         pushed: Few::One(made),
@@ -87,9 +172,60 @@ fn new_default_types<R: WasmModuleResources>(
         (body_context (R.context resources.now) stacks.now.body) index).premise ≡ false) }
     ensures offset { IfErr result (λ e. e.offset ≡ offset) }
 {
+    let struct_type = undescribed_struct_at(
+        stacks,
+        resources,
+        offset,
+        index,
+        "struct.new_default",
+    )?;
+    check_defaultable(stacks, offset, struct_type.fields.as_slice())?;
+    let made = allocated_reference(stacks, resources, offset, index)?;
+    Ok(AggregateTypes {
+        wanted: Wanted::Few(Few::Zero),
+        pushed: Few::One(made),
+    })
+}
+
+/// What `struct.new_desc` takes and gives, its descriptor aside: a value for each field.
+fn new_desc_types<'a, R: WasmModuleResources>(
+    stacks: &Stacks,
+    resources: &'a R,
+    offset: u64,
+    index: u32,
+) -> Result<AggregateTypes<'a>, Error>
+    ensures row { IfOk result (λ t. fields_row (body_context (R.context resources.now) stacks.now.body) index
+        ≡ aggregate_row t) }
+    ensures valid { IfOk result (λ t. IsValidAggregate (R.context resources.now) t) }
+    ensures refused { IfErr result (λ e. e.wants_memory ≡ false
+        → (fields_row (body_context (R.context resources.now) stacks.now.body) index).premise ≡ false) }
+    ensures offset { IfErr result (λ e. e.offset ≡ offset) }
+{
+    let struct_type = struct_type_at(stacks, resources, offset, index)?;
+    let made = allocated_reference(stacks, resources, offset, index)?;
+    Ok(AggregateTypes {
+        wanted: Wanted::Fields(struct_type.fields.as_slice()),
+        pushed: Few::One(made),
+    })
+}
+
+/// What `struct.new_default_desc` takes and gives, its descriptor aside.
+fn new_default_desc_types<R: WasmModuleResources>(
+    stacks: &Stacks,
+    resources: &R,
+    offset: u64,
+    index: u32,
+) -> Result<AggregateTypes<'static>, Error>
+    ensures row { IfOk result (λ t. defaults_row (body_context (R.context resources.now) stacks.now.body)
+        index ≡ aggregate_row t) }
+    ensures valid { IfOk result (λ t. IsValidAggregate (R.context resources.now) t) }
+    ensures refused { IfErr result (λ e. e.wants_memory ≡ false
+        → (defaults_row (body_context (R.context resources.now) stacks.now.body) index).premise ≡ false) }
+    ensures offset { IfErr result (λ e. e.offset ≡ offset) }
+{
     let struct_type = struct_type_at(stacks, resources, offset, index)?;
     check_defaultable(stacks, offset, struct_type.fields.as_slice())?;
-    let made = type_reference(stacks, resources, offset, false, index)?;
+    let made = allocated_reference(stacks, resources, offset, index)?;
     Ok(AggregateTypes {
         wanted: Wanted::Few(Few::Zero),
         pushed: Few::One(made),
@@ -170,23 +306,28 @@ fn set_types<R: WasmModuleResources>(
     })
 }
 
-/// What an operator on structs takes and gives, by the type and the field that it names.
+/// What an operator on structs takes and gives, by the type and the field that it names: the descriptor aside with
+/// which it makes a struct.
 fn struct_types<'a, R: WasmModuleResources>(
     stacks: &Stacks,
     resources: &'a R,
     offset: u64,
     op: StructOp,
 ) -> Result<AggregateTypes<'a>, Error>
-    ensures row { IfOk result (λ t. struct_row (body_context (R.context resources.now) stacks.now.body) op
-        ≡ aggregate_row t) }
+    ensures row { IfOk result (λ t. row_under_descriptor
+        (body_context (R.context resources.now) stacks.now.body) op ≡ aggregate_row t) }
     ensures valid { IfOk result (λ t. IsValidAggregate (R.context resources.now) t) }
-    ensures refused { IfErr result (λ e. e.wants_memory ≡ false
-        → (struct_row (body_context (R.context resources.now) stacks.now.body) op).premise ≡ false) }
+    ensures refused { IfErr result (λ e. e.wants_memory ≡ false → (row_under_descriptor
+        (body_context (R.context resources.now) stacks.now.body) op).premise ≡ false) }
     ensures offset { IfErr result (λ e. e.offset ≡ offset) }
 {
     match op {
         StructOp::StructNew(index) => new_types(stacks, resources, offset, index),
         StructOp::StructNewDefault(index) => new_default_types(stacks, resources, offset, index),
+        StructOp::StructNewDesc(index) => new_desc_types(stacks, resources, offset, index),
+        StructOp::StructNewDefaultDesc(index) => {
+            new_default_desc_types(stacks, resources, offset, index)
+        }
         StructOp::StructGet(index) => get_types(stacks, resources, offset, index),
         StructOp::StructGetPacked(sign, index) => {
             get_packed_types(stacks, resources, offset, sign, index)
@@ -195,7 +336,37 @@ fn struct_types<'a, R: WasmModuleResources>(
     }
 }
 
-/// The check of an operator on structs, its gate aside.
+/// Pops the descriptor with which an operator makes a struct, where it takes one.
+fn pop_descriptor_of<R: WasmModuleResources>(
+    stacks: &mut Stacks,
+    resources: &R,
+    offset: u64,
+    op: StructOp,
+) -> Result<(), Error>
+    requires { MayVisit (R.context resources.now) stacks.old }
+    ensures passed { OnOk result (step_body (R.context resources.now) (λ cx. row_operator (struct_row cx op))
+        stacks.old.body ≡ step_body (R.context resources.now)
+        (λ cx. row_operator (row_under_descriptor cx op)) stacks.new.body) }
+    ensures visit { OnOk result (MayVisit (R.context resources.now) stacks.new) }
+    ensures refused { IfErr result (λ e. e.wants_memory ≡ false → step_body (R.context resources.now)
+        (λ cx. row_operator (struct_row cx op)) stacks.old.body ≡ None) }
+    ensures valid { IsValidBody (R.context resources.now) stacks.new.body }
+    ensures kept { IsKept stacks.old.body stacks.new.body }
+    ensures offset { IfErr result (λ e. e.offset ≡ offset) }
+{
+    match op {
+        StructOp::StructNewDesc(index) => {
+            pop_new_descriptor(stacks, resources, offset, index, "struct.new_desc")
+        }
+        StructOp::StructNewDefaultDesc(index) => {
+            pop_new_descriptor(stacks, resources, offset, index, "struct.new_default_desc")
+        }
+        _ => Ok(()),
+    }
+}
+
+/// The check of an operator on structs, its gate aside. A descriptor is popped before anything else is asked of the
+/// type (upstream's order).
 pub fn check_struct_row<R: WasmModuleResources>(
     stacks: &mut Stacks,
     resources: &R,
@@ -206,6 +377,7 @@ pub fn check_struct_row<R: WasmModuleResources>(
     ensures { Meets (R.context resources.now) (λ cx. row_operator (struct_row cx op)) offset
         stacks.old.body result stacks.new.body }
 {
+    pop_descriptor_of(stacks, resources, offset, op)?;
     let types = struct_types(stacks, resources, offset, op)?;
     check_aggregate(stacks, resources, offset, types)
 }

@@ -9,6 +9,7 @@ use Rattle.validate_types.specs.declared.refs.RefType.{RefType}
 use Rattle.validate_types.specs.declared.types.ValType.{ValType}
 use Rattle.validation_rules.specs.Branches.{has_label, label_types_at, target}
 use Rattle.validation_rules.specs.Context.{I32, Ref, Context}
+use Rattle.validation_rules.specs.Descriptors.{fit_under, tested_pushes, tested_row_if}
 use Rattle.validation_rules.specs.Fits.{MaybeType, Bottom, Known, fits, all_fit}
 use Rattle.validation_rules.specs.References.{operand_without_null, null_test_pushes, non_null_pushes, br_on_null_row, last_reference, last_without_null, br_on_non_null_row_for, br_on_non_null_row}
 use Rattle.validation_rules.specs.Rows.{Head, Stays, Target, guard}
@@ -69,6 +70,26 @@ module _ (cx : Context) where
       ap (λ o. guard (fits cx a t) (option_map (λ ys. Known t ∷ ys) o)) (one_above ts front x)
       ∙ regroup (fits cx a t) (all_fit cx front ts) (λ ys. Known t ∷ ys) (λ y. map Known ts ++ y ∷ []) (operand_without_null x)
 
+  -- what passes for operands with one more on top, which is tested
+  nothing_under : (test : MaybeType → Bool) (ts : List ValType) → fit_under cx test ts [] ≡ false
+  nothing_under test [] = refl
+  nothing_under test (t ∷ ts) = refl
+
+  one_under : (test : MaybeType → Bool) (ts : List ValType) (front : List MaybeType) (x : MaybeType) → fit_under cx test ts (front ++ x ∷ []) ≡ (all_fit cx front ts && test x)
+  one_under test [] [] x = refl
+  one_under test [] (a ∷ []) x = refl
+  one_under test [] (a ∷ b ∷ front) x = refl
+  one_under test (t ∷ ts) [] x = ap (λ b. fits cx x t && b) (nothing_under test ts) ∙ never (fits cx x t)
+    where
+      never : (b : Bool) → b && false ≡ false
+      never true = refl
+      never false = refl
+  one_under test (t ∷ ts) (a ∷ front) x = ap (λ b. fits cx a t && b) (one_under test ts front x) ∙ grouped (fits cx a t)
+    where
+      grouped : (b : Bool) → (b && (all_fit cx front ts && test x)) ≡ ((b && all_fit cx front ts) && test x)
+      grouped true = refl
+      grouped false = refl
+
 -- ---- the steps
 
 module _ (md : ModuleContext) where
@@ -79,6 +100,10 @@ module _ (md : ModuleContext) where
   -- what they leave of a reference on top: below it a list of types
   abbrev pub above_types : List ValType → BodyState → Option BodyState
   above_types ts v = option_and_then (λ y. option_map (λ u. body_pushed y (body_pushed_each ts u)) (body_popped_each md (reverse ts) (body_popped v))) (option_and_then operand_without_null (steps.found_in_body v))
+
+  -- what they leave where the operand on top passes a test: below it types that give way to others
+  abbrev pub tested_types : (MaybeType → Bool) → List ValType → List ValType → BodyState → Option BodyState
+  tested_types test ts ps v = option_and_then (λ x. guard (test x) (option_map (λ u. body_pushed_each ps u) (body_popped_each md (reverse ts) (body_popped v)))) (steps.found_in_body v)
 
   -- what is given for the operand on top takes its place
   abbrev pub with_one : (MaybeType → Option MaybeType) → BodyState → Option BodyState
@@ -145,6 +170,32 @@ module _ (md : ModuleContext) where
     above_in b ts targets [] false =
         looked b (suc (length ts)) (λ c. non_null_pushes c ts) targets [] false
         ∙ ap (λ o. guard b (option_map (λ ps. state_of (stack_with ps []) false) o)) (nothing_above cx_of ts)
+
+    tested_rest : (test : Context → MaybeType → Bool) (ts ps : List ValType) (x : MaybeType) (own : List MaybeType) (dead : Bool) → option_map (λ qs. state_of (stack_with qs (drop (length ts) own)) dead) (tested_pushes cx_of (test cx_of) ts ps (stack_with (x ∷ operands_on_top (length ts) dead own) [])) ≡ guard (test cx_of x) (option_map (λ u. body_pushed_each ps u) (body_popped_each md (reverse ts) (state_of own dead)))
+    tested_rest test ts ps x own dead =
+        let k = length ts in
+        let front = stack_with (operands_on_top k dead own) [] in
+        ap (λ b. option_map (λ qs. state_of (stack_with qs (drop k own)) dead) (guard b (Some (map Known ps)))) (ap (fit_under cx_of (test cx_of) ts) (onto-next x (operands_on_top k dead own) [] ∙ onto_above (operands_on_top k dead own) [] x) ∙ one_under cx_of (test cx_of) ts front x)
+        ∙ (by (all_fit cx_of front ts) (test cx_of x)
+        ∙ ap (λ o. guard (test cx_of x) (option_map (λ u. body_pushed_each ps u) o)) (sym (popped_whole md (state_of own dead) (frame_of own dead) fs ts refl)))
+      where
+        by : (b t : Bool) → option_map (λ qs. state_of (stack_with qs (drop (length ts) own)) dead) (guard (b && t) (Some (map Known ps))) ≡ guard t (option_map (λ u. body_pushed_each ps u) (guard b (Some (state_of (drop (length ts) own) dead))))
+        by true true = ap Some (sym (pushed_whole ps (state_of (drop (length ts) own) dead) (frame_of (drop (length ts) own) dead) fs refl))
+        by true false = refl
+        by false true = refl
+        by false false = refl
+
+    tested_in : (b : Bool) (test : Context → MaybeType → Bool) (ts ps : List ValType) (targets : List Target) (own : List MaybeType) (dead : Bool) → step_body md (λ c. row_operator (record (tested_row_if b c (test c) ts ps) { targets = targets })) (state_of own dead) ≡ guard b (tested_types (test cx_of) ts ps (state_of own dead))
+    tested_in b test ts ps targets (x ∷ own) dead =
+        looked b (suc (length ts)) (λ c. tested_pushes c (test c) ts ps) targets (x ∷ own) dead ∙ ap (guard b) (tested_rest test ts ps x own dead)
+    tested_in b test ts ps targets [] true =
+        looked b (suc (length ts)) (λ c. tested_pushes c (test c) ts ps) targets [] true
+        ∙ ap (guard b)
+        (ap (λ q. option_map (λ qs. state_of (stack_with qs q) true) (tested_pushes cx_of (test cx_of) ts ps (stack_with (Bottom ∷ operands_on_top (length ts) true []) []))) (sym (drop_none (length ts)))
+        ∙ tested_rest test ts ps Bottom [] true)
+    tested_in b test ts ps targets [] false =
+        looked b (suc (length ts)) (λ c. tested_pushes c (test c) ts ps) targets [] false
+        ∙ ap (λ t. guard b (option_map (λ qs. state_of (stack_with qs []) false) (guard t (Some (map Known ps))))) (nothing_under cx_of (test cx_of) ts)
 
     null_in : (own : List MaybeType) (dead : Bool) → step_body md (λ c. row_operator (looking_row 1 null_test_pushes)) (state_of own dead) ≡ null_tested (state_of own dead)
     null_in (x ∷ own) dead = looked true 1 (λ c. null_test_pushes) [] (x ∷ own) dead ∙ by (operand_without_null x)
@@ -215,6 +266,16 @@ module _ (md : ModuleContext) where
             ap (λ gs. step_body md (λ c. row_operator (record (looking_row_if b (suc (length ts)) (non_null_pushes c ts)) { targets = targets })) (record v { present = record { frames = gs; left = v.present.left } })) e
             ∙ (above_in f.head f.first_set fs v.present.left v.shared v.features v.locals v.set_at_entry v.undone b ts targets f.operands f.dead
             ∙ ap (λ gs. guard b (above_types ts (record v { present = record { frames = gs; left = v.present.left } }))) (sym e))
+
+    pub tested_is : (b : Bool) (test : Context → MaybeType → Bool) (ts ps : List ValType) (targets : List Target) → step_body md (λ c. row_operator (record (tested_row_if b c (test c) ts ps) { targets = targets })) v ≡ guard b (tested_types (test (body_context md v)) ts ps v)
+    tested_is b test ts ps targets = by v.present.frames refl
+      where
+        by : (fs : List Frame) → v.present.frames ≡ fs → step_body md (λ c. row_operator (record (tested_row_if b c (test c) ts ps) { targets = targets })) v ≡ guard b (tested_types (test (body_context md v)) ts ps v)
+        by [] e = absurd (o e)
+        by (f ∷ fs) e =
+            ap (λ gs. step_body md (λ c. row_operator (record (tested_row_if b c (test c) ts ps) { targets = targets })) (record v { present = record { frames = gs; left = v.present.left } })) e
+            ∙ (tested_in f.head f.first_set fs v.present.left v.shared v.features v.locals v.set_at_entry v.undone b test ts ps targets f.operands f.dead
+            ∙ ap (λ gs. guard b (tested_types (test (body_context md v)) ts ps (record v { present = record { frames = gs; left = v.present.left } }))) (sym e))
 
     pub null_is : step_body md (λ c. row_operator (looking_row 1 null_test_pushes)) v ≡ null_tested v
     null_is = by v.present.frames refl

@@ -3,7 +3,7 @@ use Rattle.std.proofs.Common.{◌≡◌, Bool, true, List, [], ◌∷◌, ◌++�
 use Rattle.std.specs.Option.{option_map}
 use Rattle.validate_types.specs.Refs.{reference, reference_to, fits_reference}
 use Rattle.validate_types.specs.declared.heap.HeapType.{HeapType}
-use Rattle.validate_types.specs.declared.heap.HeapType.TheVariants.{Abstract, Concrete}
+use Rattle.validate_types.specs.declared.heap.HeapType.TheVariants.{Abstract, Concrete, Exact}
 use Rattle.validate_types.specs.declared.heap.UnpackedIndex.TheVariants.{Module, Id}
 use Rattle.validate_resources.specs.Context.{ModuleContext, is_valid_heap}
 use Rattle.std.proofs.lemmas.Bool.{and_parts}
@@ -18,6 +18,8 @@ module _ (md : ModuleContext) where
   fits_valid (Abstract s a) e = refl
   fits_valid (Concrete (Module i)) e = cc
   fits_valid (Concrete (Id id)) e = (and_parts (is_some (md.type_of_id id)) _ e).1
+  fits_valid (Exact (Module i)) e = cc
+  fits_valid (Exact (Id id)) e = (and_parts (is_some (md.type_of_id id)) _ e).1
 
   made : (h : HeapType) (n : Bool) → is_valid_heap md h ≡ true → reference_to n h ≡ Some (reference n h)
   made h n e = ap (λ b. if b then Some (reference n h) else None) (fits_valid h e)

@@ -3,11 +3,13 @@
 
 ghost use Rattle.std.specs.Prelude.{◌≡◌, true, false, None, Some, IfOk, OnOk, OnErr, IfErr, slice_get};
 ghost use Rattle.std.specs.List.{AllByRecursion};
-ghost use Rattle.std.specs.Option.{option_copied};
-ghost use Rattle.validate_resources.specs.Context.{Valid};
+ghost use Rattle.std.specs.Option.{option_copied, ForSome};
+ghost use Rattle.validate_resources.specs.Context.{Valid, is_valid_index};
 ghost use Rattle.validate_types.specs.Refs.{reference};
 ghost use Rattle.validate_types.specs.Types.{unpacked_fields};
 ghost use Rattle.validation_rules.specs.Arrays.{array_type, array_element};
+ghost use Rattle.validation_rules.specs.Descriptors.{descriptor_at as index_of_descriptor};
+ghost use Rattle.validation_rules.specs.Exact.{declared_heap, allocated_reference as reference_to_allocated};
 ghost use Rattle.validation_rules.specs.Indirect.{type_reference as reference_to_type};
 ghost use Rattle.validation_rules.specs.Structs.{struct_type, struct_fields, struct_field, field_value};
 ghost use Rattle.validate_stacks.specs.State.{body_context};
@@ -17,8 +19,8 @@ use validate_resources::WasmModuleResources;
 use validate_resources::uses::laws;
 use validate_stacks::Stacks;
 use validate_types::{
-    CompositeInnerType, Error, FieldType, HeapType, RefType, StructType, SubType, UnpackedIndex,
-    ValType,
+    CompositeInnerType, Error, FieldType, HeapType, PackedIndex, RefType, StructType, SubType,
+    UnpackedIndex, ValType,
 };
 use validate_visit::{FieldIndex, Sign};
 
@@ -226,4 +228,58 @@ pub fn type_reference<R: WasmModuleResources>(
         unreachable!()
     };
     Ok(ValType::Ref(ty))
+}
+
+/// A type of the module, exact or not.
+pub fn declared_heap(exact: bool, index: UnpackedIndex) -> HeapType
+    ensures { result ≡ declared_heap exact index }
+{
+    if exact {
+        HeapType::Exact(index)
+    } else {
+        HeapType::Concrete(index)
+    }
+}
+
+/// A reference to what is allocated, of the type at this index, which has to be declared: exact where references
+/// can be (wasmparser's `push_exact_ref_if_available`).
+pub fn allocated_reference<R: WasmModuleResources>(
+    stacks: &Stacks,
+    resources: &R,
+    offset: u64,
+    type_index: u32,
+) -> Result<ValType, Error>
+    ensures found { IfOk result (λ t. reference_to_allocated
+        (body_context (R.context resources.now) stacks.now.body) type_index ≡ Some t) }
+    ensures valid { IfOk result (λ t. Valid (R.context resources.now) t) }
+    ensures refused { IfErr result (λ e. e.wants_memory ≡ false → reference_to_allocated
+        (body_context (R.context resources.now) stacks.now.body) type_index ≡ None) }
+    ensures offset { IfErr result (λ e. e.offset ≡ offset) }
+{
+    laws(resources);
+    let exact = stacks.features().custom_descriptors();
+    let mut heap_type = declared_heap(exact, UnpackedIndex::Module(type_index));
+    resources.check_heap_type(&mut heap_type, offset)?;
+    let Some(ty) = RefType::new(false, heap_type) else {
+        unreachable!()
+    };
+    Ok(ValType::Ref(ty))
+}
+
+/// The type of the descriptors of the type at this index, if it has one. The type has to be declared.
+pub fn descriptor_at<R: WasmModuleResources>(
+    resources: &R,
+    offset: u64,
+    type_index: u32,
+) -> Result<Option<PackedIndex>, Error>
+    ensures found { IfOk result (λ d. index_of_descriptor (R.context resources.now) type_index ≡ d) }
+    ensures valid { IfOk result (λ d. ForSome d (λ u. is_valid_index (R.context resources.now) u ≡ true)) }
+    ensures unknown { OnErr result ((R.context resources.now).type_at type_index ≡ None) }
+    ensures offset { IfErr result (λ e. e.offset ≡ offset) }
+{
+    laws(resources);
+    match resources.sub_type_at(type_index) {
+        Some(sub_type) => Ok(sub_type.composite_type.descriptor_idx),
+        None => Err(Error::new("unknown type: type index out of bounds", offset)),
+    }
 }

@@ -29,6 +29,8 @@ fn array_of(element_type: StorageType, mutable: bool, shared: bool) -> SubType {
         composite_type: CompositeType {
             inner: CompositeInnerType::Array(ArrayType(places)),
             shared,
+            descriptor_idx: None,
+            describes_idx: None,
         },
     }
 }

@@ -65,7 +65,12 @@ fn declared(inner: CompositeInnerType, shared: bool, above: Option<u32>) -> SubT
     SubType {
         is_final: false,
         supertype_idx: above.and_then(|index| UnpackedIndex::Module(index).pack()),
-        composite_type: CompositeType { inner, shared },
+        composite_type: CompositeType {
+            inner,
+            shared,
+            descriptor_idx: None,
+            describes_idx: None,
+        },
     }
 }
 
@@ -97,6 +102,7 @@ fn lookup(
     let functions = functions.iter().map(|index| FuncDecl {
         type_index: *index,
         referenced: false,
+        exact: false,
     });
     let table = TableType {
         element_type: RefType::FUNCREF,

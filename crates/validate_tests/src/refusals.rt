@@ -89,6 +89,7 @@ fn declarations_without_their_type_are_refused(rt: HostRuntime) -> Result<(), Fa
     functions.functions.push(FuncDecl {
         type_index: 0,
         referenced: false,
+        exact: false,
     })?;
     let refused = ModuleLists::from_declarations(rt.alloc(), functions);
     expect_error(&rt, refused.err(), "unknown type", 0);

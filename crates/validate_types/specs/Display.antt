@@ -2,7 +2,7 @@
 use Rattle.std.specs.Prelude.{ℕ, Bool, true, false, List, ◌++◌, codes, Some, None}
 use Rattle.std.specs.Fmt.{decimal, digits}
 use Rattle.validate_types.specs.declared.heap.HeapType.{HeapType}
-use Rattle.validate_types.specs.declared.heap.HeapType.TheVariants.{Abstract, Concrete}
+use Rattle.validate_types.specs.declared.heap.HeapType.TheVariants.{Abstract, Concrete, Exact}
 use Rattle.validate_types.specs.declared.heap.UnpackedIndex.{UnpackedIndex}
 use Rattle.validate_types.specs.declared.heap.UnpackedIndex.TheVariants.{Module, Id}
 use Rattle.validate_types.specs.declared.types.CompositeInnerType.{CompositeInnerType}
@@ -26,6 +26,8 @@ abbrev pub text_by : Bool → HeapType → List ℕ
 text_by n (Abstract shared ty) = wat_of n (Abstract shared ty)
 text_by true (Concrete i) = codes "(ref null " ++ index_text i ++ codes ")"
 text_by false (Concrete i) = codes "(ref " ++ index_text i ++ codes ")"
+text_by true (Exact i) = codes "(ref null (exact " ++ index_text i ++ codes "))"
+text_by false (Exact i) = codes "(ref (exact " ++ index_text i ++ codes "))"
 
 -- the text of a reference type, where a type of the module has its index
 abbrev pub reference_text : RefType → List ℕ

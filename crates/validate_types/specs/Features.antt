@@ -6,7 +6,7 @@ use Rattle.validate_types.specs.declared.heap.AbstractHeapType.{AbstractHeapType
 use Rattle.validate_types.specs.declared.heap.AbstractHeapType.TheVariants.{Func, Extern, Exn, NoExn, Cont}
 use Rattle.validate_types.specs.declared.heap.AbstractHeapType.TheVariants.{NoCont}
 use Rattle.validate_types.specs.declared.heap.HeapType.{HeapType}
-use Rattle.validate_types.specs.declared.heap.HeapType.TheVariants.{Abstract, Concrete}
+use Rattle.validate_types.specs.declared.heap.HeapType.TheVariants.{Abstract, Concrete, Exact}
 use Rattle.validate_types.specs.declared.refs.RefType.{RefType}
 use Rattle.validate_types.specs.declared.types.ValType.{ValType}
 use Rattle.validate_types.specs.declared.types.ValType.TheVariants.{I32, I64, F32, F64, V128, Ref}
@@ -99,6 +99,7 @@ abbrev pub is_heap_enabled : WasmFeatures → Bool → HeapType → Bool
 is_heap_enabled features nullable (Abstract shared ty) =
     is_shared_enabled features shared && is_abstract_enabled features nullable ty
 is_heap_enabled features nullable (Concrete i) = has features function_references || has features gc
+is_heap_enabled features nullable (Exact i) = has features custom_descriptors
 
 -- the gate of a reference type is open
 abbrev pub is_ref_enabled : WasmFeatures → RefType → Bool

@@ -4,8 +4,8 @@ use Rattle.std.specs.Prelude.{Bool, true}
 use Rattle.validate_types.specs.Features.{has, floats, reference_types, bulk_memory, bulk_memory_opt}
 use Rattle.validate_types.specs.Features.{sign_extension, saturating_float_to_int, threads, exceptions}
 use Rattle.validate_types.specs.Features.{shared_everything_threads, legacy_exceptions, tail_call}
-use Rattle.validate_types.specs.Features.{function_references, gc, stack_switching, memory_control}
-use Rattle.validate_types.specs.Features.{wide_arithmetic, acquire_release_atomics}
+use Rattle.validate_types.specs.Features.{function_references, gc, custom_descriptors, stack_switching}
+use Rattle.validate_types.specs.Features.{memory_control, wide_arithmetic, acquire_release_atomics}
 use Rattle.validate_types.specs.declared.features.WasmFeatures.{WasmFeatures}
 use Rattle.validate_types.specs.declared.gate.Gate.{Gate}
 use Rattle.validate_types.specs.declared.gate.Gate.TheVariants.{Mvp, Floats, ReferenceTypes, BulkMemory}
@@ -14,7 +14,7 @@ use Rattle.validate_types.specs.declared.gate.Gate.TheVariants.{SharedEverything
 use Rattle.validate_types.specs.declared.gate.Gate.TheVariants.{BulkMemoryOpt, SignExtension}
 use Rattle.validate_types.specs.declared.gate.Gate.TheVariants.{SaturatingFloatToInt, Threads, TailCall}
 use Rattle.validate_types.specs.declared.gate.Gate.TheVariants.{FunctionReferences, Gc, MemoryControl}
-use Rattle.validate_types.specs.declared.gate.Gate.TheVariants.{StackSwitching}
+use Rattle.validate_types.specs.declared.gate.Gate.TheVariants.{StackSwitching, CustomDescriptors}
 use Rattle.validate_types.specs.declared.gate.Gate.TheVariants.{WideArithmetic, AcquireReleaseAtomics}
 
 abbrev pub is_open : WasmFeatures → Gate → Bool
@@ -32,6 +32,7 @@ is_open features LegacyExceptions = has features legacy_exceptions
 is_open features TailCall = has features tail_call
 is_open features FunctionReferences = has features function_references
 is_open features Gc = has features gc
+is_open features CustomDescriptors = has features custom_descriptors
 is_open features StackSwitching = has features stack_switching
 is_open features MemoryControl = has features memory_control
 is_open features WideArithmetic = has features wide_arithmetic

@@ -1,6 +1,6 @@
 -- What a declared type is, by its kind (WebAssembly core specification, "Composite Types"; continuations: a
--- proposal, "Stack Switching").
-use Rattle.std.specs.Prelude.{Option, Some, None}
+-- proposal, "Stack Switching"; descriptors: a proposal, "Custom Descriptors").
+use Rattle.std.specs.Prelude.{Bool, true, false, Option, Some, None}
 use Rattle.validate_types.specs.Types.{Signature}
 use Rattle.validate_types.specs.declared.heap.UnpackedIndex.{UnpackedIndex}
 use Rattle.validate_types.specs.declared.types.CompositeInnerType.{CompositeInnerType}
@@ -24,3 +24,12 @@ inner_continuation _ = None
 
 abbrev pub continuation_of : SubType → Option UnpackedIndex
 continuation_of s = inner_continuation s.composite_type.inner
+
+-- it is a type of structs
+abbrev pub is_struct : CompositeInnerType → Bool
+is_struct (Struct fields) = true
+is_struct _ = false
+
+-- the index of the type of its descriptors, if it has one (a proposal, "Custom Descriptors")
+abbrev pub descriptor_of : SubType → Option UnpackedIndex
+descriptor_of s = s.composite_type.descriptor_idx

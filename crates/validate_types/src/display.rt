@@ -28,7 +28,8 @@ impl fmt::Display for UnpackedIndex {
     }
 }
 
-/// The text of `wat`, where a type of the module has its index, as in `(ref null (module 0))`.
+/// The text of `wat`, where a type of the module has its index, as in `(ref null (module 0))` and
+/// `(ref (exact (id 0)))`.
 impl fmt::Display for RefType {
     ghost output = { λ r. Some (reference_text r) };
 
@@ -40,6 +41,13 @@ impl fmt::Display for RefType {
                     write!(f, "(ref null {index})")
                 } else {
                     write!(f, "(ref {index})")
+                }
+            }
+            HeapType::Exact(index) => {
+                if self.is_nullable() {
+                    write!(f, "(ref null (exact {index}))")
+                } else {
+                    write!(f, "(ref (exact {index}))")
                 }
             }
         }

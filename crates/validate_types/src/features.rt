@@ -331,6 +331,10 @@ impl WasmFeatures {
                 self.function_references() || self.gc(),
                 "function references support is not enabled",
             ),
+            HeapType::Exact(_) => allowed(
+                self.custom_descriptors(),
+                "custom descriptors operations support is not enabled",
+            ),
             HeapType::Abstract { shared, ty: heap } => {
                 if shared && !self.shared_everything_threads() {
                     return Err("shared-everything-threads support is not enabled");

@@ -36,6 +36,8 @@ pub enum Gate {
     FunctionReferences,
     /// The proposal `gc`.
     Gc,
+    /// The proposal `custom_descriptors`.
+    CustomDescriptors,
     /// The proposal `stack_switching`.
     StackSwitching,
     /// The proposal `memory_control`.
@@ -67,6 +69,7 @@ impl Gate {
             Gate::TailCall => features.tail_call(),
             Gate::FunctionReferences => features.function_references(),
             Gate::Gc => features.gc(),
+            Gate::CustomDescriptors => features.custom_descriptors(),
             Gate::StackSwitching => features.stack_switching(),
             Gate::MemoryControl => features.memory_control(),
             Gate::WideArithmetic => features.wide_arithmetic(),
@@ -92,6 +95,7 @@ impl Gate {
             Gate::TailCall => "tail calls support is not enabled",
             Gate::FunctionReferences => "function references support is not enabled",
             Gate::Gc => "gc support is not enabled",
+            Gate::CustomDescriptors => "custom descriptors operations support is not enabled",
             Gate::StackSwitching => "stack switching support is not enabled",
             Gate::MemoryControl => "memory control support is not enabled",
             Gate::WideArithmetic => "wide arithmetic support is not enabled",

@@ -1,4 +1,5 @@
-//! Heap types, and the indices of types in them (WebAssembly core specification, "Heap Types").
+//! Heap types, and the indices of types in them (WebAssembly core specification, "Heap Types"; exact types
+//! are of a proposal, "Custom Descriptors").
 
 ghost use Rattle.std.specs.Prelude.{◌≡◌, true, false};
 ghost use Rattle.validate_types.specs.declared.heap.AbstractHeapType.{AbstractHeapType};
@@ -233,7 +234,8 @@ impl PackedIndex {
     }
 }
 
-/// What a reference points to (wasmparser's `HeapType`): an abstract type, or a type of the module.
+/// What a reference points to (wasmparser's `HeapType`): an abstract type, or a type of the module, with those
+/// declared below it or without.
 #[derive(Clone, Copy, Debug, PartialEq, Eq)]
 pub enum HeapType {
     /// An abstract type, or the shared copy of it.
@@ -245,4 +247,7 @@ pub enum HeapType {
     },
     /// A type that the module declares.
     Concrete(UnpackedIndex),
+    /// A type that the module declares, without those declared below it (a proposal, "Custom Descriptors":
+    /// exact types).
+    Exact(UnpackedIndex),
 }

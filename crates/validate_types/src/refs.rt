@@ -1,7 +1,7 @@
 //! Reference types (WebAssembly core specification, "Reference Types").
 
 ghost use Rattle.std.specs.Prelude.{◌≡◌, true, false};
-ghost use Rattle.validate_types.specs.Refs.{reference, reference_to, without_null, with_null, difference, is_concrete, is_none_heap, shared_of, wat, wat_of};
+ghost use Rattle.validate_types.specs.Refs.{reference, reference_to, without_null, with_null, difference, is_concrete, is_exact, is_none_heap, shared_of, wat, wat_of};
 ghost use Rattle.validate_types.specs.Heap.{index_in};
 ghost use Rattle.validate_types.specs.declared.heap.HeapType.{HeapType};
 
@@ -86,6 +86,10 @@ impl RefType {
                 let packed = index.pack()?;
                 Some(RefType::concrete(nullable, packed))
             }
+            HeapType::Exact(index) => {
+                let packed = index.pack()?;
+                Some(RefType::exact(nullable, packed))
+            }
         }
     }
 
@@ -96,6 +100,16 @@ impl RefType {
         RefType {
             nullable,
             heap_type: HeapType::Concrete(index.unpack()),
+        }
+    }
+
+    /// The reference to a type of the module without those declared below it.
+    pub fn exact(nullable: bool, index: PackedIndex) -> RefType
+        ensures { result ≡ reference nullable (HeapType.Exact index) }
+    {
+        RefType {
+            nullable,
+            heap_type: HeapType::Exact(index.unpack()),
         }
     }
 
@@ -137,7 +151,7 @@ impl RefType {
                 let heap_type = HeapType::Abstract { shared: true, ty };
                 Some(RefType { heap_type, ..self })
             }
-            HeapType::Concrete(_) => None,
+            HeapType::Concrete(_) | HeapType::Exact(_) => None,
         }
     }
 
@@ -155,11 +169,18 @@ impl RefType {
         self.nullable
     }
 
-    /// Whether it points to a type of the module.
+    /// Whether it points to a type of the module, be it exact or not.
     pub fn is_concrete_type_ref(self) -> bool
         ensures { result ≡ is_concrete self.heap_type }
     {
-        matches!(&self.heap_type, HeapType::Concrete(_))
+        matches!(&self.heap_type, HeapType::Concrete(_) | HeapType::Exact(_))
+    }
+
+    /// Whether it points to a type of the module without those declared below it.
+    pub fn is_exact_type_ref(self) -> bool
+        ensures { result ≡ is_exact self.heap_type }
+    {
+        matches!(&self.heap_type, HeapType::Exact(_))
     }
 
     /// Whether it points to `none`, shared or not.
@@ -181,12 +202,12 @@ impl RefType {
     {
         match self.heap_type {
             HeapType::Abstract { .. } => None,
-            HeapType::Concrete(index) => Some(index),
+            HeapType::Concrete(index) | HeapType::Exact(index) => Some(index),
         }
     }
 
     /// The text of the type, where a type of the module has no number: `funcref`, `(ref func)`,
-    /// `(ref null (shared func))`, `(ref (type))`.
+    /// `(ref null (shared func))`, `(ref (type))`, `(ref (exact type))`.
     pub fn wat(self) -> &'static str
         ensures { result.now ≡ wat self }
     {
@@ -197,6 +218,8 @@ impl RefType {
             (false, HeapType::Abstract { shared: true, ty }) => shared_non_null_wat(ty),
             (true, HeapType::Concrete(_)) => "(ref null (type))",
             (false, HeapType::Concrete(_)) => "(ref (type))",
+            (true, HeapType::Exact(_)) => "(ref null (exact type))",
+            (false, HeapType::Exact(_)) => "(ref (exact type))",
         }
     }
 }

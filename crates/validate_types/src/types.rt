@@ -229,13 +229,19 @@ pub enum CompositeInnerType {
     Cont(ContType),
 }
 
-/// What a type is made of, and its mark as shared.
+/// What a type is made of, its mark as shared, and its place among descriptors (a proposal, "Custom
+/// Descriptors": composite types).
 #[derive(Debug, Drop)]
 pub struct CompositeType {
     /// What it is made of.
     pub inner: CompositeInnerType,
     /// Whether it is shared.
     pub shared: bool,
+    /// The type of the descriptors of its values, if they have them.
+    pub descriptor_idx: Option<PackedIndex>,
+    /// The type whose values its values describe, if they do. Nothing here looks at it, but for whether there is
+    /// such a type: it is for the module validator.
+    pub describes_idx: Option<PackedIndex>,
 }
 
 /// A type as a module declares it (wasmparser's `SubType`).
@@ -250,13 +256,15 @@ pub struct SubType {
 }
 
 impl SubType {
-    /// The declaration of a function type and no more (wasmparser's `SubType::func`): it is final, and declared
-    /// below no type. It takes no memory.
+    /// The declaration of a function type and no more (wasmparser's `SubType::func`): it is final, declared
+    /// below no type, and neither has a descriptor nor is one. It takes no memory.
     pub fn func(signature: FuncType, shared: bool) -> SubType
         ensures is_final { result.is_final ≡ true }
         ensures supertype_idx { result.supertype_idx ≡ None }
         ensures inner { result.composite_type.inner ≡ Func signature }
         ensures shared { result.composite_type.shared ≡ shared }
+        ensures descriptor_idx { result.composite_type.descriptor_idx ≡ None }
+        ensures describes_idx { result.composite_type.describes_idx ≡ None }
     {
         SubType {
             is_final: true,
@@ -264,6 +272,8 @@ impl SubType {
             composite_type: CompositeType {
                 inner: CompositeInnerType::Func(signature),
                 shared,
+                descriptor_idx: None,
+                describes_idx: None,
             },
         }
     }

@@ -8,7 +8,7 @@ use Rattle.validate_types.specs.declared.gate.Gate.TheVariants.{Exceptions, Lega
 use Rattle.validate_types.specs.declared.gate.Gate.TheVariants.{SharedEverythingThreads}
 use Rattle.validate_types.specs.declared.gate.Gate.TheVariants.{FunctionReferences, Gc, MemoryControl}
 use Rattle.validate_types.specs.declared.gate.Gate.TheVariants.{StackSwitching, WideArithmetic}
-use Rattle.validate_types.specs.declared.gate.Gate.TheVariants.{AcquireReleaseAtomics}
+use Rattle.validate_types.specs.declared.gate.Gate.TheVariants.{AcquireReleaseAtomics, CustomDescriptors}
 use Rattle.validate_visit.specs.declared.numbers.NumberType.{NumberType}
 use Rattle.validate_visit.specs.declared.numbers.NumberType.TheVariants.{I32, I64, F32, F64}
 use Rattle.validate_visit.specs.declared.op.Op.{Op}
@@ -38,6 +38,11 @@ use Rattle.validate_visit.specs.declared.op.NumericOp.TheVariants.{Sub128, MulWi
 use Rattle.validate_visit.specs.declared.op.ReferenceOp.{ReferenceOp}
 use Rattle.validate_visit.specs.declared.op.ReferenceOp.TheVariants.{RefNull, RefIsNull, RefFunc}
 use Rattle.validate_visit.specs.declared.op.ReferenceOp.TheVariants.{RefAsNonNull, BrOnNull, BrOnNonNull}
+use Rattle.validate_visit.specs.declared.op.ReferenceOp.TheVariants.{RefGetDesc, RefCastDescEqNonNull}
+use Rattle.validate_visit.specs.declared.op.ReferenceOp.TheVariants.{RefCastDescEqNullable, BrOnCastDescEq}
+use Rattle.validate_visit.specs.declared.op.ReferenceOp.TheVariants.{BrOnCastDescEqFail}
+use Rattle.validate_visit.specs.declared.op.StructOp.{StructOp}
+use Rattle.validate_visit.specs.declared.op.StructOp.TheVariants.{StructNewDesc, StructNewDefaultDesc}
 use Rattle.validate_visit.specs.declared.op.TableOp.{TableOp}
 use Rattle.validate_visit.specs.declared.op.TableOp.TheVariants.{TableInit, ElemDrop, TableCopy}
 
@@ -101,7 +106,17 @@ reference_gate (RefFunc f) = ReferenceTypes
 reference_gate RefAsNonNull = FunctionReferences
 reference_gate (BrOnNull d) = FunctionReferences
 reference_gate (BrOnNonNull d) = FunctionReferences
+reference_gate (RefGetDesc i) = CustomDescriptors
+reference_gate (RefCastDescEqNonNull h) = CustomDescriptors
+reference_gate (RefCastDescEqNullable h) = CustomDescriptors
+reference_gate (BrOnCastDescEq cast) = CustomDescriptors
+reference_gate (BrOnCastDescEqFail cast) = CustomDescriptors
 reference_gate _ = Gc
+
+abbrev pub struct_gate : StructOp → Gate
+struct_gate (StructNewDesc i) = CustomDescriptors
+struct_gate (StructNewDefaultDesc i) = CustomDescriptors
+struct_gate _ = Gc
 
 abbrev pub table_gate : TableOp → Gate
 table_gate (TableInit segment i) = BulkMemory
@@ -123,7 +138,7 @@ gate_of (Memory op) = memory_gate op
 gate_of (Atomic op) = atomic_gate op
 gate_of (Reference op) = reference_gate op
 gate_of (Table op) = table_gate op
-gate_of (Struct op) = Gc
+gate_of (Struct op) = struct_gate op
 gate_of (Array op) = Gc
 gate_of (Exception op) = exception_gate op
 gate_of (Continuation op) = StackSwitching

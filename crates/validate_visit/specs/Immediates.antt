@@ -3,7 +3,7 @@
 use Rattle.std.specs.Prelude.{ℕ, ℤ, pos, negsuc, Bool, true, false, ◌&&◌, ◌^◌, nat_lt}
 use Rattle.std.specs.List.{list_all}
 use Rattle.validate_types.specs.declared.heap.HeapType.{HeapType}
-use Rattle.validate_types.specs.declared.heap.HeapType.TheVariants.{Abstract, Concrete}
+use Rattle.validate_types.specs.declared.heap.HeapType.TheVariants.{Abstract, Concrete, Exact}
 use Rattle.validate_types.specs.declared.heap.UnpackedIndex.TheVariants.{Module, Id}
 use Rattle.validate_types.specs.declared.types.ValType.{ValType}
 use Rattle.validate_types.specs.declared.types.ValType.TheVariants.{Ref}
@@ -45,10 +45,14 @@ use Rattle.validate_visit.specs.declared.op.ReferenceOp.TheVariants.{RefAsNonNul
 use Rattle.validate_visit.specs.declared.op.ReferenceOp.TheVariants.{RefEq, RefTestNonNull, RefTestNullable}
 use Rattle.validate_visit.specs.declared.op.ReferenceOp.TheVariants.{RefCastNonNull, RefCastNullable}
 use Rattle.validate_visit.specs.declared.op.ReferenceOp.TheVariants.{BrOnCast, BrOnCastFail, RefI31, I31Get}
+use Rattle.validate_visit.specs.declared.op.ReferenceOp.TheVariants.{RefGetDesc, RefCastDescEqNonNull}
+use Rattle.validate_visit.specs.declared.op.ReferenceOp.TheVariants.{RefCastDescEqNullable, BrOnCastDescEq}
+use Rattle.validate_visit.specs.declared.op.ReferenceOp.TheVariants.{BrOnCastDescEqFail}
 use Rattle.validate_visit.specs.declared.op.ReferenceOp.TheVariants.{AnyConvertExtern, ExternConvertAny}
 use Rattle.validate_visit.specs.declared.op.BranchCast.{BranchCast}
 use Rattle.validate_visit.specs.declared.op.StructOp.{StructOp}
 use Rattle.validate_visit.specs.declared.op.StructOp.TheVariants.{StructNew, StructNewDefault, StructGet}
+use Rattle.validate_visit.specs.declared.op.StructOp.TheVariants.{StructNewDesc, StructNewDefaultDesc}
 use Rattle.validate_visit.specs.declared.op.StructOp.TheVariants.{StructGetPacked, StructSet}
 use Rattle.validate_visit.specs.declared.op.FieldIndex.{FieldIndex}
 use Rattle.validate_visit.specs.declared.op.ArrayOp.{ArrayOp}
@@ -91,6 +95,8 @@ is_signed bits (negsuc n) = nat_lt n (2 ^ bits)
 abbrev pub is_module_heap : HeapType → Bool
 is_module_heap (Concrete (Module i)) = is_index i
 is_module_heap (Concrete (Id id)) = false
+is_module_heap (Exact (Module i)) = is_index i
+is_module_heap (Exact (Id id)) = false
 is_module_heap (Abstract shared ty) = true
 
 abbrev pub is_module_ref : RefType → Bool
@@ -198,6 +204,11 @@ is_module_reference (RefCastNonNull h) = is_module_heap h
 is_module_reference (RefCastNullable h) = is_module_heap h
 is_module_reference (BrOnCast cast) = is_module_cast cast
 is_module_reference (BrOnCastFail cast) = is_module_cast cast
+is_module_reference (RefGetDesc i) = is_index i
+is_module_reference (RefCastDescEqNonNull h) = is_module_heap h
+is_module_reference (RefCastDescEqNullable h) = is_module_heap h
+is_module_reference (BrOnCastDescEq cast) = is_module_cast cast
+is_module_reference (BrOnCastDescEqFail cast) = is_module_cast cast
 is_module_reference RefI31 = true
 is_module_reference (I31Get sign) = true
 is_module_reference AnyConvertExtern = true
@@ -220,6 +231,8 @@ is_module_field field = is_index field.struct_type_index && is_index field.field
 abbrev pub is_module_struct : StructOp → Bool
 is_module_struct (StructNew i) = is_index i
 is_module_struct (StructNewDefault i) = is_index i
+is_module_struct (StructNewDesc i) = is_index i
+is_module_struct (StructNewDefaultDesc i) = is_index i
 is_module_struct (StructGet field) = is_module_field field
 is_module_struct (StructGetPacked sign field) = is_module_field field
 is_module_struct (StructSet field) = is_module_field field

@@ -1937,6 +1937,71 @@ pub trait VisitOperator<'a> {
           to_ref_type = to_ref_type;
         }))) result self.new };
 
+    /// `ref.get_desc`: `[(ref null N)] -> [(ref D)]`, where D is the type of the descriptors of the type N; exact
+    /// where the operand is exact in N, or may be anything. Proposal: custom descriptors. Refuses an index that
+    /// names no type with descriptors.
+    fn visit_ref_get_desc(&mut self, type_index: u32) -> Self::Output
+        requires { can_visit self.old (Op.Reference (ReferenceOp.RefGetDesc type_index)) }
+        ensures { visits self.old (Op.Reference (ReferenceOp.RefGetDesc type_index)) result self.new };
+
+    /// `ref.cast_desc_eq (ref ht)`: `[(ref null top) (ref null D)] -> [(ref ht)]`, where top is the top type above
+    /// ht, and D the type of the descriptors of ht. Proposal: custom descriptors. Refuses a heap type that isn't
+    /// one of the module with descriptors, and, where it is exact, a descriptor that isn't.
+    fn visit_ref_cast_desc_eq_non_null(&mut self, heap_type: HeapType) -> Self::Output
+        requires { can_visit self.old (Op.Reference (ReferenceOp.RefCastDescEqNonNull heap_type)) }
+        ensures { visits self.old (Op.Reference (ReferenceOp.RefCastDescEqNonNull heap_type)) result
+            self.new };
+
+    /// `ref.cast_desc_eq (ref null ht)`: `[(ref null top) (ref null D)] -> [(ref null ht)]`, with top and D as
+    /// above. Proposal: custom descriptors. Refuses as that does.
+    fn visit_ref_cast_desc_eq_nullable(&mut self, heap_type: HeapType) -> Self::Output
+        requires { can_visit self.old (Op.Reference (ReferenceOp.RefCastDescEqNullable heap_type)) }
+        ensures { visits self.old (Op.Reference (ReferenceOp.RefCastDescEqNullable heap_type)) result
+            self.new };
+
+    /// `br_on_cast_desc_eq`: `[t* A (ref null D)] -> [t* C]`, as `br_on_cast` from A to B, where D is the type of
+    /// the descriptors of B. Proposal: custom descriptors. Refuses as `br_on_cast` and `ref.cast_desc_eq` do.
+    fn visit_br_on_cast_desc_eq(
+        &mut self,
+        relative_depth: u32,
+        from_ref_type: RefType,
+        to_ref_type: RefType,
+    ) -> Self::Output
+        requires { can_visit self.old (Op.Reference (ReferenceOp.BrOnCastDescEq (record {
+          relative_depth =
+              relative_depth;
+          from_ref_type = from_ref_type;
+          to_ref_type = to_ref_type;
+        }))) }
+        ensures { visits self.old (Op.Reference (ReferenceOp.BrOnCastDescEq (record {
+          relative_depth =
+              relative_depth;
+          from_ref_type = from_ref_type;
+          to_ref_type = to_ref_type;
+        }))) result self.new };
+
+    /// `br_on_cast_desc_eq_fail`: `[t* A (ref null D)] -> [t* B]`, as `br_on_cast_fail` from A to B, where D is the
+    /// type of the descriptors of B. Proposal: custom descriptors. Refuses as `br_on_cast_fail` and
+    /// `ref.cast_desc_eq` do.
+    fn visit_br_on_cast_desc_eq_fail(
+        &mut self,
+        relative_depth: u32,
+        from_ref_type: RefType,
+        to_ref_type: RefType,
+    ) -> Self::Output
+        requires { can_visit self.old (Op.Reference (ReferenceOp.BrOnCastDescEqFail (record {
+          relative_depth =
+              relative_depth;
+          from_ref_type = from_ref_type;
+          to_ref_type = to_ref_type;
+        }))) }
+        ensures { visits self.old (Op.Reference (ReferenceOp.BrOnCastDescEqFail (record {
+          relative_depth =
+              relative_depth;
+          from_ref_type = from_ref_type;
+          to_ref_type = to_ref_type;
+        }))) result self.new };
+
     /// `any.convert_extern`: `[(ref null extern)] -> [(ref null any)]`, without null if the operand is,
     /// and shared if it is. Proposal: gc.
     fn visit_any_convert_extern(&mut self) -> Self::Output
@@ -1965,7 +2030,8 @@ pub trait VisitOperator<'a> {
         ensures { visits self.old (Op.Reference (ReferenceOp.I31Get Unsigned)) result self.new };
 
     /// `struct.new`: `[t*] -> [(ref N)]`, where t* are the unpacked types of the fields of the struct
-    /// type N. Proposal: gc. Refuses an index that names no struct type.
+    /// type N; the reference is exact where references can be, as are those of all that is allocated.
+    /// Proposal: gc. Refuses an index that names no struct type, and one with descriptors.
     fn visit_struct_new(&mut self, struct_type_index: u32) -> Self::Output
         requires { can_visit self.old (Op.Struct (StructOp.StructNew struct_type_index)) }
         ensures { visits self.old (Op.Struct (StructOp.StructNew struct_type_index)) result self.new };
@@ -1975,6 +2041,21 @@ pub trait VisitOperator<'a> {
     fn visit_struct_new_default(&mut self, struct_type_index: u32) -> Self::Output
         requires { can_visit self.old (Op.Struct (StructOp.StructNewDefault struct_type_index)) }
         ensures { visits self.old (Op.Struct (StructOp.StructNewDefault struct_type_index)) result self.new };
+
+    /// `struct.new_desc`: `[t* (ref null exact D)] -> [(ref N)]`, where t* are the unpacked types of the fields of
+    /// the struct type N, and D the type of its descriptors; the reference is exact. Proposal: custom descriptors.
+    /// Refuses an index that names no struct type with descriptors.
+    fn visit_struct_new_desc(&mut self, struct_type_index: u32) -> Self::Output
+        requires { can_visit self.old (Op.Struct (StructOp.StructNewDesc struct_type_index)) }
+        ensures { visits self.old (Op.Struct (StructOp.StructNewDesc struct_type_index)) result self.new };
+
+    /// `struct.new_default_desc`: `[(ref null exact D)] -> [(ref N)]`, where N is the struct type, and D the type of
+    /// its descriptors; the reference is exact. Proposal: custom descriptors. Refuses an index that names no struct
+    /// type with descriptors, and a field without a default value.
+    fn visit_struct_new_default_desc(&mut self, struct_type_index: u32) -> Self::Output
+        requires { can_visit self.old (Op.Struct (StructOp.StructNewDefaultDesc struct_type_index)) }
+        ensures { visits self.old (Op.Struct (StructOp.StructNewDefaultDesc struct_type_index)) result
+            self.new };
 
     /// `struct.get`: `[(ref null N)] -> [t]`, where t is the type of the field of the struct type N.
     /// Proposal: gc. Refuses an index that names no struct type, a field that isn't there, and a packed

@@ -1406,6 +1406,44 @@ impl<'a, 'validator, 'resources, R: WasmModuleResources> VisitOperator<'a>
         }))
     }
 
+    fn visit_ref_get_desc(&mut self, type_index: u32) -> Result<(), Error> {
+        self.check_reference(ReferenceOp::RefGetDesc(type_index))
+    }
+
+    fn visit_ref_cast_desc_eq_non_null(&mut self, heap_type: HeapType) -> Result<(), Error> {
+        self.check_reference(ReferenceOp::RefCastDescEqNonNull(heap_type))
+    }
+
+    fn visit_ref_cast_desc_eq_nullable(&mut self, heap_type: HeapType) -> Result<(), Error> {
+        self.check_reference(ReferenceOp::RefCastDescEqNullable(heap_type))
+    }
+
+    fn visit_br_on_cast_desc_eq(
+        &mut self,
+        relative_depth: u32,
+        from_ref_type: RefType,
+        to_ref_type: RefType,
+    ) -> Result<(), Error> {
+        self.check_reference(ReferenceOp::BrOnCastDescEq(BranchCast {
+            relative_depth,
+            from_ref_type,
+            to_ref_type,
+        }))
+    }
+
+    fn visit_br_on_cast_desc_eq_fail(
+        &mut self,
+        relative_depth: u32,
+        from_ref_type: RefType,
+        to_ref_type: RefType,
+    ) -> Result<(), Error> {
+        self.check_reference(ReferenceOp::BrOnCastDescEqFail(BranchCast {
+            relative_depth,
+            from_ref_type,
+            to_ref_type,
+        }))
+    }
+
     fn visit_any_convert_extern(&mut self) -> Result<(), Error> {
         self.check_reference(ReferenceOp::AnyConvertExtern)
     }
@@ -1432,6 +1470,14 @@ impl<'a, 'validator, 'resources, R: WasmModuleResources> VisitOperator<'a>
 
     fn visit_struct_new_default(&mut self, struct_type_index: u32) -> Result<(), Error> {
         self.check_struct(StructOp::StructNewDefault(struct_type_index))
+    }
+
+    fn visit_struct_new_desc(&mut self, struct_type_index: u32) -> Result<(), Error> {
+        self.check_struct(StructOp::StructNewDesc(struct_type_index))
+    }
+
+    fn visit_struct_new_default_desc(&mut self, struct_type_index: u32) -> Result<(), Error> {
+        self.check_struct(StructOp::StructNewDefaultDesc(struct_type_index))
     }
 
     fn visit_struct_get(&mut self, struct_type_index: u32, field_index: u32) -> Result<(), Error> {

@@ -28,7 +28,7 @@ signature params results = record { params = params; results = results }
 
 abbrev a_type : Signature → SubType
 a_type f =
-    record { is_final = true; supertype_idx = None; composite_type = record { inner = Func f; shared = false } }
+    record { is_final = true; supertype_idx = None; composite_type = record { inner = Func f; shared = false; descriptor_idx = None; describes_idx = None } }
 
 abbrev types : List SubType
 types =
@@ -655,7 +655,7 @@ tilted t u = is_same_number_or_vector t u
 -- two types of functions, and two tags
 abbrev tilted_context : Context
 tilted_context = record {
-  of_module = record { type_at = slice_get (a_type (signature (I32 ∷ []) (I64 ∷ [])) ∷ a_type (signature (I64 ∷ []) (I32 ∷ [])) ∷ []); type_of_id = λ i. None; type_index_of = λ i. None; type_id_of = λ i. None; is_referenced = λ i. false; table_at = λ i. None; memory_at = λ i. None; global_at = λ i. None; tag_at = slice_get (signature (I32 ∷ []) [] ∷ signature (I64 ∷ []) [] ∷ []); element_at = λ i. None; data_count = None; below = tilted; is_shared = λ r. false; top_type = λ h. h; canonical_type = λ f t. None; canonical_ref = λ r. None; canonical_heap = λ h. None };
+  of_module = record { type_at = slice_get (a_type (signature (I32 ∷ []) (I64 ∷ [])) ∷ a_type (signature (I64 ∷ []) (I32 ∷ [])) ∷ []); type_of_id = λ i. None; type_index_of = λ i. None; type_id_of = λ i. None; is_referenced = λ i. false; has_exact_type = λ i. false; table_at = λ i. None; memory_at = λ i. None; global_at = λ i. None; tag_at = slice_get (signature (I32 ∷ []) [] ∷ signature (I64 ∷ []) [] ∷ []); element_at = λ i. None; data_count = None; below = tilted; is_shared = λ r. false; top_type = λ h. h; canonical_type = λ f t. None; canonical_ref = λ r. None; canonical_heap = λ h. None };
   features = record { 0 = every };
   shared = false;
   locals = [];

@@ -7,7 +7,7 @@ use Rattle.validate_types.specs.Features.{gc}
 use Rattle.validate_types.specs.Refs.{reference}
 use Rattle.validate_types.specs.declared.heap.AbstractHeapType.TheVariants.{Func, Any, Eq as EqHeap, Struct as StructHeap, Array as ArrayHeap, None as NoneHeap}
 use Rattle.validate_types.specs.declared.heap.HeapType.{HeapType}
-use Rattle.validate_types.specs.declared.heap.HeapType.TheVariants.{Abstract, Concrete}
+use Rattle.validate_types.specs.declared.heap.HeapType.TheVariants.{Abstract, Concrete, Exact}
 use Rattle.validate_types.specs.declared.heap.UnpackedIndex.TheVariants.{Id}
 use Rattle.validate_types.specs.declared.refs.RefType.{RefType}
 use Rattle.validate_types.specs.declared.types.CompositeInnerType.{CompositeInnerType}
@@ -48,8 +48,12 @@ any = Abstract false Any
 abbrev concrete : ℕ → HeapType
 concrete i = Concrete (Id (record { index = i }))
 
+-- what is allocated, where references can be exact
+abbrev exact : ℕ → HeapType
+exact i = Exact (Id (record { index = i }))
+
 abbrev a_type : Bool → CompositeInnerType → SubType
-a_type shared inner = record { is_final = true; supertype_idx = None; composite_type = record { inner = inner; shared = shared } }
+a_type shared inner = record { is_final = true; supertype_idx = None; composite_type = record { inner = inner; shared = shared; descriptor_idx = None; describes_idx = None } }
 
 -- a field that can be written, and one that can't
 abbrev written : StorageType → FieldType
@@ -247,7 +251,7 @@ set_field = ((refl, refl), (refl, refl), (refl, refl))
 -- ---- structs
 
 -- what lies below the fields stays
-new_takes : Goes (struct_new 1) (I64 ∷ F64 ∷ I32 ∷ I32 ∷ F32 ∷ []) (no_null (concrete 1) ∷ F32 ∷ [])
+new_takes : Goes (struct_new 1) (I64 ∷ F64 ∷ I32 ∷ I32 ∷ F32 ∷ []) (no_null (exact 1) ∷ F32 ∷ [])
 new_takes = refl
 
 -- the fields in the other order, one too few, null where a field has none, and another reference
@@ -292,7 +296,7 @@ no_field : NoneHolds (struct_get 1 4 ∷ struct_get_s 1 4 ∷ struct_set 1 4 ∷
 no_field = refl
 
 -- an unknown type or field is refused in dead code too
-struct_in_dead : GoesInDead (struct_new 1) [] (Known (no_null (concrete 1)) ∷ []) × GoesInDead (struct_get 1 3) [] (Known I64 ∷ []) × GoesInDead (struct_get 1 3) (UnknownRef None ∷ []) (Known I64 ∷ []) × GoesInDead (struct_set 1 2) [] []
+struct_in_dead : GoesInDead (struct_new 1) [] (Known (no_null (exact 1)) ∷ []) × GoesInDead (struct_get 1 3) [] (Known I64 ∷ []) × GoesInDead (struct_get 1 3) (UnknownRef None ∷ []) (Known I64 ∷ []) × GoesInDead (struct_set 1 2) [] []
 struct_in_dead = (refl, refl, refl, refl)
 
 struct_of_other_known : NoneGoesInDead ((struct_new 1, Known I32 ∷ []) ∷ (struct_get 1 3, Known (null (concrete 2)) ∷ []) ∷ (struct_get 1 4, []) ∷ (struct_get 1 0, []) ∷ (struct_set 1 1, []) ∷ (struct_new_default 2, []) ∷ (struct_new 14, []) ∷ (struct_get 1 3, UnknownRef (Some Func) ∷ []) ∷ [])
@@ -346,13 +350,13 @@ array_inits = ((refl, refl), (refl, refl))
 -- ---- arrays
 
 -- the length is on top
-array_takes : Goes (array_new 7) (I32 ∷ I64 ∷ F32 ∷ []) (no_null (concrete 7) ∷ F32 ∷ [])
+array_takes : Goes (array_new 7) (I32 ∷ I64 ∷ F32 ∷ []) (no_null (exact 7) ∷ F32 ∷ [])
 array_takes = refl
 
 array_refused : NoneGoes ((array_new 7, I64 ∷ I32 ∷ []) ∷ (array_new 7, I32 ∷ []) ∷ (array_new 7, I64 ∷ I64 ∷ []) ∷ (array_new_default 7, I64 ∷ []) ∷ (array_new_default 7, []) ∷ (array_new_fixed 7 2, I64 ∷ []) ∷ (array_new_fixed 7 2, I32 ∷ I64 ∷ []) ∷ (array_new_data 7 0, I32 ∷ []) ∷ (array_new_elem 8 0, I32 ∷ I64 ∷ []) ∷ [])
 array_refused = refl
 
-fixed_takes : Goes (array_new_fixed 8 2) (no_null eq ∷ null any ∷ null any ∷ []) (no_null (concrete 8) ∷ null any ∷ []) × Goes (array_new_fixed 8 0) (I32 ∷ []) (no_null (concrete 8) ∷ I32 ∷ [])
+fixed_takes : Goes (array_new_fixed 8 2) (no_null eq ∷ null any ∷ null any ∷ []) (no_null (exact 8) ∷ null any ∷ []) × Goes (array_new_fixed 8 0) (I32 ∷ []) (no_null (exact 8) ∷ I32 ∷ [])
 fixed_takes = (refl, refl)
 
 -- numbers and vectors are read from data, and no references; there is no third segment
@@ -411,7 +415,7 @@ no_array = refl
 of_other_kind : NoneHolds (array_new 0 ∷ array_new 1 ∷ array_new_default 1 ∷ array_new_fixed 1 0 ∷ array_new_data 1 0 ∷ array_new_elem 1 0 ∷ array_get 1 ∷ array_get_s 1 ∷ array_set 1 ∷ array_fill 1 ∷ array_copy 1 5 ∷ array_copy 5 1 ∷ array_init_data 1 0 ∷ array_init_elem 0 0 ∷ [])
 of_other_kind = refl
 
-array_in_dead : GoesInDead (array_new 7) [] (Known (no_null (concrete 7)) ∷ []) × GoesInDead (array_get 7) (Known I32 ∷ []) (Known I64 ∷ []) × GoesInDead (array_copy 7 11) (Known I32 ∷ Known I32 ∷ UnknownRef None ∷ []) []
+array_in_dead : GoesInDead (array_new 7) [] (Known (no_null (exact 7)) ∷ []) × GoesInDead (array_get 7) (Known I32 ∷ []) (Known I64 ∷ []) × GoesInDead (array_copy 7 11) (Known I32 ∷ Known I32 ∷ UnknownRef None ∷ []) []
 array_in_dead = (refl, refl, refl)
 
 array_of_other_known : NoneGoesInDead ((array_new 7, Known I64 ∷ []) ∷ (array_get 7, Known I32 ∷ Known (null (concrete 8)) ∷ []) ∷ (array_copy 5 6, []) ∷ (array_set 11, []) ∷ (array_get 5, []) ∷ (array_new_elem 7 0, []) ∷ [])

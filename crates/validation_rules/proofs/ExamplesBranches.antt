@@ -23,7 +23,7 @@ use Rattle.validation_rules.proofs.Refusals.{IsRefusedAtLast}
 
 abbrev a_type : Bool → List ValType → List ValType → SubType
 a_type shared params results =
-    record { is_final = true; supertype_idx = None; composite_type = record { inner = Func (record { params = params; results = results }); shared = shared } }
+    record { is_final = true; supertype_idx = None; composite_type = record { inner = Func (record { params = params; results = results }); shared = shared; descriptor_idx = None; describes_idx = None } }
 
 abbrev types : List SubType
 types = a_type false [] [] ∷ a_type true (I32 ∷ []) (I64 ∷ []) ∷ a_type true (I64 ∷ []) (I64 ∷ []) ∷ []

@@ -23,13 +23,13 @@ use Rattle.validation_rules.proofs.Refusals.{states_of, IsRefusedAtLast}
 
 abbrev a_type : Bool → List ValType → List ValType → SubType
 a_type shared params results =
-    record { is_final = true; supertype_idx = None; composite_type = record { inner = Func (record { params = params; results = results }); shared = shared } }
+    record { is_final = true; supertype_idx = None; composite_type = record { inner = Func (record { params = params; results = results }); shared = shared; descriptor_idx = None; describes_idx = None } }
 
 abbrev types : List SubType
 types = a_type false [] [] ∷ a_type false (I32 ∷ I64 ∷ []) (F32 ∷ []) ∷ a_type false [] (I32 ∷ []) ∷ a_type false [] (I64 ∷ []) ∷ a_type false [] (I32 ∷ I64 ∷ []) ∷ a_type true [] [] ∷ []
 
 abbrev functions : List FuncDecl
-functions = map (λ i. record { type_index = i; referenced = false }) (0 ∷ 1 ∷ 2 ∷ 3 ∷ 4 ∷ 5 ∷ 2 ∷ [])
+functions = map (λ i. record { type_index = i; referenced = false; exact = false }) (0 ∷ 1 ∷ 2 ∷ 3 ∷ 4 ∷ 5 ∷ 2 ∷ [])
 
 abbrev a_global : ValType → Bool → Bool → GlobalType
 a_global t mutable shared = record { content_type = t; mutable = mutable; shared = shared }

@@ -48,7 +48,7 @@ abbrev no_null : HeapType → ValType
 no_null h = Ref (reference false h)
 
 abbrev a_type : Option UnpackedIndex → Bool → CompositeInnerType → SubType
-a_type above shared inner = record { is_final = false; supertype_idx = above; composite_type = record { inner = inner; shared = shared } }
+a_type above shared inner = record { is_final = false; supertype_idx = above; composite_type = record { inner = inner; shared = shared; descriptor_idx = None; describes_idx = None } }
 
 abbrev to_types : List ValType → SubType
 to_types results = a_type None false (FuncInner (record { params = []; results = results }))
@@ -377,9 +377,19 @@ on_fail_named = (refl, refl, refl)
 carried_below : premises cx outer (br_on_cast 2 (any true) (i31 false) ∷ br_on_cast 2 (any true) (i31 true) ∷ br_on_cast 2 (any true) (any false) ∷ br_on_cast_fail 2 (eq true) (i31 true) ∷ br_on_cast_fail 2 (eq true) (i31 false) ∷ br_on_cast_fail 2 (any true) (i31 true) ∷ br_on_cast_fail 2 (eq false) (i31 false) ∷ []) ≡ true ∷ false ∷ false ∷ true ∷ false ∷ false ∷ true ∷ []
 carried_below = refl
 
+abbrev to_others : List Op
+to_others = br_on_cast 0 (any true) (any true) ∷ br_on_cast 0 (i31 true) (i31 false) ∷ br_on_cast 0 (i31 true) (any true) ∷ br_on_cast 0 (any false) (i31 true) ∷ br_on_cast 0 (i31 true) (reference false (abstract StructHeap)) ∷ br_on_cast 0 (reference true (named 2)) (reference true (named 1)) ∷ br_on_cast_fail 0 (i31 true) (any true) ∷ br_on_cast_fail 0 (any false) (i31 true) ∷ []
+
 -- the type that it is cast to lies below that of the operand, in null too
-cast_below : premises cx outer (br_on_cast 0 (any true) (any true) ∷ br_on_cast 0 (i31 true) (i31 false) ∷ br_on_cast 0 (i31 true) (any true) ∷ br_on_cast 0 (any false) (i31 true) ∷ br_on_cast 0 (i31 true) (reference false (abstract StructHeap)) ∷ br_on_cast 0 (reference true (named 2)) (reference true (named 1)) ∷ br_on_cast_fail 0 (i31 true) (any true) ∷ br_on_cast_fail 0 (any false) (i31 true) ∷ []) ≡ true ∷ true ∷ false ∷ false ∷ false ∷ false ∷ false ∷ false ∷ []
+cast_below : premises casting outer to_others ≡ true ∷ true ∷ false ∷ false ∷ false ∷ false ∷ false ∷ false ∷ []
 cast_below = refl
+
+-- where references can be exact, it may be any type of the hierarchy, of the same sharedness
+cast_beside : premises cx outer to_others ≡ true ∷ true ∷ true ∷ true ∷ true ∷ true ∷ true ∷ true ∷ []
+cast_beside = refl
+
+cast_to_other_hierarchy : premises cx outer (br_on_cast_fail 0 (any true) (reference true (abstract Func)) ∷ br_on_cast_fail 0 (any true) (reference true (shared Any)) ∷ br_on_cast_fail 0 (any true) (reference true (named 3)) ∷ br_on_cast_fail 0 (any true) (reference true (named 0)) ∷ []) ≡ false ∷ false ∷ false ∷ false ∷ []
+cast_to_other_hierarchy = refl
 
 -- each of these alone: to a label without types, to one whose last type is a number, and to one that isn't there
 abbrev from_any_at : ℕ → List Op

@@ -58,7 +58,7 @@ abbrev contref : ValType
 contref = null (Abstract false ContHeap)
 
 abbrev a_type : Bool → Option UnpackedIndex → CompositeInnerType → SubType
-a_type shared above inner = record { is_final = false; supertype_idx = above; composite_type = record { inner = inner; shared = shared } }
+a_type shared above inner = record { is_final = false; supertype_idx = above; composite_type = record { inner = inner; shared = shared; descriptor_idx = None; describes_idx = None } }
 
 abbrev func : List ValType → List ValType → SubType
 func params results = a_type false None (Func (record { params = params; results = results }))
@@ -150,7 +150,7 @@ types =
 -- of tag 0 nothing is carried, and nothing given back; 1 carries an i32 and gives an i64 back; 2 and 9 give
 -- nothing back; 3, 5, 6 and 7 carry nothing
 abbrev declared : Declared
-declared = record { types = types; functions = record { type_index = 0; referenced = true } ∷ []; tables = []; memories = []; globals = []; tags = 0 ∷ 32 ∷ 33 ∷ 8 ∷ 14 ∷ 24 ∷ 26 ∷ 28 ∷ 10 ∷ 67 ∷ []; elements = []; data_count = None }
+declared = record { types = types; functions = record { type_index = 0; referenced = true; exact = false } ∷ []; tables = []; memories = []; globals = []; tags = 0 ∷ 32 ∷ 33 ∷ 8 ∷ 14 ∷ 24 ∷ 26 ∷ 28 ∷ 10 ∷ 67 ∷ []; elements = []; data_count = None }
 
 -- with these proposals on
 abbrev under : ℕ → Bool → Context

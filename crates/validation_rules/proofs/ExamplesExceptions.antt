@@ -43,7 +43,7 @@ exnref = null ExnHeap
 
 abbrev a_type : Bool → List ValType → List ValType → SubType
 a_type shared params results =
-    record { is_final = true; supertype_idx = None; composite_type = record { inner = Func (record { params = params; results = results }); shared = shared } }
+    record { is_final = true; supertype_idx = None; composite_type = record { inner = Func (record { params = params; results = results }); shared = shared; descriptor_idx = None; describes_idx = None } }
 
 -- what exceptions carry, and from 4 on what blocks take and give; 10 is shared
 abbrev types : List SubType

@@ -416,7 +416,7 @@ grows_by_other = refl
 
 abbrev a_type : CompositeInnerType → Bool → SubType
 a_type inner shared =
-    record { is_final = true; supertype_idx = None; composite_type = record { inner = inner; shared = shared } }
+    record { is_final = true; supertype_idx = None; composite_type = record { inner = inner; shared = shared; descriptor_idx = None; describes_idx = None } }
 
 abbrev array_of : StorageType → Bool → CompositeInnerType
 array_of held mutable = ArrayInner (record { 0 = record { element_type = held; mutable = mutable } })

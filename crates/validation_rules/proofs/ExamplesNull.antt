@@ -44,13 +44,13 @@ no_null h = Ref (reference false h)
 
 abbrev a_type : List ValType → List ValType → SubType
 a_type params results =
-    record { is_final = true; supertype_idx = None; composite_type = record { inner = FuncInner (record { params = params; results = results }); shared = false } }
+    record { is_final = true; supertype_idx = None; composite_type = record { inner = FuncInner (record { params = params; results = results }); shared = false; descriptor_idx = None; describes_idx = None } }
 
 abbrev types : List SubType
 types = a_type [] [] ∷ a_type (I32 ∷ []) (I64 ∷ []) ∷ a_type [] (I32 ∷ null func ∷ []) ∷ a_type [] (I32 ∷ []) ∷ a_type [] (null func ∷ I32 ∷ []) ∷ a_type [] (I32 ∷ no_null func ∷ []) ∷ a_type (I64 ∷ null func ∷ []) (I32 ∷ []) ∷ a_type [] (null func ∷ null func ∷ []) ∷ []
 
 abbrev functions : List FuncDecl
-functions = record { type_index = 0; referenced = true } ∷ record { type_index = 3; referenced = true } ∷ record { type_index = 0; referenced = false } ∷ []
+functions = record { type_index = 0; referenced = true; exact = false } ∷ record { type_index = 3; referenced = true; exact = false } ∷ record { type_index = 0; referenced = false; exact = false } ∷ []
 
 abbrev declared : Declared
 declared = record { types = types; functions = functions; tables = []; memories = []; globals = []; tags = []; elements = []; data_count = None }

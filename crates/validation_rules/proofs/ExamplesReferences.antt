@@ -32,7 +32,7 @@ a_type above shared =
     record {
       is_final = false;
       supertype_idx = supertype above;
-      composite_type = record { inner = FuncInner (record { params = []; results = [] }); shared = shared };
+      composite_type = record { inner = FuncInner (record { params = []; results = [] }); shared = shared; descriptor_idx = None; describes_idx = None };
     }
 
 abbrev types : List SubType
@@ -190,10 +190,10 @@ a_global = refl
 -- ---- a tail call, whose results may lie below those of the body, and not above
 
 abbrev a_giver : ValType → SubType
-a_giver t = record { is_final = true; supertype_idx = None; composite_type = record { inner = FuncInner (record { params = []; results = t ∷ [] }); shared = false } }
+a_giver t = record { is_final = true; supertype_idx = None; composite_type = record { inner = FuncInner (record { params = []; results = t ∷ [] }); shared = false; descriptor_idx = None; describes_idx = None } }
 
 abbrev givers : Declared
-givers = record { types = a_giver (no_null (heap Func)) ∷ a_giver (null (heap Func)) ∷ []; functions = record { type_index = 0; referenced = false } ∷ record { type_index = 1; referenced = false } ∷ []; tables = []; memories = []; globals = []; tags = []; elements = []; data_count = None }
+givers = record { types = a_giver (no_null (heap Func)) ∷ a_giver (null (heap Func)) ∷ []; functions = record { type_index = 0; referenced = false; exact = false } ∷ record { type_index = 1; referenced = false; exact = false } ∷ []; tables = []; memories = []; globals = []; tags = []; elements = []; data_count = None }
 
 abbrev calling : Context
 calling = record { of_module = context_of givers; features = record { 0 = 2097151 }; shared = false; locals = []; set_at_entry = [] }

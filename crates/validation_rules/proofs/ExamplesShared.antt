@@ -50,7 +50,7 @@ abbrev concrete : ℕ → ValType
 concrete i = null (Concrete (Id (record { index = i })))
 
 abbrev a_type : Bool → CompositeInnerType → SubType
-a_type shared inner = record { is_final = true; supertype_idx = None; composite_type = record { inner = inner; shared = shared } }
+a_type shared inner = record { is_final = true; supertype_idx = None; composite_type = record { inner = inner; shared = shared; descriptor_idx = None; describes_idx = None } }
 
 abbrev written : StorageType → FieldType
 written t = record { element_type = t; mutable = true }

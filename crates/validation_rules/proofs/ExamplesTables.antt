@@ -31,14 +31,14 @@ use Rattle.validation_rules.proofs.Refusals.{states_of}
 
 abbrev a_type : Bool → List ValType → List ValType → SubType
 a_type shared params results =
-    record { is_final = true; supertype_idx = None; composite_type = record { inner = FuncInner (record { params = params; results = results }); shared = shared } }
+    record { is_final = true; supertype_idx = None; composite_type = record { inner = FuncInner (record { params = params; results = results }); shared = shared; descriptor_idx = None; describes_idx = None } }
 
 abbrev types : List SubType
 types = a_type false [] [] ∷ a_type false (I32 ∷ I64 ∷ []) (F32 ∷ []) ∷ a_type false [] (I32 ∷ []) ∷ a_type false [] (I64 ∷ []) ∷ a_type false [] (I32 ∷ I64 ∷ []) ∷ a_type true [] [] ∷ []
 
 -- both may be referred to
 abbrev functions : List FuncDecl
-functions = map (λ i. record { type_index = i; referenced = true }) (1 ∷ 2 ∷ [])
+functions = map (λ i. record { type_index = i; referenced = true; exact = false }) (1 ∷ 2 ∷ [])
 
 abbrev func : HeapType
 func = Abstract false Func

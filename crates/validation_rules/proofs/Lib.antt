@@ -18,6 +18,7 @@ mod ExamplesNull
 mod ExamplesTables
 mod ExamplesAggregates
 mod ExamplesCasts
+mod ExamplesDescriptors
 mod ExamplesExceptions
 mod ExamplesShared
 mod ExamplesContinuations

@@ -1,5 +1,5 @@
 -- Every step keeps the state valid.
-use Rattle.std.proofs.Common.{◌≡◌, ℕ, zero, suc, pred, Bool, true, false, not, ◌&&◌, ◌||◌, List, [], ◌∷◌, ◌++◌, length, map, drop, Option, Some, None, refl, sym, ap, ◌∙◌, if◌then◌else◌, subst, slice_get, is_some, unwrap_or}
+use Rattle.std.proofs.Common.{◌≡◌, ℕ, zero, suc, pred, Bool, true, false, not, ◌&&◌, ◌||◌, List, [], ◌∷◌, ◌++◌, length, map, drop, Option, Some, None, refl, sym, ap, ◌∙◌, if◌then◌else◌, subst, slice_get, is_some, is_none, unwrap_or}
 use Rattle.std.specs.List.{AllByRecursion, list_all}
 use Rattle.std.specs.Option.{option_map}
 use Rattle.std.specs.Option.{option_and_then}
@@ -12,15 +12,16 @@ use Rattle.validate_types.specs.declared.refs.RefType.{RefType}
 use Rattle.validate_types.specs.declared.heap.AbstractHeapType.{AbstractHeapType}
 use Rattle.validate_types.specs.declared.heap.AbstractHeapType.TheVariants.{Any, Extern, I31, Array as AnyArray}
 use Rattle.validate_types.specs.declared.heap.HeapType.{HeapType}
-use Rattle.validate_types.specs.declared.heap.HeapType.TheVariants.{Concrete}
+use Rattle.validate_types.specs.declared.heap.HeapType.TheVariants.{Concrete, Exact}
+use Rattle.validate_types.specs.declared.heap.UnpackedIndex.{UnpackedIndex}
 use Rattle.validate_types.specs.declared.heap.UnpackedIndex.TheVariants.{Module}
 use Rattle.validate_types.specs.declared.types.CompositeInnerType.{CompositeInnerType}
 use Rattle.validate_types.specs.declared.types.CompositeInnerType.TheVariants.{Func as FuncKind, Array as ArrayKind, Struct as StructKind, Cont as ContKind}
 use Rattle.validate_types.specs.declared.types.FieldType.{FieldType}
-use Rattle.validate_types.specs.Refs.{nullable_reference, non_null_reference, reference_to, difference, without_null}
+use Rattle.validate_types.specs.Refs.{nullable_reference, non_null_reference, reference_to, difference, without_null, is_exact}
 use Rattle.validate_types.specs.Types.{unpacked_type, unpacked_fields}
 use Rattle.std.proofs.lemmas.Option.{slice_get-map}
-use Rattle.validate_resources.specs.Context.{IsLawful, IsValidType, Valid, is_valid_heap, is_number_or_vector, signature_of, inner_fields}
+use Rattle.validate_resources.specs.Context.{IsLawful, IsValidType, Valid, is_valid_index, is_valid_heap, is_number_or_vector, signature_of, descriptor_of, inner_fields}
 use Rattle.validate_visit.specs.Numbers.{number_type, integer_type, float_type, packed_type, access_type}
 use Rattle.validate_visit.specs.declared.memory.AtomicAccess.{AtomicAccess}
 use Rattle.validate_visit.specs.declared.memory.AtomicAccess.TheVariants.{Whole, Packed}
@@ -43,12 +44,12 @@ use Rattle.validate_visit.specs.declared.op.MemoryOp.TheVariants.{Load, LoadPack
 use Rattle.validate_visit.specs.declared.op.AtomicOp.{AtomicOp}
 use Rattle.validate_visit.specs.declared.op.AtomicOp.TheVariants.{AtomicNotify, AtomicWait, AtomicFence, AtomicLoad, AtomicStore, AtomicRmw, AtomicCmpxchg, Pause}
 use Rattle.validate_visit.specs.declared.op.ReferenceOp.{ReferenceOp}
-use Rattle.validate_visit.specs.declared.op.ReferenceOp.TheVariants.{RefNull, RefIsNull, RefFunc, RefAsNonNull, BrOnNull, BrOnNonNull, RefEq, RefTestNonNull, RefTestNullable, RefCastNonNull, RefCastNullable, BrOnCast, BrOnCastFail, RefI31, I31Get, AnyConvertExtern, ExternConvertAny}
+use Rattle.validate_visit.specs.declared.op.ReferenceOp.TheVariants.{RefNull, RefIsNull, RefFunc, RefAsNonNull, BrOnNull, BrOnNonNull, RefEq, RefTestNonNull, RefTestNullable, RefCastNonNull, RefCastNullable, BrOnCast, BrOnCastFail, RefGetDesc, RefCastDescEqNonNull, RefCastDescEqNullable, BrOnCastDescEq, BrOnCastDescEqFail, RefI31, I31Get, AnyConvertExtern, ExternConvertAny}
 use Rattle.validate_visit.specs.declared.op.TableOp.{TableOp}
 use Rattle.validate_visit.specs.declared.op.TableOp.TheVariants.{TableGet, TableSet, TableGrow, TableSize, TableFill, TableInit, ElemDrop, TableCopy}
 use Rattle.validate_visit.specs.declared.op.FieldIndex.{FieldIndex}
 use Rattle.validate_visit.specs.declared.op.StructOp.{StructOp}
-use Rattle.validate_visit.specs.declared.op.StructOp.TheVariants.{StructNew, StructNewDefault, StructGet, StructGetPacked, StructSet}
+use Rattle.validate_visit.specs.declared.op.StructOp.TheVariants.{StructNew, StructNewDefault, StructNewDesc, StructNewDefaultDesc, StructGet, StructGetPacked, StructSet}
 use Rattle.validate_visit.specs.declared.op.ArrayOp.{ArrayOp}
 use Rattle.validate_visit.specs.declared.op.ArrayOp.TheVariants.{ArrayNew, ArrayNewDefault, ArrayNewFixed, ArrayNewData, ArrayNewElem, ArrayGet, ArrayGetPacked, ArraySet, ArrayLen, ArrayFill, ArrayCopy, ArrayInitData, ArrayInitElem}
 use Rattle.validate_visit.specs.declared.op.BranchCast.{BranchCast}
@@ -61,7 +62,9 @@ use Rattle.validation_rules.specs.Indirect.{type_reference, function_place, func
 use Rattle.validation_rules.specs.References.{operand_without_null, null_test_pushes, non_null_pushes, br_on_null_row, last_reference, br_on_non_null_row_for, br_on_non_null_row, null_heap, is_null_gate_open, reference_row}
 use Rattle.validation_rules.specs.Tables.{accessible_table, table_type, table_init_row_for, table_copy_row_for, table_row}
 use Rattle.validation_rules.specs.Found.{found_pushes, measure_row, converted_operand, ref_eq_pushes}
-use Rattle.validation_rules.specs.Casts.{CastTypes, checked_ref, is_castable, castable_type, cast_type, may_cast, checked_cast, split_last, cast_branch_row_for, cast_branch_row, types_on_cast, types_on_cast_fail}
+use Rattle.validation_rules.specs.Casts.{CastTypes, checked_ref, is_castable, castable_type, cast_type, cast_operand, may_cast, checked_cast, split_last, cast_branch_row_for, cast_branch_row, types_on_cast, types_on_cast_fail}
+use Rattle.validation_rules.specs.Exact.{has_exact_types, declared_heap, allocated_reference}
+use Rattle.validation_rules.specs.Descriptors.{descriptor_at, descriptor_in, get_desc_pushes, ref_get_desc_row, fit_under, tested_pushes, is_cast_descriptor, ref_cast_desc_eq_row, descriptor_branch_row_for, descriptor_branch_row, cast_desc_eq_branch_row}
 use Rattle.validation_rules.specs.Structs.{struct_fields, accessible_struct, struct_type, struct_field, field_value, is_packed_field, is_whole_field, struct_row}
 use Rattle.validation_rules.specs.Arrays.{array_element, accessible_array, array_type, is_read_from_data, is_read_from_elements, may_be_copied, array_copy_row_for, array_row}
 use Rattle.validation_rules.specs.Fits.{MaybeType, Bottom, UnknownRef, Known, fits}
@@ -474,6 +477,9 @@ module _ (cx : Context) (laws : IsLawful cx.of_module) where
   by_lookup_valid None row h = plain_valid _ None None [] [] false (λ p. tt)
   by_lookup_valid (Some t) row h = h t refl
 
+  pub lookups_valid : {A B : Type 0} (o : Option A) (p : Option B) (row : A → B → Row) → ((a : A) (b : B) → o ≡ Some a → p ≡ Some b → PushesValid cx (row_operator (row a b))) → PushesValid cx (row_operator (lookups_row o p row))
+  lookups_valid o p row h = by_lookup_valid o (λ a. lookup_row p (row a)) (λ a e. by_lookup_valid p (row a) (λ b k. h a b e k))
+
   -- the types of addresses are numbers
   index_valid : (m : ℕ) (t : ValType) → memory_address_type cx.of_module m ≡ Some t → Valid cx.of_module t
   index_valid m t e = by (cx.of_module.memory_at m) refl e
@@ -626,7 +632,7 @@ module _ (cx : Context) (laws : IsLawful cx.of_module) where
   checked_cast_valid cast p e =
       let a = and_then_given (checked_ref cx cast.from_ref_type) _ p e in
       let b = and_then_given (checked_ref cx cast.to_ref_type) _ p a.2 in
-      let g = guard_some (may_cast cx.of_module a.0 b.0) _ _ b.2 in
+      let g = guard_some (may_cast cx a.0 b.0) _ _ b.2 in
       subst (λ (q : RefType × RefType). Valid cx.of_module (Ref q.0) × Valid cx.of_module (Ref q.1)) (some_injective _ _ g.1) (checked_ref_valid _ a.0 a.1, checked_ref_valid _ b.0 b.1)
 
   pub but_last_valid : (ts : List ValType) (p : List ValType × ValType) → AllByRecursion (Valid cx.of_module) ts → split_last ts ≡ Some p → AllByRecursion (Valid cx.of_module) p.0
@@ -660,10 +666,63 @@ module _ (cx : Context) (laws : IsLawful cx.of_module) where
           let c = checked_cast_valid cast p k in
           there hs xs pushed (types p) (keeps p c.0 c.1) v _ refl g
 
+  -- ---- descriptors
+
+  -- a type of the module is valid, exact or not, where its index is
+  pub declared_valid : (exact : Bool) (u : UnpackedIndex) → is_valid_index cx.of_module u ≡ true → is_valid_heap cx.of_module (declared_heap exact u) ≡ true
+  declared_valid true u v = v
+  declared_valid false u v = v
+
+  pub descriptor_valid : (i : ℕ) (d : UnpackedIndex) → descriptor_at cx.of_module i ≡ Some d → is_valid_index cx.of_module d ≡ true
+  descriptor_valid i d e =
+      let s = and_then_given (cx.of_module.type_at i) descriptor_of d e in
+      ((laws.types i s.0 s.1).descriptor d s.2).valid
+
+  get_desc_pushes_valid : (t : ValType) (h : HeapType) (d : UnpackedIndex) → is_valid_index cx.of_module d ≡ true → (xs pushed : List MaybeType) → Operands xs → get_desc_pushes cx t h d xs ≡ Some pushed → Operands pushed
+  get_desc_pushes_valid t h d w (x ∷ []) pushed v e = subst Operands (some_injective _ _ (guard_some (fits cx x t) _ _ e).1) (declared_valid _ d w, tt)
+  get_desc_pushes_valid t h d w [] pushed v e = absurd cc
+  get_desc_pushes_valid t h d w (x ∷ y ∷ xs) pushed v e = absurd cc
+
+  get_desc_valid : (i : ℕ) → PushesValid cx (row_operator (ref_get_desc_row cx i))
+  get_desc_valid i =
+      by_lookup_valid (descriptor_at cx.of_module i) _
+      (λ d e. lookups_valid (type_reference cx nullable_reference i) (cx.of_module.canonical_heap (Exact (Module i))) _
+      (λ t h a b. looks_valid true 1 (get_desc_pushes cx t h d) (get_desc_pushes_valid t h d (descriptor_valid i d e))))
+
+  tested_pushes_valid : (test : MaybeType → Bool) (wanted push : List ValType) → AllByRecursion (Valid cx.of_module) push → (xs pushed : List MaybeType) → tested_pushes cx test wanted push xs ≡ Some pushed → Operands pushed
+  tested_pushes_valid test wanted push v xs pushed e = subst Operands (some_injective _ _ (guard_some (fit_under cx test wanted xs) _ _ e).1) (all_known cx.of_module push v)
+
+  cast_desc_eq_valid : (nullable : Bool) (h : HeapType) → PushesValid cx (row_operator (ref_cast_desc_eq_row cx nullable h))
+  cast_desc_eq_valid nullable h =
+      lookups_valid (descriptor_in cx.of_module h) (cast_type cx nullable h) _
+      (λ d r e k. looks_valid true 2 (tested_pushes cx (is_cast_descriptor cx (is_exact h) d) (cast_operand cx.of_module r ∷ []) (Ref r ∷ []))
+      (λ xs pushed v g. tested_pushes_valid (is_cast_descriptor cx (is_exact h) d) (cast_operand cx.of_module r ∷ []) (Ref r ∷ []) (cast_type_valid nullable h r k, tt) xs pushed g))
+
+  descriptor_branch_valid : (types : RefType × RefType → CastTypes) → ((p : RefType × RefType) → Valid cx.of_module (Ref p.0) → Valid cx.of_module (Ref p.1) → Valid cx.of_module (Ref (types p).left)) → (cast : BranchCast) → PushesValid cx (staying_operator (λ hs. cast_desc_eq_branch_row cx hs types cast))
+  descriptor_branch_valid types keeps cast =
+      record {
+        pushed = λ hs xs pushed p v f g. by hs xs pushed (label_at_valid hs cast.relative_depth v) (descriptor_in cx.of_module cast.to_ref_type.heap_type) (checked_cast cx cast) refl g;
+        opened = λ hs k p e. absurd cc;
+        begun = λ hs all types p e. absurd cc;
+      }
+    where
+      there : (hs : List Head) (xs pushed : List MaybeType) (test : MaybeType → Bool) (t : CastTypes) → Valid cx.of_module (Ref t.left) → AllByRecursion (Valid cx.of_module) (label_types_at cx hs cast.relative_depth) → (o : Option (List ValType × ValType)) → guard (has_label hs cast.relative_depth) (split_last (label_types_at cx hs cast.relative_depth)) ≡ o → pushed_for cx (lookup_row o (descriptor_branch_row_for cx test cast.relative_depth t)).type xs ≡ Some pushed → Operands pushed
+      there hs xs pushed test t w v None k g = nothing_pushed pushed _ g
+      there hs xs pushed test t w v (Some p) k g =
+          let e = (guard_some (has_label hs cast.relative_depth) _ _ k).1 in
+          tested_pushes_valid test (p.0 ++ Ref t.from ∷ []) (p.0 ++ Ref t.left ∷ []) (one_more_valid p.0 (Ref t.left) (but_last_valid _ p v e) w) xs pushed g
+
+      by : (hs : List Head) (xs pushed : List MaybeType) → AllByRecursion (Valid cx.of_module) (label_types_at cx hs cast.relative_depth) → (d : Option UnpackedIndex) (o : Option (RefType × RefType)) → checked_cast cx cast ≡ o → pushed_for cx (lookups_row d o (λ u p. descriptor_branch_row cx hs (is_cast_descriptor cx (is_exact cast.to_ref_type.heap_type) u) cast.relative_depth (types p))).type xs ≡ Some pushed → Operands pushed
+      by hs xs pushed v None o k g = nothing_pushed pushed _ g
+      by hs xs pushed v (Some d) None k g = nothing_pushed pushed _ g
+      by hs xs pushed v (Some d) (Some p) k g =
+          let c = checked_cast_valid cast p k in
+          there hs xs pushed (is_cast_descriptor cx (is_exact cast.to_ref_type.heap_type) d) (types p) (keeps p c.0 c.1) v _ refl g
+
   pub reference_valid : (op : ReferenceOp) → PushesValid cx (staying_operator (λ hs. reference_row cx hs op))
   reference_valid (RefNull h) = null_valid h
   reference_valid RefIsNull = looks_valid _ 1 null_test_pushes is_null_valid
-  reference_valid (RefFunc f) = by_lookup_valid (cx.of_module.type_id_of f) _ (λ id e. plain_valid _ _ _ _ _ _ (λ p. (laws.functions f id e, tt)))
+  reference_valid (RefFunc f) = by_lookup_valid (cx.of_module.type_id_of f) _ (λ id e. plain_valid _ _ _ _ _ _ (λ p. (declared_valid _ _ (laws.functions f id e), tt)))
   reference_valid RefAsNonNull = looks_valid _ 1 (non_null_pushes cx []) (non_null_above_valid [] tt)
   reference_valid (BrOnNull d) = br_on_null_valid d
   reference_valid (BrOnNonNull d) = br_on_non_null_valid d
@@ -674,6 +733,11 @@ module _ (cx : Context) (laws : IsLawful cx.of_module) where
   reference_valid (RefCastNullable h) = by_lookup_valid (cast_type cx true h) _ (λ r e. plain_valid _ _ _ _ _ _ (λ p. (cast_type_valid true h r e, tt)))
   reference_valid (BrOnCast cast) = cast_branch_valid types_on_cast (λ p v w. difference_valid p.0 p.1 v) cast
   reference_valid (BrOnCastFail cast) = cast_branch_valid types_on_cast_fail (λ p v w. w) cast
+  reference_valid (RefGetDesc i) = get_desc_valid i
+  reference_valid (RefCastDescEqNonNull h) = cast_desc_eq_valid false h
+  reference_valid (RefCastDescEqNullable h) = cast_desc_eq_valid true h
+  reference_valid (BrOnCastDescEq cast) = descriptor_branch_valid types_on_cast (λ p v w. difference_valid p.0 p.1 v) cast
+  reference_valid (BrOnCastDescEqFail cast) = descriptor_branch_valid types_on_cast_fail (λ p v w. w) cast
   reference_valid RefI31 = plain_valid _ _ _ _ _ _ (λ p. (refl, tt))
   reference_valid (I31Get sign) = measure_valid I31
   reference_valid AnyConvertExtern = looks_valid _ 1 (found_pushes cx.of_module Extern (converted_operand cx.of_module Any)) (found_pushes_valid Extern (converted_operand cx.of_module Any) (converted_valid Any))
@@ -702,9 +766,6 @@ module _ (cx : Context) (laws : IsLawful cx.of_module) where
 
   -- ---- structs and arrays
 
-  pub lookups_valid : {A B : Type 0} (o : Option A) (p : Option B) (row : A → B → Row) → ((a : A) (b : B) → o ≡ Some a → p ≡ Some b → PushesValid cx (row_operator (row a b))) → PushesValid cx (row_operator (lookups_row o p row))
-  lookups_valid o p row h = by_lookup_valid o (λ a. lookup_row p (row a)) (λ a e. by_lookup_valid p (row a) (λ b k. h a b e k))
-
   type_reference_valid : (made : HeapType → RefType) → ((h : HeapType) → (made h).heap_type ≡ h) → (i : ℕ) (t : ValType) → type_reference cx made i ≡ Some t → Valid cx.of_module t
   type_reference_valid made same i t e =
       let m = mapped_some (λ h. Ref (made h)) (cx.of_module.canonical_heap (Concrete (Module i))) t e in
@@ -712,6 +773,12 @@ module _ (cx : Context) (laws : IsLawful cx.of_module) where
 
   pub made_valid : (i : ℕ) (t : ValType) → type_reference cx non_null_reference i ≡ Some t → Valid cx.of_module t
   made_valid i t e = type_reference_valid non_null_reference (λ h. refl) i t e
+
+  -- what is allocated
+  pub allocated_valid : (i : ℕ) (t : ValType) → allocated_reference cx i ≡ Some t → Valid cx.of_module t
+  allocated_valid i t e =
+      let m = mapped_some (λ h. Ref (non_null_reference h)) (cx.of_module.canonical_heap (declared_heap (has_exact_types cx) (Module i))) t e in
+      subst (Valid cx.of_module) m.2 (laws.checked_heap _ m.0 m.1)
 
   pub struct_inner : (inner : CompositeInnerType) (fields : List FieldType) → struct_fields inner ≡ Some fields → inner_fields inner ≡ fields
   struct_inner (StructKind fs) fields e = some_injective _ _ e
@@ -751,8 +818,12 @@ module _ (cx : Context) (laws : IsLawful cx.of_module) where
   struct_reference index = type_reference cx nullable_reference index.struct_type_index
 
   -- a row that makes a reference of this type
-  made_pushed : {A : Type 0} (o : Option A) (i : ℕ) (premise : A → Bool) (wanted : A → List ValType) → PushesValid cx (row_operator (lookups_row o (type_reference cx non_null_reference i) (λ a t. plain_row_if (premise a) (wanted a) (t ∷ []))))
-  made_pushed o i premise wanted = lookups_valid o (type_reference cx non_null_reference i) (λ a t. plain_row_if (premise a) (wanted a) (t ∷ [])) (λ a t e k. plain_valid _ _ _ _ (t ∷ []) _ (λ p. (made_valid i t k, tt)))
+  made_pushed : {A : Type 0} (o : Option A) (i : ℕ) (premise : A → Bool) (wanted : A → List ValType) → PushesValid cx (row_operator (lookups_row o (allocated_reference cx i) (λ a t. plain_row_if (premise a) (wanted a) (t ∷ []))))
+  made_pushed o i premise wanted = lookups_valid o (allocated_reference cx i) (λ a t. plain_row_if (premise a) (wanted a) (t ∷ [])) (λ a t e k. plain_valid _ _ _ _ (t ∷ []) _ (λ p. (allocated_valid i t k, tt)))
+
+  -- a struct of this type, where it has no descriptor
+  abbrev undescribed : ℕ → Option (List FieldType)
+  undescribed i = guard (is_none (descriptor_at cx.of_module i)) (struct_type cx i)
 
   -- a row that reads a field
   value_pushed : (o : Option FieldType) (p : Option ValType) (premise : FieldType → Bool) (wanted : ValType → List ValType) → ((f : FieldType) → o ≡ Some f → Valid cx.of_module (field_value f)) → PushesValid cx (row_operator (lookups_row o p (λ f t. plain_row_if (premise f) (wanted t) (field_value f ∷ []))))
@@ -763,8 +834,10 @@ module _ (cx : Context) (laws : IsLawful cx.of_module) where
   nothing_left o p premise wanted = lookups_valid o p (λ f t. plain_row_if (premise f) (wanted f t) []) (λ f t e k. plain_valid _ _ _ _ [] _ (λ q. tt))
 
   pub struct_valid : (op : StructOp) → PushesValid cx (row_operator (struct_row cx op))
-  struct_valid (StructNew i) = made_pushed (struct_type cx i) i _ _
-  struct_valid (StructNewDefault i) = made_pushed (struct_type cx i) i _ _
+  struct_valid (StructNew i) = made_pushed (undescribed i) i _ _
+  struct_valid (StructNewDefault i) = made_pushed (undescribed i) i _ _
+  struct_valid (StructNewDesc i) = by_lookup_valid (descriptor_at cx.of_module i) _ (λ d e. made_pushed (struct_type cx i) i _ _)
+  struct_valid (StructNewDefaultDesc i) = by_lookup_valid (descriptor_at cx.of_module i) _ (λ d e. made_pushed (struct_type cx i) i _ _)
   struct_valid (StructGet index) = value_pushed (struct_field cx index) (struct_reference index) is_whole_field (λ t. t ∷ []) (field_valid index)
   struct_valid (StructGetPacked sign index) = value_pushed (struct_field cx index) (struct_reference index) is_packed_field (λ t. t ∷ []) (field_valid index)
   struct_valid (StructSet index) = nothing_left (struct_field cx index) (struct_reference index) (λ f. f.mutable) (λ f t. t ∷ field_value f ∷ [])

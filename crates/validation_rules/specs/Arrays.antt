@@ -3,10 +3,9 @@
 use Rattle.std.specs.Prelude.{ℕ, Bool, true, false, ◌&&◌, [], ◌∷◌, Option, Some, None, replicate}
 use Rattle.std.specs.Option.{option_and_then}
 use Rattle.validate_resources.specs.Context.{is_number_or_vector}
-use Rattle.validate_types.specs.Refs.{nullable_reference, non_null_reference}
+use Rattle.validate_types.specs.Refs.{nullable_reference}
 use Rattle.validate_types.specs.Types.{is_defaultable}
 use Rattle.validate_types.specs.declared.heap.AbstractHeapType.TheVariants.{Array as AnyArray}
-use Rattle.validate_types.specs.declared.heap.HeapType.{HeapType}
 use Rattle.validate_types.specs.declared.refs.RefType.{RefType}
 use Rattle.validate_types.specs.declared.types.CompositeInnerType.{CompositeInnerType}
 use Rattle.validate_types.specs.declared.types.CompositeInnerType.TheVariants.{Array}
@@ -22,6 +21,7 @@ use Rattle.validate_visit.specs.declared.op.ArrayOp.TheVariants.{ArrayInitElem}
 use Rattle.validation_rules.specs.Calls.{may_access}
 use Rattle.validation_rules.specs.Context.{ModuleContext, SubType, ValType, I32, Ref, Context}
 use Rattle.validation_rules.specs.Found.{measure_row}
+use Rattle.validation_rules.specs.Exact.{allocated_reference}
 use Rattle.validation_rules.specs.Indirect.{type_reference}
 use Rattle.validation_rules.specs.Memories.{is_segment}
 use Rattle.validation_rules.specs.Rows.{Row, guard}
@@ -45,25 +45,28 @@ array_type cx i = option_and_then (accessible_array cx) (cx.of_module.type_at i)
 
 -- ---- rows
 
--- a row for what each place of an array holds, and a reference to the array
-abbrev pub array_row_for : Context → (HeapType → RefType) → ℕ → (FieldType → ValType → Row) → Row
-array_row_for cx reference_to_heap i row =
-    lookups_row (array_type cx i) (type_reference cx reference_to_heap i) row
+-- a row for what each place of an array holds, and a reference to the array that is made
+abbrev pub array_made_row : Context → ℕ → (FieldType → ValType → Row) → Row
+array_made_row cx i row = lookups_row (array_type cx i) (allocated_reference cx i) row
+
+-- the same of one that is there, or null
+abbrev pub array_row_for : Context → ℕ → (FieldType → ValType → Row) → Row
+array_row_for cx i row = lookups_row (array_type cx i) (type_reference cx nullable_reference i) row
 
 -- one value for all places, and so many
 abbrev pub array_new_row : Context → ℕ → Row
 array_new_row cx i =
-    array_row_for cx non_null_reference i (λ f t. plain_row (field_value f ∷ I32 ∷ []) (t ∷ []))
+    array_made_row cx i (λ f t. plain_row (field_value f ∷ I32 ∷ []) (t ∷ []))
 
 abbrev pub array_new_default_row : Context → ℕ → Row
 array_new_default_row cx i =
-    array_row_for cx non_null_reference i
+    array_made_row cx i
     (λ f t. plain_row_if (is_defaultable (field_value f)) (I32 ∷ []) (t ∷ []))
 
 -- a value for each of so many places
 abbrev pub array_new_fixed_row : Context → ℕ → ℕ → Row
 array_new_fixed_row cx i n =
-    array_row_for cx non_null_reference i (λ f t. plain_row (replicate n (field_value f)) (t ∷ []))
+    array_made_row cx i (λ f t. plain_row (replicate n (field_value f)) (t ∷ []))
 
 -- the data segment is there, and what it holds can be read as values of this type
 abbrev pub is_read_from_data : ModuleContext → ℕ → FieldType → Bool
@@ -72,7 +75,7 @@ is_read_from_data md segment f = is_number_or_vector (field_value f) && is_segme
 -- from a place of the data segment, so many
 abbrev pub array_new_data_row : Context → ℕ → ℕ → Row
 array_new_data_row cx i segment =
-    array_row_for cx non_null_reference i
+    array_made_row cx i
     (λ f t. plain_row_if (is_read_from_data cx.of_module segment f) (I32 ∷ I32 ∷ []) (t ∷ []))
 
 -- elements of this type, if there are any, can be put into such a place
@@ -87,24 +90,24 @@ is_read_from_elements md segment f = may_hold md f (md.element_at segment)
 -- from a place of the element segment, so many
 abbrev pub array_new_elem_row : Context → ℕ → ℕ → Row
 array_new_elem_row cx i segment =
-    array_row_for cx non_null_reference i
+    array_made_row cx i
     (λ f t. plain_row_if (is_read_from_elements cx.of_module segment f) (I32 ∷ I32 ∷ []) (t ∷ []))
 
 -- reads a place, where the test of what it holds passes
 abbrev pub array_read_row : Context → (FieldType → Bool) → ℕ → Row
 array_read_row cx test i =
-    array_row_for cx nullable_reference i
+    array_row_for cx i
     (λ f t. plain_row_if (test f) (t ∷ I32 ∷ []) (field_value f ∷ []))
 
 abbrev pub array_set_row : Context → ℕ → Row
 array_set_row cx i =
-    array_row_for cx nullable_reference i
+    array_row_for cx i
     (λ f t. plain_row_if f.mutable (t ∷ I32 ∷ field_value f ∷ []) [])
 
 -- from this place on, with this value, so many
 abbrev pub array_fill_row : Context → ℕ → Row
 array_fill_row cx i =
-    array_row_for cx nullable_reference i
+    array_row_for cx i
     (λ f t. plain_row_if f.mutable (t ∷ I32 ∷ field_value f ∷ I32 ∷ []) [])
 
 -- what is held can be put into places of this storage type (Specification, "Matching: Field Types")
@@ -117,24 +120,24 @@ may_be_copied md _ _ = false
 -- to a place, from a place, so many
 abbrev pub array_copy_row_for : Context → ℕ → FieldType → ValType → Row
 array_copy_row_for cx src to d =
-    array_row_for cx nullable_reference src
+    array_row_for cx src
     (λ from s. plain_row_if (to.mutable && may_be_copied cx.of_module from.element_type to.element_type)
     (d ∷ I32 ∷ s ∷ I32 ∷ I32 ∷ []) [])
 
 abbrev pub array_copy_row : Context → ℕ → ℕ → Row
-array_copy_row cx dst src = array_row_for cx nullable_reference dst (array_copy_row_for cx src)
+array_copy_row cx dst src = array_row_for cx dst (array_copy_row_for cx src)
 
 -- to a place of the array, from one of the data segment, so many
 abbrev pub array_init_data_row : Context → ℕ → ℕ → Row
 array_init_data_row cx i segment =
-    array_row_for cx nullable_reference i
+    array_row_for cx i
     (λ f t. plain_row_if (f.mutable && is_read_from_data cx.of_module segment f)
     (t ∷ I32 ∷ I32 ∷ I32 ∷ []) [])
 
 -- the same from an element segment
 abbrev pub array_init_elem_row : Context → ℕ → ℕ → Row
 array_init_elem_row cx i segment =
-    array_row_for cx nullable_reference i
+    array_row_for cx i
     (λ f t. plain_row_if (f.mutable && is_read_from_elements cx.of_module segment f)
     (t ∷ I32 ∷ I32 ∷ I32 ∷ []) [])
 

@@ -1,7 +1,11 @@
 -- The rows of casts, and of branches by a cast (WebAssembly core specification, "Validation: Reference
--- Instructions" and "Control Instructions").
+-- Instructions" and "Control Instructions"; that a branch may cast to any type of the hierarchy is of a
+-- proposal, "Custom Descriptors").
 use Rattle.std.specs.Prelude.{ℕ, Bool, true, false, not, ◌&&◌, List, [], ◌∷◌, ◌++◌, Option, Some, None}
+use Rattle.std.specs.Prelude.{if◌then◌else◌}
+use Rattle.std.specs.Bool.{beq}
 use Rattle.std.specs.Option.{option_map, option_and_then}
+use Rattle.validate_types.specs.Abstract.{is_abstract_below}
 use Rattle.validate_types.specs.Features.{is_ref_enabled}
 use Rattle.validate_types.specs.Refs.{nullable_reference, reference_to, difference}
 use Rattle.validate_types.specs.declared.heap.AbstractHeapType.TheVariants.{Cont}
@@ -11,6 +15,7 @@ use Rattle.validate_types.specs.declared.refs.RefType.{RefType}
 use Rattle.validate_visit.specs.declared.op.BranchCast.{BranchCast}
 use Rattle.validation_rules.specs.Branches.{has_label, label_types_at}
 use Rattle.validation_rules.specs.Context.{ModuleContext, ValType, I32, Ref, Context}
+use Rattle.validation_rules.specs.Exact.{has_exact_types}
 use Rattle.validation_rules.specs.Rows.{Head, Row, guard}
 use Rattle.validation_rules.specs.Shapes.{plain_row, plain_row_if, lookup_row}
 
@@ -64,15 +69,28 @@ pub record CastTypes : Type 0 where
   pub carried : RefType
   pub left : RefType
 
--- the one type may be cast to the other, which lies below it and is no continuation
-abbrev pub may_cast : ModuleContext → RefType → RefType → Bool
-may_cast md from to = is_castable md to && md.below (Ref to) (Ref from)
+-- one abstract type in both places: each lies below the other
+abbrev pub is_same_top : HeapType → HeapType → Bool
+is_same_top (Abstract shared a) (Abstract shared_too b) =
+    beq shared shared_too && (is_abstract_below a b && is_abstract_below b a)
+is_same_top _ _ = false
+
+-- the other type lies below the one; where references can be exact, it is of the same hierarchy
+abbrev pub is_cast_below : Context → RefType → RefType → Bool
+is_cast_below cx from to =
+    if has_exact_types cx
+    then is_same_top (top_of cx.of_module from) (top_of cx.of_module to)
+    else cx.of_module.below (Ref to) (Ref from)
+
+-- the one type may be cast to the other, which is no continuation
+abbrev pub may_cast : Context → RefType → RefType → Bool
+may_cast cx from to = is_castable cx.of_module to && is_cast_below cx from to
 
 -- both types of a cast that may be, in canonical form
 abbrev pub checked_cast : Context → BranchCast → Option (RefType × RefType)
 checked_cast cx cast =
     option_and_then
-    (λ from. option_and_then (λ to. guard (may_cast cx.of_module from to) (Some (from, to)))
+    (λ from. option_and_then (λ to. guard (may_cast cx from to) (Some (from, to)))
     (checked_ref cx cast.to_ref_type))
     (checked_ref cx cast.from_ref_type)
 

@@ -12,8 +12,10 @@ pub mod Calls
 pub mod Memories
 pub mod Tables
 pub mod Indirect
+pub mod Exact
 pub mod Found
 pub mod Casts
+pub mod Descriptors
 pub mod References
 pub mod Structs
 pub mod Arrays

@@ -8,7 +8,7 @@ use Rattle.validate_types.specs.Refs.{fits_reference, without_null, with_null, n
 use Rattle.validate_types.specs.Refs.{non_null_reference}
 use Rattle.validate_types.specs.declared.heap.HeapType.{HeapType}
 use Rattle.validate_types.specs.declared.heap.AbstractHeapType.TheVariants.{Any, Extern, I31}
-use Rattle.validate_types.specs.declared.heap.HeapType.TheVariants.{Abstract, Concrete}
+use Rattle.validate_types.specs.declared.heap.HeapType.TheVariants.{Abstract}
 use Rattle.validate_types.specs.declared.heap.UnpackedIndex.TheVariants.{Id}
 use Rattle.validate_types.specs.declared.refs.RefType.{RefType}
 use Rattle.validate_visit.specs.declared.op.ReferenceOp.{ReferenceOp}
@@ -18,9 +18,15 @@ use Rattle.validate_visit.specs.declared.op.ReferenceOp.TheVariants.{RefEq, RefT
 use Rattle.validate_visit.specs.declared.op.ReferenceOp.TheVariants.{RefCastNonNull, RefCastNullable}
 use Rattle.validate_visit.specs.declared.op.ReferenceOp.TheVariants.{BrOnCast, BrOnCastFail, RefI31, I31Get}
 use Rattle.validate_visit.specs.declared.op.ReferenceOp.TheVariants.{AnyConvertExtern, ExternConvertAny}
+use Rattle.validate_visit.specs.declared.op.ReferenceOp.TheVariants.{RefGetDesc, RefCastDescEqNonNull}
+use Rattle.validate_visit.specs.declared.op.ReferenceOp.TheVariants.{RefCastDescEqNullable, BrOnCastDescEq}
+use Rattle.validate_visit.specs.declared.op.ReferenceOp.TheVariants.{BrOnCastDescEqFail}
 use Rattle.validation_rules.specs.Branches.{has_label, label_types_at, target}
 use Rattle.validation_rules.specs.Casts.{ref_test_row, ref_cast_row, br_on_cast_row, br_on_cast_fail_row}
 use Rattle.validation_rules.specs.Context.{ValType, I32, Ref, Context}
+use Rattle.validation_rules.specs.Descriptors.{ref_get_desc_row, ref_cast_desc_eq_row, br_on_cast_desc_eq_row}
+use Rattle.validation_rules.specs.Descriptors.{br_on_cast_desc_eq_fail_row}
+use Rattle.validation_rules.specs.Exact.{function_heap}
 use Rattle.validation_rules.specs.Fits.{MaybeType, Bottom, UnknownRef, Known, fits}
 use Rattle.validation_rules.specs.Found.{ref_eq_row, measure_row, convert_ref_row}
 use Rattle.validation_rules.specs.Rows.{Head, Row, guard}
@@ -45,7 +51,8 @@ ref_null_row cx h = lookup_row (null_heap cx h) (λ k. plain_row [] (Ref (nullab
 abbrev pub ref_func_row : Context → ℕ → Row
 ref_func_row cx f =
     lookup_row (cx.of_module.type_id_of f)
-    (λ id. plain_row_if (cx.of_module.is_referenced f) [] (Ref (non_null_reference (Concrete (Id id))) ∷ []))
+    (λ id. plain_row_if (cx.of_module.is_referenced f) []
+    (Ref (non_null_reference (function_heap cx f (Id id))) ∷ []))
 
 -- ---- what is found of a reference
 
@@ -130,6 +137,11 @@ reference_row cx hs (RefCastNonNull h) = ref_cast_row cx false h
 reference_row cx hs (RefCastNullable h) = ref_cast_row cx true h
 reference_row cx hs (BrOnCast cast) = br_on_cast_row cx hs cast
 reference_row cx hs (BrOnCastFail cast) = br_on_cast_fail_row cx hs cast
+reference_row cx hs (RefGetDesc i) = ref_get_desc_row cx i
+reference_row cx hs (RefCastDescEqNonNull h) = ref_cast_desc_eq_row cx false h
+reference_row cx hs (RefCastDescEqNullable h) = ref_cast_desc_eq_row cx true h
+reference_row cx hs (BrOnCastDescEq cast) = br_on_cast_desc_eq_row cx hs cast
+reference_row cx hs (BrOnCastDescEqFail cast) = br_on_cast_desc_eq_fail_row cx hs cast
 reference_row cx hs RefI31 = conversion_row i31 I32
 reference_row cx hs (I31Get sign) = measure_row cx I31
 reference_row cx hs AnyConvertExtern = convert_ref_row cx Extern Any

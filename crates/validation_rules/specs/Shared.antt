@@ -116,7 +116,7 @@ shared_struct_row cx access index = struct_row_for cx index (λ f t. place_row c
 
 abbrev pub shared_array_row : Context → FieldAccess → ℕ → Row
 shared_array_row cx access i =
-    array_row_for cx nullable_reference i (λ f t. place_row cx true access (t ∷ I32 ∷ []) f)
+    array_row_for cx i (λ f t. place_row cx true access (t ∷ I32 ∷ []) f)
 
 -- a reference to a shared integer of 31 bits
 abbrev pub shared_i31 : ValType

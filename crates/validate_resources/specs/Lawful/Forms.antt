@@ -1,5 +1,5 @@
 -- Proofs, which need no belief: canonical forms, and the types that are valid in a context of lists.
-use Rattle.std.specs.Prelude.{◌≡◌, ℕ, ◌+◌, ◌≤◌, Bool, List, [], ◌∷◌, true, false, ◌&&◌, map, nat_lt, nat_le}
+use Rattle.std.specs.Prelude.{◌≡◌, ℕ, ◌+◌, ◌≤◌, Bool, List, [], ◌∷◌, true, false, ◌&&◌, ◌||◌, not, map, nat_lt, nat_le}
 use Rattle.std.specs.Prelude.{length, is_some, slice_get, option_map, option_and_then, Option, Some, None, refl, if◌then◌else◌}
 use Rattle.std.specs.Bool.{beq}
 use Rattle.std.specs.List.{list_all, enumerate_from}
@@ -10,11 +10,12 @@ use Rattle.std.proofs.lemmas.Option.{slice_get_cases, slice_get-map}
 use Rattle.validate_types.specs.Heap.{number_of}
 use Rattle.validate_types.specs.declared.heap.TheConstants.PackedIndex.{LIMIT}
 use Rattle.validate_types.specs.declared.heap.HeapType.{HeapType}
-use Rattle.validate_types.specs.declared.heap.HeapType.TheVariants.{Abstract, Concrete}
+use Rattle.validate_types.specs.declared.heap.HeapType.TheVariants.{Abstract, Concrete, Exact}
 use Rattle.validate_types.specs.declared.heap.UnpackedIndex.{UnpackedIndex}
 use Rattle.validate_types.specs.declared.heap.UnpackedIndex.TheVariants.{Module, Id}
 use Rattle.validate_types.specs.declared.types.CompositeInnerType.{CompositeInnerType}
 use Rattle.validate_types.specs.declared.types.CompositeInnerType.TheVariants.{Func, Array, Struct, Cont}
+use Rattle.validate_types.specs.declared.types.CompositeType.{CompositeType}
 use Rattle.validate_types.specs.declared.types.FieldType.{FieldType}
 use Rattle.validate_types.specs.declared.types.StorageType.{StorageType}
 use Rattle.validate_types.specs.declared.types.StorageType.TheVariants.{I8, I16, Val}
@@ -23,17 +24,17 @@ use Rattle.validate_types.specs.declared.types.ValType.{ValType}
 use Rattle.validate_types.specs.declared.types.ValType.TheVariants.{I32, I64, F32, F64, V128, Ref}
 use Rattle.validate_resources.specs.declared.lists.FuncDecl.{FuncDecl}
 use Rattle.validate_resources.specs.declared.lists.TheConstants.{MAX_TYPES}
-use Rattle.validate_resources.specs.Context.{IsValidType, IsContinuation, Valid}
+use Rattle.validate_resources.specs.Context.{IsValidType, IsContinuation, Valid, is_struct, descriptor_of}
 use Rattle.validate_resources.specs.Context.{AllValid, is_valid, is_valid_index, is_valid_heap}
 use Rattle.validate_resources.specs.Context.{inner_signature, inner_fields, signature_of, inner_continuation, continued_signature}
 use Rattle.validate_types.specs.Types.{Signature, unpacked_type, unpacked_fields}
-use Rattle.validate_resources.specs.Indices.{is_known, is_id, heap_indices_pass, type_indices_pass, supertype_indices_pass}
+use Rattle.validate_resources.specs.Indices.{is_known, is_id, heap_indices_pass, type_indices_pass, option_index_passes, composite_indices_pass}
 use Rattle.validate_resources.specs.Indices.{storage_indices_pass, field_indices_pass, storage_with_id, field_with_id, inner_indices_pass, sub_indices_pass, index_with_id, heap_with_id, ref_with_id}
-use Rattle.validate_resources.specs.Indices.{type_with_id, table_with_id, global_with_id, inner_with_ids, sub_with_ids}
+use Rattle.validate_resources.specs.Indices.{type_with_id, table_with_id, global_with_id, inner_with_ids, composite_with_ids, sub_with_ids}
 use Rattle.validate_resources.specs.Order.{is_same_kind, is_same_sort, has_fitting_supertype}
 use Rattle.validate_resources.specs.Order.{have_fitting_supertypes}
 use Rattle.validate_resources.specs.Order.{is_type_below}
-use Rattle.validate_resources.specs.Lists.{Declared, context_of, is_valid_below, list_indices_pass, is_func_type, is_of_func_type, continues_function, have_func_types}
+use Rattle.validate_resources.specs.Lists.{Declared, context_of, is_valid_below, list_indices_pass, is_func_type, is_of_func_type, continues_function, have_func_types, has_fitting_descriptor}
 use Rattle.validate_resources.specs.Lists.{is_module, module_of, canonical_lists}
 
 -- ---- validity in a context of lists
@@ -52,6 +53,7 @@ index-valid d small (Id id) = id-valid d small id.index
 pub heap-valid : (d : Declared) → length d.types ≤ MAX_TYPES → (h : HeapType) → is_valid_heap (context_of d) h ≡ heap_indices_pass (is_id (length d.types)) h
 heap-valid d small (Abstract s a) = refl
 heap-valid d small (Concrete i) = index-valid d small i
+heap-valid d small (Exact i) = index-valid d small i
 
 pub type-valid : (d : Declared) → length d.types ≤ MAX_TYPES → (t : ValType) → is_valid (context_of d) t ≡ type_indices_pass (is_id (length d.types)) t
 type-valid d small I32 = refl
@@ -111,15 +113,26 @@ continuation-valid d small (Func f) h e u is = cc
 continuation-valid d small (Array a) h e u is = cc
 continuation-valid d small (Struct fields) h e u is = cc
 
-pub type-is-valid : (d : Declared) → length d.types ≤ MAX_TYPES → (s : SubType) → sub_indices_pass (is_id (length d.types)) s ≡ true → continues_function d.types s ≡ true → IsValidType (context_of d) s
-type-is-valid d small s h e =
-    let p = and_parts (supertype_indices_pass (is_id (length d.types)) s.supertype_idx) _ h in
+-- an index that a type has
+option-valid : (d : Declared) → length d.types ≤ MAX_TYPES → (o : Option UnpackedIndex) → option_index_passes (is_id (length d.types)) o ≡ true → (u : UnpackedIndex) → o ≡ Some u → is_valid_index (context_of d) u ≡ true
+option-valid d small o h u is = index-valid d small u ∙ (ap (option_index_passes (is_id (length d.types))) (sym is) ∙ h)
+
+descriptor-fits : (s : SubType) (u : UnpackedIndex) → has_fitting_descriptor s ≡ true → descriptor_of s ≡ Some u → is_struct s.composite_type.inner ≡ true
+descriptor-fits s u h is = sym (ap (λ o. not (is_some o) || is_struct s.composite_type.inner) is) ∙ h
+
+pub type-is-valid : (d : Declared) → length d.types ≤ MAX_TYPES → (s : SubType) → sub_indices_pass (is_id (length d.types)) s ≡ true → continues_function d.types s ≡ true → has_fitting_descriptor s ≡ true → IsValidType (context_of d) s
+type-is-valid d small s h e k =
+    let (super, composite) = and_parts (option_index_passes (is_id (length d.types)) s.supertype_idx) _ h in
+    let (made, described) = and_parts (inner_indices_pass (is_id (length d.types)) s.composite_type.inner && option_index_passes (is_id (length d.types)) s.composite_type.descriptor_idx) _ composite in
+    let (inner, descriptor) = and_parts (inner_indices_pass (is_id (length d.types)) s.composite_type.inner) _ made in
     record {
-      params = λ f is. (signature-valid d small s.composite_type.inner p.1 f is).0;
-      results = λ f is. (signature-valid d small s.composite_type.inner p.1 f is).1;
-      fields = inner-fields-valid d small s.composite_type.inner p.1;
-      continuation = continuation-valid d small s.composite_type.inner p.1 e;
-      supertype = λ u e. index-valid d small u ∙ (ap (supertype_indices_pass (is_id (length d.types))) (sym e) ∙ p.0);
+      params = λ f is. (signature-valid d small s.composite_type.inner inner f is).0;
+      results = λ f is. (signature-valid d small s.composite_type.inner inner f is).1;
+      fields = inner-fields-valid d small s.composite_type.inner inner;
+      continuation = continuation-valid d small s.composite_type.inner inner e;
+      supertype = option-valid d small s.supertype_idx super;
+      descriptor = λ u is. record { valid = option-valid d small s.composite_type.descriptor_idx descriptor u is; on_struct = descriptor-fits s u k is };
+      described = option-valid d small s.composite_type.describes_idx described;
     }
 
 -- of valid types the order is that of types
@@ -132,6 +145,7 @@ below-valid d small t u h k = let v = sym (type-valid d small t) ∙ h in let w 
 pub heap-ids : (n : ℕ) (h : HeapType) → heap_indices_pass (is_id n) (heap_with_id h) ≡ heap_indices_pass (is_known n) h
 heap-ids n (Abstract s a) = refl
 heap-ids n (Concrete i) = refl
+heap-ids n (Exact i) = refl
 
 pub type-ids : (n : ℕ) (t : ValType) → type_indices_pass (is_id n) (type_with_id t) ≡ type_indices_pass (is_known n) t
 type-ids n I32 = refl
@@ -147,9 +161,9 @@ all-same : {X Y : Type 0} (p : Y → Bool) (q : X → Bool) (f : X → Y) → ((
 all-same p q f same [] = refl
 all-same p q f same (x ∷ xs) = ap₂ (λ a b. a && b) (same x) (all-same p q f same xs)
 
-supertype-ids : (n : ℕ) (o : Option UnpackedIndex) → supertype_indices_pass (is_id n) (option_map index_with_id o) ≡ supertype_indices_pass (is_known n) o
-supertype-ids n None = refl
-supertype-ids n (Some i) = refl
+option-ids : (n : ℕ) (o : Option UnpackedIndex) → option_index_passes (is_id n) (option_map index_with_id o) ≡ option_index_passes (is_known n) o
+option-ids n None = refl
+option-ids n (Some i) = refl
 
 storage-ids : (n : ℕ) (t : StorageType) → storage_indices_pass (is_id n) (storage_with_id t) ≡ storage_indices_pass (is_known n) t
 storage-ids n I8 = refl
@@ -162,8 +176,12 @@ inner-ids n (Array a) = storage-ids n a.0.element_type
 inner-ids n (Struct fields) = all-same _ _ field_with_id (λ f. storage-ids n f.element_type) fields
 inner-ids n (Cont c) = refl
 
+composite-ids : (n : ℕ) (c : CompositeType) → composite_indices_pass (is_id n) (composite_with_ids c) ≡ composite_indices_pass (is_known n) c
+composite-ids n c =
+    ap₂ (λ a b. a && b) (ap₂ (λ a b. a && b) (inner-ids n c.inner) (option-ids n c.descriptor_idx)) (option-ids n c.describes_idx)
+
 sub-ids : (n : ℕ) (s : SubType) → sub_indices_pass (is_id n) (sub_with_ids s) ≡ sub_indices_pass (is_known n) s
-sub-ids n s = ap₂ (λ a b. a && b) (supertype-ids n s.supertype_idx) (inner-ids n s.composite_type.inner)
+sub-ids n s = ap₂ (λ a b. a && b) (option-ids n s.supertype_idx) (composite-ids n s.composite_type)
 
 kinds-same : (a b : CompositeInnerType) → is_same_kind (inner_with_ids a) (inner_with_ids b) ≡ is_same_kind a b
 kinds-same (Func f) (Func g) = refl
@@ -212,6 +230,19 @@ continued-same types s = inner_same s.composite_type.inner
     inner_same (Struct fields) = refl
     inner_same (Cont c) = ap is_func_type (slice_get-map sub_with_ids types (number_of c.0)) ∙ func-same (slice_get types (number_of c.0))
 
+descriptor-same : (s : SubType) → has_fitting_descriptor (sub_with_ids s) ≡ has_fitting_descriptor s
+descriptor-same s = ap₂ (λ a b. not a || b) (some_same s.composite_type.descriptor_idx) (struct_same s.composite_type.inner)
+  where
+    some_same : (o : Option UnpackedIndex) → is_some (option_map index_with_id o) ≡ is_some o
+    some_same None = refl
+    some_same (Some i) = refl
+
+    struct_same : (i : CompositeInnerType) → is_struct (inner_with_ids i) ≡ is_struct i
+    struct_same (Func f) = refl
+    struct_same (Array a) = refl
+    struct_same (Struct fields) = refl
+    struct_same (Cont c) = refl
+
 -- of all that name a type by its index
 functions-same : {A : Type 0} (index : A → ℕ) (types : List SubType) (xs : List A)
     → list_all (λ (x : A). is_func_type (slice_get (map sub_with_ids types) (index x))) xs ≡ list_all (λ (x : A). is_func_type (slice_get types (index x))) xs
@@ -237,11 +268,12 @@ indices-same n d =
 pub module-same : (d : Declared) → is_module is_id (canonical_lists d) ≡ is_module is_known d
 module-same d =
     let n : ℕ = length d.types in
-    let at : ℕ → Bool = λ m. nat_le m MAX_TYPES && list_indices_pass (is_id m) (map sub_with_ids d.types) (map table_with_id d.tables) (map global_with_id d.globals) (map ref_with_id d.elements) && have_fitting_supertypes (map sub_with_ids d.types) && have_func_types (canonical_lists d) in
+    let at : ℕ → Bool = λ m. nat_le m MAX_TYPES && list_indices_pass (is_id m) (map sub_with_ids d.types) (map table_with_id d.tables) (map global_with_id d.globals) (map ref_with_id d.elements) && have_fitting_supertypes (map sub_with_ids d.types) && have_func_types (canonical_lists d) && list_all has_fitting_descriptor (map sub_with_ids d.types) in
     ap at (length-map d.types sub_with_ids)
-    ∙ ap₂ (λ a b. nat_le n MAX_TYPES && a && b && have_func_types (canonical_lists d)) (indices-same n d) (supertypes-same d.types)
-    ∙ ap (λ b. nat_le n MAX_TYPES && list_indices_pass (is_known n) d.types d.tables d.globals d.elements && have_fitting_supertypes d.types && b)
+    ∙ ap₂ (λ a b. nat_le n MAX_TYPES && a && b && have_func_types (canonical_lists d) && list_all has_fitting_descriptor (map sub_with_ids d.types)) (indices-same n d) (supertypes-same d.types)
+    ∙ ap₂ (λ b c. nat_le n MAX_TYPES && list_indices_pass (is_known n) d.types d.tables d.globals d.elements && have_fitting_supertypes d.types && b && c)
     (ap₂ (λ a b. a && b) (ap₂ (λ a b. a && b) (functions-same (λ (f : FuncDecl). f.type_index) d.types d.functions) (functions-same (λ (i : ℕ). i) d.types d.tags)) (all-same _ _ sub_with_ids (continued-same d.types) d.types))
+    (all-same _ _ sub_with_ids descriptor-same d.types)
 
 -- ---- a function whose type is one of functions is of one of the types
 
@@ -271,14 +303,27 @@ known-in d h =
     let p = and_parts (list_all (λ (f : FuncDecl). is_func_type (slice_get d.types f.type_index)) d.functions) _ k.0 in
     and_from _ _ (known-types (λ (f : FuncDecl). f.type_index) d.types d.functions p.0) (known-types (λ (i : ℕ). i) d.types d.tags p.1)
 
+-- what the lists of a module pass, up to the supertypes, and up to the kinds of functions
+abbrev up_to_supertypes : Declared → Bool
+up_to_supertypes d = nat_le (length d.types) MAX_TYPES && list_indices_pass (is_known (length d.types)) d.types d.tables d.globals d.elements && have_fitting_supertypes d.types
+
+abbrev up_to_functions : Declared → Bool
+up_to_functions d = up_to_supertypes d && have_func_types d
+
+functions-of : (d : Declared) → is_module is_known d ≡ true → have_func_types d ≡ true
+functions-of d e = (and_parts (up_to_supertypes d) _ (and_parts (up_to_functions d) _ e).0).1
+
+no-module-by : (d : Declared) → (is_module is_known d ≡ true → true ≡ false) → module_of d ≡ None
+no-module-by d h = ap (λ b. if b then Some (canonical_lists d) else None) (false-by (is_module is_known d) h)
+
 -- where one isn't of functions, the lists are no module
 pub no-functions : (d : Declared) → have_func_types d ≡ false → module_of d ≡ None
-no-functions d h =
-    let rest : Bool = nat_le (length d.types) MAX_TYPES && list_indices_pass (is_known (length d.types)) d.types d.tables d.globals d.elements && have_fitting_supertypes d.types in
-    ap (λ b. if b then Some (canonical_lists d) else None) (false-by (is_module is_known d) (λ e. sym (and_parts rest _ e).1 ∙ h))
+no-functions d h = no-module-by d (λ e. sym (functions-of d e) ∙ h)
+
+-- where one has a descriptor and is none of structs, neither
+pub no-descriptors : (d : Declared) → list_all has_fitting_descriptor d.types ≡ false → module_of d ≡ None
+no-descriptors d h = no-module-by d (λ e. sym (and_parts (up_to_functions d) _ e).1 ∙ h)
 
 -- where one isn't there, neither
 pub no-module : (d : Declared) → have_known_types d ≡ false → module_of d ≡ None
-no-module d h =
-    let rest : Bool = nat_le (length d.types) MAX_TYPES && list_indices_pass (is_known (length d.types)) d.types d.tables d.globals d.elements && have_fitting_supertypes d.types in
-    ap (λ b. if b then Some (canonical_lists d) else None) (false-by (is_module is_known d) (λ e. sym (known-in d (and_parts rest _ e).1) ∙ h))
+no-module d h = no-module-by d (λ e. sym (known-in d (functions-of d e)) ∙ h)

@@ -1,9 +1,9 @@
 -- Proofs, which need no belief: the laws of the order on types.
-use Rattle.std.specs.Prelude.{◌≡◌, ℕ, Bool, List, [], ◌∷◌, true, false, ◌&&◌, ◌||◌, not, slice_get}
+use Rattle.std.specs.Prelude.{◌≡◌, ℕ, Bool, List, [], ◌∷◌, true, false, ◌&&◌, ◌||◌, not, slice_get, option_map, ◌==◌}
 use Rattle.std.specs.Prelude.{Option, Some, None, refl}
 use Rattle.std.specs.Bool.{beq}
 use Rattle.std.specs.List.{list_all}
-use Rattle.std.proofs.Common.{zero, suc, sym, ◌∙◌, subst, ap₂}
+use Rattle.std.proofs.Common.{zero, suc, sym, ◌∙◌, subst, ap, ap₂, eqb-true, eq-eqb}
 use Rattle.std.proofs.lemmas.Bool.{and_parts, and_from}
 use Rattle.validate_types.specs.Abstract.{is_abstract_below}
 use Rattle.validate_types.specs.Heap.{number_of}
@@ -13,7 +13,7 @@ use Rattle.validate_types.specs.declared.heap.AbstractHeapType.TheVariants.{NoEx
 use Rattle.validate_types.specs.declared.heap.AbstractHeapType.TheVariants.{Array, I31, Exn, NoExn, Cont}
 use Rattle.validate_types.specs.declared.heap.AbstractHeapType.TheVariants.{NoCont}
 use Rattle.validate_types.specs.declared.heap.HeapType.{HeapType}
-use Rattle.validate_types.specs.declared.heap.HeapType.TheVariants.{Abstract, Concrete}
+use Rattle.validate_types.specs.declared.heap.HeapType.TheVariants.{Abstract, Concrete, Exact}
 use Rattle.validate_types.specs.declared.refs.RefType.{RefType}
 use Rattle.validate_types.specs.declared.types.CompositeInnerType.{CompositeInnerType}
 use Rattle.validate_types.specs.declared.types.CompositeInnerType.TheVariants.{Func as FuncOf}
@@ -24,10 +24,10 @@ use Rattle.validate_types.specs.declared.types.SubType.{SubType}
 use Rattle.validate_types.specs.declared.types.ValType.{ValType}
 use Rattle.validate_types.specs.declared.types.ValType.TheVariants.{I32, I64, F32, F64, V128, Ref}
 use Rattle.validate_resources.specs.Context.{is_number_or_vector}
-use Rattle.validate_resources.specs.Order.{is_shared_type, is_heap_shared, have_fitting_supertypes}
+use Rattle.validate_resources.specs.Order.{is_shared_type, is_shared_at, is_heap_shared, have_fitting_supertypes}
 use Rattle.validate_resources.specs.Order.{is_same_kind, abstract_kind, kind_bottom}
 use Rattle.validate_resources.specs.Order.{is_declared_below, is_below_declared, is_heap_below, is_ref_below}
-use Rattle.validate_resources.specs.Order.{is_type_below}
+use Rattle.validate_resources.specs.Order.{is_index_below, is_type_below}
 use Rattle.validate_resources.specs.Lawful.Chains.{beq-equal, index-reflexive, index-transitive, index-sort, KeepsSort}
 
 beq-reflexive : (a : Bool) → beq a a ≡ true
@@ -103,6 +103,7 @@ abstract-transitive a b c h k = chain-read (is_abstract_below a b && is_abstract
 pub heap-reflexive : (types : List SubType) (h : HeapType) → is_heap_below types h h ≡ true
 heap-reflexive types (Abstract s a) = and_from _ _ (beq-reflexive s) (abstract-reflexive a)
 heap-reflexive types (Concrete i) = index-reflexive types (number_of i)
+heap-reflexive types (Exact i) = eq-eqb (number_of i) (number_of i) refl
 
 -- ---- declared types
 
@@ -172,6 +173,11 @@ heap-shared types fit (Abstract s a) (Abstract z b) e = beq-equal s z (and_parts
 heap-shared types fit (Abstract s a) (Concrete j) e = below-shared s a (slice_get types (number_of j)) e
 heap-shared types fit (Concrete i) (Abstract z b) e = declared-shared (slice_get types (number_of i)) z b e
 heap-shared types fit (Concrete i) (Concrete j) e = index-sort is_shared_type shared-kept types (number_of i) (number_of j) fit e
+heap-shared types fit (Concrete i) (Exact j) e = cc
+heap-shared types fit (Abstract s a) (Exact j) e = below-shared s a (slice_get types (number_of j)) e
+heap-shared types fit (Exact i) (Abstract z b) e = declared-shared (slice_get types (number_of i)) z b e
+heap-shared types fit (Exact i) (Concrete j) e = index-sort is_shared_type shared-kept types (number_of i) (number_of j) fit e
+heap-shared types fit (Exact i) (Exact j) e = ap (is_shared_at types) (eqb-true (number_of i) (number_of j) e)
 
 -- ---- chains through abstract and declared types
 
@@ -218,10 +224,66 @@ heap-transitive types fit (Concrete i) (Abstract z b) (Concrete l) e f =
 heap-transitive types fit (Concrete i) (Concrete j) (Abstract w c) e f =
     index-sort (λ o. is_declared_below o w c) (declared-kept w c) types (number_of i) (number_of j) fit e ∙ f
 heap-transitive types fit (Concrete i) (Concrete j) (Concrete l) e f = index-transitive types (number_of i) (number_of j) (number_of l) e f
+heap-transitive types fit (Abstract s a) (Abstract z b) (Exact l) e f = abstract-declared s z a b (slice_get types (number_of l)) e f
+heap-transitive types fit (Abstract s a) (Exact j) (Abstract w c) e f = through-declared s w a c (slice_get types (number_of j)) e f
+heap-transitive types fit (Abstract s a) (Exact j) (Concrete l) e f =
+    sym (index-sort (is_below_declared s a) (below-kept s a) types (number_of j) (number_of l) fit f) ∙ e
+heap-transitive types fit (Abstract s a) (Exact j) (Exact l) e f =
+    subst (λ n. is_below_declared s a (slice_get types n) ≡ true) (eqb-true (number_of j) (number_of l) f) e
+heap-transitive types fit (Concrete i) (Abstract z b) (Exact l) e f =
+    absurd (through-abstract (slice_get types (number_of i)) (slice_get types (number_of l)) z b e f)
+heap-transitive types fit (Exact i) (Abstract z b) (Abstract w c) e f = declared-abstract (slice_get types (number_of i)) z w b c e f
+heap-transitive types fit (Exact i) (Abstract z b) (Concrete l) e f =
+    absurd (through-abstract (slice_get types (number_of i)) (slice_get types (number_of l)) z b e f)
+heap-transitive types fit (Exact i) (Abstract z b) (Exact l) e f =
+    absurd (through-abstract (slice_get types (number_of i)) (slice_get types (number_of l)) z b e f)
+heap-transitive types fit (Exact i) (Concrete j) (Abstract w c) e f =
+    index-sort (λ o. is_declared_below o w c) (declared-kept w c) types (number_of i) (number_of j) fit e ∙ f
+heap-transitive types fit (Exact i) (Concrete j) (Concrete l) e f = index-transitive types (number_of i) (number_of j) (number_of l) e f
+heap-transitive types fit (Exact i) (Exact j) l e f = same l f
+  where
+    here : number_of j ≡ number_of i
+    here = sym (eqb-true (number_of i) (number_of j) e)
+
+    same : (l : HeapType) → is_heap_below types (Exact j) l ≡ true → is_heap_below types (Exact i) l ≡ true
+    same (Abstract w c) g = subst (λ n. is_declared_below (slice_get types n) w c ≡ true) here g
+    same (Concrete k) g = subst (λ n. is_index_below types n (number_of k) ≡ true) here g
+    same (Exact k) g = subst (λ n. (n == number_of k) ≡ true) here g
+heap-transitive types fit h (Concrete j) (Exact l) e f = absurd (no_exact f)
+  where
+    no_exact : false ≡ true → ⊥
+    no_exact g = cc
+heap-transitive types fit (Concrete i) (Exact j) l e f = cc
+
+-- ---- exact types
+
+below-nofunc : (a : AbstractHeapType) → is_abstract_below a NoFunc ≡ true → NoFunc ≡ a
+below-nofunc NoFunc h = refl
+below-nofunc _ h = cc
+
+below-none : (a : AbstractHeapType) → is_abstract_below a NoAny ≡ true → NoAny ≡ a
+below-none NoAny h = refl
+below-none _ h = cc
+
+below-nocont : (a : AbstractHeapType) → is_abstract_below a NoCont ≡ true → NoCont ≡ a
+below-nocont NoCont h = refl
+below-nocont _ h = cc
+
+-- below the bottom type of a kind lies that alone
+below-bottom : (a : AbstractHeapType) (i : CompositeInnerType) → is_abstract_below a (kind_bottom i) ≡ true → kind_bottom i ≡ a
+below-bottom a (FuncOf f) h = below-nofunc a h
+below-bottom a (ArrayOf b) h = below-none a h
+below-bottom a (StructOf s) h = below-none a h
+below-bottom a (ContOf c) h = below-nocont a h
+
+-- an abstract type below an exact one is the bottom type of its kind
+pub bottom-below-exact : (s : Bool) (a : AbstractHeapType) (o : Option SubType) → is_below_declared s a o ≡ true → option_map (λ (d : SubType). kind_bottom d.composite_type.inner) o ≡ Some a
+bottom-below-exact s a None h = cc
+bottom-below-exact s a (Some d) h = ap Some (below-bottom a d.composite_type.inner (and_parts (beq s d.composite_type.shared) _ h).1)
 
 -- ---- references
 
-null-reflexive : (n : Bool) → (n || not n) ≡ true
+pub null-reflexive : (n : Bool) → (n || not n) ≡ true
 null-reflexive true = refl
 null-reflexive false = refl
 

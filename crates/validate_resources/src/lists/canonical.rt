@@ -3,7 +3,7 @@
 ghost use Rattle.std.specs.Prelude.{◌≡◌, ◌≤◌, ℕ, Bool, true, false, map, length, Option, ok_or, IfOk, OnOk, OnErr, IfErr, option_map};
 ghost use Rattle.std.specs.List.{list_all};
 ghost use Rattle.validate_types.specs.Heap.{number_of};
-ghost use Rattle.validate_resources.specs.Indices.{is_known, type_indices_pass, ref_indices_pass, table_indices_pass, global_indices_pass, sub_indices_pass, inner_indices_pass, storage_indices_pass, field_indices_pass, signature_indices_pass, supertype_indices_pass, type_with_id, ref_with_id, table_with_id, global_with_id, sub_with_ids, inner_with_ids, storage_with_id, field_with_id, array_with_id, cont_with_id, signature_with_ids, index_with_id, canonical_index, canonical_heap, canonical_ref, canonical_type, heap_number, type_number};
+ghost use Rattle.validate_resources.specs.Indices.{is_known, type_indices_pass, ref_indices_pass, table_indices_pass, global_indices_pass, sub_indices_pass, inner_indices_pass, storage_indices_pass, field_indices_pass, signature_indices_pass, option_index_passes, composite_indices_pass, type_with_id, ref_with_id, table_with_id, global_with_id, sub_with_ids, composite_with_ids, inner_with_ids, storage_with_id, field_with_id, array_with_id, cont_with_id, signature_with_ids, index_with_id, canonical_index, canonical_heap, canonical_ref, canonical_type, heap_number, type_number};
 ghost use Rattle.validate_resources.specs.Lists.{list_indices_pass};
 ghost use Rattle.validate_resources.specs.declared.lists.TheConstants.{MAX_TYPES};
 
@@ -47,6 +47,10 @@ pub fn canonical_heap(ty: HeapType, count: usize) -> Result<HeapType, u32>
             let id = canonical_index(index, count)?;
             Ok(HeapType::Concrete(id))
         }
+        HeapType::Exact(index) => {
+            let id = canonical_index(index, count)?;
+            Ok(HeapType::Exact(id))
+        }
     }
 }
 
@@ -85,17 +89,15 @@ fn canonical_packed(index: PackedIndex, count: usize) -> Result<PackedIndex, u32
     }
 }
 
-/// The same of the supertype that a type declares.
-fn canonical_supertype(
-    supertype: Option<PackedIndex>,
-    count: usize,
-) -> Result<Option<PackedIndex>, u32>
+/// The same of an index that a type may have: that of its supertype, of the type of its descriptors, or of the
+/// one whose values its own describe.
+fn canonical_option(index: Option<PackedIndex>, count: usize) -> Result<Option<PackedIndex>, u32>
     requires { count ≤ MAX_TYPES }
-    ensures known { OnOk result (supertype_indices_pass (is_known count) supertype ≡ true) }
-    ensures form { IfOk result (λ x. x ≡ option_map index_with_id supertype) }
-    ensures refused { OnErr result (supertype_indices_pass (is_known count) supertype ≡ false) }
+    ensures known { OnOk result (option_index_passes (is_known count) index ≡ true) }
+    ensures form { IfOk result (λ x. x ≡ option_map index_with_id index) }
+    ensures refused { OnErr result (option_index_passes (is_known count) index ≡ false) }
 {
-    match supertype {
+    match index {
         None => Ok(None),
         Some(index) => {
             let id = canonical_packed(index, count)?;
@@ -292,6 +294,31 @@ impl Canonical for CompositeInnerType {
     }
 }
 
+impl Canonical for CompositeType {
+    ghost known = { λ n c. composite_indices_pass (is_known n) c };
+
+    ghost form = { composite_with_ids };
+
+    #[tactic(auto, using(std::proofs::lemmas::Bool::and_left, std::proofs::lemmas::Bool::and_right))]
+    fn canonical(&self, alloc: Global, count: usize) -> Result<CompositeType, Error> {
+        let inner = self.inner.canonical(alloc, count)?;
+        let descriptor_idx = match canonical_option(self.descriptor_idx, count) {
+            Ok(descriptor) => descriptor,
+            Err(_) => return Err(unknown_type()),
+        };
+        let describes_idx = match canonical_option(self.describes_idx, count) {
+            Ok(described) => described,
+            Err(_) => return Err(unknown_type()),
+        };
+        Ok(CompositeType {
+            inner,
+            shared: self.shared,
+            descriptor_idx,
+            describes_idx,
+        })
+    }
+}
+
 impl Canonical for SubType {
     ghost known = { λ n s. sub_indices_pass (is_known n) s };
 
@@ -299,18 +326,15 @@ impl Canonical for SubType {
 
     #[tactic(auto, using(std::proofs::lemmas::Bool::and_left, std::proofs::lemmas::Bool::and_right))]
     fn canonical(&self, alloc: Global, count: usize) -> Result<SubType, Error> {
-        let supertype_idx = match canonical_supertype(self.supertype_idx, count) {
+        let supertype_idx = match canonical_option(self.supertype_idx, count) {
             Ok(supertype) => supertype,
             Err(_) => return Err(unknown_type()),
         };
-        let inner = self.composite_type.inner.canonical(alloc, count)?;
+        let composite_type = self.composite_type.canonical(alloc, count)?;
         Ok(SubType {
             is_final: self.is_final,
             supertype_idx,
-            composite_type: CompositeType {
-                inner,
-                shared: self.composite_type.shared,
-            },
+            composite_type,
         })
     }
 }

@@ -26,7 +26,7 @@ pub fn is_heap_shared(types: &[SubType], ty: HeapType) -> bool
 {
     match ty {
         HeapType::Abstract { shared, .. } => shared,
-        HeapType::Concrete(index) => is_shared_at(types, number(index)),
+        HeapType::Concrete(index) | HeapType::Exact(index) => is_shared_at(types, number(index)),
     }
 }
 
@@ -168,10 +168,21 @@ fn is_heap_below(types: &[SubType], a: HeapType, b: HeapType) -> bool
         (HeapType::Concrete(low), HeapType::Concrete(high)) => {
             is_index_below(types, number(low), number(high))
         }
+        (HeapType::Exact(low), HeapType::Concrete(high)) => {
+            is_index_below(types, number(low), number(high))
+        }
+        (HeapType::Exact(low), HeapType::Exact(high)) => number(low) == number(high),
+        (HeapType::Concrete(_), HeapType::Exact(_)) => false,
         (HeapType::Concrete(low), HeapType::Abstract { shared, ty }) => {
             is_declared_below(types, number(low), shared, ty)
         }
+        (HeapType::Exact(low), HeapType::Abstract { shared, ty }) => {
+            is_declared_below(types, number(low), shared, ty)
+        }
         (HeapType::Abstract { shared, ty }, HeapType::Concrete(high)) => {
+            is_below_declared(types, shared, ty, number(high))
+        }
+        (HeapType::Abstract { shared, ty }, HeapType::Exact(high)) => {
             is_below_declared(types, shared, ty, number(high))
         }
         (
@@ -246,7 +257,7 @@ pub fn heap_top(types: &[SubType], ty: HeapType) -> HeapType
             let ty = abstract_top(ty);
             HeapType::Abstract { shared, ty }
         }
-        HeapType::Concrete(index) => {
+        HeapType::Concrete(index) | HeapType::Exact(index) => {
             let shared = is_shared_at(types, number(index));
             let ty = declared_top(types, number(index));
             HeapType::Abstract { shared, ty }

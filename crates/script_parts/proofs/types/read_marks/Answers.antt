@@ -1,4 +1,4 @@
-use Rattle.std.proofs.Common.{rules, tests, ◌≡◌, codes, length, map, refl, sym, ◌∙◌}
+use Rattle.std.proofs.Common.{rules, tests, ◌≡◌, ◌+◌, ℕ, List, codes, length, map, refl, sym, ap₂, ◌∙◌}
 use Rattle.std.proofs.lemmas.Iterator.{YieldsList-from_slice}
 use Rattle.std.proofs.lemmas.Iterator.Search.{any_from_yields_List}
 use Rattle.script_parts.specs.Access.{text_after, one_if_some}
@@ -10,18 +10,31 @@ use Rattle.script_parts.proofs.types.read_marks.Goals as goal
 pub returns-clause-shared : goal.returns-clause-shared
 returns-clause-shared c = is_marked c.args.marks.now c.any.result (any_from_yields_List is_shared _ _ c.any.result c.any.ensures.ran (YieldsList-from_slice c.args.marks.now cc) (λ x b q k. search (rules, tests)))
 
-pub returns-then-others-from-clause-known : goal.returns-then-others-from-clause-known
-returns-then-others-from-clause-known c =
+-- how many marks give an index
+abbrev given : List (List ℕ) → ℕ
+given marks =
+    one_if_some (text_after (codes "sub=") marks) + one_if_some (text_after (codes "desc=") marks)
+    + one_if_some (text_after (codes "describes=") marks)
+
+pub returns-then-others-given-clause-known : goal.returns-then-others-given-clause-known
+returns-then-others-given-clause-known c =
     let marks = c.args.marks.now in
     let counted = count_from_yields_List _ c.count-others.result c.count-others.ensures.ran (YieldsList-from_filter _ is_other (YieldsList-from_slice marks cc) c.filter.ensures.closure (λ x b q k. search (rules, tests))) in
     let same = counted ∙ others_of marks in
-    let said : one_if_some (text_after (codes "sub=") (map text_of marks)) ≡ c.from.result = search (rules) in
-    ((λ never. absurd cc), (λ (are : AreMarks (map text_of marks)). absurd (c.if-others-from.true (same ∙ are.known ∙ said))))
+    let sub : one_if_some (text_after (codes "sub=") (map text_of marks)) ≡ c.from.result = search (rules) in
+    let desc : one_if_some (text_after (codes "desc=") (map text_of marks)) ≡ c.from-2.result = search (rules) in
+    let describes : one_if_some (text_after (codes "describes=") (map text_of marks)) ≡ c.from-3.result = search (rules) in
+    let said : given (map text_of marks) ≡ c.from.result + c.from-2.result + c.from-3.result = ap₂ (λ a b. a + b) (ap₂ (λ a b. a + b) sub desc) describes in
+    ((λ never. absurd cc), (λ (are : AreMarks (map text_of marks)). absurd (c.if-others-given.true (same ∙ are.known ∙ said))))
 
 pub returns-clause-known : goal.returns-clause-known
 returns-clause-known c =
     let marks = c.args.marks.now in
     let counted = count_from_yields_List _ c.count-others.result c.count-others.ensures.ran (YieldsList-from_filter _ is_other (YieldsList-from_slice marks cc) c.filter.ensures.closure (λ x b q k. search (rules, tests))) in
     let same = counted ∙ others_of marks in
-    let known : length (other_marks (map text_of marks)) ≡ one_if_some (text_after (codes "sub=") (map text_of marks)) = sym same ∙ c.if-others-from.false ∙ search (rules) in
-    ((λ e. record { known = known; supertype = search (rules) }), (λ are. refl))
+    let sub : one_if_some (text_after (codes "sub=") (map text_of marks)) ≡ c.from.result = search (rules) in
+    let desc : one_if_some (text_after (codes "desc=") (map text_of marks)) ≡ c.from-2.result = search (rules) in
+    let describes : one_if_some (text_after (codes "describes=") (map text_of marks)) ≡ c.from-3.result = search (rules) in
+    let said : given (map text_of marks) ≡ c.from.result + c.from-2.result + c.from-3.result = ap₂ (λ a b. a + b) (ap₂ (λ a b. a + b) sub desc) describes in
+    let known : length (other_marks (map text_of marks)) ≡ given (map text_of marks) = sym same ∙ c.if-others-given.false ∙ sym said in
+    ((λ e. record { known = known; supertype = search (rules); descriptor = search (rules); described = search (rules) }), (λ are. refl))

@@ -2,7 +2,7 @@ use Rattle.std.proofs.Common.{IsErrOf, IsSome, refl, sym, ◌≡◌, IfSome, ap,
 use Rattle.std.proofs.lemmas.Iterator.{YieldsList-from_slice}
 use Rattle.std.proofs.lemmas.Iterator.Search.{position_from_yields_List}
 use Rattle.std.proofs.lemmas.List.{take_rest}
-use Rattle.script_parts.specs.Types.{AreMarks, IsComposite, is_kind, is_marked_shared, supertype_in}
+use Rattle.script_parts.specs.Types.{AreMarks, IsComposite, is_kind, is_marked_shared, supertype_in, descriptor_in, described_in}
 use Rattle.script_parts.specs.declared.failure.LineError.{LineError}
 use Rattle.script_parts.specs.declared.types.Marks.{Marks}
 use Rattle.script_parts.proofs.Marks.{text_of, is_first, are_before, are_onwards, none_onwards}
@@ -23,6 +23,22 @@ returns-clause-supertype c =
     let found = position_from_yields_List (λ w. is_kind (text_of w)) _ _ c.position.result c.position.ensures.ran (YieldsList-from_slice words cc) (λ x b q e. search (rules, tests)) in
     let marks = are_before is_kind words k (is_first is_kind words c.position.result k found c.in_ok-kind.ensures.ok_part) in
     subst (λ o. IfSome o (λ (said : Marks). said.supertype_idx ≡ supertype_in (map text_of (take k words)))) c.in_ok-marks.ensures.ok_part c.read_marks.ensures.supertype ∙ ap supertype_in marks
+
+pub returns-clause-descriptor : goal.returns-clause-descriptor
+returns-clause-descriptor c =
+    let words = c.args.words.now in
+    let k = c.in_ok-kind.kind in
+    let found = position_from_yields_List (λ w. is_kind (text_of w)) _ _ c.position.result c.position.ensures.ran (YieldsList-from_slice words cc) (λ x b q e. search (rules, tests)) in
+    let marks = are_before is_kind words k (is_first is_kind words c.position.result k found c.in_ok-kind.ensures.ok_part) in
+    subst (λ o. IfSome o (λ (said : Marks). said.descriptor_idx ≡ descriptor_in (map text_of (take k words)))) c.in_ok-marks.ensures.ok_part c.read_marks.ensures.descriptor ∙ ap descriptor_in marks
+
+pub returns-clause-described : goal.returns-clause-described
+returns-clause-described c =
+    let words = c.args.words.now in
+    let k = c.in_ok-kind.kind in
+    let found = position_from_yields_List (λ w. is_kind (text_of w)) _ _ c.position.result c.position.ensures.ran (YieldsList-from_slice words cc) (λ x b q e. search (rules, tests)) in
+    let marks = are_before is_kind words k (is_first is_kind words c.position.result k found c.in_ok-kind.ensures.ok_part) in
+    subst (λ o. IfSome o (λ (said : Marks). said.describes_idx ≡ described_in (map text_of (take k words)))) c.in_ok-marks.ensures.ok_part c.read_marks.ensures.described ∙ ap described_in marks
 
 pub returns-clause-inner : goal.returns-clause-inner
 returns-clause-inner c =

@@ -1,4 +1,4 @@
-use Rattle.std.proofs.Common.{rules, ◌≡◌, true, None, Some, refl, sym, ap, ◌∙◌}
+use Rattle.std.proofs.Common.{rules, None, Some, refl, sym, ap, ◌∙◌}
 use Rattle.validation_rules.specs.Casts.{split_last, cast_branch_row_for, cast_branch_row}
 use Rattle.validation_rules.specs.Branches.{label_types_at}
 use Rattle.validation_rules.specs.Operators.{lookup_row}

@@ -1,4 +1,4 @@
-use Rattle.std.proofs.Common.{rules, ◌≡◌, None, Some, refl, sym, ap, ap₂, ◌∙◌}
+use Rattle.std.proofs.Common.{rules, ◌≡◌, None, Some, sym, ap, ap₂, ◌∙◌}
 use Rattle.std.specs.Option.{option_map, option_and_then}
 use Rattle.validation_rules.specs.Fits.{MaybeType}
 use Rattle.validation_rules.specs.Found.{operand_found_below, converted_operand}

@@ -1,12 +1,9 @@
-use Rattle.std.proofs.Common.{rules, ◌≡◌, None, Some, false, true, refl, sym, ap, ◌∙◌}
-use Rattle.std.specs.Option.{option_and_then}
-use Rattle.validate_types.specs.declared.heap.AbstractHeapType.TheVariants.{Eq}
+use Rattle.std.proofs.Common.{rules, Some, refl, sym, ap, ◌∙◌}
 use Rattle.validation_rules.specs.Context.{I32}
 use Rattle.validation_rules.specs.Fits.{Known}
-use Rattle.validation_rules.specs.Found.{operand_found_below}
-use Rattle.validate_stacks.specs.Steps.{found_in_body, body_pushed}
+use Rattle.validate_stacks.specs.Steps.{body_pushed}
 use Rattle.validate_stacks.proofs.Validity.{kept_on}
-use Rattle.validate_shapes.proofs.Meeting.{not_true, not_false, meets_refused, meets_none, meets_last}
+use Rattle.validate_shapes.proofs.Meeting.{meets_refused, meets_none, meets_last}
 use Rattle.validate_rows_gc.proofs.Looking.{first_missing, second_missing, not_alike, alike}
 use Rattle.validate_rows_gc.proofs.found.check_ref_eq.Goals as goal
 

@@ -1,4 +1,4 @@
-use Rattle.std.proofs.Common.{rules, ◌≡◌, ◌-◌, ◌<◌, ◌≤◌, false, None, Some, take, reverse, length, sym, ap, ◌∙◌, subst, arith}
+use Rattle.std.proofs.Common.{rules, ◌≡◌, ◌-◌, false, None, Some, take, reverse, sym, ap, ◌∙◌, subst, arith}
 use Rattle.validate_resources.specs.Context.{Valid}
 use Rattle.validate_types.specs.Types.{unpacked_fields}
 use Rattle.validation_rules.specs.Rows.{guard}

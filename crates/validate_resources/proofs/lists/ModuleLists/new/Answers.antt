@@ -1,8 +1,9 @@
 use Rattle.std.proofs.Common.{◌≡◌, ℕ, true, false, Some, ◌∙◌, refl, ap, sym, arith, length, nat_le}
+use Rattle.std.specs.List.{list_all}
 use Rattle.std.proofs.lemmas.Bool.{and_from}
 use Rattle.std.proofs.lemmas.Grind.{common_steps}
 use Rattle.validate_resources.specs.Indices.{is_known}
-use Rattle.validate_resources.specs.Lists.{Declared, declared_by, is_module, canonical_lists, list_indices_pass, have_func_types}
+use Rattle.validate_resources.specs.Lists.{Declared, declared_by, is_module, canonical_lists, list_indices_pass, have_func_types, has_fitting_descriptor}
 use Rattle.validate_resources.specs.Order.{have_fitting_supertypes}
 use Rattle.validate_resources.specs.declared.lists.TheConstants.{MAX_TYPES}
 use Rattle.validate_resources.specs.Lawful.Forms.{module-same, have_known_types, no-module, no-functions}
@@ -20,8 +21,9 @@ from_forms-requires c =
     let func_types : have_func_types d ≡ true =
     rw (sym c.deref-8.ensures.value, sym c.deref-9.ensures.value, sym c.deref-10.ensures.value)
     (sym c.have_func_types.ensures ∙ c.if-not-have_func_types.false) in
+    let descriptors : list_all has_fitting_descriptor d.types ≡ true = grind (arith, common_steps) in
     let holds : is_module is_known d ≡ true =
-    and_from _ _ (and_from _ _ (and_from _ _ few known) supertypes) func_types in
+    and_from _ _ (and_from _ _ (and_from _ _ (and_from _ _ few known) supertypes) func_types) descriptors in
     rw (c.in_ok-forms.ensures.types, c.in_ok-forms.ensures.tables, c.in_ok-forms.ensures.globals, c.in_ok-forms.ensures.elements)
     (rw (c.deref.ensures.value, c.deref-2.ensures.value, c.deref-3.ensures.value, c.deref-4.ensures.value) (module-same d ∙ holds))
 
@@ -37,8 +39,9 @@ returns-clause-kept c =
     let func_types : have_func_types d ≡ true =
     rw (sym c.deref-8.ensures.value, sym c.deref-9.ensures.value, sym c.deref-10.ensures.value)
     (sym c.have_func_types.ensures ∙ c.if-not-have_func_types.false) in
+    let descriptors : list_all has_fitting_descriptor d.types ≡ true = grind (arith, common_steps) in
     let holds : is_module is_known d ≡ true =
-    and_from _ _ (and_from _ _ (and_from _ _ few known) supertypes) func_types in
+    and_from _ _ (and_from _ _ (and_from _ _ (and_from _ _ few known) supertypes) func_types) descriptors in
     let forms = c.in_ok-forms.forms in
     let same : declared_by forms.types.items c.args.functions.items forms.tables.items c.args.memories.items
     forms.globals.items c.args.tags.items forms.elements.items c.args.data_count ≡ canonical_lists d =

@@ -1,0 +1,68 @@
+use Rattle.std.proofs.Common.{rules, ◌≡◌, true, Some, sym, ap, ap₂, ◌∙◌, subst}
+use Rattle.std.specs.Option.{option_and_then}
+use Rattle.validate_resources.specs.Context.{descriptor_of, is_valid_heap}
+use Rattle.validate_types.specs.Refs.{non_null_reference}
+use Rattle.validate_types.specs.declared.heap.HeapType.{HeapType}
+use Rattle.validation_rules.specs.Context.{Ref}
+use Rattle.validation_rules.specs.Descriptors.{ref_get_desc_row}
+use Rattle.validation_rules.specs.Exact.{declared_heap}
+use Rattle.validation_rules.specs.Fits.{Known}
+use Rattle.validation_rules.proofs.Valid.{declared_valid}
+use Rattle.validate_stacks.specs.State.{BodyState, body_context}
+use Rattle.validate_stacks.specs.Steps.{body_pushed}
+use Rattle.validate_stacks.proofs.Validity.{kept_on}
+use Rattle.validate_shapes.proofs.Found.{meets_barred}
+use Rattle.validate_shapes.proofs.Meeting.{meets_refused, meets_none, meets_last}
+use Rattle.validate_rows_gc.proofs.Describing.{untyped, not_exact, undescribed, get_missing, get_there}
+use Rattle.validate_rows_gc.proofs.descriptors.check_ref_get_desc.Goals as goal
+
+pub returns-in_err-from : goal.returns-in_err-from
+returns-in_err-from g c =
+    let md = g.R.WasmModuleResources.context c.args.resources.now in
+    let v = c.args.stacks.now.body in
+    let none = untyped md v c.requires.open_frame c.args.type_index in
+    meets_barred md v (λ cx hs. ref_get_desc_row cx c.args.type_index) c.args.offset _ (search rules) (search (rules, none)) (search rules) c.requires.valid
+
+pub returns-in_err-exact : goal.returns-in_err-exact
+returns-in_err-exact g c =
+    let md = g.R.WasmModuleResources.context c.args.resources.now in
+    let v = c.args.stacks.now.body in
+    let none = not_exact md v c.requires.open_frame c.args.type_index in
+    meets_barred md v (λ cx hs. ref_get_desc_row cx c.args.type_index) c.args.offset _ (search rules) (search (rules, none)) (search rules) c.requires.valid
+
+pub returns-in_err-found : goal.returns-in_err-found
+returns-in_err-found g c =
+    let md = g.R.WasmModuleResources.context c.args.resources.now in
+    let v = c.args.stacks.now.body in
+    let none = get_missing md v c.requires.open_frame c.args.type_index c.in_ok-from.from c.in_ok-exact.exact c.in_ok-from.ensures.found c.in_ok-exact.ensures.found in
+    meets_refused md _ c.args.offset v c.pop_of_type.new.stacks.body _ (search rules) (search (rules, none)) (search rules) c.pop_of_type.ensures.valid c.pop_of_type.ensures.kept
+
+pub returns-in_err-index : goal.returns-in_err-index
+returns-in_err-index g c =
+    let md = g.R.WasmModuleResources.context c.args.resources.now in
+    let v = c.args.stacks.now.body in
+    let none = undescribed md v c.requires.open_frame c.args.type_index (ap (option_and_then descriptor_of) c.in_err-index.ensures.unknown) in
+    meets_refused md _ c.args.offset v c.pop_of_type.new.stacks.body _ (search rules) (search (rules, none)) (search rules) c.pop_of_type.ensures.valid c.pop_of_type.ensures.kept
+
+pub returns-in-None : goal.returns-in-None
+returns-in-None g c =
+    let md = g.R.WasmModuleResources.context c.args.resources.now in
+    let v = c.args.stacks.now.body in
+    let none = undescribed md v c.requires.open_frame c.args.type_index (c.in_ok-index.ensures.found ∙ c.in-None.is) in
+    meets_none md _ c.args.offset v c.pop_of_type.new.stacks.body _ tt none (search rules) c.pop_of_type.ensures.valid c.pop_of_type.ensures.kept
+
+pub returns-in-Some : goal.returns-in-Some
+returns-in-Some g c =
+    let md = g.R.WasmModuleResources.context c.args.resources.now in
+    let v = c.args.stacks.now.body in
+    let u = c.pop_of_type.new.stacks.body in
+    let w = c.push_found.new.stacks.body in
+    let laws = g.met.R.WasmModuleResources.lawful c.args.resources.now in
+    let d = c.in-Some.descriptor in
+    let given = Known (Ref (non_null_reference c.declared_heap.result)) in
+    let heap = c.declared_heap.ensures ∙ ap₂ declared_heap c.is_found_exact-is_exact.ensures c.unpack.ensures in
+    let valid = subst (λ (h : HeapType). is_valid_heap md h ≡ true) (sym c.declared_heap.ensures) (declared_valid (body_context md v) laws _ _ (c.in_ok-index.ensures.valid _ (c.in-Some.is ∙ ap Some (sym c.unpack.ensures)))) in
+    let there = get_there md v c.requires.open_frame c.args.type_index c.in_ok-from.from c.in_ok-exact.exact c.in_ok-from.ensures.found c.in_ok-exact.ensures.found d c.in_ok-found.found (c.in_ok-index.ensures.found ∙ c.in-Some.is) c.in_ok-found.ensures.value c.in_ok-found.ensures.passed in
+    let passes = there ∙ ap₂ (λ (h : HeapType) (q : BodyState). Some (body_pushed (Known (Ref (non_null_reference h))) q)) (sym heap) (sym c.in_ok-found.ensures.popped) in
+    meets_last md _ c.args.offset v w (body_pushed given u) c.push_found.result (λ q. passes ∙ ap Some (sym q)) c.push_found.ensures.pushed c.push_found.ensures.memory c.push_found.ensures.offset
+    (c.push_found.ensures.valid md valid c.pop_of_type.ensures.valid) (kept_on v u w c.pop_of_type.ensures.kept c.push_found.ensures.kept)

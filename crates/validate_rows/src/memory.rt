@@ -4,6 +4,7 @@ ghost use Rattle.std.specs.Prelude.{◌≡◌, true, false, IfOk, IfErr};
 ghost use Rattle.validate_resources.specs.Context.{is_number_or_vector};
 ghost use Rattle.validate_visit.specs.declared.memory.MemArgTarget.TheVariants.{Memory};
 ghost use Rattle.validation_rules.specs.Access.{load_row, store_row};
+ghost use Rattle.validation_rules.specs.Memories.{memory_size_row, memory_grow_row, memory_init_row, data_drop_row, memory_copy_row, memory_fill_row, memory_discard_row};
 ghost use Rattle.validation_rules.specs.Memory.{memory_row};
 ghost use Rattle.validation_rules.specs.Operators.{row_operator};
 ghost use Rattle.validate_stacks.specs.State.{body_context};
@@ -20,6 +21,185 @@ use validate_stacks::Stacks;
 use validate_types::{Error, ValType};
 use validate_visit::{MemArg, MemArgTarget, MemoryOp};
 
+/// What a load of a number takes and gives: `[address] -> [t]`.
+fn load_types<R: WasmModuleResources>(
+    stacks: &Stacks,
+    resources: &R,
+    offset: u64,
+    memarg: MemArg,
+    ty: ValType,
+) -> Result<Types, Error>
+    requires { is_number_or_vector ty ≡ true }
+    ensures row { IfOk result (λ t. load_row (body_context (R.context resources.now) stacks.now.body) memarg ty ≡ types_row t) }
+    ensures valid { IfOk result (λ t. AreValid (R.context resources.now) t) }
+    ensures refused { IfErr result (λ e. e.wants_memory ≡ false → (load_row (body_context (R.context resources.now) stacks.now.body) memarg ty).premise ≡ false) }
+    ensures offset { IfErr result (λ e. e.offset ≡ offset) }
+{
+    let address = check_memarg(stacks, resources, offset, Access::Load, memarg)?;
+    Ok(Types {
+        wanted: address.types(),
+        pushed: Few::One(ty),
+    })
+}
+
+/// What a store of a number takes: `[address t] -> []`.
+fn store_types<R: WasmModuleResources>(
+    stacks: &Stacks,
+    resources: &R,
+    offset: u64,
+    memarg: MemArg,
+    ty: ValType,
+) -> Result<Types, Error>
+    requires { is_number_or_vector ty ≡ true }
+    ensures row { IfOk result (λ t. store_row (body_context (R.context resources.now) stacks.now.body) memarg ty ≡ types_row t) }
+    ensures valid { IfOk result (λ t. AreValid (R.context resources.now) t) }
+    ensures refused { IfErr result (λ e. e.wants_memory ≡ false → (store_row (body_context (R.context resources.now) stacks.now.body) memarg ty).premise ≡ false) }
+    ensures offset { IfErr result (λ e. e.offset ≡ offset) }
+{
+    let address = check_memarg(stacks, resources, offset, Access::Store, memarg)?;
+    Ok(Types {
+        wanted: address.types_below(ty),
+        pushed: Few::Zero,
+    })
+}
+
+/// What `memory.init` takes: `[it i32 i32] -> []`.
+fn init_types<R: WasmModuleResources>(
+    stacks: &Stacks,
+    resources: &R,
+    offset: u64,
+    data_index: u32,
+    memory: u32,
+) -> Result<Types, Error>
+    ensures row { IfOk result (λ t. memory_init_row (body_context (R.context resources.now) stacks.now.body) data_index memory ≡ types_row t) }
+    ensures valid { IfOk result (λ t. AreValid (R.context resources.now) t) }
+    ensures refused { IfErr result (λ e. e.wants_memory ≡ false → (memory_init_row (body_context (R.context resources.now) stacks.now.body) data_index memory).premise ≡ false) }
+    ensures offset { IfErr result (λ e. e.offset ≡ offset) }
+{
+    let address = check_memory_index(stacks, resources, offset, memory)?;
+    check_data_segment(stacks, resources, offset, data_index)?;
+    Ok(Types {
+        wanted: Few::Three(address, ValType::I32, ValType::I32),
+        pushed: Few::Zero,
+    })
+}
+
+/// What `memory.copy` takes: `[it(dst) it(src) it] -> []`, with the narrower of the two.
+fn copy_types<R: WasmModuleResources>(
+    stacks: &Stacks,
+    resources: &R,
+    offset: u64,
+    dst_mem: u32,
+    src_mem: u32,
+) -> Result<Types, Error>
+    ensures row { IfOk result (λ t. memory_copy_row (body_context (R.context resources.now) stacks.now.body) dst_mem src_mem ≡ types_row t) }
+    ensures valid { IfOk result (λ t. AreValid (R.context resources.now) t) }
+    ensures refused { IfErr result (λ e. e.wants_memory ≡ false → (memory_copy_row (body_context (R.context resources.now) stacks.now.body) dst_mem src_mem).premise ≡ false) }
+    ensures offset { IfErr result (λ e. e.offset ≡ offset) }
+{
+    let dst = check_memory_index(stacks, resources, offset, dst_mem)?;
+    let src = check_memory_index(stacks, resources, offset, src_mem)?;
+    Ok(Types {
+        wanted: Few::Three(dst, src, narrower_of(dst, src)),
+        pushed: Few::Zero,
+    })
+}
+
+/// What `memory.size` gives: `[] -> [it]`.
+fn size_types<R: WasmModuleResources>(
+    stacks: &Stacks,
+    resources: &R,
+    offset: u64,
+    memory: u32,
+) -> Result<Types, Error>
+    ensures row { IfOk result (λ t. memory_size_row (body_context (R.context resources.now) stacks.now.body) memory ≡ types_row t) }
+    ensures valid { IfOk result (λ t. AreValid (R.context resources.now) t) }
+    ensures refused { IfErr result (λ e. e.wants_memory ≡ false → (memory_size_row (body_context (R.context resources.now) stacks.now.body) memory).premise ≡ false) }
+    ensures offset { IfErr result (λ e. e.offset ≡ offset) }
+{
+    let address = check_memory_index(stacks, resources, offset, memory)?;
+    Ok(Types {
+        wanted: Few::Zero,
+        pushed: Few::One(address),
+    })
+}
+
+/// What `memory.grow` takes and gives: `[it] -> [it]`.
+fn grow_types<R: WasmModuleResources>(
+    stacks: &Stacks,
+    resources: &R,
+    offset: u64,
+    memory: u32,
+) -> Result<Types, Error>
+    ensures row { IfOk result (λ t. memory_grow_row (body_context (R.context resources.now) stacks.now.body) memory ≡ types_row t) }
+    ensures valid { IfOk result (λ t. AreValid (R.context resources.now) t) }
+    ensures refused { IfErr result (λ e. e.wants_memory ≡ false → (memory_grow_row (body_context (R.context resources.now) stacks.now.body) memory).premise ≡ false) }
+    ensures offset { IfErr result (λ e. e.offset ≡ offset) }
+{
+    let address = check_memory_index(stacks, resources, offset, memory)?;
+    Ok(Types {
+        wanted: Few::One(address),
+        pushed: Few::One(address),
+    })
+}
+
+/// What `memory.fill` takes: `[it i32 it] -> []`.
+fn fill_types<R: WasmModuleResources>(
+    stacks: &Stacks,
+    resources: &R,
+    offset: u64,
+    memory: u32,
+) -> Result<Types, Error>
+    ensures row { IfOk result (λ t. memory_fill_row (body_context (R.context resources.now) stacks.now.body) memory ≡ types_row t) }
+    ensures valid { IfOk result (λ t. AreValid (R.context resources.now) t) }
+    ensures refused { IfErr result (λ e. e.wants_memory ≡ false → (memory_fill_row (body_context (R.context resources.now) stacks.now.body) memory).premise ≡ false) }
+    ensures offset { IfErr result (λ e. e.offset ≡ offset) }
+{
+    let address = check_memory_index(stacks, resources, offset, memory)?;
+    Ok(Types {
+        wanted: Few::Three(address, ValType::I32, address),
+        pushed: Few::Zero,
+    })
+}
+
+/// What `memory.discard` takes: `[it it] -> []`.
+fn discard_types<R: WasmModuleResources>(
+    stacks: &Stacks,
+    resources: &R,
+    offset: u64,
+    memory: u32,
+) -> Result<Types, Error>
+    ensures row { IfOk result (λ t. memory_discard_row (body_context (R.context resources.now) stacks.now.body) memory ≡ types_row t) }
+    ensures valid { IfOk result (λ t. AreValid (R.context resources.now) t) }
+    ensures refused { IfErr result (λ e. e.wants_memory ≡ false → (memory_discard_row (body_context (R.context resources.now) stacks.now.body) memory).premise ≡ false) }
+    ensures offset { IfErr result (λ e. e.offset ≡ offset) }
+{
+    let address = check_memory_index(stacks, resources, offset, memory)?;
+    Ok(Types {
+        wanted: Few::Two(address, address),
+        pushed: Few::Zero,
+    })
+}
+
+/// `data.drop` takes nothing and gives nothing.
+fn drop_types<R: WasmModuleResources>(
+    stacks: &Stacks,
+    resources: &R,
+    offset: u64,
+    data_index: u32,
+) -> Result<Types, Error>
+    ensures row { IfOk result (λ t. data_drop_row (body_context (R.context resources.now) stacks.now.body) data_index ≡ types_row t) }
+    ensures valid { IfOk result (λ t. AreValid (R.context resources.now) t) }
+    ensures refused { IfErr result (λ e. e.wants_memory ≡ false → (data_drop_row (body_context (R.context resources.now) stacks.now.body) data_index).premise ≡ false) }
+    ensures offset { IfErr result (λ e. e.offset ≡ offset) }
+{
+    check_data_segment(stacks, resources, offset, data_index)?;
+    Ok(Types {
+        wanted: Few::Zero,
+        pushed: Few::Zero,
+    })
+}
+
 /// What an operator on memories takes and gives, by the memories, segments and arrays that it names.
 fn memory_types<R: WasmModuleResources>(
     stacks: &Stacks,
@@ -34,55 +214,27 @@ fn memory_types<R: WasmModuleResources>(
         → (memory_row (body_context (R.context resources.now) stacks.now.body) op).premise ≡ false) }
     ensures offset { IfErr result (λ e. e.offset ≡ offset) }
 {
-    let (wanted, pushed) = match op {
-        MemoryOp::Load(ty, memarg) => {
-            let address = check_memarg(stacks, resources, offset, Access::Load, memarg)?;
-            (address.types(), Few::One(number(ty)))
-        }
+    match op {
+        MemoryOp::Load(ty, memarg) => load_types(stacks, resources, offset, memarg, number(ty)),
         MemoryOp::LoadPacked(part, _, memarg) => {
-            let address = check_memarg(stacks, resources, offset, Access::Load, memarg)?;
-            (address.types(), Few::One(packed(part)))
+            load_types(stacks, resources, offset, memarg, packed(part))
         }
-        MemoryOp::Store(ty, memarg) => {
-            let address = check_memarg(stacks, resources, offset, Access::Store, memarg)?;
-            (address.types_below(number(ty)), Few::Zero)
-        }
+        MemoryOp::Store(ty, memarg) => store_types(stacks, resources, offset, memarg, number(ty)),
         MemoryOp::StorePacked(part, memarg) => {
-            let address = check_memarg(stacks, resources, offset, Access::Store, memarg)?;
-            (address.types_below(packed(part)), Few::Zero)
+            store_types(stacks, resources, offset, memarg, packed(part))
         }
-        MemoryOp::MemorySize(memory) => {
-            let address = check_memory_index(stacks, resources, offset, memory)?;
-            (Few::Zero, Few::One(address))
-        }
-        MemoryOp::MemoryGrow(memory) => {
-            let address = check_memory_index(stacks, resources, offset, memory)?;
-            (Few::One(address), Few::One(address))
-        }
+        MemoryOp::MemorySize(memory) => size_types(stacks, resources, offset, memory),
+        MemoryOp::MemoryGrow(memory) => grow_types(stacks, resources, offset, memory),
         MemoryOp::MemoryInit { data_index, mem } => {
-            let address = check_memory_index(stacks, resources, offset, mem)?;
-            check_data_segment(stacks, resources, offset, data_index)?;
-            (Few::Three(address, ValType::I32, ValType::I32), Few::Zero)
+            init_types(stacks, resources, offset, data_index, mem)
         }
-        MemoryOp::DataDrop(data_index) => {
-            check_data_segment(stacks, resources, offset, data_index)?;
-            (Few::Zero, Few::Zero)
-        }
+        MemoryOp::DataDrop(data_index) => drop_types(stacks, resources, offset, data_index),
         MemoryOp::MemoryCopy { dst_mem, src_mem } => {
-            let dst = check_memory_index(stacks, resources, offset, dst_mem)?;
-            let src = check_memory_index(stacks, resources, offset, src_mem)?;
-            (Few::Three(dst, src, narrower_of(dst, src)), Few::Zero)
+            copy_types(stacks, resources, offset, dst_mem, src_mem)
         }
-        MemoryOp::MemoryFill(memory) => {
-            let address = check_memory_index(stacks, resources, offset, memory)?;
-            (Few::Three(address, ValType::I32, address), Few::Zero)
-        }
-        MemoryOp::MemoryDiscard(memory) => {
-            let address = check_memory_index(stacks, resources, offset, memory)?;
-            (Few::Two(address, address), Few::Zero)
-        }
-    };
-    Ok(Types { wanted, pushed })
+        MemoryOp::MemoryFill(memory) => fill_types(stacks, resources, offset, memory),
+        MemoryOp::MemoryDiscard(memory) => discard_types(stacks, resources, offset, memory),
+    }
 }
 
 /// The check of an operator on memories by what it takes and gives, its gate aside.

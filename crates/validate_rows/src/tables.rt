@@ -3,7 +3,7 @@
 ghost use Rattle.std.specs.Prelude.{◌≡◌, true, false, IfOk, OnOk, OnErr, IfErr};
 ghost use Rattle.validate_resources.specs.Context.{Valid};
 ghost use Rattle.validation_rules.specs.Operators.{row_operator};
-ghost use Rattle.validation_rules.specs.Tables.{table_row};
+ghost use Rattle.validation_rules.specs.Tables.{table_get_row, table_set_row, table_grow_row, table_size_row, table_fill_row, table_init_row, elem_drop_row, table_copy_row, table_row};
 ghost use Rattle.validate_stacks.specs.State.{body_context};
 ghost use Rattle.validate_stacks.specs.Visits.{MayVisit, Meets};
 ghost use Rattle.validate_shapes.specs.Types.{types_row, AreValid};
@@ -38,6 +38,167 @@ fn check_elements<R: WasmModuleResources>(
     }
 }
 
+/// What `table.get` takes and gives: `[it] -> [e]`.
+fn get_types<R: WasmModuleResources>(
+    stacks: &Stacks,
+    resources: &R,
+    offset: u64,
+    table: u32,
+) -> Result<Types, Error>
+    ensures row { IfOk result (λ t. table_get_row (body_context (R.context resources.now) stacks.now.body) table ≡ types_row t) }
+    ensures valid { IfOk result (λ t. AreValid (R.context resources.now) t) }
+    ensures refused { OnErr result ((table_get_row (body_context (R.context resources.now) stacks.now.body) table).premise ≡ false) }
+    ensures offset { IfErr result (λ e. e.offset ≡ offset) }
+{
+    let ty = table_type_at(stacks, resources, offset, table)?;
+    Ok(Types {
+        wanted: Few::One(ty.index_type()),
+        pushed: Few::One(ValType::Ref(ty.element_type)),
+    })
+}
+
+/// What `table.set` takes: `[it e] -> []`.
+fn set_types<R: WasmModuleResources>(
+    stacks: &Stacks,
+    resources: &R,
+    offset: u64,
+    table: u32,
+) -> Result<Types, Error>
+    ensures row { IfOk result (λ t. table_set_row (body_context (R.context resources.now) stacks.now.body) table ≡ types_row t) }
+    ensures valid { IfOk result (λ t. AreValid (R.context resources.now) t) }
+    ensures refused { OnErr result ((table_set_row (body_context (R.context resources.now) stacks.now.body) table).premise ≡ false) }
+    ensures offset { IfErr result (λ e. e.offset ≡ offset) }
+{
+    let ty = table_type_at(stacks, resources, offset, table)?;
+    Ok(Types {
+        wanted: Few::Two(ty.index_type(), ValType::Ref(ty.element_type)),
+        pushed: Few::Zero,
+    })
+}
+
+/// What `table.grow` takes and gives: `[e it] -> [it]`.
+fn grow_types<R: WasmModuleResources>(
+    stacks: &Stacks,
+    resources: &R,
+    offset: u64,
+    table: u32,
+) -> Result<Types, Error>
+    ensures row { IfOk result (λ t. table_grow_row (body_context (R.context resources.now) stacks.now.body) table ≡ types_row t) }
+    ensures valid { IfOk result (λ t. AreValid (R.context resources.now) t) }
+    ensures refused { OnErr result ((table_grow_row (body_context (R.context resources.now) stacks.now.body) table).premise ≡ false) }
+    ensures offset { IfErr result (λ e. e.offset ≡ offset) }
+{
+    let ty = table_type_at(stacks, resources, offset, table)?;
+    let index = ty.index_type();
+    Ok(Types {
+        wanted: Few::Two(ValType::Ref(ty.element_type), index),
+        pushed: Few::One(index),
+    })
+}
+
+/// What `table.size` gives: `[] -> [it]`.
+fn size_types<R: WasmModuleResources>(
+    stacks: &Stacks,
+    resources: &R,
+    offset: u64,
+    table: u32,
+) -> Result<Types, Error>
+    ensures row { IfOk result (λ t. table_size_row (body_context (R.context resources.now) stacks.now.body) table ≡ types_row t) }
+    ensures valid { IfOk result (λ t. AreValid (R.context resources.now) t) }
+    ensures refused { OnErr result ((table_size_row (body_context (R.context resources.now) stacks.now.body) table).premise ≡ false) }
+    ensures offset { IfErr result (λ e. e.offset ≡ offset) }
+{
+    let ty = table_type_at(stacks, resources, offset, table)?;
+    Ok(Types {
+        wanted: Few::Zero,
+        pushed: Few::One(ty.index_type()),
+    })
+}
+
+/// What `table.fill` takes: `[it e it] -> []`.
+fn fill_types<R: WasmModuleResources>(
+    stacks: &Stacks,
+    resources: &R,
+    offset: u64,
+    table: u32,
+) -> Result<Types, Error>
+    ensures row { IfOk result (λ t. table_fill_row (body_context (R.context resources.now) stacks.now.body) table ≡ types_row t) }
+    ensures valid { IfOk result (λ t. AreValid (R.context resources.now) t) }
+    ensures refused { OnErr result ((table_fill_row (body_context (R.context resources.now) stacks.now.body) table).premise ≡ false) }
+    ensures offset { IfErr result (λ e. e.offset ≡ offset) }
+{
+    let ty = table_type_at(stacks, resources, offset, table)?;
+    let index = ty.index_type();
+    Ok(Types {
+        wanted: Few::Three(index, ValType::Ref(ty.element_type), index),
+        pushed: Few::Zero,
+    })
+}
+
+/// What `table.init` takes: `[it i32 i32] -> []`.
+fn init_types<R: WasmModuleResources>(
+    stacks: &Stacks,
+    resources: &R,
+    offset: u64,
+    elem_index: u32,
+    table: u32,
+) -> Result<Types, Error>
+    ensures row { IfOk result (λ t. table_init_row (body_context (R.context resources.now) stacks.now.body) elem_index table ≡ types_row t) }
+    ensures valid { IfOk result (λ t. AreValid (R.context resources.now) t) }
+    ensures refused { OnErr result ((table_init_row (body_context (R.context resources.now) stacks.now.body) elem_index table).premise ≡ false) }
+    ensures offset { IfErr result (λ e. e.offset ≡ offset) }
+{
+    let ty = table_type_at(stacks, resources, offset, table)?;
+    let segment = element_type_at(stacks, resources, offset, elem_index)?;
+    check_elements(resources, offset, segment, ty.element_type)?;
+    Ok(Types {
+        wanted: Few::Three(ty.index_type(), ValType::I32, ValType::I32),
+        pushed: Few::Zero,
+    })
+}
+
+/// `elem.drop` takes nothing and gives nothing.
+fn drop_types<R: WasmModuleResources>(
+    stacks: &Stacks,
+    resources: &R,
+    offset: u64,
+    elem_index: u32,
+) -> Result<Types, Error>
+    ensures row { IfOk result (λ t. elem_drop_row (body_context (R.context resources.now) stacks.now.body) elem_index ≡ types_row t) }
+    ensures valid { IfOk result (λ t. AreValid (R.context resources.now) t) }
+    ensures refused { OnErr result ((elem_drop_row (body_context (R.context resources.now) stacks.now.body) elem_index).premise ≡ false) }
+    ensures offset { IfErr result (λ e. e.offset ≡ offset) }
+{
+    element_type_at(stacks, resources, offset, elem_index)?;
+    Ok(Types {
+        wanted: Few::Zero,
+        pushed: Few::Zero,
+    })
+}
+
+/// What `table.copy` takes: `[it(dst) it(src) it] -> []`, with the narrower of the two.
+fn copy_types<R: WasmModuleResources>(
+    stacks: &Stacks,
+    resources: &R,
+    offset: u64,
+    dst_table: u32,
+    src_table: u32,
+) -> Result<Types, Error>
+    ensures row { IfOk result (λ t. table_copy_row (body_context (R.context resources.now) stacks.now.body) dst_table src_table ≡ types_row t) }
+    ensures valid { IfOk result (λ t. AreValid (R.context resources.now) t) }
+    ensures refused { OnErr result ((table_copy_row (body_context (R.context resources.now) stacks.now.body) dst_table src_table).premise ≡ false) }
+    ensures offset { IfErr result (λ e. e.offset ≡ offset) }
+{
+    let src = table_type_at(stacks, resources, offset, src_table)?;
+    let dst = table_type_at(stacks, resources, offset, dst_table)?;
+    check_elements(resources, offset, src.element_type, dst.element_type)?;
+    let (to, from) = (dst.index_type(), src.index_type());
+    Ok(Types {
+        wanted: Few::Three(to, from, narrower_of(to, from)),
+        pushed: Few::Zero,
+    })
+}
+
 /// What an operator on tables takes and gives, by the tables and segments that it names.
 fn table_types<R: WasmModuleResources>(
     stacks: &Stacks,
@@ -52,66 +213,21 @@ fn table_types<R: WasmModuleResources>(
         ((table_row (body_context (R.context resources.now) stacks.now.body) op).premise ≡ false) }
     ensures offset { IfErr result (λ e. e.offset ≡ offset) }
 {
-    let (wanted, pushed) = match op {
-        TableOp::TableGet(table) => {
-            let ty = table_type_at(stacks, resources, offset, table)?;
-            (
-                Few::One(ty.index_type()),
-                Few::One(ValType::Ref(ty.element_type)),
-            )
-        }
-        TableOp::TableSet(table) => {
-            let ty = table_type_at(stacks, resources, offset, table)?;
-            (
-                Few::Two(ty.index_type(), ValType::Ref(ty.element_type)),
-                Few::Zero,
-            )
-        }
-        TableOp::TableGrow(table) => {
-            let ty = table_type_at(stacks, resources, offset, table)?;
-            let index = ty.index_type();
-            (
-                Few::Two(ValType::Ref(ty.element_type), index),
-                Few::One(index),
-            )
-        }
-        TableOp::TableSize(table) => {
-            let ty = table_type_at(stacks, resources, offset, table)?;
-            (Few::Zero, Few::One(ty.index_type()))
-        }
-        TableOp::TableFill(table) => {
-            let ty = table_type_at(stacks, resources, offset, table)?;
-            let index = ty.index_type();
-            (
-                Few::Three(index, ValType::Ref(ty.element_type), index),
-                Few::Zero,
-            )
-        }
+    match op {
+        TableOp::TableGet(table) => get_types(stacks, resources, offset, table),
+        TableOp::TableSet(table) => set_types(stacks, resources, offset, table),
+        TableOp::TableGrow(table) => grow_types(stacks, resources, offset, table),
+        TableOp::TableSize(table) => size_types(stacks, resources, offset, table),
+        TableOp::TableFill(table) => fill_types(stacks, resources, offset, table),
         TableOp::TableInit { elem_index, table } => {
-            let ty = table_type_at(stacks, resources, offset, table)?;
-            let segment = element_type_at(stacks, resources, offset, elem_index)?;
-            check_elements(resources, offset, segment, ty.element_type)?;
-            (
-                Few::Three(ty.index_type(), ValType::I32, ValType::I32),
-                Few::Zero,
-            )
+            init_types(stacks, resources, offset, elem_index, table)
         }
-        TableOp::ElemDrop(elem_index) => {
-            element_type_at(stacks, resources, offset, elem_index)?;
-            (Few::Zero, Few::Zero)
-        }
+        TableOp::ElemDrop(elem_index) => drop_types(stacks, resources, offset, elem_index),
         TableOp::TableCopy {
             dst_table,
             src_table,
-        } => {
-            let src = table_type_at(stacks, resources, offset, src_table)?;
-            let dst = table_type_at(stacks, resources, offset, dst_table)?;
-            check_elements(resources, offset, src.element_type, dst.element_type)?;
-            let (to, from) = (dst.index_type(), src.index_type());
-            (Few::Three(to, from, narrower_of(to, from)), Few::Zero)
-        }
-    };
-    Ok(Types { wanted, pushed })
+        } => copy_types(stacks, resources, offset, dst_table, src_table),
+    }
 }
 
 /// The check of an operator on tables, its gate aside.

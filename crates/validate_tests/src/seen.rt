@@ -1,60 +1,89 @@
-//! What can be seen of a validator's state: its frames and its operands.
+//! What can be seen of a validator's state, as a text.
 
-use crate::expect::{expect, expect_same};
-use std::alloc::AllocError;
-use std::process::Abort;
+use crate::expect::{Lack, NO_MEMORY};
 use wasmparser_validate::operators::OperatorValidator;
-use wasmparser_validate::types::ValType;
-use wasmparser_validate::visit::Frame;
+use wasmparser_validate::types::Error;
+use wasmparser_validate::visit::{Frame, FrameKind};
 
-/// The open frames and the operands of a validator, the innermost and the top first.
-#[derive(Drop)]
-pub struct Seen {
-    frames: Vec<Frame>,
-    operands: Vec<Option<ValType>>,
-}
-
-impl Seen {
-    /// What can be seen of this validator.
-    pub fn of(rt: &impl AllocGlobal, v: &OperatorValidator) -> Result<Seen, AllocError> {
-        Ok(Seen {
-            frames: frames_of(rt, v)?,
-            operands: operands_of(rt, v)?,
-        })
-    }
-
-    /// The validator has these frames and operands, and no others. It takes no memory.
-    pub fn expect(&self, rt: &impl Abort, v: &OperatorValidator) {
-        expect_same(rt, v.control_stack_height(), self.frames.len());
-        expect_same(rt, v.operand_stack_height(), self.operands.len());
-        for (depth, frame) in self.frames.iter().enumerate() {
-            expect(rt, v.get_frame(depth).is_some_and(|found| *found == *frame));
-        }
-        for (depth, operand) in self.operands.iter().enumerate() {
-            expect_same(rt, v.peek_operand_at(depth), Some(*operand));
-        }
-    }
-}
-
-fn frames_of(rt: &impl AllocGlobal, v: &OperatorValidator) -> Result<Vec<Frame>, AllocError> {
-    let mut frames = Vec::new(rt.alloc());
+/// All that can be seen: the open frames, the innermost first, and the operands, the top last.
+pub fn seen(rt: &impl AllocGlobal, v: &OperatorValidator) -> Result<String, Lack> {
+    let mut text = String::new(rt.alloc());
     for depth in 0..v.control_stack_height() {
-        if let Some(frame) = v.get_frame(depth) {
-            frames.push(*frame)?;
-        }
+        write!(text, "{:?}", v.get_frame(depth))?;
     }
-    Ok(frames)
+    add_operands(&mut text, v)?;
+    Ok(text)
 }
 
-fn operands_of(
+/// What a visit answered: how many operands and frames there are behind it, or the words of its refusal. Then
+/// an arrow, the innermost frame and the operands, the top last. Want of memory is no answer.
+pub fn said(
     rt: &impl AllocGlobal,
     v: &OperatorValidator,
-) -> Result<Vec<Option<ValType>>, AllocError> {
-    let mut operands = Vec::new(rt.alloc());
-    for depth in 0..v.operand_stack_height() {
-        if let Some(operand) = v.peek_operand_at(depth) {
-            operands.push(operand)?;
+    answer: Result<(), Error>,
+) -> Result<String, Lack> {
+    let mut text = String::new(rt.alloc());
+    add_answer(&mut text, v, answer)?;
+    add_innermost(&mut text, v)?;
+    Ok(text)
+}
+
+fn add_answer(
+    text: &mut String,
+    v: &OperatorValidator,
+    answer: Result<(), Error>,
+) -> Result<(), Lack> {
+    match answer {
+        Ok(()) => {
+            let operands = v.operand_stack_height();
+            let frames = v.control_stack_height();
+            write!(text, "{operands} {frames}")?;
+        }
+        Err(refusal) if refusal.is_out_of_memory() => {
+            return Err(NO_MEMORY);
+        }
+        Err(refusal) => text.push_str(refusal.message())?,
+    }
+    Ok(())
+}
+
+fn add_innermost(text: &mut String, v: &OperatorValidator) -> Result<(), Lack> {
+    let (dead, kind) = match v.get_frame(0) {
+        Some(
+            Frame {
+                unreachable: true,
+                kind,
+                ..
+            },
+        ) => ("dead ", kind_name(*kind)),
+        Some(frame) => ("", kind_name(frame.kind)),
+        None => ("", "none"),
+    };
+    write!(text, " => {dead}{kind}:")?;
+    add_operands(text, v)
+}
+
+/// Adds the types of the operands, `?` for one whose type isn't known.
+fn add_operands(text: &mut String, v: &OperatorValidator) -> Result<(), Lack> {
+    for depth in (0..v.operand_stack_height()).rev() {
+        match v.peek_operand_at(depth).flatten() {
+            Some(ty) => write!(text, " {ty}")?,
+            None => text.push_str(" ?")?,
         }
     }
-    Ok(operands)
+    Ok(())
+}
+
+/// The operator that opens a frame of this kind, or the part of it.
+fn kind_name(kind: FrameKind) -> &'static str {
+    match kind {
+        FrameKind::Block => "block",
+        FrameKind::Loop => "loop",
+        FrameKind::If => "if",
+        FrameKind::Else => "else",
+        FrameKind::TryTable => "try_table",
+        FrameKind::LegacyTry => "legacy_try",
+        FrameKind::LegacyCatch => "catch",
+        FrameKind::LegacyCatchAll => "catch_all",
+    }
 }

@@ -1,0 +1,201 @@
+/* The program opcheck under faults. It is linked behind this file, which stands in for its main, its requests
+   for memory, its reads and its writes (--wrap=main,malloc,realloc,read,write). For each script that an argument
+   names, a child runs the program with ample memory, and then one child for each fault:
+
+   - a request for memory is refused: one, or all from one on. It ends with status 3, says `out of memory`, and
+     has printed whole lines that begin the ample output; or it answers as with ample memory;
+   - a read fails: `bad script: input`, status 2, and nothing on standard output;
+   - a write to standard output fails: status 3, and nothing on standard error;
+   - a write to standard error fails: the status and standard output stay;
+   - reads and writes move one byte each, or are interrupted: the answer stays.
+
+   A crash, or ten seconds without an end, is wrong. Prints a line for each script: `NAME: N runs, M wrong`. */
+#include <errno.h>
+#include <stddef.h>
+#include <stdio.h>
+#include <stdlib.h>
+#include <string.h>
+#include <sys/mman.h>
+#include <sys/wait.h>
+#include <unistd.h>
+
+#define ROOM (1 << 20)
+
+/* What a run did, which its child leaves here. */
+struct seen {
+    long requests, reads, writes, refused_write;
+    size_t length[3];
+    char text[3][ROOM];
+};
+
+/* Which request, read or write fails, none at 0. */
+struct faults {
+    long request, requests_from, read, write;
+    int is_short, is_interrupted;
+};
+
+static struct seen *seen, *ample;
+static struct faults faults;
+static const char *script;
+static size_t length, taken;
+static int is_running, is_odd;
+
+int __real_main(int, char **, char **);
+void *__real_malloc(size_t);
+void *__real_realloc(void *, size_t);
+ssize_t __real_read(int, void *, size_t);
+ssize_t __real_write(int, const void *, size_t);
+
+static int is_refused(void) {
+    if (!is_running) return 0;
+    long number = ++seen->requests;
+    return number == faults.request || (faults.requests_from && number >= faults.requests_from);
+}
+
+void *__wrap_malloc(size_t size) { return is_refused() ? NULL : __real_malloc(size); }
+void *__wrap_realloc(void *old, size_t size) { return is_refused() ? NULL : __real_realloc(old, size); }
+
+/* Whether this read or write is interrupted first: each other one is. */
+static int is_interrupted(void) {
+    is_odd = !is_odd;
+    return faults.is_interrupted && is_odd;
+}
+
+ssize_t __wrap_read(int fd, void *to, size_t size) {
+    if (!is_running || fd != 0) return __real_read(fd, to, size);
+    if (is_interrupted()) return errno = EINTR, -1;
+    if (++seen->reads == faults.read) return errno = EIO, -1;
+    size_t moved = length - taken < size ? length - taken : size;
+    if (faults.is_short && moved > 1) moved = 1;
+    memcpy(to, script + taken, moved);
+    taken += moved;
+    return moved;
+}
+
+ssize_t __wrap_write(int fd, const void *from, size_t size) {
+    if (!is_running || (fd != 1 && fd != 2)) return __real_write(fd, from, size);
+    if (is_interrupted()) return errno = EINTR, -1;
+    if (++seen->writes == faults.write) return seen->refused_write = fd, errno = ENOSPC, -1;
+    size_t moved = faults.is_short && size > 1 ? 1 : size;
+    if (seen->length[fd] + moved > ROOM) abort();
+    memcpy(seen->text[fd] + seen->length[fd], from, moved);
+    seen->length[fd] += moved;
+    return moved;
+}
+
+/* Runs the program under these faults. Gives its status, or -1 where a signal ended it. */
+static int run(struct faults these) {
+    memset(seen, 0, offsetof(struct seen, text));
+    pid_t child = fork();
+    if (child < 0) _exit(2);
+    if (child == 0) {
+        char *arguments[] = {"opcheck", NULL}, *environment[] = {NULL};
+        alarm(10);
+        faults = these;
+        is_running = 1;
+        _exit(__real_main(1, arguments, environment));
+    }
+    int status;
+    waitpid(child, &status, 0);
+    return WIFEXITED(status) ? WEXITSTATUS(status) : -1;
+}
+
+static int has(int fd, const char *text) {
+    return seen->length[fd] == strlen(text) && memcmp(seen->text[fd], text, seen->length[fd]) == 0;
+}
+
+static int is_same(int fd) {
+    return seen->length[fd] == ample->length[fd] && memcmp(seen->text[fd], ample->text[fd], seen->length[fd]) == 0;
+}
+
+static int begins_ample(void) {
+    return seen->length[1] <= ample->length[1] && memcmp(seen->text[1], ample->text[1], seen->length[1]) == 0;
+}
+
+static int has_whole_lines(void) { return !seen->length[1] || seen->text[1][seen->length[1] - 1] == '\n'; }
+
+/* The runs of a script under faults, how many were wrong, and the status with ample memory. */
+static long runs, wrong;
+static int status;
+
+static void expect(const char *name, const char *what, long number, int ended, int is_right) {
+    ++runs;
+    if (is_right) return;
+    if (++wrong <= 3)
+        printf("%s: %s %ld: status %d, %zu bytes printed, said: %.*s\n", name, what, number, ended, seen->length[1],
+               (int)seen->length[2], seen->text[2]);
+}
+
+static int is_want_of_memory(int ended) {
+    return ended == 3 && has(2, "out of memory\n") && begins_ample() && has_whole_lines();
+}
+
+static int is_ample(int ended) { return ended == status && is_same(1) && is_same(2); }
+
+static void refuse_requests(const char *name) {
+    long last = ample->requests;
+    for (long k = 1; k <= last; ++k) {
+        int ended = run((struct faults){.request = k});
+        expect(name, "request", k, ended, is_want_of_memory(ended) || is_ample(ended));
+        ended = run((struct faults){.requests_from = k});
+        expect(name, "requests from", k, ended, is_want_of_memory(ended) || is_ample(ended));
+    }
+}
+
+static void fail_reads(const char *name) {
+    for (long k = 1;; ++k) {
+        int ended = run((struct faults){.read = k, .is_short = 1});
+        if (seen->reads < k) break;
+        expect(name, "read", k, ended, ended == 2 && has(1, "") && has(2, "bad script: input\n"));
+    }
+}
+
+static void fail_writes(const char *name) {
+    for (long k = 1;; ++k) {
+        int ended = run((struct faults){.write = k, .is_short = 1});
+        if (!seen->refused_write) break;
+        int is_right = seen->refused_write == 1 ? ended == 3 && has(2, "") && begins_ample()
+                                                : ended == status && is_same(1);
+        expect(name, "write", k, ended, is_right);
+    }
+}
+
+static void move_bytes(const char *name) {
+    for (int how = 1; how <= 3; ++how) {
+        int ended = run((struct faults){.is_short = how & 1, .is_interrupted = how >> 1});
+        expect(name, "one byte or interrupted", how, ended, is_ample(ended));
+    }
+}
+
+/* Reads a script whole. */
+static int read_script(const char *name) {
+    static char room[ROOM];
+    FILE *file = fopen(name, "rb");
+    if (!file) return 0;
+    length = fread(room, 1, sizeof room, file);
+    script = room;
+    return fclose(file) == 0 && length < sizeof room;
+}
+
+int __wrap_main(int count, char **names) {
+    int flags = MAP_SHARED | MAP_ANONYMOUS;
+    seen = mmap(NULL, sizeof *seen, PROT_READ | PROT_WRITE, flags, -1, 0);
+    ample = __real_malloc(sizeof *ample);
+    if (seen == MAP_FAILED || !ample) return 2;
+    setvbuf(stdout, NULL, _IOLBF, 0);
+    int is_bad = 0;
+    for (int i = 1; i < count; ++i) {
+        if (!read_script(names[i])) return 2;
+        runs = wrong = 0;
+        status = run((struct faults){0});
+        memcpy(ample, seen, sizeof *ample);
+        expect(names[i], "ample memory", 0, status, 0 <= status && status <= 2);
+        refuse_requests(names[i]);
+        fail_reads(names[i]);
+        fail_writes(names[i]);
+        move_bytes(names[i]);
+        printf("%s: %ld runs, %ld wrong\n", names[i], runs, wrong);
+        is_bad |= wrong > 0;
+    }
+    return is_bad;
+}

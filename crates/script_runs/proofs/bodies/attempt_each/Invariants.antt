@@ -1,0 +1,11 @@
+-- No attempt is pending, and the types are valid.
+use Rattle.std.proofs.Common.{◌≡◌, None}
+use Rattle.validate_stacks.specs.State.{IsValidBody}
+use Rattle.validate_body.specs.Start.{state}
+use Rattle.script_runs.proofs.bodies.attempt_each.Given as goal
+
+abbrev pub invariant-loop-pair : goal.invariant-loop-pair
+invariant-loop-pair g l = record {
+  valid : IsValidBody (g.R.WasmModuleResources.context l.resources) (state l.v);
+  idle : (state l.v).undone ≡ None;
+}

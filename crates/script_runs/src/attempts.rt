@@ -1,0 +1,90 @@
+//! Scripts once more, with every operator attempted that may be.
+
+use std::alloc::{AllocError, Global};
+
+/// The first words of lines that are no operators, and the operators that can't be attempted.
+const PLAIN: &str = "feature type fn table memory global tag elem data func expr local \
+    block loop if else end try_table legacy_try catch catch_all delegate try";
+
+/// Whether the line is an operator that may be attempted.
+fn may_be_attempted(line: &str) -> bool {
+    let words = line.trim();
+    let (name, _) = words.split_once(' ').unwrap_or((words, ""));
+    !name.is_empty() && !name.starts_with('#') && !PLAIN.split(' ').any(|word| word == name)
+}
+
+/// The number of the line whose refusal ends the run that prints this, and 0 where none does.
+fn last_line(printed: &str) -> u64 {
+    let Some(lines) = printed.strip_suffix("refused\n") else {
+        return 0;
+    };
+    let last = lines.lines().last().unwrap_or("");
+    let refused = last.strip_prefix("refused ").unwrap_or("");
+    let (number, _) = refused.split_once(':').unwrap_or(("", ""));
+    number.parse().unwrap_or(0)
+}
+
+/// Adds a line to a text, attempted where it may be. Whether it is.
+fn add_attempted(text: &mut String, line: &str) -> Result<bool, AllocError> {
+    let attempted = may_be_attempted(line);
+    if attempted {
+        text.push_str("try ")?;
+    }
+    text.push_str(line)?;
+    Ok(attempted)
+}
+
+/// Adds the lines of a script, each operator attempted that may be, up to the one at this line, if it is one;
+/// a `nop` stands behind it then. Whether it is.
+fn add_each_attempted(text: &mut String, script: &str, last: u64) -> Result<bool, AllocError> {
+    let mut number: u64 = 0;
+    for line in script.split_inclusive('\n') {
+        number = number.saturating_add(1);
+        if add_attempted(text, line)? && number == last {
+            text.push_str("\nnop\n")?;
+            return Ok(true);
+        }
+    }
+    Ok(false)
+}
+
+/// What is printed at a `nop` behind what printed this: the heights before the refusal.
+fn heights_before(printed: &str) -> &str {
+    printed
+        .lines()
+        .filter(|line| line.starts_with("ok "))
+        .last()
+        .unwrap_or("ok 0 1")
+}
+
+/// What the script that `attempted` gives prints, and its status, where the script prints this and has
+/// this status: the same, but that a refusal that ended the run leaves the heights before it.
+fn printed_then(
+    alloc: Global,
+    printed: &str,
+    status: u8,
+    taken_back: bool,
+) -> Result<(String, u8), AllocError> {
+    if !taken_back {
+        return Ok((printed.to_string(alloc)?, status));
+    }
+    let lines = printed.strip_suffix("refused\n").unwrap_or(printed);
+    let heights = heights_before(printed);
+    Ok((format!(in alloc; "{lines}{heights}\nopen\n")?, 1))
+}
+
+/// A script and what it prints, with its status.
+pub type Run = (String, String, u8);
+
+/// The script with each operator attempted that may be, what it is to print, and its status.
+pub fn attempted(
+    alloc: Global,
+    script: &str,
+    printed: &str,
+    status: u8,
+) -> Result<Run, AllocError> {
+    let mut text = String::new(alloc);
+    let taken_back = add_each_attempted(&mut text, script, last_line(printed))?;
+    let (printed, status) = printed_then(alloc, printed, status, taken_back)?;
+    Ok((text, printed, status))
+}

@@ -1,0 +1,135 @@
+//! Files of cases.
+//!
+//! A section begins with a line `@KIND`, and what follows up to the next one is its text. One that begins with
+//! `@#` is a comment, of as many lines as it has. The first lines of scripts:
+//!
+//! - `@head`: these are the first lines of the scripts of the sections to come;
+//! - `@without FLAG`: the same, behind lines that turn on every proposal but this one.
+//!
+//! What is run behind them:
+//!
+//! - `@scripts`: a transcript (`transcript.rt`);
+//! - `@rows` and then `@each`: a transcript that is run once for each row, filled by it;
+//! - `@bad`: lines, of which each makes a script bad;
+//! - `@table`: operators, with what they take and give and the proposal that each needs (`tables.rt`);
+//! - `@given`: lines of operators that are all accepted, each with the types of the operands behind them;
+//! - `@left`: lines of operators of which the last alone is refused, with those that are left (`left.rt`);
+//! - `@undone`: a body of operators that are visited, or attempted and taken back (`undone.rt`).
+//!
+//! A script without `feature` lines runs with all proposals, and again with all but custom descriptors. Behind
+//! `@scripts` and `@each` the words `with custom_descriptors` or `without custom_descriptors` say that it has
+//! these answers in one of the two alone.
+
+use crate::flags::{DESCRIPTORS, all_but, is_flag};
+use crate::left::run_left;
+use crate::report::Report;
+use crate::runs::Descriptors;
+use crate::tables::run_table;
+use crate::transcript::{run_bad_lines, run_each, run_transcript};
+use crate::undone::run_undone;
+use std::alloc::Global;
+use std::fmt;
+
+/// With which descriptors the scripts of a section run, by the words behind its kind.
+pub fn descriptors_of(words: &str) -> Option<Descriptors> {
+    match words.split_once(' ') {
+        None if words.is_empty() => Some(Descriptors::Both),
+        Some(("with", flag)) if flag == DESCRIPTORS => Some(Descriptors::With),
+        Some(("without", flag)) if flag == DESCRIPTORS => Some(Descriptors::Without),
+        _ => None,
+    }
+}
+
+/// What holds for the sections to come.
+#[derive(Drop)]
+struct Cases<'a> {
+    /// The first lines of each script.
+    head: String,
+    /// The rows of the next `@each`.
+    rows: &'a str,
+}
+
+impl<'a> Cases<'a> {
+    /// Puts other first lines in place: these, behind those.
+    fn begin(&mut self, features: &str, lines: &str) -> Result<(), fmt::Error> {
+        self.head.clear();
+        self.head.push_str(features)?;
+        self.head.push_str(lines)?;
+        if !lines.is_empty() {
+            self.head.push_str("\n")?;
+        }
+        Ok(())
+    }
+
+    /// The same, behind the lines that turn every proposal on but this one.
+    fn begin_without(
+        &mut self,
+        alloc: Global,
+        report: &mut Report,
+        flag: &str,
+        lines: &str,
+    ) -> Result<(), fmt::Error> {
+        if !is_flag(flag) {
+            return report.refuse(flag, "is no flag");
+        }
+        let features = all_but(alloc, flag)?;
+        self.begin(&features, lines)
+    }
+
+    /// Runs the scripts of a section.
+    fn run(
+        &self,
+        alloc: Global,
+        report: &mut Report,
+        (kind, words): (&str, &str),
+        text: &str,
+    ) -> Result<(), fmt::Error> {
+        let head = &self.head;
+        match (kind, descriptors_of(words)) {
+            ("scripts", Some(with)) => run_transcript(alloc, report, head, text, with),
+            ("each", Some(with)) => run_each(alloc, report, head, (self.rows, text), with),
+            ("bad", Some(Descriptors::Both)) => run_bad_lines(alloc, report, head, text),
+            ("table", Some(Descriptors::Both)) => run_table(alloc, report, head, text),
+            ("given", Some(Descriptors::Both)) => run_left(alloc, report, head, (text, false)),
+            ("left", Some(Descriptors::Both)) => run_left(alloc, report, head, (text, true)),
+            ("undone", Some(Descriptors::Both)) => run_undone(alloc, report, head, text),
+            _ => report.refuse(kind, "begins no section"),
+        }
+    }
+
+    /// Reads a section, and runs its scripts.
+    fn read(
+        &mut self,
+        alloc: Global,
+        report: &mut Report,
+        (kind, words): (&str, &str),
+        text: &'a str,
+    ) -> Result<(), fmt::Error> {
+        match kind {
+            "#" => Ok(()),
+            "head" => self.begin("", text),
+            "without" => self.begin_without(alloc, report, words, text),
+            "rows" => {
+                self.rows = text;
+                Ok(())
+            }
+            _ => self.run(alloc, report, (kind, words), text),
+        }
+    }
+}
+
+/// Runs the scripts of a file of cases.
+pub fn run_cases(alloc: Global, report: &mut Report, text: &str) -> Result<(), fmt::Error> {
+    let mut cases = Cases {
+        head: String::new(alloc),
+        rows: "",
+    };
+    let text = text.trim_start();
+    let text = text.strip_prefix("@").unwrap_or(text);
+    for section in text.split("\n@") {
+        let (title, body) = section.split_once('\n').unwrap_or((section, ""));
+        let title = title.split_once(' ').unwrap_or((title, ""));
+        cases.read(alloc, report, title, body)?;
+    }
+    Ok(())
+}

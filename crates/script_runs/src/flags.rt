@@ -1,0 +1,84 @@
+//! Proposals: the lines that turn them on, and what the operators of each are refused with.
+
+use std::alloc::Global;
+use std::fmt;
+
+/// Every flag of a proposal, and behind a colon the refusal of the operators that need it, where the
+/// tables have some.
+const FLAGS: &str = "
+multi_value
+floats:                  floating-point instruction disallowed
+simd
+reference_types:         reference types support is not enabled
+bulk_memory:             bulk memory support is not enabled
+bulk_memory_opt:         bulk memory support is not enabled
+sign_extension:          sign extension operations support is not enabled
+saturating_float_to_int: saturating float to int conversions support is not enabled
+threads:                 threads support is not enabled
+shared_everything_threads: shared-everything-threads support is not enabled
+exceptions:              exceptions support is not enabled
+legacy_exceptions
+tail_call:               tail calls support is not enabled
+function_references:     function references support is not enabled
+gc:                      gc support is not enabled
+custom_descriptors:      custom descriptors operations support is not enabled
+stack_switching:         stack switching support is not enabled
+memory_control:          memory control support is not enabled
+wide_arithmetic:         wide arithmetic support is not enabled
+acquire_release_atomics: acquire-release atomics support is not enabled
+multibyte_array_access
+";
+
+/// The flag whose absence leaves allocations without exact types.
+pub const DESCRIPTORS: &str = "custom_descriptors";
+
+/// The name of a flag, from its line in `FLAGS`.
+fn flag_name(line: &str) -> &str {
+    match line.split_once(':') {
+        Some((name, _)) => name,
+        None => line,
+    }
+}
+
+/// The lines that turn every proposal on but this one.
+pub fn all_but(alloc: Global, flag: &str) -> Result<String, fmt::Error> {
+    let mut lines = String::new(alloc);
+    for line in FLAGS.lines() {
+        let name = flag_name(line);
+        if !name.is_empty() && name != flag {
+            writeln!(lines, "feature {name}")?;
+        }
+    }
+    Ok(lines)
+}
+
+/// Whether this is the name of a flag.
+pub fn is_flag(name: &str) -> bool {
+    !name.is_empty() && FLAGS.lines().any(|line| flag_name(line) == name)
+}
+
+/// The refusal of an operator without the proposal of this flag.
+pub fn refusal_without(flag: &str) -> Option<&'static str> {
+    FLAGS
+        .lines()
+        .filter_map(|line| line.split_once(':'))
+        .find(|(name, _)| *name == flag)
+        .map(|(_, text)| text.trim())
+}
+
+/// Whether a line of the script turns a proposal on, or is meant to.
+pub fn names_flags(script: &str) -> bool {
+    script
+        .lines()
+        .any(|line| line.split_whitespace().next() == Some("feature"))
+}
+
+/// The script behind lines that turn on every proposal but custom descriptors, or nothing where it turns
+/// some on itself.
+pub fn without_descriptors(alloc: Global, script: &str) -> Result<String, fmt::Error> {
+    if names_flags(script) {
+        return Ok(String::new(alloc));
+    }
+    let features = all_but(alloc, DESCRIPTORS)?;
+    Ok(format!(in alloc; "{features}{script}")?)
+}

@@ -1,0 +1,161 @@
+//! What lists of operators leave.
+
+ghost use Rattle.std.specs.Prelude.{◌≡◌, true, []};
+ghost use Rattle.std.specs.List.{list_all};
+ghost use Rattle.validate_body.specs.Runs.{without_offsets};
+ghost use Rattle.validate_body.specs.Start.{state};
+ghost use Rattle.validate_stacks.specs.State.{IsStarting};
+ghost use Rattle.validate_visit.specs.Immediates.{is_module_op};
+ghost use Rattle.validate_visit.specs.Order.{is_well_ordered_list};
+
+use crate::bodies::{Task, run_body};
+use crate::flags::without_descriptors;
+use crate::report::Report;
+use crate::seen::add_operand_types;
+use crate::transcript::parts_of;
+use std::alloc::{AllocError, Global};
+use std::fmt;
+use validate_body::{OperatorValidator, check_ops};
+use validate_resources::WasmModuleResources;
+use validate_types::Error;
+use validate_visit::{Op, have_module_immediates, is_well_ordered};
+
+/// What a list of operators comes to.
+#[derive(Clone, Copy)]
+pub struct Left<'a> {
+    /// Whether its last operator is refused, and none before it.
+    pub is_refused: bool,
+    /// The words of the refusal, where they are looked at.
+    pub text: Option<&'a str>,
+    /// The types of the operands that are left, the last on top.
+    pub operands: &'a str,
+}
+
+/// Compares the words of a refusal, where they are looked at.
+fn compare_text(
+    report: &mut Report,
+    script: &str,
+    found: &str,
+    wanted: Option<&str>,
+) -> Result<(), fmt::Error> {
+    match wanted {
+        Some(wanted) => report.compare(script, "is refused", found, wanted),
+        None => Ok(()),
+    }
+}
+
+/// Compares what the check of so many operators answers.
+fn compare_answer(
+    report: &mut Report,
+    script: &str,
+    answer: Result<bool, (usize, Error)>,
+    count: usize,
+    left: Left<'_>,
+) -> Result<(), fmt::Error> {
+    let wanted = if left.is_refused {
+        count.saturating_sub(1)
+    } else {
+        count
+    };
+    match answer {
+        Ok(_) => report.compare_number(script, "accepts", count, wanted),
+        Err((place, refusal)) => {
+            report.compare_number(script, "accepts", place, wanted)?;
+            compare_text(report, script, refusal.message(), left.text)
+        }
+    }
+}
+
+/// Checks the operators of a script as one list, and compares what it answers and leaves.
+pub fn check_list<R: WasmModuleResources>(
+    alloc: Global,
+    report: &mut Report,
+    v: &mut OperatorValidator,
+    ops: &[(Op<'_>, u64)],
+    resources: &R,
+    script: &str,
+    left: Left<'_>,
+) -> Result<(), fmt::Error>
+    requires { IsStarting (R.context resources.now) (state v.old) }
+{
+    if !is_well_ordered(ops) || !have_module_immediates(ops) {
+        return report.refuse(script, "is out of order");
+    }
+    let mut heights = Vec::new(alloc);
+    let answer = check_ops(v, ops, resources, &mut heights);
+    compare_answer(report, script, answer, ops.len(), left)?;
+    let mut operands = String::new(alloc);
+    add_operand_types(&mut operands, v)?;
+    report.compare(script, "leaves", operands.trim(), left.operands)
+}
+
+/// The script of these operators, parted by commas, behind these first lines.
+fn script_of(alloc: Global, head: &str, operators: &str) -> Result<String, AllocError> {
+    let mut script = head.to_string(alloc)?;
+    for operator in operators.split(',') {
+        script.push_str(operator.trim())?;
+        script.push_str("\n")?;
+    }
+    Ok(script)
+}
+
+/// Runs the operators of a line as one list, and by attempts.
+fn run_list(
+    alloc: Global,
+    report: &mut Report,
+    head: &str,
+    operators: &str,
+    left: Left<'_>,
+) -> Result<(), fmt::Error> {
+    let script = script_of(alloc, head, operators)?;
+    run_body(alloc, report, &script, Task::List(left))?;
+    run_body(alloc, report, &script, Task::Attempts)
+}
+
+/// What a line has behind its arrow: the types of operands, and perhaps a bar and the words of a refusal.
+fn left_of(answer: &str, is_refused: bool) -> Left<'_> {
+    let (operands, text) = match answer.split_once('|') {
+        Some((operands, text)) => (operands, Some(text.trim())),
+        None => (answer, None),
+    };
+    Left {
+        is_refused,
+        text,
+        operands: operands.trim(),
+    }
+}
+
+/// Runs the operators of a line behind these first lines, or those.
+fn run_line(
+    alloc: Global,
+    report: &mut Report,
+    (head, plain): (&str, &str),
+    line: &str,
+    is_refused: bool,
+) -> Result<(), fmt::Error> {
+    report.count();
+    let (operators, answer) = parts_of(line);
+    let left = left_of(answer, is_refused);
+    run_list(alloc, report, head, operators, left)?;
+    if plain.is_empty() {
+        return Ok(());
+    }
+    run_list(alloc, report, plain, operators, left)
+}
+
+/// Runs the operators of each line, parted by commas, behind these first lines: with all proposals and without
+/// custom descriptors, where those lines name no flag. Of a refused line the last operator is refused, and no
+/// other is. Behind the arrow stand the types of the operands that are left, the last on top, `?` being one
+/// whose type isn't known; behind a bar perhaps the words of the refusal.
+pub fn run_left(
+    alloc: Global,
+    report: &mut Report,
+    head: &str,
+    (lines, is_refused): (&str, bool),
+) -> Result<(), fmt::Error> {
+    let plain = without_descriptors(alloc, head)?;
+    for line in lines.lines().filter(|line| !line.is_empty()) {
+        run_line(alloc, report, (head, &plain), line, is_refused)?;
+    }
+    Ok(())
+}

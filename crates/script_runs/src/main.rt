@@ -1,0 +1,126 @@
+//! Runs the scripts of the files of `data/` that its standard input names, one a line, and prints how many
+//! each has, and behind that whatever came out otherwise than expected.
+//!
+//! `NAME.cases` has sections (`cases.rt`). `NAME.script` is one script, and `NAME.expected` beside it what it
+//! prints; it is accepted.
+//!
+//! A script runs as one list, with both outputs and its status compared; once more with each operator
+//! attempted that may be; and operator by operator, each attempted, where a refused one has to leave all
+//! frames and operands as they were. One without `feature` lines runs again as one list with every proposal
+//! on but custom descriptors, and answers the same. Last come scripts that are in no file: with odd bytes,
+//! computed, and over readers and writers that fail.
+#![tactic(auto)]
+
+mod attempts;
+mod bodies;
+mod cases;
+mod fakes;
+mod flags;
+mod left;
+mod odd;
+mod renumbered;
+mod report;
+mod runs;
+mod seen;
+mod tables;
+mod transcript;
+mod undone;
+
+use crate::cases::{descriptors_of, run_cases};
+use crate::fakes::run_broken;
+use crate::odd::{run_many_elements, run_odd};
+use crate::report::Report;
+use crate::runs::{Outcome, run_script};
+use std::process::ExitCode;
+use std::{fs, io};
+
+/// The text of a file, or None where it can't be read or memory is wanting.
+fn read(rt: &HostRuntime, name: &str, ending: &str) -> Option<String> {
+    let file = format!(in rt.alloc(); "{name}.{ending}").ok()?;
+    fs::read_to_string(rt, file.as_str()).ok()
+}
+
+/// What the scripts of a file of cases came to.
+fn report_of_cases(rt: &HostRuntime, name: &str) -> Option<Report> {
+    let text = read(rt, name, "cases")?;
+    let mut report = Report::new(rt.alloc());
+    run_cases(rt.alloc(), &mut report, &text).ok()?;
+    Some(report)
+}
+
+/// What a script that is a file came to. The words say with which descriptors it runs.
+fn report_of_script(rt: &HostRuntime, name: &str, words: &str) -> Option<Report> {
+    let descriptors = descriptors_of(words)?;
+    let script = read(rt, name, "script")?;
+    let expected = read(rt, name, "expected")?;
+    let wanted = Outcome {
+        out: &expected,
+        err: "",
+        status: 0,
+    };
+    let mut report = Report::new(rt.alloc());
+    run_script(rt.alloc(), &mut report, &script, wanted, descriptors).ok()?;
+    Some(report)
+}
+
+/// What the scripts of a file came to, which a line of the input names.
+fn report_of(rt: &HostRuntime, line: &str) -> Option<Report> {
+    let (name, rest) = line.split_once('.')?;
+    match rest.split_once(' ').unwrap_or((rest, "")) {
+        ("cases", "") => report_of_cases(rt, name),
+        ("script", words) => report_of_script(rt, name, words),
+        _ => None,
+    }
+}
+
+/// What the scripts came to that stand in no file.
+fn report_of_others(rt: &HostRuntime) -> Option<Report> {
+    let mut report = Report::new(rt.alloc());
+    run_odd(rt.alloc(), &mut report).ok()?;
+    run_many_elements(rt.alloc(), &mut report).ok()?;
+    run_broken(rt.alloc(), &mut report).ok()?;
+    Some(report)
+}
+
+/// Prints what scripts came to, and says whether all was as expected.
+fn print_report(rt: &HostRuntime, name: &str, report: Option<Report>) -> io::Result<bool> {
+    let Some(report) = report else {
+        println!(rt; "{name}: not read")?;
+        return Ok(false);
+    };
+    let noun = if report.scripts == 1 {
+        "script"
+    } else {
+        "scripts"
+    };
+    println!(rt; "{name}: {} {noun}", report.scripts)?;
+    if report.told.is_empty() {
+        return Ok(true);
+    }
+    println!(rt; "{}", report.told)?;
+    Ok(false)
+}
+
+/// Runs all of them, and says whether all was as expected.
+fn run_files(rt: &HostRuntime, names: &str) -> io::Result<bool> {
+    let mut is_well = true;
+    for line in names.lines() {
+        let (name, _) = line.split_once('.').unwrap_or((line, ""));
+        is_well &= print_report(rt, name, report_of(rt, line))?;
+    }
+    is_well &= print_report(rt, "in no file", report_of_others(rt))?;
+    Ok(is_well)
+}
+
+/// The same of the files that the input names.
+fn run_named(rt: &HostRuntime) -> io::Result<bool> {
+    let names = io::read_to_string(rt.alloc(), rt.stdin())?;
+    run_files(rt, &names)
+}
+
+fn main(rt: HostRuntime) -> ExitCode {
+    match run_named(&rt) {
+        Ok(true) => ExitCode::SUCCESS,
+        _ => ExitCode::FAILURE,
+    }
+}

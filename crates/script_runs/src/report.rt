@@ -1,0 +1,74 @@
+//! What scripts came to.
+
+use std::alloc::Global;
+use std::{fmt, str};
+
+/// What the scripts of a file came to.
+#[derive(Drop)]
+pub struct Report {
+    /// How many there were.
+    pub scripts: u64,
+    /// What is told of those that came to something else than expected.
+    pub told: String,
+}
+
+impl Report {
+    /// Of no script yet.
+    pub fn new(alloc: Global) -> Report {
+        Report {
+            scripts: 0,
+            told: String::new(alloc),
+        }
+    }
+
+    /// A further script.
+    pub fn count(&mut self) {
+        self.scripts = self.scripts.saturating_add(1);
+    }
+
+    /// Tells it where what the script does isn't what is expected.
+    pub fn compare(
+        &mut self,
+        script: &str,
+        does: &str,
+        found: &str,
+        wanted: &str,
+    ) -> Result<(), fmt::Error> {
+        if found != wanted {
+            writeln!(self.told, "{script}\n{does}:\n{found}\nand not:\n{wanted}")?;
+        }
+        Ok(())
+    }
+
+    /// The same of an output.
+    pub fn compare_output(
+        &mut self,
+        script: &str,
+        does: &str,
+        found: &[u8],
+        wanted: &str,
+    ) -> Result<(), fmt::Error> {
+        let found = str::from_utf8(found).unwrap_or("bytes that are no text");
+        self.compare(script, does, found, wanted)
+    }
+
+    /// The same of a number: a status, or a height.
+    pub fn compare_number(
+        &mut self,
+        script: &str,
+        does: &str,
+        found: usize,
+        wanted: usize,
+    ) -> Result<(), fmt::Error> {
+        if found != wanted {
+            writeln!(self.told, "{script}\n{does} {found} and not {wanted}")?;
+        }
+        Ok(())
+    }
+
+    /// A section, or a line of one, can't be read.
+    pub fn refuse(&mut self, text: &str, why: &str) -> Result<(), fmt::Error> {
+        writeln!(self.told, "{text}\n{why}")?;
+        Ok(())
+    }
+}

@@ -1,0 +1,132 @@
+//! Runs of a script, and what they are to come to.
+
+use crate::attempts::attempted;
+use crate::bodies::{Task, run_body};
+use crate::flags::{DESCRIPTORS, all_but, names_flags};
+use crate::renumbered::renumbered;
+use crate::report::Report;
+use opcheck_script::run;
+use std::alloc::Global;
+use std::{fmt, str};
+
+/// What a script comes to.
+#[derive(Clone, Copy)]
+pub struct Outcome<'a> {
+    /// What it prints.
+    pub out: &'a str,
+    /// What it says on the error output.
+    pub err: &'a str,
+    pub status: u8,
+}
+
+/// Whether a script without `feature` lines runs with custom descriptors, without them, or both. With them
+/// what is allocated has an exact type.
+#[derive(Clone, Copy, PartialEq)]
+pub enum Descriptors {
+    Both,
+    With,
+    Without,
+}
+
+/// Runs a script, and compares both outputs and the status.
+fn compare_run(
+    alloc: Global,
+    report: &mut Report,
+    script: &[u8],
+    wanted: Outcome<'_>,
+) -> Result<(), fmt::Error> {
+    let mut printed = Vec::new(alloc);
+    let mut said = Vec::new(alloc);
+    let status = run(alloc, script, &mut printed, &mut said);
+    let text = str::from_utf8(script).unwrap_or("bytes that are no text");
+    report.compare_output(text, "prints", &printed, wanted.out)?;
+    report.compare_output(text, "says", &said, wanted.err)?;
+    report.compare_number(text, "ends with", status as usize, wanted.status as usize)
+}
+
+/// Runs a script with each operator attempted that may be.
+fn compare_attempted(
+    alloc: Global,
+    report: &mut Report,
+    script: &str,
+    wanted: Outcome<'_>,
+) -> Result<(), fmt::Error> {
+    let (text, out, status) = attempted(alloc, script, wanted.out, wanted.status)?;
+    let wanted = Outcome {
+        out: &out,
+        status,
+        ..wanted
+    };
+    compare_run(alloc, report, text.as_bytes(), wanted)
+}
+
+/// Runs a script as one list; once more with each operator attempted that may be; and once operator by
+/// operator by attempts, behind a refused one of which all is as it was before.
+fn compare_runs(
+    alloc: Global,
+    report: &mut Report,
+    script: &str,
+    wanted: Outcome<'_>,
+) -> Result<(), fmt::Error> {
+    compare_run(alloc, report, script.as_bytes(), wanted)?;
+    compare_attempted(alloc, report, script, wanted)?;
+    run_body(alloc, report, script, Task::Attempts)
+}
+
+/// Runs a script behind lines that turn on every proposal but custom descriptors: as one list, and in the
+/// other ways too where it is run so alone.
+fn compare_without(
+    alloc: Global,
+    report: &mut Report,
+    script: &str,
+    wanted: Outcome<'_>,
+    is_alone: bool,
+) -> Result<(), fmt::Error> {
+    let features = all_but(alloc, DESCRIPTORS)?;
+    let lines = features.lines().count() as u64;
+    let out = renumbered(alloc, wanted.out, lines)?;
+    let err = renumbered(alloc, wanted.err, lines)?;
+    let script = format!(in alloc; "{features}{script}")?;
+    let wanted = Outcome {
+        out: &out,
+        err: &err,
+        ..wanted
+    };
+    if is_alone {
+        return compare_runs(alloc, report, &script, wanted);
+    }
+    compare_run(alloc, report, script.as_bytes(), wanted)
+}
+
+/// Runs a script in all ways.
+pub fn run_script(
+    alloc: Global,
+    report: &mut Report,
+    script: &str,
+    wanted: Outcome<'_>,
+    descriptors: Descriptors,
+) -> Result<(), fmt::Error> {
+    report.count();
+    if names_flags(script) || descriptors == Descriptors::With {
+        return compare_runs(alloc, report, script, wanted);
+    }
+    if descriptors == Descriptors::Both {
+        compare_runs(alloc, report, script, wanted)?;
+    }
+    let is_alone = descriptors == Descriptors::Without;
+    compare_without(alloc, report, script, wanted, is_alone)
+}
+
+/// Runs bytes: in all ways where they are text, and else once.
+pub fn run_bytes(
+    alloc: Global,
+    report: &mut Report,
+    bytes: &[u8],
+    wanted: Outcome<'_>,
+) -> Result<(), fmt::Error> {
+    if let Ok(text) = str::from_utf8(bytes) {
+        return run_script(alloc, report, text, wanted, Descriptors::Both);
+    }
+    report.count();
+    compare_run(alloc, report, bytes, wanted)
+}

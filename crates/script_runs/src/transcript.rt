@@ -1,0 +1,193 @@
+//! Transcripts: scripts with what the program prints at each line.
+
+use crate::report::Report;
+use crate::runs::{Descriptors, Outcome, run_script};
+use std::alloc::{AllocError, Global};
+use std::fmt;
+
+/// Runs a script, and compares what it prints, the last line being this verdict. A bad script prints
+/// nothing and says why.
+fn run_to_verdict(
+    alloc: Global,
+    report: &mut Report,
+    script: &str,
+    lines: &str,
+    (verdict, descriptors): (&str, Descriptors),
+) -> Result<(), fmt::Error> {
+    let last = format!(in alloc; "{verdict}\n")?;
+    if verdict.starts_with("bad script") {
+        let wanted = Outcome {
+            out: lines,
+            err: &last,
+            status: 2,
+        };
+        return run_script(alloc, report, script, wanted, descriptors);
+    }
+    let out = format!(in alloc; "{lines}{last}")?;
+    let wanted = Outcome {
+        out: &out,
+        err: "",
+        status: if verdict == "accepted" { 0 } else { 1 },
+    };
+    run_script(alloc, report, script, wanted, descriptors)
+}
+
+/// Adds a line to a text, unless it is empty.
+fn add_line(text: &mut String, line: &str) -> Result<(), AllocError> {
+    if line.is_empty() {
+        return Ok(());
+    }
+    text.push_str(line)?;
+    text.push_str("\n")
+}
+
+/// A script that is being read, behind its first lines, and what it is to print.
+#[derive(Drop)]
+struct Case<'a> {
+    head: &'a str,
+    script: String,
+    printed: String,
+}
+
+impl<'a> Case<'a> {
+    fn new(alloc: Global, head: &'a str) -> Result<Case<'a>, AllocError> {
+        Ok(Case {
+            head,
+            script: head.to_string(alloc)?,
+            printed: String::new(alloc),
+        })
+    }
+
+    /// Adds a line of the script, and what is printed there.
+    fn add(&mut self, written: &str, answer: &str) -> Result<(), AllocError> {
+        add_line(&mut self.script, written)?;
+        add_line(&mut self.printed, answer)
+    }
+
+    /// Runs the script, and begins the next one.
+    fn run(
+        &mut self,
+        alloc: Global,
+        report: &mut Report,
+        verdict: &str,
+        descriptors: Descriptors,
+    ) -> Result<(), fmt::Error> {
+        let verdict = (verdict, descriptors);
+        run_to_verdict(alloc, report, &self.script, &self.printed, verdict)?;
+        self.script.clear();
+        self.printed.clear();
+        self.script.push_str(self.head)?;
+        Ok(())
+    }
+}
+
+/// What a line of a transcript has before its `=>` and behind it.
+pub fn parts_of(line: &str) -> (&str, &str) {
+    let (written, answer) = line.split_once("=>").unwrap_or((line, ""));
+    (written.trim_end_matches(' '), answer.trim())
+}
+
+/// Runs each script of a transcript behind these first lines. There is one at least.
+///
+/// A line of a transcript is a line of the script, then `=>` and what the program prints there, if
+/// anything. A line that begins with `=>` ends a script and gives the verdict. Spaces at the end of a
+/// script's line are left out, and blank lines stand for nothing.
+pub fn run_transcript(
+    alloc: Global,
+    report: &mut Report,
+    head: &str,
+    transcript: &str,
+    descriptors: Descriptors,
+) -> Result<(), fmt::Error> {
+    let mut case = Case::new(alloc, head)?;
+    let mut ran = false;
+    for line in transcript.lines() {
+        let (written, answer) = parts_of(line);
+        if written.is_empty() && !answer.is_empty() {
+            case.run(alloc, report, answer, descriptors)?;
+            ran = true;
+        } else {
+            case.add(written, answer)?;
+        }
+    }
+    if !ran || case.script.as_str() != head {
+        return report.refuse(&case.script, "has no verdict");
+    }
+    Ok(())
+}
+
+/// A text with this row in place of each `$0`, and the first word of the row in place of each `$1`, the
+/// second in place of each `$2`, and so on. Where the row has an arrow, what stands behind it takes the
+/// place of `$text`, and the row is what stands before it.
+fn fill(alloc: Global, text: &str, row: &str) -> Result<String, AllocError> {
+    let (row, behind) = row.split_once(" => ").unwrap_or((row, ""));
+    let text = text.replace(alloc, "$text", behind)?;
+    let mut filled = text.replace(alloc, "$0", row)?;
+    for (k, word) in row.split_whitespace().enumerate() {
+        let number = k.saturating_add(1);
+        let mark = format!(in alloc; "${number}")?;
+        filled = filled.replace(alloc, mark.as_str(), word)?;
+    }
+    Ok(filled)
+}
+
+/// Runs a transcript behind these first lines, filled by this row.
+fn run_row(
+    alloc: Global,
+    report: &mut Report,
+    head: &str,
+    (row, transcript): (&str, &str),
+    descriptors: Descriptors,
+) -> Result<(), fmt::Error> {
+    let filled = fill(alloc, transcript, row)?;
+    run_transcript(alloc, report, head, &filled, descriptors)
+}
+
+/// Runs a transcript behind these first lines once for each row, filled by it. Blank rows stand for nothing.
+pub fn run_each(
+    alloc: Global,
+    report: &mut Report,
+    head: &str,
+    (rows, transcript): (&str, &str),
+    descriptors: Descriptors,
+) -> Result<(), fmt::Error> {
+    for row in rows.lines() {
+        if !row.is_empty() {
+            run_row(alloc, report, head, (row, transcript), descriptors)?;
+        }
+    }
+    Ok(())
+}
+
+/// Runs this line behind these first lines and before an `end`, which makes a bad script that says this.
+fn run_bad_line(
+    alloc: Global,
+    report: &mut Report,
+    head: &str,
+    line: &str,
+    said: &str,
+) -> Result<(), fmt::Error> {
+    let script = format!(in alloc; "{head}{line}\nend\n")?;
+    let wanted = Outcome {
+        out: "",
+        err: said,
+        status: 2,
+    };
+    run_script(alloc, report, &script, wanted, Descriptors::Both)
+}
+
+/// Runs each of these lines behind these first lines and before an `end`: it is a bad line. Blank lines stand
+/// for nothing.
+pub fn run_bad_lines(
+    alloc: Global,
+    report: &mut Report,
+    head: &str,
+    lines: &str,
+) -> Result<(), fmt::Error> {
+    let number = head.lines().count().saturating_add(1);
+    let said = format!(in alloc; "bad script: line {number}\n")?;
+    for line in lines.lines().filter(|line| !line.is_empty()) {
+        run_bad_line(alloc, report, head, line, &said)?;
+    }
+    Ok(())
+}

@@ -1,0 +1,233 @@
+//! Operators that are attempted, and taken back.
+
+ghost use Rattle.std.specs.Prelude.{◌≡◌, None};
+ghost use Rattle.validate_body.specs.Start.{state, stacks_of};
+ghost use Rattle.validate_stacks.specs.State.{IsStarting, IsValidBody};
+ghost use Rattle.validate_stacks.specs.Visits.{MayVisit};
+
+use crate::bodies::{Task, run_body};
+use crate::flags::without_descriptors;
+use crate::report::Report;
+use crate::seen::{Seen, add_operand_types, innermost};
+use crate::transcript::parts_of;
+use script_reader::{Script, read_lists, read_script};
+use std::alloc::Global;
+use std::fmt;
+use validate_body::OperatorValidator;
+use validate_resources::WasmModuleResources;
+use validate_types::Error;
+use validate_visit::Op;
+
+/// The offset of each operator, of which a line says nothing.
+const OFFSET: u64 = 0;
+
+/// Adds what a visit answered to a text: how many operands and frames it left, or the words of its refusal.
+fn add_answer(
+    text: &mut String,
+    v: &OperatorValidator,
+    answer: Result<(), Error>,
+) -> Result<(), fmt::Error> {
+    match answer {
+        Ok(()) => {
+            let operands = v.operand_stack_height();
+            write!(text, "{operands} {}", v.control_stack_height())?;
+        }
+        Err(refusal) => text.push_str(refusal.message())?,
+    }
+    Ok(())
+}
+
+/// Adds what a visit answered, and the innermost frame and the operands behind it.
+fn add_seen(
+    text: &mut String,
+    v: &OperatorValidator,
+    answer: Result<(), Error>,
+) -> Result<(), fmt::Error> {
+    add_answer(text, v, answer)?;
+    let (mark, frame) = innermost(v);
+    write!(text, " => {mark}{frame}:")?;
+    add_operand_types(text, v)
+}
+
+/// One visit.
+fn visit<R: WasmModuleResources>(
+    v: &mut OperatorValidator,
+    resources: &R,
+    op: Op<'_>,
+) -> Result<(), Error>
+    requires idle { (state v.old).undone ≡ None }
+    requires visit { MayVisit (R.context resources.now) (stacks_of v.old) }
+    ensures idle { (state v.new).undone ≡ None }
+    ensures valid { IsValidBody (R.context resources.now) (state v.new) }
+{
+    v.check(resources, OFFSET, op)
+}
+
+/// Attempts an operator, and takes it back. Adds what was seen within the attempt to a text.
+fn undo<R: WasmModuleResources>(
+    text: &mut String,
+    v: &mut OperatorValidator,
+    resources: &R,
+    op: Op<'_>,
+) -> Result<(), fmt::Error>
+    requires idle { (state v.old).undone ≡ None }
+    requires visit { MayVisit (R.context resources.now) (stacks_of v.old) }
+    ensures same { state v.new ≡ state v.old }
+{
+    v.begin_try_op();
+    let answer = v.check(resources, OFFSET, op);
+    let added = add_seen(text, v, answer);
+    v.rollback();
+    added
+}
+
+/// Attempts an operator, takes it back, and compares what was seen within the attempt and what is there behind it.
+fn compare_undone<R: WasmModuleResources>(
+    alloc: Global,
+    report: &mut Report,
+    v: &mut OperatorValidator,
+    op: Op<'_>,
+    resources: &R,
+    line: &str,
+) -> Result<(), fmt::Error>
+    requires idle { (state v.old).undone ≡ None }
+    requires visit { MayVisit (R.context resources.now) (stacks_of v.old) }
+    ensures same { state v.new ≡ state v.old }
+{
+    let before = Seen::of(alloc, v)?;
+    let mut seen = String::new(alloc);
+    undo(&mut seen, v, resources, op)?;
+    let (_, wanted) = parts_of(line);
+    report.compare(line, "comes within the attempt to", &seen, wanted)?;
+    if Seen::of(alloc, v)? != before || v.is_pending() || !v.can_attempt() {
+        return report.refuse(line, "leaves a trace");
+    }
+    Ok(())
+}
+
+/// Visits an operator, and compares what it answers.
+fn compare_visit<R: WasmModuleResources>(
+    alloc: Global,
+    report: &mut Report,
+    v: &mut OperatorValidator,
+    op: Op<'_>,
+    resources: &R,
+    line: &str,
+) -> Result<(), fmt::Error>
+    requires idle { (state v.old).undone ≡ None }
+    requires visit { MayVisit (R.context resources.now) (stacks_of v.old) }
+    ensures idle { (state v.new).undone ≡ None }
+    ensures valid { IsValidBody (R.context resources.now) (state v.new) }
+{
+    let answer = visit(v, resources, op);
+    let mut said = String::new(alloc);
+    add_answer(&mut said, v, answer)?;
+    let (_, wanted) = parts_of(line);
+    report.compare(line, "comes to", &said, wanted)
+}
+
+/// Visits the operator of a line, or attempts it and takes it back.
+fn run_op<R: WasmModuleResources>(
+    alloc: Global,
+    report: &mut Report,
+    v: &mut OperatorValidator,
+    op: Op<'_>,
+    resources: &R,
+    line: &str,
+) -> Result<(), fmt::Error>
+    requires idle { (state v.old).undone ≡ None }
+    requires valid { IsValidBody (R.context resources.now) (state v.old) }
+    ensures idle { (state v.new).undone ≡ None }
+    ensures valid { IsValidBody (R.context resources.now) (state v.new) }
+{
+    if v.control_stack_height() == 0 {
+        return report.refuse(line, "stands behind a closed body");
+    }
+    if line.starts_with("try ") {
+        compare_undone(alloc, report, v, op, resources, line)
+    } else {
+        compare_visit(alloc, report, v, op, resources, line)
+    }
+}
+
+/// Runs the operator of a line, which this script has alone.
+fn run_script<R: WasmModuleResources>(
+    alloc: Global,
+    report: &mut Report,
+    v: &mut OperatorValidator,
+    resources: &R,
+    line: &str,
+    script: &str,
+) -> Result<(), fmt::Error>
+    requires idle { (state v.old).undone ≡ None }
+    requires valid { IsValidBody (R.context resources.now) (state v.old) }
+    ensures idle { (state v.new).undone ≡ None }
+    ensures valid { IsValidBody (R.context resources.now) (state v.new) }
+{
+    let lists = read_lists(alloc, script)?;
+    let Ok(read) = read_script(alloc, &lists, script) else {
+        return report.refuse(line, "has no operator");
+    };
+    match read.operators.ops.first() {
+        Some((op, _)) => run_op(alloc, report, v, *op, resources, line),
+        None => report.refuse(line, "has no operator"),
+    }
+}
+
+/// Reads the operator of a line, and runs it.
+fn run_line<R: WasmModuleResources>(
+    alloc: Global,
+    report: &mut Report,
+    v: &mut OperatorValidator,
+    resources: &R,
+    line: &str,
+) -> Result<(), fmt::Error>
+    requires idle { (state v.old).undone ≡ None }
+    requires valid { IsValidBody (R.context resources.now) (state v.old) }
+    ensures idle { (state v.new).undone ≡ None }
+    ensures valid { IsValidBody (R.context resources.now) (state v.new) }
+{
+    let (written, _) = parts_of(line);
+    let operator = written.strip_prefix("try ").unwrap_or(written);
+    let script = format!(in alloc; "func 0\n{operator}\n")?;
+    run_script(alloc, report, v, resources, line, &script)
+}
+
+/// Visits, or attempts and takes back, the operators of these lines in turn. Blank lines stand for nothing.
+///
+/// A line is an operator, an arrow and the answer: how many operands and frames there are behind it, or the
+/// words of its refusal. Where a `try` stands before the operator it is attempted and taken back, and behind
+/// a second arrow stand the innermost frame and the operands within the attempt, the top last.
+pub fn run_lines<R: WasmModuleResources>(
+    alloc: Global,
+    report: &mut Report,
+    v: &mut OperatorValidator,
+    resources: &R,
+    lines: &str,
+) -> Result<(), fmt::Error>
+    requires { IsStarting (R.context resources.now) (state v.old) }
+{
+    for line in lines.lines() {
+        if !line.is_empty() {
+            run_line(alloc, report, v, resources, line)?;
+        }
+    }
+    Ok(())
+}
+
+/// Runs such lines behind these first ones: with all proposals and without custom descriptors, where those
+/// name no flag.
+pub fn run_undone(
+    alloc: Global,
+    report: &mut Report,
+    head: &str,
+    lines: &str,
+) -> Result<(), fmt::Error> {
+    report.count();
+    run_body(alloc, report, head, Task::Lines(lines))?;
+    let plain = without_descriptors(alloc, head)?;
+    if plain.is_empty() {
+        return Ok(());
+    }
+    run_body(alloc, report, &plain, Task::Lines(lines))
+}

@@ -1,0 +1,11 @@
+-- No attempt is pending, and the types are valid.
+use Rattle.std.proofs.Common.{◌≡◌, None}
+use Rattle.validate_stacks.specs.State.{IsValidBody}
+use Rattle.wasmparser_validate.specs.Start.{state}
+use Rattle.validate_tests.proofs.lines.expect_lines.Given as goal
+
+abbrev pub invariant-loop-line : goal.invariant-loop-line
+invariant-loop-line g l = record {
+  idle : (state l.v).undone ≡ None;
+  valid : IsValidBody (g.R.WasmModuleResources.context l.lists) (state l.v);
+}

@@ -1,0 +1,224 @@
+//! Operators with their answers, one a line, in a body.
+//!
+//! A line is an operator as scripts write it, an arrow, and what `said` of `seen` gives; what stands there
+//! behind the second arrow may be left out. With a `try` before it the operator is visited within an attempt,
+//! which is taken back: the answer is that within, and behind it everything is as before.
+
+ghost use Rattle.std.specs.Prelude.{◌≡◌, None, OnOk};
+ghost use Rattle.validation_rules.specs.Operators.{operator};
+ghost use Rattle.validate_stacks.specs.Pops.{IsKept};
+ghost use Rattle.validate_stacks.specs.State.{IsValidBody};
+ghost use Rattle.validate_stacks.specs.Visits.{MayVisit, Meets};
+ghost use Rattle.wasmparser_validate.specs.Start.{state, stacks_of};
+
+use crate::expect::{Lack, expect, expect_text};
+use crate::seen::{said, seen};
+use script_parts::OperatorList;
+use script_parts::words::read_words;
+use script_reader::operators::read_operator;
+use script_reader::read_lists;
+use std::process::Abort;
+use wasmparser_validate::operators::{OperatorValidator, try_and_undo, try_op};
+use wasmparser_validate::resources::WasmModuleResources;
+use wasmparser_validate::types::Error;
+use wasmparser_validate::visit::{Op, VisitOperator};
+
+/// What is made of the operators of lines.
+#[derive(Clone, Copy)]
+pub enum Way {
+    /// They are visited.
+    Visited,
+    /// They are visited within an attempt, which is taken back: those with a `try`.
+    Undone,
+    /// They are attempted and taken back, and then attempted again.
+    Attempted,
+}
+
+/// One visit.
+pub fn visit<R: WasmModuleResources>(
+    v: &mut OperatorValidator,
+    lists: &R,
+    op: Op<'_>,
+) -> Result<(), Error>
+    requires { MayVisit (R.context lists.now) (stacks_of v.old) }
+    ensures valid { IsValidBody (R.context lists.now) (state v.new) }
+    ensures kept { IsKept (state v.old) (state v.new) }
+{
+    visit_by_row(v, lists, op)
+}
+
+/// The same, with all that it promises.
+fn visit_by_row<R: WasmModuleResources>(
+    v: &mut OperatorValidator,
+    lists: &R,
+    op: Op<'_>,
+) -> Result<(), Error>
+    requires { MayVisit (R.context lists.now) (stacks_of v.old) }
+    ensures { Meets (R.context lists.now) (λ cx. operator cx op.entry) 7 (state v.old) result (state v.new) }
+{
+    v.with_resources(lists, 7).visit_operator(op)
+}
+
+/// The answer alone, without what stands behind it.
+fn answer_in(text: &str) -> &str {
+    match text.split_once(" => ") {
+        Some((answer, _)) => answer,
+        None => text,
+    }
+}
+
+/// What was said is what a line wants, which may be the answer alone.
+pub fn expect_said(rt: &impl Abort, said: &str, wanted: &str) {
+    if wanted.contains("=>") {
+        expect_text(rt, said, wanted, said);
+    } else {
+        expect_text(rt, answer_in(said), wanted, said);
+    }
+}
+
+/// Visits the operator.
+fn expect_visited<R: WasmModuleResources>(
+    rt: &(impl Abort + AllocGlobal),
+    v: &mut OperatorValidator,
+    lists: &R,
+    op: Op<'_>,
+    wanted: &str,
+) -> Result<(), Lack>
+    requires { MayVisit (R.context lists.now) (stacks_of v.old) }
+    ensures valid { IsValidBody (R.context lists.now) (state v.new) }
+    ensures kept { IsKept (state v.old) (state v.new) }
+{
+    let answer = visit(v, lists, op);
+    let said = said(rt, v, answer)?;
+    expect_said(rt, &said, wanted);
+    Ok(())
+}
+
+/// Visits the operator within an attempt, and takes it back.
+fn expect_undone<R: WasmModuleResources>(
+    rt: &(impl Abort + AllocGlobal),
+    v: &mut OperatorValidator,
+    lists: &R,
+    op: Op<'_>,
+    wanted: &str,
+) -> Result<(), Lack>
+    requires idle { (state v.old).undone ≡ None }
+    requires visit { MayVisit (R.context lists.now) (stacks_of v.old) }
+    ensures same { OnOk result (state v.new ≡ state v.old) }
+{
+    let before = seen(rt, v)?;
+    expect(rt, v.can_attempt() && !v.is_pending());
+    v.begin_try_op();
+    expect(rt, v.can_attempt() && v.is_pending());
+    let answer = visit(v, lists, op);
+    let within = said(rt, v, answer);
+    v.rollback();
+    expect_text(rt, &seen(rt, v)?, &before, wanted);
+    expect_said(rt, &within?, wanted);
+    Ok(())
+}
+
+/// Attempts the operator and takes it back, and then attempts it again: where it is refused, be it for want of
+/// memory, everything is as before.
+fn expect_attempted<R: WasmModuleResources>(
+    rt: &(impl Abort + AllocGlobal),
+    v: &mut OperatorValidator,
+    lists: &R,
+    op: Op<'_>,
+    wanted: &str,
+) -> Result<(), Lack>
+    requires idle { (state v.old).undone ≡ None }
+    requires visit { MayVisit (R.context lists.now) (stacks_of v.old) }
+    ensures idle { OnOk result ((state v.new).undone ≡ None) }
+    ensures valid { OnOk result (IsValidBody (R.context lists.now) (state v.new)) }
+{
+    let before = seen(rt, v)?;
+    let _ = try_and_undo(v, lists, 7, op);
+    expect_text(rt, &seen(rt, v)?, &before, wanted);
+    let answer = try_op(v, lists, 7, op);
+    if answer.is_err() {
+        expect_text(rt, &seen(rt, v)?, &before, wanted);
+    }
+    expect_said(rt, &said(rt, v, answer)?, answer_in(wanted));
+    Ok(())
+}
+
+/// The operator that a text writes, with this list, if it has one.
+fn read_op<'a>(
+    rt: &impl AllocGlobal,
+    list: &'a [OperatorList],
+    text: &str,
+) -> Result<Op<'a>, Lack> {
+    let mut words = Vec::new(rt.alloc());
+    read_words(&mut words, text)?;
+    match read_operator(&mut list.iter(), &words) {
+        Some(op) => Ok(op),
+        None => Err(Lack("a text that is no operator")),
+    }
+}
+
+/// Visits or attempts one operator.
+fn expect_op<R: WasmModuleResources>(
+    rt: &(impl Abort + AllocGlobal),
+    v: &mut OperatorValidator,
+    lists: &R,
+    op: Op<'_>,
+    way: Way,
+    wanted: &str,
+) -> Result<(), Lack>
+    requires idle { (state v.old).undone ≡ None }
+    requires visit { MayVisit (R.context lists.now) (stacks_of v.old) }
+    ensures idle { OnOk result ((state v.new).undone ≡ None) }
+    ensures valid { OnOk result (IsValidBody (R.context lists.now) (state v.new)) }
+{
+    match way {
+        Way::Visited => expect_visited(rt, v, lists, op, wanted),
+        Way::Undone => expect_undone(rt, v, lists, op, wanted),
+        Way::Attempted => expect_attempted(rt, v, lists, op, wanted),
+    }
+}
+
+/// The operator of one line.
+fn expect_line<R: WasmModuleResources>(
+    rt: &(impl Abort + AllocGlobal),
+    v: &mut OperatorValidator,
+    lists: &R,
+    line: &str,
+    way: Way,
+) -> Result<(), Lack>
+    requires idle { (state v.old).undone ≡ None }
+    requires valid { IsValidBody (R.context lists.now) (state v.old) }
+    ensures idle { OnOk result ((state v.new).undone ≡ None) }
+    ensures valid { OnOk result (IsValidBody (R.context lists.now) (state v.new)) }
+{
+    if v.control_stack_height() == 0 {
+        return Err(Lack("a line behind a closed body"));
+    }
+    let (written, wanted) = line.trim().split_once(" => ").unwrap_or((line, ""));
+    let (way, written) = match written.strip_prefix("try ") {
+        Some(written) => (Way::Undone, written),
+        None => (way, written),
+    };
+    let list = read_lists(rt.alloc(), written)?;
+    let op = read_op(rt, &list, written)?;
+    expect_op(rt, v, lists, op, way, wanted)
+}
+
+/// The operators of these lines in turn.
+pub fn expect_lines<R: WasmModuleResources>(
+    rt: &(impl Abort + AllocGlobal),
+    v: &mut OperatorValidator,
+    lists: &R,
+    text: &str,
+    way: Way,
+) -> Result<(), Lack>
+    requires idle { (state v.old).undone ≡ None }
+    requires valid { IsValidBody (R.context lists.now) (state v.old) }
+    ensures idle { OnOk result ((state v.new).undone ≡ None) }
+    ensures valid { OnOk result (IsValidBody (R.context lists.now) (state v.new)) }
+{
+    for line in text.lines() {
+        expect_line(rt, v, lists, line, way)?;
+    }
+    Ok(())
+}

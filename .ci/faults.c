@@ -1,6 +1,6 @@
-/* The program opcheck under faults. It is linked behind this file, which stands in for its main, its requests
-   for memory, its reads and its writes (--wrap=main,malloc,realloc,read,write). For each script that an argument
-   names, a child runs the program with ample memory, and then one child for each fault:
+/* The program opcheck under faults. It is loaded before the program (LD_PRELOAD), and stands in for its main, its
+   requests for memory, its reads and its writes. For each script that an argument names, a child runs the
+   program with ample memory, and then one child for each fault:
 
    - a request for memory is refused: one, or all from one on. It ends with status 3, says `out of memory`, and
      has printed whole lines that begin the ample output; or it answers as with ample memory;
@@ -10,14 +10,7 @@
    - reads and writes move one byte each, or are interrupted: the answer stays.
 
    A crash, or ten seconds without an end, is wrong. Prints a line for each script: `NAME: N runs, M wrong`. */
-#include <errno.h>
-#include <stddef.h>
-#include <stdio.h>
-#include <stdlib.h>
-#include <string.h>
-#include <sys/mman.h>
-#include <sys/wait.h>
-#include <unistd.h>
+#include "interposed.h"
 
 #define ROOM (1 << 20)
 
@@ -40,20 +33,11 @@ static const char *script;
 static size_t length, taken;
 static int is_running, is_odd;
 
-int __real_main(int, char **, char **);
-void *__real_malloc(size_t);
-void *__real_realloc(void *, size_t);
-ssize_t __real_read(int, void *, size_t);
-ssize_t __real_write(int, const void *, size_t);
-
 static int is_refused(void) {
     if (!is_running) return 0;
     long number = ++seen->requests;
     return number == faults.request || (faults.requests_from && number >= faults.requests_from);
 }
-
-void *__wrap_malloc(size_t size) { return is_refused() ? NULL : __real_malloc(size); }
-void *__wrap_realloc(void *old, size_t size) { return is_refused() ? NULL : __real_realloc(old, size); }
 
 /* Whether this read or write is interrupted first: each other one is. */
 static int is_interrupted(void) {
@@ -61,8 +45,10 @@ static int is_interrupted(void) {
     return faults.is_interrupted && is_odd;
 }
 
-ssize_t __wrap_read(int fd, void *to, size_t size) {
-    if (!is_running || fd != 0) return __real_read(fd, to, size);
+ssize_t read(int fd, void *to, size_t size) {
+    static ssize_t (*original_read)(int, void *, size_t);
+    if (!original_read) original_read = original("read");
+    if (!is_running || fd != 0) return original_read(fd, to, size);
     if (is_interrupted()) return errno = EINTR, -1;
     if (++seen->reads == faults.read) return errno = EIO, -1;
     size_t moved = length - taken < size ? length - taken : size;
@@ -72,8 +58,10 @@ ssize_t __wrap_read(int fd, void *to, size_t size) {
     return moved;
 }
 
-ssize_t __wrap_write(int fd, const void *from, size_t size) {
-    if (!is_running || (fd != 1 && fd != 2)) return __real_write(fd, from, size);
+ssize_t write(int fd, const void *from, size_t size) {
+    static ssize_t (*original_write)(int, const void *, size_t);
+    if (!original_write) original_write = original("write");
+    if (!is_running || (fd != 1 && fd != 2)) return original_write(fd, from, size);
     if (is_interrupted()) return errno = EINTR, -1;
     if (++seen->writes == faults.write) return seen->refused_write = fd, errno = ENOSPC, -1;
     size_t moved = faults.is_short && size > 1 ? 1 : size;
@@ -93,7 +81,7 @@ static int run(struct faults these) {
         alarm(10);
         faults = these;
         is_running = 1;
-        _exit(__real_main(1, arguments, environment));
+        _exit(program(1, arguments, environment));
     }
     int status;
     waitpid(child, &status, 0);
@@ -177,10 +165,11 @@ static int read_script(const char *name) {
     return fclose(file) == 0 && length < sizeof room;
 }
 
-int __wrap_main(int count, char **names) {
+static int run_instead(int count, char **names, char **environment) {
+    (void)environment;
     int flags = MAP_SHARED | MAP_ANONYMOUS;
     seen = mmap(NULL, sizeof *seen, PROT_READ | PROT_WRITE, flags, -1, 0);
-    ample = __real_malloc(sizeof *ample);
+    ample = malloc(sizeof *ample);
     if (seen == MAP_FAILED || !ample) return 2;
     setvbuf(stdout, NULL, _IOLBF, 0);
     int is_bad = 0;

@@ -1,13 +1,12 @@
 //! Checks the body `local.get N, i32.const 1, i32.add, end` of a function `[i32] -> [i32]` with one more
-//! local, of type i64, visit by visit: it is accepted for local 0, and refused for local 1.
+//! local, of type i64, operator by operator: it is accepted for local 0, and refused for local 1.
 #![tactic(auto)]
 
-ghost use Rattle.std.specs.Prelude.{◌≡◌, None};
-ghost use Rattle.wasmparser_validate.specs.Start.{state};
-ghost use Rattle.wasmparser_validate.specs.State.{IsStarting, IsValidBody};
+ghost use Rattle.std.specs.Prelude.{◌≡◌, [], false};
 
 use std::alloc::Global;
 use std::io;
+use wasmparser_validate::func::FuncValidator;
 use wasmparser_validate::operators::{OperatorValidator, OperatorValidatorAllocations};
 use wasmparser_validate::resources::{ModuleDeclarations, ModuleLists, WasmModuleResources};
 use wasmparser_validate::types::{Error, Flags, FuncType, SubType, ValType, WasmFeatures};
@@ -23,45 +22,41 @@ fn declare(alloc: Global) -> Option<ModuleLists> {
     ModuleLists::from_declarations(alloc, declarations).ok()
 }
 
-/// Visits one operator: a frame has to be open, no attempt pending, and the lookup the same throughout.
+/// Visits one operator, where a frame is open.
 fn visit<R: WasmModuleResources>(
-    v: &mut OperatorValidator,
-    resources: &R,
+    function: &mut FuncValidator<'static, '_, R>,
     offset: u64,
-    op: Op<'_>,
-) -> Result<(), Error>
-    requires valid { IsValidBody (R.context resources.now) (state v.old) }
-    requires idle { (state v.old).undone ≡ None }
-    ensures valid { IsValidBody (R.context resources.now) (state v.new) }
-    ensures idle { (state v.new).undone ≡ None }
-{
-    if v.control_stack_height() == 0 {
+    op: Op<'static>,
+) -> Result<(), Error> {
+    if function.control_stack_height() == 0 {
         return Err(Error::new("operators remaining after end of function", offset));
     }
-    v.check(resources, offset, op)
+    function.op(offset, op)
 }
 
-/// Defines the local of type i64, and visits the operators of the body.
+/// Defines the local of type i64, visits the operators of the body, and asks whether it is whole.
 fn visit_body<R: WasmModuleResources>(
-    v: &mut OperatorValidator,
-    resources: &R,
+    function: &mut FuncValidator<'static, '_, R>,
     local: u32,
 ) -> Result<(), Error>
-    requires { IsStarting (R.context resources.now) (state v.old) }
+    requires first { function.old.accepted ≡ [] }
+    requires none_failed { function.old.failed ≡ false }
 {
-    v.define_locals(0, 1, ValType::I64, resources)?;
-    visit(v, resources, 0, Op::Control(ControlOp::LocalGet(local)))?;
-    visit(v, resources, 2, Op::Numeric(NumericOp::I32Const(1)))?;
+    function.define_locals(0, 1, ValType::I64)?;
+    visit(function, 0, Op::Control(ControlOp::LocalGet(local)))?;
+    visit(function, 2, Op::Numeric(NumericOp::I32Const(1)))?;
     let add = NumericOp::IntegerBinary(IntegerType::I32, IntegerBinaryOp::Add);
-    visit(v, resources, 4, Op::Numeric(add))?;
-    visit(v, resources, 5, Op::Control(ControlOp::End))
+    visit(function, 4, Op::Numeric(add))?;
+    visit(function, 5, Op::Control(ControlOp::End))?;
+    function.finish(5)
 }
 
 /// Checks the body.
 fn check<R: WasmModuleResources>(alloc: Global, resources: &R, local: u32) -> Result<(), Error> {
     let buffers = OperatorValidatorAllocations::new(alloc);
-    let mut v = OperatorValidator::new_func(0, 0, &WasmFeatures::all(), resources, buffers)?;
-    visit_body(&mut v, resources, local)
+    let v = OperatorValidator::new_func(0, 0, &WasmFeatures::all(), resources, buffers)?;
+    let mut function = FuncValidator::new(alloc, v, resources);
+    visit_body(&mut function, local)
 }
 
 fn main(rt: HostRuntime) -> io::Result<()> {

@@ -61,6 +61,7 @@ fn run(rt: &HostRuntime) -> Result<(), Failure> {
     let lists = read_lists(alloc, text).map_err(|_| Failure::Host)?;
     let Script {
         features,
+        shows: _,
         declarations,
         body,
         locals,

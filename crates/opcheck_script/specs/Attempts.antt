@@ -1,42 +1,63 @@
--- What the run of a script with `try` lines answers (the crate's own).
-use Rattle.std.specs.Prelude.{◌≡◌, ◌↔◌, ℕ, Bool, true, false, IsTrue, List, [], ◌∷◌, Some, None, Result, Ok}
-use Rattle.std.specs.Prelude.{Err, length, slice_get}
+-- What the run of a script with `try` or `show` lines answers (the crate's own).
+use Rattle.std.specs.Prelude.{◌≡◌, ◌↔◌, ℕ, Bool, true, false, IsTrue, List, [], ◌∷◌, ◌++◌, Option, Some, None}
+use Rattle.std.specs.Prelude.{Result, Ok, Err, length, slice_get}
+use Rattle.std.specs.Option.{option_map}
+use Rattle.std.specs.Global.{Vec}
+use Rattle.wasmparser_validate.specs.ValType.{ValType}
 use Rattle.wasmparser_validate.specs.Refusal.{Refusal}
 use Rattle.wasmparser_validate.specs.Context.{ModuleContext}
 use Rattle.wasmparser_validate.specs.Op.{Op}
 use Rattle.wasmparser_validate.specs.ValidationContext.{Context}
-use Rattle.wasmparser_validate.specs.Static.{State, step}
+use Rattle.wasmparser_validate.specs.Static.{State, step, operand_count, frame_count}
 use Rattle.wasmparser_validate.specs.Operators.{operator}
 use Rattle.wasmparser_validate.specs.State.{BodyState, body_context}
-use Rattle.wasmparser_validate.specs.Runs.{heights_of, body_before}
+use Rattle.wasmparser_validate.specs.Operands.{types_in}
+use Rattle.wasmparser_validate.specs.Runs.{body_before}
+use Rattle.opcheck_script.specs.declared.report.After.{After}
 
 -- the operators of a body, and which of them are attempted
 pub record Attempted : Type 0 where
   pub ops : List (Op × ℕ)
   pub attempts : List Bool
 
--- what is answered at one operator: the heights after it, or the refusal of an attempt
-abbrev pub Answer : Type 0
-Answer = Result (ℕ × ℕ) Refusal
+-- the types of the operands of a state, where they are shown
+abbrev pub types_shown : Bool → State → Option (List (Option ValType))
+types_shown true s = Some (types_in s)
+types_shown false s = None
 
--- The answer at an operator, from the state s to the state t: its row holds, and these are the heights
--- after it; or it was attempted, its row doesn't hold, and it left no trace.
-abbrev pub IsAnswer : Context → Op × ℕ → Bool → Answer → State → State → Type 0
-IsAnswer cx p attempted (Ok heights) s t = (step cx (operator cx p.0) s ≡ Some t) × (heights ≡ heights_of t)
-IsAnswer cx p attempted (Err e) s t =
+-- what is there in a state
+pub record IsThere (shows : Bool) (after : After) (s : State) : Type 0 where
+  pub operands : after.operands ≡ operand_count s
+  pub frames : after.frames ≡ frame_count s
+  pub types : option_map (λ (types : Vec (Option ValType)). types.items) after.types ≡ types_shown shows s
+
+-- what is answered at one operator: what is there after it, or the refusal of an attempt
+abbrev pub Answer : Type 0
+Answer = Result After Refusal
+
+-- The answer at an operator, from the state s to the state t: its row holds, and that is there after it; or
+-- it was attempted, its row doesn't hold, and it left no trace.
+abbrev pub IsAnswer : Context → Bool → Op × ℕ → Bool → Answer → State → State → Type 0
+IsAnswer cx shows p attempted (Ok after) s t = (step cx (operator cx p.0) s ≡ Some t) × IsThere shows after t
+IsAnswer cx shows p attempted (Err e) s t =
     (attempted ≡ true) × (e.offset ≡ p.1) × (e.wants_memory ≡ false)
     × (step cx (operator cx p.0) s ≡ None) × (s ≡ t)
 
 -- the answers at the first operators of a list, from the state s to the state t
-abbrev pub AreAnswers : Context → State → List (Op × ℕ) → List Bool → List Answer → State → Type 0
-AreAnswers cx s ops attempts [] t = s ≡ t
-AreAnswers cx s (p ∷ ops) (b ∷ attempts) (a ∷ answers) t =
-    (u : State) × IsAnswer cx p b a s u × AreAnswers cx u ops attempts answers t
-AreAnswers cx s _ _ _ t = ⊥
+abbrev pub AreAnswers : Context → Bool → State → List (Op × ℕ) → List Bool → List Answer → State → Type 0
+AreAnswers cx shows s ops attempts [] t = s ≡ t
+AreAnswers cx shows s (p ∷ ops) (b ∷ attempts) (a ∷ answers) t =
+    (u : State) × IsAnswer cx shows p b a s u × AreAnswers cx shows u ops attempts answers t
+AreAnswers cx shows s _ _ _ t = ⊥
+
+-- those that are accepted, with one more operator of this answer
+abbrev pub accepted_at : Op × ℕ → Answer → List (Op × ℕ) → List (Op × ℕ)
+accepted_at p (Ok after) accepted = accepted ++ p ∷ []
+accepted_at p (Err e) accepted = accepted
 
 -- the operators that are accepted
 abbrev pub accepted_of : List (Op × ℕ) → List Answer → List (Op × ℕ)
-accepted_of (p ∷ ops) (Ok heights ∷ answers) = p ∷ accepted_of ops answers
+accepted_of (p ∷ ops) (Ok after ∷ answers) = p ∷ accepted_of ops answers
 accepted_of (p ∷ ops) (Err e ∷ answers) = accepted_of ops answers
 accepted_of _ _ = []
 
@@ -56,13 +77,13 @@ RunEnds cx body answers s (Err refusal) =
     (p : Op × ℕ) × (b : Bool) × (slice_get body.ops (length answers) ≡ Some p)
     × (slice_get body.attempts (length answers) ≡ Some b) × EndsRun cx p b refusal s
 
--- What the run of the operators from this state answers: the last state is that of the accepted
+-- What the run of the operators one by one from this state answers: the last state is that of the accepted
 -- operators alone.
-pub record RunsAttempts
-    (md : ModuleContext) (v : BodyState) (body : Attempted) (answers : List Answer)
+pub record RunsEach
+    (md : ModuleContext) (v : BodyState) (shows : Bool) (body : Attempted) (answers : List Answer)
     (outcome : Result Bool Refusal) : Type 0 where
   pub last : State
-  pub answered : AreAnswers (body_context md v) v.present body.ops body.attempts answers last
+  pub answered : AreAnswers (body_context md v) shows v.present body.ops body.attempts answers last
   pub rows :
       body_before md v (accepted_of body.ops answers) (length (accepted_of body.ops answers)) ≡ Some last
   pub ends : RunEnds (body_context md v) body answers last outcome

@@ -1,6 +1,6 @@
 -- What the check of a script answers (the crate's own).
 use Rattle.std.specs.Prelude.{◌≡◌, ◌⊎◌, ◌↔◌, ℕ, Bool, true, false, IsTrue, List, [], Some, Result, Ok, Err}
-use Rattle.std.specs.Prelude.{length, ◌&&◌}
+use Rattle.std.specs.Prelude.{length, ◌&&◌, ◌||◌}
 use Rattle.std.specs.List.{list_all, list_any}
 use Rattle.wasmparser_validate.specs.Refusal.{Refusal}
 use Rattle.wasmparser_validate.specs.WasmFeatures.{WasmFeatures}
@@ -12,11 +12,11 @@ use Rattle.wasmparser_validate.specs.Op.{Op}
 use Rattle.wasmparser_validate.specs.State.{BodyState}
 use Rattle.wasmparser_validate.specs.Static.{State, start}
 use Rattle.wasmparser_validate.specs.Runs.{without_offsets, body_before, AreHeightsAfter, IsRefusedAt, IsSafeFrom}
-use Rattle.opcheck_script.specs.Attempts.{Attempted, RunsAttempts, accepted_of}
+use Rattle.opcheck_script.specs.Attempts.{Attempted, RunsEach, accepted_of}
 use Rattle.opcheck_script.specs.Begin.{HasLocals, CannotBegin}
 use Rattle.opcheck_script.specs.declared.report.Report.{Report}
 use Rattle.opcheck_script.specs.declared.report.Answers.{Answers}
-use Rattle.opcheck_script.specs.declared.report.Answers.TheVariants.{Heights, Attempts}
+use Rattle.opcheck_script.specs.declared.report.Answers.TheVariants.{Heights, Each}
 use Rattle.script_parts.specs.declared.script.BodyLine.{BodyLine}
 use Rattle.script_parts.specs.declared.script.LocalLine.{LocalLine}
 use Rattle.script_parts.specs.declared.script.Script.{Script}
@@ -26,7 +26,7 @@ abbrev pub may_be_body : List (Op × ℕ) → Bool
 may_be_body ops =
     is_well_ordered_list (without_offsets ops) && list_all (λ (p : Op × ℕ). is_module_op p.0) ops
 
--- What a run of operators without attempts answers: whether the outermost frame is closed, where all
+-- What a run of operators as one list answers: whether the outermost frame is closed, where all
 -- rows hold; or the refusal of the first operator whose row doesn't. The heights are those after each
 -- operator before that.
 abbrev pub RunsThrough :
@@ -40,22 +40,27 @@ RunsThrough md v ops heights (Err refusal) =
 abbrev pub is_attempted : Bool → Bool
 is_attempted b = b
 
+-- the operators are run one by one: where types are shown, or one of them is attempted
+abbrev pub is_run_each : Bool → Attempted → Bool
+is_run_each shows body = shows || list_any is_attempted body.attempts
+
 -- what the run of the operators from this state answers
-abbrev pub Runs : ModuleContext → BodyState → Attempted → Answers → Result Bool Refusal → Type 0
-Runs md v body (Heights heights) outcome =
-    (list_any is_attempted body.attempts ≡ false) × RunsThrough md v body.ops heights.items outcome
-Runs md v body (Attempts answers) outcome =
-    (list_any is_attempted body.attempts ≡ true) × RunsAttempts md v body answers.items outcome
+abbrev pub Runs : ModuleContext → BodyState → Bool → Attempted → Answers → Result Bool Refusal → Type 0
+Runs md v shows body (Heights heights) outcome =
+    (is_run_each shows body ≡ false) × RunsThrough md v body.ops heights.items outcome
+Runs md v shows body (Each answers) outcome =
+    (is_run_each shows body ≡ true) × RunsEach md v shows body answers.items outcome
 
 -- the operators that were accepted, where no plain one was refused
 abbrev pub accepted_in : List (Op × ℕ) → Answers → List (Op × ℕ)
 accepted_in ops (Heights heights) = ops
-accepted_in ops (Attempts answers) = accepted_of ops answers.items
+accepted_in ops (Each answers) = accepted_of ops answers.items
 
--- the body of a script: the proposals that are on, the line that begins it, its `local` lines, and its
--- operators
+-- the body of a script: the proposals that are on, whether types are shown, the line that begins it, its
+-- `local` lines, and its operators
 pub record ScriptBody : Type 0 where
   pub features : WasmFeatures
+  pub shows : Bool
   pub line : BodyLine
   pub locals : List LocalLine
   pub operators : Attempted
@@ -64,6 +69,7 @@ abbrev pub script_body : Script → ScriptBody
 script_body script =
     record {
       features = script.features;
+      shows = script.shows;
       line = script.body;
       locals = script.locals.items;
       operators = record { ops = script.operators.ops.items; attempts = script.operators.attempts.items };
@@ -74,7 +80,7 @@ script_body script =
 pub record IsRun (md : ModuleContext) (body : ScriptBody) (report : Report) : Type 0 where
   pub begun : BodyState
   pub has_locals : HasLocals md body.features body.line.body body.locals begun
-  pub runs : Runs md begun body.operators report.answers report.outcome
+  pub runs : Runs md begun body.shows body.operators report.answers report.outcome
   pub block_type : BlockType
   pub one_frame : begun.present ≡ start block_type
   pub safe :
@@ -84,7 +90,7 @@ pub record IsRun (md : ModuleContext) (body : ScriptBody) (report : Report) : Ty
 -- nothing is answered at an operator
 abbrev pub HasNone : Answers → Type 0
 HasNone (Heights heights) = heights.items ≡ []
-HasNone (Attempts answers) = answers.items ≡ []
+HasNone (Each answers) = answers.items ≡ []
 
 -- the body is refused before its operators
 pub record IsRefusedBefore (md : ModuleContext) (body : ScriptBody) (report : Report) : Type 0 where

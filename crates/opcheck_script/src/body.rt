@@ -1,64 +1,59 @@
 //! Running the operators of a body.
 
-ghost use Rattle.std.specs.Prelude.{◌≡◌, ◌<◌, true, false, [], None, Ok, Some, IfOk, IfErr, OnErr, IfSome, length, slice_get};
+ghost use Rattle.std.specs.Prelude.{◌≡◌, ◌≢◌, ◌<◌, ◌||◌, true, false, [], Ok, Err, Some, IfOk, IfErr, OnOk, OnErr, length, slice_get};
 ghost use Rattle.std.specs.List.{list_all, list_any};
 ghost use Rattle.wasmparser_validate.specs.Immediates.{is_module_op};
 ghost use Rattle.wasmparser_validate.specs.Order.{is_well_ordered_list};
 ghost use Rattle.wasmparser_validate.specs.BlockType.{BlockType};
 ghost use Rattle.wasmparser_validate.specs.Static.{start};
-ghost use Rattle.wasmparser_validate.specs.Operators.{operator};
-ghost use Rattle.wasmparser_validate.specs.Pops.{IsKept};
-ghost use Rattle.wasmparser_validate.specs.State.{IsStarting, IsValidBody, body_context};
-ghost use Rattle.wasmparser_validate.specs.Visits.{MayVisit, Meets};
+ghost use Rattle.wasmparser_validate.specs.State.{IsStarting, body_context};
 ghost use Rattle.wasmparser_validate.specs.Runs.{without_offsets, IsSafeFrom};
-ghost use Rattle.wasmparser_validate.specs.Start.{state, stacks_of};
-ghost use Rattle.opcheck_script.specs.Attempts.{IsAnswer, EndsRun, RunsAttempts, accepted_of};
+ghost use Rattle.wasmparser_validate.specs.Start.{state};
+ghost use Rattle.wasmparser_validate.specs.Functions.{function_from, Accepts, Refuses};
+ghost use Rattle.opcheck_script.specs.Attempts.{IsThere, IsAnswer, EndsRun, RunsEach, accepted_of, accepted_at};
 ghost use Rattle.script_parts.specs.Written.{may_all_be_attempted};
 ghost use Rattle.opcheck_script.specs.Reports.{Runs, accepted_in, is_attempted};
 
-use crate::report::{Answers, Report};
+use crate::report::{After, Answers, Report};
 use std::alloc::Global;
-use wasmparser_validate::operators::{OperatorValidator, check_ops, try_op};
+use wasmparser_validate::func::FuncValidator;
+use wasmparser_validate::operators::{OperatorValidator, check_ops};
 use wasmparser_validate::resources::WasmModuleResources;
-use wasmparser_validate::types::Error;
+use wasmparser_validate::types::{Error, OutOfMemory};
 use wasmparser_validate::visit::Op;
 
-/// What is answered at an operator: how many operands and frames there are after it, or the refusal of
-/// an attempt.
-type Answer = Result<(usize, usize), Error>;
+/// What is answered at an operator: what is there after it, or the refusal of an attempt.
+type Answer = Result<After, Error>;
 
-/// Runs the operators of a body: by one check of the whole list, or, where a `try` line is among them, one
-/// by one.
+/// Runs the operators of a body: by one check of the whole list, or, where a `try` line is among them or the
+/// script shows the types of operands, one by one.
 pub fn run_operators<R: WasmModuleResources>(
     alloc: Global,
-    v: &mut OperatorValidator,
+    v: OperatorValidator,
     ops: &[(Op<'_>, u64)],
     attempts: &[bool],
+    shows: bool,
     resources: &R,
 ) -> Report
-    requires starting { IsStarting (R.context resources.now) (state v.old) }
+    requires starting { IsStarting (R.context resources.now) (state v) }
     requires ordered { is_well_ordered_list (without_offsets ops.now) ≡ true }
     requires immediates { list_all (λ (p : _). is_module_op p.0) ops.now ≡ true }
     requires each { length attempts.now ≡ length ops.now }
     requires allowed { may_all_be_attempted ops.now attempts.now ≡ true }
-    ensures runs { Runs (R.context resources.now) (state v.old) (record {
+    ensures runs { Runs (R.context resources.now) (state v) shows (record {
       ops = ops.now;
       attempts =
           attempts.now;
     }) result.answers result.outcome }
-    ensures safe { result.outcome ≡ Ok true → (ty : BlockType) → (state v.old).present ≡ start ty
-        → IsSafeFrom (R.context resources.now) (state v.old) (accepted_in ops.now result.answers) ty }
+    ensures safe { result.outcome ≡ Ok true → (ty : BlockType) → (state v).present ≡ start ty
+        → IsSafeFrom (R.context resources.now) (state v) (accepted_in ops.now result.answers) ty }
 {
-    if has_attempts(attempts) {
-        let mut answers = Vec::new(alloc);
-        let outcome = answer_each(v, ops, attempts, resources, &mut answers);
-        return Report {
-            answers: Answers::Attempts(answers),
-            outcome,
-        };
+    if shows || has_attempts(attempts) {
+        return run_each(alloc, v, ops, attempts, shows, resources);
     }
+    let mut v = v;
     let mut heights = Vec::new(alloc);
-    let outcome = match check_ops(v, ops, resources, &mut heights) {
+    let outcome = match check_ops(&mut v, ops, resources, &mut heights) {
         Ok(closed) => Ok(closed),
         Err((_, refusal)) => Err(refusal),
     };
@@ -75,28 +70,60 @@ fn has_attempts(attempts: &[bool]) -> bool
     attempts.iter().any(|attempted| *attempted)
 }
 
-/// Visits the operators one by one, or attempts those of `try` lines, and notes the answers. It answers
-/// whether the outermost frame is closed at the end, or the refusal that ends the run.
-fn answer_each<R: WasmModuleResources>(
-    v: &mut OperatorValidator,
+/// Runs the operators one by one.
+fn run_each<R: WasmModuleResources>(
+    alloc: Global,
+    v: OperatorValidator,
     ops: &[(Op<'_>, u64)],
     attempts: &[bool],
+    shows: bool,
     resources: &R,
+) -> Report
+    requires starting { IsStarting (R.context resources.now) (state v) }
+    requires ordered { is_well_ordered_list (without_offsets ops.now) ≡ true }
+    requires each { length attempts.now ≡ length ops.now }
+    requires allowed { may_all_be_attempted ops.now attempts.now ≡ true }
+    requires one_by_one { shows || list_any is_attempted attempts.now ≡ true }
+    ensures runs { Runs (R.context resources.now) (state v) shows (record {
+      ops = ops.now;
+      attempts =
+          attempts.now;
+    }) result.answers result.outcome }
+    ensures safe { result.outcome ≡ Ok true → (ty : BlockType) → (state v).present ≡ start ty
+        → IsSafeFrom (R.context resources.now) (state v) (accepted_in ops.now result.answers) ty }
+{
+    let mut function = FuncValidator::new(alloc, v, resources);
+    let mut answers = Vec::new(alloc);
+    let outcome = answer_each(&mut function, ops, attempts, shows, &mut answers);
+    Report {
+        answers: Answers::Each(answers),
+        outcome,
+    }
+}
+
+/// Visits the operators one by one, or attempts those of `try` lines, and notes the answers. It answers
+/// whether the outermost frame is closed at the end, or the refusal that ends the run.
+fn answer_each<'a, R: WasmModuleResources>(
+    function: &mut FuncValidator<'a, '_, R>,
+    ops: &[(Op<'a>, u64)],
+    attempts: &[bool],
+    shows: bool,
     answers: &mut Vec<Answer>,
 ) -> Result<bool, Error>
-    requires starting { IsStarting (R.context resources.now) (state v.old) }
+    requires first { function.old ≡ function_from function.old.resources function.old.starting }
+    requires starting { IsStarting (R.context function.old.resources) function.old.starting }
     requires ordered { is_well_ordered_list (without_offsets ops.now) ≡ true }
     requires each { length attempts.now ≡ length ops.now }
     requires allowed { may_all_be_attempted ops.now attempts.now ≡ true }
     requires empty { answers.old.items ≡ [] }
-    ensures runs { RunsAttempts (R.context resources.now) (state v.old) (record {
+    ensures runs { RunsEach (R.context function.old.resources) function.old.starting shows (record {
       ops = ops.now;
       attempts =
           attempts.now;
     }) answers.new.items result }
-    ensures safe { result ≡ Ok true → (ty : BlockType) → (state v.old).present ≡ start ty
-        → IsSafeFrom (R.context resources.now) (state v.old) (accepted_of ops.now answers.new.items)
-        ty }
+    ensures safe { result ≡ Ok true → (ty : BlockType) → function.old.starting.present ≡ start ty
+        → IsSafeFrom (R.context function.old.resources) function.old.starting
+        (accepted_of ops.now answers.new.items) ty }
 {
     for (index, pair) in ops.iter().enumerate() {
         let (op, offset) = *pair;
@@ -104,12 +131,12 @@ fn answer_each<R: WasmModuleResources>(
         if answers.reserve(1).is_err() {
             return Err(Error::out_of_memory(offset));
         }
-        match answer_at(v, resources, offset, op, attempted) {
-            Ok(answer) => answers.push(answer).unwrap(),
+        match answer_at(function, offset, op, attempted, shows) {
+            Ok(answer) => answers.push_reserved(answer),
             Err(refusal) => return Err(refusal),
         }
     }
-    Ok(v.control_stack_height() == 0)
+    Ok(function.finish(0).is_ok())
 }
 
 /// Whether the operator at this place is attempted.
@@ -122,26 +149,52 @@ fn is_attempted_at(attempts: &[bool], index: usize) -> bool
 
 /// The answer at one operator, or the refusal that ends the run: of a plain operator, or for want of
 /// memory.
-fn answer_at<R: WasmModuleResources>(
-    v: &mut OperatorValidator,
-    resources: &R,
+fn answer_at<'a, R: WasmModuleResources>(
+    function: &mut FuncValidator<'a, '_, R>,
     offset: u64,
-    op: Op<'_>,
+    op: Op<'a>,
     attempted: bool,
+    shows: bool,
 ) -> Result<Answer, Error>
-    requires idle { (state v.old).undone ≡ None }
-    requires visit { MayVisit (R.context resources.now) (stacks_of v.old) }
-    ensures answered { IfOk result (λ answer. IsAnswer (body_context (R.context resources.now) (state v.old))
-        (op.entry, offset) attempted answer (state v.old).present (state v.new).present) }
-    ensures ended { IfErr result (λ refusal. EndsRun (body_context (R.context resources.now) (state v.old))
-        (op.entry, offset) attempted refusal (state v.old).present) }
-    ensures valid { IsValidBody (R.context resources.now) (state v.new) }
-    ensures kept { IsKept (state v.old) (state v.new) }
+    requires none_failed { function.old.failed ≡ false }
+    requires open_frame { function.old.present.frames ≢ [] }
+    ensures answered { IfOk result (λ answer. IsAnswer
+        (body_context (R.context function.old.resources) function.old.starting) shows (op.entry, offset)
+        attempted answer function.old.present function.new.present) }
+    ensures kept { IfOk result (λ answer. function.new ≡ record function.old {
+      accepted = accepted_at (op.entry, offset) answer function.old.accepted;
+      present = function.new.present;
+    }) }
+    ensures ended { IfErr result (λ refusal. EndsRun
+        (body_context (R.context function.old.resources) function.old.starting) (op.entry, offset)
+        attempted refusal function.old.present) }
 {
-    match visit_or_try(v, resources, offset, op, attempted) {
-        Ok(()) => Ok(Ok((v.operand_stack_height(), v.control_stack_height()))),
+    match visit_or_try(function, offset, op, attempted) {
+        Ok(()) => match what_is_there(function, shows) {
+            Ok(after) => Ok(Ok(after)),
+            Err(_) => Err(Error::out_of_memory(offset)),
+        },
         Err(refusal) => after_refusal(attempted, refusal),
     }
+}
+
+/// What is there now, with the types of the operands where they are shown.
+fn what_is_there<R: WasmModuleResources>(
+    function: &FuncValidator<'_, '_, R>,
+    shows: bool,
+) -> Result<After, OutOfMemory>
+    ensures { IfOk result (λ after. IsThere shows after function.now.present) }
+{
+    let types = if shows {
+        Some(function.operand_types()?)
+    } else {
+        None
+    };
+    Ok(After {
+        operands: function.operand_stack_height(),
+        frames: function.control_stack_height(),
+        types,
+    })
 }
 
 /// What a refusal comes to: that of an attempt is its answer, and the run goes on; that of a plain
@@ -159,21 +212,22 @@ fn after_refusal(attempted: bool, refusal: Error) -> Result<Answer, Error>
 }
 
 /// Visits an operator, or attempts it.
-fn visit_or_try<R: WasmModuleResources>(
-    v: &mut OperatorValidator,
-    resources: &R,
+fn visit_or_try<'a, R: WasmModuleResources>(
+    function: &mut FuncValidator<'a, '_, R>,
     offset: u64,
-    op: Op<'_>,
+    op: Op<'a>,
     attempted: bool,
 ) -> Result<(), Error>
-    requires idle { (state v.old).undone ≡ None }
-    requires visit { MayVisit (R.context resources.now) (stacks_of v.old) }
-    ensures meets { Meets (R.context resources.now) (λ cx. operator cx op.entry) offset (state v.old)
-        result (state v.new) }
-    ensures back { attempted ≡ true → OnErr result (state v.new ≡ state v.old) }
+    requires none_failed { function.old.failed ≡ false }
+    requires open_frame { function.old.present.frames ≢ [] }
+    ensures accepted { OnOk result (Accepts (R.context function.old.resources) (op.entry, offset)
+        function.old function.new) }
+    ensures refused { IfErr result (Refuses (R.context function.old.resources) (op.entry, offset)
+        function.old) }
+    ensures back { attempted ≡ true → OnErr result (function.new ≡ function.old) }
 {
     if attempted {
-        return try_op(v, resources, offset, op);
+        return function.try_op(offset, op);
     }
-    v.check(resources, offset, op)
+    function.op(offset, op)
 }

@@ -39,6 +39,7 @@ pub fn check_script(alloc: Global, script: Script<'_>) -> Result<Report, Failure
 {
     let Script {
         features,
+        shows,
         declarations,
         body,
         locals,
@@ -53,11 +54,12 @@ pub fn check_script(alloc: Global, script: Script<'_>) -> Result<Report, Failure
         &locals,
         &ops,
         &attempts,
+        shows,
     )
 }
 
 /// Checks the operators of a body, some of them attempted, in the module of these declarations, with these
-/// proposals on.
+/// proposals on. It notes the types of the operands where the script shows them.
 fn check_operators(
     alloc: Global,
     features: WasmFeatures,
@@ -66,6 +68,7 @@ fn check_operators(
     locals: &[LocalLine],
     ops: &[(Op<'_>, u64)],
     attempts: &[bool],
+    shows: bool,
 ) -> Result<Report, Failure>
     requires each { length attempts.now ≡ length ops.now }
     requires allowed { may_all_be_attempted ops.now attempts.now ≡ true }
@@ -74,6 +77,7 @@ fn check_operators(
     ensures report { IfOk result (λ report. IfSome (module_of (declared_in declarations))
         (λ lists. IsReport (context_of lists) (record {
           features = features;
+          shows = shows;
           line = line;
           locals = locals.now;
           operators = record { ops = ops.now; attempts = attempts.now };
@@ -88,7 +92,7 @@ fn check_operators(
     }
     let module = module_lists(alloc, declarations)?;
     match begin_body(alloc, &module, &features, line, locals) {
-        Ok(mut validator) => Ok(run_operators(alloc, &mut validator, ops, attempts, &module)),
+        Ok(validator) => Ok(run_operators(alloc, validator, ops, attempts, shows, &module)),
         Err(refusal) => Ok(Report {
             answers: Answers::Heights(Vec::new(alloc)),
             outcome: Err(refusal),

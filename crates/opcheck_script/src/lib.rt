@@ -12,6 +12,10 @@ mod program;
 mod report;
 mod verdict;
 
+pub use body::run_operators;
 pub use check::{begin_body, module_lists};
 pub use failure::{BadScript, Failure};
+pub use print::print_report;
 pub use program::run;
+pub use report::{Answers, Report};
+pub use verdict::Verdict;

@@ -8,11 +8,11 @@ ghost use Rattle.opcheck_script.specs.Status.{verdict_of};
 ghost use Rattle.opcheck_script.specs.Texts.{failure_text};
 
 use crate::failure::Failure;
-use crate::report::{Answers, Report};
+use crate::report::{After, Answers, Report};
 use crate::verdict::Verdict;
 use std::io;
 use std::io::Write;
-use wasmparser_validate::types::Error;
+use wasmparser_validate::types::{Error, ValType};
 
 /// Prints a line for each operator that is accepted or attempted, the refusal that ended the run if
 /// there is one, and the verdict. A report that ends in want of memory has no verdict.
@@ -24,7 +24,7 @@ pub fn print_report<W: Write>(out: &mut W, report: &Report) -> Result<Verdict, F
 {
     match &report.answers {
         Answers::Heights(heights) => print_heights(out, heights)?,
-        Answers::Attempts(answers) => print_answers(out, answers)?,
+        Answers::Each(answers) => print_answers(out, answers)?,
     }
     let verdict = match &report.outcome {
         Ok(true) => Verdict::Accepted,
@@ -48,19 +48,48 @@ fn print_heights<W: Write>(out: &mut W, heights: &[(usize, usize)]) -> Result<()
     Ok(())
 }
 
-fn print_answers<W: Write>(
-    out: &mut W,
-    answers: &[Result<(usize, usize), Error>],
-) -> Result<(), Failure>
+fn print_answers<W: Write>(out: &mut W, answers: &[Result<After, Error>]) -> Result<(), Failure>
     ensures { IfErr result (λ failure. failure ≡ Failure.Output) }
 {
     for answer in answers {
         match answer {
-            Ok((operands, frames)) => printed(write_accepted(out, *operands, *frames))?,
+            Ok(after) => printed(write_after(out, after))?,
             Err(refusal) => print_refusal(out, refusal)?,
         }
     }
     Ok(())
+}
+
+/// Writes the line of an operator that is accepted, with the types of the operands, where they are shown.
+fn write_after<W: Write>(out: &mut W, after: &After) -> io::Result<()> {
+    match &after.types {
+        Some(types) => write_shown(out, after.operands, after.frames, types),
+        None => write_accepted(out, after.operands, after.frames),
+    }
+}
+
+/// Writes the same line, and the types in brackets, parted by spaces: `?` for one that isn't known.
+fn write_shown<W: Write>(
+    out: &mut W,
+    operands: usize,
+    frames: usize,
+    types: &[Option<ValType>],
+) -> io::Result<()> {
+    write!(out, "ok {operands} {frames} [")?;
+    for (place, ty) in types.iter().enumerate() {
+        if place > 0 {
+            write!(out, " ")?;
+        }
+        write_type(out, *ty)?;
+    }
+    writeln!(out, "]")
+}
+
+fn write_type<W: Write>(out: &mut W, ty: Option<ValType>) -> io::Result<()> {
+    match ty {
+        Some(ty) => write!(out, "{ty}"),
+        None => write!(out, "?"),
+    }
 }
 
 /// Writes the line of an operator that is accepted: how many operands and frames there are after it. Of a

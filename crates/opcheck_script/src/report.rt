@@ -1,15 +1,27 @@
 //! What the check of a script comes to.
 
-use wasmparser_validate::types::Error;
+use wasmparser_validate::types::{Error, ValType};
+
+/// What is there after an operator that is accepted.
+#[derive(Drop)]
+pub struct After {
+    /// How many operands.
+    pub operands: usize,
+    /// How many open frames.
+    pub frames: usize,
+    /// The types of the operands, the lowest first, where the script shows them: None for one that isn't
+    /// known.
+    pub types: Option<Vec<Option<ValType>>>,
+}
 
 /// What is answered at each operator, up to the end of the run.
 #[derive(Drop)]
 pub enum Answers {
-    /// Of a script without `try` lines: how many operands and frames there are after each accepted
-    /// operator.
+    /// Of a script without `try` and `show` lines: how many operands and frames there are after each
+    /// accepted operator.
     Heights(Vec<(usize, usize)>),
-    /// Of a script with `try` lines: the same, or the refusal of an attempt.
-    Attempts(Vec<Result<(usize, usize), Error>>),
+    /// Of a script with such lines: what is there after each accepted operator, or the refusal of an attempt.
+    Each(Vec<Result<After, Error>>),
 }
 
 /// What the validator says of a body.

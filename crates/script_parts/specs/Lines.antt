@@ -25,7 +25,7 @@ use Rattle.script_parts.specs.declared.line.Line.TheVariants.{Memory as OnMemory
 use Rattle.script_parts.specs.declared.line.Line.TheVariants.{Global as OnGlobal}
 use Rattle.script_parts.specs.declared.line.Line.TheVariants.{Tag as OnTag}
 use Rattle.script_parts.specs.declared.line.Line.TheVariants.{Element as OnElement}
-use Rattle.script_parts.specs.declared.line.Line.TheVariants.{DataCount as OnDataCount}
+use Rattle.script_parts.specs.declared.line.Line.TheVariants.{DataCount as OnDataCount, Show as OnShow}
 use Rattle.script_parts.specs.declared.line.Line.TheVariants.{Body as OnBody, Locals as OnLocals}
 use Rattle.script_parts.specs.declared.line.Line.TheVariants.{Operator as OnOperator}
 
@@ -37,24 +37,25 @@ words_in line = filter (λ word. not (length word == 0)) (slice_split (λ b. b =
 abbrev pub part_of : Draft → Part
 part_of d = if is_some d.body then (if vec_len d.operators.ops == 0 then Locals else Operators) else Module
 
--- Whether a line may stand after lines that have come to this part and have said how many data segments
--- there are, if they have: proposals and declarations before the `func` or `expr` line, that number once,
--- locals after the line, and operators last.
-abbrev pub may_stand_in : Line → Part → Option ℕ → Bool
-may_stand_in (OnFeature named) Module _ = true
-may_stand_in (OnType ty) Module _ = true
-may_stand_in (OnFunction function) Module _ = true
-may_stand_in (OnTable ty) Module _ = true
-may_stand_in (OnMemory ty) Module _ = true
-may_stand_in (OnGlobal ty) Module _ = true
-may_stand_in (OnTag index) Module _ = true
-may_stand_in (OnElement ty) Module _ = true
-may_stand_in (OnDataCount count) Module None = true
-may_stand_in (OnBody body) Module _ = true
-may_stand_in (OnLocals n ty) Locals _ = true
-may_stand_in (OnOperator op) Locals _ = true
-may_stand_in (OnOperator op) Operators _ = true
-may_stand_in _ _ _ = false
+-- Whether a line may stand after lines that have come to this part, have said how many data segments
+-- there are, if they have, and have a `show` line or none: proposals and declarations before the `func` or
+-- `expr` line, that number and `show` once, locals after the line, and operators last.
+abbrev pub may_stand_in : Line → Part → Option ℕ → Bool → Bool
+may_stand_in (OnFeature named) Module _ _ = true
+may_stand_in (OnType ty) Module _ _ = true
+may_stand_in (OnFunction function) Module _ _ = true
+may_stand_in (OnTable ty) Module _ _ = true
+may_stand_in (OnMemory ty) Module _ _ = true
+may_stand_in (OnGlobal ty) Module _ _ = true
+may_stand_in (OnTag index) Module _ _ = true
+may_stand_in (OnElement ty) Module _ _ = true
+may_stand_in (OnDataCount count) Module None _ = true
+may_stand_in OnShow Module _ false = true
+may_stand_in (OnBody body) Module _ _ = true
+may_stand_in (OnLocals n ty) Locals _ _ = true
+may_stand_in (OnOperator op) Locals _ _ = true
+may_stand_in (OnOperator op) Operators _ _ = true
+may_stand_in _ _ _ _ = false
 
 -- every proposal
 abbrev pub all_features : WasmFeatures
@@ -74,6 +75,11 @@ abbrev pub features_after : Line → Option WasmFeatures → Option WasmFeatures
 features_after (OnFeature named) None = Some named
 features_after (OnFeature named) (Some before) = Some (joined_features before named)
 features_after _ before = before
+
+-- whether there is a `show` line, after a line
+abbrev pub shows_after : Line → Bool → Bool
+shows_after OnShow before = true
+shows_after _ before = before
 
 -- each list after a line, the one of this number
 abbrev pub types_after : Line → List SubType → List SubType
@@ -129,6 +135,7 @@ data_count_after _ before = before
 -- the draft with a line, the one of this number, added to it
 pub record AddsLine (old new : Draft) (line : Line) (number : ℕ) : Type 0 where
   pub features : new.features ≡ features_after line old.features
+  pub shows : new.shows ≡ shows_after line old.shows
   pub types : new.declarations.types.items ≡ types_after line old.declarations.types.items
   pub functions : new.declarations.functions.items ≡ functions_after line old.declarations.functions.items
   pub tables : new.declarations.tables.items ≡ tables_after line old.declarations.tables.items

@@ -26,6 +26,8 @@ pub enum Line<'a> {
     Element(RefType),
     /// `data COUNT`: the module has this many data segments.
     DataCount(u32),
+    /// `show`: the types of the operands are printed too.
+    Show,
     /// `func N` or `expr T`: what the operators are the body of.
     Body(Body),
     /// `local N T`: the body has this many more locals of this type.

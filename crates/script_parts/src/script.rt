@@ -66,6 +66,8 @@ pub struct Declarations {
 pub struct Script<'a> {
     /// The proposals that are on.
     pub features: WasmFeatures,
+    /// Whether it has a `show` line.
+    pub shows: bool,
     /// The module.
     pub declarations: Declarations,
     /// The `func` or `expr` line.
@@ -81,6 +83,8 @@ pub struct Script<'a> {
 pub struct Draft<'a> {
     /// The proposals that are named, if some are.
     pub features: Option<WasmFeatures>,
+    /// Whether a `show` line has come.
+    pub shows: bool,
     /// The module.
     pub declarations: Declarations,
     /// The `func` or `expr` line, if it has come.
@@ -107,6 +111,7 @@ impl<'a> Draft<'a> {
     pub fn new(alloc: Global) -> Draft<'a> {
         Draft {
             features: None,
+            shows: false,
             declarations: Declarations {
                 types: Vec::new(alloc),
                 functions: Vec::new(alloc),
@@ -140,32 +145,34 @@ impl<'a> Draft<'a> {
     pub fn add(&mut self, line: Line<'a>, offset: u64) -> Result<(), LineError>
         ensures added { OnOk result (AddsLine self.old self.new line.entry offset) }
         ensures bad { IsErrOf result LineError.Bad
-            ↔ (may_stand_in line.entry (part_of self.old) self.old.declarations.data_count ≡ false) }
+            ↔ (may_stand_in line.entry (part_of self.old) self.old.declarations.data_count self.old.shows
+            ≡ false) }
     {
-        match (line, self.part(), self.declarations.data_count) {
-            (Line::Feature(named), Part::Module, _) => {
+        match (line, self.part(), self.declarations.data_count, self.shows) {
+            (Line::Feature(named), Part::Module, _, _) => {
                 let before = self.features.unwrap_or(WasmFeatures::empty());
                 self.features = Some(before.union(named));
             }
-            (Line::SubType(ty), Part::Module, _) => self.declarations.types.push(ty)?,
-            (Line::Function(function), Part::Module, _) => {
+            (Line::SubType(ty), Part::Module, _, _) => self.declarations.types.push(ty)?,
+            (Line::Function(function), Part::Module, _, _) => {
                 self.declarations.functions.push(function)?;
             }
-            (Line::Table(ty), Part::Module, _) => self.declarations.tables.push(ty)?,
-            (Line::Memory(ty), Part::Module, _) => self.declarations.memories.push(ty)?,
-            (Line::Global(ty), Part::Module, _) => self.declarations.globals.push(ty)?,
-            (Line::Tag(index), Part::Module, _) => self.declarations.tags.push(index)?,
-            (Line::Element(ty), Part::Module, _) => self.declarations.elements.push(ty)?,
-            (Line::DataCount(count), Part::Module, None) => {
+            (Line::Table(ty), Part::Module, _, _) => self.declarations.tables.push(ty)?,
+            (Line::Memory(ty), Part::Module, _, _) => self.declarations.memories.push(ty)?,
+            (Line::Global(ty), Part::Module, _, _) => self.declarations.globals.push(ty)?,
+            (Line::Tag(index), Part::Module, _, _) => self.declarations.tags.push(index)?,
+            (Line::Element(ty), Part::Module, _, _) => self.declarations.elements.push(ty)?,
+            (Line::DataCount(count), Part::Module, None, _) => {
                 self.declarations.data_count = Some(count);
             }
-            (Line::Body(body), Part::Module, _) => {
+            (Line::Show, Part::Module, _, false) => self.shows = true,
+            (Line::Body(body), Part::Module, _, _) => {
                 self.body = Some(BodyLine { body, offset });
             }
-            (Line::Locals(count, ty), Part::Locals, _) => {
+            (Line::Locals(count, ty), Part::Locals, _, _) => {
                 self.locals.push(LocalLine { count, ty, offset })?;
             }
-            (Line::Operator(op), Part::Locals | Part::Operators, _) => {
+            (Line::Operator(op), Part::Locals | Part::Operators, _, _) => {
                 self.operators.push(op, offset)?;
             }
             _ => return Err(LineError::Bad),
@@ -178,6 +185,7 @@ impl<'a> Draft<'a> {
     pub fn finish(self) -> Option<Script<'a>>
         ensures whole { IsSome result ↔ IsSome self.entry.body }
         ensures features { IfSome result (λ script. script.features ≡ features_or_all self.entry.features) }
+        ensures shows { IfSome result (λ script. script.shows ≡ self.entry.shows) }
         ensures declarations { IfSome result (λ script. script.declarations ≡ self.entry.declarations) }
         ensures body { IfSome result (λ script. self.entry.body ≡ Some script.body) }
         ensures locals { IfSome result (λ script. script.locals ≡ self.entry.locals) }
@@ -185,6 +193,7 @@ impl<'a> Draft<'a> {
     {
         let Draft {
             features,
+            shows,
             declarations,
             body,
             locals,
@@ -196,6 +205,7 @@ impl<'a> Draft<'a> {
         };
         Some(Script {
             features,
+            shows,
             declarations,
             body: body?,
             locals,

@@ -44,6 +44,7 @@ fn read_flat_line(words: &[&str]) -> Option<Line<'static>> {
     match *keyword {
         "memory" => Some(Line::Memory(read_memory_type(rest)?)),
         "local" => read_locals(rest),
+        "show" if rest.is_empty() => Some(Line::Show),
         "fn" | "table" | "global" => read_marked(keyword, rest),
         _ => read_single(keyword, rest),
     }

@@ -3,8 +3,13 @@
 use std::alloc::{AllocError, Global};
 
 /// The first words of lines that are no operators, and the operators that can't be attempted.
-const PLAIN: &str = "feature type fn table memory global tag elem data func expr local \
+const PLAIN: &str = "feature show type fn table memory global tag elem data func expr local \
     block loop if else end try_table legacy_try catch catch_all delegate try";
+
+/// Whether a script has a `show` line.
+fn has_show_line(script: &str) -> bool {
+    script.lines().any(|line| line.trim() == "show")
+}
 
 /// Whether the line is an operator that may be attempted.
 fn may_be_attempted(line: &str) -> bool {
@@ -48,29 +53,30 @@ fn add_each_attempted(text: &mut String, script: &str, last: u64) -> Result<bool
     Ok(false)
 }
 
-/// What is printed at a `nop` behind what printed this: the heights before the refusal.
-fn heights_before(printed: &str) -> &str {
+/// What is printed at a `nop` behind what printed this: the heights before the refusal, and the types of the
+/// operands where they are shown.
+fn answer_before(printed: &str, shows: bool) -> &str {
     printed
         .lines()
         .filter(|line| line.starts_with("ok "))
         .last()
-        .unwrap_or("ok 0 1")
+        .unwrap_or(if shows { "ok 0 1 []" } else { "ok 0 1" })
 }
 
 /// What the script that `attempted` gives prints, and its status, where the script prints this and has
-/// this status: the same, but that a refusal that ended the run leaves the heights before it.
+/// this status: the same, but that a refusal that ended the run leaves what was there before it.
 fn printed_then(
     alloc: Global,
     printed: &str,
     status: u8,
-    taken_back: bool,
+    (taken_back, shows): (bool, bool),
 ) -> Result<(String, u8), AllocError> {
     if !taken_back {
         return Ok((printed.to_string(alloc)?, status));
     }
     let lines = printed.strip_suffix("refused\n").unwrap_or(printed);
-    let heights = heights_before(printed);
-    Ok((format!(in alloc; "{lines}{heights}\nopen\n")?, 1))
+    let answer = answer_before(printed, shows);
+    Ok((format!(in alloc; "{lines}{answer}\nopen\n")?, 1))
 }
 
 /// A script and what it prints, with its status.
@@ -85,6 +91,7 @@ pub fn attempted(
 ) -> Result<Run, AllocError> {
     let mut text = String::new(alloc);
     let taken_back = add_each_attempted(&mut text, script, last_line(printed))?;
-    let (printed, status) = printed_then(alloc, printed, status, taken_back)?;
+    let ways = (taken_back, has_show_line(script));
+    let (printed, status) = printed_then(alloc, printed, status, ways)?;
     Ok((text, printed, status))
 }

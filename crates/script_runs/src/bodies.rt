@@ -6,17 +6,30 @@ ghost use Rattle.validate_stacks.specs.State.{IsStarting, IsValidBody};
 ghost use Rattle.validate_stacks.specs.Visits.{MayVisit};
 
 use crate::left::{Left, check_list};
+use crate::printed::{compare_refused, run_printed};
 use crate::report::Report;
 use crate::seen::Seen;
 use crate::undone::run_lines;
+use odd_lookups::{Check, PairedLists, WantingLists};
 use opcheck_script::{begin_body, module_lists};
-use script_reader::{Script, read_lists, read_script};
+use script_reader::{BodyLine, LocalLine, Operators, Script, read_lists, read_script};
 use std::alloc::Global;
 use std::fmt;
 use validate_body::{OperatorValidator, try_op};
-use validate_resources::WasmModuleResources;
-use validate_types::Error;
+use validate_resources::{ModuleLists, WasmModuleResources};
+use validate_types::{Error, WasmFeatures};
 use validate_visit::Op;
+
+/// The lookup over which a body is checked.
+#[derive(Clone, Copy)]
+pub enum Lookup {
+    /// Over the lists of its module.
+    Own,
+    /// One in which two indices name each type of the module.
+    Paired,
+    /// One of which this check finds no memory.
+    Wanting(Check),
+}
 
 /// What is done with a body.
 #[derive(Clone, Copy)]
@@ -27,6 +40,16 @@ pub enum Task<'a> {
     List(Left<'a>),
     /// It has no operators yet, and these lines are visited, or attempted and taken back.
     Lines(&'a str),
+    /// Its operators are run as the program runs them, which prints this.
+    Printed(&'a str),
+}
+
+/// A script, whether it shows the types of operands, and what is done with its body.
+#[derive(Clone, Copy)]
+struct Work<'a> {
+    script: &'a str,
+    shows: bool,
+    task: Task<'a>,
 }
 
 /// One attempt.
@@ -76,52 +99,134 @@ fn attempt_each<R: WasmModuleResources>(
 fn run_task<R: WasmModuleResources>(
     alloc: Global,
     report: &mut Report,
-    v: &mut OperatorValidator,
-    ops: &[(Op<'_>, u64)],
+    mut v: OperatorValidator,
+    operators: &Operators<'_>,
     resources: &R,
-    script: &str,
-    task: Task<'_>,
+    work: Work<'_>,
 ) -> Result<(), fmt::Error>
-    requires { IsStarting (R.context resources.now) (state v.old) }
+    requires { IsStarting (R.context resources.now) (state v) }
 {
+    let Work {
+        script,
+        shows,
+        task,
+    } = work;
+    let ops = operators.ops.as_slice();
     match task {
-        Task::Attempts => attempt_each(alloc, report, v, ops, resources, script),
-        Task::List(left) => check_list(alloc, report, v, ops, resources, script, left),
-        Task::Lines(lines) => run_lines(alloc, report, v, resources, lines),
+        Task::Attempts => attempt_each(alloc, report, &mut v, ops, resources, script),
+        Task::List(left) => check_list(alloc, report, &mut v, ops, resources, script, left),
+        Task::Lines(lines) => run_lines(alloc, report, &mut v, resources, lines),
+        Task::Printed(wanted) => {
+            run_printed(
+                alloc,
+                report,
+                v,
+                operators,
+                shows,
+                resources,
+                (script, wanted),
+            )
+        }
     }
 }
 
-/// Does this with the body of a script whose module and body can be made.
+/// Begins the body of a script over this lookup, and does this with it.
+fn run_over<R: WasmModuleResources>(
+    alloc: Global,
+    report: &mut Report,
+    resources: &R,
+    features: &WasmFeatures,
+    (line, locals): (BodyLine, &[LocalLine]),
+    operators: &Operators<'_>,
+    work: Work<'_>,
+) -> Result<(), fmt::Error> {
+    match begin_body(alloc, resources, features, line, locals) {
+        Ok(v) => run_task(alloc, report, v, operators, resources, work),
+        Err(refusal) => not_begun(alloc, report, work.script, work.task, refusal),
+    }
+}
+
+/// Does this with the body of a script over this lookup, which is made of the lists of its module.
+fn run_in(
+    alloc: Global,
+    report: &mut Report,
+    (lists, lookup): (ModuleLists, Lookup),
+    features: &WasmFeatures,
+    begin: (BodyLine, &[LocalLine]),
+    operators: &Operators<'_>,
+    work: Work<'_>,
+) -> Result<(), fmt::Error> {
+    match lookup {
+        Lookup::Own => run_over(alloc, report, &lists, features, begin, operators, work),
+        Lookup::Paired => {
+            let paired = PairedLists(lists);
+            run_over(alloc, report, &paired, features, begin, operators, work)
+        }
+        Lookup::Wanting(check) => {
+            let wanting = WantingLists { lists, check };
+            run_over(alloc, report, &wanting, features, begin, operators, work)
+        }
+    }
+}
+
+/// Does this with the body of a script whose module and body can be made, over this lookup.
 pub fn run_body(
     alloc: Global,
     report: &mut Report,
     script: &str,
+    lookup: Lookup,
     task: Task<'_>,
 ) -> Result<(), fmt::Error> {
-    let lists = read_lists(alloc, script)?;
-    let Ok(read) = read_script(alloc, &lists, script) else {
+    let written = read_lists(alloc, script)?;
+    let Ok(read) = read_script(alloc, &written, script) else {
         return cannot_begin(report, script, task);
     };
     let Script {
         features,
+        shows,
         declarations,
         body,
         locals,
         operators,
     } = read;
-    let Ok(module) = module_lists(alloc, declarations) else {
+    let Ok(lists) = module_lists(alloc, declarations) else {
         return cannot_begin(report, script, task);
     };
-    let Ok(mut v) = begin_body(alloc, &module, &features, body, &locals) else {
-        return cannot_begin(report, script, task);
+    let begin = (body, locals.as_slice());
+    let work = Work {
+        script,
+        shows,
+        task,
     };
-    run_task(alloc, report, &mut v, &operators.ops, &module, script, task)
+    run_in(
+        alloc,
+        report,
+        (lists, lookup),
+        &features,
+        begin,
+        &operators,
+        work,
+    )
 }
 
-/// A script whose module and body can't be made: of those alone that are run in other ways too.
+/// A script whose module or body can't be made: of those alone that are run in other ways too.
 fn cannot_begin(report: &mut Report, script: &str, task: Task<'_>) -> Result<(), fmt::Error> {
     match task {
         Task::Attempts => Ok(()),
         _ => report.refuse(script, "has no body to begin"),
+    }
+}
+
+/// A script whose body is refused before its operators.
+fn not_begun(
+    alloc: Global,
+    report: &mut Report,
+    script: &str,
+    task: Task<'_>,
+    refusal: Error,
+) -> Result<(), fmt::Error> {
+    match task {
+        Task::Printed(wanted) => compare_refused(alloc, report, script, refusal, wanted),
+        _ => cannot_begin(report, script, task),
     }
 }

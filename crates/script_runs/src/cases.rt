@@ -14,12 +14,15 @@
 //! - `@table`: operators, with what they take and give and the proposal that each needs (`tables.rt`);
 //! - `@given`: lines of operators that are all accepted, each with the types of the operands behind them;
 //! - `@left`: lines of operators of which the last alone is refused, with those that are left (`left.rt`);
-//! - `@undone`: a body of operators that are visited, or attempted and taken back (`undone.rt`).
+//! - `@undone`: a body of operators that are visited, or attempted and taken back (`undone.rt`);
+//! - `@paired`: the same over a lookup in which indices 2i and 2i + 1 name type i of the module;
+//! - `@wanting CHECK`: the same over a lookup of which this check finds no memory.
 //!
 //! A script without `feature` lines runs with all proposals, and again with all but custom descriptors. Behind
 //! `@scripts` and `@each` the words `with custom_descriptors` or `without custom_descriptors` say that it has
 //! these answers in one of the two alone.
 
+use crate::bodies::Lookup;
 use crate::flags::{DESCRIPTORS, all_but, is_flag};
 use crate::left::run_left;
 use crate::report::Report;
@@ -27,6 +30,7 @@ use crate::runs::Descriptors;
 use crate::tables::run_table;
 use crate::transcript::{run_bad_lines, run_each, run_transcript};
 use crate::undone::run_undone;
+use odd_lookups::Check;
 use std::alloc::Global;
 use std::fmt;
 
@@ -36,6 +40,18 @@ pub fn descriptors_of(words: &str) -> Option<Descriptors> {
         None if words.is_empty() => Some(Descriptors::Both),
         Some(("with", flag)) if flag == DESCRIPTORS => Some(Descriptors::With),
         Some(("without", flag)) if flag == DESCRIPTORS => Some(Descriptors::Without),
+        _ => None,
+    }
+}
+
+/// Over which lookup the lines of a section are visited or undone, by its kind and the words behind it.
+fn lookup_of(kind: &str, words: &str) -> Option<Lookup> {
+    match (kind, words) {
+        ("undone", "") => Some(Lookup::Own),
+        ("paired", "") => Some(Lookup::Paired),
+        ("wanting", "check_heap_type") => Some(Lookup::Wanting(Check::HeapType)),
+        ("wanting", "check_ref_type") => Some(Lookup::Wanting(Check::RefType)),
+        ("wanting", "check_value_type") => Some(Lookup::Wanting(Check::ValueType)),
         _ => None,
     }
 }
@@ -85,6 +101,9 @@ impl<'a> Cases<'a> {
         text: &str,
     ) -> Result<(), fmt::Error> {
         let head = &self.head;
+        if let Some(lookup) = lookup_of(kind, words) {
+            return run_undone(alloc, report, head, text, lookup);
+        }
         match (kind, descriptors_of(words)) {
             ("scripts", Some(with)) => run_transcript(alloc, report, head, text, with),
             ("each", Some(with)) => run_each(alloc, report, head, (self.rows, text), with),
@@ -92,7 +111,6 @@ impl<'a> Cases<'a> {
             ("table", Some(Descriptors::Both)) => run_table(alloc, report, head, text),
             ("given", Some(Descriptors::Both)) => run_left(alloc, report, head, (text, false)),
             ("left", Some(Descriptors::Both)) => run_left(alloc, report, head, (text, true)),
-            ("undone", Some(Descriptors::Both)) => run_undone(alloc, report, head, text),
             _ => report.refuse(kind, "begins no section"),
         }
     }

@@ -1,14 +1,64 @@
 //! Readers and writers that fail, at each byte.
 
 use crate::report::Report;
+use crate::runs::Outcome;
 use opcheck_script::run;
 use std::alloc::Global;
 use std::io::{Read, Write};
 use std::{fmt, io};
 
-const SCRIPT: &[u8] = b"type func i32 -> i32\nfunc 0\nlocal.get 0\ni32.const 1\ni32.add\nend\n";
-
-const PRINTED: &str = "ok 1 1\nok 2 1\nok 1 1\nok 1 0\naccepted\n";
+/// Scripts, and what they come to with a reader and writers that don't fail.
+const SCRIPTS: &[(&str, Outcome<'static>)] = &[
+    (
+        "type func i32 -> i32\nfunc 0\nlocal.get 0\ni32.const 1\ni32.add\nend\n",
+        Outcome {
+            out: "ok 1 1\nok 2 1\nok 1 1\nok 1 0\naccepted\n",
+            err: "",
+            status: 0,
+        },
+    ),
+    (
+        "type func ->\nfunc 0\ni32.add\n",
+        Outcome {
+            out: "refused 3: type mismatch: expected i32 but nothing on stack\nrefused\n",
+            err: "",
+            status: 1,
+        },
+    ),
+    (
+        "type func ->\nfunc 0\ni64.const 5\ni32.const 7\ntry i32.add\ndrop\ndrop\nend\n",
+        Outcome {
+            out: "ok 1 1\nok 2 1\nrefused 5: type mismatch: expected i32, found i64\nok 1 1\n\
+                ok 0 1\nok 0 0\naccepted\n",
+            err: "",
+            status: 0,
+        },
+    ),
+    (
+        "type func ->\nfunc 0\nblock\n",
+        Outcome {
+            out: "ok 0 2\nopen\n",
+            err: "",
+            status: 1,
+        },
+    ),
+    (
+        "wombat",
+        Outcome {
+            out: "",
+            err: "bad script: line 1\n",
+            status: 2,
+        },
+    ),
+    (
+        "type func ->\nfunc 0\nelse\n",
+        Outcome {
+            out: "",
+            err: "bad script: order\n",
+            status: 2,
+        },
+    ),
+];
 
 /// Gives its bytes one by one, and then fails.
 #[derive(Drop)]
@@ -55,7 +105,7 @@ impl Write for BrokenWriter {
     }
 }
 
-/// A script whose reader fails behind so many bytes is bad.
+/// Runs a script whose reader fails behind so many bytes: it is bad.
 fn run_read(alloc: Global, report: &mut Report, bytes: &[u8]) -> Result<(), fmt::Error> {
     let mut printed = Vec::new(alloc);
     let mut said = Vec::new(alloc);
@@ -65,58 +115,66 @@ fn run_read(alloc: Global, report: &mut Report, bytes: &[u8]) -> Result<(), fmt:
     report.compare_number("a broken reader", "ends with", status as usize, 2)
 }
 
-/// With room for these bytes alone in its output, the script comes to this status.
-fn run_printed(
+/// Runs a script with outputs that have room for what is wanted on them alone.
+fn run_written(
     alloc: Global,
     report: &mut Report,
-    room: &str,
-    status: u8,
+    script: &str,
+    wanted: Outcome<'_>,
 ) -> Result<(), fmt::Error> {
     let mut out = BrokenWriter {
-        room: room.len(),
+        room: wanted.out.len(),
         taken: Vec::new(alloc),
     };
-    let mut said = Vec::new(alloc);
-    let answer = run(alloc, SCRIPT, &mut out, &mut said);
-    report.compare_output("a broken output", "takes", &out.taken, room)?;
-    report.compare_output("a broken output", "says", &said, "")?;
-    report.compare_number(
-        "a broken output",
-        "ends with",
-        answer as usize,
-        status as usize,
-    )
+    let mut err = BrokenWriter {
+        room: wanted.err.len(),
+        taken: Vec::new(alloc),
+    };
+    let status = run(alloc, script.as_bytes(), &mut out, &mut err);
+    report.compare_output(script, "prints before a failure", &out.taken, wanted.out)?;
+    report.compare_output(script, "says before a failure", &err.taken, wanted.err)?;
+    report.compare_number(script, "ends with", status as usize, wanted.status as usize)
 }
 
-/// A bad script is told as far as the error output has room for these bytes.
-fn run_told(alloc: Global, report: &mut Report, room: &str) -> Result<(), fmt::Error> {
-    let mut printed = Vec::new(alloc);
-    let mut err = BrokenWriter {
-        room: room.len(),
-        taken: Vec::new(alloc),
-    };
-    let wombat: &[u8] = b"wombat";
-    let status = run(alloc, wombat, &mut printed, &mut err);
-    report.compare_output("a broken error output", "takes", &err.taken, room)?;
-    report.compare_output("a broken error output", "prints", &printed, "")?;
-    report.compare_number("a broken error output", "ends with", status as usize, 2)
+/// A script whose reader fails at each byte and behind the last.
+fn run_each_read(alloc: Global, report: &mut Report, script: &str) -> Result<(), fmt::Error> {
+    for place in 0..=script.len() {
+        report.count();
+        run_read(alloc, report, &script.as_bytes()[..place])?;
+    }
+    Ok(())
+}
+
+/// A script whose output fails at each byte: the status is 3, and nothing is said. Where the error output fails
+/// the status stays.
+fn run_each_written(
+    alloc: Global,
+    report: &mut Report,
+    script: &str,
+    ample: Outcome<'_>,
+) -> Result<(), fmt::Error> {
+    for (place, _) in ample.out.char_indices() {
+        report.count();
+        let wanted = Outcome {
+            out: ample.out.get(..place).unwrap_or(""),
+            err: "",
+            status: 3,
+        };
+        run_written(alloc, report, script, wanted)?;
+    }
+    for (place, _) in ample.err.char_indices() {
+        report.count();
+        let err = ample.err.get(..place).unwrap_or("");
+        run_written(alloc, report, script, Outcome { err, ..ample })?;
+    }
+    run_written(alloc, report, script, ample)
 }
 
 /// Runs scripts over readers and writers that fail at each byte in turn.
 pub fn run_broken(alloc: Global, report: &mut Report) -> Result<(), fmt::Error> {
-    for place in 0..=SCRIPT.len() {
-        report.count();
-        run_read(alloc, report, &SCRIPT[..place])?;
+    for (script, ample) in SCRIPTS {
+        run_each_read(alloc, report, script)?;
+        run_each_written(alloc, report, script, *ample)?;
     }
-    for (place, _) in PRINTED.char_indices() {
-        report.count();
-        run_printed(alloc, report, PRINTED.get(..place).unwrap_or(""), 3)?;
-    }
-    run_printed(alloc, report, PRINTED, 0)?;
-    let line = "bad script: line 1\n";
-    for (place, _) in line.char_indices() {
-        report.count();
-        run_told(alloc, report, line.get(..place).unwrap_or(""))?;
-    }
-    run_told(alloc, report, line)
+    Ok(())
 }

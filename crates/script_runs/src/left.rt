@@ -8,7 +8,7 @@ ghost use Rattle.validate_stacks.specs.State.{IsStarting};
 ghost use Rattle.validate_visit.specs.Immediates.{is_module_op};
 ghost use Rattle.validate_visit.specs.Order.{is_well_ordered_list};
 
-use crate::bodies::{Task, run_body};
+use crate::bodies::{Lookup, Task, run_body};
 use crate::flags::without_descriptors;
 use crate::report::Report;
 use crate::seen::add_operand_types;
@@ -108,8 +108,8 @@ fn run_list(
     left: Left<'_>,
 ) -> Result<(), fmt::Error> {
     let script = script_of(alloc, head, operators)?;
-    run_body(alloc, report, &script, Task::List(left))?;
-    run_body(alloc, report, &script, Task::Attempts)
+    run_body(alloc, report, &script, Lookup::Own, Task::List(left))?;
+    run_body(alloc, report, &script, Lookup::Own, Task::Attempts)
 }
 
 /// What a line has behind its arrow: the types of operands, and perhaps a bar and the words of a refusal.

@@ -5,19 +5,22 @@
 //! prints; it is accepted.
 //!
 //! A script runs as one list, with both outputs and its status compared; once more with each operator
-//! attempted that may be; and operator by operator, each attempted, where a refused one has to leave all
-//! frames and operands as they were. One without `feature` lines runs again as one list with every proposal
-//! on but custom descriptors, and answers the same. Last come scripts that are in no file: with odd bytes,
+//! attempted that may be; operator by operator, each attempted, where a refused one has to leave all
+//! frames and operands as they were; and with the indices of its types doubled, over a lookup in which two
+//! indices name each type. One without `feature` lines runs again as one list with every proposal on but
+//! custom descriptors, and answers the same. Last come scripts that are in no file: with odd bytes,
 //! computed, and over readers and writers that fail.
 #![tactic(auto)]
 
 mod attempts;
 mod bodies;
 mod cases;
+mod doubled;
 mod fakes;
 mod flags;
 mod left;
 mod odd;
+mod printed;
 mod renumbered;
 mod report;
 mod runs;

@@ -1,8 +1,9 @@
 //! Runs of a script, and what they are to come to.
 
 use crate::attempts::attempted;
-use crate::bodies::{Task, run_body};
+use crate::bodies::{Lookup, Task, run_body};
 use crate::flags::{DESCRIPTORS, all_but, names_flags};
+use crate::printed::compare_paired;
 use crate::renumbered::renumbered;
 use crate::report::Report;
 use opcheck_script::run;
@@ -60,8 +61,8 @@ fn compare_attempted(
     compare_run(alloc, report, text.as_bytes(), wanted)
 }
 
-/// Runs a script as one list; once more with each operator attempted that may be; and once operator by
-/// operator by attempts, behind a refused one of which all is as it was before.
+/// Runs a script as one list; once more with each operator attempted that may be; once operator by operator by
+/// attempts, behind a refused one of which all is as it was before; and over a lookup with other indices.
 fn compare_runs(
     alloc: Global,
     report: &mut Report,
@@ -70,7 +71,8 @@ fn compare_runs(
 ) -> Result<(), fmt::Error> {
     compare_run(alloc, report, script.as_bytes(), wanted)?;
     compare_attempted(alloc, report, script, wanted)?;
-    run_body(alloc, report, script, Task::Attempts)
+    run_body(alloc, report, script, Lookup::Own, Task::Attempts)?;
+    compare_paired(alloc, report, script, wanted)
 }
 
 /// Runs a script behind lines that turn on every proposal but custom descriptors: as one list, and in the

@@ -5,7 +5,7 @@ ghost use Rattle.validate_body.specs.Start.{state, stacks_of};
 ghost use Rattle.validate_stacks.specs.State.{IsStarting, IsValidBody};
 ghost use Rattle.validate_stacks.specs.Visits.{MayVisit};
 
-use crate::bodies::{Task, run_body};
+use crate::bodies::{Lookup, Task, run_body};
 use crate::flags::without_descriptors;
 use crate::report::Report;
 use crate::seen::{Seen, add_operand_types, innermost};
@@ -215,19 +215,20 @@ pub fn run_lines<R: WasmModuleResources>(
     Ok(())
 }
 
-/// Runs such lines behind these first ones: with all proposals and without custom descriptors, where those
-/// name no flag.
+/// Runs such lines behind these first ones, over this lookup: with all proposals and without custom
+/// descriptors, where those name no flag.
 pub fn run_undone(
     alloc: Global,
     report: &mut Report,
     head: &str,
     lines: &str,
+    lookup: Lookup,
 ) -> Result<(), fmt::Error> {
     report.count();
-    run_body(alloc, report, head, Task::Lines(lines))?;
+    run_body(alloc, report, head, lookup, Task::Lines(lines))?;
     let plain = without_descriptors(alloc, head)?;
     if plain.is_empty() {
         return Ok(());
     }
-    run_body(alloc, report, &plain, Task::Lines(lines))
+    run_body(alloc, report, &plain, lookup, Task::Lines(lines))
 }

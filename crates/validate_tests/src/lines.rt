@@ -59,6 +59,12 @@ fn visit_by_row<R: WasmModuleResources>(
     v.with_resources(lists, 7).visit_operator(op)
 }
 
+/// The operator of a line, and its answer alone.
+pub fn parts_of(line: &str) -> (&str, &str) {
+    let (written, wanted) = line.split_once(" => ").unwrap_or((line, ""));
+    (written, answer_in(wanted))
+}
+
 /// The answer alone, without what stands behind it.
 fn answer_in(text: &str) -> &str {
     match text.split_once(" => ") {
@@ -144,7 +150,7 @@ fn expect_attempted<R: WasmModuleResources>(
 }
 
 /// The operator that a text writes, with this list, if it has one.
-fn read_op<'a>(
+pub fn read_op<'a>(
     rt: &impl AllocGlobal,
     list: &'a [OperatorList],
     text: &str,

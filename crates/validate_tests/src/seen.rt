@@ -1,16 +1,22 @@
 //! What can be seen of a validator's state, as a text.
 
 use crate::expect::{Lack, NO_MEMORY};
+use validate_body::first_set::inits_of;
 use wasmparser_validate::operators::OperatorValidator;
 use wasmparser_validate::types::Error;
 use wasmparser_validate::visit::{Frame, FrameKind};
 
-/// All that can be seen: the open frames, the innermost first, and the operands, the top last.
+/// All that can be seen: the open frames, the innermost first, the locals that were set, in the order in which they
+/// were, and the operands, the top last.
 pub fn seen(rt: &impl AllocGlobal, v: &OperatorValidator) -> Result<String, Lack> {
     let mut text = String::new(rt.alloc());
     for depth in 0..v.control_stack_height() {
         write!(text, "{:?}", v.get_frame(depth))?;
     }
+    for index in inits_of(v).set_since(0) {
+        write!(text, " {index}")?;
+    }
+    text.push_str(":")?;
     add_operands(&mut text, v)?;
     Ok(text)
 }

@@ -91,27 +91,32 @@ fn locals_are_declared_up_to_the_limit(rt: HostRuntime) -> Result<(), Lack> {
 }
 
 /// Declares 60 locals in a new body. Where memory is wanting there are none, and a second try declares them.
-fn expect_defined<R: WasmModuleResources>(rt: &impl Abort, v: &mut OperatorValidator, lists: &R)
+fn expect_defined<R: WasmModuleResources>(
+    rt: &impl Abort,
+    v: &mut OperatorValidator,
+    lists: &R,
+) -> Result<(), Error>
     requires { IsStarting (R.context lists.now) (state v.old) }
 {
     if let Err(refusal) = v.define_locals(0, 60, ValType::I64, lists) {
         expect(rt, refusal.is_out_of_memory());
         expect_same(rt, v.locals().len_locals(), 0);
-        expect(rt, v.define_locals(0, 60, ValType::I64, lists).is_ok());
+        v.define_locals(0, 60, ValType::I64, lists)?;
     }
     expect_same(rt, v.locals().len_locals(), 60);
+    Ok(())
 }
 
 /// A validator of an empty body, and locals in it.
 fn define_once(rt: &(impl Abort + AllocGlobal)) -> Result<(), Lack> {
     let setting = Setting::read(rt, HEAD)?;
     let mut v = setting.validator(OperatorValidatorAllocations::new(rt.alloc()))?;
-    expect_defined(rt, &mut v, &setting.lists);
+    expect_defined(rt, &mut v, &setting.lists)?;
     Ok(())
 }
 
 #[test]
-fn locals_are_declared_whichever_allocation_fails(rt: HostRuntime) -> Result<(), Lack> {
+fn locals_are_declared_whichever_request_is_refused(rt: HostRuntime) -> Result<(), Lack> {
     match define_once(&rt) {
         Ok(()) => Ok(()),
         Err(_) => define_once(&rt),

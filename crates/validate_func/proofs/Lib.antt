@@ -1,0 +1,3 @@
+pub mod Accepted
+pub mod Types
+pub mod Held

@@ -1,0 +1,100 @@
+//! The types of the operands between operators.
+
+ghost use Rattle.std.specs.Prelude.{◌≡◌, ◌≤◌, ◌<◌, true, Some, length, OnOk, IfOk, IfErr};
+ghost use Rattle.std.specs.List.{list_all};
+ghost use Rattle.validate_visit.specs.Immediates.{is_module_op};
+ghost use Rattle.validate_visit.specs.Order.{is_well_ordered_list};
+ghost use Rattle.validate_visit.specs.declared.frame.BlockType.{BlockType};
+ghost use Rattle.validation_rules.specs.Static.{start};
+ghost use Rattle.validate_stacks.specs.Pops.{IsKept};
+ghost use Rattle.validate_stacks.specs.State.{IsStarting, IsValidBody};
+ghost use Rattle.validate_body.specs.Runs.{without_offsets, body_before, IsAcceptedBody, IsRefusedAt};
+ghost use Rattle.validate_body.specs.Start.{state};
+ghost use Rattle.validate_func.specs.Operands.{types_in, types_before, AreTypesOfRuns};
+
+use std::alloc::Global;
+use validate_body::OperatorValidator;
+use validate_resources::WasmModuleResources;
+use validate_types::{Error, OutOfMemory, ValType};
+use validate_visit::Op;
+
+/// The types of the operands before operator `k`, counted from 0, the lowest first; None for one whose
+/// type isn't known. It visits the operators before that one.
+///
+/// Where the whole list is accepted up to the outermost `end`, every run that stands before operator `k`
+/// holds as many operands, in order, each below the known type in its place.
+///
+/// It refuses as [`validate_body::check_ops`] does, with the place of the operator that is refused, or
+/// `k` where no memory is found for the answer; that refusal carries the offset of operator `k`, or 0
+/// behind the last one.
+///
+/// Conditions: those of [`validate_body::check_ops`] on the validator and the list, and that the list has
+/// `k` operators at least.
+pub fn operands_before<R: WasmModuleResources>(
+    alloc: Global,
+    v: &mut OperatorValidator,
+    ops: &[(Op<'_>, u64)],
+    resources: &R,
+    k: usize,
+) -> Result<Vec<Option<ValType>>, (usize, Error)>
+    requires starting { IsStarting (R.context resources.now) (state v.old) }
+    requires ordered { is_well_ordered_list (without_offsets ops.now) ≡ true }
+    requires immediates { list_all (λ (p : _). is_module_op p.0) ops.now ≡ true }
+    requires within { k ≤ length ops.now }
+
+    // All rows before operator k hold where it answers Ok, and the validator is in the state before it.
+    ensures rows { OnOk result (body_before (R.context resources.now) (state v.old) ops.now k
+        ≡ Some (state v.new).present) }
+    ensures types { IfOk result (λ types. types_before (R.context resources.now) (state v.old) ops.now k
+        ≡ Some types.items) }
+    ensures refused { IfErr result (λ p. p.0 < k → IsRefusedAt (R.context resources.now) (state v.old)
+        ops.now p.0 p.1) }
+    ensures memory { IfErr result (λ p. k ≤ p.0 → (p.0 ≡ k) × (p.1.wants_memory ≡ true)) }
+
+    // Where the whole list is accepted, these are the types of what every run holds there.
+    ensures below { IfOk result (λ types. (ty : BlockType) → (state v.old).present ≡ start ty
+        → IsAcceptedBody (R.context resources.now) (state v.old) ops.now
+        → AreTypesOfRuns (R.context resources.now) (state v.old) ops.now ty k types.items) }
+
+    // Whatever it answers, the types stay valid, and nothing but operands and frames changes.
+    ensures valid { IsValidBody (R.context resources.now) (state v.new) }
+    ensures kept { IsKept (state v.old) (state v.new) }
+{
+    for index in 0..k {
+        let (op, offset) = ops[index];
+        match v.check(resources, offset, op) {
+            Ok(()) => {}
+            Err(refusal) => return Err((index, refusal)),
+        }
+    }
+    match operand_types(alloc, v) {
+        Ok(types) => Ok(types),
+        Err(_) => Err((k, Error::out_of_memory(offset_at(ops, k)))),
+    }
+}
+
+/// The offset of the operator at this place, or 0 behind the last one.
+fn offset_at(ops: &[(Op<'_>, u64)], k: usize) -> u64 {
+    match ops.get(k) {
+        Some((_, offset)) => *offset,
+        None => 0,
+    }
+}
+
+/// The types of all operands, the lowest first; None for one whose type isn't known.
+pub(crate) fn operand_types(
+    alloc: Global,
+    v: &OperatorValidator,
+) -> Result<Vec<Option<ValType>>, OutOfMemory>
+    ensures { IfOk result (λ types. types.items ≡ types_in (state v.now).present) }
+{
+    let height = v.operand_stack_height();
+    let mut types = Vec::with_capacity(alloc, height)?;
+    for depth in (0..height).rev() {
+        match v.peek_operand_at(depth) {
+            Some(ty) => types.push_reserved(ty),
+            None => unreachable!(),
+        }
+    }
+    Ok(types)
+}

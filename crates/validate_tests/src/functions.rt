@@ -1,0 +1,290 @@
+//! Function validators: worked rows, and a body for each group of operators, each visited and each attempted.
+//!
+//! The bodies pass whichever allocation fails, one in a run: behind a visit without memory the validator has
+//! failed, and everything is there at a second try; an attempt without memory leaves no trace, and is accepted
+//! when it comes again. `rt try --test --fail-alloc N` runs them so, for N from 1 on.
+
+ghost use Rattle.std.specs.Prelude.{◌≡◌, ◌≤◌, true, false, [], length};
+ghost use Rattle.std.specs.List.{list_all};
+ghost use Rattle.wasmparser_validate.specs.Immediates.{is_module_op};
+ghost use Rattle.wasmparser_validate.specs.Order.{is_well_ordered_list};
+ghost use Rattle.wasmparser_validate.specs.Runs.{without_offsets};
+
+use crate::expect::{Lack, expect, expect_error, expect_same, expect_text};
+use crate::setting::{HEAD, Setting};
+use crate::tables::GROUPS;
+use script_reader::{read_lists, read_script};
+use std::process::Abort;
+use wasmparser_validate::func::{FuncValidator, operands_before};
+use wasmparser_validate::operators::OperatorValidatorAllocations;
+use wasmparser_validate::resources::WasmModuleResources;
+use wasmparser_validate::types::{Error, ValType};
+use wasmparser_validate::visit::{
+    ControlOp, IntegerBinaryOp, IntegerType, NumericOp, Op, have_module_immediates, is_well_ordered,
+};
+
+const I64_CONST: Op<'static> = Op::Numeric(NumericOp::I64Const(5));
+
+const I32_CONST: Op<'static> = Op::Numeric(NumericOp::I32Const(7));
+
+const I32_ADD: Op<'static> = Op::Numeric(NumericOp::IntegerBinary(
+    IntegerType::I32,
+    IntegerBinaryOp::Add,
+));
+
+const DROP: Op<'static> = Op::Control(ControlOp::Drop);
+
+const END: Op<'static> = Op::Control(ControlOp::End);
+
+/// What can be seen of a function validator.
+fn seen<R: WasmModuleResources>(
+    rt: &impl AllocGlobal,
+    function: &FuncValidator<'_, '_, R>,
+) -> Result<String, Lack> {
+    let accepted = function.accepted().len();
+    let mut text = format!(in rt.alloc(); "{accepted} {}", function.is_failed())?;
+    for depth in 0..function.control_stack_height() {
+        write!(text, " {:?}", function.get_frame(depth))?;
+    }
+    for depth in 0..function.operand_stack_height() {
+        write!(text, " {:?}", function.peek_operand_at(depth))?;
+    }
+    Ok(text)
+}
+
+/// Visits an operator, or attempts it, where a frame is open.
+fn answer<'a, R: WasmModuleResources>(
+    rt: &impl Abort,
+    function: &mut FuncValidator<'a, '_, R>,
+    op: Op<'a>,
+    attempted: bool,
+) -> Result<(), Error> {
+    expect(rt, function.control_stack_height() > 0);
+    if attempted {
+        return function.try_op(9, op);
+    }
+    function.op(9, op)
+}
+
+/// A visit without memory marks as failed, and keeps the list.
+fn visit<'a, R: WasmModuleResources>(
+    rt: &impl Abort,
+    function: &mut FuncValidator<'a, '_, R>,
+    op: Op<'a>,
+) -> Result<(), Error> {
+    let accepted = function.accepted().len();
+    let visited = answer(rt, function, op, false);
+    if visited.is_err() {
+        expect(
+            rt,
+            function.is_failed() && function.accepted().len() == accepted,
+        );
+    }
+    visited
+}
+
+/// An attempt without memory leaves no trace, and comes again.
+fn attempt<'a, R: WasmModuleResources>(
+    rt: &(impl Abort + AllocGlobal),
+    function: &mut FuncValidator<'a, '_, R>,
+    op: Op<'a>,
+) -> Result<Result<(), Error>, Lack> {
+    let before = seen(rt, function)?;
+    let attempted = answer(rt, function, op, true);
+    if attempted.is_ok() {
+        return Ok(attempted);
+    }
+    expect_text(rt, &seen(rt, function)?, &before, "an attempt");
+    Ok(answer(rt, function, op, true))
+}
+
+/// Visits or attempts an operator, which is accepted and leaves this many operands and frames.
+fn expect_op<'a, R: WasmModuleResources>(
+    rt: &(impl Abort + AllocGlobal),
+    function: &mut FuncValidator<'a, '_, R>,
+    op: Op<'a>,
+    heights: &str,
+    attempted: bool,
+) -> Result<(), Lack> {
+    if attempted {
+        attempt(rt, function, op)??;
+    } else {
+        visit(rt, function, op)?;
+    }
+    let operands = function.operand_stack_height();
+    let left = format!(in rt.alloc(); "{operands} {}", function.control_stack_height())?;
+    expect_text(rt, &left, heights, heights);
+    Ok(())
+}
+
+/// The same of the operators of a body.
+fn expect_ops<'a, R: WasmModuleResources>(
+    rt: &(impl Abort + AllocGlobal),
+    function: &mut FuncValidator<'a, '_, R>,
+    ops: &[(Op<'a>, u64)],
+    lines: &str,
+    attempted: bool,
+) -> Result<(), Lack> {
+    for (pair, line) in ops.iter().zip(lines.lines()) {
+        let (_, heights) = line.split_once(" => ").unwrap_or((line, ""));
+        expect_op(rt, function, pair.0, heights, attempted)?;
+    }
+    Ok(())
+}
+
+/// The script of a body: its first lines, and its operators without what each leaves.
+fn script_of(rt: &impl AllocGlobal, head: &str, lines: &str) -> Result<String, Lack> {
+    let mut script = head.to_string(rt.alloc())?;
+    for line in lines.lines() {
+        let (written, _) = line.split_once(" => ").unwrap_or((line, ""));
+        script.push_str("\n")?;
+        script.push_str(written)?;
+    }
+    Ok(script)
+}
+
+/// The operators of a body, in a function of this setting.
+fn expect_in(
+    rt: &(impl Abort + AllocGlobal),
+    setting: &Setting,
+    ops: &[(Op<'_>, u64)],
+    lines: &str,
+    attempted: bool,
+) -> Result<(), Lack> {
+    let v = setting.validator(OperatorValidatorAllocations::new(rt.alloc()))?;
+    let mut function = FuncValidator::new(rt.alloc(), v, &setting.lists);
+    let answer = expect_ops(rt, &mut function, ops, lines, attempted);
+    function.into_allocations();
+    answer
+}
+
+/// A body of a table, visited and attempted.
+fn expect_body(rt: &(impl Abort + AllocGlobal), body: &str) -> Result<(), Lack> {
+    let (head, lines) = body.split_once("\n--\n").unwrap_or((HEAD, body));
+    let setting = Setting::read(rt, head)?;
+    let script = script_of(rt, head, lines)?;
+    let lists = read_lists(rt.alloc(), &script)?;
+    let Ok(read) = read_script(rt.alloc(), &lists, &script) else {
+        return Err(Lack("lines that are no script"));
+    };
+    expect_in(rt, &setting, &read.operators.ops, lines, false)?;
+    expect_in(rt, &setting, &read.operators.ops, lines, true)
+}
+
+#[test]
+fn groups_of_operators_in_functions_whichever_allocation_fails(
+    rt: HostRuntime,
+) -> Result<(), Lack> {
+    for body in GROUPS.split("\n\n") {
+        if expect_body(&rt, body).is_err() {
+            expect_body(&rt, body)?;
+        }
+    }
+    Ok(())
+}
+
+/// `i64.const`, `i32.const`, then an `i32.add` that is refused and leaves no trace, `drop`, `drop`, `end`.
+fn expect_refused_attempt<R: WasmModuleResources>(
+    rt: &impl Abort,
+    function: &mut FuncValidator<'static, '_, R>,
+) {
+    expect(rt, answer(rt, function, I64_CONST, false).is_ok());
+    expect(rt, answer(rt, function, I32_CONST, false).is_ok());
+    let refused = answer(rt, function, I32_ADD, true);
+    expect_error(
+        rt,
+        refused.err(),
+        "type mismatch: expected i32, found i64",
+        9,
+    );
+    expect_same(rt, function.peek_operand_at(0), Some(Some(ValType::I32)));
+    expect_same(rt, function.peek_operand_at(1), Some(Some(ValType::I64)));
+    for op in [DROP, DROP, END] {
+        expect(rt, answer(rt, function, op, false).is_ok());
+    }
+    expect(rt, function.finish(9).is_ok());
+    expect_same(rt, function.accepted().len(), 5);
+}
+
+#[test]
+fn a_refused_attempt_is_not_among_the_accepted(rt: HostRuntime) -> Result<(), Lack> {
+    let setting = Setting::read(&rt, HEAD)?;
+    let v = setting.validator(OperatorValidatorAllocations::new(rt.alloc()))?;
+    expect_refused_attempt(&rt, &mut FuncValidator::new(rt.alloc(), v, &setting.lists));
+    Ok(())
+}
+
+/// Has a frame open at first; and has failed behind a refused visit.
+fn expect_refusals<R: WasmModuleResources>(
+    rt: &impl Abort,
+    function: &mut FuncValidator<'static, '_, R>,
+) {
+    let open = "control frames remain at end of function: END opcode expected";
+    expect_error(rt, function.finish(9).err(), open, 9);
+    expect(
+        rt,
+        answer(rt, function, I32_ADD, false).is_err() && function.is_failed(),
+    );
+    for attempted in [false, true] {
+        let refused = answer(rt, function, I32_CONST, attempted);
+        expect_error(rt, refused.err(), "function validator has failed", 9);
+    }
+    expect_error(
+        rt,
+        function.finish(9).err(),
+        "function validator has failed",
+        9,
+    );
+    expect(rt, function.accepted().is_empty());
+}
+
+#[test]
+fn a_failed_one_refuses_whatever_comes(rt: HostRuntime) -> Result<(), Lack> {
+    let setting = Setting::read(&rt, HEAD)?;
+    let v = setting.validator(OperatorValidatorAllocations::new(rt.alloc()))?;
+    expect_refusals(&rt, &mut FuncValidator::new(rt.alloc(), v, &setting.lists));
+    Ok(())
+}
+
+/// The types of the operands before operator `k` of a body of `[i32] -> [i32]`.
+fn types_before(
+    rt: &(impl Abort + AllocGlobal),
+    setting: &Setting,
+    ops: &[(Op<'_>, u64)],
+    k: usize,
+) -> Result<Vec<Option<ValType>>, Lack>
+    requires ordered { is_well_ordered_list (without_offsets ops.now) ≡ true }
+    requires immediates { list_all (λ (p : _). is_module_op p.0) ops.now ≡ true }
+    requires within { k ≤ length ops.now }
+{
+    let mut v = setting.validator(OperatorValidatorAllocations::new(rt.alloc()))?;
+    match operands_before(rt.alloc(), &mut v, ops, &setting.lists, k) {
+        Ok(types) => Ok(types),
+        Err((_, refusal)) => Err(Lack::from(refusal)),
+    }
+}
+
+#[test]
+fn operands_before_the_first_and_behind_the_last_operator(rt: HostRuntime) -> Result<(), Lack> {
+    let setting = Setting::read(&rt, "type func i32 -> i32\nfunc 0")?;
+    let ops = [
+        (Op::Control(ControlOp::LocalGet(0)), 3),
+        (I32_CONST, 4),
+        (I32_ADD, 5),
+        (END, 6),
+    ];
+    expect(&rt, is_well_ordered(&ops) && have_module_immediates(&ops));
+    expect(&rt, types_before(&rt, &setting, &ops, 0)?.is_empty());
+    let i32 = Some(ValType::I32);
+    expect_same(
+        &rt,
+        types_before(&rt, &setting, &ops, 2)?.as_slice(),
+        &[i32, i32],
+    );
+    expect_same(
+        &rt,
+        types_before(&rt, &setting, &ops, 4)?.as_slice(),
+        &[i32],
+    );
+    Ok(())
+}

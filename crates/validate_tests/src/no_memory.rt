@@ -1,0 +1,84 @@
+//! Operators that take no memory: whatever is refused, they are accepted.
+
+ghost use Rattle.wasmparser_validate.specs.Start.{state};
+ghost use Rattle.wasmparser_validate.specs.State.{IsStarting};
+
+use crate::expect::{Lack, expect};
+use crate::lines::{Way, expect_lines, read_op, visit};
+use crate::setting::Setting;
+use script_reader::read_lists;
+use std::process::Abort;
+use wasmparser_validate::operators::{OperatorValidator, OperatorValidatorAllocations};
+use wasmparser_validate::resources::WasmModuleResources;
+use wasmparser_validate::visit::Op;
+
+/// The module of the bodies.
+const HEAD: &str = "type func ->\ntype func i32 ->\ntag 1\nfunc 0";
+
+/// Bodies, parted by blank lines, with their answers, and behind each a line with an operator that takes no memory.
+const BODIES: &str = "\
+nop
+
+unreachable
+
+return
+
+br 0
+
+i32.const => 1 1
+drop
+
+i32.const => 1 1
+br_table 0
+
+i32.const => 1 1
+throw 0
+
+ref.null exn => 1 1
+throw_ref
+
+legacy_try => 0 2
+catch_all => 0 2
+rethrow 0";
+
+/// Visits the operator behind those of these lines, and asks for what can be asked.
+fn expect_last<R: WasmModuleResources>(
+    rt: &(impl Abort + AllocGlobal),
+    v: &mut OperatorValidator,
+    lists: &R,
+    lines: &str,
+    op: Op<'_>,
+) -> Result<(), Lack>
+    requires { IsStarting (R.context lists.now) (state v.old) }
+{
+    expect_lines(rt, v, lists, lines, Way::Visited)?;
+    expect(rt, v.control_stack_height() > 0);
+    expect(rt, visit(v, lists, op).is_ok());
+    Ok(())
+}
+
+/// The operators of a body.
+fn expect_body(rt: &(impl Abort + AllocGlobal), setting: &Setting, body: &str) -> Result<(), Lack> {
+    let (lines, last) = body.rsplit_once("\n").unwrap_or(("", body));
+    let list = read_lists(rt.alloc(), last)?;
+    let op = read_op(rt, &list, last)?;
+    let mut v = setting.validator(OperatorValidatorAllocations::new(rt.alloc()))?;
+    expect_last(rt, &mut v, &setting.lists, lines, op)
+}
+
+/// Each body in turn.
+fn expect_each(rt: &(impl Abort + AllocGlobal)) -> Result<(), Lack> {
+    let setting = Setting::read(rt, HEAD)?;
+    for body in BODIES.split("\n\n") {
+        expect_body(rt, &setting, body)?;
+    }
+    Ok(())
+}
+
+#[test]
+fn operators_that_take_none_whichever_request_is_refused(rt: HostRuntime) -> Result<(), Lack> {
+    match expect_each(&rt) {
+        Ok(()) => Ok(()),
+        Err(_) => expect_each(&rt),
+    }
+}

@@ -9,6 +9,7 @@ use crate::left::{Left, check_list};
 use crate::printed::{compare_refused, run_printed};
 use crate::report::Report;
 use crate::seen::Seen;
+use crate::shown::compare_places;
 use crate::undone::run_lines;
 use odd_lookups::{Check, PairedLists, WantingLists};
 use opcheck_script::{begin_body, module_lists};
@@ -42,6 +43,8 @@ pub enum Task<'a> {
     Lines(&'a str),
     /// Its operators are run as the program runs them, which prints this.
     Printed(&'a str),
+    /// The types of the operands between its operators are looked at: the program prints this, and shows them.
+    Shown(&'a str),
 }
 
 /// A script, whether it shows the types of operands, and what is done with its body.
@@ -116,6 +119,7 @@ fn run_task<R: WasmModuleResources>(
         Task::Attempts => attempt_each(alloc, report, &mut v, ops, resources, script),
         Task::List(left) => check_list(alloc, report, &mut v, ops, resources, script, left),
         Task::Lines(lines) => run_lines(alloc, report, &mut v, resources, lines),
+        Task::Shown(_) => Ok(()),
         Task::Printed(wanted) => {
             run_printed(
                 alloc,
@@ -140,6 +144,11 @@ fn run_over<R: WasmModuleResources>(
     operators: &Operators<'_>,
     work: Work<'_>,
 ) -> Result<(), fmt::Error> {
+    if let Task::Shown(printed) = work.task {
+        let ops = operators.ops.as_slice();
+        let texts = (work.script, printed);
+        return compare_places(alloc, report, resources, features, (line, locals), ops, texts);
+    }
     match begin_body(alloc, resources, features, line, locals) {
         Ok(v) => run_task(alloc, report, v, operators, resources, work),
         Err(refusal) => not_begun(alloc, report, work.script, work.task, refusal),

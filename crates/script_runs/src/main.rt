@@ -7,9 +7,10 @@
 //! A script runs as one list, with both outputs and its status compared; once more with each operator
 //! attempted that may be; operator by operator, each attempted, where a refused one has to leave all
 //! frames and operands as they were; and with the indices of its types doubled, over a lookup in which two
-//! indices name each type. One without `feature` lines runs again as one list with every proposal on but
-//! custom descriptors, and answers the same. Last come scripts that are in no file: with odd bytes,
-//! computed, and over readers and writers that fail.
+//! indices name each type. Where it is accepted, the types of operands that it shows are those that
+//! `operands_before` answers at each place. One without `feature` lines runs again as one list with every
+//! proposal on but custom descriptors, and answers the same. Last come scripts that are in no file: with
+//! odd bytes, computed, and over readers and writers that fail.
 #![tactic(auto)]
 
 mod attempts;
@@ -25,6 +26,7 @@ mod renumbered;
 mod report;
 mod runs;
 mod seen;
+mod shown;
 mod tables;
 mod transcript;
 mod undone;

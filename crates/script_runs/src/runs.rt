@@ -6,6 +6,7 @@ use crate::flags::{DESCRIPTORS, all_but, names_flags};
 use crate::printed::compare_paired;
 use crate::renumbered::renumbered;
 use crate::report::Report;
+use crate::shown::compare_shown;
 use opcheck_script::run;
 use std::alloc::Global;
 use std::{fmt, str};
@@ -62,7 +63,8 @@ fn compare_attempted(
 }
 
 /// Runs a script as one list; once more with each operator attempted that may be; once operator by operator by
-/// attempts, behind a refused one of which all is as it was before; and over a lookup with other indices.
+/// attempts, behind a refused one of which all is as it was before; over a lookup with other indices; and with
+/// the types that it shows compared.
 fn compare_runs(
     alloc: Global,
     report: &mut Report,
@@ -72,7 +74,8 @@ fn compare_runs(
     compare_run(alloc, report, script.as_bytes(), wanted)?;
     compare_attempted(alloc, report, script, wanted)?;
     run_body(alloc, report, script, Lookup::Own, Task::Attempts)?;
-    compare_paired(alloc, report, script, wanted)
+    compare_paired(alloc, report, script, wanted)?;
+    compare_shown(alloc, report, script, wanted)
 }
 
 /// Runs a script behind lines that turn on every proposal but custom descriptors: as one list, and in the

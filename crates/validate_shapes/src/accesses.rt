@@ -3,17 +3,18 @@
 
 ghost use Rattle.std.specs.Prelude.{◌≡◌, true, false, [], ◌∷◌, ◌++◌, None, Some, IfOk, OnOk, OnErr, IfErr};
 ghost use Rattle.std.specs.List.{AllByRecursion};
+ghost use Rattle.std.specs.Option.{ForSome};
 ghost use Rattle.validate_resources.specs.Context.{Valid, is_address_type};
 ghost use Rattle.validate_types.specs.declared.types.ValType.TheVariants.{I32};
 ghost use Rattle.validate_visit.specs.declared.memory.MemArgTarget.TheVariants.{Memory, Array};
 ghost use Rattle.validation_rules.specs.Access.{address_types, address_types_for, memory_address_types, target_address_types, atomic_address_types};
 ghost use Rattle.validate_stacks.specs.State.{body_context};
 ghost use Rattle.validate_shapes.specs.Accesses.{may_access_places, address_operands};
-ghost use Rattle.validate_shapes.specs.Types.{few_types};
+ghost use Rattle.validate_shapes.specs.Operands.{few_types};
 
 use crate::aggregates::{array_type_at, check_mutable_array, type_reference};
 use crate::memories::check_memory_index;
-use crate::types::Few;
+use crate::operands::Few;
 use validate_resources::WasmModuleResources;
 use validate_stacks::Stacks;
 use validate_types::{Error, FieldType, RefType, ValType};
@@ -92,6 +93,30 @@ pub fn check_memory_access<R: WasmModuleResources>(
     Ok(index_type)
 }
 
+/// [`check_memory_access`], where it passes.
+#[inline(always)]
+pub fn memory_access<R: WasmModuleResources>(
+    resources: &R,
+    memarg: MemArg,
+    memory_index: u32,
+) -> Option<ValType>
+    ensures found { ForSome result (λ it. address_types_for memarg
+        (memory_address_types (R.context resources.now) (Memory memory_index)) ≡ Some (it ∷ [])) }
+    ensures index { ForSome result (λ it. is_address_type it ≡ true) }
+{
+    if memarg.align > memarg.max_align {
+        return None;
+    }
+    let Some(memory) = resources.memory_at(memory_index) else {
+        return None;
+    };
+    let index_type = memory.index_type();
+    if index_type != ValType::I32 || memarg.offset <= u64::from(u32::MAX) {
+        return Some(index_type);
+    }
+    None
+}
+
 /// The places hold no references, and can be written where that is done.
 fn check_places(
     stacks: &Stacks,
@@ -115,12 +140,12 @@ fn check_places(
 fn no_bytes(stacks: &Stacks, offset: u64, ty: RefType) -> Error
     ensures { result.offset ≡ offset }
 {
-    match format!(in stacks.allocator();
-        "array access instructions require a numeric, vector, or packed element type, found `{ty}`"
-    ) {
-        Ok(text) => Error::with_text(text, offset),
-        Err(_) => Error::out_of_memory(offset),
-    }
+    Error::from_text(
+        format!(in stacks.allocator();
+            "array access instructions require a numeric, vector, or packed element type, found `{ty}`"
+        ),
+        offset,
+    )
 }
 
 /// The reference that a load or a store takes of an array of this type, with an i32 above it.

@@ -1,6 +1,6 @@
 //! Pops and pushes of lists of types, and the end of the live part of a frame.
 
-ghost use Rattle.std.specs.Prelude.{◌≡◌, ◌≢◌, ◌⊎◌, [], true, false, None, Some, OnOk, OnErr, IfErr, IsOk, length, reverse, take, ◌≤◌};
+ghost use Rattle.std.specs.Prelude.{◌≡◌, true, false, None, Some, OnOk, OnErr, IfErr, IsOk, length, reverse, take, ◌≤◌};
 ghost use Rattle.std.specs.List.{AllByRecursion};
 ghost use Rattle.validate_resources.specs.Context.{ModuleContext, Valid};
 ghost use Rattle.validate_stacks.specs.Attempts.{phase_moved};
@@ -109,10 +109,7 @@ impl Stacks {
         while left > 0 {
             left -= 1;
             let found = self.found_at(wanted.len() - 1 - left);
-            if self
-                .check_found(resources, offset, found, Some(wanted[left]))
-                .is_err()
-            {
+            if !self.is_fitting(resources, found, wanted[left]) {
                 return self.pop_types(resources, offset, wanted);
             }
         }

@@ -1,0 +1,150 @@
+//! Checking a script that was read.
+
+ghost use Rattle.std.specs.Prelude.{◌≡◌, ◌⊎◌, true, false, length, None, Some, IsSome, IfSome, IfOk, OnOk, IfErr};
+ghost use Rattle.std.specs.List.{list_all};
+ghost use Rattle.wasmparser_validate.specs.Immediates.{is_module_op};
+ghost use Rattle.wasmparser_validate.specs.Kept.{declared_lists};
+ghost use Rattle.wasmparser_validate.specs.Lists.{context_of, module_of};
+ghost use Rattle.wasmparser_validate.specs.Named.{declared_in};
+ghost use Rattle.wasmparser_validate.specs.State.{IsStarting};
+ghost use Rattle.wasmparser_validate.specs.Start.{state};
+ghost use Rattle.opcheck_script.specs.Begin.{IsExpressionStart, IsBodyStart, CannotStart, HasLocals, CannotBegin};
+ghost use Rattle.opcheck_script.specs.Reports.{IsReport, script_body, may_be_body};
+ghost use Rattle.script_parts.specs.Written.{may_all_be_attempted};
+ghost use Rattle.opcheck_script.specs.declared.failure.BadScript.{BadScript};
+ghost use Rattle.opcheck_script.specs.declared.failure.Failure.{Failure};
+
+use crate::body::run_operators;
+use crate::failure::{BadScript, Failure};
+use crate::report::{Answers, Report};
+use script_reader::{Body, BodyLine, LocalLine, Operators, Script};
+use std::alloc::Global;
+use wasmparser_validate::operators::{OperatorValidator, OperatorValidatorAllocations};
+use wasmparser_validate::resources::uses::laws;
+use wasmparser_validate::resources::{ModuleDeclarations, ModuleLists, WasmModuleResources};
+use wasmparser_validate::types::{Error, ValType, WasmFeatures};
+use wasmparser_validate::visit::{Op, have_module_immediates, is_well_ordered};
+
+/// Checks a script: first its order, then its module, then its body.
+pub fn check_script(alloc: Global, script: Script<'_>) -> Result<Report, Failure>
+    ensures ordered { OnOk result (may_be_body script.entry.operators.ops.items ≡ true) }
+    ensures module { OnOk result (IsSome (module_of (declared_in script.entry.declarations))) }
+    ensures report { IfOk result (λ report. IfSome (module_of (declared_in script.entry.declarations))
+        (λ lists. IsReport (context_of lists) (script_body script.entry) report)) }
+    ensures cause { IfErr result (λ failure. (failure ≡ Failure.OutOfMemory)
+        ⊎ ((failure ≡ Failure.BadScript BadScript.Order)
+        × (may_be_body script.entry.operators.ops.items ≡ false))
+        ⊎ ((failure ≡ Failure.BadScript BadScript.Module)
+        × (module_of (declared_in script.entry.declarations) ≡ None))) }
+{
+    let Script {
+        features,
+        shows,
+        declarations,
+        body,
+        locals,
+        operators,
+    } = script;
+    let Operators { ops, attempts } = operators;
+    if !may_be_body(&ops) {
+        return Err(Failure::BadScript(BadScript::Order));
+    }
+    let module = module_lists(alloc, declarations)?;
+    match begin_body(alloc, &module, &features, body, &locals) {
+        Ok(validator) => Ok(run_operators(alloc, validator, &ops, &attempts, shows, &module)),
+        Err(refusal) => Ok(Report {
+            answers: Answers::Heights(Vec::new(alloc)),
+            outcome: Err(refusal),
+        }),
+    }
+}
+
+/// Whether the operators can be those of a body: they are in order, and their immediates those of a
+/// module.
+fn may_be_body(operators: &[(Op<'_>, u64)]) -> bool
+    ensures { result ≡ may_be_body operators.now }
+{
+    is_well_ordered(operators) && have_module_immediates(operators)
+}
+
+/// The module of these declarations, in its canonical form.
+pub fn module_lists(alloc: Global, declarations: ModuleDeclarations) -> Result<ModuleLists, Failure>
+    ensures kept { IfOk result (λ lists. module_of (declared_in declarations) ≡ Some (declared_lists lists)) }
+    ensures cause { IfErr result (λ failure. (failure ≡ Failure.OutOfMemory)
+        ⊎ ((failure ≡ Failure.BadScript BadScript.Module)
+        × (module_of (declared_in declarations) ≡ None))) }
+{
+    ModuleLists::from_declarations(alloc, declarations).map_err(|error| {
+        if error.is_out_of_memory() {
+            Failure::OutOfMemory
+        } else {
+            Failure::BadScript(BadScript::Module)
+        }
+    })
+}
+
+/// A validator of this body, with all its locals. A refusal carries the number of the line that it
+/// refuses, want of memory aside.
+pub fn begin_body<R: WasmModuleResources>(
+    alloc: Global,
+    resources: &R,
+    features: &WasmFeatures,
+    line: BodyLine,
+    locals: &[LocalLine],
+) -> Result<OperatorValidator, Error>
+    ensures starting { IfOk result (λ validator. IsStarting (R.context resources.now) (state validator)) }
+    ensures locals { IfOk result (λ validator. HasLocals (R.context resources.now) features.now
+        line.body locals.now (state validator)) }
+    ensures refused { IfErr result (λ e. e.wants_memory ≡ false
+        → CannotBegin (R.context resources.now) features.now line locals.now e.offset) }
+{
+    let mut validator = start_body(alloc, resources, features, line)?;
+    for local in locals {
+        validator.define_locals(local.offset, local.count, local.ty, resources)?;
+    }
+    Ok(validator)
+}
+
+/// A validator of the body that the `func` or `expr` line begins.
+fn start_body<R: WasmModuleResources>(
+    alloc: Global,
+    resources: &R,
+    features: &WasmFeatures,
+    line: BodyLine,
+) -> Result<OperatorValidator, Error>
+    ensures starting { IfOk result (λ validator. IsStarting (R.context resources.now) (state validator)) }
+    ensures made { IfOk result (λ validator. IsBodyStart (R.context resources.now) features.now
+        line.body (state validator)) }
+    ensures refused { IfErr result (λ e. e.wants_memory ≡ false
+        → CannotStart (R.context resources.now) features.now line.body) }
+    ensures offset { IfErr result (λ e. e.wants_memory ≡ false → e.offset ≡ line.offset) }
+{
+    let allocs = OperatorValidatorAllocations::new(alloc);
+    match line.body {
+        Body::Function(type_index) => {
+            OperatorValidator::new_func(type_index, line.offset, features, resources, allocs)
+        }
+        Body::Expression(ty) => start_expression(resources, features, ty, line.offset, allocs),
+    }
+}
+
+/// A validator of a constant expression of this type, which is checked first.
+fn start_expression<R: WasmModuleResources>(
+    resources: &R,
+    features: &WasmFeatures,
+    ty: ValType,
+    offset: u64,
+    allocs: OperatorValidatorAllocations,
+) -> Result<OperatorValidator, Error>
+    ensures starting { IfOk result (λ validator. IsStarting (R.context resources.now) (state validator)) }
+    ensures made { IfOk result (λ validator. IsExpressionStart (R.context resources.now) features.now ty
+        (state validator)) }
+    ensures refused { IfErr result (λ e. e.wants_memory ≡ false
+        → (R.context resources.now).canonical_type features.now ty ≡ None) }
+    ensures offset { IfErr result (λ e. e.wants_memory ≡ false → e.offset ≡ offset) }
+{
+    laws(resources);
+    let mut canonical = ty;
+    resources.check_value_type(&mut canonical, features, offset)?;
+    OperatorValidator::new_const_expr(features, canonical, allocs)
+}

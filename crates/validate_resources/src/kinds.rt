@@ -38,8 +38,8 @@ pub fn continuation_of(sub_type: &SubType) -> Option<PackedIndex>
 pub fn expected_func_type(alloc: Global, offset: u64, type_index: u32, found: &SubType) -> Error
     ensures { result.offset ≡ offset }
 {
-    match format!(in alloc; "expected func type at index {type_index}, found {found}") {
-        Ok(text) => Error::with_text(text, offset),
-        Err(_) => Error::out_of_memory(offset),
-    }
+    Error::from_text(
+        format!(in alloc; "expected func type at index {type_index}, found {found}"),
+        offset,
+    )
 }

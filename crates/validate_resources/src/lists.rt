@@ -267,10 +267,10 @@ fn write_form<T: Copy>(
             *ty = form;
             Ok(())
         }
-        Err(number) => match format!(in alloc; "unknown type {number}: type index out of bounds") {
-            Ok(text) => Err(Error::with_text(text, offset)),
-            Err(_) => Err(Error::out_of_memory(offset)),
-        },
+        Err(number) => Err(Error::from_text(
+            format!(in alloc; "unknown type {number}: type index out of bounds"),
+            offset,
+        )),
     }
 }
 

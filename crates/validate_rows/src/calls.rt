@@ -69,10 +69,7 @@ fn check_func_type_same_results<R: WasmModuleResources>(
 fn other_results(alloc: Global, offset: u64, wanted: &[ValType], results: &[ValType]) -> Error
     ensures { result.offset ≡ offset }
 {
-    match other_results_text(alloc, wanted, results) {
-        Ok(text) => Error::with_text(text, offset),
-        Err(_) => Error::out_of_memory(offset),
-    }
+    Error::from_text(other_results_text(alloc, wanted, results), offset)
 }
 
 fn other_results_text(

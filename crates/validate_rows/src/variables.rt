@@ -32,10 +32,10 @@ fn local(stacks: &Stacks, offset: u64, local_index: u32) -> Result<ValType, Erro
 fn unknown_local(stacks: &Stacks, offset: u64, local_index: u32) -> Error
     ensures { result.offset ≡ offset }
 {
-    match format!(in stacks.allocator(); "unknown local {local_index}: local index out of bounds") {
-        Ok(text) => Error::with_text(text, offset),
-        Err(_) => Error::out_of_memory(offset),
-    }
+    Error::from_text(
+        format!(in stacks.allocator(); "unknown local {local_index}: local index out of bounds"),
+        offset,
+    )
 }
 
 #[cold]
@@ -43,10 +43,7 @@ fn unknown_local(stacks: &Stacks, offset: u64, local_index: u32) -> Error
 fn uninitialized_local(stacks: &Stacks, offset: u64, local_index: u32) -> Error
     ensures { result.offset ≡ offset }
 {
-    match format!(in stacks.allocator(); "uninitialized local: {local_index}") {
-        Ok(text) => Error::with_text(text, offset),
-        Err(_) => Error::out_of_memory(offset),
-    }
+    Error::from_text(format!(in stacks.allocator(); "uninitialized local: {local_index}"), offset)
 }
 
 /// Sets a local, with the offset in the refusal.

@@ -244,12 +244,12 @@ fn no_continuation_reference(stacks: &Stacks, offset: u64, found: ValType) -> Er
     ensures { result.offset ≡ offset }
 {
     let found = ty_to_str(found);
-    match format!(in stacks.allocator();
-        "type mismatch: expected a continuation reference, found {found}"
-    ) {
-        Ok(text) => Error::with_text(text, offset),
-        Err(_) => Error::out_of_memory(offset),
-    }
+    Error::from_text(
+        format!(in stacks.allocator();
+            "type mismatch: expected a continuation reference, found {found}"
+        ),
+        offset,
+    )
 }
 
 /// `switch`: takes what a continuation still takes but for the one that leads back, which is made here,

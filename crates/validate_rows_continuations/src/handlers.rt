@@ -24,10 +24,7 @@ fn no_concrete_reference(stacks: &Stacks, offset: u64, found: ValType) -> Error
     ensures { result.offset ≡ offset }
 {
     let found = ty_to_str(found);
-    match format!(in stacks.allocator(); "type mismatch: {found}") {
-        Ok(text) => Error::with_text(text, offset),
-        Err(_) => Error::out_of_memory(offset),
-    }
+    Error::from_text(format!(in stacks.allocator(); "type mismatch: {found}"), offset)
 }
 
 /// A handler that goes to a label: what the tag carries lies below the label's types but the last, and that

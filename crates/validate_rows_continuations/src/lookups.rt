@@ -51,10 +51,7 @@ pub fn cont_type_at<R: WasmModuleResources>(
 fn no_continuation(alloc: Global, offset: u64, type_index: u32) -> Error
     ensures { result.offset ≡ offset }
 {
-    match format!(in alloc; "non-continuation type {type_index}") {
-        Ok(text) => Error::with_text(text, offset),
-        Err(_) => Error::out_of_memory(offset),
-    }
+    Error::from_text(format!(in alloc; "non-continuation type {type_index}"), offset)
 }
 
 /// The function type of a continuation: what it still takes and gives (wasmparser's

@@ -39,12 +39,12 @@ const INIT_DATA: &'static str = "invalid array.init_data: array type is not nume
 fn not_defaultable(stacks: &Stacks, offset: u64, ty: ValType) -> Error
     ensures { result.offset ≡ offset }
 {
-    match format!(in stacks.allocator();
-        "invalid `array.new_default`: {ty} field is not defaultable"
-    ) {
-        Ok(text) => Error::with_text(text, offset),
-        Err(_) => Error::out_of_memory(offset),
-    }
+    Error::from_text(
+        format!(in stacks.allocator();
+            "invalid `array.new_default`: {ty} field is not defaultable"
+        ),
+        offset,
+    )
 }
 
 /// What a data segment holds can be read as values of the array, and the segment is there. It refuses an
@@ -80,12 +80,12 @@ fn other_elements(
 ) -> Error
     ensures { result.offset ≡ offset }
 {
-    match format!(in stacks.allocator();
-        "invalid {name} instruction: element segment {elem_index} type mismatch: expected {expected}, found {found}"
-    ) {
-        Ok(text) => Error::with_text(text, offset),
-        Err(_) => Error::out_of_memory(offset),
-    }
+    Error::from_text(
+        format!(in stacks.allocator();
+            "invalid {name} instruction: element segment {elem_index} type mismatch: expected {expected}, found {found}"
+        ),
+        offset,
+    )
 }
 
 /// The refusal of an array that holds no references.
@@ -94,12 +94,12 @@ fn other_elements(
 fn no_references(stacks: &Stacks, offset: u64, name: &'static str) -> Error
     ensures { result.offset ≡ offset }
 {
-    match format!(in stacks.allocator();
-        "type mismatch: {name} can only create arrays with reference elements"
-    ) {
-        Ok(text) => Error::with_text(text, offset),
-        Err(_) => Error::out_of_memory(offset),
-    }
+    Error::from_text(
+        format!(in stacks.allocator();
+            "type mismatch: {name} can only create arrays with reference elements"
+        ),
+        offset,
+    )
 }
 
 /// What an element segment holds can be put into places of the array, and the segment is there. A refusal
@@ -136,12 +136,12 @@ fn check_elements<R: WasmModuleResources>(
 fn other_storage(stacks: &Stacks, offset: u64, expected: StorageType, found: StorageType) -> Error
     ensures { result.offset ≡ offset }
 {
-    match format!(in stacks.allocator();
-        "array types do not match: expected {expected}, found {found}"
-    ) {
-        Ok(text) => Error::with_text(text, offset),
-        Err(_) => Error::out_of_memory(offset),
-    }
+    Error::from_text(
+        format!(in stacks.allocator();
+            "array types do not match: expected {expected}, found {found}"
+        ),
+        offset,
+    )
 }
 
 /// What the one array holds can be put into places of the other.

@@ -189,12 +189,12 @@ fn check_may_cast<R: WasmModuleResources>(
 fn other_hierarchy(stacks: &Stacks, offset: u64, from: RefType, to: RefType) -> Error
     ensures { result.offset ≡ offset }
 {
-    match format!(in stacks.allocator();
-        "type mismatch: {from} and {to} have different heap type hierarchies"
-    ) {
-        Ok(text) => Error::with_text(text, offset),
-        Err(_) => Error::out_of_memory(offset),
-    }
+    Error::from_text(
+        format!(in stacks.allocator();
+            "type mismatch: {from} and {to} have different heap type hierarchies"
+        ),
+        offset,
+    )
 }
 
 /// The refusal of a cast to a type that doesn't lie below the one cast from.
@@ -203,10 +203,10 @@ fn other_hierarchy(stacks: &Stacks, offset: u64, from: RefType, to: RefType) -> 
 fn not_below(stacks: &Stacks, offset: u64, from: RefType, to: RefType) -> Error
     ensures { result.offset ≡ offset }
 {
-    match format!(in stacks.allocator(); "type mismatch: expected {from}, found {to}") {
-        Ok(text) => Error::with_text(text, offset),
-        Err(_) => Error::out_of_memory(offset),
-    }
+    Error::from_text(
+        format!(in stacks.allocator(); "type mismatch: expected {from}, found {to}"),
+        offset,
+    )
 }
 
 /// Both types of a branch by a cast, in canonical form; the one may be cast to the other.
@@ -283,10 +283,7 @@ fn label_not_above(
             )
         }
     };
-    match text {
-        Ok(text) => Error::with_text(text, offset),
-        Err(_) => Error::out_of_memory(offset),
-    }
+    Error::from_text(text, offset)
 }
 
 /// What is carried to a label lies below its last type.

@@ -149,12 +149,12 @@ fn descriptor_in<R: WasmModuleResources>(
 fn not_exact(stacks: &Stacks, offset: u64, exact: ValType, found: ValType) -> Error
     ensures { result.offset ≡ offset }
 {
-    match format!(in stacks.allocator();
-        "type mismatch: expected descriptor of exact type {exact} found {found}"
-    ) {
-        Ok(text) => Error::with_text(text, offset),
-        Err(_) => Error::out_of_memory(offset),
-    }
+    Error::from_text(
+        format!(in stacks.allocator();
+            "type mismatch: expected descriptor of exact type {exact} found {found}"
+        ),
+        offset,
+    )
 }
 
 /// Pops a descriptor of this type, by which something is cast: to an exact type by an exact one (wasmparser's

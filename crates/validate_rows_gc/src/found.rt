@@ -31,12 +31,12 @@ fn other_unknown_reference(
 {
     let expected = expected.as_str(false);
     let found = found.as_str(false);
-    match format!(in stacks.allocator();
-        "type mismatch: expected subtype of {expected}, found {found}"
-    ) {
-        Ok(text) => Error::with_text(text, offset),
-        Err(_) => Error::out_of_memory(offset),
-    }
+    Error::from_text(
+        format!(in stacks.allocator();
+            "type mismatch: expected subtype of {expected}, found {found}"
+        ),
+        offset,
+    )
 }
 
 /// The refusal of a reference of another type.
@@ -45,12 +45,12 @@ fn other_unknown_reference(
 fn other_reference(stacks: &Stacks, offset: u64, expected: RefType, found: RefType) -> Error
     ensures { result.offset ≡ offset }
 {
-    match format!(in stacks.allocator();
-        "type mismatch: expected subtype of {expected}, found {found}"
-    ) {
-        Ok(text) => Error::with_text(text, offset),
-        Err(_) => Error::out_of_memory(offset),
-    }
+    Error::from_text(
+        format!(in stacks.allocator();
+            "type mismatch: expected subtype of {expected}, found {found}"
+        ),
+        offset,
+    )
 }
 
 /// Whether an operand lies below the nullable references to this abstract type, of its own sharedness.

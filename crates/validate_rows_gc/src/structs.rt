@@ -52,12 +52,12 @@ fn check_defaultable(stacks: &Stacks, offset: u64, fields: &[FieldType]) -> Resu
 fn not_defaultable(stacks: &Stacks, offset: u64, ty: ValType) -> Error
     ensures { result.offset ≡ offset }
 {
-    match format!(in stacks.allocator();
-        "invalid `struct.new_default`: {ty} field is not defaultable"
-    ) {
-        Ok(text) => Error::with_text(text, offset),
-        Err(_) => Error::out_of_memory(offset),
-    }
+    Error::from_text(
+        format!(in stacks.allocator();
+            "invalid `struct.new_default`: {ty} field is not defaultable"
+        ),
+        offset,
+    )
 }
 
 /// The struct type at an index, which has no descriptor: with one it is made by another operator.
@@ -87,12 +87,12 @@ fn undescribed_struct_at<'a, R: WasmModuleResources>(
 fn wants_descriptor(stacks: &Stacks, offset: u64, index: u32, name: &str) -> Error
     ensures { result.offset ≡ offset }
 {
-    match format!(in stacks.allocator();
-        "type with descriptor requires descriptor allocation: `{name}` with type {index}"
-    ) {
-        Ok(text) => Error::with_text(text, offset),
-        Err(_) => Error::out_of_memory(offset),
-    }
+    Error::from_text(
+        format!(in stacks.allocator();
+            "type with descriptor requires descriptor allocation: `{name}` with type {index}"
+        ),
+        offset,
+    )
 }
 
 /// Pops the descriptor with which a struct of the type at an index is made: exact in its type, or null. It refuses
@@ -130,10 +130,10 @@ fn pop_new_descriptor<R: WasmModuleResources>(
 fn not_described(stacks: &Stacks, offset: u64, index: u32, name: &str) -> Error
     ensures { result.offset ≡ offset }
 {
-    match format!(in stacks.allocator(); "invalid `{name}`: type {index} is not described") {
-        Ok(text) => Error::with_text(text, offset),
-        Err(_) => Error::out_of_memory(offset),
-    }
+    Error::from_text(
+        format!(in stacks.allocator(); "invalid `{name}`: type {index} is not described"),
+        offset,
+    )
 }
 
 /// What `struct.new` takes and gives: a value for each field.

@@ -61,12 +61,12 @@ fn not_allowed(
 ) -> Error
     ensures { result.offset ≡ offset }
 {
-    match format!(in stacks.allocator();
-        "invalid type: `{place}.atomic.{name}` only allows {types}"
-    ) {
-        Ok(text) => Error::with_text(text, offset),
-        Err(_) => Error::out_of_memory(offset),
-    }
+    Error::from_text(
+        format!(in stacks.allocator();
+            "invalid type: `{place}.atomic.{name}` only allows {types}"
+        ),
+        offset,
+    )
 }
 
 /// The types that this can be done with, where a value is held as it is.

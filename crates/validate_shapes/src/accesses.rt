@@ -115,12 +115,12 @@ fn check_places(
 fn no_bytes(stacks: &Stacks, offset: u64, ty: RefType) -> Error
     ensures { result.offset ≡ offset }
 {
-    match format!(in stacks.allocator();
-        "array access instructions require a numeric, vector, or packed element type, found `{ty}`"
-    ) {
-        Ok(text) => Error::with_text(text, offset),
-        Err(_) => Error::out_of_memory(offset),
-    }
+    Error::from_text(
+        format!(in stacks.allocator();
+            "array access instructions require a numeric, vector, or packed element type, found `{ty}`"
+        ),
+        offset,
+    )
 }
 
 /// The reference that a load or a store takes of an array of this type, with an i32 above it.

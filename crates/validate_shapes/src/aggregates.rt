@@ -79,10 +79,10 @@ pub fn struct_type_at<'a, R: WasmModuleResources>(
 fn expected_struct_type(alloc: Global, offset: u64, type_index: u32, found: &SubType) -> Error
     ensures { result.offset ≡ offset }
 {
-    match format!(in alloc; "expected struct type at index {type_index}, found {found}") {
-        Ok(text) => Error::with_text(text, offset),
-        Err(_) => Error::out_of_memory(offset),
-    }
+    Error::from_text(
+        format!(in alloc; "expected struct type at index {type_index}, found {found}"),
+        offset,
+    )
 }
 
 /// A field of a struct type (wasmparser's `struct_field_at`). It refuses a place past the last.
@@ -145,10 +145,10 @@ pub fn array_type_at<R: WasmModuleResources>(
 fn expected_array_type(alloc: Global, offset: u64, type_index: u32, found: &SubType) -> Error
     ensures { result.offset ≡ offset }
 {
-    match format!(in alloc; "expected array type at index {type_index}, found {found}") {
-        Ok(text) => Error::with_text(text, offset),
-        Err(_) => Error::out_of_memory(offset),
-    }
+    Error::from_text(
+        format!(in alloc; "expected array type at index {type_index}, found {found}"),
+        offset,
+    )
 }
 
 /// Refuses an array that can't be written.

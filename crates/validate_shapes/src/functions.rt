@@ -71,8 +71,8 @@ pub fn func_type_at<'a, R: WasmModuleResources>(
 pub fn unknown_function(alloc: Global, offset: u64, function_index: u32) -> Error
     ensures { result.offset ≡ offset }
 {
-    match format!(in alloc; "unknown function {function_index}: function index out of bounds") {
-        Ok(text) => Error::with_text(text, offset),
-        Err(_) => Error::out_of_memory(offset),
-    }
+    Error::from_text(
+        format!(in alloc; "unknown function {function_index}: function index out of bounds"),
+        offset,
+    )
 }

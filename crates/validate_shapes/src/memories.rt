@@ -34,10 +34,7 @@ pub fn check_memory_index<R: WasmModuleResources>(
 fn unknown_memory(stacks: &Stacks, offset: u64, memory_index: u32) -> Error
     ensures { result.offset ≡ offset }
 {
-    match format!(in stacks.allocator(); "unknown memory {memory_index}") {
-        Ok(text) => Error::with_text(text, offset),
-        Err(_) => Error::out_of_memory(offset),
-    }
+    Error::from_text(format!(in stacks.allocator(); "unknown memory {memory_index}"), offset)
 }
 
 /// The type of a length that fits both memories, or both tables.
@@ -80,8 +77,5 @@ pub fn check_data_segment<R: WasmModuleResources>(
 fn unknown_data_segment(stacks: &Stacks, offset: u64, data_index: u32) -> Error
     ensures { result.offset ≡ offset }
 {
-    match format!(in stacks.allocator(); "unknown data segment {data_index}") {
-        Ok(text) => Error::with_text(text, offset),
-        Err(_) => Error::out_of_memory(offset),
-    }
+    Error::from_text(format!(in stacks.allocator(); "unknown data segment {data_index}"), offset)
 }

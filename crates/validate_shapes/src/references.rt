@@ -21,10 +21,10 @@ pub fn no_reference(stacks: &Stacks, offset: u64, found: ValType) -> Error
     ensures { result.offset ≡ offset }
 {
     let found = ty_to_str(found);
-    match format!(in stacks.allocator(); "type mismatch: expected ref but found {found}") {
-        Ok(text) => Error::with_text(text, offset),
-        Err(_) => Error::out_of_memory(offset),
-    }
+    Error::from_text(
+        format!(in stacks.allocator(); "type mismatch: expected ref but found {found}"),
+        offset,
+    )
 }
 
 /// An operand without its null, which has to be a reference.

@@ -41,10 +41,10 @@ pub fn table_type_at<R: WasmModuleResources>(
 fn unknown_table(stacks: &Stacks, offset: u64, table: u32) -> Error
     ensures { result.offset ≡ offset }
 {
-    match format!(in stacks.allocator(); "unknown table {table}: table index out of bounds") {
-        Ok(text) => Error::with_text(text, offset),
-        Err(_) => Error::out_of_memory(offset),
-    }
+    Error::from_text(
+        format!(in stacks.allocator(); "unknown table {table}: table index out of bounds"),
+        offset,
+    )
 }
 
 /// The type of an element segment, or the refusal of an index past the end (wasmparser's
@@ -70,10 +70,10 @@ pub fn element_type_at<R: WasmModuleResources>(
 fn unknown_segment(stacks: &Stacks, offset: u64, elem_index: u32) -> Error
     ensures { result.offset ≡ offset }
 {
-    match format!(in stacks.allocator();
-        "unknown elem segment {elem_index}: segment index out of bounds"
-    ) {
-        Ok(text) => Error::with_text(text, offset),
-        Err(_) => Error::out_of_memory(offset),
-    }
+    Error::from_text(
+        format!(in stacks.allocator();
+            "unknown elem segment {elem_index}: segment index out of bounds"
+        ),
+        offset,
+    )
 }

@@ -55,8 +55,5 @@ pub fn exception_types_at<'a, R: WasmModuleResources>(
 fn unknown_tag(alloc: Global, offset: u64, tag_index: u32) -> Error
     ensures { result.offset ≡ offset }
 {
-    match format!(in alloc; "unknown tag {tag_index}: tag index out of bounds") {
-        Ok(text) => Error::with_text(text, offset),
-        Err(_) => Error::out_of_memory(offset),
-    }
+    Error::from_text(format!(in alloc; "unknown tag {tag_index}: tag index out of bounds"), offset)
 }

@@ -44,10 +44,10 @@ fn nothing_there(alloc: Global, expected: Option<ValType>, offset: u64) -> Error
         );
     };
     let wanted = ty_to_str(wanted);
-    match format!(in alloc; "type mismatch: expected {wanted} but nothing on stack") {
-        Ok(text) => Error::with_text(text, offset),
-        Err(_) => Error::out_of_memory(offset),
-    }
+    Error::from_text(
+        format!(in alloc; "type mismatch: expected {wanted} but nothing on stack"),
+        offset,
+    )
 }
 
 /// The refusal of an operand of another type.
@@ -58,10 +58,7 @@ pub fn mismatch(alloc: Global, expected: ValType, found: ValType, offset: u64) -
 {
     let expected = ty_to_str(expected);
     let found = ty_to_str(found);
-    match format!(in alloc; "type mismatch: expected {expected}, found {found}") {
-        Ok(text) => Error::with_text(text, offset),
-        Err(_) => Error::out_of_memory(offset),
-    }
+    Error::from_text(format!(in alloc; "type mismatch: expected {expected}, found {found}"), offset)
 }
 
 /// The refusal of a reference where a number or a vector is wanted.
@@ -71,10 +68,10 @@ fn reference_found(alloc: Global, expected: ValType, offset: u64) -> Error
     ensures { result.offset ≡ offset }
 {
     let expected = ty_to_str(expected);
-    match format!(in alloc; "type mismatch: expected {expected}, found heap type") {
-        Ok(text) => Error::with_text(text, offset),
-        Err(_) => Error::out_of_memory(offset),
-    }
+    Error::from_text(
+        format!(in alloc; "type mismatch: expected {expected}, found heap type"),
+        offset,
+    )
 }
 
 /// Whether nothing is wanted, or this operand isn't known at all, or is the wanted number or vector type.

@@ -1,6 +1,6 @@
 //! Why something was refused, and where.
 
-ghost use Rattle.std.specs.Prelude.{◌≡◌, true, false, codes};
+ghost use Rattle.std.specs.Prelude.{◌≡◌, true, false, codes, IfOk, OnErr};
 ghost use Rattle.std.specs.String.{string_bytes};
 
 use std::alloc::{AllocError, AllocFailed};
@@ -72,6 +72,21 @@ impl Error {
         Error {
             offset,
             message: Message::Owned(text),
+        }
+    }
+
+    /// A refusal with a text that was made for it, at this offset; or want of memory, where there was none for
+    /// the text.
+    pub fn from_text(text: Result<String, AllocError>, offset: u64) -> Error
+        ensures made { IfOk text (λ t. result
+            ≡ record { offset = offset; text = string_bytes t; wants_memory = false }) }
+        ensures unmade { OnErr text (result
+            ≡ record { offset = offset; text = codes "out of memory"; wants_memory = true }) }
+        ensures offset { result.offset ≡ offset }
+    {
+        match text {
+            Ok(text) => Error::with_text(text, offset),
+            Err(_) => Error::out_of_memory(offset),
         }
     }
 

@@ -14,6 +14,10 @@ ghost use Rattle.validate_operators.specs.Memory.{TakesNoMemory};
 ghost use Rattle.validate_body.specs.Start.{state, current_kind, stacks_of};
 
 use crate::validator::OperatorValidator;
+use validate_operators::{
+    check_array, check_atomic, check_continuation, check_control, check_convert, check_exception,
+    check_memory, check_numeric, check_reference, check_shared, check_struct, check_table,
+};
 use validate_resources::WasmModuleResources;
 use validate_resources::kinds::func_type_of;
 use validate_stacks::Pops;
@@ -162,7 +166,7 @@ impl<'validator, 'resources, R: WasmModuleResources> WasmProposalValidator<
         ensures memory { TakesNoMemory (R.context self.old.resources.now) (Op.Control op.entry)
             (state self.old.inner.now) result }
     {
-        self.inner.check_control(self.resources, self.offset, op)
+        check_control(&mut self.inner.stacks, self.resources, self.offset, op)
     }
 
     /// The check of an operator on numbers.
@@ -175,7 +179,7 @@ impl<'validator, 'resources, R: WasmModuleResources> WasmProposalValidator<
         ensures row { Meets (R.context self.old.resources.now) (λ cx. operator cx (Op.Numeric op))
             self.old.offset (state self.old.inner.now) result (state self.new.inner.now) }
     {
-        self.inner.check_numeric(self.resources, self.offset, op)
+        check_numeric(&mut self.inner.stacks, self.resources, self.offset, op)
     }
 
     /// The check of a conversion.
@@ -188,7 +192,7 @@ impl<'validator, 'resources, R: WasmModuleResources> WasmProposalValidator<
         ensures row { Meets (R.context self.old.resources.now) (λ cx. operator cx (Op.Convert op))
             self.old.offset (state self.old.inner.now) result (state self.new.inner.now) }
     {
-        self.inner.check_convert(self.resources, self.offset, op)
+        check_convert(&mut self.inner.stacks, self.resources, self.offset, op)
     }
 
     /// The check of an operator on memories.
@@ -201,7 +205,7 @@ impl<'validator, 'resources, R: WasmModuleResources> WasmProposalValidator<
         ensures row { Meets (R.context self.old.resources.now) (λ cx. operator cx (Op.Memory op))
             self.old.offset (state self.old.inner.now) result (state self.new.inner.now) }
     {
-        self.inner.check_memory(self.resources, self.offset, op)
+        check_memory(&mut self.inner.stacks, self.resources, self.offset, op)
     }
 
     /// The check of an atomic operator.
@@ -214,7 +218,7 @@ impl<'validator, 'resources, R: WasmModuleResources> WasmProposalValidator<
         ensures row { Meets (R.context self.old.resources.now) (λ cx. operator cx (Op.Atomic op))
             self.old.offset (state self.old.inner.now) result (state self.new.inner.now) }
     {
-        self.inner.check_atomic(self.resources, self.offset, op)
+        check_atomic(&mut self.inner.stacks, self.resources, self.offset, op)
     }
 
     /// The check of an operator on references.
@@ -227,7 +231,7 @@ impl<'validator, 'resources, R: WasmModuleResources> WasmProposalValidator<
         ensures row { Meets (R.context self.old.resources.now) (λ cx. operator cx (Op.Reference op))
             self.old.offset (state self.old.inner.now) result (state self.new.inner.now) }
     {
-        self.inner.check_reference(self.resources, self.offset, op)
+        check_reference(&mut self.inner.stacks, self.resources, self.offset, op)
     }
 
     /// The check of an operator on tables.
@@ -240,7 +244,7 @@ impl<'validator, 'resources, R: WasmModuleResources> WasmProposalValidator<
         ensures row { Meets (R.context self.old.resources.now) (λ cx. operator cx (Op.Table op))
             self.old.offset (state self.old.inner.now) result (state self.new.inner.now) }
     {
-        self.inner.check_table(self.resources, self.offset, op)
+        check_table(&mut self.inner.stacks, self.resources, self.offset, op)
     }
 
     /// The check of an operator on structs.
@@ -253,7 +257,7 @@ impl<'validator, 'resources, R: WasmModuleResources> WasmProposalValidator<
         ensures row { Meets (R.context self.old.resources.now) (λ cx. operator cx (Op.Struct op))
             self.old.offset (state self.old.inner.now) result (state self.new.inner.now) }
     {
-        self.inner.check_struct(self.resources, self.offset, op)
+        check_struct(&mut self.inner.stacks, self.resources, self.offset, op)
     }
 
     /// The check of an operator on continuations.
@@ -267,8 +271,7 @@ impl<'validator, 'resources, R: WasmModuleResources> WasmProposalValidator<
             (λ cx. operator cx (Op.Continuation op.entry)) self.old.offset (state self.old.inner.now) result
             (state self.new.inner.now) }
     {
-        self.inner
-            .check_continuation(self.resources, self.offset, op)
+        check_continuation(&mut self.inner.stacks, self.resources, self.offset, op)
     }
 
     /// The check of an operator of shared-everything threads.
@@ -281,7 +284,7 @@ impl<'validator, 'resources, R: WasmModuleResources> WasmProposalValidator<
         ensures row { Meets (R.context self.old.resources.now) (λ cx. operator cx (Op.Shared op))
             self.old.offset (state self.old.inner.now) result (state self.new.inner.now) }
     {
-        self.inner.check_shared(self.resources, self.offset, op)
+        check_shared(&mut self.inner.stacks, self.resources, self.offset, op)
     }
 
     /// The check of an operator on arrays.
@@ -294,7 +297,7 @@ impl<'validator, 'resources, R: WasmModuleResources> WasmProposalValidator<
         ensures row { Meets (R.context self.old.resources.now) (λ cx. operator cx (Op.Array op))
             self.old.offset (state self.old.inner.now) result (state self.new.inner.now) }
     {
-        self.inner.check_array(self.resources, self.offset, op)
+        check_array(&mut self.inner.stacks, self.resources, self.offset, op)
     }
 
     /// The check of an operator on exceptions.
@@ -309,7 +312,7 @@ impl<'validator, 'resources, R: WasmModuleResources> WasmProposalValidator<
         ensures memory { TakesNoMemory (R.context self.old.resources.now) (Op.Exception op.entry)
             (state self.old.inner.now) result }
     {
-        self.inner.check_exception(self.resources, self.offset, op)
+        check_exception(&mut self.inner.stacks, self.resources, self.offset, op)
     }
 
     /// Pops `n` operands of this type, and ticks for each pop that it tries, also for one that is refused:
@@ -339,6 +342,7 @@ impl<'validator, 'resources, R: WasmModuleResources> WasmProposalValidator<
         ensures kept { IsKept (state self.old.inner.now) (state self.new.inner.now) }
     {
         self.inner
+            .stacks
             .pop_run(self.resources, self.offset, elem, n, pops)
     }
 }

@@ -1,12 +1,11 @@
 //! The validator's state: how it is made, what is declared in it, and what can be asked of it.
 
-ghost use Rattle.std.specs.Prelude.{◌≤◌, ◌≡◌, ◌⊎◌, ◌+◌, ◌^◌, ◌<◌, true, false, None, Some, length, replicate, is_some, IsSome, IfOk, OnOk, OnErr, IfErr};
+ghost use Rattle.std.specs.Prelude.{◌≤◌, ◌≡◌, ◌⊎◌, ◌<◌, true, false, None, Some, length, is_some, IsSome, IfOk, OnOk, OnErr, IfErr};
 ghost use Rattle.std.specs.Option.{option_copied, ForSome};
 ghost use Rattle.validation_rules.specs.Static.{operand_count, frame_count};
 ghost use Rattle.validate_locals.specs.Limit.{max_locals};
 ghost use Rattle.validate_stacks.specs.Attempts.{may_attempt, stacks_begun, stacks_committed, stacks_rolled_back};
-ghost use Rattle.validate_stacks.specs.Counted.{pops_of_run};
-ghost use Rattle.validate_stacks.specs.Pops.{body_popped_each, IsKept};
+ghost use Rattle.validate_stacks.specs.Pops.{IsKept};
 ghost use Rattle.validate_stacks.specs.State.{IsStarting, IsValidBody, IsUndoneValid};
 ghost use Rattle.validate_stacks.specs.Visits.{MayVisit, Meets};
 ghost use Rattle.validate_operators.specs.Memory.{TakesNoMemory};
@@ -17,19 +16,12 @@ ghost use Rattle.validate_stacks.specs.Steps.{type_at_depth, frame_at, label_at}
 ghost use Rattle.validate_body.specs.Start.{state, stacks_of, func_start, const_start, IsFuncStart, HasTooManyParams, DefinesLocals, CannotDefine};
 
 use validate_locals::Locals;
-use validate_operators::{
-    check_array, check_atomic, check_continuation, check_control, check_convert, check_exception,
-    check_memory, check_numeric, check_operator, check_reference, check_shared, check_struct,
-    check_table,
-};
+use validate_operators::check_operator;
 use validate_resources::WasmModuleResources;
 use validate_resources::kinds::{expected_func_type, func_type_of};
-use validate_stacks::{OperatorValidatorAllocations, Pops, Stacks};
+use validate_stacks::{OperatorValidatorAllocations, Stacks};
 use validate_types::{Error, FuncType, ValType, WasmFeatures};
-use validate_visit::{
-    ArrayOp, AtomicOp, BlockType, ContinuationOp, ControlOp, ConvertOp, ExceptionOp, Frame,
-    FrameKind, MemoryOp, NumericOp, Op, ReferenceOp, SharedOp, StructOp, TableOp,
-};
+use validate_visit::{BlockType, Frame, FrameKind, Op};
 
 /// The validator of a body (wasmparser's `OperatorValidator`). Contracts see what it stands for by
 /// `state` of `specs/`.
@@ -145,220 +137,6 @@ impl OperatorValidator {
         ensures kept { IsKept (state self.old) (state self.new) }
     {
         check_operator(&mut self.stacks, resources, offset, op)
-    }
-
-    /// The check of an operator on control, locals or globals, as [`OperatorValidator::check`].
-    #[inline(always)]
-    pub fn check_control<R: WasmModuleResources>(
-        &mut self,
-        resources: &R,
-        offset: u64,
-        op: ControlOp,
-    ) -> Result<(), Error>
-        requires { MayVisit (R.context resources.now) (stacks_of self.old) }
-        ensures row { Meets (R.context resources.now) (λ cx. operator cx (Op.Control op.entry)) offset
-            (state self.old) result (state self.new) }
-        ensures memory { TakesNoMemory (R.context resources.now) (Op.Control op.entry) (state self.old)
-            result }
-    {
-        check_control(&mut self.stacks, resources, offset, op)
-    }
-
-    /// The check of an operator on numbers, as [`OperatorValidator::check`].
-    #[inline(always)]
-    pub fn check_numeric<R: WasmModuleResources>(
-        &mut self,
-        resources: &R,
-        offset: u64,
-        op: NumericOp,
-    ) -> Result<(), Error>
-        requires { MayVisit (R.context resources.now) (stacks_of self.old) }
-        ensures { Meets (R.context resources.now) (λ cx. operator cx (Op.Numeric op)) offset
-            (state self.old) result (state self.new) }
-    {
-        check_numeric(&mut self.stacks, resources, offset, op)
-    }
-
-    /// The check of a conversion, as [`OperatorValidator::check`].
-    #[inline(always)]
-    pub fn check_convert<R: WasmModuleResources>(
-        &mut self,
-        resources: &R,
-        offset: u64,
-        op: ConvertOp,
-    ) -> Result<(), Error>
-        requires { MayVisit (R.context resources.now) (stacks_of self.old) }
-        ensures { Meets (R.context resources.now) (λ cx. operator cx (Op.Convert op)) offset
-            (state self.old) result (state self.new) }
-    {
-        check_convert(&mut self.stacks, resources, offset, op)
-    }
-
-    /// The check of an operator on memories, as [`OperatorValidator::check`].
-    #[inline(always)]
-    pub fn check_memory<R: WasmModuleResources>(
-        &mut self,
-        resources: &R,
-        offset: u64,
-        op: MemoryOp,
-    ) -> Result<(), Error>
-        requires { MayVisit (R.context resources.now) (stacks_of self.old) }
-        ensures { Meets (R.context resources.now) (λ cx. operator cx (Op.Memory op)) offset
-            (state self.old) result (state self.new) }
-    {
-        check_memory(&mut self.stacks, resources, offset, op)
-    }
-
-    /// The check of an atomic operator, as [`OperatorValidator::check`].
-    #[inline(always)]
-    pub fn check_atomic<R: WasmModuleResources>(
-        &mut self,
-        resources: &R,
-        offset: u64,
-        op: AtomicOp,
-    ) -> Result<(), Error>
-        requires { MayVisit (R.context resources.now) (stacks_of self.old) }
-        ensures { Meets (R.context resources.now) (λ cx. operator cx (Op.Atomic op)) offset
-            (state self.old) result (state self.new) }
-    {
-        check_atomic(&mut self.stacks, resources, offset, op)
-    }
-
-    /// The check of an operator on references, as [`OperatorValidator::check`].
-    #[inline(always)]
-    pub fn check_reference<R: WasmModuleResources>(
-        &mut self,
-        resources: &R,
-        offset: u64,
-        op: ReferenceOp,
-    ) -> Result<(), Error>
-        requires { MayVisit (R.context resources.now) (stacks_of self.old) }
-        ensures { Meets (R.context resources.now) (λ cx. operator cx (Op.Reference op)) offset
-            (state self.old) result (state self.new) }
-    {
-        check_reference(&mut self.stacks, resources, offset, op)
-    }
-
-    /// The check of an operator on tables, as [`OperatorValidator::check`].
-    #[inline(always)]
-    pub fn check_table<R: WasmModuleResources>(
-        &mut self,
-        resources: &R,
-        offset: u64,
-        op: TableOp,
-    ) -> Result<(), Error>
-        requires { MayVisit (R.context resources.now) (stacks_of self.old) }
-        ensures { Meets (R.context resources.now) (λ cx. operator cx (Op.Table op)) offset
-            (state self.old) result (state self.new) }
-    {
-        check_table(&mut self.stacks, resources, offset, op)
-    }
-
-    /// The check of an operator on structs, as [`OperatorValidator::check`].
-    #[inline(always)]
-    pub fn check_struct<R: WasmModuleResources>(
-        &mut self,
-        resources: &R,
-        offset: u64,
-        op: StructOp,
-    ) -> Result<(), Error>
-        requires { MayVisit (R.context resources.now) (stacks_of self.old) }
-        ensures { Meets (R.context resources.now) (λ cx. operator cx (Op.Struct op)) offset
-            (state self.old) result (state self.new) }
-    {
-        check_struct(&mut self.stacks, resources, offset, op)
-    }
-
-    /// The check of an operator on continuations, as [`OperatorValidator::check`].
-    #[inline(always)]
-    pub fn check_continuation<R: WasmModuleResources>(
-        &mut self,
-        resources: &R,
-        offset: u64,
-        op: ContinuationOp,
-    ) -> Result<(), Error>
-        requires { MayVisit (R.context resources.now) (stacks_of self.old) }
-        ensures { Meets (R.context resources.now) (λ cx. operator cx (Op.Continuation op.entry)) offset
-            (state self.old) result (state self.new) }
-    {
-        check_continuation(&mut self.stacks, resources, offset, op)
-    }
-
-    /// The check of an operator of shared-everything threads, as [`OperatorValidator::check`].
-    #[inline(always)]
-    pub fn check_shared<R: WasmModuleResources>(
-        &mut self,
-        resources: &R,
-        offset: u64,
-        op: SharedOp,
-    ) -> Result<(), Error>
-        requires { MayVisit (R.context resources.now) (stacks_of self.old) }
-        ensures { Meets (R.context resources.now) (λ cx. operator cx (Op.Shared op)) offset
-            (state self.old) result (state self.new) }
-    {
-        check_shared(&mut self.stacks, resources, offset, op)
-    }
-
-    /// The check of an operator on arrays, as [`OperatorValidator::check`].
-    #[inline(always)]
-    pub fn check_array<R: WasmModuleResources>(
-        &mut self,
-        resources: &R,
-        offset: u64,
-        op: ArrayOp,
-    ) -> Result<(), Error>
-        requires { MayVisit (R.context resources.now) (stacks_of self.old) }
-        ensures { Meets (R.context resources.now) (λ cx. operator cx (Op.Array op)) offset
-            (state self.old) result (state self.new) }
-    {
-        check_array(&mut self.stacks, resources, offset, op)
-    }
-
-    /// The check of an operator on exceptions, as [`OperatorValidator::check`].
-    #[inline(always)]
-    pub fn check_exception<R: WasmModuleResources>(
-        &mut self,
-        resources: &R,
-        offset: u64,
-        op: ExceptionOp,
-    ) -> Result<(), Error>
-        requires { MayVisit (R.context resources.now) (stacks_of self.old) }
-        ensures row { Meets (R.context resources.now) (λ cx. operator cx (Op.Exception op.entry)) offset
-            (state self.old) result (state self.new) }
-        ensures memory { TakesNoMemory (R.context resources.now) (Op.Exception op.entry) (state self.old)
-            result }
-    {
-        check_exception(&mut self.stacks, resources, offset, op)
-    }
-
-    /// Pops `n` operands of this type, as [`Stacks::pop_run`].
-    #[inline(always)]
-    pub(crate) fn pop_run<R: WasmModuleResources>(
-        &mut self,
-        resources: &R,
-        offset: u64,
-        elem: ValType,
-        n: u32,
-        pops: &mut Pops,
-    ) -> Result<(), Error>
-        requires visit { MayVisit (R.context resources.now) (stacks_of self.old) }
-        requires element { Valid (R.context resources.now) elem }
-        requires countable { pops.old + n < 2 ^ 64 }
-        ensures passed { OnOk result (body_popped_each (R.context resources.now) (replicate n elem)
-            (state self.old) ≡ Some (state self.new)) }
-        ensures refused { IfErr result (λ e. e.wants_memory ≡ false
-            → body_popped_each (R.context resources.now) (replicate n elem) (state self.old) ≡ None) }
-        ensures idle { (state self.old).undone ≡ None
-            → OnErr result (body_popped_each (R.context resources.now) (replicate n elem)
-            (state self.old) ≡ None) }
-        ensures counted { OnOk result (pops.new ≡ pops.old + pops_of_run n (state self.old)) }
-        ensures bounded { pops.new ≤ pops.old + pops_of_run n (state self.old) }
-        ensures tried { OnErr result (pops.old < pops.new) }
-        ensures offset { IfErr result (λ e. e.offset ≡ offset) }
-        ensures valid { IsValidBody (R.context resources.now) (state self.new) }
-        ensures kept { IsKept (state self.old) (state self.new) }
-    {
-        self.stacks.pop_run(resources, offset, elem, n, pops)
     }
 
     /// Whether an attempt is pending.

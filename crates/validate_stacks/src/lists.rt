@@ -109,10 +109,7 @@ impl Stacks {
         while left > 0 {
             left -= 1;
             let found = self.found_at(wanted.len() - 1 - left);
-            if self
-                .check_found(resources, offset, found, Some(wanted[left]))
-                .is_err()
-            {
+            if !self.is_fitting(resources, found, wanted[left]) {
                 return self.pop_types(resources, offset, wanted);
             }
         }

@@ -3,6 +3,7 @@
 ghost use Rattle.std.specs.Prelude.{◌≡◌, ◌⊎◌, true, false, None, Some, OnOk, OnErr, IfOk, IfErr, MatchOption};
 ghost use Rattle.std.specs.Option.{ForSome};
 ghost use Rattle.validate_resources.specs.Context.{Valid};
+ghost use Rattle.validate_types.specs.Refs.{non_null_reference};
 ghost use Rattle.validation_rules.specs.Fits.{UnknownRef, fits};
 ghost use Rattle.validation_rules.specs.Valid.{IsValidOperand};
 ghost use Rattle.validate_stacks.specs.Attempts.{phase_moved};
@@ -72,6 +73,45 @@ fn reference_found(alloc: Global, expected: ValType, offset: u64) -> Error
         format!(in alloc; "type mismatch: expected {expected}, found heap type"),
         offset,
     )
+}
+
+/// An unknown reference of which this abstract type is known, with the sharedness of the wanted one.
+fn unknown_reference<R: WasmModuleResources>(
+    resources: &R,
+    ty: AbstractHeapType,
+    wanted: RefType,
+) -> ValType
+    requires { Valid (R.context resources.now) (ValType.Ref wanted) }
+    ensures { result ≡ ValType.Ref (non_null_reference
+        (HeapType.Abstract ((R.context resources.now).is_shared wanted) ty)) }
+{
+    let shared = resources.is_shared(wanted);
+    ValType::Ref(RefType {
+        nullable: false,
+        heap_type: HeapType::Abstract { shared, ty },
+    })
+}
+
+/// The refusal of an operand that doesn't fit the wanted type.
+#[cold]
+#[inline(never)]
+fn not_fitting<R: WasmModuleResources>(
+    alloc: Global,
+    resources: &R,
+    offset: u64,
+    found: MaybeType,
+    wanted: ValType,
+) -> Error
+    requires { Valid (R.context resources.now) wanted }
+    ensures { result.offset ≡ offset }
+{
+    match (found, wanted) {
+        (MaybeType::Known(found), _) => mismatch(alloc, wanted, found, offset),
+        (MaybeType::UnknownRef(Some(ty)), ValType::Ref(reference)) => {
+            mismatch(alloc, wanted, unknown_reference(resources, ty, reference), offset)
+        }
+        _ => reference_found(alloc, wanted, offset),
+    }
 }
 
 /// Whether nothing is wanted, or this operand isn't known at all, or is the wanted number or vector type.
@@ -212,7 +252,7 @@ impl Stacks {
 
     /// The operand that was found, where it fits what is wanted, if anything is.
     #[inline(always)]
-    pub(crate) fn check_found<R: WasmModuleResources>(
+    fn check_found<R: WasmModuleResources>(
         &self,
         resources: &R,
         offset: u64,
@@ -232,54 +272,56 @@ impl Stacks {
         let Some(actual) = found else {
             return Err(nothing_there(self.allocator(), expected, offset));
         };
-        match (actual, expected) {
-            (MaybeType::Known(found), Some(wanted)) => {
-                if resources.is_subtype(found, wanted) {
-                    Ok(actual)
-                } else {
-                    Err(mismatch(self.allocator(), wanted, found, offset))
-                }
-            }
-            (MaybeType::UnknownRef(ty), Some(wanted)) => {
-                self.check_unknown(resources, offset, ty, wanted)?;
-                Ok(actual)
-            }
-            _ => Ok(actual),
+        let Some(wanted) = expected else {
+            return Ok(actual);
+        };
+        if self.is_fitting(resources, found, wanted) {
+            Ok(actual)
+        } else {
+            Err(not_fitting(self.allocator(), resources, offset, actual, wanted))
         }
     }
 
-    /// Whether an unknown reference, of which an abstract type may be known, fits what is wanted: with
-    /// the sharedness of that.
-    #[inline(never)]
-    fn check_unknown<R: WasmModuleResources>(
+    /// Whether an operand was found that fits the wanted type.
+    #[inline(always)]
+    pub(crate) fn is_fitting<R: WasmModuleResources>(
         &self,
         resources: &R,
-        offset: u64,
+        found: Option<MaybeType>,
+        wanted: ValType,
+    ) -> bool
+        requires wanted { Valid (R.context resources.now) wanted }
+        requires found { ForSome found (IsValidOperand (R.context resources.now)) }
+        ensures { result ≡ may_pop (body_context (R.context resources.now) self.now.body) found
+            (Some wanted) }
+    {
+        match found {
+            None => false,
+            Some(MaybeType::Bottom) => true,
+            Some(MaybeType::UnknownRef(ty)) => self.is_unknown_fitting(resources, ty, wanted),
+            Some(MaybeType::Known(found)) => resources.is_subtype(found, wanted),
+        }
+    }
+
+    /// Whether an unknown reference, of which an abstract type may be known, fits the wanted type: with
+    /// the sharedness of that.
+    #[inline(never)]
+    fn is_unknown_fitting<R: WasmModuleResources>(
+        &self,
+        resources: &R,
         found: Option<AbstractHeapType>,
         wanted: ValType,
-    ) -> Result<(), Error>
+    ) -> bool
         requires { Valid (R.context resources.now) wanted }
-        ensures passed { OnOk result (fits (body_context (R.context resources.now) self.now.body)
-            (UnknownRef found) wanted ≡ true) }
-        ensures refused { OnErr result (fits (body_context (R.context resources.now) self.now.body)
-            (UnknownRef found) wanted ≡ false) }
-        ensures offset { IfErr result (λ e. e.offset ≡ offset) }
+        ensures { result ≡ fits (body_context (R.context resources.now) self.now.body) (UnknownRef found)
+            wanted }
     {
         let ValType::Ref(reference) = wanted else {
-            return Err(reference_found(self.allocator(), wanted, offset));
+            return false;
         };
         let Some(ty) = found else {
-            return Ok(());
+            return true;
         };
-        let shared = resources.is_shared(reference);
-        let actual = ValType::Ref(RefType {
-            nullable: false,
-            heap_type: HeapType::Abstract { shared, ty },
-        });
-        if resources.is_subtype(actual, wanted) {
-            Ok(())
-        } else {
-            Err(mismatch(self.allocator(), wanted, actual, offset))
-        }
+        resources.is_subtype(unknown_reference(resources, ty, reference), wanted)
     }
 }

@@ -1,17 +1,16 @@
 //! Atomic operators on memories, by shape (the threads proposal).
 
-ghost use Rattle.std.specs.Prelude.{◌≡◌, true, false, IfOk, OnOk, OnErr, IfErr};
+ghost use Rattle.std.specs.Prelude.{◌≡◌, true, false, OnOk, OnErr, IfErr};
 ghost use Rattle.validation_rules.specs.Access.{allows_ordering};
 ghost use Rattle.validation_rules.specs.Atomic.{atomic_row};
 ghost use Rattle.validation_rules.specs.Operators.{row_operator};
-ghost use Rattle.validate_stacks.specs.State.{body_context};
 ghost use Rattle.validate_stacks.specs.Visits.{MayVisit, Meets};
-ghost use Rattle.validate_shapes.specs.Types.{types_row, AreValid};
+ghost use Rattle.validate_shapes.specs.Operands.{FindsOperands};
 
 use validate_resources::WasmModuleResources;
 use validate_shapes::accesses::check_shared_memarg;
 use validate_shapes::numbers::{accessed, integer};
-use validate_shapes::types::{Few, Types, check_types};
+use validate_shapes::operands::{Few, Operands, check_operands};
 use validate_stacks::Stacks;
 use validate_types::{Error, Gate, ValType, WasmFeatures};
 use validate_visit::{AtomicOp, Ordering};
@@ -45,13 +44,8 @@ fn atomic_types<R: WasmModuleResources>(
     resources: &R,
     offset: u64,
     op: AtomicOp,
-) -> Result<Types, Error>
-    ensures row { IfOk result (λ t. atomic_row (body_context (R.context resources.now) stacks.now.body) op
-        ≡ types_row t) }
-    ensures valid { IfOk result (λ t. AreValid (R.context resources.now) t) }
-    ensures refused { OnErr result
-        ((atomic_row (body_context (R.context resources.now) stacks.now.body) op).premise ≡ false) }
-    ensures offset { IfErr result (λ e. e.offset ≡ offset) }
+) -> Result<Operands<'static>, Error>
+    ensures { FindsOperands (R.context resources.now) (λ cx. atomic_row cx op) offset stacks.now.body result }
 {
     let (wanted, pushed) = match op {
         AtomicOp::AtomicNotify(memarg) => {
@@ -89,7 +83,7 @@ fn atomic_types<R: WasmModuleResources>(
         }
         AtomicOp::Pause => (Few::Zero, Few::Zero),
     };
-    Ok(Types { wanted, pushed })
+    Ok(Operands::few(wanted, pushed))
 }
 
 /// The check of an atomic operator, its gate aside.
@@ -104,5 +98,5 @@ pub fn check_atomic_row<R: WasmModuleResources>(
         stacks.old.body result stacks.new.body }
 {
     let types = atomic_types(stacks, resources, offset, op)?;
-    check_types(stacks, resources, offset, types)
+    check_operands(stacks, resources, offset, types)
 }

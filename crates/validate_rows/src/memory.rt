@@ -1,22 +1,21 @@
 //! Operators on memories, by shape (WebAssembly core specification, "Memory Instructions").
 
-ghost use Rattle.std.specs.Prelude.{◌≡◌, true, false, IfOk, IfErr};
+ghost use Rattle.std.specs.Prelude.{◌≡◌, true};
 ghost use Rattle.validate_resources.specs.Context.{is_number_or_vector};
 ghost use Rattle.validate_visit.specs.declared.memory.MemArgTarget.TheVariants.{Memory};
 ghost use Rattle.validation_rules.specs.Access.{load_row, store_row};
 ghost use Rattle.validation_rules.specs.Memories.{memory_size_row, memory_grow_row, memory_init_row, data_drop_row, memory_copy_row, memory_fill_row, memory_discard_row};
 ghost use Rattle.validation_rules.specs.Memory.{memory_row};
 ghost use Rattle.validation_rules.specs.Operators.{row_operator};
-ghost use Rattle.validate_stacks.specs.State.{body_context};
 ghost use Rattle.validate_stacks.specs.Visits.{MayVisit, Meets};
-ghost use Rattle.validate_shapes.specs.Types.{types_row, AreValid};
+ghost use Rattle.validate_shapes.specs.Operands.{FindsOperands};
 
 use validate_resources::WasmModuleResources;
 use validate_shapes::accesses::{Access, check_memarg, check_memory_access};
 use validate_shapes::memories::{check_data_segment, check_memory_index, narrower_of};
 use validate_shapes::numbers::{number, packed};
+use validate_shapes::operands::{Few, Operands, check_operands};
 use validate_shapes::plain::check_plain;
-use validate_shapes::types::{Few, Types, check_types};
 use validate_stacks::Stacks;
 use validate_types::{Error, ValType};
 use validate_visit::{MemArg, MemArgTarget, MemoryOp};
@@ -28,18 +27,13 @@ fn load_types<R: WasmModuleResources>(
     offset: u64,
     memarg: MemArg,
     ty: ValType,
-) -> Result<Types, Error>
+) -> Result<Operands<'static>, Error>
     requires { is_number_or_vector ty ≡ true }
-    ensures row { IfOk result (λ t. load_row (body_context (R.context resources.now) stacks.now.body) memarg ty ≡ types_row t) }
-    ensures valid { IfOk result (λ t. AreValid (R.context resources.now) t) }
-    ensures refused { IfErr result (λ e. e.wants_memory ≡ false → (load_row (body_context (R.context resources.now) stacks.now.body) memarg ty).premise ≡ false) }
-    ensures offset { IfErr result (λ e. e.offset ≡ offset) }
+    ensures { FindsOperands (R.context resources.now)
+        (λ cx. load_row cx memarg ty) offset stacks.now.body result }
 {
     let address = check_memarg(stacks, resources, offset, Access::Load, memarg)?;
-    Ok(Types {
-        wanted: address.types(),
-        pushed: Few::One(ty),
-    })
+    Ok(Operands::few(address.types(), Few::One(ty)))
 }
 
 /// What a store of a number takes: `[address t] -> []`.
@@ -49,18 +43,13 @@ fn store_types<R: WasmModuleResources>(
     offset: u64,
     memarg: MemArg,
     ty: ValType,
-) -> Result<Types, Error>
+) -> Result<Operands<'static>, Error>
     requires { is_number_or_vector ty ≡ true }
-    ensures row { IfOk result (λ t. store_row (body_context (R.context resources.now) stacks.now.body) memarg ty ≡ types_row t) }
-    ensures valid { IfOk result (λ t. AreValid (R.context resources.now) t) }
-    ensures refused { IfErr result (λ e. e.wants_memory ≡ false → (store_row (body_context (R.context resources.now) stacks.now.body) memarg ty).premise ≡ false) }
-    ensures offset { IfErr result (λ e. e.offset ≡ offset) }
+    ensures { FindsOperands (R.context resources.now)
+        (λ cx. store_row cx memarg ty) offset stacks.now.body result }
 {
     let address = check_memarg(stacks, resources, offset, Access::Store, memarg)?;
-    Ok(Types {
-        wanted: address.types_below(ty),
-        pushed: Few::Zero,
-    })
+    Ok(Operands::few(address.types_below(ty), Few::Zero))
 }
 
 /// What `memory.init` takes: `[it i32 i32] -> []`.
@@ -70,18 +59,13 @@ fn init_types<R: WasmModuleResources>(
     offset: u64,
     data_index: u32,
     memory: u32,
-) -> Result<Types, Error>
-    ensures row { IfOk result (λ t. memory_init_row (body_context (R.context resources.now) stacks.now.body) data_index memory ≡ types_row t) }
-    ensures valid { IfOk result (λ t. AreValid (R.context resources.now) t) }
-    ensures refused { IfErr result (λ e. e.wants_memory ≡ false → (memory_init_row (body_context (R.context resources.now) stacks.now.body) data_index memory).premise ≡ false) }
-    ensures offset { IfErr result (λ e. e.offset ≡ offset) }
+) -> Result<Operands<'static>, Error>
+    ensures { FindsOperands (R.context resources.now)
+        (λ cx. memory_init_row cx data_index memory) offset stacks.now.body result }
 {
     let address = check_memory_index(stacks, resources, offset, memory)?;
     check_data_segment(stacks, resources, offset, data_index)?;
-    Ok(Types {
-        wanted: Few::Three(address, ValType::I32, ValType::I32),
-        pushed: Few::Zero,
-    })
+    Ok(Operands::few(Few::Three(address, ValType::I32, ValType::I32), Few::Zero))
 }
 
 /// What `memory.copy` takes: `[it(dst) it(src) it] -> []`, with the narrower of the two.
@@ -91,18 +75,13 @@ fn copy_types<R: WasmModuleResources>(
     offset: u64,
     dst_mem: u32,
     src_mem: u32,
-) -> Result<Types, Error>
-    ensures row { IfOk result (λ t. memory_copy_row (body_context (R.context resources.now) stacks.now.body) dst_mem src_mem ≡ types_row t) }
-    ensures valid { IfOk result (λ t. AreValid (R.context resources.now) t) }
-    ensures refused { IfErr result (λ e. e.wants_memory ≡ false → (memory_copy_row (body_context (R.context resources.now) stacks.now.body) dst_mem src_mem).premise ≡ false) }
-    ensures offset { IfErr result (λ e. e.offset ≡ offset) }
+) -> Result<Operands<'static>, Error>
+    ensures { FindsOperands (R.context resources.now)
+        (λ cx. memory_copy_row cx dst_mem src_mem) offset stacks.now.body result }
 {
     let dst = check_memory_index(stacks, resources, offset, dst_mem)?;
     let src = check_memory_index(stacks, resources, offset, src_mem)?;
-    Ok(Types {
-        wanted: Few::Three(dst, src, narrower_of(dst, src)),
-        pushed: Few::Zero,
-    })
+    Ok(Operands::few(Few::Three(dst, src, narrower_of(dst, src)), Few::Zero))
 }
 
 /// What `memory.size` gives: `[] -> [it]`.
@@ -111,17 +90,12 @@ fn size_types<R: WasmModuleResources>(
     resources: &R,
     offset: u64,
     memory: u32,
-) -> Result<Types, Error>
-    ensures row { IfOk result (λ t. memory_size_row (body_context (R.context resources.now) stacks.now.body) memory ≡ types_row t) }
-    ensures valid { IfOk result (λ t. AreValid (R.context resources.now) t) }
-    ensures refused { IfErr result (λ e. e.wants_memory ≡ false → (memory_size_row (body_context (R.context resources.now) stacks.now.body) memory).premise ≡ false) }
-    ensures offset { IfErr result (λ e. e.offset ≡ offset) }
+) -> Result<Operands<'static>, Error>
+    ensures { FindsOperands (R.context resources.now)
+        (λ cx. memory_size_row cx memory) offset stacks.now.body result }
 {
     let address = check_memory_index(stacks, resources, offset, memory)?;
-    Ok(Types {
-        wanted: Few::Zero,
-        pushed: Few::One(address),
-    })
+    Ok(Operands::few(Few::Zero, Few::One(address)))
 }
 
 /// What `memory.grow` takes and gives: `[it] -> [it]`.
@@ -130,17 +104,12 @@ fn grow_types<R: WasmModuleResources>(
     resources: &R,
     offset: u64,
     memory: u32,
-) -> Result<Types, Error>
-    ensures row { IfOk result (λ t. memory_grow_row (body_context (R.context resources.now) stacks.now.body) memory ≡ types_row t) }
-    ensures valid { IfOk result (λ t. AreValid (R.context resources.now) t) }
-    ensures refused { IfErr result (λ e. e.wants_memory ≡ false → (memory_grow_row (body_context (R.context resources.now) stacks.now.body) memory).premise ≡ false) }
-    ensures offset { IfErr result (λ e. e.offset ≡ offset) }
+) -> Result<Operands<'static>, Error>
+    ensures { FindsOperands (R.context resources.now)
+        (λ cx. memory_grow_row cx memory) offset stacks.now.body result }
 {
     let address = check_memory_index(stacks, resources, offset, memory)?;
-    Ok(Types {
-        wanted: Few::One(address),
-        pushed: Few::One(address),
-    })
+    Ok(Operands::few(Few::One(address), Few::One(address)))
 }
 
 /// What `memory.fill` takes: `[it i32 it] -> []`.
@@ -149,17 +118,12 @@ fn fill_types<R: WasmModuleResources>(
     resources: &R,
     offset: u64,
     memory: u32,
-) -> Result<Types, Error>
-    ensures row { IfOk result (λ t. memory_fill_row (body_context (R.context resources.now) stacks.now.body) memory ≡ types_row t) }
-    ensures valid { IfOk result (λ t. AreValid (R.context resources.now) t) }
-    ensures refused { IfErr result (λ e. e.wants_memory ≡ false → (memory_fill_row (body_context (R.context resources.now) stacks.now.body) memory).premise ≡ false) }
-    ensures offset { IfErr result (λ e. e.offset ≡ offset) }
+) -> Result<Operands<'static>, Error>
+    ensures { FindsOperands (R.context resources.now)
+        (λ cx. memory_fill_row cx memory) offset stacks.now.body result }
 {
     let address = check_memory_index(stacks, resources, offset, memory)?;
-    Ok(Types {
-        wanted: Few::Three(address, ValType::I32, address),
-        pushed: Few::Zero,
-    })
+    Ok(Operands::few(Few::Three(address, ValType::I32, address), Few::Zero))
 }
 
 /// What `memory.discard` takes: `[it it] -> []`.
@@ -168,17 +132,12 @@ fn discard_types<R: WasmModuleResources>(
     resources: &R,
     offset: u64,
     memory: u32,
-) -> Result<Types, Error>
-    ensures row { IfOk result (λ t. memory_discard_row (body_context (R.context resources.now) stacks.now.body) memory ≡ types_row t) }
-    ensures valid { IfOk result (λ t. AreValid (R.context resources.now) t) }
-    ensures refused { IfErr result (λ e. e.wants_memory ≡ false → (memory_discard_row (body_context (R.context resources.now) stacks.now.body) memory).premise ≡ false) }
-    ensures offset { IfErr result (λ e. e.offset ≡ offset) }
+) -> Result<Operands<'static>, Error>
+    ensures { FindsOperands (R.context resources.now)
+        (λ cx. memory_discard_row cx memory) offset stacks.now.body result }
 {
     let address = check_memory_index(stacks, resources, offset, memory)?;
-    Ok(Types {
-        wanted: Few::Two(address, address),
-        pushed: Few::Zero,
-    })
+    Ok(Operands::few(Few::Two(address, address), Few::Zero))
 }
 
 /// `data.drop` takes nothing and gives nothing.
@@ -187,17 +146,12 @@ fn drop_types<R: WasmModuleResources>(
     resources: &R,
     offset: u64,
     data_index: u32,
-) -> Result<Types, Error>
-    ensures row { IfOk result (λ t. data_drop_row (body_context (R.context resources.now) stacks.now.body) data_index ≡ types_row t) }
-    ensures valid { IfOk result (λ t. AreValid (R.context resources.now) t) }
-    ensures refused { IfErr result (λ e. e.wants_memory ≡ false → (data_drop_row (body_context (R.context resources.now) stacks.now.body) data_index).premise ≡ false) }
-    ensures offset { IfErr result (λ e. e.offset ≡ offset) }
+) -> Result<Operands<'static>, Error>
+    ensures { FindsOperands (R.context resources.now)
+        (λ cx. data_drop_row cx data_index) offset stacks.now.body result }
 {
     check_data_segment(stacks, resources, offset, data_index)?;
-    Ok(Types {
-        wanted: Few::Zero,
-        pushed: Few::Zero,
-    })
+    Ok(Operands::few(Few::Zero, Few::Zero))
 }
 
 /// What an operator on memories takes and gives, by the memories, segments and arrays that it names.
@@ -206,13 +160,8 @@ fn memory_types<R: WasmModuleResources>(
     resources: &R,
     offset: u64,
     op: MemoryOp,
-) -> Result<Types, Error>
-    ensures row { IfOk result (λ t. memory_row (body_context (R.context resources.now) stacks.now.body) op
-        ≡ types_row t) }
-    ensures valid { IfOk result (λ t. AreValid (R.context resources.now) t) }
-    ensures refused { IfErr result (λ e. e.wants_memory ≡ false
-        → (memory_row (body_context (R.context resources.now) stacks.now.body) op).premise ≡ false) }
-    ensures offset { IfErr result (λ e. e.offset ≡ offset) }
+) -> Result<Operands<'static>, Error>
+    ensures { FindsOperands (R.context resources.now) (λ cx. memory_row cx op) offset stacks.now.body result }
 {
     match op {
         MemoryOp::Load(ty, memarg) => load_types(stacks, resources, offset, memarg, number(ty)),
@@ -249,7 +198,7 @@ fn check_memory_types<R: WasmModuleResources>(
         stacks.old.body result stacks.new.body }
 {
     let types = memory_types(stacks, resources, offset, op)?;
-    check_types(stacks, resources, offset, types)
+    check_operands(stacks, resources, offset, types)
 }
 
 /// A load of a number from a memory: `[it] -> [t]`.

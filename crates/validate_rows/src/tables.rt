@@ -1,17 +1,16 @@
 //! Operators on tables and element segments (WebAssembly core specification, "Table Instructions").
 
-ghost use Rattle.std.specs.Prelude.{◌≡◌, true, false, IfOk, OnOk, OnErr, IfErr};
+ghost use Rattle.std.specs.Prelude.{◌≡◌, true, false, OnOk, OnErr, IfErr};
 ghost use Rattle.validate_resources.specs.Context.{Valid};
 ghost use Rattle.validation_rules.specs.Operators.{row_operator};
 ghost use Rattle.validation_rules.specs.Tables.{table_get_row, table_set_row, table_grow_row, table_size_row, table_fill_row, table_init_row, elem_drop_row, table_copy_row, table_row};
-ghost use Rattle.validate_stacks.specs.State.{body_context};
 ghost use Rattle.validate_stacks.specs.Visits.{MayVisit, Meets};
-ghost use Rattle.validate_shapes.specs.Types.{types_row, AreValid};
+ghost use Rattle.validate_shapes.specs.Operands.{FindsOperands};
 
 use validate_resources::WasmModuleResources;
 use validate_shapes::memories::narrower_of;
+use validate_shapes::operands::{Few, Operands, check_operands};
 use validate_shapes::tables::{element_type_at, table_type_at};
-use validate_shapes::types::{Few, Types, check_types};
 use validate_stacks::Stacks;
 use validate_types::{Error, RefType, ValType};
 use validate_visit::TableOp;
@@ -44,17 +43,12 @@ fn get_types<R: WasmModuleResources>(
     resources: &R,
     offset: u64,
     table: u32,
-) -> Result<Types, Error>
-    ensures row { IfOk result (λ t. table_get_row (body_context (R.context resources.now) stacks.now.body) table ≡ types_row t) }
-    ensures valid { IfOk result (λ t. AreValid (R.context resources.now) t) }
-    ensures refused { OnErr result ((table_get_row (body_context (R.context resources.now) stacks.now.body) table).premise ≡ false) }
-    ensures offset { IfErr result (λ e. e.offset ≡ offset) }
+) -> Result<Operands<'static>, Error>
+    ensures { FindsOperands (R.context resources.now)
+        (λ cx. table_get_row cx table) offset stacks.now.body result }
 {
     let ty = table_type_at(stacks, resources, offset, table)?;
-    Ok(Types {
-        wanted: Few::One(ty.index_type()),
-        pushed: Few::One(ValType::Ref(ty.element_type)),
-    })
+    Ok(Operands::few(Few::One(ty.index_type()), Few::One(ValType::Ref(ty.element_type))))
 }
 
 /// What `table.set` takes: `[it e] -> []`.
@@ -63,17 +57,12 @@ fn set_types<R: WasmModuleResources>(
     resources: &R,
     offset: u64,
     table: u32,
-) -> Result<Types, Error>
-    ensures row { IfOk result (λ t. table_set_row (body_context (R.context resources.now) stacks.now.body) table ≡ types_row t) }
-    ensures valid { IfOk result (λ t. AreValid (R.context resources.now) t) }
-    ensures refused { OnErr result ((table_set_row (body_context (R.context resources.now) stacks.now.body) table).premise ≡ false) }
-    ensures offset { IfErr result (λ e. e.offset ≡ offset) }
+) -> Result<Operands<'static>, Error>
+    ensures { FindsOperands (R.context resources.now)
+        (λ cx. table_set_row cx table) offset stacks.now.body result }
 {
     let ty = table_type_at(stacks, resources, offset, table)?;
-    Ok(Types {
-        wanted: Few::Two(ty.index_type(), ValType::Ref(ty.element_type)),
-        pushed: Few::Zero,
-    })
+    Ok(Operands::few(Few::Two(ty.index_type(), ValType::Ref(ty.element_type)), Few::Zero))
 }
 
 /// What `table.grow` takes and gives: `[e it] -> [it]`.
@@ -82,18 +71,13 @@ fn grow_types<R: WasmModuleResources>(
     resources: &R,
     offset: u64,
     table: u32,
-) -> Result<Types, Error>
-    ensures row { IfOk result (λ t. table_grow_row (body_context (R.context resources.now) stacks.now.body) table ≡ types_row t) }
-    ensures valid { IfOk result (λ t. AreValid (R.context resources.now) t) }
-    ensures refused { OnErr result ((table_grow_row (body_context (R.context resources.now) stacks.now.body) table).premise ≡ false) }
-    ensures offset { IfErr result (λ e. e.offset ≡ offset) }
+) -> Result<Operands<'static>, Error>
+    ensures { FindsOperands (R.context resources.now)
+        (λ cx. table_grow_row cx table) offset stacks.now.body result }
 {
     let ty = table_type_at(stacks, resources, offset, table)?;
     let index = ty.index_type();
-    Ok(Types {
-        wanted: Few::Two(ValType::Ref(ty.element_type), index),
-        pushed: Few::One(index),
-    })
+    Ok(Operands::few(Few::Two(ValType::Ref(ty.element_type), index), Few::One(index)))
 }
 
 /// What `table.size` gives: `[] -> [it]`.
@@ -102,17 +86,12 @@ fn size_types<R: WasmModuleResources>(
     resources: &R,
     offset: u64,
     table: u32,
-) -> Result<Types, Error>
-    ensures row { IfOk result (λ t. table_size_row (body_context (R.context resources.now) stacks.now.body) table ≡ types_row t) }
-    ensures valid { IfOk result (λ t. AreValid (R.context resources.now) t) }
-    ensures refused { OnErr result ((table_size_row (body_context (R.context resources.now) stacks.now.body) table).premise ≡ false) }
-    ensures offset { IfErr result (λ e. e.offset ≡ offset) }
+) -> Result<Operands<'static>, Error>
+    ensures { FindsOperands (R.context resources.now)
+        (λ cx. table_size_row cx table) offset stacks.now.body result }
 {
     let ty = table_type_at(stacks, resources, offset, table)?;
-    Ok(Types {
-        wanted: Few::Zero,
-        pushed: Few::One(ty.index_type()),
-    })
+    Ok(Operands::few(Few::Zero, Few::One(ty.index_type())))
 }
 
 /// What `table.fill` takes: `[it e it] -> []`.
@@ -121,18 +100,13 @@ fn fill_types<R: WasmModuleResources>(
     resources: &R,
     offset: u64,
     table: u32,
-) -> Result<Types, Error>
-    ensures row { IfOk result (λ t. table_fill_row (body_context (R.context resources.now) stacks.now.body) table ≡ types_row t) }
-    ensures valid { IfOk result (λ t. AreValid (R.context resources.now) t) }
-    ensures refused { OnErr result ((table_fill_row (body_context (R.context resources.now) stacks.now.body) table).premise ≡ false) }
-    ensures offset { IfErr result (λ e. e.offset ≡ offset) }
+) -> Result<Operands<'static>, Error>
+    ensures { FindsOperands (R.context resources.now)
+        (λ cx. table_fill_row cx table) offset stacks.now.body result }
 {
     let ty = table_type_at(stacks, resources, offset, table)?;
     let index = ty.index_type();
-    Ok(Types {
-        wanted: Few::Three(index, ValType::Ref(ty.element_type), index),
-        pushed: Few::Zero,
-    })
+    Ok(Operands::few(Few::Three(index, ValType::Ref(ty.element_type), index), Few::Zero))
 }
 
 /// What `table.init` takes: `[it i32 i32] -> []`.
@@ -142,19 +116,14 @@ fn init_types<R: WasmModuleResources>(
     offset: u64,
     elem_index: u32,
     table: u32,
-) -> Result<Types, Error>
-    ensures row { IfOk result (λ t. table_init_row (body_context (R.context resources.now) stacks.now.body) elem_index table ≡ types_row t) }
-    ensures valid { IfOk result (λ t. AreValid (R.context resources.now) t) }
-    ensures refused { OnErr result ((table_init_row (body_context (R.context resources.now) stacks.now.body) elem_index table).premise ≡ false) }
-    ensures offset { IfErr result (λ e. e.offset ≡ offset) }
+) -> Result<Operands<'static>, Error>
+    ensures { FindsOperands (R.context resources.now)
+        (λ cx. table_init_row cx elem_index table) offset stacks.now.body result }
 {
     let ty = table_type_at(stacks, resources, offset, table)?;
     let segment = element_type_at(stacks, resources, offset, elem_index)?;
     check_elements(resources, offset, segment, ty.element_type)?;
-    Ok(Types {
-        wanted: Few::Three(ty.index_type(), ValType::I32, ValType::I32),
-        pushed: Few::Zero,
-    })
+    Ok(Operands::few(Few::Three(ty.index_type(), ValType::I32, ValType::I32), Few::Zero))
 }
 
 /// `elem.drop` takes nothing and gives nothing.
@@ -163,17 +132,12 @@ fn drop_types<R: WasmModuleResources>(
     resources: &R,
     offset: u64,
     elem_index: u32,
-) -> Result<Types, Error>
-    ensures row { IfOk result (λ t. elem_drop_row (body_context (R.context resources.now) stacks.now.body) elem_index ≡ types_row t) }
-    ensures valid { IfOk result (λ t. AreValid (R.context resources.now) t) }
-    ensures refused { OnErr result ((elem_drop_row (body_context (R.context resources.now) stacks.now.body) elem_index).premise ≡ false) }
-    ensures offset { IfErr result (λ e. e.offset ≡ offset) }
+) -> Result<Operands<'static>, Error>
+    ensures { FindsOperands (R.context resources.now)
+        (λ cx. elem_drop_row cx elem_index) offset stacks.now.body result }
 {
     element_type_at(stacks, resources, offset, elem_index)?;
-    Ok(Types {
-        wanted: Few::Zero,
-        pushed: Few::Zero,
-    })
+    Ok(Operands::few(Few::Zero, Few::Zero))
 }
 
 /// What `table.copy` takes: `[it(dst) it(src) it] -> []`, with the narrower of the two.
@@ -183,20 +147,15 @@ fn copy_types<R: WasmModuleResources>(
     offset: u64,
     dst_table: u32,
     src_table: u32,
-) -> Result<Types, Error>
-    ensures row { IfOk result (λ t. table_copy_row (body_context (R.context resources.now) stacks.now.body) dst_table src_table ≡ types_row t) }
-    ensures valid { IfOk result (λ t. AreValid (R.context resources.now) t) }
-    ensures refused { OnErr result ((table_copy_row (body_context (R.context resources.now) stacks.now.body) dst_table src_table).premise ≡ false) }
-    ensures offset { IfErr result (λ e. e.offset ≡ offset) }
+) -> Result<Operands<'static>, Error>
+    ensures { FindsOperands (R.context resources.now)
+        (λ cx. table_copy_row cx dst_table src_table) offset stacks.now.body result }
 {
     let src = table_type_at(stacks, resources, offset, src_table)?;
     let dst = table_type_at(stacks, resources, offset, dst_table)?;
     check_elements(resources, offset, src.element_type, dst.element_type)?;
     let (to, from) = (dst.index_type(), src.index_type());
-    Ok(Types {
-        wanted: Few::Three(to, from, narrower_of(to, from)),
-        pushed: Few::Zero,
-    })
+    Ok(Operands::few(Few::Three(to, from, narrower_of(to, from)), Few::Zero))
 }
 
 /// What an operator on tables takes and gives, by the tables and segments that it names.
@@ -205,13 +164,8 @@ fn table_types<R: WasmModuleResources>(
     resources: &R,
     offset: u64,
     op: TableOp,
-) -> Result<Types, Error>
-    ensures row { IfOk result (λ t. table_row (body_context (R.context resources.now) stacks.now.body) op
-        ≡ types_row t) }
-    ensures valid { IfOk result (λ t. AreValid (R.context resources.now) t) }
-    ensures refused { OnErr result
-        ((table_row (body_context (R.context resources.now) stacks.now.body) op).premise ≡ false) }
-    ensures offset { IfErr result (λ e. e.offset ≡ offset) }
+) -> Result<Operands<'static>, Error>
+    ensures { FindsOperands (R.context resources.now) (λ cx. table_row cx op) offset stacks.now.body result }
 {
     match op {
         TableOp::TableGet(table) => get_types(stacks, resources, offset, table),
@@ -242,5 +196,5 @@ pub fn check_table_row<R: WasmModuleResources>(
         stacks.old.body result stacks.new.body }
 {
     let types = table_types(stacks, resources, offset, op)?;
-    check_types(stacks, resources, offset, types)
+    check_operands(stacks, resources, offset, types)
 }

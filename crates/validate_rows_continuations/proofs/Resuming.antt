@@ -15,7 +15,7 @@ use Rattle.validation_rules.specs.Static.{Frame, State, step_in}
 use Rattle.validate_stacks.specs.State.{BodyState, body_context}
 use Rattle.validate_stacks.specs.Visits.{step_body}
 use Rattle.validate_rows_continuations.specs.Handlers.{are_fitting_clauses, are_fitting_handlers, IsNeverResumed}
-use Rattle.validate_rows_continuations.specs.Types.{without_targets}
+use Rattle.validate_rows_continuations.specs.Targets.{without_targets}
 use Rattle.validate_rows_continuations.proofs.Handling.{split_last_of, clauses_by}
 
 -- a row that two look-ups find, where the second finds nothing

@@ -9,20 +9,20 @@ ghost use Rattle.validation_rules.specs.Indirect.{type_reference as reference_to
 ghost use Rattle.validation_rules.specs.Operators.{staying_operator};
 ghost use Rattle.validation_rules.specs.Static.{heads};
 ghost use Rattle.validate_stacks.specs.State.{IsValidBody, body_context};
+ghost use Rattle.validate_shapes.specs.Operands.{FindsOperands};
 ghost use Rattle.validate_stacks.specs.Visits.{MayVisit, Meets};
 ghost use Rattle.validate_rows_continuations.specs.Handlers.{are_fitting_handlers, IsNeverResumed};
-ghost use Rattle.validate_rows_continuations.specs.Types.{listed_row, without_targets, IsValidListed};
+ghost use Rattle.validate_rows_continuations.specs.Targets.{without_targets};
 
 use crate::handlers::check_handlers;
 use crate::lookups::{
     cont_type_at, func_type_of_cont_at, is_concrete_reference, is_func_subtype,
     referenced_continuation,
 };
-use crate::types::{ListedTypes, Pushed, check_listed};
 use validate_resources::WasmModuleResources;
 use validate_shapes::aggregates::type_reference;
+use validate_shapes::operands::{Few, Operands, Pushed, Wanted, check_operands};
 use validate_shapes::tags::{exception_types_at, tag_at};
-use validate_shapes::types::Few;
 use validate_stacks::{Stacks, ty_to_str};
 use validate_types::{Error, FuncType, RefType, ValType};
 use validate_visit::{ContinuationOp, Handle};
@@ -80,23 +80,14 @@ fn cont_new_types<'a, R: WasmModuleResources>(
     resources: &'a R,
     offset: u64,
     cont_type_index: u32,
-) -> Result<ListedTypes<'a>, Error>
-    ensures row { IfOk result (λ t. cont_new_row (body_context (R.context resources.now) stacks.now.body)
-        cont_type_index ≡ listed_row t) }
-    ensures valid { IfOk result (λ t. IsValidListed (R.context resources.now) t) }
-    ensures refused { IfErr result (λ e. e.wants_memory ≡ false
-        → (cont_new_row (body_context (R.context resources.now) stacks.now.body) cont_type_index).premise
-        ≡ false) }
-    ensures offset { IfErr result (λ e. e.offset ≡ offset) }
+) -> Result<Operands<'a>, Error>
+    ensures { FindsOperands (R.context resources.now)
+        (λ cx. cont_new_row cx cont_type_index) offset stacks.now.body result }
 {
     let cont_type = cont_type_at(stacks, resources, offset, cont_type_index)?;
     let from = ValType::Ref(RefType::concrete(true, cont_type.0));
     let made = type_reference(stacks, resources, offset, false, cont_type_index)?;
-    Ok(ListedTypes {
-        under: &[],
-        above: Few::One(from),
-        pushed: Pushed::One(made),
-    })
+    Ok(Operands::few(Few::One(from), Few::One(made)))
 }
 
 /// `cont.bind`: binds the first parameters of a continuation, of which the second type leaves the others.
@@ -106,14 +97,9 @@ fn cont_bind_types<'a, R: WasmModuleResources>(
     offset: u64,
     argument_index: u32,
     result_index: u32,
-) -> Result<ListedTypes<'a>, Error>
-    ensures row { IfOk result (λ t. cont_bind_row (body_context (R.context resources.now) stacks.now.body)
-        argument_index result_index ≡ listed_row t) }
-    ensures valid { IfOk result (λ t. IsValidListed (R.context resources.now) t) }
-    ensures refused { IfErr result (λ e. e.wants_memory ≡ false
-        → (cont_bind_row (body_context (R.context resources.now) stacks.now.body) argument_index
-        result_index).premise ≡ false) }
-    ensures offset { IfErr result (λ e. e.offset ≡ offset) }
+) -> Result<Operands<'a>, Error>
+    ensures { FindsOperands (R.context resources.now)
+        (λ cx. cont_bind_row cx argument_index result_index) offset stacks.now.body result }
 {
     let argument = func_type_of_cont_at(stacks, resources, offset, argument_index)?;
     let result = func_type_of_cont_at(stacks, resources, offset, result_index)?;
@@ -127,10 +113,9 @@ fn cont_bind_types<'a, R: WasmModuleResources>(
     }
     let from = type_reference(stacks, resources, offset, true, argument_index)?;
     let made = type_reference(stacks, resources, offset, false, result_index)?;
-    Ok(ListedTypes {
-        under: bound,
-        above: Few::One(from),
-        pushed: Pushed::One(made),
+    Ok(Operands {
+        wanted: Wanted::Under(bound, Few::One(from)),
+        pushed: Pushed::Few(Few::One(made)),
     })
 }
 
@@ -140,19 +125,13 @@ fn suspend_types<'a, R: WasmModuleResources>(
     resources: &'a R,
     offset: u64,
     tag_index: u32,
-) -> Result<ListedTypes<'a>, Error>
-    ensures row { IfOk result (λ t. suspend_row (body_context (R.context resources.now) stacks.now.body)
-        tag_index ≡ listed_row t) }
-    ensures valid { IfOk result (λ t. IsValidListed (R.context resources.now) t) }
-    ensures refused { IfErr result (λ e. e.wants_memory ≡ false
-        → (suspend_row (body_context (R.context resources.now) stacks.now.body) tag_index).premise
-        ≡ false) }
-    ensures offset { IfErr result (λ e. e.offset ≡ offset) }
+) -> Result<Operands<'a>, Error>
+    ensures { FindsOperands (R.context resources.now)
+        (λ cx. suspend_row cx tag_index) offset stacks.now.body result }
 {
     let tag_type = tag_at(stacks, resources, offset, tag_index)?;
-    Ok(ListedTypes {
-        under: tag_type.params(),
-        above: Few::Zero,
+    Ok(Operands {
+        wanted: Wanted::Under(tag_type.params(), Few::Zero),
         pushed: Pushed::Listed(tag_type.results()),
     })
 }
@@ -164,21 +143,15 @@ fn resume_types<'a, R: WasmModuleResources>(
     offset: u64,
     cont_type_index: u32,
     handlers: &[Handle],
-) -> Result<ListedTypes<'a>, Error>
+) -> Result<Operands<'a>, Error>
     requires { IsValidBody (R.context resources.now) stacks.now.body }
-    ensures row { IfOk result (λ t. without_targets (resume_row
-        (body_context (R.context resources.now) stacks.now.body) (heads stacks.now.body.present.frames)
-        cont_type_index handlers.now) ≡ listed_row t) }
-    ensures valid { IfOk result (λ t. IsValidListed (R.context resources.now) t) }
-    ensures refused { IfErr result (λ e. e.wants_memory ≡ false → (resume_row
-        (body_context (R.context resources.now) stacks.now.body) (heads stacks.now.body.present.frames)
-        cont_type_index handlers.now).premise ≡ false) }
-    ensures offset { IfErr result (λ e. e.offset ≡ offset) }
+    ensures { FindsOperands (R.context resources.now)
+        (λ cx. without_targets (resume_row cx (heads stacks.now.body.present.frames) cont_type_index
+        handlers.now)) offset stacks.now.body result }
 {
     let resumed = check_resume_table(stacks, resources, offset, cont_type_index, handlers)?;
-    Ok(ListedTypes {
-        under: resumed.func_type.params(),
-        above: Few::One(resumed.reference),
+    Ok(Operands {
+        wanted: Wanted::Under(resumed.func_type.params(), Few::One(resumed.reference)),
         pushed: Pushed::Listed(resumed.func_type.results()),
     })
 }
@@ -191,22 +164,16 @@ fn resume_throw_types<'a, R: WasmModuleResources>(
     cont_type_index: u32,
     tag_index: u32,
     handlers: &[Handle],
-) -> Result<ListedTypes<'a>, Error>
+) -> Result<Operands<'a>, Error>
     requires { IsValidBody (R.context resources.now) stacks.now.body }
-    ensures row { IfOk result (λ t. without_targets (resume_throw_row
-        (body_context (R.context resources.now) stacks.now.body) (heads stacks.now.body.present.frames)
-        cont_type_index tag_index handlers.now) ≡ listed_row t) }
-    ensures valid { IfOk result (λ t. IsValidListed (R.context resources.now) t) }
-    ensures refused { IfErr result (λ e. e.wants_memory ≡ false → (resume_throw_row
-        (body_context (R.context resources.now) stacks.now.body) (heads stacks.now.body.present.frames)
-        cont_type_index tag_index handlers.now).premise ≡ false) }
-    ensures offset { IfErr result (λ e. e.offset ≡ offset) }
+    ensures { FindsOperands (R.context resources.now)
+        (λ cx. without_targets (resume_throw_row cx (heads stacks.now.body.present.frames) cont_type_index
+        tag_index handlers.now)) offset stacks.now.body result }
 {
     let resumed = check_resume_table(stacks, resources, offset, cont_type_index, handlers)?;
     let thrown = exception_types_at(stacks, resources, offset, tag_index)?;
-    Ok(ListedTypes {
-        under: thrown,
-        above: Few::One(resumed.reference),
+    Ok(Operands {
+        wanted: Wanted::Under(thrown, Few::One(resumed.reference)),
         pushed: Pushed::Listed(resumed.func_type.results()),
     })
 }
@@ -218,21 +185,15 @@ fn resume_throw_ref_types<'a, R: WasmModuleResources>(
     offset: u64,
     cont_type_index: u32,
     handlers: &[Handle],
-) -> Result<ListedTypes<'a>, Error>
+) -> Result<Operands<'a>, Error>
     requires { IsValidBody (R.context resources.now) stacks.now.body }
-    ensures row { IfOk result (λ t. without_targets (resume_throw_ref_row
-        (body_context (R.context resources.now) stacks.now.body) (heads stacks.now.body.present.frames)
-        cont_type_index handlers.now) ≡ listed_row t) }
-    ensures valid { IfOk result (λ t. IsValidListed (R.context resources.now) t) }
-    ensures refused { IfErr result (λ e. e.wants_memory ≡ false → (resume_throw_ref_row
-        (body_context (R.context resources.now) stacks.now.body) (heads stacks.now.body.present.frames)
-        cont_type_index handlers.now).premise ≡ false) }
-    ensures offset { IfErr result (λ e. e.offset ≡ offset) }
+    ensures { FindsOperands (R.context resources.now)
+        (λ cx. without_targets (resume_throw_ref_row cx (heads stacks.now.body.present.frames) cont_type_index
+        handlers.now)) offset stacks.now.body result }
 {
     let resumed = check_resume_table(stacks, resources, offset, cont_type_index, handlers)?;
-    Ok(ListedTypes {
-        under: &[],
-        above: Few::Two(ValType::EXNREF, resumed.reference),
+    Ok(Operands {
+        wanted: Wanted::Few(Few::Two(ValType::EXNREF, resumed.reference)),
         pushed: Pushed::Listed(resumed.func_type.results()),
     })
 }
@@ -260,14 +221,9 @@ fn switch_types<'a, R: WasmModuleResources>(
     offset: u64,
     cont_type_index: u32,
     tag_index: u32,
-) -> Result<ListedTypes<'a>, Error>
-    ensures row { IfOk result (λ t. switch_row (body_context (R.context resources.now) stacks.now.body)
-        cont_type_index tag_index ≡ listed_row t) }
-    ensures valid { IfOk result (λ t. IsValidListed (R.context resources.now) t) }
-    ensures refused { IfErr result (λ e. e.wants_memory ≡ false
-        → (switch_row (body_context (R.context resources.now) stacks.now.body) cont_type_index
-        tag_index).premise ≡ false) }
-    ensures offset { IfErr result (λ e. e.offset ≡ offset) }
+) -> Result<Operands<'a>, Error>
+    ensures { FindsOperands (R.context resources.now)
+        (λ cx. switch_row cx cont_type_index tag_index) offset stacks.now.body result }
 {
     let func_type = func_type_of_cont_at(stacks, resources, offset, cont_type_index)?;
     let tag_type = tag_at(stacks, resources, offset, tag_index)?;
@@ -291,9 +247,8 @@ fn switch_types<'a, R: WasmModuleResources>(
         return Err(Error::new("type mismatch in continuation types", offset));
     }
     let from = type_reference(stacks, resources, offset, true, cont_type_index)?;
-    Ok(ListedTypes {
-        under: others,
-        above: Few::One(from),
+    Ok(Operands {
+        wanted: Wanted::Under(others, Few::One(from)),
         pushed: Pushed::Listed(other.params()),
     })
 }
@@ -304,16 +259,11 @@ fn continuation_types<'a, R: WasmModuleResources>(
     resources: &'a R,
     offset: u64,
     op: ContinuationOp<'_>,
-) -> Result<ListedTypes<'a>, Error>
+) -> Result<Operands<'a>, Error>
     requires { IsValidBody (R.context resources.now) stacks.now.body }
-    ensures row { IfOk result (λ t. without_targets (continuation_row
-        (body_context (R.context resources.now) stacks.now.body) (heads stacks.now.body.present.frames)
-        op.entry) ≡ listed_row t) }
-    ensures valid { IfOk result (λ t. IsValidListed (R.context resources.now) t) }
-    ensures refused { IfErr result (λ e. e.wants_memory ≡ false → (continuation_row
-        (body_context (R.context resources.now) stacks.now.body) (heads stacks.now.body.present.frames)
-        op.entry).premise ≡ false) }
-    ensures offset { IfErr result (λ e. e.offset ≡ offset) }
+    ensures { FindsOperands (R.context resources.now)
+        (λ cx. without_targets (continuation_row cx (heads stacks.now.body.present.frames) op.entry)) offset
+        stacks.now.body result }
 {
     match op {
         ContinuationOp::ContNew(index) => cont_new_types(stacks, resources, offset, index),
@@ -374,5 +324,5 @@ pub fn check_continuation_row<R: WasmModuleResources>(
         stacks.new.body }
 {
     let types = continuation_types(stacks, resources, offset, op)?;
-    check_listed(stacks, resources, offset, types)
+    check_operands(stacks, resources, offset, types)
 }

@@ -5,4 +5,3 @@
 pub mod check;
 pub mod handlers;
 pub mod lookups;
-pub mod types;

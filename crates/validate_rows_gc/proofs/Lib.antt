@@ -1,4 +1,3 @@
-pub mod Fields
 pub mod Looking
 pub mod Casting
 pub mod Describing

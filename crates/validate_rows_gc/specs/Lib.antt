@@ -1,3 +1,2 @@
-pub mod Types
 pub mod Casts
 pub mod Descriptors

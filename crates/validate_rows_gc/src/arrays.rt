@@ -1,7 +1,7 @@
 //! Operators on arrays (WebAssembly core specification, "Aggregate Instructions").
 
-ghost use Rattle.std.specs.Prelude.{◌≡◌, ◌≢◌, true, false, OnOk, OnErr, IfOk, IfErr};
-ghost use Rattle.validate_resources.specs.Context.{Valid, is_number_or_vector};
+ghost use Rattle.std.specs.Prelude.{◌≡◌, ◌≢◌, true, false, OnOk, OnErr, IfErr};
+ghost use Rattle.validate_resources.specs.Context.{Valid};
 ghost use Rattle.validation_rules.specs.Arrays.{array_row, array_new_row, array_new_default_row};
 ghost use Rattle.validation_rules.specs.Arrays.{array_new_fixed_row, array_new_data_row, array_new_elem_row};
 ghost use Rattle.validation_rules.specs.Arrays.{array_read_row, array_set_row, array_fill_row};
@@ -9,13 +9,11 @@ ghost use Rattle.validation_rules.specs.Arrays.{array_copy_row, array_init_data_
 ghost use Rattle.validation_rules.specs.Arrays.{is_read_from_data, is_read_from_elements, may_be_copied};
 ghost use Rattle.validation_rules.specs.Operators.{row_operator};
 ghost use Rattle.validation_rules.specs.Structs.{field_value, is_whole_field, is_packed_field};
-ghost use Rattle.validate_stacks.specs.State.{body_context};
+ghost use Rattle.validate_shapes.specs.Operands.{FindsOperands};
 ghost use Rattle.validate_stacks.specs.Visits.{MayVisit, Meets};
 ghost use Rattle.validate_visit.specs.declared.op.ArrayOp.{ArrayOp};
-ghost use Rattle.validate_rows_gc.specs.Types.{aggregate_row, IsValidAggregate};
 
 use crate::found::check_measure;
-use crate::types::{AggregateTypes, Wanted, check_aggregate};
 use validate_resources::WasmModuleResources;
 use validate_resources::uses::laws;
 use validate_shapes::aggregates::{
@@ -23,7 +21,7 @@ use validate_shapes::aggregates::{
 };
 use validate_shapes::memories::check_data_segment;
 use validate_shapes::tables::element_type_at;
-use validate_shapes::types::Few;
+use validate_shapes::operands::{Few, Operands, Pushed, Wanted, check_operands};
 use validate_stacks::Stacks;
 use validate_types::{AbstractHeapType, Error, FieldType, RefType, StorageType, ValType};
 use validate_visit::{ArrayOp, Sign};
@@ -178,22 +176,15 @@ fn new_types<R: WasmModuleResources>(
     resources: &R,
     offset: u64,
     index: u32,
-) -> Result<AggregateTypes<'static>, Error>
-    ensures row { IfOk result (λ t. array_new_row
-        (body_context (R.context resources.now) stacks.now.body) index ≡ aggregate_row t) }
-    ensures valid { IfOk result (λ t. IsValidAggregate (R.context resources.now) t) }
-    ensures refused { IfErr result (λ e. e.wants_memory ≡ false → (array_new_row
-        (body_context (R.context resources.now) stacks.now.body) index).premise ≡ false) }
-    ensures offset { IfErr result (λ e. e.offset ≡ offset) }
+) -> Result<Operands<'static>, Error>
+    ensures { FindsOperands (R.context resources.now)
+        (λ cx. array_new_row cx index) offset stacks.now.body result }
 {
     let value = array_type_at(stacks, resources, offset, index)?
         .element_type
         .unpack();
     let made = allocated_reference(stacks, resources, offset, index)?;
-    Ok(AggregateTypes {
-        wanted: Wanted::Few(Few::Two(value, ValType::I32)),
-        pushed: Few::One(made),
-    })
+    Ok(Operands::few(Few::Two(value, ValType::I32), Few::One(made)))
 }
 
 /// What `array.new_default` takes and gives.
@@ -202,13 +193,9 @@ fn new_default_types<R: WasmModuleResources>(
     resources: &R,
     offset: u64,
     index: u32,
-) -> Result<AggregateTypes<'static>, Error>
-    ensures row { IfOk result (λ t. array_new_default_row
-        (body_context (R.context resources.now) stacks.now.body) index ≡ aggregate_row t) }
-    ensures valid { IfOk result (λ t. IsValidAggregate (R.context resources.now) t) }
-    ensures refused { IfErr result (λ e. e.wants_memory ≡ false → (array_new_default_row
-        (body_context (R.context resources.now) stacks.now.body) index).premise ≡ false) }
-    ensures offset { IfErr result (λ e. e.offset ≡ offset) }
+) -> Result<Operands<'static>, Error>
+    ensures { FindsOperands (R.context resources.now)
+        (λ cx. array_new_default_row cx index) offset stacks.now.body result }
 {
     let value = array_type_at(stacks, resources, offset, index)?
         .element_type
@@ -217,10 +204,7 @@ fn new_default_types<R: WasmModuleResources>(
         return Err(not_defaultable(stacks, offset, value));
     }
     let made = allocated_reference(stacks, resources, offset, index)?;
-    Ok(AggregateTypes {
-        wanted: Wanted::Few(Few::One(ValType::I32)),
-        pushed: Few::One(made),
-    })
+    Ok(Operands::few(Few::One(ValType::I32), Few::One(made)))
 }
 
 /// What `array.new_fixed` takes and gives: a value for each place.
@@ -230,21 +214,17 @@ fn new_fixed_types<R: WasmModuleResources>(
     offset: u64,
     index: u32,
     size: u32,
-) -> Result<AggregateTypes<'static>, Error>
-    ensures row { IfOk result (λ t. array_new_fixed_row
-        (body_context (R.context resources.now) stacks.now.body) index size ≡ aggregate_row t) }
-    ensures valid { IfOk result (λ t. IsValidAggregate (R.context resources.now) t) }
-    ensures refused { IfErr result (λ e. e.wants_memory ≡ false → (array_new_fixed_row
-        (body_context (R.context resources.now) stacks.now.body) index size).premise ≡ false) }
-    ensures offset { IfErr result (λ e. e.offset ≡ offset) }
+) -> Result<Operands<'static>, Error>
+    ensures { FindsOperands (R.context resources.now)
+        (λ cx. array_new_fixed_row cx index size) offset stacks.now.body result }
 {
     let value = array_type_at(stacks, resources, offset, index)?
         .element_type
         .unpack();
     let made = allocated_reference(stacks, resources, offset, index)?;
-    Ok(AggregateTypes {
+    Ok(Operands {
         wanted: Wanted::Run(value, size),
-        pushed: Few::One(made),
+        pushed: Pushed::Few(Few::One(made)),
     })
 }
 
@@ -255,21 +235,14 @@ fn new_data_types<R: WasmModuleResources>(
     offset: u64,
     index: u32,
     data_index: u32,
-) -> Result<AggregateTypes<'static>, Error>
-    ensures row { IfOk result (λ t. array_new_data_row
-        (body_context (R.context resources.now) stacks.now.body) index data_index ≡ aggregate_row t) }
-    ensures valid { IfOk result (λ t. IsValidAggregate (R.context resources.now) t) }
-    ensures refused { IfErr result (λ e. e.wants_memory ≡ false → (array_new_data_row
-        (body_context (R.context resources.now) stacks.now.body) index data_index).premise ≡ false) }
-    ensures offset { IfErr result (λ e. e.offset ≡ offset) }
+) -> Result<Operands<'static>, Error>
+    ensures { FindsOperands (R.context resources.now)
+        (λ cx. array_new_data_row cx index data_index) offset stacks.now.body result }
 {
     let element = array_type_at(stacks, resources, offset, index)?;
     check_data(stacks, resources, offset, data_index, element, NEW_DATA)?;
     let made = allocated_reference(stacks, resources, offset, index)?;
-    Ok(AggregateTypes {
-        wanted: Wanted::Few(Few::Two(ValType::I32, ValType::I32)),
-        pushed: Few::One(made),
-    })
+    Ok(Operands::few(Few::Two(ValType::I32, ValType::I32), Few::One(made)))
 }
 
 /// What `array.new_elem` takes and gives: a place of the element segment, and so many.
@@ -279,13 +252,9 @@ fn new_elem_types<R: WasmModuleResources>(
     offset: u64,
     index: u32,
     elem_index: u32,
-) -> Result<AggregateTypes<'static>, Error>
-    ensures row { IfOk result (λ t. array_new_elem_row
-        (body_context (R.context resources.now) stacks.now.body) index elem_index ≡ aggregate_row t) }
-    ensures valid { IfOk result (λ t. IsValidAggregate (R.context resources.now) t) }
-    ensures refused { IfErr result (λ e. e.wants_memory ≡ false → (array_new_elem_row
-        (body_context (R.context resources.now) stacks.now.body) index elem_index).premise ≡ false) }
-    ensures offset { IfErr result (λ e. e.offset ≡ offset) }
+) -> Result<Operands<'static>, Error>
+    ensures { FindsOperands (R.context resources.now)
+        (λ cx. array_new_elem_row cx index elem_index) offset stacks.now.body result }
 {
     let element = array_type_at(stacks, resources, offset, index)?;
     check_elements(
@@ -297,10 +266,7 @@ fn new_elem_types<R: WasmModuleResources>(
         "array.new_elem",
     )?;
     let made = allocated_reference(stacks, resources, offset, index)?;
-    Ok(AggregateTypes {
-        wanted: Wanted::Few(Few::Two(ValType::I32, ValType::I32)),
-        pushed: Few::One(made),
-    })
+    Ok(Operands::few(Few::Two(ValType::I32, ValType::I32), Few::One(made)))
 }
 
 /// What `array.get` takes and gives, of an array whose places hold whole values.
@@ -309,23 +275,16 @@ fn get_types<R: WasmModuleResources>(
     resources: &R,
     offset: u64,
     index: u32,
-) -> Result<AggregateTypes<'static>, Error>
-    ensures row { IfOk result (λ t. array_read_row
-        (body_context (R.context resources.now) stacks.now.body) is_whole_field index ≡ aggregate_row t) }
-    ensures valid { IfOk result (λ t. IsValidAggregate (R.context resources.now) t) }
-    ensures refused { IfErr result (λ e. e.wants_memory ≡ false → (array_read_row
-        (body_context (R.context resources.now) stacks.now.body) is_whole_field index).premise ≡ false) }
-    ensures offset { IfErr result (λ e. e.offset ≡ offset) }
+) -> Result<Operands<'static>, Error>
+    ensures { FindsOperands (R.context resources.now)
+        (λ cx. array_read_row cx is_whole_field index) offset stacks.now.body result }
 {
     let element = array_type_at(stacks, resources, offset, index)?;
     if element.element_type.is_packed() {
         return Err(wrong_array_packing(offset, None));
     }
     let from = type_reference(stacks, resources, offset, true, index)?;
-    Ok(AggregateTypes {
-        wanted: Wanted::Few(Few::Two(from, ValType::I32)),
-        pushed: Few::One(element.element_type.unpack()),
-    })
+    Ok(Operands::few(Few::Two(from, ValType::I32), Few::One(element.element_type.unpack())))
 }
 
 /// What `array.get_s` and `array.get_u` take and give, of an array whose places hold packed values.
@@ -335,23 +294,16 @@ fn get_packed_types<R: WasmModuleResources>(
     offset: u64,
     sign: Sign,
     index: u32,
-) -> Result<AggregateTypes<'static>, Error>
-    ensures row { IfOk result (λ t. array_read_row
-        (body_context (R.context resources.now) stacks.now.body) is_packed_field index ≡ aggregate_row t) }
-    ensures valid { IfOk result (λ t. IsValidAggregate (R.context resources.now) t) }
-    ensures refused { IfErr result (λ e. e.wants_memory ≡ false → (array_read_row
-        (body_context (R.context resources.now) stacks.now.body) is_packed_field index).premise ≡ false) }
-    ensures offset { IfErr result (λ e. e.offset ≡ offset) }
+) -> Result<Operands<'static>, Error>
+    ensures { FindsOperands (R.context resources.now)
+        (λ cx. array_read_row cx is_packed_field index) offset stacks.now.body result }
 {
     let element = array_type_at(stacks, resources, offset, index)?;
     if !element.element_type.is_packed() {
         return Err(wrong_array_packing(offset, Some(sign)));
     }
     let from = type_reference(stacks, resources, offset, true, index)?;
-    Ok(AggregateTypes {
-        wanted: Wanted::Few(Few::Two(from, ValType::I32)),
-        pushed: Few::One(element.element_type.unpack()),
-    })
+    Ok(Operands::few(Few::Two(from, ValType::I32), Few::One(element.element_type.unpack())))
 }
 
 /// What `array.set` takes.
@@ -360,22 +312,15 @@ fn set_types<R: WasmModuleResources>(
     resources: &R,
     offset: u64,
     index: u32,
-) -> Result<AggregateTypes<'static>, Error>
-    ensures row { IfOk result (λ t. array_set_row
-        (body_context (R.context resources.now) stacks.now.body) index ≡ aggregate_row t) }
-    ensures valid { IfOk result (λ t. IsValidAggregate (R.context resources.now) t) }
-    ensures refused { IfErr result (λ e. e.wants_memory ≡ false → (array_set_row
-        (body_context (R.context resources.now) stacks.now.body) index).premise ≡ false) }
-    ensures offset { IfErr result (λ e. e.offset ≡ offset) }
+) -> Result<Operands<'static>, Error>
+    ensures { FindsOperands (R.context resources.now)
+        (λ cx. array_set_row cx index) offset stacks.now.body result }
 {
     let element = array_type_at(stacks, resources, offset, index)?;
     check_mutable_array(offset, element)?;
     let into = type_reference(stacks, resources, offset, true, index)?;
     let value = element.element_type.unpack();
-    Ok(AggregateTypes {
-        wanted: Wanted::Few(Few::Three(into, ValType::I32, value)),
-        pushed: Few::Zero,
-    })
+    Ok(Operands::few(Few::Three(into, ValType::I32, value), Few::Zero))
 }
 
 /// What `array.fill` takes: from this place on, with this value, so many.
@@ -384,22 +329,15 @@ fn fill_types<R: WasmModuleResources>(
     resources: &R,
     offset: u64,
     index: u32,
-) -> Result<AggregateTypes<'static>, Error>
-    ensures row { IfOk result (λ t. array_fill_row
-        (body_context (R.context resources.now) stacks.now.body) index ≡ aggregate_row t) }
-    ensures valid { IfOk result (λ t. IsValidAggregate (R.context resources.now) t) }
-    ensures refused { IfErr result (λ e. e.wants_memory ≡ false → (array_fill_row
-        (body_context (R.context resources.now) stacks.now.body) index).premise ≡ false) }
-    ensures offset { IfErr result (λ e. e.offset ≡ offset) }
+) -> Result<Operands<'static>, Error>
+    ensures { FindsOperands (R.context resources.now)
+        (λ cx. array_fill_row cx index) offset stacks.now.body result }
 {
     let element = array_type_at(stacks, resources, offset, index)?;
     check_mutable_array(offset, element)?;
     let into = type_reference(stacks, resources, offset, true, index)?;
     let value = element.element_type.unpack();
-    Ok(AggregateTypes {
-        wanted: Wanted::Few(Few::Four(into, ValType::I32, value, ValType::I32)),
-        pushed: Few::Zero,
-    })
+    Ok(Operands::few(Few::Four(into, ValType::I32, value, ValType::I32), Few::Zero))
 }
 
 /// What `array.copy` takes: to a place, from a place, so many.
@@ -409,13 +347,9 @@ fn copy_types<R: WasmModuleResources>(
     offset: u64,
     dst_index: u32,
     src_index: u32,
-) -> Result<AggregateTypes<'static>, Error>
-    ensures row { IfOk result (λ t. array_copy_row
-        (body_context (R.context resources.now) stacks.now.body) dst_index src_index ≡ aggregate_row t) }
-    ensures valid { IfOk result (λ t. IsValidAggregate (R.context resources.now) t) }
-    ensures refused { IfErr result (λ e. e.wants_memory ≡ false → (array_copy_row
-        (body_context (R.context resources.now) stacks.now.body) dst_index src_index).premise ≡ false) }
-    ensures offset { IfErr result (λ e. e.offset ≡ offset) }
+) -> Result<Operands<'static>, Error>
+    ensures { FindsOperands (R.context resources.now)
+        (λ cx. array_copy_row cx dst_index src_index) offset stacks.now.body result }
 {
     let dst = array_type_at(stacks, resources, offset, dst_index)?;
     check_mutable_array(offset, dst)?;
@@ -423,10 +357,7 @@ fn copy_types<R: WasmModuleResources>(
     check_copied(stacks, resources, offset, src, dst)?;
     let into = type_reference(stacks, resources, offset, true, dst_index)?;
     let from = type_reference(stacks, resources, offset, true, src_index)?;
-    Ok(AggregateTypes {
-        wanted: Wanted::Few(Few::Five(into, ValType::I32, from, ValType::I32, ValType::I32)),
-        pushed: Few::Zero,
-    })
+    Ok(Operands::few(Few::Five(into, ValType::I32, from, ValType::I32, ValType::I32), Few::Zero))
 }
 
 /// What `array.init_data` takes: to a place, from one of the data segment, so many.
@@ -436,22 +367,15 @@ fn init_data_types<R: WasmModuleResources>(
     offset: u64,
     index: u32,
     data_index: u32,
-) -> Result<AggregateTypes<'static>, Error>
-    ensures row { IfOk result (λ t. array_init_data_row
-        (body_context (R.context resources.now) stacks.now.body) index data_index ≡ aggregate_row t) }
-    ensures valid { IfOk result (λ t. IsValidAggregate (R.context resources.now) t) }
-    ensures refused { IfErr result (λ e. e.wants_memory ≡ false → (array_init_data_row
-        (body_context (R.context resources.now) stacks.now.body) index data_index).premise ≡ false) }
-    ensures offset { IfErr result (λ e. e.offset ≡ offset) }
+) -> Result<Operands<'static>, Error>
+    ensures { FindsOperands (R.context resources.now)
+        (λ cx. array_init_data_row cx index data_index) offset stacks.now.body result }
 {
     let element = array_type_at(stacks, resources, offset, index)?;
     check_mutable_array(offset, element)?;
     check_data(stacks, resources, offset, data_index, element, INIT_DATA)?;
     let into = type_reference(stacks, resources, offset, true, index)?;
-    Ok(AggregateTypes {
-        wanted: Wanted::Few(Few::Four(into, ValType::I32, ValType::I32, ValType::I32)),
-        pushed: Few::Zero,
-    })
+    Ok(Operands::few(Few::Four(into, ValType::I32, ValType::I32, ValType::I32), Few::Zero))
 }
 
 /// What `array.init_elem` takes: to a place, from one of the element segment, so many.
@@ -461,13 +385,9 @@ fn init_elem_types<R: WasmModuleResources>(
     offset: u64,
     index: u32,
     elem_index: u32,
-) -> Result<AggregateTypes<'static>, Error>
-    ensures row { IfOk result (λ t. array_init_elem_row
-        (body_context (R.context resources.now) stacks.now.body) index elem_index ≡ aggregate_row t) }
-    ensures valid { IfOk result (λ t. IsValidAggregate (R.context resources.now) t) }
-    ensures refused { IfErr result (λ e. e.wants_memory ≡ false → (array_init_elem_row
-        (body_context (R.context resources.now) stacks.now.body) index elem_index).premise ≡ false) }
-    ensures offset { IfErr result (λ e. e.offset ≡ offset) }
+) -> Result<Operands<'static>, Error>
+    ensures { FindsOperands (R.context resources.now)
+        (λ cx. array_init_elem_row cx index elem_index) offset stacks.now.body result }
 {
     let element = array_type_at(stacks, resources, offset, index)?;
     check_mutable_array(offset, element)?;
@@ -480,10 +400,7 @@ fn init_elem_types<R: WasmModuleResources>(
         "array.init_elem",
     )?;
     let into = type_reference(stacks, resources, offset, true, index)?;
-    Ok(AggregateTypes {
-        wanted: Wanted::Few(Few::Four(into, ValType::I32, ValType::I32, ValType::I32)),
-        pushed: Few::Zero,
-    })
+    Ok(Operands::few(Few::Four(into, ValType::I32, ValType::I32, ValType::I32), Few::Zero))
 }
 
 /// What an operator on arrays takes and gives, by the types and the segment that it names. `array.len`,
@@ -493,14 +410,9 @@ fn array_types<R: WasmModuleResources>(
     resources: &R,
     offset: u64,
     op: ArrayOp,
-) -> Result<AggregateTypes<'static>, Error>
+) -> Result<Operands<'static>, Error>
     requires { op ≢ ArrayOp.ArrayLen }
-    ensures row { IfOk result (λ t. array_row (body_context (R.context resources.now) stacks.now.body) op
-        ≡ aggregate_row t) }
-    ensures valid { IfOk result (λ t. IsValidAggregate (R.context resources.now) t) }
-    ensures refused { IfErr result (λ e. e.wants_memory ≡ false
-        → (array_row (body_context (R.context resources.now) stacks.now.body) op).premise ≡ false) }
-    ensures offset { IfErr result (λ e. e.offset ≡ offset) }
+    ensures { FindsOperands (R.context resources.now) (λ cx. array_row cx op) offset stacks.now.body result }
 {
     match op {
         ArrayOp::ArrayLen => unreachable!(),
@@ -594,7 +506,7 @@ pub fn check_array_row<R: WasmModuleResources>(
         ArrayOp::ArrayLen => check_measure(stacks, resources, offset, AbstractHeapType::Array),
         _ => {
             let types = array_types(stacks, resources, offset, op)?;
-            check_aggregate(stacks, resources, offset, types)
+            check_operands(stacks, resources, offset, types)
         }
     }
 }

@@ -7,4 +7,3 @@ pub mod casts;
 pub mod descriptors;
 pub mod found;
 pub mod structs;
-pub mod types;

@@ -14,18 +14,17 @@ ghost use Rattle.validate_stacks.specs.Attempts.{phase_moved};
 ghost use Rattle.validate_stacks.specs.Pops.{IsKept};
 ghost use Rattle.validate_stacks.specs.State.{IsValidBody, body_context};
 ghost use Rattle.validate_stacks.specs.Steps.{found_in_body as top, body_popped};
+ghost use Rattle.validate_shapes.specs.Operands.{FindsOperands};
 ghost use Rattle.validate_stacks.specs.Visits.{step_body, MayVisit, Meets};
 ghost use Rattle.validate_rows_gc.specs.Descriptors.{found_new_descriptor, fields_row, defaults_row, row_under_descriptor};
-ghost use Rattle.validate_rows_gc.specs.Types.{aggregate_row, IsValidAggregate};
 
 use crate::descriptors::pop_of_type;
-use crate::types::{AggregateTypes, Wanted, check_aggregate};
 use validate_resources::WasmModuleResources;
 use validate_shapes::aggregates::{
     allocated_reference, check_mutable_field, descriptor_at, struct_field_at, struct_type_at,
     type_reference, wrong_field_packing,
 };
-use validate_shapes::types::Few;
+use validate_shapes::operands::{Few, Operands, Pushed, Wanted, check_operands};
 use validate_stacks::Stacks;
 use validate_types::{Error, FieldType, RefType, StructType, ValType};
 use validate_visit::{FieldIndex, Sign, StructOp};
@@ -142,19 +141,15 @@ fn new_types<'a, R: WasmModuleResources>(
     resources: &'a R,
     offset: u64,
     index: u32,
-) -> Result<AggregateTypes<'a>, Error>
-    ensures row { IfOk result (λ t. struct_new_row
-        (body_context (R.context resources.now) stacks.now.body) index ≡ aggregate_row t) }
-    ensures valid { IfOk result (λ t. IsValidAggregate (R.context resources.now) t) }
-    ensures refused { IfErr result (λ e. e.wants_memory ≡ false → (struct_new_row
-        (body_context (R.context resources.now) stacks.now.body) index).premise ≡ false) }
-    ensures offset { IfErr result (λ e. e.offset ≡ offset) }
+) -> Result<Operands<'a>, Error>
+    ensures { FindsOperands (R.context resources.now)
+        (λ cx. struct_new_row cx index) offset stacks.now.body result }
 {
     let struct_type = undescribed_struct_at(stacks, resources, offset, index, "struct.new")?;
     let made = allocated_reference(stacks, resources, offset, index)?;
-    Ok(AggregateTypes {
+    Ok(Operands {
         wanted: Wanted::Fields(struct_type.fields.as_slice()),
-        pushed: Few::One(made),
+        pushed: Pushed::Few(Few::One(made)),
     })
 }
 
@@ -164,13 +159,9 @@ fn new_default_types<R: WasmModuleResources>(
     resources: &R,
     offset: u64,
     index: u32,
-) -> Result<AggregateTypes<'static>, Error>
-    ensures row { IfOk result (λ t. struct_new_default_row
-        (body_context (R.context resources.now) stacks.now.body) index ≡ aggregate_row t) }
-    ensures valid { IfOk result (λ t. IsValidAggregate (R.context resources.now) t) }
-    ensures refused { IfErr result (λ e. e.wants_memory ≡ false → (struct_new_default_row
-        (body_context (R.context resources.now) stacks.now.body) index).premise ≡ false) }
-    ensures offset { IfErr result (λ e. e.offset ≡ offset) }
+) -> Result<Operands<'static>, Error>
+    ensures { FindsOperands (R.context resources.now)
+        (λ cx. struct_new_default_row cx index) offset stacks.now.body result }
 {
     let struct_type = undescribed_struct_at(
         stacks,
@@ -181,10 +172,7 @@ fn new_default_types<R: WasmModuleResources>(
     )?;
     check_defaultable(stacks, offset, struct_type.fields.as_slice())?;
     let made = allocated_reference(stacks, resources, offset, index)?;
-    Ok(AggregateTypes {
-        wanted: Wanted::Few(Few::Zero),
-        pushed: Few::One(made),
-    })
+    Ok(Operands::few(Few::Zero, Few::One(made)))
 }
 
 /// What `struct.new_desc` takes and gives, its descriptor aside: a value for each field.
@@ -193,19 +181,15 @@ fn new_desc_types<'a, R: WasmModuleResources>(
     resources: &'a R,
     offset: u64,
     index: u32,
-) -> Result<AggregateTypes<'a>, Error>
-    ensures row { IfOk result (λ t. fields_row (body_context (R.context resources.now) stacks.now.body) index
-        ≡ aggregate_row t) }
-    ensures valid { IfOk result (λ t. IsValidAggregate (R.context resources.now) t) }
-    ensures refused { IfErr result (λ e. e.wants_memory ≡ false
-        → (fields_row (body_context (R.context resources.now) stacks.now.body) index).premise ≡ false) }
-    ensures offset { IfErr result (λ e. e.offset ≡ offset) }
+) -> Result<Operands<'a>, Error>
+    ensures { FindsOperands (R.context resources.now)
+        (λ cx. fields_row cx index) offset stacks.now.body result }
 {
     let struct_type = struct_type_at(stacks, resources, offset, index)?;
     let made = allocated_reference(stacks, resources, offset, index)?;
-    Ok(AggregateTypes {
+    Ok(Operands {
         wanted: Wanted::Fields(struct_type.fields.as_slice()),
-        pushed: Few::One(made),
+        pushed: Pushed::Few(Few::One(made)),
     })
 }
 
@@ -215,21 +199,14 @@ fn new_default_desc_types<R: WasmModuleResources>(
     resources: &R,
     offset: u64,
     index: u32,
-) -> Result<AggregateTypes<'static>, Error>
-    ensures row { IfOk result (λ t. defaults_row (body_context (R.context resources.now) stacks.now.body)
-        index ≡ aggregate_row t) }
-    ensures valid { IfOk result (λ t. IsValidAggregate (R.context resources.now) t) }
-    ensures refused { IfErr result (λ e. e.wants_memory ≡ false
-        → (defaults_row (body_context (R.context resources.now) stacks.now.body) index).premise ≡ false) }
-    ensures offset { IfErr result (λ e. e.offset ≡ offset) }
+) -> Result<Operands<'static>, Error>
+    ensures { FindsOperands (R.context resources.now)
+        (λ cx. defaults_row cx index) offset stacks.now.body result }
 {
     let struct_type = struct_type_at(stacks, resources, offset, index)?;
     check_defaultable(stacks, offset, struct_type.fields.as_slice())?;
     let made = allocated_reference(stacks, resources, offset, index)?;
-    Ok(AggregateTypes {
-        wanted: Wanted::Few(Few::Zero),
-        pushed: Few::One(made),
-    })
+    Ok(Operands::few(Few::Zero, Few::One(made)))
 }
 
 /// What `struct.get` takes and gives, of a field that holds a whole value.
@@ -238,23 +215,16 @@ fn get_types<R: WasmModuleResources>(
     resources: &R,
     offset: u64,
     index: FieldIndex,
-) -> Result<AggregateTypes<'static>, Error>
-    ensures row { IfOk result (λ t. struct_read_row
-        (body_context (R.context resources.now) stacks.now.body) is_whole_field index ≡ aggregate_row t) }
-    ensures valid { IfOk result (λ t. IsValidAggregate (R.context resources.now) t) }
-    ensures refused { IfErr result (λ e. e.wants_memory ≡ false → (struct_read_row
-        (body_context (R.context resources.now) stacks.now.body) is_whole_field index).premise ≡ false) }
-    ensures offset { IfErr result (λ e. e.offset ≡ offset) }
+) -> Result<Operands<'static>, Error>
+    ensures { FindsOperands (R.context resources.now)
+        (λ cx. struct_read_row cx is_whole_field index) offset stacks.now.body result }
 {
     let field = struct_field_at(stacks, resources, offset, index)?;
     if field.element_type.is_packed() {
         return Err(wrong_field_packing(offset, None));
     }
     let from = type_reference(stacks, resources, offset, true, index.struct_type_index)?;
-    Ok(AggregateTypes {
-        wanted: Wanted::Few(Few::One(from)),
-        pushed: Few::One(field.element_type.unpack()),
-    })
+    Ok(Operands::few(Few::One(from), Few::One(field.element_type.unpack())))
 }
 
 /// What `struct.get_s` and `struct.get_u` take and give, of a field that holds a packed value.
@@ -264,23 +234,16 @@ fn get_packed_types<R: WasmModuleResources>(
     offset: u64,
     sign: Sign,
     index: FieldIndex,
-) -> Result<AggregateTypes<'static>, Error>
-    ensures row { IfOk result (λ t. struct_read_row
-        (body_context (R.context resources.now) stacks.now.body) is_packed_field index ≡ aggregate_row t) }
-    ensures valid { IfOk result (λ t. IsValidAggregate (R.context resources.now) t) }
-    ensures refused { IfErr result (λ e. e.wants_memory ≡ false → (struct_read_row
-        (body_context (R.context resources.now) stacks.now.body) is_packed_field index).premise ≡ false) }
-    ensures offset { IfErr result (λ e. e.offset ≡ offset) }
+) -> Result<Operands<'static>, Error>
+    ensures { FindsOperands (R.context resources.now)
+        (λ cx. struct_read_row cx is_packed_field index) offset stacks.now.body result }
 {
     let field = struct_field_at(stacks, resources, offset, index)?;
     if !field.element_type.is_packed() {
         return Err(wrong_field_packing(offset, Some(sign)));
     }
     let from = type_reference(stacks, resources, offset, true, index.struct_type_index)?;
-    Ok(AggregateTypes {
-        wanted: Wanted::Few(Few::One(from)),
-        pushed: Few::One(field.element_type.unpack()),
-    })
+    Ok(Operands::few(Few::One(from), Few::One(field.element_type.unpack())))
 }
 
 /// What `struct.set` takes.
@@ -289,21 +252,14 @@ fn set_types<R: WasmModuleResources>(
     resources: &R,
     offset: u64,
     index: FieldIndex,
-) -> Result<AggregateTypes<'static>, Error>
-    ensures row { IfOk result (λ t. struct_set_row
-        (body_context (R.context resources.now) stacks.now.body) index ≡ aggregate_row t) }
-    ensures valid { IfOk result (λ t. IsValidAggregate (R.context resources.now) t) }
-    ensures refused { IfErr result (λ e. e.wants_memory ≡ false → (struct_set_row
-        (body_context (R.context resources.now) stacks.now.body) index).premise ≡ false) }
-    ensures offset { IfErr result (λ e. e.offset ≡ offset) }
+) -> Result<Operands<'static>, Error>
+    ensures { FindsOperands (R.context resources.now)
+        (λ cx. struct_set_row cx index) offset stacks.now.body result }
 {
     let field = struct_field_at(stacks, resources, offset, index)?;
     check_mutable_field(offset, field)?;
     let into = type_reference(stacks, resources, offset, true, index.struct_type_index)?;
-    Ok(AggregateTypes {
-        wanted: Wanted::Few(Few::Two(into, field.element_type.unpack())),
-        pushed: Few::Zero,
-    })
+    Ok(Operands::few(Few::Two(into, field.element_type.unpack()), Few::Zero))
 }
 
 /// What an operator on structs takes and gives, by the type and the field that it names: the descriptor aside with
@@ -313,13 +269,9 @@ fn struct_types<'a, R: WasmModuleResources>(
     resources: &'a R,
     offset: u64,
     op: StructOp,
-) -> Result<AggregateTypes<'a>, Error>
-    ensures row { IfOk result (λ t. row_under_descriptor
-        (body_context (R.context resources.now) stacks.now.body) op ≡ aggregate_row t) }
-    ensures valid { IfOk result (λ t. IsValidAggregate (R.context resources.now) t) }
-    ensures refused { IfErr result (λ e. e.wants_memory ≡ false → (row_under_descriptor
-        (body_context (R.context resources.now) stacks.now.body) op).premise ≡ false) }
-    ensures offset { IfErr result (λ e. e.offset ≡ offset) }
+) -> Result<Operands<'a>, Error>
+    ensures { FindsOperands (R.context resources.now)
+        (λ cx. row_under_descriptor cx op) offset stacks.now.body result }
 {
     match op {
         StructOp::StructNew(index) => new_types(stacks, resources, offset, index),
@@ -379,5 +331,5 @@ pub fn check_struct_row<R: WasmModuleResources>(
 {
     pop_descriptor_of(stacks, resources, offset, op)?;
     let types = struct_types(stacks, resources, offset, op)?;
-    check_aggregate(stacks, resources, offset, types)
+    check_operands(stacks, resources, offset, types)
 }

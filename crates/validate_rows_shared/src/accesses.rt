@@ -4,11 +4,11 @@ ghost use Rattle.std.specs.Prelude.{◌≡◌, ◌++◌};
 ghost use Rattle.validate_resources.specs.Context.{Valid};
 ghost use Rattle.validate_types.specs.Types.{unpacked_type};
 ghost use Rattle.validation_rules.specs.Shared.{is_integer as is_whole_integer, is_integer_or_below as is_either, is_allowed as may_be_done, is_read as reads, taken_by, given_by as gives};
-ghost use Rattle.validate_shapes.specs.Types.{few_types};
+ghost use Rattle.validate_shapes.specs.Operands.{few_types};
 ghost use Rattle.validate_rows_shared.specs.Accesses.{place_types};
 
 use validate_resources::WasmModuleResources;
-use validate_shapes::types::Few;
+use validate_shapes::operands::Few;
 use validate_types::{AbstractHeapType, HeapType, RefType, StorageType, ValType};
 use validate_visit::{FieldAccess, GlobalAccess, SharedRmwOp, Sign, TableAccess};
 

@@ -11,7 +11,7 @@ ghost use Rattle.validation_rules.specs.Shared.{is_accessible, is_allowed as may
 ghost use Rattle.validation_rules.specs.Structs.{field_value};
 ghost use Rattle.validate_stacks.specs.State.{body_context};
 ghost use Rattle.validate_stacks.specs.Visits.{MayVisit, Meets};
-ghost use Rattle.validate_shapes.specs.Types.{AreValid};
+ghost use Rattle.validate_shapes.specs.Operands.{AreValidOperands};
 ghost use Rattle.validate_rows_shared.specs.Accesses.{tested_row};
 
 use crate::accesses::{Place, given_by, is_allowed, is_read, name_of, wanted_by};
@@ -21,9 +21,9 @@ use validate_shapes::aggregates::{
     wrong_array_packing, wrong_field_packing,
 };
 use validate_shapes::globals::global_type_at;
+use validate_shapes::operands::{Operands, Pushed, Wanted, check_operands};
 use validate_shapes::plain::check_plain;
 use validate_shapes::tables::table_type_at;
-use validate_shapes::types::{Types, check_types};
 use validate_stacks::Stacks;
 use validate_types::{
     AbstractHeapType, Error, FieldType, GlobalType, HeapType, RefType, StorageType, ValType,
@@ -33,9 +33,9 @@ use validate_visit::{FieldAccess, FieldIndex, GlobalAccess, SharedOp, TableAcces
 /// What an operator takes and gives, and whether its place can be accessed so: where it can't, that is tested
 /// after the operands.
 #[derive(Clone, Copy)]
-pub struct AccessTypes {
+pub struct TestedOperands {
     /// What it takes and gives.
-    pub types: Types,
+    pub operands: Operands<'static>,
     /// Whether its place can be accessed so.
     pub allowed: bool,
 }
@@ -196,10 +196,10 @@ fn global_types<R: WasmModuleResources>(
     offset: u64,
     access: GlobalAccess,
     global_index: u32,
-) -> Result<AccessTypes, Error>
+) -> Result<TestedOperands, Error>
     ensures row { IfOk result (λ t. shared_global_row (body_context (R.context resources.now)
         stacks.now.body) access global_index ≡ tested_row t) }
-    ensures valid { IfOk result (λ t. AreValid (R.context resources.now) t.types) }
+    ensures valid { IfOk result (λ t. AreValidOperands (R.context resources.now) t.operands) }
     ensures refused { IfErr result (λ e. e.wants_memory ≡ false → (shared_global_row
         (body_context (R.context resources.now) stacks.now.body) access global_index).premise ≡ false) }
     ensures offset { IfErr result (λ e. e.offset ≡ offset) }
@@ -212,11 +212,11 @@ fn global_types<R: WasmModuleResources>(
     if !allowed && !is_tested_late(whole) {
         return Err(global_not_allowed(stacks, offset, access));
     }
-    let types = Types {
-        wanted: wanted_by(Place::Named, whole, value),
-        pushed: given_by(whole, value),
+    let operands = Operands {
+        wanted: Wanted::Few(wanted_by(Place::Named, whole, value)),
+        pushed: Pushed::Few(given_by(whole, value)),
     };
-    Ok(AccessTypes { types, allowed })
+    Ok(TestedOperands { operands, allowed })
 }
 
 /// What an operator on tables takes and gives.
@@ -226,10 +226,10 @@ fn table_types<R: WasmModuleResources>(
     offset: u64,
     access: TableAccess,
     table_index: u32,
-) -> Result<AccessTypes, Error>
+) -> Result<TestedOperands, Error>
     ensures row { IfOk result (λ t. shared_table_row (body_context (R.context resources.now)
         stacks.now.body) access table_index ≡ tested_row t) }
-    ensures valid { IfOk result (λ t. AreValid (R.context resources.now) t.types) }
+    ensures valid { IfOk result (λ t. AreValidOperands (R.context resources.now) t.operands) }
     ensures refused { IfErr result (λ e. e.wants_memory ≡ false → (shared_table_row
         (body_context (R.context resources.now) stacks.now.body) access table_index).premise ≡ false) }
     ensures offset { IfErr result (λ e. e.offset ≡ offset) }
@@ -241,11 +241,11 @@ fn table_types<R: WasmModuleResources>(
     if !allowed && !is_tested_late(whole) {
         return Err(table_not_allowed(stacks, offset, access));
     }
-    let types = Types {
-        wanted: wanted_by(Place::One(table.index_type()), whole, value),
-        pushed: given_by(whole, value),
+    let operands = Operands {
+        wanted: Wanted::Few(wanted_by(Place::One(table.index_type()), whole, value)),
+        pushed: Pushed::Few(given_by(whole, value)),
     };
-    Ok(AccessTypes { types, allowed })
+    Ok(TestedOperands { operands, allowed })
 }
 
 /// A field isn't packed where it is read as it is, and is packed where so many bits of it are read.
@@ -323,10 +323,10 @@ fn struct_types<R: WasmModuleResources>(
     offset: u64,
     access: FieldAccess,
     field: FieldIndex,
-) -> Result<AccessTypes, Error>
+) -> Result<TestedOperands, Error>
     ensures row { IfOk result (λ t. shared_struct_row (body_context (R.context resources.now)
         stacks.now.body) access field ≡ tested_row t) }
-    ensures valid { IfOk result (λ t. AreValid (R.context resources.now) t.types) }
+    ensures valid { IfOk result (λ t. AreValidOperands (R.context resources.now) t.operands) }
     ensures refused { IfErr result (λ e. e.wants_memory ≡ false → (shared_struct_row
         (body_context (R.context resources.now) stacks.now.body) access field).premise ≡ false) }
     ensures offset { IfErr result (λ e. e.offset ≡ offset) }
@@ -335,11 +335,11 @@ fn struct_types<R: WasmModuleResources>(
     let allowed = check_field(stacks, resources, offset, Aggregate::Struct, access, held)?;
     let holder = type_reference(stacks, resources, offset, true, field.struct_type_index)?;
     let value = held.element_type.unpack();
-    let types = Types {
-        wanted: wanted_by(Place::One(holder), access, value),
-        pushed: given_by(access, value),
+    let operands = Operands {
+        wanted: Wanted::Few(wanted_by(Place::One(holder), access, value)),
+        pushed: Pushed::Few(given_by(access, value)),
     };
-    Ok(AccessTypes { types, allowed })
+    Ok(TestedOperands { operands, allowed })
 }
 
 /// What an operator on arrays takes and gives.
@@ -349,10 +349,10 @@ fn array_types<R: WasmModuleResources>(
     offset: u64,
     access: FieldAccess,
     type_index: u32,
-) -> Result<AccessTypes, Error>
+) -> Result<TestedOperands, Error>
     ensures row { IfOk result (λ t. shared_array_row (body_context (R.context resources.now)
         stacks.now.body) access type_index ≡ tested_row t) }
-    ensures valid { IfOk result (λ t. AreValid (R.context resources.now) t.types) }
+    ensures valid { IfOk result (λ t. AreValidOperands (R.context resources.now) t.operands) }
     ensures refused { IfErr result (λ e. e.wants_memory ≡ false → (shared_array_row
         (body_context (R.context resources.now) stacks.now.body) access type_index).premise ≡ false) }
     ensures offset { IfErr result (λ e. e.offset ≡ offset) }
@@ -361,11 +361,11 @@ fn array_types<R: WasmModuleResources>(
     let allowed = check_field(stacks, resources, offset, Aggregate::Array, access, held)?;
     let holder = type_reference(stacks, resources, offset, true, type_index)?;
     let value = held.element_type.unpack();
-    let types = Types {
-        wanted: wanted_by(Place::Two(holder, ValType::I32), access, value),
-        pushed: given_by(access, value),
+    let operands = Operands {
+        wanted: Wanted::Few(wanted_by(Place::Two(holder, ValType::I32), access, value)),
+        pushed: Pushed::Few(given_by(access, value)),
     };
-    Ok(AccessTypes { types, allowed })
+    Ok(TestedOperands { operands, allowed })
 }
 
 /// What an atomic operator takes and gives, by the place that it names.
@@ -374,11 +374,11 @@ fn access_types<R: WasmModuleResources>(
     resources: &R,
     offset: u64,
     op: SharedOp,
-) -> Result<AccessTypes, Error>
+) -> Result<TestedOperands, Error>
     requires { op ≢ SharedOp.RefI31Shared }
     ensures row { IfOk result (λ t. shared_row (body_context (R.context resources.now) stacks.now.body) op
         ≡ tested_row t) }
-    ensures valid { IfOk result (λ t. AreValid (R.context resources.now) t.types) }
+    ensures valid { IfOk result (λ t. AreValidOperands (R.context resources.now) t.operands) }
     ensures refused { IfErr result (λ e. e.wants_memory ≡ false
         → (shared_row (body_context (R.context resources.now) stacks.now.body) op).premise ≡ false) }
     ensures offset { IfErr result (λ e. e.offset ≡ offset) }
@@ -419,7 +419,7 @@ fn check_access<R: WasmModuleResources>(
         stacks.old.body result stacks.new.body }
 {
     let access = access_types(stacks, resources, offset, op)?;
-    check_types(stacks, resources, offset, access.types)?;
+    check_operands(stacks, resources, offset, access.operands)?;
     if access.allowed {
         Ok(())
     } else {

@@ -1,4 +1,5 @@
 pub mod Rows
+mod Fields
 pub mod Meeting
 pub mod Found
 pub mod Branching

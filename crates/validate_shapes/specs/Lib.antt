@@ -1,2 +1,2 @@
-pub mod Types
+pub mod Operands
 pub mod Accesses

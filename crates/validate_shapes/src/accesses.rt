@@ -9,11 +9,11 @@ ghost use Rattle.validate_visit.specs.declared.memory.MemArgTarget.TheVariants.{
 ghost use Rattle.validation_rules.specs.Access.{address_types, address_types_for, memory_address_types, target_address_types, atomic_address_types};
 ghost use Rattle.validate_stacks.specs.State.{body_context};
 ghost use Rattle.validate_shapes.specs.Accesses.{may_access_places, address_operands};
-ghost use Rattle.validate_shapes.specs.Types.{few_types};
+ghost use Rattle.validate_shapes.specs.Operands.{few_types};
 
 use crate::aggregates::{array_type_at, check_mutable_array, type_reference};
 use crate::memories::check_memory_index;
-use crate::types::Few;
+use crate::operands::Few;
 use validate_resources::WasmModuleResources;
 use validate_stacks::Stacks;
 use validate_types::{Error, FieldType, RefType, ValType};

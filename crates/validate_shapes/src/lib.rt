@@ -11,8 +11,9 @@ pub mod labels;
 pub mod matching;
 pub mod memories;
 pub mod numbers;
+pub mod operands;
 pub mod plain;
 pub mod references;
 pub mod tables;
 pub mod tags;
-pub mod types;
+

@@ -1,4 +1,4 @@
-use Rattle.std.proofs.Common.{rules, ◌≡◌, false, Some, List, [], ◌∷◌, ◌++◌, refl, sym, ap, ap₂, ◌∙◌}
+use Rattle.std.proofs.Common.{rules, ◌≡◌, false, Some, List, [], ◌∷◌, refl, sym, ap, ◌∙◌}
 use Rattle.validate_types.specs.declared.types.ValType.{ValType}
 use Rattle.validation_rules.specs.Context.{Signature, Ref}
 use Rattle.validation_rules.specs.Continuations.{resume_throw_ref_row}
@@ -11,22 +11,28 @@ use Rattle.validate_rows_continuations.specs.Handlers.{IsNeverResumed}
 use Rattle.validate_rows_continuations.proofs.Resuming.{resuming_is}
 use Rattle.validate_rows_continuations.proofs.check.resume_throw_ref_types.Goals as goal
 
-pub returns-in_err-resumed-clause-refused : goal.returns-in_err-resumed-clause-refused
-returns-in_err-resumed-clause-refused g c =
+pub returns-in_err-resumed : goal.returns-in_err-resumed
+returns-in_err-resumed g c =
     let v = c.args.stacks.now.body in
     let cx = body_context (g.R.WasmModuleResources.context c.args.resources.now) v in
     let hs = heads v.present.frames in
     let never : IsNeverResumed cx hs c.args.cont_type_index c.args.handlers.now → (resume_throw_ref_row cx hs c.args.cont_type_index c.args.handlers.now).premise ≡ false =
     λ n. n.barred (λ (f : Signature). Some (Ref (nullable_reference exception) ∷ [])) in
-    search (rules, never)
+    record { found = tt; valid = tt; refused = search (rules, never); at_offset = search rules }
 
-pub returns-clause-row : goal.returns-clause-row
-returns-clause-row g c =
+pub returns : goal.returns
+returns g c =
     let v = c.args.stacks.now.body in
     let cx = body_context (g.R.WasmModuleResources.context c.args.resources.now) v in
     let hs = heads v.present.frames in
     let f = c.in_ok-resumed.resumed.func_type.now in
     let t = c.in_ok-resumed.resumed.reference in
     let found = c.in_ok-resumed.ensures in
-    resuming_is cx hs c.args.cont_type_index c.args.handlers.now f found.found t found.reference (λ (f : Signature). Some (Ref (nullable_reference exception) ∷ [])) (Ref (nullable_reference exception) ∷ []) refl found.handlers
-    ∙ ap (λ (rs : List ValType). plain_row (Ref (nullable_reference exception) ∷ t ∷ []) rs) (sym c.results.ensures)
+    record {
+      found =
+          resuming_is cx hs c.args.cont_type_index c.args.handlers.now f found.found t found.reference (λ (f : Signature). Some (Ref (nullable_reference exception) ∷ [])) (Ref (nullable_reference exception) ∷ []) refl found.handlers
+          ∙ ap (λ (rs : List ValType). plain_row (Ref (nullable_reference exception) ∷ t ∷ []) rs) (sym c.results.ensures);
+      valid = search rules;
+      refused = tt;
+      at_offset = tt;
+    }

@@ -3,7 +3,7 @@ use Rattle.validation_rules.specs.Operators.{row_operator}
 use Rattle.validate_shapes.proofs.Found.{meets_barred, meets_found}
 use Rattle.validate_shapes.proofs.Meeting.{meets_refused, meets_from}
 use Rattle.validate_rows_gc.specs.Descriptors.{row_under_descriptor}
-use Rattle.validate_rows_gc.specs.Types.{aggregate_row}
+use Rattle.validate_shapes.specs.Operands.{operands_row}
 use Rattle.validate_rows_gc.proofs.structs.check_struct_row.Goals as goal
 
 pub returns-in_err-pop_descriptor_of : goal.returns-in_err-pop_descriptor_of
@@ -16,11 +16,11 @@ returns-in_err-types g c =
     let md = g.R.WasmModuleResources.context c.args.resources.now in
     let u = c.pop_descriptor_of.new.stacks.body in
     meets_from md _ (λ cx. row_operator (row_under_descriptor cx c.args.op)) c.args.offset c.args.stacks.now.body u u _ c.in_ok-pop_descriptor_of.ensures.passed c.pop_descriptor_of.ensures.kept
-    (meets_barred md u (λ cx hs. row_under_descriptor cx c.args.op) c.args.offset _ (search rules) (search rules) (search rules) c.pop_descriptor_of.ensures.valid)
+    (meets_barred md u (λ cx hs. row_under_descriptor cx c.args.op) c.args.offset _ tt c.in_err-types.ensures.refused c.in_err-types.ensures.at_offset c.pop_descriptor_of.ensures.valid)
 
 pub returns : goal.returns
 returns g c =
     let md = g.R.WasmModuleResources.context c.args.resources.now in
     let u = c.pop_descriptor_of.new.stacks.body in
-    meets_from md _ (λ cx. row_operator (row_under_descriptor cx c.args.op)) c.args.offset c.args.stacks.now.body u c.check_aggregate.new.stacks.body c.check_aggregate.result c.in_ok-pop_descriptor_of.ensures.passed c.pop_descriptor_of.ensures.kept
-    (meets_found md u (λ cx hs. row_under_descriptor cx c.args.op) c.args.offset (λ cx hs. aggregate_row c.in_ok-types.types) _ _ c.in_ok-types.ensures.row c.check_aggregate.ensures)
+    meets_from md _ (λ cx. row_operator (row_under_descriptor cx c.args.op)) c.args.offset c.args.stacks.now.body u c.check_operands.new.stacks.body c.check_operands.result c.in_ok-pop_descriptor_of.ensures.passed c.pop_descriptor_of.ensures.kept
+    (meets_found md u (λ cx hs. row_under_descriptor cx c.args.op) c.args.offset (λ cx hs. operands_row c.in_ok-types.types) _ _ c.in_ok-types.ensures.found c.check_operands.ensures)

@@ -3,7 +3,7 @@ use Rattle.std.proofs.Common.{◌≡◌, ◌≤◌, length, take, reverse}
 use Rattle.validate_types.specs.Types.{unpacked_fields}
 use Rattle.validate_stacks.specs.State.{IsValidBody}
 use Rattle.validate_stacks.specs.Pops.{body_popped_each, IsKept}
-use Rattle.validate_rows_gc.proofs.types.pop_fields.Given as goal
+use Rattle.validate_shapes.proofs.operands.pop_fields.Given as goal
 
 abbrev pub decreases-loop-left : goal.decreases-loop-left
 decreases-loop-left g l = l.left

@@ -1,7 +1,7 @@
 use Rattle.std.proofs.Common.{rules, ◌≡◌, None, replicate, reverse, ap, ◌∙◌}
 use Rattle.validate_stacks.specs.Pops.{body_popped_each}
 use Rattle.validate_stacks.proofs.PopRuns.{reverse-replicate}
-use Rattle.validate_rows_gc.proofs.types.pop_wanted.Goals as goal
+use Rattle.validate_shapes.proofs.operands.pop_wanted.Goals as goal
 
 pub returns-in-Run-clause-passed : goal.returns-in-Run-clause-passed
 returns-in-Run-clause-passed g c =

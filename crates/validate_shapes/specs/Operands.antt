@@ -1,0 +1,60 @@
+-- What an operator takes and gives, as a value (the crate's own).
+use Rattle.std.specs.Prelude.{◌≡◌, ℕ, false, List, [], ◌∷◌, ◌++◌, replicate, Result, IfOk, IfErr}
+use Rattle.std.specs.List.{AllByRecursion}
+use Rattle.validate_resources.specs.Context.{ModuleContext, Valid}
+use Rattle.validate_types.specs.Refusal.{Refusal}
+use Rattle.validate_types.specs.Types.{unpacked_fields}
+use Rattle.validation_rules.specs.Context.{Context, ValType}
+use Rattle.validation_rules.specs.Rows.{Row}
+use Rattle.validation_rules.specs.Operators.{plain_row}
+use Rattle.validate_stacks.specs.State.{BodyState, body_context}
+use Rattle.validate_shapes.specs.declared.operands.Few.{Few as Types}
+use Rattle.validate_shapes.specs.declared.operands.Few.TheVariants.{Zero, One, Two, Three, Four, Five}
+use Rattle.validate_shapes.specs.declared.operands.Operands.{Operands}
+use Rattle.validate_shapes.specs.declared.operands.Pushed.{Pushed}
+use Rattle.validate_shapes.specs.declared.operands.Pushed.TheVariants.{Few as FewPushed, Listed}
+use Rattle.validate_shapes.specs.declared.operands.Wanted.{Wanted}
+use Rattle.validate_shapes.specs.declared.operands.Wanted.TheVariants.{Few, Fields, Run, Under}
+
+abbrev pub few_types : Types → List ValType
+few_types Zero = []
+few_types (One a) = a ∷ []
+few_types (Two a b) = a ∷ b ∷ []
+few_types (Three a b c) = a ∷ b ∷ c ∷ []
+few_types (Four a b c d) = a ∷ b ∷ c ∷ d ∷ []
+few_types (Five a b c d e) = a ∷ b ∷ c ∷ d ∷ e ∷ []
+
+abbrev pub wanted_types : Wanted → List ValType
+wanted_types (Few types) = few_types types
+wanted_types (Fields fields) = unpacked_fields fields.now
+wanted_types (Run t count) = replicate count t
+wanted_types (Under list above) = list.now ++ few_types above
+
+abbrev pub pushed_types : Pushed → List ValType
+pushed_types (FewPushed types) = few_types types
+pushed_types (Listed types) = types.now
+
+-- the row that takes and gives them
+abbrev pub operands_row : Operands → Row
+operands_row t = plain_row (wanted_types t.wanted) (pushed_types t.pushed)
+
+-- each type in it is valid
+abbrev pub AreValidWanted : ModuleContext → Wanted → Type 0
+AreValidWanted md (Few types) = AllByRecursion (Valid md) (few_types types)
+AreValidWanted md (Fields fields) = AllByRecursion (Valid md) (unpacked_fields fields.now)
+AreValidWanted md (Run t count) = Valid md t
+AreValidWanted md (Under list above) =
+    AllByRecursion (Valid md) list.now × AllByRecursion (Valid md) (few_types above)
+
+abbrev pub AreValidOperands : ModuleContext → Operands → Type 0
+AreValidOperands md t = AreValidWanted md t.wanted × AllByRecursion (Valid md) (pushed_types t.pushed)
+
+-- The answer of a look-up for an operator, in the state v: what its row takes and gives, of valid types; or a
+-- refusal at the offset, memory aside where the row's premise doesn't hold.
+pub record FindsOperands
+    (md : ModuleContext) (row : Context → Row) (offset : ℕ) (v : BodyState)
+    (answer : Result Operands Refusal) : Type 0 where
+  pub found : IfOk answer (λ t. row (body_context md v) ≡ operands_row t)
+  pub valid : IfOk answer (AreValidOperands md)
+  pub refused : IfErr answer (λ e. e.wants_memory ≡ false → (row (body_context md v)).premise ≡ false)
+  pub at_offset : IfErr answer (λ e. e.offset ≡ offset)

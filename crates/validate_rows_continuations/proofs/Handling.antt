@@ -1,12 +1,10 @@
 -- The handlers of a `resume`, one by one and all.
-use Rattle.std.proofs.Common.{◌≡◌, ◌≤◌, ℕ, zero, suc, arith, Bool, true, false, ◌&&◌, List, [], ◌∷◌, ◌++◌, map, drop, length, Option, Some, None, refl, sym, ap, ap₂, ◌∙◌, subst}
-use Rattle.std.specs.List.{AllByRecursion}
+use Rattle.std.proofs.Common.{◌≡◌, ◌≤◌, ℕ, zero, suc, arith, Bool, true, false, ◌&&◌, List, [], ◌∷◌, ◌++◌, map, drop, length, Option, Some, None, refl, sym, ap, ◌∙◌}
 use Rattle.std.specs.Option.{option_and_then, option_map}
-use Rattle.validate_resources.specs.Context.{IsLawful, Valid}
 use Rattle.validate_types.specs.Signatures.{is_each_below, is_signature_below}
 use Rattle.validate_types.specs.declared.types.ValType.{ValType}
 use Rattle.validate_visit.specs.declared.resume.Handle.{Handle}
-use Rattle.validate_visit.specs.declared.resume.Handle.TheVariants.{OnLabel, OnSwitch}
+use Rattle.validate_visit.specs.declared.resume.Handle.TheVariants.{OnLabel}
 use Rattle.validation_rules.specs.Branches.{label_types_at}
 use Rattle.validation_rules.specs.Casts.{split_last}
 use Rattle.validation_rules.specs.Context.{Signature, Context}
@@ -15,7 +13,7 @@ use Rattle.validation_rules.specs.Exceptions.{clause_to}
 use Rattle.validation_rules.specs.Fits.{Known, all_fit}
 use Rattle.validation_rules.specs.Rows.{Head, Clause, guard}
 use Rattle.validation_rules.specs.Static.{clause_fits, clauses_fit}
-use Rattle.validation_rules.proofs.Below.{and_true, true_and}
+use Rattle.validation_rules.proofs.Below.{true_and}
 use Rattle.validation_rules.proofs.Pops.{and_false}
 use Rattle.validate_rows_continuations.specs.Handlers.{are_fitting_clauses, is_fitting_handler, are_fitting_handlers}
 
@@ -61,10 +59,6 @@ module _ (cx : Context) where
   -- ---- a handler that goes to a label
 
   module _ (hs : List Head) (f s : Signature) (tag d : ℕ) where
-    pub no_tag : cx.of_module.tag_at tag ≡ None → is_fitting_handler cx hs f (OnLabel tag d) ≡ false
-    no_tag n =
-        ap (λ o. are_fitting_clauses cx hs (option_and_then (λ (s : Signature). option_map (λ (c : Clause). c ∷ []) (option_and_then (suspension_clause cx.of_module f d s) (split_last (label_types_at cx hs d)))) o)) n
-
     module _ (there : cx.of_module.tag_at tag ≡ Some s) where
       abbrev clauses_of : Option (List ValType × ValType) → Option (List Clause)
       clauses_of o = option_map (λ (c : Clause). c ∷ []) (option_and_then (suspension_clause cx.of_module f d s) o)

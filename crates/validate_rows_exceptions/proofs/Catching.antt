@@ -1,7 +1,5 @@
 -- The clauses of a `try_table`, and its step.
-use Rattle.std.proofs.Common.{◌≡◌, ◌≢◌, ◌<◌, ℕ, zero, suc, pred, arith, Bool, true, false, ◌&&◌, List, [], ◌∷◌, ◌++◌, map, reverse, drop, length, get_or, slice_get, Option, Some, None, refl, sym, ap, ap₂, ◌∙◌, append-nil}
-use Rattle.std.proofs.Math.Bool.{and-true}
-use Rattle.std.specs.List.{AllByRecursion}
+use Rattle.std.proofs.Common.{◌≡◌, ◌≢◌, ℕ, zero, suc, Bool, true, false, ◌&&◌, List, [], ◌∷◌, reverse, drop, slice_get, Option, Some, None, refl, sym, ap, ap₂, ◌∙◌, append-nil}
 use Rattle.std.specs.Option.{option_map, option_and_then}
 use Rattle.validate_resources.specs.Context.{ModuleContext}
 use Rattle.validate_types.specs.declared.types.ValType.{ValType}
@@ -10,16 +8,15 @@ use Rattle.validate_visit.specs.declared.catch.TryTable.{TryTable}
 use Rattle.validate_visit.specs.declared.frame.BlockType.{BlockType}
 use Rattle.validation_rules.specs.Context.{Context, block_signature}
 use Rattle.validation_rules.specs.Exceptions.{catch_clause, catch_clauses, operator_catching, try_table_operator, is_catch_part, has_first_caught}
-use Rattle.validation_rules.specs.Fits.{Known, all_fit}
 use Rattle.validation_rules.specs.Operators.{checked_block, opener, opening_operator, opening_operator_if}
-use Rattle.validation_rules.specs.Rows.{FrameKind, TryTable as TryTableFrame, Head, label_types, Clause, guard}
-use Rattle.validation_rules.specs.Static.{Frame, State, heads, label_accepts, clause_fits, clauses_fit, step_in}
+use Rattle.validation_rules.specs.Rows.{FrameKind, TryTable as TryTableFrame, Head, Clause, guard}
+use Rattle.validation_rules.specs.Static.{Frame, State, heads, clause_fits, clauses_fit, step_in}
 use Rattle.validation_rules.proofs.Pops.{and_false}
 use Rattle.validation_rules.proofs.Steps.{some_injective}
 use Rattle.validate_stacks.specs.Blocks.{body_with_block}
 use Rattle.validate_stacks.specs.Pops.{body_popped_each}
 use Rattle.validate_stacks.specs.State.{BodyState, body_context}
-use Rattle.validate_stacks.specs.Steps.{head_of, type_and_kind}
+use Rattle.validate_stacks.specs.Steps.{type_and_kind}
 use Rattle.validate_stacks.specs.Visits.{step_body}
 use Rattle.validate_shapes.proofs.Opening.{opened_is}
 use Rattle.validate_rows_exceptions.specs.Clauses.{is_fitting_clause, is_fitting_catch, are_fitting_catches}
@@ -42,12 +39,6 @@ caught_none (h ∷ hs) zero e = absurd cc
 caught_none (h ∷ hs) (suc d) e = caught_none hs d e
 
 -- ---- all clauses
-
--- the rest of the clauses, by the next one
-pub catches_next : (cx : Context) (hs : List Head) (catches : List Catch) (i : ℕ) (d : Catch) → i < length catches → are_fitting_catches cx hs (drop i catches) ≡ (is_fitting_catch cx hs (get_or catches i d) && are_fitting_catches cx hs (drop (suc i) catches))
-catches_next cx hs [] i d l = absurd (omega (arith, l))
-catches_next cx hs (c ∷ catches) zero d l = refl
-catches_next cx hs (c ∷ catches) (suc i) d l = catches_next cx hs catches i d (omega (arith, l))
 
 -- each is there and fits, or one isn't
 abbrev are_fitting_clauses : Context → List Head → Option (List Clause) → Bool

@@ -9,7 +9,7 @@ use Rattle.validation_rules.specs.Branches.{has_label}
 use Rattle.validation_rules.specs.Context.{Context, block_signature}
 use Rattle.validation_rules.specs.Exceptions.{exception_types, catch_operator, delegate_operator}
 use Rattle.validation_rules.specs.Operators.{delimiter_operator}
-use Rattle.validation_rules.specs.Rows.{FrameKind, is_try, may_catch, catch_kind, results, BeginsCatch, guard}
+use Rattle.validation_rules.specs.Rows.{FrameKind, is_try, catch_kind, results, BeginsCatch, guard}
 use Rattle.validation_rules.specs.Static.{Frame, State, heads, head_with_kind, opened_frame, may_close, delimiter_fits, state_after_exit, step_in}
 use Rattle.validation_rules.proofs.Pops.{and_false}
 use Rattle.validate_stacks.specs.Blocks.{closed_body, closed_body_in}
@@ -20,15 +20,8 @@ use Rattle.validate_stacks.specs.Visits.{step_body}
 use Rattle.validate_stacks.proofs.Closing.{Innermost, innermost, some_frame, guarded_some, guarded_none}
 use Rattle.validate_stacks.proofs.Whole.{with_frame, pushed_whole, pushed_over}
 use Rattle.validate_shapes.proofs.Branching.{label_there, no_label}
-use Rattle.validate_shapes.proofs.Parts.{BeginsPart}
 
 -- ---- `catch` and `catch_all`
-
-abbrev pub no_types : Context → BlockType → List ValType
-no_types cx bt = []
-
-pub catch_begins : (all : Bool) → BeginsPart (BeginsCatch all []) may_catch (catch_kind all) no_types
-catch_begins all = record { delimits = refl; fits = λ cx f. refl; leaves = λ cx o. refl }
 
 module _ (md : ModuleContext) (v : BodyState) where
   abbrev put : Option State → Option BodyState

@@ -78,15 +78,3 @@ ended_popped_in (t ∷ ts) (f ∷ fs) v e h = ap (λ gs. record v { present = re
 
 pub ended_popped : (v : BodyState) → body_unreachable (body_popped v) ≡ body_unreachable v
 ended_popped v = ended_popped_in (innermost_operands v.present.frames) v.present.frames v refl refl
-
-none_in : (l : List MaybeType) → length l ≤ 0 → l ≡ []
-none_in [] h = refl
-none_in (x ∷ l) h = absurd (omega (arith, h))
-
-fewer_in : (own : List MaybeType) (fs : List Frame) (v : BodyState) → v.present.frames ≡ fs → innermost_operands fs ≡ own → 0 < length own → length (innermost_operands (body_without_first own v).present.frames) < length own
-fewer_in [] fs v e h k = absurd (omega (arith, k))
-fewer_in (t ∷ ts) [] v e h k = absurd cc
-fewer_in (t ∷ ts) (f ∷ fs) v e h k = rw e (omega arith)
-
-pub fewer : (v : BodyState) → 0 < length (innermost_operands v.present.frames) → length (innermost_operands (body_popped v).present.frames) < length (innermost_operands v.present.frames)
-fewer v h = fewer_in (innermost_operands v.present.frames) v.present.frames v refl refl h

@@ -3,7 +3,7 @@ use Rattle.std.specs.Prelude.{unwrap_or, is_none, ◌||◌}
 use Rattle.validate_transaction.specs.TakeBack.{is_empty}
 use Rattle.std.proofs.Common.{◌≡◌, ℕ, List, [], ◌∷◌, Bool, true, Option, Some, None, IsSome, refl, sym, ◌∙◌, ap, subst}
 use Rattle.validation_rules.specs.Static.{State}
-use Rattle.validate_stacks.specs.Attempts.{Phase, Clean, Moved, Set, Framed, Unset, Marked, Stacked, phase_moved, is_clean, is_quiet, is_setting, has_none_unset, is_unmarked, may_attempt, may_step, may_frame, may_set, may_unset, innermost_first_set, stacks_begun, stacks_rolled_back}
+use Rattle.validate_stacks.specs.Attempts.{Phase, Clean, Moved, Set, Framed, Unset, Marked, Stacked, phase_moved, is_quiet, is_setting, has_none_unset, is_unmarked, may_step, may_frame, may_unset, innermost_first_set, stacks_begun, stacks_rolled_back}
 use Rattle.validate_resources.specs.Context.{ModuleContext}
 use Rattle.validation_rules.specs.Valid.{IsValidState}
 use Rattle.validate_stacks.specs.Pops.{IsKept}
@@ -25,14 +25,6 @@ unclosed_moved Framed = refl
 unclosed_moved Unset = refl
 unclosed_moved Marked = refl
 
-setting_moved : (p : Phase) → is_setting (phase_moved p) ≡ is_setting p
-setting_moved Clean = refl
-setting_moved Moved = refl
-setting_moved Set = refl
-setting_moved Framed = refl
-setting_moved Unset = refl
-setting_moved Marked = refl
-
 unclosed_after : (v w : Stacked) → IsKept v.body w.body → phase_moved w.phase ≡ phase_moved v.phase → (is_none v.body.undone || (has_none_unset v.phase)) ≡ true → (is_none w.body.undone || (has_none_unset w.phase)) ≡ true
 unclosed_after v w k e h =
     ap (λ b. (is_none w.body.undone || b)) (sym (unclosed_moved w.phase) ∙ ap has_none_unset e ∙ unclosed_moved v.phase)
@@ -43,11 +35,6 @@ pub frame_after : (v w : Stacked) → IsKept v.body w.body → phase_moved w.pha
 frame_after v w k e h =
     ap (λ b. (is_none w.body.undone || b)) (sym (unmarked_moved w.phase) ∙ ap is_unmarked e ∙ unmarked_moved v.phase)
     ∙ ap (λ (u : Option State). (is_none u || (is_unmarked v.phase))) (ap (λ x. x.undone) k) ∙ h
-
-pub set_after : (v w : Stacked) → IsKept v.body w.body → phase_moved w.phase ≡ phase_moved v.phase → may_set v ≡ true → may_set w ≡ true
-set_after v w k e h =
-    ap (λ b. (is_none w.body.undone || b)) (sym (setting_moved w.phase) ∙ ap is_setting e ∙ setting_moved v.phase)
-    ∙ ap (λ (u : Option State). (is_none u || (is_setting v.phase))) (ap (λ x. x.undone) k) ∙ h
 
 split : (l : List ℕ) (b : Bool) → b ≡ true → (is_empty l || b) ≡ true
 split [] b h = refl
@@ -80,23 +67,6 @@ step_frame v h = (quiet_is v.body.undone v.phase h).0
 pub step_unset : (v : Stacked) → may_step v ≡ true → may_unset v ≡ true
 step_unset v h = split (innermost_first_set v.body.present.frames) _ (quiet_is v.body.undone v.phase h).1
 
-clean_quiet : (u : Option State) (p : Phase) → (is_none u || (is_clean p)) ≡ true → (is_none u || (is_quiet p)) ≡ true
-clean_quiet None p h = refl
-clean_quiet (Some u) Clean h = refl
-clean_quiet (Some u) Moved h = cc
-clean_quiet (Some u) Set h = cc
-clean_quiet (Some u) Framed h = cc
-clean_quiet (Some u) Unset h = cc
-clean_quiet (Some u) Marked h = cc
-
--- an attempt with nothing to undo
-pub attempt_step : (v : Stacked) → may_attempt v ≡ true → may_step v ≡ true
-attempt_step v h = clean_quiet v.body.undone v.phase h
-
--- none is pending
-pub idle_step : (v : Stacked) → v.body.undone ≡ None → may_step v ≡ true
-idle_step v h = ap (λ (u : Option State). (is_none u || (is_quiet v.phase))) h
-
 -- ---- a whole attempt
 
 some_of : (s t : State) → Some s ≡ Some t → s ≡ t
@@ -109,9 +79,6 @@ undone_whole v w n k =
     ∙ ap (λ (u : Option State). record v.body { undone = u }) (sym n)
 
 -- the types of what it comes back to stay valid
-pub undone_valid : (md : ModuleContext) (v w : BodyState) → IsKept v w → IsUndoneValid md v → IsUndoneValid md w
-undone_valid md v w k h = subst (IsUndoneValid md) (sym k) h
-
 pub begun_valid : (md : ModuleContext) (v : Stacked) → IsValidBody md v.body → IsUndoneValid md (stacks_begun v).body
 begun_valid md v h s e = subst (IsValidState md v.body.shared v.body.locals) (some_of v.body.present s e) h
 

@@ -86,12 +86,12 @@ impl LocalInits {
         ensures succeeds { length self.old.set_at_entry + count ≤ self.old.declared_room → IsOk result }
         ensures err { OnErr result (self.new ≡ self.old) }
     {
+        // More than can be counted would have marks, for which there is no memory.
         if set && self.local_inits.is_empty() {
-            let Some(all) = self.first_non_default_local.checked_add(count) else {
-                return Err(OutOfMemory);
-            };
-            self.first_non_default_local = all;
-            return Ok(());
+            if let Some(all) = self.first_non_default_local.checked_add(count) {
+                self.first_non_default_local = all;
+                return Ok(());
+            }
         }
         self.local_inits.reserve(count)?;
         let len = self.local_inits.len();
@@ -138,9 +138,7 @@ impl LocalInits {
         ensures succeeds { length self.old.set_at_entry + count ≤ self.old.declared_room → IsOk result }
         ensures err { OnErr result (self.new ≡ self.old) }
     {
-        let Some(unmarked) = self.first_non_default_local.checked_add(count) else {
-            return Err(OutOfMemory);
-        };
+        let unmarked = self.first_non_default_local.saturating_add(count);
         self.local_inits.reserve(unmarked)?;
         Ok(())
     }

@@ -3,7 +3,7 @@ pub mod Steps
 pub mod Pops
 pub mod Rows
 pub mod Order
-pub mod Keeping
+pub mod PushesValid
 pub mod Valid
 pub mod ValidContinuations
 pub mod ValidShared

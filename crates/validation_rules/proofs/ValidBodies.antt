@@ -16,7 +16,7 @@ use Rattle.validation_rules.specs.Operators.{checked_block, delimiter_operator, 
 use Rattle.validation_rules.specs.Rows.{TryTable, LegacyTry, BeginsCatch, Clause, Operator}
 use Rattle.validation_rules.specs.Valid.{RowsKeepValid}
 use Rattle.validation_rules.proofs.Below.{and_true}
-use Rattle.validation_rules.proofs.Keeping.{PushesValid}
+use Rattle.validation_rules.proofs.PushesValid.{PushesValid}
 use Rattle.validation_rules.proofs.Steps.{some_injective, guard_some, and_then_given}
 use Rattle.validation_rules.proofs.ValidContinuations.{continuations_valid}
 use Rattle.validation_rules.proofs.Valid.{steps_keep_valid, nothing_pushed, plain_valid, flat_valid, opener_valid, by_lookup_valid, control_valid, numeric_valid, convert_valid, memory_valid, atomic_valid, reference_valid, table_valid, struct_valid, array_valid}

@@ -3,7 +3,7 @@
 ghost use Rattle.std.specs.Prelude.{◌≤◌, IfSome, IsErr};
 ghost use Rattle.std.specs.Str.{IsUtf8};
 
-use crate::check::check_script;
+use crate::script::check_script;
 use crate::failure::{BadScript, Failure};
 use crate::input::read_input;
 use crate::print::{print_failure, print_report};

@@ -1,43 +1,38 @@
 -- Runs of small bodies, and a body that gets stuck: the definitions of the machine tried.
-use Rattle.std.proofs.Common.{◌≡◌, ℕ, zero, suc, pos, Bool, true, false, List, [], ◌∷◌, length, map, take, drop, Some, None, refl, sym, ap, ◌∙◌, subst, slice_get}
+use Rattle.std.proofs.Common.{◌≡◌, ℕ, zero, suc, pos, Bool, true, false, List, [], ◌∷◌, length, map, take, drop, Some, None, refl, sym, subst}
 use Rattle.validate_resources.specs.Context.{is_same_number_or_vector}
 use Rattle.validate_resources.specs.Lists.{Declared, context_of}
 use Rattle.validate_resources.specs.Lawful.{lawful_lists}
-use Rattle.validate_types.specs.declared.types.CompositeInnerType.TheVariants.{Func}
-use Rattle.validate_visit.specs.declared.catch.Catch.TheVariants.{One}
+use Rattle.validate_resources.specs.Named.{nothing_declared}
 use Rattle.validate_visit.specs.declared.numbers.IntegerType.TheVariants.{I32 as IntegerI32, I64 as IntegerI64}
 use Rattle.validate_visit.specs.declared.numeric.IntegerBinaryOp.TheVariants.{Add}
 use Rattle.validate_visit.specs.declared.op.Op.{Op}
-use Rattle.validate_visit.specs.declared.op.Op.TheVariants.{Control, Numeric, Exception}
-use Rattle.validate_visit.specs.declared.op.ControlOp.TheVariants.{Nop, Block as BlockOp, Loop as LoopOp, If as IfOp, Else as ElseOp, End, Br, Return, Drop, LocalGet, LocalSet}
-use Rattle.validate_visit.specs.declared.op.ExceptionOp.TheVariants.{TryTable as TryTableOp, Throw, Try, Catch as CatchOp, Delegate}
-use Rattle.validate_visit.specs.declared.op.NumericOp.TheVariants.{Eqz, IntegerBinary, I32Const, I64Const}
+use Rattle.validate_visit.specs.declared.op.Op.TheVariants.{Control, Numeric}
+use Rattle.validate_visit.specs.declared.op.ControlOp.TheVariants.{Nop}
+use Rattle.validate_visit.specs.declared.op.NumericOp.TheVariants.{Eqz, IntegerBinary, I32Const}
 use Rattle.validation_rules.specs.Context.{SubType, ValType, I32, I64, BlockType, Empty, Val, FuncType, Context, AllBelow}
 use Rattle.validation_rules.specs.Fits.{MaybeType, Bottom, Known}
 use Rattle.validation_rules.specs.Static.{Frame}
-use Rattle.validation_rules.specs.Rows.{FrameKind, Block, If, Else, Loop, TryTable, LegacyTry, LegacyCatch, Head, params, results, is_if, Stays, Opens, BeginsElse, BeginsCatch, Ends, Delegates, Clause, Target, Operator}
+use Rattle.validation_rules.specs.Rows.{FrameKind, Block, If, Else, Loop, TryTable, LegacyTry, LegacyCatch, Head, params, results, Stays, Opens, BeginsElse, BeginsCatch, Ends, Delegates, Clause, Target, Operator}
 use Rattle.validation_rules.specs.Operators.{plain_row, looking_row, row_operator, operators, operator}
 use Rattle.validation_rules.specs.Branches.{target}
 use Rattle.validation_rules.proofs.Steps.{some_injective}
+use Rattle.validation_rules.proofs.Writing.{func_type, to_nothing, every, block, loop, an_if, an_else, end}
+use Rattle.validation_rules.proofs.Writing.{br, a_return, drops, local_get, local_set, i32_const, i64_const}
+use Rattle.validation_rules.proofs.Writing.{catch, try_table, throw, legacy_try, legacy_catch, delegate}
 use Rattle.type_safety.specs.Machine.{Label, label_heads, Machine, At, Returned, Trapped, LeftByException, LeftBySuspension, delimiter, delimiters, LabelAccepts, Demand, configuration, IsNotStuck, Step, Run, initial_machine}
 use Rattle.type_safety.specs.Machine.Outcome.{traps, raises, suspends}
 use Rattle.type_safety.proofs.Outcomes.{holding, by_going_on, by_entering, by_entering_else, by_skipping, by_jumping, by_closing, by_ending_part, by_catching, by_catching_legacy}
 use Rattle.type_safety.specs.Theorem.{LabelsBelow, IsAsValidated, IsTypeSafe}
 use Rattle.type_safety.proofs.Bodies.{body_safety}
-
-abbrev a_type : List ValType → List ValType → SubType
-a_type params results =
-    record { is_final = true; supertype_idx = None; composite_type = record { inner = Func (record { params = params; results = results }); shared = false; descriptor_idx = None; describes_idx = None } }
+use Rattle.type_safety.proofs.Writing.{label, outermost, only, opens_no_if, the_demand}
 
 abbrev types : List SubType
-types = a_type [] [] ∷ a_type (I32 ∷ []) [] ∷ a_type (I32 ∷ []) (I32 ∷ []) ∷ []
+types = func_type [] [] ∷ func_type (I32 ∷ []) [] ∷ func_type (I32 ∷ []) (I32 ∷ []) ∷ []
 
 -- exceptions carry an i32, or nothing
 abbrev declared : Declared
-declared = record { types = types; functions = []; tables = []; memories = []; globals = []; tags = 1 ∷ 0 ∷ []; elements = []; data_count = None }
-
-abbrev to_nothing : BlockType
-to_nothing = FuncType 0
+declared = record nothing_declared { types = types; tags = 1 ∷ 0 ∷ [] }
 
 abbrev takes_one : BlockType
 takes_one = FuncType 1
@@ -45,97 +40,31 @@ takes_one = FuncType 1
 abbrev one_to_one : BlockType
 one_to_one = FuncType 2
 
--- an opener of another kind isn't an `if`
-opens_no_if : (k h : Head) → Opens k ≡ Opens h → is_if k.kind ≡ false → is_if h.kind ≡ true → ⊥
-opens_no_if k h e n i =
-    let d : k ≡ h = cc in
-    let f : is_if k.kind ≡ is_if h.kind = ap (λ (x : Head). is_if x.kind) d in
-    let g : false ≡ true = sym n ∙ f ∙ i in
-    absurd cc
-
--- what holds of the only one of a list
-only : {A : Type 0} (P : A → Type 0) (x : A) → P x → (j : ℕ) (y : A) → slice_get (x ∷ []) j ≡ Some y → P y
-only P x p zero y e = subst P (some_injective x y e) p
-only P x p (suc j) y e = absurd cc
-
-abbrev label : ℕ → FrameKind → BlockType → List ValType → Label
-label began kind ty own = record { began = began; head = record { kind = kind; block_type = ty }; operands = own }
-
--- all proposals are on
-abbrev every : ℕ
-every = 2097151
-
 abbrev cx : Context
 cx = record { of_module = context_of declared; features = record { 0 = every }; shared = false; locals = I32 ∷ I64 ∷ []; set_at_entry = true ∷ false ∷ [] }
 
 -- ---- operators
 
-abbrev i32_const : Op
-i32_const = Numeric (I32Const (pos 0))
-
-abbrev i64_const : Op
-i64_const = Numeric (I64Const (pos 0))
-
-abbrev drops : Op
-drops = Control Drop
-
 abbrev gets_local : Op
-gets_local = Control (LocalGet 1)
+gets_local = local_get 1
 
 abbrev sets_local : Op
-sets_local = Control (LocalSet 1)
-
-abbrev block : BlockType → Op
-block bt = Control (BlockOp bt)
-
-abbrev loop : BlockType → Op
-loop bt = Control (LoopOp bt)
-
-abbrev an_if : BlockType → Op
-an_if bt = Control (IfOp bt)
-
-abbrev an_else : Op
-an_else = Control ElseOp
-
-abbrev end : Op
-end = Control End
-
-abbrev br : ℕ → Op
-br d = Control (Br d)
-
-abbrev a_return : Op
-a_return = Control Return
+sets_local = local_set 1
 
 -- with one clause, for exceptions that carry an i32, to the innermost label outside it
-abbrev try_table : BlockType → Op
-try_table bt = Exception (TryTableOp (record { ty = bt; catches = record { ref_ptr = (0, 0); now = One 0 0 ∷ [] } }))
-
-abbrev throw : ℕ → Op
-throw tag = Exception (Throw tag)
-
-abbrev legacy_try : BlockType → Op
-legacy_try bt = Exception (Try bt)
-
-abbrev legacy_catch : ℕ → Op
-legacy_catch tag = Exception (CatchOp tag)
-
-abbrev delegate : ℕ → Op
-delegate d = Exception (Delegate d)
-
--- the outermost label
-abbrev outermost : BlockType → List ValType → Label
-outermost ty own = label 0 Block ty own
+abbrev try_catching : BlockType → Op
+try_catching bt = try_table bt (catch 0 0 ∷ [])
 
 -- ---- a run of a body of the table, to its return
 abbrev adding : List Operator
-adding = operators cx (Control (LocalGet 0) ∷ Numeric (I32Const (pos 1)) ∷ Numeric (IntegerBinary IntegerI32 Add) ∷ Control End ∷ [])
+adding = operators cx (local_get 0 ∷ Numeric (I32Const (pos 1)) ∷ Numeric (IntegerBinary IntegerI32 Add) ∷ end ∷ [])
 
 abbrev adding_at : ℕ → List ValType → Machine
 adding_at k own = At k (outermost one_to_one own ∷ []) []
 
 adding_1 : Step cx adding (initial_machine one_to_one) (adding_at 1 (I32 ∷ []))
 adding_1 = (
-  operator cx (Control (LocalGet 0)),
+  operator cx (local_get 0),
   refl,
   record { row = holding _ refl refl; targets = λ j t e. absurd cc; clauses = λ j c e. absurd cc; no_else = λ h e. absurd cc },
   by_going_on (I32 ∷ []) (I32 ∷ []) refl refl refl (refl, tt) refl,
@@ -159,7 +88,7 @@ adding_3 = (
 
 adding_4 : Step cx adding (adding_at 3 (I32 ∷ [])) (Returned (I32 ∷ []))
 adding_4 = (
-  operator cx (Control End),
+  operator cx (end),
   refl,
   record { row = holding _ refl refl; targets = λ j t e. absurd cc; clauses = λ j c e. absurd cc; no_else = λ h e. absurd cc },
   by_closing (I32 ∷ []) refl (refl, tt) refl,
@@ -170,18 +99,18 @@ adding_returns = (adding_at 3 (I32 ∷ []), (adding_at 2 (I32 ∷ I32 ∷ []), (
 
 -- any operator may trap
 adding_traps : Step cx adding (initial_machine one_to_one) Trapped
-adding_traps = (operator cx (Control (LocalGet 0)), refl, record { row = holding _ refl refl; targets = λ j t e. absurd cc; clauses = λ j c e. absurd cc; no_else = λ h e. absurd cc }, traps refl)
+adding_traps = (operator cx (local_get 0), refl, record { row = holding _ refl refl; targets = λ j t e. absurd cc; clauses = λ j c e. absurd cc; no_else = λ h e. absurd cc }, traps refl)
 
 -- or leave, by an exception that nothing catches, or by a suspension
 adding_raises : Step cx adding (initial_machine one_to_one) LeftByException
-adding_raises = (operator cx (Control (LocalGet 0)), refl, record { row = holding _ refl refl; targets = λ j t e. absurd cc; clauses = λ j c e. absurd cc; no_else = λ h e. absurd cc }, raises refl)
+adding_raises = (operator cx (local_get 0), refl, record { row = holding _ refl refl; targets = λ j t e. absurd cc; clauses = λ j c e. absurd cc; no_else = λ h e. absurd cc }, raises refl)
 
 adding_suspends : Step cx adding (initial_machine one_to_one) LeftBySuspension
-adding_suspends = (operator cx (Control (LocalGet 0)), refl, record { row = holding _ refl refl; targets = λ j t e. absurd cc; clauses = λ j c e. absurd cc; no_else = λ h e. absurd cc }, suspends refl)
+adding_suspends = (operator cx (local_get 0), refl, record { row = holding _ refl refl; targets = λ j t e. absurd cc; clauses = λ j c e. absurd cc; no_else = λ h e. absurd cc }, suspends refl)
 
 -- no run of it is stuck, however long
 adding_safe : IsTypeSafe cx adding one_to_one
-adding_safe = body_safety (context_of declared) (lawful_lists declared refl) cx (Control (LocalGet 0) ∷ Numeric (I32Const (pos 1)) ∷ Numeric (IntegerBinary IntegerI32 Add) ∷ Control End ∷ []) one_to_one refl (Known I32 ∷ [], refl)
+adding_safe = body_safety (context_of declared) (lawful_lists declared refl) cx (local_get 0 ∷ Numeric (I32Const (pos 1)) ∷ Numeric (IntegerBinary IntegerI32 Add) ∷ end ∷ []) one_to_one refl (Known I32 ∷ [], refl)
 
 -- ---- bodies that aren't accepted get stuck
 
@@ -202,17 +131,17 @@ stuck_on_type d =
     absurd cc
 
 -- a local isn't set
-stuck_on_local : IsNotStuck cx (operators cx (Control (LocalGet 1) ∷ [])) (initial_machine to_nothing) → ⊥
+stuck_on_local : IsNotStuck cx (operators cx (local_get 1 ∷ [])) (initial_machine to_nothing) → ⊥
 stuck_on_local d =
-    let e : operator cx (Control (LocalGet 1)) ≡ d.0 = some_injective _ _ d.1 in
-    let d' = subst (λ op. Demand cx (operators cx (Control (LocalGet 1) ∷ [])) (configuration 0 (outermost to_nothing []) [] [] op)) (sym e) d.2 in
+    let e : operator cx (local_get 1) ≡ d.0 = some_injective _ _ d.1 in
+    let d' = subst (λ op. Demand cx (operators cx (local_get 1 ∷ [])) (configuration 0 (outermost to_nothing []) [] [] op)) (sym e) d.2 in
     let r = d'.row.1 in
     absurd cc
 
 -- once the machine has set it, it is set
-reads_local : IsNotStuck cx (operators cx (Control (LocalGet 1) ∷ [])) (At 0 (outermost to_nothing [] ∷ []) (1 ∷ []))
+reads_local : IsNotStuck cx (operators cx (local_get 1 ∷ [])) (At 0 (outermost to_nothing [] ∷ []) (1 ∷ []))
 reads_local = (
-  operator cx (Control (LocalGet 1)),
+  operator cx (local_get 1),
   refl,
   record { row = holding _ refl refl; targets = λ j t e. absurd cc; clauses = λ j c e. absurd cc; no_else = λ h e. absurd cc },
 )
@@ -311,7 +240,7 @@ a_clause = record { depth = 0; types = I32 ∷ [] }
 
 abbrev throwing_ops : List Op
 throwing_ops =
-    block (Val I32) ∷ try_table Empty ∷ i32_const ∷ throw 0 ∷ end ∷ i32_const ∷ end ∷ drops ∷ end ∷ []
+    block (Val I32) ∷ try_catching Empty ∷ i32_const ∷ throw 0 ∷ end ∷ i32_const ∷ end ∷ drops ∷ end ∷ []
 
 abbrev throwing : List Operator
 throwing = operators cx throwing_ops
@@ -324,7 +253,7 @@ in_try own = At 3 (label 1 TryTable Empty own ∷ in_block) []
 
 into_try : Step cx throwing (At 1 in_block []) (At 2 (label 1 TryTable Empty [] ∷ in_block) [])
 into_try = (
-  operator cx (try_table Empty),
+  operator cx (try_catching Empty),
   refl,
   record {
     row = holding _ refl refl;
@@ -341,7 +270,7 @@ caught = (
   operator cx (throw 0),
   refl,
   record { row = holding _ refl refl; targets = λ j t e. absurd cc; clauses = λ j c e. absurd cc; no_else = λ h e. absurd cc },
-  by_catching 0 (label 1 TryTable Empty (I32 ∷ [])) in_block (operator cx (try_table Empty)) 0 a_clause refl refl refl refl
+  by_catching 0 (label 1 TryTable Empty (I32 ∷ [])) in_block (operator cx (try_catching Empty)) 0 a_clause refl refl refl refl
       (record {
         label = label 0 Block (Val I32) [];
         outer = outermost to_nothing [] ∷ [];
@@ -358,7 +287,7 @@ caught_early = (
   operator cx i32_const,
   refl,
   record { row = holding _ refl refl; targets = λ j t e. absurd cc; clauses = λ j c e. absurd cc; no_else = λ h e. absurd cc },
-  by_catching 0 (label 1 TryTable Empty []) in_block (operator cx (try_table Empty)) 0 a_clause refl refl refl refl
+  by_catching 0 (label 1 TryTable Empty []) in_block (operator cx (try_catching Empty)) 0 a_clause refl refl refl refl
       (record {
         label = label 0 Block (Val I32) [];
         outer = outermost to_nothing [] ∷ [];
@@ -456,16 +385,12 @@ marks_of_delegated = refl
 
 -- ---- what a wrong validator would let through gets stuck
 
-the_demand : (code : List Operator) (k : ℕ) (l : Label) (ls : List Label) (set : List ℕ) (op : Operator) → slice_get code k ≡ Some op → IsNotStuck cx code (At k (l ∷ ls) set) → Demand cx code (configuration k l ls set op)
-the_demand code k l ls set op is d =
-    subst (λ o. Demand cx code (configuration k l ls set o)) (some_injective d.0 op (sym d.1 ∙ is)) d.2
-
 -- a branch to a loop that wants the loop's results, not its parameters
 abbrev br_by_results : Operator
 br_by_results = record { form = Stays; row = λ hs. record (plain_row [] []) { ends_live = true; targets = record { depth = 0; carried = λ ys. ys } ∷ [] } }
 
 stuck_at_loop : IsNotStuck cx (operator cx i32_const ∷ operator cx (loop takes_one) ∷ br_by_results ∷ operator cx end ∷ operator cx end ∷ []) (At 2 (label 1 Loop takes_one [] ∷ outermost to_nothing [] ∷ []) []) → ⊥
-stuck_at_loop d = (the_demand _ 2 (label 1 Loop takes_one []) (outermost to_nothing [] ∷ []) [] br_by_results refl d).targets 0 _ refl
+stuck_at_loop d = (the_demand cx _ 2 (label 1 Loop takes_one []) (outermost to_nothing [] ∷ []) [] br_by_results refl d).targets 0 _ refl
 
 -- a table of branches that looks at its default alone
 abbrev table_by_default : Operator
@@ -474,7 +399,7 @@ table_by_default =
 
 stuck_at_table : IsNotStuck cx (table_by_default ∷ []) (At 0 (label 0 Block (Val I64) (I32 ∷ []) ∷ outermost to_nothing [] ∷ []) []) → ⊥
 stuck_at_table d =
-    let e = ((the_demand _ 0 (label 0 Block (Val I64) (I32 ∷ [])) (outermost to_nothing [] ∷ []) [] table_by_default refl d).targets 0 _ refl).0 in
+    let e = ((the_demand cx _ 0 (label 0 Block (Val I64) (I32 ∷ [])) (outermost to_nothing [] ∷ []) [] table_by_default refl d).targets 0 _ refl).0 in
     absurd cc
 
 -- an operator that pushes what isn't known over operands that are
@@ -487,16 +412,16 @@ not_known (t ∷ types) e = absurd cc
 
 stuck_at_unknown : IsNotStuck cx (forgets ∷ []) (At 0 (outermost to_nothing (I32 ∷ []) ∷ []) []) → ⊥
 stuck_at_unknown d =
-    let holds = (the_demand _ 0 (outermost to_nothing (I32 ∷ [])) [] [] forgets refl d).row in
+    let holds = (the_demand cx _ 0 (outermost to_nothing (I32 ∷ [])) [] [] forgets refl d).row in
     not_known holds.0 holds.1
 
 -- an `if` without `else` that has results and no parameters
 stuck_at_if : IsNotStuck cx (operators cx (an_if (Val I32) ∷ i32_const ∷ end ∷ end ∷ [])) (At 0 (outermost to_nothing (I32 ∷ []) ∷ []) []) → ⊥
-stuck_at_if d = (the_demand _ 0 (outermost to_nothing (I32 ∷ [])) [] [] (operator cx (an_if (Val I32))) refl d).no_else _ refl refl refl
+stuck_at_if d = (the_demand cx _ 0 (outermost to_nothing (I32 ∷ [])) [] [] (operator cx (an_if (Val I32))) refl d).no_else _ refl refl refl
 
 -- a clause that names a label inside its own frame
-stuck_at_clause : IsNotStuck cx (operators cx (try_table (Val I32) ∷ [])) (initial_machine to_nothing) → ⊥
-stuck_at_clause d = (the_demand _ 0 (outermost to_nothing []) [] [] (operator cx (try_table (Val I32))) refl d).clauses 0 _ refl
+stuck_at_clause : IsNotStuck cx (operators cx (try_catching (Val I32) ∷ [])) (initial_machine to_nothing) → ⊥
+stuck_at_clause d = (the_demand cx _ 0 (outermost to_nothing []) [] [] (operator cx (try_catching (Val I32))) refl d).clauses 0 _ refl
 
 -- a run that leaves a block before it has set a local, and reads the local behind the block
 abbrev leaving : List Operator
@@ -517,7 +442,7 @@ leaves = (
 
 stuck_behind_block : IsNotStuck cx leaving (At 5 (outermost to_nothing [] ∷ []) []) → ⊥
 stuck_behind_block d =
-    let r = (the_demand leaving 5 (outermost to_nothing []) [] [] (operator cx gets_local) refl d).row.1 in
+    let r = (the_demand cx leaving 5 (outermost to_nothing []) [] [] (operator cx gets_local) refl d).row.1 in
     absurd cc
 
 -- ---- what isn't type safe
@@ -572,9 +497,9 @@ abbrev giving_i64 : List ValType → Label
 giving_i64 own = label 0 Block (Val I64) own
 
 -- what is pushed
-pushes_below : Step tilted_context (operator tilted_context (Numeric (I64Const (pos 0))) ∷ []) (At 0 (giving_i64 [] ∷ []) []) (At 1 (giving_i64 (I32 ∷ []) ∷ []) [])
+pushes_below : Step tilted_context (operator tilted_context (i64_const) ∷ []) (At 0 (giving_i64 [] ∷ []) []) (At 1 (giving_i64 (I32 ∷ []) ∷ []) [])
 pushes_below = (
-  operator tilted_context (Numeric (I64Const (pos 0))),
+  operator tilted_context (i64_const),
   refl,
   record { row = holding _ refl refl; targets = λ j t e. absurd cc; clauses = λ j c e. absurd cc; no_else = λ h e. absurd cc },
   by_going_on (I64 ∷ []) (I32 ∷ []) refl refl refl (refl, tt) refl,

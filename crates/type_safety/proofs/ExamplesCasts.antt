@@ -1,82 +1,42 @@
 -- Runs of small bodies with branches by a cast and operators that look below an abstract type: what a
 -- machine may do there, with which types, and where it is stuck.
-use Rattle.std.proofs.Common.{◌≡◌, ℕ, ◌+◌, zero, suc, pos, true, false, List, [], ◌∷◌, drop, Some, None, refl, sym, subst, slice_get}
+use Rattle.std.proofs.Common.{◌≡◌, ℕ, ◌+◌, true, false, List, [], ◌∷◌, drop, refl, sym, subst}
 use Rattle.validate_resources.specs.Lists.{Declared, context_of}
 use Rattle.validate_resources.specs.Lawful.{lawful_lists}
+use Rattle.validate_resources.specs.Named.{nothing_declared}
 use Rattle.validate_types.specs.Features.{multi_value, reference_types, gc, shared_everything_threads}
 use Rattle.validate_types.specs.Refs.{reference}
-use Rattle.validate_types.specs.declared.heap.AbstractHeapType.{AbstractHeapType}
 use Rattle.validate_types.specs.declared.heap.AbstractHeapType.TheVariants.{Any, Eq as EqHeap, I31, Extern}
-use Rattle.validate_types.specs.declared.heap.HeapType.{HeapType}
-use Rattle.validate_types.specs.declared.heap.HeapType.TheVariants.{Abstract, Concrete}
-use Rattle.validate_types.specs.declared.heap.UnpackedIndex.TheVariants.{Id}
-use Rattle.validate_types.specs.declared.types.CompositeInnerType.{CompositeInnerType}
-use Rattle.validate_types.specs.declared.types.CompositeInnerType.TheVariants.{Func as FuncInner, Struct as StructInner}
-use Rattle.validate_visit.specs.declared.op.ControlOp.TheVariants.{Block as BlockOp, End, Drop}
-use Rattle.validate_visit.specs.declared.op.NumericOp.TheVariants.{I32Const}
+use Rattle.validate_types.specs.declared.types.CompositeInnerType.TheVariants.{Struct as StructInner}
 use Rattle.validate_visit.specs.declared.op.Op.{Op}
-use Rattle.validate_visit.specs.declared.op.Op.TheVariants.{Control, Numeric, Reference}
-use Rattle.validate_visit.specs.declared.op.ReferenceOp.TheVariants.{RefNull, RefEq, BrOnCast, BrOnCastFail, AnyConvertExtern}
+use Rattle.validate_visit.specs.declared.op.Op.TheVariants.{Reference}
+use Rattle.validate_visit.specs.declared.op.ReferenceOp.TheVariants.{RefEq, BrOnCast, BrOnCastFail, AnyConvertExtern}
 use Rattle.validation_rules.specs.Casts.{with_last}
-use Rattle.validation_rules.specs.Context.{SubType, ValType, I32, I64, Ref, BlockType, FuncType, Context}
-use Rattle.validation_rules.specs.Rows.{Block, Ends, Target, Operator}
+use Rattle.validation_rules.specs.Context.{SubType, ValType, I32, I64, BlockType, FuncType, Context}
+use Rattle.validation_rules.specs.Rows.{Ends, Target, Operator}
 use Rattle.validation_rules.specs.Operators.{operators, operator, plain_row, row_operator}
 use Rattle.validation_rules.proofs.Steps.{some_injective}
+use Rattle.validation_rules.proofs.Writing.{null, no_null, abstract, shared, concrete, a_type, of_functions}
+use Rattle.validation_rules.proofs.Writing.{to_nothing, within, block, end, drops, i32_const, ref_null}
 use Rattle.type_safety.specs.Machine.{Label, At, LabelAccepts, Demand, configuration, IsNotStuck, Step}
 use Rattle.type_safety.proofs.Outcomes.{holding, by_going_on, by_jumping}
 use Rattle.type_safety.specs.Theorem.{IsTypeSafe}
 use Rattle.type_safety.proofs.Bodies.{body_safety}
-
-abbrev abstract : AbstractHeapType → HeapType
-abstract a = Abstract false a
-
-abbrev shared : AbstractHeapType → HeapType
-shared a = Abstract true a
-
-abbrev concrete : ℕ → HeapType
-concrete i = Concrete (Id (record { index = i }))
-
--- with null, and without
-abbrev null : HeapType → ValType
-null h = Ref (reference true h)
-
-abbrev no_null : HeapType → ValType
-no_null h = Ref (reference false h)
+use Rattle.type_safety.proofs.Writing.{block_label, outermost, only}
 
 -- ---- a function from nothing to nothing, a type of an i32 and any reference, and a struct
 
-abbrev a_type : CompositeInnerType → SubType
-a_type inner = record { is_final = true; supertype_idx = None; composite_type = record { inner = inner; shared = false; descriptor_idx = None; describes_idx = None } }
-
 abbrev gives : List ValType → SubType
-gives results = a_type (FuncInner (record { params = []; results = results }))
+gives results = a_type false (of_functions [] results)
 
 abbrev declared : Declared
-declared = record { types = gives [] ∷ gives (I32 ∷ null (abstract Any) ∷ []) ∷ a_type (StructInner []) ∷ []; functions = []; tables = []; memories = []; globals = []; tags = []; elements = []; data_count = None }
+declared = record nothing_declared { types = gives [] ∷ gives (I32 ∷ null (abstract Any) ∷ []) ∷ a_type false (StructInner []) ∷ [] }
 
 abbrev cx : Context
-cx = record { of_module = context_of declared; features = record { 0 = multi_value + reference_types + gc + shared_everything_threads }; shared = false; locals = []; set_at_entry = [] }
-
-abbrev to_nothing : BlockType
-to_nothing = FuncType 0
+cx = within declared (multi_value + reference_types + gc + shared_everything_threads) false
 
 abbrev to_i32_and_any : BlockType
 to_i32_and_any = FuncType 1
-
-abbrev block : BlockType → Op
-block bt = Control (BlockOp bt)
-
-abbrev end : Op
-end = Control End
-
-abbrev drops : Op
-drops = Control Drop
-
-abbrev i32_const : Op
-i32_const = Numeric (I32Const (pos 0))
-
-abbrev ref_null : HeapType → Op
-ref_null h = Reference (RefNull h)
 
 -- from any reference to an i31, both perhaps null
 abbrev br_on_cast : Op
@@ -85,19 +45,11 @@ br_on_cast = Reference (BrOnCast (record { relative_depth = 0; from_ref_type = r
 abbrev br_on_cast_fail : Op
 br_on_cast_fail = Reference (BrOnCastFail (record { relative_depth = 0; from_ref_type = reference true (abstract Any); to_ref_type = reference true (abstract I31) }))
 
-abbrev label : ℕ → BlockType → List ValType → Label
-label began ty own = record { began = began; head = record { kind = Block; block_type = ty }; operands = own }
-
-abbrev outermost : List ValType → List Label
-outermost own = label 0 to_nothing own ∷ []
+abbrev in_body : List ValType → List Label
+in_body own = outermost to_nothing own ∷ []
 
 abbrev in_block : List ValType → List Label
-in_block own = label 0 to_i32_and_any own ∷ outermost []
-
--- what holds of the only one of a list
-only : {A : Type 0} (P : A → Type 0) (x : A) → P x → (j : ℕ) (y : A) → slice_get (x ∷ []) j ≡ Some y → P y
-only P x p zero y e = subst P (some_injective x y e) p
-only P x p (suc j) y e = absurd cc
+in_block own = block_label 0 to_i32_and_any own ∷ in_body []
 
 -- ---- out of a block of an i32 and any reference
 
@@ -118,7 +70,7 @@ carrying t = record { depth = 0; carried = with_last t }
 abbrev Accepts : Target → Type 0
 Accepts t = LabelAccepts cx (drop t.depth (in_block (null (abstract Any) ∷ I32 ∷ []))) (t.carried (I32 ∷ null (abstract Any) ∷ []))
 
-at_cast : Demand cx casting (configuration 3 (label 0 to_i32_and_any (null (abstract Any) ∷ I32 ∷ [])) (outermost []) [] (operator cx br_on_cast))
+at_cast : Demand cx casting (configuration 3 (block_label 0 to_i32_and_any (null (abstract Any) ∷ I32 ∷ [])) (in_body []) [] (operator cx br_on_cast))
 at_cast = record {
   row = holding _ refl refl;
   targets = only (λ t. Accepts t) (carrying (null (abstract I31))) (refl, (refl, tt));
@@ -127,21 +79,21 @@ at_cast = record {
 }
 
 -- it is an i31, or null: behind the block, with it
-leaves : Step cx casting (At 3 (in_block (null (abstract Any) ∷ I32 ∷ [])) []) (At 5 (outermost (null (abstract I31) ∷ I32 ∷ [])) [])
+leaves : Step cx casting (At 3 (in_block (null (abstract Any) ∷ I32 ∷ [])) []) (At 5 (in_body (null (abstract I31) ∷ I32 ∷ [])) [])
 leaves = (
   operator cx br_on_cast,
   refl,
   at_cast,
-  by_jumping 0 _ refl refl (record { label = label 0 to_i32_and_any (null (abstract Any) ∷ I32 ∷ []); outer = outermost []; is = refl; types = I32 ∷ null (abstract I31) ∷ []; below = (refl, (refl, tt)); arrives = (4, (Ends, (0, refl), refl), refl) }),
+  by_jumping 0 _ refl refl (record { label = block_label 0 to_i32_and_any (null (abstract Any) ∷ I32 ∷ []); outer = in_body []; is = refl; types = I32 ∷ null (abstract I31) ∷ []; below = (refl, (refl, tt)); arrives = (4, (Ends, (0, refl), refl), refl) }),
 )
 
 -- with any type below it
-leaves_below : Step cx casting (At 3 (in_block (null (abstract Any) ∷ I32 ∷ [])) []) (At 5 (outermost (no_null (abstract I31) ∷ I32 ∷ [])) [])
+leaves_below : Step cx casting (At 3 (in_block (null (abstract Any) ∷ I32 ∷ [])) []) (At 5 (in_body (no_null (abstract I31) ∷ I32 ∷ [])) [])
 leaves_below = (
   operator cx br_on_cast,
   refl,
   at_cast,
-  by_jumping 0 _ refl refl (record { label = label 0 to_i32_and_any (null (abstract Any) ∷ I32 ∷ []); outer = outermost []; is = refl; types = I32 ∷ no_null (abstract I31) ∷ []; below = (refl, (refl, tt)); arrives = (4, (Ends, (0, refl), refl), refl) }),
+  by_jumping 0 _ refl refl (record { label = block_label 0 to_i32_and_any (null (abstract Any) ∷ I32 ∷ []); outer = in_body []; is = refl; types = I32 ∷ no_null (abstract I31) ∷ []; below = (refl, (refl, tt)); arrives = (4, (Ends, (0, refl), refl), refl) }),
 )
 
 -- it isn't: on, and it isn't null
@@ -161,7 +113,7 @@ stays_below = (
   by_going_on (I32 ∷ no_null (abstract Any) ∷ []) (I32 ∷ no_null (concrete 2) ∷ []) refl refl refl (refl, (refl, tt)) refl,
 )
 
-at_fail : Demand cx failing (configuration 3 (label 0 to_i32_and_any (null (abstract Any) ∷ I32 ∷ [])) (outermost []) [] (operator cx br_on_cast_fail))
+at_fail : Demand cx failing (configuration 3 (block_label 0 to_i32_and_any (null (abstract Any) ∷ I32 ∷ [])) (in_body []) [] (operator cx br_on_cast_fail))
 at_fail = record {
   row = holding _ refl refl;
   targets = only (λ t. Accepts t) (carrying (no_null (abstract Any))) (refl, (refl, tt));
@@ -170,12 +122,12 @@ at_fail = record {
 }
 
 -- the cast fails: behind the block, with what isn't null
-fails : Step cx failing (At 3 (in_block (null (abstract Any) ∷ I32 ∷ [])) []) (At 5 (outermost (no_null (concrete 2) ∷ I32 ∷ [])) [])
+fails : Step cx failing (At 3 (in_block (null (abstract Any) ∷ I32 ∷ [])) []) (At 5 (in_body (no_null (concrete 2) ∷ I32 ∷ [])) [])
 fails = (
   operator cx br_on_cast_fail,
   refl,
   at_fail,
-  by_jumping 0 _ refl refl (record { label = label 0 to_i32_and_any (null (abstract Any) ∷ I32 ∷ []); outer = outermost []; is = refl; types = I32 ∷ no_null (concrete 2) ∷ []; below = (refl, (refl, tt)); arrives = (4, (Ends, (0, refl), refl), refl) }),
+  by_jumping 0 _ refl refl (record { label = block_label 0 to_i32_and_any (null (abstract Any) ∷ I32 ∷ []); outer = in_body []; is = refl; types = I32 ∷ no_null (concrete 2) ∷ []; below = (refl, (refl, tt)); arrives = (4, (Ends, (0, refl), refl), refl) }),
 )
 
 -- it doesn't: on, with an i31 or null
@@ -191,7 +143,7 @@ passes = (
 stuck_at_number : IsNotStuck cx casting (At 3 (in_block (I32 ∷ I32 ∷ [])) []) → ⊥
 stuck_at_number d =
     let e : operator cx br_on_cast ≡ d.0 = some_injective _ _ d.1 in
-    let d' = subst (λ op. Demand cx casting (configuration 3 (label 0 to_i32_and_any (I32 ∷ I32 ∷ [])) (outermost []) [] op)) (sym e) d.2 in
+    let d' = subst (λ op. Demand cx casting (configuration 3 (block_label 0 to_i32_and_any (I32 ∷ I32 ∷ [])) (in_body []) [] op)) (sym e) d.2 in
     let r = d'.row.1 in
     absurd cc
 
@@ -199,7 +151,7 @@ stuck_at_number d =
 stuck_at_extern : IsNotStuck cx casting (At 3 (in_block (null (abstract Extern) ∷ I32 ∷ [])) []) → ⊥
 stuck_at_extern d =
     let e : operator cx br_on_cast ≡ d.0 = some_injective _ _ d.1 in
-    let d' = subst (λ op. Demand cx casting (configuration 3 (label 0 to_i32_and_any (null (abstract Extern) ∷ I32 ∷ [])) (outermost []) [] op)) (sym e) d.2 in
+    let d' = subst (λ op. Demand cx casting (configuration 3 (block_label 0 to_i32_and_any (null (abstract Extern) ∷ I32 ∷ [])) (in_body []) [] op)) (sym e) d.2 in
     let r = d'.row.1 in
     absurd cc
 
@@ -207,7 +159,7 @@ stuck_at_extern d =
 stuck_over_other : IsNotStuck cx failing (At 3 (in_block (null (abstract Any) ∷ I64 ∷ [])) []) → ⊥
 stuck_over_other d =
     let e : operator cx br_on_cast_fail ≡ d.0 = some_injective _ _ d.1 in
-    let d' = subst (λ op. Demand cx failing (configuration 3 (label 0 to_i32_and_any (null (abstract Any) ∷ I64 ∷ [])) (outermost []) [] op)) (sym e) d.2 in
+    let d' = subst (λ op. Demand cx failing (configuration 3 (block_label 0 to_i32_and_any (null (abstract Any) ∷ I64 ∷ [])) (in_body []) [] op)) (sym e) d.2 in
     let r = d'.row.1 in
     absurd cc
 
@@ -225,7 +177,7 @@ wrong = row_operator (record (plain_row (I32 ∷ null (abstract Any) ∷ []) (I3
 stuck_at_wrong : IsNotStuck cx (wrong ∷ []) (At 0 (in_block (null (abstract Any) ∷ I32 ∷ [])) []) → ⊥
 stuck_at_wrong d =
     let e : wrong ≡ d.0 = some_injective _ _ d.1 in
-    let d' = subst (λ op. Demand cx (wrong ∷ []) (configuration 0 (label 0 to_i32_and_any (null (abstract Any) ∷ I32 ∷ [])) (outermost []) [] op)) (sym e) d.2 in
+    let d' = subst (λ op. Demand cx (wrong ∷ []) (configuration 0 (block_label 0 to_i32_and_any (null (abstract Any) ∷ I32 ∷ [])) (in_body []) [] op)) (sym e) d.2 in
     let a = (d'.targets 0 (carrying (null (abstract Extern))) refl).1.0 in
     absurd cc
 
@@ -237,7 +189,7 @@ looking_ops = ref_null (abstract EqHeap) ∷ ref_null (abstract I31) ∷ Referen
 abbrev looking : List Operator
 looking = operators cx looking_ops
 
-compares : Step cx looking (At 2 (outermost (no_null (concrete 2) ∷ null (abstract EqHeap) ∷ [])) []) (At 3 (outermost (I32 ∷ [])) [])
+compares : Step cx looking (At 2 (in_body (no_null (concrete 2) ∷ null (abstract EqHeap) ∷ [])) []) (At 3 (in_body (I32 ∷ [])) [])
 compares = (
   operator cx (Reference RefEq),
   refl,
@@ -246,15 +198,15 @@ compares = (
 )
 
 -- of different sharedness they can't be
-stuck_at_shared : IsNotStuck cx looking (At 2 (outermost (null (shared EqHeap) ∷ null (abstract EqHeap) ∷ [])) []) → ⊥
+stuck_at_shared : IsNotStuck cx looking (At 2 (in_body (null (shared EqHeap) ∷ null (abstract EqHeap) ∷ [])) []) → ⊥
 stuck_at_shared d =
     let e : operator cx (Reference RefEq) ≡ d.0 = some_injective _ _ d.1 in
-    let d' = subst (λ op. Demand cx looking (configuration 2 (label 0 to_nothing (null (shared EqHeap) ∷ null (abstract EqHeap) ∷ [])) [] [] op)) (sym e) d.2 in
+    let d' = subst (λ op. Demand cx looking (configuration 2 (block_label 0 to_nothing (null (shared EqHeap) ∷ null (abstract EqHeap) ∷ [])) [] [] op)) (sym e) d.2 in
     let r = d'.row.1 in
     absurd cc
 
 -- without null and shared it stays so
-converts : Step cx looking (At 5 (outermost (no_null (shared Extern) ∷ [])) []) (At 6 (outermost (no_null (shared Any) ∷ [])) [])
+converts : Step cx looking (At 5 (in_body (no_null (shared Extern) ∷ [])) []) (At 6 (in_body (no_null (shared Any) ∷ [])) [])
 converts = (
   operator cx (Reference AnyConvertExtern),
   refl,

@@ -1,83 +1,56 @@
 -- Runs of small bodies with exact references and descriptors: what a machine may do there, with which types, and
 -- where it is stuck.
-use Rattle.std.proofs.Common.{◌≡◌, ℕ, zero, suc, true, false, List, [], ◌∷◌, drop, Option, Some, None, refl, sym, subst, slice_get}
+use Rattle.std.proofs.Common.{◌≡◌, ℕ, true, false, List, [], ◌∷◌, drop, Option, Some, None, refl, sym, subst}
 use Rattle.validate_resources.specs.Lists.{Declared, context_of}
 use Rattle.validate_resources.specs.Lawful.{lawful_lists}
+use Rattle.validate_resources.specs.Named.{nothing_declared}
 use Rattle.validate_types.specs.Refs.{reference, non_null_reference, is_exact}
-use Rattle.validate_types.specs.declared.heap.AbstractHeapType.{AbstractHeapType}
 use Rattle.validate_types.specs.declared.heap.AbstractHeapType.TheVariants.{Any, None as NoneHeap}
-use Rattle.validate_types.specs.declared.heap.HeapType.{HeapType}
-use Rattle.validate_types.specs.declared.heap.HeapType.TheVariants.{Abstract, Concrete, Exact}
+use Rattle.validate_types.specs.declared.heap.HeapType.TheVariants.{Concrete, Exact}
 use Rattle.validate_types.specs.declared.heap.UnpackedIndex.{UnpackedIndex}
-use Rattle.validate_types.specs.declared.heap.UnpackedIndex.TheVariants.{Module, Id}
+use Rattle.validate_types.specs.declared.heap.UnpackedIndex.TheVariants.{Module}
 use Rattle.validate_types.specs.declared.types.CompositeInnerType.{CompositeInnerType}
-use Rattle.validate_types.specs.declared.types.CompositeInnerType.TheVariants.{Func as FuncInner, Struct as StructInner}
-use Rattle.validate_visit.specs.declared.op.ControlOp.TheVariants.{Block as BlockOp, End, Drop}
+use Rattle.validate_types.specs.declared.types.CompositeInnerType.TheVariants.{Struct as StructInner}
 use Rattle.validate_visit.specs.declared.op.Op.{Op}
-use Rattle.validate_visit.specs.declared.op.Op.TheVariants.{Control, Reference, Struct}
-use Rattle.validate_visit.specs.declared.op.ReferenceOp.TheVariants.{RefNull, RefGetDesc, RefCastDescEqNonNull, BrOnCastDescEq}
+use Rattle.validate_visit.specs.declared.op.Op.TheVariants.{Reference, Struct}
+use Rattle.validate_visit.specs.declared.op.ReferenceOp.TheVariants.{RefGetDesc, RefCastDescEqNonNull, BrOnCastDescEq}
 use Rattle.validate_visit.specs.declared.op.StructOp.TheVariants.{StructNewDefault, StructNewDefaultDesc}
 use Rattle.validation_rules.specs.Casts.{with_last}
 use Rattle.validation_rules.specs.Context.{SubType, ValType, Ref, BlockType, FuncType, Context}
 use Rattle.validation_rules.specs.Descriptors.{without_last}
 use Rattle.validation_rules.specs.Exact.{declared_heap}
 use Rattle.validation_rules.specs.Fits.{MaybeType, Known}
-use Rattle.validation_rules.specs.Rows.{Block, Ends, Target, Operator}
+use Rattle.validation_rules.specs.Rows.{Ends, Target, Operator}
 use Rattle.validation_rules.specs.Operators.{operators, operator, looking_row, row_operator}
 use Rattle.validation_rules.proofs.Steps.{some_injective}
+use Rattle.validation_rules.proofs.Writing.{null, no_null, abstract, id, concrete, exact, of_functions}
+use Rattle.validation_rules.proofs.Writing.{to_nothing, every, within, block, end, drops, ref_null}
 use Rattle.type_safety.specs.Machine.{Label, At, LabelAccepts, Demand, configuration, IsNotStuck, Step}
 use Rattle.type_safety.proofs.Outcomes.{holding, by_going_on, by_jumping}
 use Rattle.type_safety.specs.Theorem.{IsTypeSafe}
 use Rattle.type_safety.proofs.Bodies.{body_safety}
-
-abbrev abstract : AbstractHeapType → HeapType
-abstract a = Abstract false a
-
-abbrev id : ℕ → UnpackedIndex
-id i = Id (record { index = i })
-
-abbrev concrete : ℕ → HeapType
-concrete i = Concrete (id i)
-
-abbrev exact : ℕ → HeapType
-exact i = Exact (id i)
-
--- with null, and without
-abbrev null : HeapType → ValType
-null h = Ref (reference true h)
-
-abbrev no_null : HeapType → ValType
-no_null h = Ref (reference false h)
+use Rattle.type_safety.proofs.Writing.{block_label, outermost, only}
 
 -- ---- a function from nothing to nothing, a struct 1 with descriptors of type 2, and a reference to 1
 
-abbrev a_type : CompositeInnerType → Option UnpackedIndex → Option UnpackedIndex → SubType
-a_type inner descriptor described = record {
+abbrev described_type : CompositeInnerType → Option UnpackedIndex → Option UnpackedIndex → SubType
+described_type inner descriptor described = record {
   is_final = true;
   supertype_idx = None;
   composite_type = record { inner = inner; shared = false; descriptor_idx = descriptor; describes_idx = described };
 }
 
 abbrev gives : List ValType → SubType
-gives results = a_type (FuncInner (record { params = []; results = results })) None None
+gives results = described_type (of_functions [] results) None None
 
 abbrev declared : Declared
-declared = record { types = gives [] ∷ a_type (StructInner []) (Some (id 2)) None ∷ a_type (StructInner []) None (Some (id 1)) ∷ gives (null (concrete 1) ∷ []) ∷ []; functions = []; tables = []; memories = []; globals = []; tags = []; elements = []; data_count = None }
+declared = record nothing_declared { types = gives [] ∷ described_type (StructInner []) (Some (id 2)) None ∷ described_type (StructInner []) None (Some (id 1)) ∷ gives (null (concrete 1) ∷ []) ∷ [] }
 
 abbrev cx : Context
-cx = record { of_module = context_of declared; features = record { 0 = 2097151 }; shared = false; locals = []; set_at_entry = [] }
-
-abbrev to_nothing : BlockType
-to_nothing = FuncType 0
+cx = within declared every false
 
 abbrev to_described : BlockType
 to_described = FuncType 3
-
-abbrev end : Op
-end = Control End
-
-abbrev drops : Op
-drops = Control Drop
 
 abbrev get_desc : Op
 get_desc = Reference (RefGetDesc 1)
@@ -91,14 +64,11 @@ new_descriptor = Struct (StructNewDefault 2)
 abbrev new_described : Op
 new_described = Struct (StructNewDefaultDesc 1)
 
-abbrev label : ℕ → BlockType → List ValType → Label
-label began ty own = record { began = began; head = record { kind = Block; block_type = ty }; operands = own }
-
-abbrev outermost : List ValType → List Label
-outermost own = label 0 to_nothing own ∷ []
+abbrev in_body : List ValType → List Label
+in_body own = outermost to_nothing own ∷ []
 
 abbrev in_block : List ValType → List Label
-in_block own = label 0 to_described own ∷ outermost []
+in_block own = block_label 0 to_described own ∷ in_body []
 
 -- ---- a descriptor is made, and a struct with it; its descriptor is read, and the struct cast by it
 
@@ -109,7 +79,7 @@ abbrev reading : List Operator
 reading = operators cx reading_ops
 
 -- of an exact reference an exact descriptor
-reads_exact : Step cx reading (At 2 (outermost (no_null (exact 1) ∷ [])) []) (At 3 (outermost (no_null (exact 2) ∷ [])) [])
+reads_exact : Step cx reading (At 2 (in_body (no_null (exact 1) ∷ [])) []) (At 3 (in_body (no_null (exact 2) ∷ [])) [])
 reads_exact = (
   operator cx get_desc,
   refl,
@@ -118,7 +88,7 @@ reads_exact = (
 )
 
 -- and of what lies below it: a reference to nothing
-reads_of_none : Step cx reading (At 2 (outermost (no_null (abstract NoneHeap) ∷ [])) []) (At 3 (outermost (no_null (exact 2) ∷ [])) [])
+reads_of_none : Step cx reading (At 2 (in_body (no_null (abstract NoneHeap) ∷ [])) []) (At 3 (in_body (no_null (exact 2) ∷ [])) [])
 reads_of_none = (
   operator cx get_desc,
   refl,
@@ -127,7 +97,7 @@ reads_of_none = (
 )
 
 -- of another reference a descriptor that may be exact
-reads_below : Step cx reading (At 2 (outermost (null (concrete 1) ∷ [])) []) (At 3 (outermost (no_null (exact 2) ∷ [])) [])
+reads_below : Step cx reading (At 2 (in_body (null (concrete 1) ∷ [])) []) (At 3 (in_body (no_null (exact 2) ∷ [])) [])
 reads_below = (
   operator cx get_desc,
   refl,
@@ -136,15 +106,15 @@ reads_below = (
 )
 
 -- a struct is made with an exact descriptor alone
-stuck_at_descriptor : IsNotStuck cx reading (At 3 (outermost (no_null (concrete 2) ∷ [])) []) → ⊥
+stuck_at_descriptor : IsNotStuck cx reading (At 3 (in_body (no_null (concrete 2) ∷ [])) []) → ⊥
 stuck_at_descriptor d =
     let e : operator cx new_described ≡ d.0 = some_injective _ _ d.1 in
-    let d' = subst (λ op. Demand cx reading (configuration 3 (label 0 to_nothing (no_null (concrete 2) ∷ [])) [] [] op)) (sym e) d.2 in
+    let d' = subst (λ op. Demand cx reading (configuration 3 (block_label 0 to_nothing (no_null (concrete 2) ∷ [])) [] [] op)) (sym e) d.2 in
     let r = d'.row.1 in
     absurd cc
 
 -- and cast to an exact type by such a one, above it
-casts : Step cx reading (At 5 (outermost (null (exact 2) ∷ no_null (exact 1) ∷ [])) []) (At 6 (outermost (no_null (exact 1) ∷ [])) [])
+casts : Step cx reading (At 5 (in_body (null (exact 2) ∷ no_null (exact 1) ∷ [])) []) (At 6 (in_body (no_null (exact 1) ∷ [])) [])
 casts = (
   operator cx cast_desc,
   refl,
@@ -152,10 +122,10 @@ casts = (
   by_going_on (no_null (exact 1) ∷ []) (no_null (exact 1) ∷ []) refl refl refl (refl, tt) refl,
 )
 
-stuck_at_cast : IsNotStuck cx reading (At 5 (outermost (null (concrete 2) ∷ no_null (exact 1) ∷ [])) []) → ⊥
+stuck_at_cast : IsNotStuck cx reading (At 5 (in_body (null (concrete 2) ∷ no_null (exact 1) ∷ [])) []) → ⊥
 stuck_at_cast d =
     let e : operator cx cast_desc ≡ d.0 = some_injective _ _ d.1 in
-    let d' = subst (λ op. Demand cx reading (configuration 5 (label 0 to_nothing (null (concrete 2) ∷ no_null (exact 1) ∷ [])) [] [] op)) (sym e) d.2 in
+    let d' = subst (λ op. Demand cx reading (configuration 5 (block_label 0 to_nothing (null (concrete 2) ∷ no_null (exact 1) ∷ [])) [] [] op)) (sym e) d.2 in
     let r = d'.row.1 in
     absurd cc
 
@@ -168,15 +138,10 @@ abbrev branch : Op
 branch = Reference (BrOnCastDescEq (record { relative_depth = 0; from_ref_type = reference true (abstract Any); to_ref_type = reference true (Exact (Module 1)) }))
 
 abbrev branching_ops : List Op
-branching_ops = Control (BlockOp to_described) ∷ Reference (RefNull (abstract Any)) ∷ new_descriptor ∷ branch ∷ drops ∷ Reference (RefNull (Concrete (Module 1))) ∷ end ∷ drops ∷ end ∷ []
+branching_ops = block to_described ∷ ref_null (abstract Any) ∷ new_descriptor ∷ branch ∷ drops ∷ ref_null (Concrete (Module 1)) ∷ end ∷ drops ∷ end ∷ []
 
 abbrev branching : List Operator
 branching = operators cx branching_ops
-
--- what holds of the only one of a list
-only : {A : Type 0} (P : A → Type 0) (x : A) → P x → (j : ℕ) (y : A) → slice_get (x ∷ []) j ≡ Some y → P y
-only P x p zero y e = subst P (some_injective x y e) p
-only P x p (suc j) y e = absurd cc
 
 -- what is carried in the place of the operand that is cast, which lies under the descriptor
 abbrev carrying : Target
@@ -185,7 +150,7 @@ carrying = record { depth = 0; carried = λ found. with_last (null (exact 1)) (w
 abbrev Accepts : Target → Type 0
 Accepts t = LabelAccepts cx (drop t.depth (in_block (no_null (exact 2) ∷ null (abstract Any) ∷ []))) (t.carried (null (abstract Any) ∷ no_null (exact 2) ∷ []))
 
-at_branch : Demand cx branching (configuration 3 (label 0 to_described (no_null (exact 2) ∷ null (abstract Any) ∷ [])) (outermost []) [] (operator cx branch))
+at_branch : Demand cx branching (configuration 3 (block_label 0 to_described (no_null (exact 2) ∷ null (abstract Any) ∷ [])) (in_body []) [] (operator cx branch))
 at_branch = record {
   row = holding _ refl refl;
   targets = only (λ t. Accepts t) carrying (refl, tt);
@@ -194,12 +159,12 @@ at_branch = record {
 }
 
 -- behind the block, with an exact reference or with one to nothing
-leaves : Step cx branching (At 3 (in_block (no_null (exact 2) ∷ null (abstract Any) ∷ [])) []) (At 7 (outermost (no_null (exact 1) ∷ [])) [])
+leaves : Step cx branching (At 3 (in_block (no_null (exact 2) ∷ null (abstract Any) ∷ [])) []) (At 7 (in_body (no_null (exact 1) ∷ [])) [])
 leaves = (
   operator cx branch,
   refl,
   at_branch,
-  by_jumping 0 _ refl refl (record { label = label 0 to_described (no_null (exact 2) ∷ null (abstract Any) ∷ []); outer = outermost []; is = refl; types = no_null (exact 1) ∷ []; below = (refl, tt); arrives = (6, (Ends, (0, refl), refl), refl) }),
+  by_jumping 0 _ refl refl (record { label = block_label 0 to_described (no_null (exact 2) ∷ null (abstract Any) ∷ []); outer = in_body []; is = refl; types = no_null (exact 1) ∷ []; below = (refl, tt); arrives = (6, (Ends, (0, refl), refl), refl) }),
 )
 
 -- on, without the descriptor, and it isn't null
@@ -214,7 +179,7 @@ stays = (
 stuck_without_descriptor : IsNotStuck cx branching (At 3 (in_block (null (abstract Any) ∷ [])) []) → ⊥
 stuck_without_descriptor d =
     let e : operator cx branch ≡ d.0 = some_injective _ _ d.1 in
-    let d' = subst (λ op. Demand cx branching (configuration 3 (label 0 to_described (null (abstract Any) ∷ [])) (outermost []) [] op)) (sym e) d.2 in
+    let d' = subst (λ op. Demand cx branching (configuration 3 (block_label 0 to_described (null (abstract Any) ∷ [])) (in_body []) [] op)) (sym e) d.2 in
     let r = d'.row.1 in
     absurd cc
 
@@ -234,7 +199,7 @@ abbrev wrong_code : List Operator
 wrong_code = wrong ∷ operator cx new_described ∷ []
 
 -- where the rules see an exact reference, the machine may have one to nothing
-reads_wrong : Step cx wrong_code (At 0 (outermost (no_null (abstract NoneHeap) ∷ [])) []) (At 1 (outermost (no_null (concrete 2) ∷ [])) [])
+reads_wrong : Step cx wrong_code (At 0 (in_body (no_null (abstract NoneHeap) ∷ [])) []) (At 1 (in_body (no_null (concrete 2) ∷ [])) [])
 reads_wrong = (
   wrong,
   refl,
@@ -242,9 +207,9 @@ reads_wrong = (
   by_going_on (no_null (concrete 2) ∷ []) (no_null (concrete 2) ∷ []) refl refl refl (refl, tt) refl,
 )
 
-stuck_behind_wrong : IsNotStuck cx wrong_code (At 1 (outermost (no_null (concrete 2) ∷ [])) []) → ⊥
+stuck_behind_wrong : IsNotStuck cx wrong_code (At 1 (in_body (no_null (concrete 2) ∷ [])) []) → ⊥
 stuck_behind_wrong d =
     let e : operator cx new_described ≡ d.0 = some_injective _ _ d.1 in
-    let d' = subst (λ op. Demand cx wrong_code (configuration 1 (label 0 to_nothing (no_null (concrete 2) ∷ [])) [] [] op)) (sym e) d.2 in
+    let d' = subst (λ op. Demand cx wrong_code (configuration 1 (block_label 0 to_nothing (no_null (concrete 2) ∷ [])) [] [] op)) (sym e) d.2 in
     let r = d'.row.1 in
     absurd cc

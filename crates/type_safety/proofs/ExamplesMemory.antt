@@ -1,55 +1,45 @@
 -- Runs of small bodies that access memories, one of 32 bits and one of 64, and arrays.
-use Rattle.std.proofs.Common.{◌≡◌, ◌+◌, ℕ, pos, true, false, List, [], ◌∷◌, None, refl, sym, subst}
+use Rattle.std.proofs.Common.{◌≡◌, ◌+◌, ℕ, true, false, List, [], ◌∷◌, None, refl, sym, subst}
 use Rattle.validate_resources.specs.Lists.{Declared, context_of}
 use Rattle.validate_resources.specs.Lawful.{lawful_lists}
+use Rattle.validate_resources.specs.Named.{nothing_declared}
 use Rattle.validate_types.specs.Features.{bulk_memory_opt, reference_types, gc, multibyte_array_access}
 use Rattle.validate_types.specs.Refs.{nullable_reference}
 use Rattle.validate_types.specs.declared.heap.HeapType.TheVariants.{Concrete}
-use Rattle.validate_types.specs.declared.heap.UnpackedIndex.TheVariants.{Module, Id}
 use Rattle.validate_types.specs.declared.types.CompositeInnerType.TheVariants.{Array as ArrayInner}
 use Rattle.validate_types.specs.declared.types.StorageType.TheVariants.{I8}
 use Rattle.validate_visit.specs.declared.memory.MemArg.{MemArg}
 use Rattle.validate_visit.specs.declared.memory.MemArgTarget.TheVariants.{Memory as InMemory, Array as InArray}
 use Rattle.validate_visit.specs.declared.numbers.NumberType.TheVariants.{I64 as NumberI64}
-use Rattle.validate_visit.specs.declared.op.ControlOp.TheVariants.{End}
 use Rattle.validate_visit.specs.declared.op.MemoryOp.TheVariants.{Load, Store, MemorySize, MemoryCopy}
-use Rattle.validate_visit.specs.declared.op.NumericOp.TheVariants.{I32Const, I64Const}
 use Rattle.validate_visit.specs.declared.op.Op.{Op}
-use Rattle.validate_visit.specs.declared.op.Op.TheVariants.{Control, Numeric, Memory, Reference}
-use Rattle.validate_visit.specs.declared.op.ReferenceOp.TheVariants.{RefNull}
+use Rattle.validate_visit.specs.declared.op.Op.TheVariants.{Memory}
 use Rattle.validation_rules.specs.Context.{SubType, ValType, I32, I64, Ref, Empty, Context}
-use Rattle.validation_rules.specs.Rows.{Block, Operator}
+use Rattle.validation_rules.specs.Rows.{Operator}
 use Rattle.validation_rules.specs.Operators.{operators, operator}
 use Rattle.validation_rules.proofs.Steps.{some_injective}
-use Rattle.type_safety.specs.Machine.{Label, Machine, At, Trapped, Demand, configuration, IsNotStuck, Step}
+use Rattle.validation_rules.proofs.Writing.{id, within, end, i32_const, i64_const, null_of}
+use Rattle.type_safety.specs.Machine.{Machine, At, Trapped, Demand, configuration, IsNotStuck, Step}
 use Rattle.type_safety.specs.Machine.Outcome.{traps}
 use Rattle.type_safety.proofs.Outcomes.{holding, by_going_on}
 use Rattle.type_safety.specs.Theorem.{IsTypeSafe}
 use Rattle.type_safety.proofs.Bodies.{body_safety}
+use Rattle.type_safety.proofs.Writing.{outermost}
 
 abbrev declared : Declared
-declared = record { types = []; functions = []; globals = []; tags = []; tables = []; memories = record { memory64 = false; shared = false } ∷ record { memory64 = true; shared = false } ∷ []; elements = []; data_count = None }
+declared = record nothing_declared { memories = record { memory64 = false; shared = false } ∷ record { memory64 = true; shared = false } ∷ [] }
 
 abbrev cx : Context
-cx = record { of_module = context_of declared; features = record { 0 = bulk_memory_opt }; shared = false; locals = []; set_at_entry = [] }
+cx = within declared bulk_memory_opt false
 
 abbrev at_memory : ℕ → MemArg
 at_memory m = record { align = 3; max_align = 3; offset = 8; target = InMemory m }
-
-abbrev i32_const : Op
-i32_const = Numeric (I32Const (pos 0))
-
-abbrev i64_const : Op
-i64_const = Numeric (I64Const (pos 0))
 
 abbrev load : ℕ → Op
 load m = Memory (Load NumberI64 (at_memory m))
 
 abbrev store : ℕ → Op
 store m = Memory (Store NumberI64 (at_memory m))
-
-abbrev end : Op
-end = Control End
 
 -- ---- what is loaded from memory 1 is stored in memory 0
 
@@ -59,11 +49,8 @@ moving_ops = i32_const ∷ i64_const ∷ load 1 ∷ store 0 ∷ end ∷ []
 abbrev moving : List Operator
 moving = operators cx moving_ops
 
-abbrev outermost : List ValType → Label
-outermost own = record { began = 0; head = record { kind = Block; block_type = Empty }; operands = own }
-
 abbrev standing : ℕ → List ValType → Machine
-standing k own = At k (outermost own ∷ []) []
+standing k own = At k (outermost Empty own ∷ []) []
 
 -- the address of 64 bits goes, and an i64 comes; that of 32 stays below it
 loads : Step cx moving (standing 2 (I64 ∷ I32 ∷ [])) (standing 3 (I64 ∷ I32 ∷ []))
@@ -96,7 +83,7 @@ may_trap = (
 stuck : IsNotStuck cx moving (standing 2 (I32 ∷ I32 ∷ [])) → ⊥
 stuck d =
     let e : operator cx (load 1) ≡ d.0 = some_injective _ _ d.1 in
-    let d' = subst (λ op. Demand cx moving (configuration 2 (outermost (I32 ∷ I32 ∷ [])) [] [] op)) (sym e) d.2 in
+    let d' = subst (λ op. Demand cx moving (configuration 2 (outermost Empty (I32 ∷ I32 ∷ [])) [] [] op)) (sym e) d.2 in
     let r = d'.row.1 in
     absurd cc
 
@@ -120,19 +107,16 @@ abbrev declared_array : Declared
 declared_array = record declared { types = byte_array ∷ [] }
 
 abbrev array_cx : Context
-array_cx = record { of_module = context_of declared_array; features = record { 0 = reference_types + (gc + multibyte_array_access) }; shared = false; locals = []; set_at_entry = [] }
+array_cx = within declared_array (reference_types + (gc + multibyte_array_access)) false
 
 abbrev in_array : MemArg
 in_array = record (at_memory 0) { target = InArray 0 }
 
-abbrev null_array : Op
-null_array = Reference (RefNull (Concrete (Module 0)))
-
 abbrev to_array : ValType
-to_array = Ref (nullable_reference (Concrete (Id (record { index = 0 }))))
+to_array = Ref (nullable_reference (Concrete (id 0)))
 
 abbrev filling_ops : List Op
-filling_ops = null_array ∷ i32_const ∷ i64_const ∷ load 1 ∷ Memory (Store NumberI64 in_array) ∷ end ∷ []
+filling_ops = null_of 0 ∷ i32_const ∷ i64_const ∷ load 1 ∷ Memory (Store NumberI64 in_array) ∷ end ∷ []
 
 abbrev filling : List Operator
 filling = operators array_cx filling_ops
@@ -159,7 +143,7 @@ fill_may_trap = (
 fill_stuck : IsNotStuck array_cx filling (standing 4 (I64 ∷ I32 ∷ [])) → ⊥
 fill_stuck d =
     let e : operator array_cx (Memory (Store NumberI64 in_array)) ≡ d.0 = some_injective _ _ d.1 in
-    let d' = subst (λ op. Demand array_cx filling (configuration 4 (outermost (I64 ∷ I32 ∷ [])) [] [] op)) (sym e) d.2 in
+    let d' = subst (λ op. Demand array_cx filling (configuration 4 (outermost Empty (I64 ∷ I32 ∷ [])) [] [] op)) (sym e) d.2 in
     let r = d'.row.1 in
     absurd cc
 

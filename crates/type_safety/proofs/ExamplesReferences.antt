@@ -1,93 +1,44 @@
 -- Runs of small bodies with branches that look whether a reference is null: what is carried where it is,
 -- and what where it isn't.
-use Rattle.std.proofs.Common.{◌≡◌, ℕ, ◌+◌, zero, suc, pos, true, false, List, [], ◌∷◌, drop, Some, None, refl, sym, subst, slice_get}
+use Rattle.std.proofs.Common.{◌≡◌, ℕ, ◌+◌, true, false, List, [], ◌∷◌, drop, refl, sym, subst}
 use Rattle.validate_resources.specs.Lists.{Declared, context_of}
 use Rattle.validate_resources.specs.Lawful.{lawful_lists}
+use Rattle.validate_resources.specs.Named.{nothing_declared}
 use Rattle.validate_types.specs.Features.{multi_value, reference_types, function_references}
-use Rattle.validate_types.specs.Refs.{reference}
-use Rattle.validate_types.specs.declared.heap.AbstractHeapType.TheVariants.{Func}
-use Rattle.validate_types.specs.declared.heap.HeapType.{HeapType}
-use Rattle.validate_types.specs.declared.heap.HeapType.TheVariants.{Abstract, Concrete}
-use Rattle.validate_types.specs.declared.heap.UnpackedIndex.TheVariants.{Module, Id}
-use Rattle.validate_types.specs.declared.types.CompositeInnerType.TheVariants.{Func as FuncInner}
-use Rattle.validate_visit.specs.declared.op.ControlOp.TheVariants.{Block as BlockOp, End, CallRef, Drop}
-use Rattle.validate_visit.specs.declared.op.NumericOp.TheVariants.{I32Const}
+use Rattle.validate_types.specs.declared.heap.HeapType.TheVariants.{Concrete}
+use Rattle.validate_types.specs.declared.heap.UnpackedIndex.TheVariants.{Module}
+use Rattle.validate_visit.specs.declared.op.ControlOp.TheVariants.{CallRef}
 use Rattle.validate_visit.specs.declared.op.Op.{Op}
-use Rattle.validate_visit.specs.declared.op.Op.TheVariants.{Control, Numeric, Reference}
-use Rattle.validate_visit.specs.declared.op.ReferenceOp.TheVariants.{RefNull, RefFunc, RefIsNull, RefAsNonNull, BrOnNull, BrOnNonNull}
+use Rattle.validate_visit.specs.declared.op.Op.TheVariants.{Control, Reference}
+use Rattle.validate_visit.specs.declared.op.ReferenceOp.TheVariants.{RefFunc, RefIsNull, RefAsNonNull}
 use Rattle.validation_rules.specs.Branches.{target}
-use Rattle.validation_rules.specs.Context.{SubType, ValType, I32, I64, Ref, BlockType, Val, FuncType, Context}
+use Rattle.validation_rules.specs.Context.{ValType, I32, I64, BlockType, Val, FuncType, Context}
 use Rattle.validation_rules.specs.References.{last_without_null}
-use Rattle.validation_rules.specs.Rows.{Block, Ends, Target, Operator}
+use Rattle.validation_rules.specs.Rows.{Ends, Target, Operator}
 use Rattle.validation_rules.specs.Operators.{operators, operator}
 use Rattle.validation_rules.proofs.Steps.{some_injective}
+use Rattle.validation_rules.proofs.Writing.{null, no_null, func, concrete, func_type, to_nothing, within}
+use Rattle.validation_rules.proofs.Writing.{block, end, drops, i32_const, ref_null, br_on_null}
+use Rattle.validation_rules.proofs.Writing.{br_on_non_null}
 use Rattle.type_safety.specs.Machine.{Label, label_heads, At, LabelAccepts, Demand, configuration, IsNotStuck, Step}
 use Rattle.type_safety.proofs.Outcomes.{holding, by_going_on, by_jumping}
 use Rattle.type_safety.specs.Theorem.{IsTypeSafe}
 use Rattle.type_safety.proofs.Bodies.{body_safety}
-
-abbrev func : HeapType
-func = Abstract false Func
-
-abbrev concrete : ℕ → HeapType
-concrete i = Concrete (Id (record { index = i }))
-
--- with null, and without
-abbrev null : HeapType → ValType
-null h = Ref (reference true h)
-
-abbrev no_null : HeapType → ValType
-no_null h = Ref (reference false h)
+use Rattle.type_safety.proofs.Writing.{block_label, outermost, only}
 
 -- ---- a function from nothing to nothing, and a type of an i32 and a function
 
-abbrev a_type : List ValType → List ValType → SubType
-a_type params results =
-    record { is_final = true; supertype_idx = None; composite_type = record { inner = FuncInner (record { params = params; results = results }); shared = false; descriptor_idx = None; describes_idx = None } }
-
 abbrev declared : Declared
-declared = record { types = a_type [] [] ∷ a_type [] (I32 ∷ no_null func ∷ []) ∷ []; functions = record { type_index = 0; referenced = true; exact = false } ∷ []; tables = []; memories = []; globals = []; tags = []; elements = []; data_count = None }
+declared = record nothing_declared { types = func_type [] [] ∷ func_type [] (I32 ∷ no_null func ∷ []) ∷ []; functions = record { type_index = 0; referenced = true; exact = false } ∷ [] }
 
 abbrev cx : Context
-cx = record { of_module = context_of declared; features = record { 0 = multi_value + reference_types + function_references }; shared = false; locals = []; set_at_entry = [] }
-
-abbrev to_nothing : BlockType
-to_nothing = FuncType 0
+cx = within declared (multi_value + reference_types + function_references) false
 
 abbrev to_i32_and_func : BlockType
 to_i32_and_func = FuncType 1
 
-abbrev block : BlockType → Op
-block bt = Control (BlockOp bt)
-
-abbrev end : Op
-end = Control End
-
-abbrev drops : Op
-drops = Control Drop
-
-abbrev i32_const : Op
-i32_const = Numeric (I32Const (pos 0))
-
-abbrev ref_null : HeapType → Op
-ref_null h = Reference (RefNull h)
-
-abbrev br_on_null : ℕ → Op
-br_on_null d = Reference (BrOnNull d)
-
-abbrev br_on_non_null : ℕ → Op
-br_on_non_null d = Reference (BrOnNonNull d)
-
-abbrev label : ℕ → BlockType → List ValType → Label
-label began ty own = record { began = began; head = record { kind = Block; block_type = ty }; operands = own }
-
-abbrev outermost : List ValType → List Label
-outermost own = label 0 to_nothing own ∷ []
-
--- what holds of the only one of a list
-only : {A : Type 0} (P : A → Type 0) (x : A) → P x → (j : ℕ) (y : A) → slice_get (x ∷ []) j ≡ Some y → P y
-only P x p zero y e = subst P (some_injective x y e) p
-only P x p (suc j) y e = absurd cc
+abbrev in_body : List ValType → List Label
+in_body own = outermost to_nothing own ∷ []
 
 -- ---- out of a block with an i32, where a reference above it is null
 
@@ -98,10 +49,10 @@ abbrev testing : List Operator
 testing = operators cx testing_ops
 
 abbrev in_block : List ValType → List Label
-in_block own = label 0 (Val I32) own ∷ outermost []
+in_block own = block_label 0 (Val I32) own ∷ in_body []
 
 -- over the i32 a reference, null or not: the i32 alone is carried
-at_null : Demand cx testing (configuration 3 (label 0 (Val I32) (null func ∷ I32 ∷ [])) (outermost []) [] (operator cx (br_on_null 0)))
+at_null : Demand cx testing (configuration 3 (block_label 0 (Val I32) (null func ∷ I32 ∷ [])) (in_body []) [] (operator cx (br_on_null 0)))
 at_null = record {
   row = holding _ refl refl;
   targets = only (λ (t : Target). LabelAccepts cx (drop t.depth (in_block (null func ∷ I32 ∷ []))) (t.carried (I32 ∷ null func ∷ []))) (target cx (label_heads (in_block [])) 0) (refl, tt);
@@ -110,12 +61,12 @@ at_null = record {
 }
 
 -- it is null: behind the block, with the i32
-leaves : Step cx testing (At 3 (in_block (null func ∷ I32 ∷ [])) []) (At 6 (outermost (I32 ∷ [])) [])
+leaves : Step cx testing (At 3 (in_block (null func ∷ I32 ∷ [])) []) (At 6 (in_body (I32 ∷ [])) [])
 leaves = (
   operator cx (br_on_null 0),
   refl,
   at_null,
-  by_jumping 0 _ refl refl (record { label = label 0 (Val I32) (null func ∷ I32 ∷ []); outer = outermost []; is = refl; types = I32 ∷ []; below = (refl, tt); arrives = (5, (Ends, (0, refl), refl), refl) }),
+  by_jumping 0 _ refl refl (record { label = block_label 0 (Val I32) (null func ∷ I32 ∷ []); outer = in_body []; is = refl; types = I32 ∷ []; below = (refl, tt); arrives = (5, (Ends, (0, refl), refl), refl) }),
 )
 
 -- it isn't: on, with the reference above the i32, now without null
@@ -140,7 +91,7 @@ stays_below = (
 stuck_at_number : IsNotStuck cx testing (At 3 (in_block (I32 ∷ I32 ∷ [])) []) → ⊥
 stuck_at_number d =
     let e : operator cx (br_on_null 0) ≡ d.0 = some_injective _ _ d.1 in
-    let d' = subst (λ op. Demand cx testing (configuration 3 (label 0 (Val I32) (I32 ∷ I32 ∷ [])) (outermost []) [] op)) (sym e) d.2 in
+    let d' = subst (λ op. Demand cx testing (configuration 3 (block_label 0 (Val I32) (I32 ∷ I32 ∷ [])) (in_body []) [] op)) (sym e) d.2 in
     let r = d'.row.1 in
     absurd cc
 
@@ -148,7 +99,7 @@ stuck_at_number d =
 stuck_over_other : IsNotStuck cx testing (At 3 (in_block (null func ∷ I64 ∷ [])) []) → ⊥
 stuck_over_other d =
     let e : operator cx (br_on_null 0) ≡ d.0 = some_injective _ _ d.1 in
-    let d' = subst (λ op. Demand cx testing (configuration 3 (label 0 (Val I32) (null func ∷ I64 ∷ [])) (outermost []) [] op)) (sym e) d.2 in
+    let d' = subst (λ op. Demand cx testing (configuration 3 (block_label 0 (Val I32) (null func ∷ I64 ∷ [])) (in_body []) [] op)) (sym e) d.2 in
     let r = d'.row.1 in
     absurd cc
 
@@ -165,10 +116,10 @@ abbrev giving : List Operator
 giving = operators cx giving_ops
 
 abbrev in_giving : List ValType → List Label
-in_giving own = label 0 to_i32_and_func own ∷ outermost []
+in_giving own = block_label 0 to_i32_and_func own ∷ in_body []
 
 -- both are carried, and what the block gives is never null
-at_non_null : Demand cx giving (configuration 3 (label 0 to_i32_and_func (null func ∷ I32 ∷ [])) (outermost []) [] (operator cx (br_on_non_null 0)))
+at_non_null : Demand cx giving (configuration 3 (block_label 0 to_i32_and_func (null func ∷ I32 ∷ [])) (in_body []) [] (operator cx (br_on_non_null 0)))
 at_non_null = record {
   row = holding _ refl refl;
   targets = only (λ (t : Target). LabelAccepts cx (drop t.depth (in_giving (null func ∷ I32 ∷ []))) (t.carried (I32 ∷ null func ∷ []))) (record { depth = 0; carried = last_without_null }) (refl, (refl, tt));
@@ -177,12 +128,12 @@ at_non_null = record {
 }
 
 -- it isn't null: behind the block, with the i32 and the reference without null
-gives : Step cx giving (At 3 (in_giving (null func ∷ I32 ∷ [])) []) (At 6 (outermost (no_null func ∷ I32 ∷ [])) [])
+gives : Step cx giving (At 3 (in_giving (null func ∷ I32 ∷ [])) []) (At 6 (in_body (no_null func ∷ I32 ∷ [])) [])
 gives = (
   operator cx (br_on_non_null 0),
   refl,
   at_non_null,
-  by_jumping 0 _ refl refl (record { label = label 0 to_i32_and_func (null func ∷ I32 ∷ []); outer = outermost []; is = refl; types = I32 ∷ no_null func ∷ []; below = (refl, (refl, tt)); arrives = (5, (Ends, (0, refl), refl), refl) }),
+  by_jumping 0 _ refl refl (record { label = block_label 0 to_i32_and_func (null func ∷ I32 ∷ []); outer = in_body []; is = refl; types = I32 ∷ no_null func ∷ []; below = (refl, (refl, tt)); arrives = (5, (Ends, (0, refl), refl), refl) }),
 )
 
 -- it is: on, with the i32 alone
@@ -198,7 +149,7 @@ goes = (
 stuck_alone : IsNotStuck cx giving (At 3 (in_giving (null func ∷ [])) []) → ⊥
 stuck_alone d =
     let e : operator cx (br_on_non_null 0) ≡ d.0 = some_injective _ _ d.1 in
-    let d' = subst (λ op. Demand cx giving (configuration 3 (label 0 to_i32_and_func (null func ∷ [])) (outermost []) [] op)) (sym e) d.2 in
+    let d' = subst (λ op. Demand cx giving (configuration 3 (block_label 0 to_i32_and_func (null func ∷ [])) (in_body []) [] op)) (sym e) d.2 in
     let r = d'.row.1 in
     absurd cc
 
@@ -214,7 +165,7 @@ calling_ops =
 abbrev calling : List Operator
 calling = operators cx calling_ops
 
-tests : Step cx calling (At 1 (outermost (null func ∷ [])) []) (At 2 (outermost (I32 ∷ [])) [])
+tests : Step cx calling (At 1 (in_body (null func ∷ [])) []) (At 2 (in_body (I32 ∷ [])) [])
 tests = (
   operator cx (Reference RefIsNull),
   refl,
@@ -222,7 +173,7 @@ tests = (
   by_going_on (I32 ∷ []) (I32 ∷ []) refl refl refl (refl, tt) refl,
 )
 
-loses : Step cx calling (At 4 (outermost (null (concrete 0) ∷ [])) []) (At 5 (outermost (no_null (concrete 0) ∷ [])) [])
+loses : Step cx calling (At 4 (in_body (null (concrete 0) ∷ [])) []) (At 5 (in_body (no_null (concrete 0) ∷ [])) [])
 loses = (
   operator cx (Reference RefAsNonNull),
   refl,
@@ -231,7 +182,7 @@ loses = (
 )
 
 -- the call takes the reference
-calls : Step cx calling (At 5 (outermost (no_null (concrete 0) ∷ [])) []) (At 6 (outermost []) [])
+calls : Step cx calling (At 5 (in_body (no_null (concrete 0) ∷ [])) []) (At 6 (in_body []) [])
 calls = (
   operator cx (Control (CallRef 0)),
   refl,

@@ -1,52 +1,44 @@
 -- Small bodies, computed: good ones are accepted and bad ones refused. What is expected is what the
 -- standard's rules say of them.
-use Rattle.std.proofs.Common.{◌≡◌, ℕ, pos, Bool, true, false, List, [], ◌∷◌, length, Option, Some, None, refl, slice_get}
+use Rattle.std.proofs.Common.{◌≡◌, ℕ, pos, Bool, true, false, List, [], ◌∷◌, Option, Some, None, refl, slice_get}
 use Rattle.validate_resources.specs.Context.{is_same_number_or_vector}
 use Rattle.validate_resources.specs.Lists.{Declared, context_of}
-use Rattle.validate_types.specs.declared.types.CompositeInnerType.TheVariants.{Func}
-use Rattle.validate_visit.specs.declared.catch.Catch.{Catch}
-use Rattle.validate_visit.specs.declared.catch.Catch.TheVariants.{One}
+use Rattle.validate_resources.specs.Named.{nothing_declared}
 use Rattle.validate_visit.specs.declared.numbers.IntegerType.TheVariants.{I32 as IntegerI32, I64 as IntegerI64}
 use Rattle.validate_visit.specs.declared.numeric.IntegerBinaryOp.TheVariants.{Add}
 use Rattle.validate_visit.specs.declared.op.Op.{Op}
-use Rattle.validate_visit.specs.declared.op.Op.TheVariants.{Control, Numeric, Exception}
-use Rattle.validate_visit.specs.declared.op.ControlOp.TheVariants.{Unreachable, Nop, Block as BlockOp, Loop as LoopOp, If as IfOp, Else as ElseOp, End, Br, BrIf, BrTable, Return, Drop, LocalGet, LocalSet, LocalTee}
-use Rattle.validate_visit.specs.declared.op.ExceptionOp.TheVariants.{TryTable as TryTableOp, Throw, Try, Catch as CatchOp, CatchAll, Delegate, Rethrow}
-use Rattle.validate_visit.specs.declared.op.NumericOp.TheVariants.{Eqz, IntegerBinary, I32Const, I64Const}
-use Rattle.validation_rules.specs.Context.{Signature, SubType, ValType, I32, I64, BlockType, Empty, Val, FuncType, Context}
+use Rattle.validate_visit.specs.declared.op.Op.TheVariants.{Control, Numeric}
+use Rattle.validate_visit.specs.declared.op.ControlOp.TheVariants.{Nop, LocalTee}
+use Rattle.validate_visit.specs.declared.op.NumericOp.TheVariants.{IntegerBinary, I32Const}
+use Rattle.validation_rules.specs.Context.{SubType, ValType, I32, I64, BlockType, Empty, Val, FuncType, Context}
 use Rattle.validation_rules.specs.Fits.{MaybeType, Bottom, Known}
-use Rattle.validation_rules.specs.Rows.{FrameKind, Block, Else, Loop, TryTable, LegacyCatch, LegacyCatchAll, Operator}
+use Rattle.validation_rules.specs.Rows.{Block, Else, Loop, TryTable, LegacyCatch, LegacyCatchAll, Operator}
 use Rattle.validation_rules.specs.Static.{Frame, State, open_state, state_before, start, frame_count, operand_count, operands_found}
 use Rattle.validation_rules.specs.Pops.{frame_after_pops}
 use Rattle.validation_rules.specs.Operators.{operators}
 use Rattle.validation_rules.proofs.Refusals.{IsRefusedAtLast}
+use Rattle.validation_rules.proofs.Writing.{func_type, to_nothing, every, unreachable, block, loop, an_if}
+use Rattle.validation_rules.proofs.Writing.{an_else, end, br, br_if, br_table, a_return, drops, local_get}
+use Rattle.validation_rules.proofs.Writing.{local_set, i32_const, i64_const, i32_eqz, i32_add, catch}
+use Rattle.validation_rules.proofs.Writing.{try_table, throw, legacy_try, legacy_catch, legacy_catch_all}
+use Rattle.validation_rules.proofs.Writing.{delegate, rethrow, frame, after_all, DoneUnder, OpenUnder}
 
 -- ---- a module of five types and three tags, and a function with two locals of which the first is set at entry
 
-abbrev signature : List ValType → List ValType → Signature
-signature params results = record { params = params; results = results }
-
-abbrev a_type : Signature → SubType
-a_type f =
-    record { is_final = true; supertype_idx = None; composite_type = record { inner = Func f; shared = false; descriptor_idx = None; describes_idx = None } }
-
 abbrev types : List SubType
 types =
-    a_type (signature [] [])
-    ∷ a_type (signature (I32 ∷ []) [])
-    ∷ a_type (signature (I32 ∷ []) (I32 ∷ []))
-    ∷ a_type (signature (I32 ∷ I64 ∷ []) (I64 ∷ I32 ∷ []))
-    ∷ a_type (signature (I32 ∷ I64 ∷ []) [])
+    func_type [] []
+    ∷ func_type (I32 ∷ []) []
+    ∷ func_type (I32 ∷ []) (I32 ∷ [])
+    ∷ func_type (I32 ∷ I64 ∷ []) (I64 ∷ I32 ∷ [])
+    ∷ func_type (I32 ∷ I64 ∷ []) []
     ∷ []
 
 -- exceptions carry an i32, nothing, or an i32 and an i64
 abbrev declared : Declared
-declared = record { types = types; functions = []; tables = []; memories = []; globals = []; tags = 1 ∷ 0 ∷ 4 ∷ []; elements = []; data_count = None }
+declared = record nothing_declared { types = types; tags = 1 ∷ 0 ∷ 4 ∷ [] }
 
--- from nothing to nothing, from i32 to nothing, from i32 to i32, and two in and out
-abbrev to_nothing : BlockType
-to_nothing = FuncType 0
-
+-- from i32 to nothing, from i32 to i32, and two in and out
 abbrev takes_one : BlockType
 takes_one = FuncType 1
 
@@ -60,35 +52,13 @@ two_to_two = FuncType 3
 abbrev under : ℕ → Context
 under bits = record { of_module = context_of declared; features = record { 0 = bits }; shared = false; locals = I32 ∷ I64 ∷ []; set_at_entry = true ∷ false ∷ [] }
 
--- all of them
-abbrev every : ℕ
-every = 2097151
-
 abbrev cx : Context
 cx = under every
 
 -- ---- operators
 
-abbrev i32_const : Op
-i32_const = Numeric (I32Const (pos 0))
-
-abbrev i64_const : Op
-i64_const = Numeric (I64Const (pos 0))
-
-abbrev i32_eqz : Op
-i32_eqz = Numeric (Eqz IntegerI32)
-
-abbrev i32_add : Op
-i32_add = Numeric (IntegerBinary IntegerI32 Add)
-
 abbrev i64_add : Op
 i64_add = Numeric (IntegerBinary IntegerI64 Add)
-
-abbrev local_get : ℕ → Op
-local_get i = Control (LocalGet i)
-
-abbrev local_set : ℕ → Op
-local_set i = Control (LocalSet i)
 
 abbrev local_tee : ℕ → Op
 local_tee i = Control (LocalTee i)
@@ -96,96 +66,24 @@ local_tee i = Control (LocalTee i)
 abbrev nop : Op
 nop = Control Nop
 
-abbrev unreachable : Op
-unreachable = Control Unreachable
-
-abbrev drops : Op
-drops = Control Drop
-
-abbrev block : BlockType → Op
-block bt = Control (BlockOp bt)
-
-abbrev loop : BlockType → Op
-loop bt = Control (LoopOp bt)
-
-abbrev an_if : BlockType → Op
-an_if bt = Control (IfOp bt)
-
-abbrev an_else : Op
-an_else = Control ElseOp
-
-abbrev end : Op
-end = Control End
-
-abbrev br : ℕ → Op
-br d = Control (Br d)
-
-abbrev br_if : ℕ → Op
-br_if d = Control (BrIf d)
-
-abbrev br_table : List ℕ → ℕ → Op
-br_table ds d = Control (BrTable (record { targets = record { ref_ptr = (0, 0); now = ds }; complete = true; default = d }))
-
-abbrev a_return : Op
-a_return = Control Return
-
--- a clause for exceptions with this tag, to this label
-abbrev catch : ℕ → ℕ → Catch
-catch tag label = One tag label
-
-abbrev try_table : BlockType → List Catch → Op
-try_table bt catches = Exception (TryTableOp (record { ty = bt; catches = record { ref_ptr = (0, 0); now = catches } }))
-
-abbrev throw : ℕ → Op
-throw tag = Exception (Throw tag)
-
-abbrev legacy_try : BlockType → Op
-legacy_try bt = Exception (Try bt)
-
-abbrev legacy_catch : ℕ → Op
-legacy_catch tag = Exception (CatchOp tag)
-
-abbrev legacy_catch_all : Op
-legacy_catch_all = Exception CatchAll
-
-abbrev delegate : ℕ → Op
-delegate d = Exception (Delegate d)
-
-abbrev rethrow : ℕ → Op
-rethrow d = Exception (Rethrow d)
-
 -- ---- outcomes
-
--- the state after the whole list
-abbrev after_in : Context → BlockType → List Op → Option State
-after_in c ty ops = state_before c (operators c ops) (start ty) (length ops)
-
-abbrev after_all : BlockType → List Op → Option State
-after_all ty ops = after_in cx ty ops
 
 -- the row of the last operator doesn't hold, and those of all before it do
 abbrev Refused : BlockType → List Op → Type 0
 Refused ty ops = IsRefusedAtLast cx ty ops
 
--- accepted up to the outermost `end`, with these types left, the top first
-abbrev DoneIn : Context → BlockType → List Op → List MaybeType → Type 0
-DoneIn c ty ops left = after_in c ty ops ≡ Some (record { frames = []; left = left })
-
 abbrev Done : BlockType → List Op → List MaybeType → Type 0
-Done ty ops left = DoneIn cx ty ops left
-
-abbrev frame : FrameKind → BlockType → List MaybeType → Bool → Frame
-frame kind ty own dead = record { head = record { kind = kind; block_type = ty }; operands = own; dead = dead; first_set = [] }
+Done ty ops left = DoneUnder cx ty ops left
 
 -- accepted so far, with these frames open
 abbrev Open : BlockType → List Op → List Frame → Type 0
-Open ty ops frames = after_all ty ops ≡ Some (open_state frames)
+Open ty ops frames = OpenUnder cx ty ops frames
 
 -- ---- operators of the table
 
 -- the body of a function from i32 to i32 that adds, place by place
 abbrev adding : List Operator
-adding = operators cx (Control (LocalGet 0) ∷ Numeric (I32Const (pos 1)) ∷ Numeric (IntegerBinary IntegerI32 Add) ∷ Control End ∷ [])
+adding = operators cx (local_get 0 ∷ Numeric (I32Const (pos 1)) ∷ Numeric (IntegerBinary IntegerI32 Add) ∷ end ∷ [])
 
 abbrev body_frame : List MaybeType → Frame
 body_frame own = frame Block one_to_one own false
@@ -318,13 +216,13 @@ get_unset : Refused to_nothing (local_get 1 ∷ [])
 get_unset = refl
 
 -- it is set where `local.set` or `local.tee` has set it, and joins the frame's list once
-set_then_get : after_all to_nothing (i64_const ∷ local_set 1 ∷ local_get 1 ∷ []) ≡ Some (record { frames = record (frame Block to_nothing (Known I64 ∷ []) false) { first_set = 1 ∷ [] } ∷ []; left = [] })
+set_then_get : after_all cx to_nothing (i64_const ∷ local_set 1 ∷ local_get 1 ∷ []) ≡ Some (record { frames = record (frame Block to_nothing (Known I64 ∷ []) false) { first_set = 1 ∷ [] } ∷ []; left = [] })
 set_then_get = refl
 
-tee_then_get : after_all to_nothing (i64_const ∷ local_tee 1 ∷ local_get 1 ∷ []) ≡ Some (record { frames = record (frame Block to_nothing (Known I64 ∷ Known I64 ∷ []) false) { first_set = 1 ∷ [] } ∷ []; left = [] })
+tee_then_get : after_all cx to_nothing (i64_const ∷ local_tee 1 ∷ local_get 1 ∷ []) ≡ Some (record { frames = record (frame Block to_nothing (Known I64 ∷ Known I64 ∷ []) false) { first_set = 1 ∷ [] } ∷ []; left = [] })
 tee_then_get = refl
 
-set_twice : after_all to_nothing (i64_const ∷ local_tee 1 ∷ local_set 1 ∷ []) ≡ Some (record { frames = record (frame Block to_nothing [] false) { first_set = 1 ∷ [] } ∷ []; left = [] })
+set_twice : after_all cx to_nothing (i64_const ∷ local_tee 1 ∷ local_set 1 ∷ []) ≡ Some (record { frames = record (frame Block to_nothing [] false) { first_set = 1 ∷ [] } ∷ []; left = [] })
 set_twice = refl
 
 -- one that was set at entry joins no list
@@ -369,7 +267,7 @@ set_in_block = refl
 set_inside_block : Open to_nothing (block Empty ∷ i64_const ∷ local_set 1 ∷ local_get 1 ∷ drops ∷ end ∷ []) (frame Block to_nothing [] false ∷ [])
 set_inside_block = refl
 
-set_outside_block : after_all to_nothing (i64_const ∷ local_set 1 ∷ block Empty ∷ local_get 1 ∷ []) ≡ Some (record { frames = frame Block Empty (Known I64 ∷ []) false ∷ record (frame Block to_nothing [] false) { first_set = 1 ∷ [] } ∷ []; left = [] })
+set_outside_block : after_all cx to_nothing (i64_const ∷ local_set 1 ∷ block Empty ∷ local_get 1 ∷ []) ≡ Some (record { frames = frame Block Empty (Known I64 ∷ []) false ∷ record (frame Block to_nothing [] false) { first_set = 1 ∷ [] } ∷ []; left = [] })
 set_outside_block = refl
 
 -- ---- dead code
@@ -562,7 +460,7 @@ if_ends : Open to_nothing (i32_const ∷ an_if Empty ∷ end ∷ []) (frame Bloc
 if_ends = refl
 
 -- none of these operators needs a proposal
-without_proposals : DoneIn (under 0) (Val I32) (nop ∷ local_get 0 ∷ local_tee 0 ∷ local_set 0 ∷ block Empty ∷ loop (Val I64) ∷ i32_const ∷ br_if 1 ∷ i32_const ∷ br_table [] 1 ∷ end ∷ drops ∷ end ∷ i32_const ∷ an_if Empty ∷ br 0 ∷ an_else ∷ unreachable ∷ end ∷ i32_const ∷ a_return ∷ end ∷ []) (Known I32 ∷ [])
+without_proposals : DoneUnder (under 0) (Val I32) (nop ∷ local_get 0 ∷ local_tee 0 ∷ local_set 0 ∷ block Empty ∷ loop (Val I64) ∷ i32_const ∷ br_if 1 ∷ i32_const ∷ br_table [] 1 ∷ end ∷ drops ∷ end ∷ i32_const ∷ an_if Empty ∷ br 0 ∷ an_else ∷ unreachable ∷ end ∷ i32_const ∷ a_return ∷ end ∷ []) (Known I32 ∷ [])
 without_proposals = refl
 
 -- ---- exceptions
@@ -655,7 +553,7 @@ tilted t u = is_same_number_or_vector t u
 -- two types of functions, and two tags
 abbrev tilted_context : Context
 tilted_context = record {
-  of_module = record { type_at = slice_get (a_type (signature (I32 ∷ []) (I64 ∷ [])) ∷ a_type (signature (I64 ∷ []) (I32 ∷ [])) ∷ []); type_of_id = λ i. None; type_index_of = λ i. None; type_id_of = λ i. None; is_referenced = λ i. false; has_exact_type = λ i. false; table_at = λ i. None; memory_at = λ i. None; global_at = λ i. None; tag_at = slice_get (signature (I32 ∷ []) [] ∷ signature (I64 ∷ []) [] ∷ []); element_at = λ i. None; data_count = None; below = tilted; is_shared = λ r. false; top_type = λ h. h; canonical_type = λ f t. None; canonical_ref = λ r. None; canonical_heap = λ h. None };
+  of_module = record { type_at = slice_get (func_type (I32 ∷ []) (I64 ∷ []) ∷ func_type (I64 ∷ []) (I32 ∷ []) ∷ []); type_of_id = λ i. None; type_index_of = λ i. None; type_id_of = λ i. None; is_referenced = λ i. false; has_exact_type = λ i. false; table_at = λ i. None; memory_at = λ i. None; global_at = λ i. None; tag_at = slice_get (signature (I32 ∷ []) [] ∷ signature (I64 ∷ []) [] ∷ []); element_at = λ i. None; data_count = None; below = tilted; is_shared = λ r. false; top_type = λ h. h; canonical_type = λ f t. None; canonical_ref = λ r. None; canonical_heap = λ h. None };
   features = record { 0 = every };
   shared = false;
   locals = [];
@@ -663,28 +561,28 @@ tilted_context = record {
 }
 
 -- what is found lies below what is wanted, and what is pushed is the row's type
-found_below : DoneIn tilted_context (Val I64) (i32_const ∷ i64_const ∷ i64_add ∷ end ∷ []) (Known I64 ∷ [])
+found_below : DoneUnder tilted_context (Val I64) (i32_const ∷ i64_const ∷ i64_add ∷ end ∷ []) (Known I64 ∷ [])
 found_below = refl
 
 found_above : IsRefusedAtLast tilted_context (Val I32) (i64_const ∷ i32_eqz ∷ [])
 found_above = refl
 
 -- results lie below those of the frame, which gives its own
-result_below : DoneIn tilted_context (Val I64) (i32_const ∷ end ∷ []) (Known I64 ∷ [])
+result_below : DoneUnder tilted_context (Val I64) (i32_const ∷ end ∷ []) (Known I64 ∷ [])
 result_below = refl
 
 result_above : IsRefusedAtLast tilted_context (Val I32) (i64_const ∷ end ∷ [])
 result_above = refl
 
 -- the parameters of an `if` without `else` lie below its results
-if_below : DoneIn tilted_context (Val I64) (i32_const ∷ i32_const ∷ an_if (FuncType 0) ∷ end ∷ end ∷ []) (Known I64 ∷ [])
+if_below : DoneUnder tilted_context (Val I64) (i32_const ∷ i32_const ∷ an_if (FuncType 0) ∷ end ∷ end ∷ []) (Known I64 ∷ [])
 if_below = refl
 
 if_above : IsRefusedAtLast tilted_context (Val I32) (i64_const ∷ i32_const ∷ an_if (FuncType 1) ∷ drops ∷ i32_const ∷ end ∷ [])
 if_above = refl
 
 -- what a clause carries lies below the types of its label
-clause_below : after_in tilted_context (Val I64) (try_table Empty (catch 0 0 ∷ []) ∷ []) ≡ Some (open_state (frame TryTable Empty [] false ∷ frame Block (Val I64) [] false ∷ []))
+clause_below : after_all tilted_context (Val I64) (try_table Empty (catch 0 0 ∷ []) ∷ []) ≡ Some (open_state (frame TryTable Empty [] false ∷ frame Block (Val I64) [] false ∷ []))
 clause_below = refl
 
 clause_above : IsRefusedAtLast tilted_context (Val I32) (try_table Empty (catch 1 0 ∷ []) ∷ [])

@@ -3,41 +3,32 @@
 -- shared types the proposal shared-everything-threads.
 use Rattle.std.proofs.Common.{◌≡◌, ◌-◌, ℕ, Bool, true, false, List, [], ◌∷◌, map, Option, Some, None, refl}
 use Rattle.validate_resources.specs.Lists.{Declared, context_of}
+use Rattle.validate_resources.specs.Named.{nothing_declared}
 use Rattle.validate_types.specs.Features.{gc}
 use Rattle.validate_types.specs.Refs.{reference}
 use Rattle.validate_types.specs.declared.heap.AbstractHeapType.TheVariants.{Func, Any, Eq as EqHeap, Struct as StructHeap, Array as ArrayHeap, None as NoneHeap}
 use Rattle.validate_types.specs.declared.heap.HeapType.{HeapType}
-use Rattle.validate_types.specs.declared.heap.HeapType.TheVariants.{Abstract, Concrete, Exact}
-use Rattle.validate_types.specs.declared.heap.UnpackedIndex.TheVariants.{Id}
+use Rattle.validate_types.specs.declared.heap.HeapType.TheVariants.{Abstract}
 use Rattle.validate_types.specs.declared.refs.RefType.{RefType}
-use Rattle.validate_types.specs.declared.types.CompositeInnerType.{CompositeInnerType}
-use Rattle.validate_types.specs.declared.types.CompositeInnerType.TheVariants.{Func as FuncInner, Struct as StructInner, Array as ArrayInner}
+use Rattle.validate_types.specs.declared.types.CompositeInnerType.TheVariants.{Struct as StructInner}
 use Rattle.validate_types.specs.declared.types.FieldType.{FieldType}
-use Rattle.validate_types.specs.declared.types.StorageType.{StorageType}
 use Rattle.validate_types.specs.declared.types.StorageType.TheVariants.{I8, I16, Val as Value}
 use Rattle.validate_visit.specs.declared.numbers.Sign.TheVariants.{Signed, Unsigned}
 use Rattle.validate_visit.specs.declared.op.ArrayOp.TheVariants.{ArrayNew, ArrayNewDefault, ArrayNewFixed, ArrayNewData, ArrayNewElem, ArrayGet, ArrayGetPacked, ArraySet, ArrayLen, ArrayFill, ArrayCopy, ArrayInitData, ArrayInitElem}
 use Rattle.validate_visit.specs.declared.op.FieldIndex.{FieldIndex}
 use Rattle.validate_visit.specs.declared.op.Op.{Op}
 use Rattle.validate_visit.specs.declared.op.Op.TheVariants.{Struct, Array}
-use Rattle.validate_visit.specs.declared.op.StructOp.TheVariants.{StructNew, StructNewDefault, StructGet, StructGetPacked, StructSet}
-use Rattle.validation_rules.specs.Context.{SubType, ValType, I32, I64, F32, F64, V128, Ref, Empty, Context}
+use Rattle.validate_visit.specs.declared.op.StructOp.TheVariants.{StructGet, StructGetPacked, StructSet}
+use Rattle.validation_rules.specs.Context.{SubType, ValType, I32, I64, F32, F64, V128, Empty, Context}
 use Rattle.validation_rules.specs.Fits.{MaybeType, Bottom, UnknownRef, Known}
 use Rattle.validation_rules.specs.Rows.{body_head}
 use Rattle.validation_rules.specs.Static.{State, open_state, step}
 use Rattle.validation_rules.specs.Operators.{row_operator, plain_row, operator}
+use Rattle.validation_rules.proofs.Writing.{null, no_null, func, concrete, exact, a_type, of_functions}
+use Rattle.validation_rules.proofs.Writing.{written, fixed, an_array, every, within, struct_new}
+use Rattle.validation_rules.proofs.Writing.{struct_new_default, premise_in}
 
 -- ---- a module of a function type, structs and arrays, four element segments and two data segments
-
--- with null, and without
-abbrev null : HeapType → ValType
-null h = Ref (reference true h)
-
-abbrev no_null : HeapType → ValType
-no_null h = Ref (reference false h)
-
-abbrev func : HeapType
-func = Abstract false Func
 
 abbrev eq : HeapType
 eq = Abstract false EqHeap
@@ -45,33 +36,13 @@ eq = Abstract false EqHeap
 abbrev any : HeapType
 any = Abstract false Any
 
-abbrev concrete : ℕ → HeapType
-concrete i = Concrete (Id (record { index = i }))
-
--- what is allocated, where references can be exact
-abbrev exact : ℕ → HeapType
-exact i = Exact (Id (record { index = i }))
-
-abbrev a_type : Bool → CompositeInnerType → SubType
-a_type shared inner = record { is_final = true; supertype_idx = None; composite_type = record { inner = inner; shared = shared; descriptor_idx = None; describes_idx = None } }
-
--- a field that can be written, and one that can't
-abbrev written : StorageType → FieldType
-written t = record { element_type = t; mutable = true }
-
-abbrev fixed : StorageType → FieldType
-fixed t = record { element_type = t; mutable = false }
-
 abbrev a_struct : Bool → List FieldType → SubType
 a_struct shared fields = a_type shared (StructInner fields)
-
-abbrev an_array : Bool → FieldType → SubType
-an_array shared f = a_type shared (ArrayInner (record { 0 = f }))
 
 -- 0 is of functions, 1 to 4 are structs, of which 2 has a field without a default value, between two that have one, and 3 is shared
 abbrev structs : List SubType → List SubType
 structs arrays =
-    a_type false (FuncInner (record { params = []; results = [] }))
+    a_type false (of_functions [] [])
     ∷ a_struct false (written I8 ∷ fixed I16 ∷ written (Value F64) ∷ fixed (Value I64) ∷ [])
     ∷ a_struct false (written (Value (null func)) ∷ written (Value (no_null func)) ∷ written (Value I32) ∷ [])
     ∷ a_struct true (written (Value I32) ∷ [])
@@ -98,15 +69,11 @@ abbrev elements : List RefType
 elements = reference true any ∷ reference true eq ∷ reference false eq ∷ reference true func ∷ []
 
 abbrev declared : Declared
-declared = record { types = types; functions = []; tables = []; memories = []; globals = []; tags = []; elements = elements; data_count = Some 2 }
+declared = record nothing_declared { types = types; elements = elements; data_count = Some 2 }
 
 -- with these proposals on
 abbrev under : ℕ → Bool → Context
-under bits shared = record { of_module = context_of declared; features = record { 0 = bits }; shared = shared; locals = []; set_at_entry = [] }
-
--- all of them
-abbrev every : ℕ
-every = 2097151
+under bits shared = within declared bits shared
 
 abbrev cx : Context
 cx = under every false
@@ -120,12 +87,6 @@ abbrev without_count : Context
 without_count = record cx { of_module = context_of (record declared { data_count = None }) }
 
 -- ---- operators
-
-abbrev struct_new : ℕ → Op
-struct_new i = Struct (StructNew i)
-
-abbrev struct_new_default : ℕ → Op
-struct_new_default i = Struct (StructNewDefault i)
 
 abbrev field : ℕ → ℕ → FieldIndex
 field i k = record { struct_type_index = i; field_index = k }
@@ -211,7 +172,7 @@ abbrev NoneGoesInDead : List (Op × List MaybeType) → Type 0
 NoneGoesInDead steps = map dead_after steps ≡ map (λ p. None) steps
 
 abbrev premise : Context → Op → Bool
-premise c op = ((operator c op).row []).premise
+premise c op = premise_in c [] op
 
 abbrev AllHold : List Op → Type 0
 AllHold ops = map (premise cx) ops ≡ map (λ op. true) ops

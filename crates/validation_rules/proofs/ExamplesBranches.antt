@@ -1,38 +1,32 @@
 -- Small bodies of the table's branches, blocks and `select`, also in dead code, computed. What is
 -- expected is what the standard's rules say of them.
-use Rattle.std.proofs.Common.{◌≡◌, ◌&&◌, ℕ, ◌+◌, pos, Bool, true, false, List, [], ◌∷◌, length, Option, Some, None, refl, ap}
+use Rattle.std.proofs.Common.{◌≡◌, ◌&&◌, ℕ, ◌+◌, Bool, true, false, List, [], ◌∷◌, Some, None, refl, ap}
 use Rattle.validate_resources.specs.Lists.{Declared, context_of}
+use Rattle.validate_resources.specs.Named.{nothing_declared}
 use Rattle.validate_types.specs.Features.{multi_value, floats, reference_types}
 use Rattle.validate_types.specs.Gates.{is_open}
 use Rattle.validate_types.specs.declared.gate.Gate.TheVariants.{ReferenceTypes}
-use Rattle.validate_types.specs.declared.types.CompositeInnerType.TheVariants.{Func}
-use Rattle.validate_visit.specs.declared.numbers.IntegerType.TheVariants.{I32 as IntegerI32}
-use Rattle.validate_visit.specs.declared.numeric.IntegerBinaryOp.TheVariants.{Add}
 use Rattle.validate_visit.specs.declared.op.Op.{Op}
-use Rattle.validate_visit.specs.declared.op.Op.TheVariants.{Control, Numeric}
-use Rattle.validate_visit.specs.declared.op.ControlOp.TheVariants.{Unreachable, Block as BlockOp, Loop as LoopOp, If as IfOp, Else as ElseOp, End, Br, BrIf, BrTable, Return, Drop, Select, TypedSelect, TypedSelectMulti}
-use Rattle.validate_visit.specs.declared.op.NumericOp.TheVariants.{Eqz, IntegerBinary, I32Const, I64Const}
+use Rattle.validate_visit.specs.declared.op.Op.TheVariants.{Control}
+use Rattle.validate_visit.specs.declared.op.ControlOp.TheVariants.{Select, TypedSelectMulti}
 use Rattle.validation_rules.specs.Context.{SubType, ValType, I32, I64, F32, F64, BlockType, Empty, Val, FuncType, Context}
 use Rattle.validation_rules.specs.Fits.{MaybeType, Bottom, Known}
-use Rattle.validation_rules.specs.Rows.{FrameKind, Block, If, Else, Loop}
-use Rattle.validation_rules.specs.Static.{Frame, State, open_state, state_before, start, step, step_in}
-use Rattle.validation_rules.specs.Operators.{never_row, row_operator, operator, operators}
+use Rattle.validation_rules.specs.Rows.{Block, If, Else, Loop}
+use Rattle.validation_rules.specs.Static.{Frame, open_state, step, step_in}
+use Rattle.validation_rules.specs.Operators.{never_row, row_operator, operator}
 use Rattle.validation_rules.proofs.Refusals.{IsRefusedAtLast}
+use Rattle.validation_rules.proofs.Writing.{func_type, shared_func_type, to_nothing, within, unreachable}
+use Rattle.validation_rules.proofs.Writing.{block, loop, an_if, an_else, end, br, br_if, br_table, a_return}
+use Rattle.validation_rules.proofs.Writing.{drops, typed_select, i32_const, i64_const, i32_eqz, i32_add}
+use Rattle.validation_rules.proofs.Writing.{frame, DoneUnder, OpenUnder, LeavesUnder}
 
 -- ---- a module of three types, and a function without locals
 
-abbrev a_type : Bool → List ValType → List ValType → SubType
-a_type shared params results =
-    record { is_final = true; supertype_idx = None; composite_type = record { inner = Func (record { params = params; results = results }); shared = shared; descriptor_idx = None; describes_idx = None } }
-
 abbrev types : List SubType
-types = a_type false [] [] ∷ a_type true (I32 ∷ []) (I64 ∷ []) ∷ a_type true (I64 ∷ []) (I64 ∷ []) ∷ []
+types = func_type [] [] ∷ shared_func_type (I32 ∷ []) (I64 ∷ []) ∷ shared_func_type (I64 ∷ []) (I64 ∷ []) ∷ []
 
 abbrev declared : Declared
-declared = record { types = types; functions = []; tables = []; memories = []; globals = []; tags = []; elements = []; data_count = None }
-
-abbrev to_nothing : BlockType
-to_nothing = FuncType 0
+declared = record nothing_declared { types = types }
 
 abbrev i32_to_i64 : BlockType
 i32_to_i64 = FuncType 1
@@ -42,75 +36,20 @@ i64_to_i64 = FuncType 2
 
 -- with these proposals on
 abbrev under : ℕ → Bool → Context
-under bits shared = record { of_module = context_of declared; features = record { 0 = bits }; shared = shared; locals = []; set_at_entry = [] }
+under bits shared = within declared bits shared
 
 abbrev cx : Context
 cx = under (multi_value + reference_types) false
 
 -- ---- operators
 
-abbrev i32_const : Op
-i32_const = Numeric (I32Const (pos 0))
-
-abbrev i64_const : Op
-i64_const = Numeric (I64Const (pos 0))
-
-abbrev i32_eqz : Op
-i32_eqz = Numeric (Eqz IntegerI32)
-
-abbrev i32_add : Op
-i32_add = Numeric (IntegerBinary IntegerI32 Add)
-
-abbrev unreachable : Op
-unreachable = Control Unreachable
-
-abbrev block : BlockType → Op
-block bt = Control (BlockOp bt)
-
-abbrev loop : BlockType → Op
-loop bt = Control (LoopOp bt)
-
-abbrev an_if : BlockType → Op
-an_if bt = Control (IfOp bt)
-
-abbrev an_else : Op
-an_else = Control ElseOp
-
-abbrev end : Op
-end = Control End
-
-abbrev br : ℕ → Op
-br d = Control (Br d)
-
-abbrev br_if : ℕ → Op
-br_if d = Control (BrIf d)
-
-abbrev a_table : List ℕ → Bool → ℕ → Op
-a_table ds complete d = Control (BrTable (record { targets = record { ref_ptr = (0, 0); now = ds }; complete = complete; default = d }))
-
-abbrev br_table : List ℕ → ℕ → Op
-br_table ds d = a_table ds true d
-
-abbrev a_return : Op
-a_return = Control Return
-
-abbrev drops : Op
-drops = Control Drop
-
 abbrev select : Op
 select = Control Select
-
-abbrev typed_select : ValType → Op
-typed_select t = Control (TypedSelect t)
 
 abbrev typed_select_multi : List ValType → Op
 typed_select_multi ts = Control (TypedSelectMulti (record { ref_ptr = (0, 0); now = ts }))
 
 -- ---- outcomes
-
--- the state after the whole list
-abbrev after_all : Context → BlockType → List Op → Option State
-after_all c ty ops = state_before c (operators c ops) (start ty) (length ops)
 
 -- the row of the last operator doesn't hold, and those of all before it do
 abbrev RefusedUnder : Context → BlockType → List Op → Type 0
@@ -121,21 +60,14 @@ Refused ty ops = RefusedUnder cx ty ops
 
 -- accepted up to the outermost `end`, with these types left, the top first
 abbrev Done : BlockType → List Op → List MaybeType → Type 0
-Done ty ops left = after_all cx ty ops ≡ Some (record { frames = []; left = left })
-
-abbrev frame : FrameKind → BlockType → List MaybeType → Bool → Frame
-frame kind ty own dead = record { head = record { kind = kind; block_type = ty }; operands = own; dead = dead; first_set = [] }
-
--- accepted so far, with these frames open
-abbrev OpenUnder : Context → BlockType → List Op → List Frame → Type 0
-OpenUnder c ty ops frames = after_all c ty ops ≡ Some (open_state frames)
+Done ty ops left = DoneUnder cx ty ops left
 
 abbrev Open : BlockType → List Op → List Frame → Type 0
 Open ty ops frames = OpenUnder cx ty ops frames
 
 -- in the outermost frame of a body without results
 abbrev Leaves : List Op → List MaybeType → Bool → Type 0
-Leaves ops own dead = Open to_nothing ops (frame Block to_nothing own dead ∷ [])
+Leaves ops own dead = LeavesUnder cx to_nothing ops own dead
 
 -- ---- `unreachable` and `select`
 
@@ -471,12 +403,12 @@ loop_shared = refl
 
 -- ---- a module whose check writes f64 for f32: the type in its canonical form is what counts
 
-abbrev written : ValType → ValType
-written F32 = F64
-written t = t
+abbrev rewritten : ValType → ValType
+rewritten F32 = F64
+rewritten t = t
 
 abbrev writing : Context
-writing = record cx { of_module = record (context_of declared) { canonical_type = λ f t. Some (written t) } }
+writing = record cx { of_module = record (context_of declared) { canonical_type = λ f t. Some (rewritten t) } }
 
 typed_select_written : OpenUnder writing to_nothing (unreachable ∷ typed_select F32 ∷ []) (frame Block to_nothing (Known F64 ∷ []) true ∷ [])
 typed_select_written = refl

@@ -1,32 +1,31 @@
 -- Small bodies of the table's calls and operators on globals, and their rows, computed. What is expected
 -- is what the standard's rules say of them, and for shared functions and globals the proposal
 -- shared-everything-threads.
-use Rattle.std.proofs.Common.{◌≡◌, ◌-◌, ℕ, pos, Bool, true, false, List, [], ◌∷◌, length, map, Option, Some, None, refl}
-use Rattle.validate_resources.specs.Lists.{Declared, context_of}
+use Rattle.std.proofs.Common.{◌≡◌, ◌-◌, ℕ, Bool, true, false, List, [], ◌∷◌, map, Some, refl}
+use Rattle.validate_resources.specs.Lists.{Declared}
+use Rattle.validate_resources.specs.Named.{nothing_declared}
 use Rattle.validate_resources.specs.declared.lists.FuncDecl.{FuncDecl}
 use Rattle.validate_types.specs.Features.{tail_call}
-use Rattle.validate_types.specs.declared.types.CompositeInnerType.TheVariants.{Func}
 use Rattle.validate_types.specs.declared.types.GlobalType.{GlobalType}
-use Rattle.validate_visit.specs.declared.op.ControlOp.TheVariants.{Unreachable, Block as BlockOp, Loop as LoopOp, End, Call, ReturnCall, Drop, GlobalGet, GlobalSet}
-use Rattle.validate_visit.specs.declared.op.NumericOp.TheVariants.{I32Const, I64Const}
+use Rattle.validate_visit.specs.declared.op.ControlOp.TheVariants.{GlobalGet, GlobalSet}
 use Rattle.validate_visit.specs.declared.op.Op.{Op}
-use Rattle.validate_visit.specs.declared.op.Op.TheVariants.{Control, Numeric}
+use Rattle.validate_visit.specs.declared.op.Op.TheVariants.{Control}
 use Rattle.validation_rules.specs.Context.{SubType, ValType, I32, I64, F32, BlockType, Empty, Val, FuncType, Context}
 use Rattle.validation_rules.specs.Fits.{MaybeType, Known}
-use Rattle.validation_rules.specs.Rows.{Head, FrameKind, Block, Loop, body_head}
-use Rattle.validation_rules.specs.Static.{Frame, State, open_state, state_before, start}
-use Rattle.validation_rules.specs.Operators.{row_operator, plain_row, operator, operators}
-use Rattle.validation_rules.proofs.Refusals.{states_of, IsRefusedAtLast}
+use Rattle.validation_rules.specs.Rows.{Head, Block, Loop, body_head}
+use Rattle.validation_rules.specs.Static.{Frame, open_state}
+use Rattle.validation_rules.specs.Operators.{row_operator, plain_row, operator}
+use Rattle.validation_rules.proofs.Refusals.{IsRefusedAtLast}
+use Rattle.validation_rules.proofs.Writing.{func_type, shared_func_type, to_nothing, every, within}
+use Rattle.validation_rules.proofs.Writing.{unreachable, block, loop, end, call, return_call, drops}
+use Rattle.validation_rules.proofs.Writing.{i32_const, i64_const, frame, after_all, DoneUnder, LeavesUnder}
+use Rattle.validation_rules.proofs.Writing.{AllRefusedUnder}
 
 -- ---- a module of six types, seven functions and three globals: function i has type i, and the last one
 -- has type 2
 
-abbrev a_type : Bool → List ValType → List ValType → SubType
-a_type shared params results =
-    record { is_final = true; supertype_idx = None; composite_type = record { inner = Func (record { params = params; results = results }); shared = shared; descriptor_idx = None; describes_idx = None } }
-
 abbrev types : List SubType
-types = a_type false [] [] ∷ a_type false (I32 ∷ I64 ∷ []) (F32 ∷ []) ∷ a_type false [] (I32 ∷ []) ∷ a_type false [] (I64 ∷ []) ∷ a_type false [] (I32 ∷ I64 ∷ []) ∷ a_type true [] [] ∷ []
+types = func_type [] [] ∷ func_type (I32 ∷ I64 ∷ []) (F32 ∷ []) ∷ func_type [] (I32 ∷ []) ∷ func_type [] (I64 ∷ []) ∷ func_type [] (I32 ∷ I64 ∷ []) ∷ shared_func_type [] [] ∷ []
 
 abbrev functions : List FuncDecl
 functions = map (λ i. record { type_index = i; referenced = false; exact = false }) (0 ∷ 1 ∷ 2 ∷ 3 ∷ 4 ∷ 5 ∷ 2 ∷ [])
@@ -38,15 +37,11 @@ abbrev globals : List GlobalType
 globals = a_global I32 false false ∷ a_global I64 true false ∷ a_global F32 true true ∷ []
 
 abbrev declared : Declared
-declared = record { types = types; functions = functions; tables = []; memories = []; globals = globals; tags = []; elements = []; data_count = None }
+declared = record nothing_declared { types = types; functions = functions; globals = globals }
 
 -- with these proposals on
 abbrev under : ℕ → Bool → Context
-under bits shared = record { of_module = context_of declared; features = record { 0 = bits }; shared = shared; locals = []; set_at_entry = [] }
-
--- all of them
-abbrev every : ℕ
-every = 2097151
+under bits shared = within declared bits shared
 
 abbrev cx : Context
 cx = under every false
@@ -55,40 +50,10 @@ cx = under every false
 abbrev in_shared : Context
 in_shared = under every true
 
-abbrev to_nothing : BlockType
-to_nothing = FuncType 0
-
 abbrev to_i32_and_i64 : BlockType
 to_i32_and_i64 = FuncType 4
 
 -- ---- operators
-
-abbrev i32_const : Op
-i32_const = Numeric (I32Const (pos 0))
-
-abbrev i64_const : Op
-i64_const = Numeric (I64Const (pos 0))
-
-abbrev unreachable : Op
-unreachable = Control Unreachable
-
-abbrev block : BlockType → Op
-block bt = Control (BlockOp bt)
-
-abbrev loop : BlockType → Op
-loop bt = Control (LoopOp bt)
-
-abbrev end : Op
-end = Control End
-
-abbrev drops : Op
-drops = Control Drop
-
-abbrev call : ℕ → Op
-call f = Control (Call f)
-
-abbrev return_call : ℕ → Op
-return_call f = Control (ReturnCall f)
 
 abbrev global_get : ℕ → Op
 global_get i = Control (GlobalGet i)
@@ -98,29 +63,14 @@ global_set i = Control (GlobalSet i)
 
 -- ---- outcomes
 
--- the state after the whole list
-abbrev after_all : Context → BlockType → List Op → Option State
-after_all c ty ops = state_before c (operators c ops) (start ty) (length ops)
-
 abbrev Refused : BlockType → List Op → Type 0
 Refused ty ops = IsRefusedAtLast cx ty ops
-
--- each of these bodies alone is refused, at its last operator
-abbrev AllRefusedUnder : Context → BlockType → List (List Op) → Type 0
-AllRefusedUnder c ty bodies = map (states_of c ty) bodies ≡ map length bodies
 
 abbrev AllRefused : BlockType → List (List Op) → Type 0
 AllRefused ty bodies = AllRefusedUnder cx ty bodies
 
--- accepted up to the outermost `end`, with these types left, the top first
-abbrev DoneUnder : Context → BlockType → List Op → List MaybeType → Type 0
-DoneUnder c ty ops left = after_all c ty ops ≡ Some (record { frames = []; left = left })
-
 abbrev Done : BlockType → List Op → List MaybeType → Type 0
 Done ty ops left = DoneUnder cx ty ops left
-
-abbrev frame : FrameKind → BlockType → List MaybeType → Bool → Frame
-frame kind ty own dead = record { head = record { kind = kind; block_type = ty }; operands = own; dead = dead; first_set = [] }
 
 -- accepted so far, with these frames open
 abbrev Open : BlockType → List Op → List Frame → Type 0
@@ -128,7 +78,7 @@ Open ty ops frames = after_all cx ty ops ≡ Some (open_state frames)
 
 -- with these operands in the outermost frame, the top first
 abbrev Leaves : BlockType → List Op → List MaybeType → Bool → Type 0
-Leaves ty ops own dead = Open ty ops (frame Block ty own dead ∷ [])
+Leaves ty ops own dead = LeavesUnder cx ty ops own dead
 
 -- each row's premise in a body of this type
 abbrev premises : Context → BlockType → List Op → List Bool

@@ -2,80 +2,51 @@
 -- each wants, pushes and carries, and what each of its premises refuses. What is expected is what the
 -- standard's rules say of them, and for shared types the proposal shared-everything-threads.
 use Rattle.std.proofs.Common.{◌≡◌, ◌-◌, ◌+◌, ℕ, Bool, true, false, List, [], ◌∷◌, map, Option, Some, None, refl}
-use Rattle.validate_resources.specs.Lists.{Declared, context_of}
+use Rattle.validate_resources.specs.Lists.{Declared}
+use Rattle.validate_resources.specs.Named.{nothing_declared}
 use Rattle.validate_types.specs.Features.{reference_types, function_references, gc, shared_everything_threads, exceptions}
 use Rattle.validate_types.specs.Refs.{reference}
-use Rattle.validate_types.specs.declared.heap.AbstractHeapType.{AbstractHeapType}
 use Rattle.validate_types.specs.declared.heap.AbstractHeapType.TheVariants.{Func, NoFunc, Extern, NoExtern, Any, Eq as EqHeap, I31, Struct as StructHeap, Array as ArrayHeap, None as NoneHeap, Exn, NoExn, Cont, NoCont}
 use Rattle.validate_types.specs.declared.heap.HeapType.{HeapType}
-use Rattle.validate_types.specs.declared.heap.HeapType.TheVariants.{Abstract, Concrete}
-use Rattle.validate_types.specs.declared.heap.UnpackedIndex.{UnpackedIndex}
-use Rattle.validate_types.specs.declared.heap.UnpackedIndex.TheVariants.{Module, Id}
 use Rattle.validate_types.specs.declared.refs.RefType.{RefType}
-use Rattle.validate_types.specs.declared.types.CompositeInnerType.{CompositeInnerType}
-use Rattle.validate_types.specs.declared.types.CompositeInnerType.TheVariants.{Func as FuncInner, Struct as StructInner, Array as ArrayInner}
+use Rattle.validate_types.specs.declared.types.CompositeInnerType.TheVariants.{Struct as StructInner, Array as ArrayInner}
 use Rattle.validate_types.specs.declared.types.StorageType.TheVariants.{I8}
 use Rattle.validate_visit.specs.declared.numbers.Sign.TheVariants.{Signed, Unsigned}
 use Rattle.validate_visit.specs.declared.op.Op.{Op}
 use Rattle.validate_visit.specs.declared.op.Op.TheVariants.{Reference}
 use Rattle.validate_visit.specs.declared.op.ReferenceOp.TheVariants.{RefEq, RefTestNonNull, RefTestNullable, RefCastNonNull, RefCastNullable, BrOnCast, BrOnCastFail, RefI31, I31Get, AnyConvertExtern, ExternConvertAny}
-use Rattle.validation_rules.specs.Context.{SubType, ValType, I32, I64, F32, Ref, BlockType, Empty, Val, FuncType, Context}
+use Rattle.validation_rules.specs.Context.{SubType, ValType, I32, I64, F32, BlockType, Empty, Val, FuncType, Context}
 use Rattle.validation_rules.specs.Fits.{MaybeType, Bottom, UnknownRef, Known}
-use Rattle.validation_rules.specs.Rows.{Row, Head, Block, Loop, body_head}
+use Rattle.validation_rules.specs.Rows.{Head, Loop, body_head}
 use Rattle.validation_rules.specs.Static.{State, open_state, step}
 use Rattle.validation_rules.specs.Operators.{row_operator, plain_row, operator}
+use Rattle.validation_rules.proofs.Writing.{null, no_null, abstract, shared, id, concrete, named}
+use Rattle.validation_rules.proofs.Writing.{an_open_type, of_functions, every, within, block_head, premise_in}
 
 -- ---- a module of functions, structs and arrays
 
-abbrev abstract : AbstractHeapType → HeapType
-abstract a = Abstract false a
-
-abbrev shared : AbstractHeapType → HeapType
-shared a = Abstract true a
-
--- by its index in the module, and by its id
-abbrev named : ℕ → HeapType
-named i = Concrete (Module i)
-
-abbrev concrete : ℕ → HeapType
-concrete i = Concrete (Id (record { index = i }))
-
--- with null, and without
-abbrev null : HeapType → ValType
-null h = Ref (reference true h)
-
-abbrev no_null : HeapType → ValType
-no_null h = Ref (reference false h)
-
-abbrev a_type : Option UnpackedIndex → Bool → CompositeInnerType → SubType
-a_type above shared inner = record { is_final = false; supertype_idx = above; composite_type = record { inner = inner; shared = shared; descriptor_idx = None; describes_idx = None } }
-
 abbrev to_types : List ValType → SubType
-to_types results = a_type None false (FuncInner (record { params = []; results = results }))
+to_types results = an_open_type None false (of_functions [] results)
 
 -- 1 is a struct, 2 one below it, 3 a shared one, 4 an array; the functions are what blocks give
 abbrev types : List SubType
 types =
     to_types []
-    ∷ a_type None false (StructInner [])
-    ∷ a_type (Some (Id (record { index = 1 }))) false (StructInner [])
-    ∷ a_type None true (StructInner [])
-    ∷ a_type None false (ArrayInner (record { 0 = record { element_type = I8; mutable = true } }))
+    ∷ an_open_type None false (StructInner [])
+    ∷ an_open_type (Some (id 1)) false (StructInner [])
+    ∷ an_open_type None true (StructInner [])
+    ∷ an_open_type None false (ArrayInner (record { 0 = record { element_type = I8; mutable = true } }))
     ∷ to_types (I32 ∷ null (abstract Any) ∷ [])
     ∷ to_types (I64 ∷ I32 ∷ no_null (abstract EqHeap) ∷ [])
     ∷ to_types (null (abstract Any) ∷ I32 ∷ [])
     ∷ []
 
 abbrev declared : Declared
-declared = record { types = types; functions = []; tables = []; memories = []; globals = []; tags = []; elements = []; data_count = None }
+declared = record nothing_declared { types = types }
 
 -- with these proposals on
 abbrev under : ℕ → Context
-under bits = record { of_module = context_of declared; features = record { 0 = bits }; shared = false; locals = []; set_at_entry = [] }
-
--- all of them
-abbrev every : ℕ
-every = 2097151
+under bits = within declared bits false
 
 abbrev cx : Context
 cx = under every
@@ -154,11 +125,8 @@ NoneGoes steps = map live_after steps ≡ map (λ p. None) steps
 abbrev NoneGoesInDead : List (Op × List MaybeType) → Type 0
 NoneGoesInDead steps = map dead_after steps ≡ map (λ p. None) steps
 
-abbrev row_in : Context → List Head → Op → Row
-row_in c hs op = (operator c op).row hs
-
 abbrev premises : Context → List Head → List Op → List Bool
-premises c hs ops = map (λ op. (row_in c hs op).premise) ops
+premises c hs ops = map (λ op. premise_in c hs op) ops
 
 -- With `gc` and these proposals alone, the operator wants and pushes exactly these types, and does nothing
 -- else; with all but `gc` its row doesn't hold.
@@ -318,13 +286,10 @@ without_references = refl
 
 -- ---- branches by a cast
 
-abbrev head : BlockType → Head
-head bt = record { kind = Block; block_type = bt }
-
 -- labels 0 to 4: an i32 and any reference; no type; i64, i32 and one that can be compared; a number last;
 -- that of a loop, which has none
 abbrev outer : List Head
-outer = head (FuncType 5) ∷ head Empty ∷ head (FuncType 6) ∷ head (FuncType 7) ∷ record { kind = Loop; block_type = Val (null (abstract Any)) } ∷ body_head (Val (null (abstract Extern))) ∷ []
+outer = block_head (FuncType 5) ∷ block_head Empty ∷ block_head (FuncType 6) ∷ block_head (FuncType 7) ∷ record { kind = Loop; block_type = Val (null (abstract Any)) } ∷ body_head (Val (null (abstract Extern))) ∷ []
 
 -- under these two proposals alone
 abbrev casting : Context
@@ -332,12 +297,12 @@ casting = under (reference_types + gc)
 
 -- the labels that the operator may branch to, with what it carries there from these operands
 abbrev carried_from : Op → List ValType → List (ℕ × List ValType)
-carried_from op found = map (λ t. (t.depth, t.carried found)) (row_in casting outer op).targets
+carried_from op found = map (λ t. (t.depth, t.carried found)) ((operator casting op).row outer).targets
 
 -- what it wants and pushes, and what it carries of these operands, the last on top
 abbrev Branches : Op → List ValType → List ValType → ℕ → List ValType → List ValType → Type 0
 Branches op wanted pushed d found carried =
-    (record (row_in casting outer op) { targets = [] } ≡ plain_row wanted pushed) × (carried_from op found ≡ (d, carried) ∷ []) × (premises (under (every - gc)) outer (op ∷ []) ≡ false ∷ [])
+    (record ((operator casting op).row outer) { targets = [] } ≡ plain_row wanted pushed) × (carried_from op found ≡ (d, carried) ∷ []) × (premises (under (every - gc)) outer (op ∷ []) ≡ false ∷ [])
 
 abbrev any : Bool → RefType
 any nullable = reference nullable (abstract Any)
@@ -403,17 +368,17 @@ to_results : premises cx outer (br_on_cast 5 (reference true (abstract Extern)) 
 to_results = refl
 
 -- no cast leads to a continuation, whatever the label
-to_continuation : premises cx (head (Val (null (abstract Cont))) ∷ []) (br_on_cast 0 (reference true (abstract Cont)) (reference true (abstract NoCont)) ∷ br_on_cast_fail 0 (reference true (abstract Cont)) (reference true (abstract Cont)) ∷ []) ≡ false ∷ false ∷ []
+to_continuation : premises cx (block_head (Val (null (abstract Cont))) ∷ []) (br_on_cast 0 (reference true (abstract Cont)) (reference true (abstract NoCont)) ∷ br_on_cast_fail 0 (reference true (abstract Cont)) (reference true (abstract Cont)) ∷ []) ≡ false ∷ false ∷ []
 to_continuation = refl
 
-to_exception : premises cx (head (Val (null (abstract Exn))) ∷ []) (br_on_cast 0 (reference true (abstract Exn)) (reference true (abstract NoExn)) ∷ br_on_cast_fail 0 (reference true (abstract Exn)) (reference true (abstract Exn)) ∷ []) ≡ true ∷ true ∷ []
+to_exception : premises cx (block_head (Val (null (abstract Exn))) ∷ []) (br_on_cast 0 (reference true (abstract Exn)) (reference true (abstract NoExn)) ∷ br_on_cast_fail 0 (reference true (abstract Exn)) (reference true (abstract Exn)) ∷ []) ≡ true ∷ true ∷ []
 to_exception = refl
 
 -- both types are known, and their gates open
 unknown_types : premises cx outer (br_on_cast 0 (reference true (named 8)) (i31 false) ∷ br_on_cast 0 (any true) (reference true (named 8)) ∷ br_on_cast_fail 0 (reference true (named 8)) (reference true (named 8)) ∷ []) ≡ false ∷ false ∷ false ∷ []
 unknown_types = refl
 
-closed_types : premises (under (every - shared_everything_threads)) (head (Val (null (shared Any))) ∷ []) (br_on_cast 0 (reference true (shared Any)) (reference false (shared I31)) ∷ []) ≡ false ∷ [] × premises cx (head (Val (null (shared Any))) ∷ []) (br_on_cast 0 (reference true (shared Any)) (reference false (shared I31)) ∷ []) ≡ true ∷ [] × premises (under (every - reference_types)) outer (from_any_at 0) ≡ false ∷ false ∷ []
+closed_types : premises (under (every - shared_everything_threads)) (block_head (Val (null (shared Any))) ∷ []) (br_on_cast 0 (reference true (shared Any)) (reference false (shared I31)) ∷ []) ≡ false ∷ [] × premises cx (block_head (Val (null (shared Any))) ∷ []) (br_on_cast 0 (reference true (shared Any)) (reference false (shared I31)) ∷ []) ≡ true ∷ [] × premises (under (every - reference_types)) outer (from_any_at 0) ≡ false ∷ false ∷ []
 closed_types = (refl, refl, refl)
 
 -- ---- branches by a cast, over operands

@@ -4,43 +4,30 @@
 -- shared-everything threads.
 use Rattle.std.proofs.Common.{◌≡◌, ◌-◌, ℕ, Bool, true, false, List, [], ◌∷◌, map, Option, Some, None, refl}
 use Rattle.validate_resources.specs.Lists.{Declared, context_of}
+use Rattle.validate_resources.specs.Named.{nothing_declared}
 use Rattle.validate_types.specs.Features.{stack_switching}
 use Rattle.validate_types.specs.Refs.{reference}
 use Rattle.validate_types.specs.declared.heap.AbstractHeapType.TheVariants.{Func as FuncHeap, NoFunc as NoFuncHeap, Any as AnyHeap, Eq as EqHeap, I31 as I31Heap, Exn as ExnHeap, NoExn as NoExnHeap, Cont as ContHeap, NoCont as NoContHeap}
-use Rattle.validate_types.specs.declared.heap.HeapType.{HeapType}
-use Rattle.validate_types.specs.declared.heap.HeapType.TheVariants.{Abstract, Concrete}
-use Rattle.validate_types.specs.declared.heap.UnpackedIndex.{UnpackedIndex}
-use Rattle.validate_types.specs.declared.heap.UnpackedIndex.TheVariants.{Module, Id}
-use Rattle.validate_types.specs.declared.types.CompositeInnerType.{CompositeInnerType}
-use Rattle.validate_types.specs.declared.types.CompositeInnerType.TheVariants.{Func, Cont}
-use Rattle.validate_visit.specs.declared.op.ContinuationOp.TheVariants.{ContNew, ContBind, Suspend, Resume, ResumeThrow, ResumeThrowRef, Switch}
-use Rattle.validate_visit.specs.declared.op.ControlOp.TheVariants.{Unreachable, Block as BlockOp, Loop as LoopOp, End, Drop}
+use Rattle.validate_types.specs.declared.heap.HeapType.TheVariants.{Abstract}
+use Rattle.validate_types.specs.declared.heap.UnpackedIndex.TheVariants.{Module}
+use Rattle.validate_types.specs.declared.types.CompositeInnerType.TheVariants.{Cont}
+use Rattle.validate_visit.specs.declared.op.ContinuationOp.TheVariants.{ContNew, ContBind, Suspend, ResumeThrow, ResumeThrowRef, Switch}
 use Rattle.validate_visit.specs.declared.op.Op.{Op}
-use Rattle.validate_visit.specs.declared.op.Op.TheVariants.{Control, Reference, Continuation}
-use Rattle.validate_visit.specs.declared.op.ReferenceOp.TheVariants.{RefNull, RefFunc}
+use Rattle.validate_visit.specs.declared.op.Op.TheVariants.{Reference, Continuation}
+use Rattle.validate_visit.specs.declared.op.ReferenceOp.TheVariants.{RefFunc}
 use Rattle.validate_visit.specs.declared.resume.Handle.{Handle}
 use Rattle.validate_visit.specs.declared.resume.Handle.TheVariants.{OnLabel, OnSwitch}
 use Rattle.validation_rules.specs.Context.{SubType, ValType, I32, I64, F32, F64, Ref, BlockType, Empty, Val, FuncType, Context}
 use Rattle.validation_rules.specs.Fits.{MaybeType, Bottom, UnknownRef, Known}
 use Rattle.validation_rules.specs.Rows.{Block, Loop, Head, Target, Row, body_head}
-use Rattle.validation_rules.specs.Static.{Frame, State, open_state, step, state_before, start}
+use Rattle.validation_rules.specs.Static.{State, open_state, step, state_before, start}
 use Rattle.validation_rules.specs.Operators.{plain_row, row_operator, operator, operators}
 use Rattle.validation_rules.proofs.Refusals.{IsRefusedAtLast}
+use Rattle.validation_rules.proofs.Writing.{null, id, null_to, to, an_open_type, of_functions}
+use Rattle.validation_rules.proofs.Writing.{of_continuations, every, within, unreachable, block, loop, end}
+use Rattle.validation_rules.proofs.Writing.{drops, null_of, resume, block_head, frame, premise_in}
 
 -- ---- a module of function types, of the types of their continuations, and of tags
-
-abbrev id : ℕ → UnpackedIndex
-id i = Id (record { index = i })
-
--- references to the type at this index, with null, and without
-abbrev null_to : ℕ → ValType
-null_to i = Ref (reference true (Concrete (id i)))
-
-abbrev to : ℕ → ValType
-to i = Ref (reference false (Concrete (id i)))
-
-abbrev null : HeapType → ValType
-null h = Ref (reference true h)
 
 abbrev any : ValType
 any = null (Abstract false AnyHeap)
@@ -57,108 +44,101 @@ exnref = null (Abstract false ExnHeap)
 abbrev contref : ValType
 contref = null (Abstract false ContHeap)
 
-abbrev a_type : Bool → Option UnpackedIndex → CompositeInnerType → SubType
-a_type shared above inner = record { is_final = false; supertype_idx = above; composite_type = record { inner = inner; shared = shared; descriptor_idx = None; describes_idx = None } }
-
-abbrev func : List ValType → List ValType → SubType
-func params results = a_type false None (Func (record { params = params; results = results }))
+abbrev open_func_type : List ValType → List ValType → SubType
+open_func_type params results = an_open_type None false (of_functions params results)
 
 abbrev cont : ℕ → SubType
-cont i = a_type false None (Cont (record { 0 = id i }))
+cont i = an_open_type None false (of_continuations i)
 
 -- behind each of the first function types stands that of its continuations; 6 is below 2 and 7 below 3; 30, 31,
 -- 68 and 69 are shared; 34 to 44 say what labels take; 45 to 66 are of switches
 abbrev types : List SubType
 types =
-    func [] []
+    open_func_type [] []
     ∷ cont 0
-    ∷ func (I32 ∷ I64 ∷ []) (F32 ∷ [])
+    ∷ open_func_type (I32 ∷ I64 ∷ []) (F32 ∷ [])
     ∷ cont 2
-    ∷ func (I64 ∷ []) (F32 ∷ [])
+    ∷ open_func_type (I64 ∷ []) (F32 ∷ [])
     ∷ cont 4
-    ∷ a_type false (Some (id 2)) (Func (record { params = I32 ∷ I64 ∷ []; results = F32 ∷ [] }))
-    ∷ a_type false (Some (id 3)) (Cont (record { 0 = id 6 }))
-    ∷ func [] (F32 ∷ [])
+    ∷ an_open_type (Some (id 2)) false (of_functions (I32 ∷ I64 ∷ []) (F32 ∷ []))
+    ∷ an_open_type (Some (id 3)) false (of_continuations 6)
+    ∷ open_func_type [] (F32 ∷ [])
     ∷ cont 8
-    ∷ func (I32 ∷ []) (F32 ∷ [])
+    ∷ open_func_type (I32 ∷ []) (F32 ∷ [])
     ∷ cont 10
-    ∷ func (I64 ∷ []) (F64 ∷ [])
+    ∷ open_func_type (I64 ∷ []) (F64 ∷ [])
     ∷ cont 12
-    ∷ func (eq ∷ []) (eq ∷ [])
+    ∷ open_func_type (eq ∷ []) (eq ∷ [])
     ∷ cont 14
-    ∷ func (i31 ∷ []) (any ∷ [])
+    ∷ open_func_type (i31 ∷ []) (any ∷ [])
     ∷ cont 16
-    ∷ func (any ∷ []) (any ∷ [])
+    ∷ open_func_type (any ∷ []) (any ∷ [])
     ∷ cont 18
-    ∷ func (i31 ∷ []) (i31 ∷ [])
+    ∷ open_func_type (i31 ∷ []) (i31 ∷ [])
     ∷ cont 20
-    ∷ func (I32 ∷ eq ∷ []) (eq ∷ [])
+    ∷ open_func_type (I32 ∷ eq ∷ []) (eq ∷ [])
     ∷ cont 22
-    ∷ func [] (eq ∷ [])
+    ∷ open_func_type [] (eq ∷ [])
     ∷ cont 24
-    ∷ func [] (any ∷ [])
+    ∷ open_func_type [] (any ∷ [])
     ∷ cont 26
-    ∷ func [] (i31 ∷ [])
+    ∷ open_func_type [] (i31 ∷ [])
     ∷ cont 28
-    ∷ a_type true None (Func (record { params = []; results = [] }))
-    ∷ a_type true None (Cont (record { 0 = id 30 }))
-    ∷ func (I32 ∷ []) (I64 ∷ [])
-    ∷ func (I32 ∷ []) []
-    ∷ func [] (I32 ∷ to 5 ∷ [])
-    ∷ func [] (I32 ∷ null_to 5 ∷ [])
-    ∷ func [] (I64 ∷ to 5 ∷ [])
-    ∷ func [] (to 5 ∷ I32 ∷ [])
-    ∷ func [] (I32 ∷ I32 ∷ to 5 ∷ [])
-    ∷ func [] (I32 ∷ to 3 ∷ [])
-    ∷ func [] (I32 ∷ to 4 ∷ [])
-    ∷ func [] (I32 ∷ contref ∷ [])
-    ∷ func [] (eq ∷ to 15 ∷ [])
-    ∷ func [] (any ∷ to 15 ∷ [])
-    ∷ func [] (i31 ∷ to 15 ∷ [])
-    ∷ func (F64 ∷ []) []
+    ∷ an_open_type None true (of_functions [] [])
+    ∷ an_open_type None true (of_continuations 30)
+    ∷ open_func_type (I32 ∷ []) (I64 ∷ [])
+    ∷ open_func_type (I32 ∷ []) []
+    ∷ open_func_type [] (I32 ∷ to 5 ∷ [])
+    ∷ open_func_type [] (I32 ∷ null_to 5 ∷ [])
+    ∷ open_func_type [] (I64 ∷ to 5 ∷ [])
+    ∷ open_func_type [] (to 5 ∷ I32 ∷ [])
+    ∷ open_func_type [] (I32 ∷ I32 ∷ to 5 ∷ [])
+    ∷ open_func_type [] (I32 ∷ to 3 ∷ [])
+    ∷ open_func_type [] (I32 ∷ to 4 ∷ [])
+    ∷ open_func_type [] (I32 ∷ contref ∷ [])
+    ∷ open_func_type [] (eq ∷ to 15 ∷ [])
+    ∷ open_func_type [] (any ∷ to 15 ∷ [])
+    ∷ open_func_type [] (i31 ∷ to 15 ∷ [])
+    ∷ open_func_type (F64 ∷ []) []
     ∷ cont 45
-    ∷ func (I32 ∷ null_to 46 ∷ []) []
+    ∷ open_func_type (I32 ∷ null_to 46 ∷ []) []
     ∷ cont 47
-    ∷ func (I32 ∷ to 46 ∷ []) []
+    ∷ open_func_type (I32 ∷ to 46 ∷ []) []
     ∷ cont 49
-    ∷ func (null_to 25 ∷ []) (eq ∷ [])
+    ∷ open_func_type (null_to 25 ∷ []) (eq ∷ [])
     ∷ cont 51
-    ∷ func (null_to 25 ∷ []) (i31 ∷ [])
+    ∷ open_func_type (null_to 25 ∷ []) (i31 ∷ [])
     ∷ cont 53
-    ∷ func (null_to 25 ∷ []) (any ∷ [])
+    ∷ open_func_type (null_to 25 ∷ []) (any ∷ [])
     ∷ cont 55
-    ∷ func (null_to 27 ∷ []) (eq ∷ [])
+    ∷ open_func_type (null_to 27 ∷ []) (eq ∷ [])
     ∷ cont 57
-    ∷ func (null_to 29 ∷ []) (eq ∷ [])
+    ∷ open_func_type (null_to 29 ∷ []) (eq ∷ [])
     ∷ cont 59
-    ∷ func (null_to 46 ∷ I32 ∷ []) []
+    ∷ open_func_type (null_to 46 ∷ I32 ∷ []) []
     ∷ cont 61
-    ∷ func (null_to 45 ∷ []) []
+    ∷ open_func_type (null_to 45 ∷ []) []
     ∷ cont 63
-    ∷ func (contref ∷ []) []
+    ∷ open_func_type (contref ∷ []) []
     ∷ cont 65
-    ∷ func (F32 ∷ F64 ∷ []) []
-    ∷ a_type true None (Func (record { params = null_to 31 ∷ []; results = [] }))
-    ∷ a_type true None (Cont (record { 0 = id 68 }))
-    ∷ func (I32 ∷ I32 ∷ I64 ∷ []) (F32 ∷ [])
+    ∷ open_func_type (F32 ∷ F64 ∷ []) []
+    ∷ an_open_type None true (of_functions (null_to 31 ∷ []) [])
+    ∷ an_open_type None true (of_continuations 68)
+    ∷ open_func_type (I32 ∷ I32 ∷ I64 ∷ []) (F32 ∷ [])
     ∷ cont 70
-    ∷ func (I64 ∷ []) []
+    ∷ open_func_type (I64 ∷ []) []
     ∷ cont 72
-    ∷ func (null_to 1 ∷ []) []
+    ∷ open_func_type (null_to 1 ∷ []) []
     ∷ []
 
 -- of tag 0 nothing is carried, and nothing given back; 1 carries an i32 and gives an i64 back; 2 and 9 give
 -- nothing back; 3, 5, 6 and 7 carry nothing
 abbrev declared : Declared
-declared = record { types = types; functions = record { type_index = 0; referenced = true; exact = false } ∷ []; tables = []; memories = []; globals = []; tags = 0 ∷ 32 ∷ 33 ∷ 8 ∷ 14 ∷ 24 ∷ 26 ∷ 28 ∷ 10 ∷ 67 ∷ []; elements = []; data_count = None }
+declared = record nothing_declared { types = types; functions = record { type_index = 0; referenced = true; exact = false } ∷ []; tags = 0 ∷ 32 ∷ 33 ∷ 8 ∷ 14 ∷ 24 ∷ 26 ∷ 28 ∷ 10 ∷ 67 ∷ [] }
 
 -- with these proposals on
 abbrev under : ℕ → Bool → Context
-under bits shared = record { of_module = context_of declared; features = record { 0 = bits }; shared = shared; locals = []; set_at_entry = [] }
-
--- all of them
-abbrev every : ℕ
-every = 2097151
+under bits shared = within declared bits shared
 
 abbrev cx : Context
 cx = under every false
@@ -173,9 +153,6 @@ cont_bind i j = Continuation (ContBind i j)
 
 abbrev suspend : ℕ → Op
 suspend tag = Continuation (Suspend tag)
-
-abbrev resume : ℕ → List Handle → Op
-resume i handlers = Continuation (Resume i (record { handlers = record { ref_ptr = (0, 0); now = handlers } }))
 
 abbrev resume_throw : ℕ → ℕ → List Handle → Op
 resume_throw i tag handlers = Continuation (ResumeThrow i tag (record { handlers = record { ref_ptr = (0, 0); now = handlers } }))
@@ -192,27 +169,9 @@ on tag label = OnLabel tag label
 abbrev on_switch : ℕ → Handle
 on_switch tag = OnSwitch tag
 
-abbrev unreachable : Op
-unreachable = Control Unreachable
-
-abbrev block : BlockType → Op
-block bt = Control (BlockOp bt)
-
-abbrev end : Op
-end = Control End
-
-abbrev drops : Op
-drops = Control Drop
-
-abbrev ref_null : ℕ → Op
-ref_null i = Reference (RefNull (Concrete (Module i)))
-
 -- ---- outcomes
 
 -- two blocks in a body
-abbrev block_head : BlockType → Head
-block_head bt = record { kind = Block; block_type = bt }
-
 abbrev labels : List Head
 labels = block_head (FuncType 34) ∷ block_head (FuncType 35) ∷ body_head (Val (null_to 9)) ∷ []
 
@@ -230,9 +189,6 @@ Handles op wanted pushed targets = row_under stack_switching op ≡ record (plai
 abbrev a_target : ℕ → List ValType → Target
 a_target depth types = record { depth = depth; carried = λ found. types }
 
-abbrev premise_in : Context → List Head → Op → Bool
-premise_in c hs op = ((operator c op).row hs).premise
-
 -- where the premise holds, of these operators
 abbrev held : List Op → List Bool
 held ops = map (premise_in cx labels) ops
@@ -244,16 +200,13 @@ held_in_shared ops = map (premise_in (under every true) labels) ops
 abbrev held_in : Op → List BlockType → List Bool
 held_in op bts = map (λ bt. premise_in cx (block_head bt ∷ body_head Empty ∷ []) op) bts
 
-abbrev frame : List MaybeType → Bool → Frame
-frame own dead = record { head = body_head Empty; operands = own; dead = dead; first_set = [] }
-
 -- the state after the operator over these operands of the body's frame, the top first
 abbrev after_over : Bool → Op → List MaybeType → Option State
-after_over dead op own = step cx (operator cx op) (open_state (frame own dead ∷ []))
+after_over dead op own = step cx (operator cx op) (open_state (frame Block Empty own dead ∷ []))
 
 -- over each of these lists alone it holds, and leaves these
 abbrev EachLeaves : Bool → Op → List (List MaybeType) → List MaybeType → Type 0
-EachLeaves dead op operands left = map (after_over dead op) operands ≡ map (λ own. Some (open_state (frame left dead ∷ []))) operands
+EachLeaves dead op operands left = map (after_over dead op) operands ≡ map (λ own. Some (open_state (frame Block Empty left dead ∷ []))) operands
 
 abbrev NoneGoes : Bool → Op → List (List MaybeType) → Type 0
 NoneGoes dead op operands = map (after_over dead op) operands ≡ map (λ own. None) operands
@@ -351,7 +304,7 @@ by_id : map (premise_in without_ids labels) (cont_new 3 ∷ cont_bind 3 3 ∷ re
 by_id = refl
 
 abbrev by_index : Context
-by_index = record cx { of_module = context_of (record declared { types = func [] [] ∷ a_type false None (Cont (record { 0 = Module 0 })) ∷ [] }) }
+by_index = record cx { of_module = context_of (record declared { types = open_func_type [] [] ∷ an_open_type None false (Cont (record { 0 = Module 0 })) ∷ [] }) }
 
 not_by_index : map (premise_in by_index []) (cont_bind 1 1 ∷ resume 1 [] ∷ []) ≡ false ∷ false ∷ []
 not_by_index = refl
@@ -548,10 +501,10 @@ switches_in_dead = (refl, refl, refl)
 -- ---- bodies
 
 -- a suspension leaves the block with the continuation, the end of what is resumed with nothing
-resumes_in_block : Done (block (Val (null_to 1)) ∷ Reference (RefFunc 0) ∷ cont_new 1 ∷ resume 1 (on 0 0 ∷ []) ∷ ref_null 1 ∷ end ∷ drops ∷ end ∷ []) 8
+resumes_in_block : Done (block (Val (null_to 1)) ∷ Reference (RefFunc 0) ∷ cont_new 1 ∷ resume 1 (on 0 0 ∷ []) ∷ null_of 1 ∷ end ∷ drops ∷ end ∷ []) 8
 resumes_in_block = refl
 
-resumes_in_loop : Done (ref_null 1 ∷ Control (LoopOp (FuncType 74)) ∷ resume 1 (on 0 0 ∷ on_switch 0 ∷ []) ∷ end ∷ end ∷ []) 5
+resumes_in_loop : Done (null_of 1 ∷ loop (FuncType 74) ∷ resume 1 (on 0 0 ∷ on_switch 0 ∷ []) ∷ end ∷ end ∷ []) 5
 resumes_in_loop = refl
 
 -- behind `unreachable` operands are found, and what is given is known
@@ -562,9 +515,9 @@ dead_refused : Refused (unreachable ∷ cont_new 3 ∷ resume 5 [] ∷ []) × Re
 dead_refused = (refl, refl, refl, refl, refl)
 
 -- the body's own label takes nothing
-to_body : Refused (ref_null 1 ∷ resume 1 (on 0 0 ∷ []) ∷ [])
+to_body : Refused (null_of 1 ∷ resume 1 (on 0 0 ∷ []) ∷ [])
 to_body = refl
 
 -- what a block would give is nothing that `resume` gives
-gives_no_continuation : Refused (block (Val (null_to 1)) ∷ ref_null 1 ∷ resume 1 (on 0 0 ∷ []) ∷ end ∷ [])
+gives_no_continuation : Refused (block (Val (null_to 1)) ∷ null_of 1 ∷ resume 1 (on 0 0 ∷ []) ∷ end ∷ [])
 gives_no_continuation = refl

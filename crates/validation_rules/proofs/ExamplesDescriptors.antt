@@ -1,64 +1,43 @@
 -- Exact references and descriptors: the order of exact types, what is allocated, whose descriptor is read, and
 -- casts by a descriptor.
 use Rattle.std.proofs.Common.{◌≡◌, ◌-◌, ◌++◌, ℕ, Bool, true, false, List, [], ◌∷◌, map, Option, Some, None, refl}
-use Rattle.validate_resources.specs.Lists.{Declared, context_of, is_module}
+use Rattle.validate_resources.specs.Lists.{Declared, is_module}
+use Rattle.validate_resources.specs.Named.{nothing_declared}
 use Rattle.validate_resources.specs.Indices.{is_id}
 use Rattle.validate_types.specs.Features.{custom_descriptors}
 use Rattle.validate_types.specs.Refs.{reference}
-use Rattle.validate_types.specs.declared.heap.AbstractHeapType.{AbstractHeapType}
 use Rattle.validate_types.specs.declared.heap.AbstractHeapType.TheVariants.{Func, Any, Eq as EqHeap, Struct as StructHeap, Array as ArrayHeap, I31, None as NoneHeap, NoFunc, Extern}
 use Rattle.validate_types.specs.declared.heap.HeapType.{HeapType}
-use Rattle.validate_types.specs.declared.heap.HeapType.TheVariants.{Abstract, Concrete, Exact}
+use Rattle.validate_types.specs.declared.heap.HeapType.TheVariants.{Exact}
 use Rattle.validate_types.specs.declared.heap.UnpackedIndex.{UnpackedIndex}
-use Rattle.validate_types.specs.declared.heap.UnpackedIndex.TheVariants.{Module, Id}
+use Rattle.validate_types.specs.declared.heap.UnpackedIndex.TheVariants.{Module}
 use Rattle.validate_types.specs.declared.refs.RefType.{RefType}
 use Rattle.validate_types.specs.declared.types.CompositeInnerType.{CompositeInnerType}
-use Rattle.validate_types.specs.declared.types.CompositeInnerType.TheVariants.{Func as FuncInner, Struct as StructInner, Array as ArrayInner}
+use Rattle.validate_types.specs.declared.types.CompositeInnerType.TheVariants.{Struct as StructInner, Array as ArrayInner}
 use Rattle.validate_types.specs.declared.types.FieldType.{FieldType}
 use Rattle.validate_types.specs.declared.types.StorageType.TheVariants.{I8, Val as Value}
 use Rattle.validate_visit.specs.declared.op.ArrayOp.TheVariants.{ArrayNewDefault}
 use Rattle.validate_visit.specs.declared.op.Op.{Op}
 use Rattle.validate_visit.specs.declared.op.Op.TheVariants.{Struct, Array, Reference}
 use Rattle.validate_visit.specs.declared.op.ReferenceOp.TheVariants.{RefFunc, RefGetDesc, RefCastDescEqNonNull, RefCastDescEqNullable, BrOnCastDescEq, BrOnCastDescEqFail}
-use Rattle.validate_visit.specs.declared.op.StructOp.TheVariants.{StructNew, StructNewDefault, StructNewDesc, StructNewDefaultDesc}
-use Rattle.validation_rules.specs.Context.{SubType, ValType, I32, I64, F32, Ref, BlockType, Empty, FuncType, Context}
+use Rattle.validate_visit.specs.declared.op.StructOp.TheVariants.{StructNewDesc, StructNewDefaultDesc}
+use Rattle.validation_rules.specs.Context.{SubType, ValType, I32, I64, F32, BlockType, Empty, FuncType, Context}
 use Rattle.validation_rules.specs.Fits.{MaybeType, Bottom, UnknownRef, Known}
 use Rattle.validation_rules.specs.Rows.{body_head}
 use Rattle.validation_rules.specs.Static.{State, open_state, step}
 use Rattle.validation_rules.specs.Operators.{operator}
-
--- with null, and without
-abbrev null : HeapType → ValType
-null h = Ref (reference true h)
-
-abbrev no_null : HeapType → ValType
-no_null h = Ref (reference false h)
-
-abbrev abstract : AbstractHeapType → HeapType
-abstract a = Abstract false a
-
--- by its index in the module, and by its id
-abbrev named : ℕ → HeapType
-named i = Concrete (Module i)
+use Rattle.validation_rules.proofs.Writing.{null, no_null, abstract, id, concrete, exact, named, of_functions}
+use Rattle.validation_rules.proofs.Writing.{every, within, struct_new, struct_new_default, premise_in}
 
 abbrev named_exact : ℕ → HeapType
 named_exact i = Exact (Module i)
-
-abbrev id : ℕ → UnpackedIndex
-id i = Id (record { index = i })
-
-abbrev concrete : ℕ → HeapType
-concrete i = Concrete (id i)
-
-abbrev exact : ℕ → HeapType
-exact i = Exact (id i)
 
 -- ---- types: 1 is a struct with descriptors of type 2, 3 one below it with descriptors of type 4, which lies below
 -- 2; 5 is a struct without, 6 an array, 7 what a block gives, and 8 a struct with descriptors of type 5, and with a
 -- field without a default value
 
-abbrev a_type : Option UnpackedIndex → CompositeInnerType → Option UnpackedIndex → Option UnpackedIndex → SubType
-a_type above inner descriptor described = record {
+abbrev described_type : Option UnpackedIndex → CompositeInnerType → Option UnpackedIndex → Option UnpackedIndex → SubType
+described_type above inner descriptor described = record {
   is_final = false;
   supertype_idx = above;
   composite_type = record { inner = inner; shared = false; descriptor_idx = descriptor; describes_idx = described };
@@ -68,24 +47,24 @@ abbrev field : ValType → FieldType
 field t = record { element_type = Value t; mutable = true }
 
 abbrev function : List ValType → CompositeInnerType
-function results = FuncInner (record { params = []; results = results })
+function results = of_functions [] results
 
 abbrev types : List SubType
 types =
-    a_type None (function []) None None
-    ∷ a_type None (StructInner (field I32 ∷ [])) (Some (id 2)) None
-    ∷ a_type None (StructInner []) None (Some (id 1))
-    ∷ a_type (Some (id 1)) (StructInner (field I32 ∷ [])) (Some (id 4)) None
-    ∷ a_type (Some (id 2)) (StructInner []) None (Some (id 3))
-    ∷ a_type None (StructInner []) None None
-    ∷ a_type None (ArrayInner (record { 0 = record { element_type = I8; mutable = true } })) None None
-    ∷ a_type None (function (I64 ∷ null (concrete 1) ∷ [])) None None
-    ∷ a_type None (StructInner (field (no_null (abstract Func)) ∷ [])) (Some (id 5)) None
+    described_type None (function []) None None
+    ∷ described_type None (StructInner (field I32 ∷ [])) (Some (id 2)) None
+    ∷ described_type None (StructInner []) None (Some (id 1))
+    ∷ described_type (Some (id 1)) (StructInner (field I32 ∷ [])) (Some (id 4)) None
+    ∷ described_type (Some (id 2)) (StructInner []) None (Some (id 3))
+    ∷ described_type None (StructInner []) None None
+    ∷ described_type None (ArrayInner (record { 0 = record { element_type = I8; mutable = true } })) None None
+    ∷ described_type None (function (I64 ∷ null (concrete 1) ∷ [])) None None
+    ∷ described_type None (StructInner (field (no_null (abstract Func)) ∷ [])) (Some (id 5)) None
     ∷ []
 
 -- functions 0 and 1 may be referred to, and a reference to 1 is exact
 abbrev declared : Declared
-declared = record { types = types; functions = record { type_index = 0; referenced = true; exact = false } ∷ record { type_index = 0; referenced = true; exact = true } ∷ []; tables = []; memories = []; globals = []; tags = []; elements = []; data_count = None }
+declared = record nothing_declared { types = types; functions = record { type_index = 0; referenced = true; exact = false } ∷ record { type_index = 0; referenced = true; exact = true } ∷ [] }
 
 it_is_one : is_module is_id declared ≡ true
 it_is_one = refl
@@ -94,18 +73,14 @@ it_is_one = refl
 abbrev with_type : SubType → Declared
 with_type s = record declared { types = types ++ s ∷ [] }
 
-on_structs_alone : map (λ inner. is_module is_id (with_type (a_type None inner (Some (id 2)) None))) (StructInner [] ∷ function [] ∷ ArrayInner (record { 0 = field I32 }) ∷ []) ≡ true ∷ false ∷ false ∷ []
+on_structs_alone : map (λ inner. is_module is_id (with_type (described_type None inner (Some (id 2)) None))) (StructInner [] ∷ function [] ∷ ArrayInner (record { 0 = field I32 }) ∷ []) ≡ true ∷ false ∷ false ∷ []
 on_structs_alone = refl
 
-descriptor_unknown : is_module is_id (with_type (a_type None (StructInner []) (Some (id 10)) None)) ≡ false × is_module is_id (with_type (a_type None (StructInner []) None (Some (id 10)))) ≡ false
+descriptor_unknown : is_module is_id (with_type (described_type None (StructInner []) (Some (id 10)) None)) ≡ false × is_module is_id (with_type (described_type None (StructInner []) None (Some (id 10)))) ≡ false
 descriptor_unknown = (refl, refl)
 
 abbrev under : ℕ → Context
-under bits = record { of_module = context_of declared; features = record { 0 = bits }; shared = false; locals = []; set_at_entry = [] }
-
--- all proposals
-abbrev every : ℕ
-every = 2097151
+under bits = within declared bits false
 
 abbrev cx : Context
 cx = under every
@@ -132,12 +107,6 @@ below_exact_function : map (λ h. below h (exact 0)) (exact 0 ∷ concrete 0 ∷
 below_exact_function = refl
 
 -- ---- operators
-
-abbrev struct_new : ℕ → Op
-struct_new i = Struct (StructNew i)
-
-abbrev struct_new_default : ℕ → Op
-struct_new_default i = Struct (StructNewDefault i)
 
 abbrev struct_new_desc : ℕ → Op
 struct_new_desc i = Struct (StructNewDesc i)
@@ -184,7 +153,7 @@ NoneGoesInDead steps = map (λ p. after cx p.0 p.1 true) steps ≡ map (λ p. No
 
 -- what the row asks but for operands
 abbrev premise : Context → Op → Bool
-premise c op = ((operator c op).row (body_head Empty ∷ [])).premise
+premise c op = premise_in c (body_head Empty ∷ []) op
 
 -- ---- what is allocated
 

@@ -1,78 +1,57 @@
 -- The table's operators on exceptions and those of the legacy exceptions, and small bodies of them,
 -- computed. What is expected is what the standard's rules say of them, and those of the legacy proposal.
-use Rattle.std.proofs.Common.{◌≡◌, ◌-◌, ◌+◌, ℕ, pos, Bool, true, false, List, [], ◌∷◌, ◌++◌, length, map, Option, Some, None, refl, is_some}
+use Rattle.std.proofs.Common.{◌≡◌, ◌-◌, ◌+◌, ℕ, Bool, true, false, List, [], ◌∷◌, ◌++◌, map, Option, Some, None, refl, is_some}
 use Rattle.validate_resources.specs.Lists.{Declared, context_of}
+use Rattle.validate_resources.specs.Named.{nothing_declared}
 use Rattle.validate_types.specs.Features.{multi_value, exceptions, legacy_exceptions}
 use Rattle.validate_types.specs.Refs.{reference}
-use Rattle.validate_types.specs.declared.heap.AbstractHeapType.{AbstractHeapType}
 use Rattle.validate_types.specs.declared.heap.AbstractHeapType.TheVariants.{Func as FuncHeap, Any as AnyHeap, Eq as EqHeap, I31 as I31Heap, Exn as ExnHeap, NoExn as NoExnHeap}
-use Rattle.validate_types.specs.declared.heap.HeapType.{HeapType}
 use Rattle.validate_types.specs.declared.heap.HeapType.TheVariants.{Abstract}
-use Rattle.validate_types.specs.declared.types.CompositeInnerType.TheVariants.{Func}
 use Rattle.validate_visit.specs.declared.catch.Catch.{Catch}
-use Rattle.validate_visit.specs.declared.catch.Catch.TheVariants.{One, OneRef, All, AllRef}
-use Rattle.validate_visit.specs.declared.numbers.IntegerType.TheVariants.{I32 as IntegerI32}
-use Rattle.validate_visit.specs.declared.numeric.IntegerBinaryOp.TheVariants.{Add}
-use Rattle.validate_visit.specs.declared.op.ControlOp.TheVariants.{Unreachable, Block as BlockOp, Loop as LoopOp, If as IfOp, Else as ElseOp, End, Br, Drop, LocalGet, LocalSet}
-use Rattle.validate_visit.specs.declared.op.ExceptionOp.TheVariants.{TryTable as TryTableOp, Throw, ThrowRef, Try, Catch as CatchOp, CatchAll, Delegate, Rethrow}
-use Rattle.validate_visit.specs.declared.op.NumericOp.TheVariants.{IntegerBinary, I32Const, I64Const}
+use Rattle.validate_visit.specs.declared.catch.Catch.TheVariants.{OneRef, All, AllRef}
 use Rattle.validate_visit.specs.declared.op.Op.{Op}
-use Rattle.validate_visit.specs.declared.op.Op.TheVariants.{Control, Numeric, Reference, Exception}
-use Rattle.validate_visit.specs.declared.op.ReferenceOp.TheVariants.{RefNull}
 use Rattle.validation_rules.specs.Context.{SubType, ValType, I32, I64, F32, F64, Ref, BlockType, Empty, Val, FuncType, Context}
 use Rattle.validation_rules.specs.Fits.{MaybeType, Bottom, UnknownRef, Known}
 use Rattle.validation_rules.specs.Rows.{FrameKind, Block, TryTable, LegacyTry, LegacyCatch, LegacyCatchAll, Head, Opens, BeginsCatch, Delegates, Clause, body_head}
 use Rattle.validation_rules.specs.Static.{Frame, State, open_state, step, state_before, start, frame_count, operand_count}
 use Rattle.validation_rules.specs.Operators.{plain_row, ending_row, row_operator, delimiter_operator, operator, operators}
-use Rattle.validation_rules.proofs.Refusals.{states_of, IsRefusedAtLast}
+use Rattle.validation_rules.proofs.Refusals.{IsRefusedAtLast}
+use Rattle.validation_rules.proofs.Writing.{null, no_null, abstract, func_type, shared_func_type, every}
+use Rattle.validation_rules.proofs.Writing.{unreachable, block, loop, an_if, an_else, end, br, drops}
+use Rattle.validation_rules.proofs.Writing.{local_get, local_set, i32_const, i64_const, i32_add, ref_null}
+use Rattle.validation_rules.proofs.Writing.{catch, try_table, throw, throw_ref, legacy_try, legacy_catch}
+use Rattle.validation_rules.proofs.Writing.{legacy_catch_all, delegate, rethrow, frame, after_all, DoneUnder}
+use Rattle.validation_rules.proofs.Writing.{OpenUnder, LeavesUnder, AllRefusedUnder}
 
 -- ---- a module of function types and tags, and a function with two locals of which the first is set at entry
 
-abbrev abstract : AbstractHeapType → HeapType
-abstract a = Abstract false a
-
--- with null, and without
-abbrev null : AbstractHeapType → ValType
-null a = Ref (reference true (abstract a))
-
-abbrev no_null : AbstractHeapType → ValType
-no_null a = Ref (reference false (abstract a))
-
 abbrev exnref : ValType
-exnref = null ExnHeap
-
-abbrev a_type : Bool → List ValType → List ValType → SubType
-a_type shared params results =
-    record { is_final = true; supertype_idx = None; composite_type = record { inner = Func (record { params = params; results = results }); shared = shared; descriptor_idx = None; describes_idx = None } }
+exnref = null (abstract ExnHeap)
 
 -- what exceptions carry, and from 4 on what blocks take and give; 10 is shared
 abbrev types : List SubType
 types =
-    a_type false [] []
-    ∷ a_type false (I32 ∷ []) []
-    ∷ a_type false (I32 ∷ I64 ∷ []) []
-    ∷ a_type false (null EqHeap ∷ []) []
-    ∷ a_type false [] (I32 ∷ no_null ExnHeap ∷ [])
-    ∷ a_type false [] (I32 ∷ exnref ∷ [])
-    ∷ a_type false [] (exnref ∷ I32 ∷ [])
-    ∷ a_type false (I32 ∷ []) (I64 ∷ [])
-    ∷ a_type false [] (I32 ∷ I64 ∷ [])
-    ∷ a_type false [] (I64 ∷ I32 ∷ [])
-    ∷ a_type true (I32 ∷ []) (I32 ∷ [])
+    func_type [] []
+    ∷ func_type (I32 ∷ []) []
+    ∷ func_type (I32 ∷ I64 ∷ []) []
+    ∷ func_type (null (abstract EqHeap) ∷ []) []
+    ∷ func_type [] (I32 ∷ no_null (abstract ExnHeap) ∷ [])
+    ∷ func_type [] (I32 ∷ exnref ∷ [])
+    ∷ func_type [] (exnref ∷ I32 ∷ [])
+    ∷ func_type (I32 ∷ []) (I64 ∷ [])
+    ∷ func_type [] (I32 ∷ I64 ∷ [])
+    ∷ func_type [] (I64 ∷ I32 ∷ [])
+    ∷ shared_func_type (I32 ∷ []) (I32 ∷ [])
     ∷ []
 
 -- exceptions with tags 0 to 3 carry an i32, nothing, an i32 and an i64, and a reference; tag 4 gives an i32
 -- and an i64 back
 abbrev declared : Declared
-declared = record { types = types; functions = []; tables = []; memories = []; globals = []; tags = 1 ∷ 0 ∷ 2 ∷ 3 ∷ 8 ∷ []; elements = []; data_count = None }
+declared = record nothing_declared { types = types; tags = 1 ∷ 0 ∷ 2 ∷ 3 ∷ 8 ∷ [] }
 
 -- with these proposals on
 abbrev under : ℕ → Bool → Context
 under bits shared = record { of_module = context_of declared; features = record { 0 = bits }; shared = shared; locals = I32 ∷ I64 ∷ []; set_at_entry = true ∷ false ∷ [] }
-
--- all of them
-abbrev every : ℕ
-every = 2097151
 
 abbrev cx : Context
 cx = under every false
@@ -82,64 +61,19 @@ abbrev in_shared : Context
 in_shared = under every true
 
 -- of a module whose check writes f64 for f32
-abbrev written : ValType → ValType
-written F32 = F64
-written t = t
+abbrev rewritten : ValType → ValType
+rewritten F32 = F64
+rewritten t = t
 
 abbrev writing : Context
-writing = record cx { of_module = record (context_of declared) { canonical_type = λ f t. Some (written t) } }
+writing = record cx { of_module = record (context_of declared) { canonical_type = λ f t. Some (rewritten t) } }
 
 abbrev i32_to_i64 : BlockType
 i32_to_i64 = FuncType 7
 
 -- ---- operators
 
-abbrev i32_const : Op
-i32_const = Numeric (I32Const (pos 0))
-
-abbrev i64_const : Op
-i64_const = Numeric (I64Const (pos 0))
-
-abbrev i32_add : Op
-i32_add = Numeric (IntegerBinary IntegerI32 Add)
-
-abbrev ref_null : AbstractHeapType → Op
-ref_null a = Reference (RefNull (abstract a))
-
-abbrev unreachable : Op
-unreachable = Control Unreachable
-
-abbrev block : BlockType → Op
-block bt = Control (BlockOp bt)
-
-abbrev loop : BlockType → Op
-loop bt = Control (LoopOp bt)
-
-abbrev an_if : BlockType → Op
-an_if bt = Control (IfOp bt)
-
-abbrev an_else : Op
-an_else = Control ElseOp
-
-abbrev end : Op
-end = Control End
-
-abbrev br : ℕ → Op
-br d = Control (Br d)
-
-abbrev drops : Op
-drops = Control Drop
-
-abbrev local_get : ℕ → Op
-local_get i = Control (LocalGet i)
-
-abbrev local_set : ℕ → Op
-local_set i = Control (LocalSet i)
-
--- clauses: of this tag, to this label
-abbrev catch : ℕ → ℕ → Catch
-catch tag label = One tag label
-
+-- clauses of these kinds: with this tag, to this label
 abbrev catch_ref : ℕ → ℕ → Catch
 catch_ref tag label = OneRef tag label
 
@@ -149,39 +83,7 @@ catch_all label = All label
 abbrev catch_all_ref : ℕ → Catch
 catch_all_ref label = AllRef label
 
-abbrev try_table : BlockType → List Catch → Op
-try_table bt catches = Exception (TryTableOp (record { ty = bt; catches = record { ref_ptr = (0, 0); now = catches } }))
-
-abbrev throw : ℕ → Op
-throw tag = Exception (Throw tag)
-
-abbrev throw_ref : Op
-throw_ref = Exception ThrowRef
-
-abbrev legacy_try : BlockType → Op
-legacy_try bt = Exception (Try bt)
-
-abbrev legacy_catch : ℕ → Op
-legacy_catch tag = Exception (CatchOp tag)
-
-abbrev legacy_catch_all : Op
-legacy_catch_all = Exception CatchAll
-
-abbrev delegate : ℕ → Op
-delegate d = Exception (Delegate d)
-
-abbrev rethrow : ℕ → Op
-rethrow d = Exception (Rethrow d)
-
 -- ---- outcomes
-
--- the state after the whole list
-abbrev after_all : Context → BlockType → List Op → Option State
-after_all c ty ops = state_before c (operators c ops) (start ty) (length ops)
-
--- each of these bodies alone is refused, at its last operator
-abbrev AllRefusedUnder : Context → BlockType → List (List Op) → Type 0
-AllRefusedUnder c ty bodies = map (states_of c ty) bodies ≡ map length bodies
 
 abbrev AllRefused : BlockType → List (List Op) → Type 0
 AllRefused ty bodies = AllRefusedUnder cx ty bodies
@@ -191,21 +93,14 @@ Refused ty ops = IsRefusedAtLast cx ty ops
 
 -- accepted up to the outermost `end`, with these types left, the top first
 abbrev Done : BlockType → List Op → List MaybeType → Type 0
-Done ty ops left = after_all cx ty ops ≡ Some (record { frames = []; left = left })
-
-abbrev frame : FrameKind → BlockType → List MaybeType → Bool → Frame
-frame kind ty own dead = record { head = record { kind = kind; block_type = ty }; operands = own; dead = dead; first_set = [] }
-
--- accepted so far, with these frames open
-abbrev OpenUnder : Context → BlockType → List Op → List Frame → Type 0
-OpenUnder c ty ops frames = after_all c ty ops ≡ Some (open_state frames)
+Done ty ops left = DoneUnder cx ty ops left
 
 abbrev Open : BlockType → List Op → List Frame → Type 0
 Open ty ops frames = OpenUnder cx ty ops frames
 
 -- in the body's frame
 abbrev Leaves : BlockType → List Op → List MaybeType → Bool → Type 0
-Leaves ty ops own dead = Open ty ops (frame Block ty own dead ∷ [])
+Leaves ty ops own dead = LeavesUnder cx ty ops own dead
 
 -- in a frame of this kind and type, in a body without results
 abbrev InFrame : List Op → FrameKind → BlockType → List MaybeType → Bool → Type 0
@@ -236,7 +131,7 @@ a_clause depth types = record { depth = depth; types = types }
 -- ---- rows, each with its proposal alone
 
 -- what each clause carries to its label
-try_table_says : operator (under exceptions false) (try_table Empty (catch 2 0 ∷ catch_ref 2 1 ∷ catch_all 2 ∷ catch_all_ref 3 ∷ catch_ref 1 4 ∷ [])) ≡ record { form = Opens (record { kind = TryTable; block_type = Empty }); row = λ hs. record (plain_row [] []) { clauses = a_clause 0 (I32 ∷ I64 ∷ []) ∷ a_clause 1 (I32 ∷ I64 ∷ no_null ExnHeap ∷ []) ∷ a_clause 2 [] ∷ a_clause 3 (no_null ExnHeap ∷ []) ∷ a_clause 4 (no_null ExnHeap ∷ []) ∷ [] } }
+try_table_says : operator (under exceptions false) (try_table Empty (catch 2 0 ∷ catch_ref 2 1 ∷ catch_all 2 ∷ catch_all_ref 3 ∷ catch_ref 1 4 ∷ [])) ≡ record { form = Opens (record { kind = TryTable; block_type = Empty }); row = λ hs. record (plain_row [] []) { clauses = a_clause 0 (I32 ∷ I64 ∷ []) ∷ a_clause 1 (I32 ∷ I64 ∷ no_null (abstract ExnHeap) ∷ []) ∷ a_clause 2 [] ∷ a_clause 3 (no_null (abstract ExnHeap) ∷ []) ∷ a_clause 4 (no_null (abstract ExnHeap) ∷ []) ∷ [] } }
 try_table_says = refl
 
 try_table_takes : operator (under (exceptions + multi_value) false) (try_table i32_to_i64 []) ≡ record { form = Opens (record { kind = TryTable; block_type = i32_to_i64 }); row = λ hs. plain_row (I32 ∷ []) [] }
@@ -284,7 +179,7 @@ without_legacy = refl
 
 -- the types that labels take: none, one, two, and those with a reference to an exception last or first
 abbrev labels : List BlockType
-labels = Empty ∷ Val I32 ∷ Val I64 ∷ FuncType 8 ∷ FuncType 9 ∷ FuncType 4 ∷ FuncType 5 ∷ FuncType 6 ∷ Val (no_null ExnHeap) ∷ Val exnref ∷ Val (null AnyHeap) ∷ []
+labels = Empty ∷ Val I32 ∷ Val I64 ∷ FuncType 8 ∷ FuncType 9 ∷ FuncType 4 ∷ FuncType 5 ∷ FuncType 6 ∷ Val (no_null (abstract ExnHeap)) ∷ Val exnref ∷ Val (null (abstract AnyHeap)) ∷ []
 
 -- a `try_table` with these clauses holds, in a block of this type
 abbrev catches_in : List Catch → BlockType → Bool
@@ -319,7 +214,7 @@ all_ref_to_each : catches_to (catch_all_ref 0 ∷ []) ≡ false ∷ false ∷ fa
 all_ref_to_each = refl
 
 -- below the type of the label, not above it
-carried_below : map (catches_in (catch 3 0 ∷ [])) (Val (null EqHeap) ∷ Val (null AnyHeap) ∷ Val (null I31Heap) ∷ Val (no_null EqHeap) ∷ Val (no_null AnyHeap) ∷ Val exnref ∷ []) ≡ true ∷ true ∷ false ∷ false ∷ false ∷ false ∷ []
+carried_below : map (catches_in (catch 3 0 ∷ [])) (Val (null (abstract EqHeap)) ∷ Val (null (abstract AnyHeap)) ∷ Val (null (abstract I31Heap)) ∷ Val (no_null (abstract EqHeap)) ∷ Val (no_null (abstract AnyHeap)) ∷ Val exnref ∷ []) ≡ true ∷ true ∷ false ∷ false ∷ false ∷ false ∷ []
 carried_below = refl
 
 -- a tag that isn't there, and one that gives something back, also beside a clause that fits
@@ -404,7 +299,7 @@ tags_in_shared = refl
 -- ---- `throw`
 
 -- it takes what the exception carries, and the rest goes
-throws : Leaves Empty (i64_const ∷ i32_const ∷ i64_const ∷ throw 2 ∷ []) [] true × Leaves Empty (i32_const ∷ throw 1 ∷ []) [] true × Leaves Empty (ref_null I31Heap ∷ throw 3 ∷ []) [] true
+throws : Leaves Empty (i64_const ∷ i32_const ∷ i64_const ∷ throw 2 ∷ []) [] true × Leaves Empty (i32_const ∷ throw 1 ∷ []) [] true × Leaves Empty (ref_null (abstract I31Heap) ∷ throw 3 ∷ []) [] true
 throws = (refl, refl, refl)
 
 -- after it anything is found, and the results too
@@ -412,7 +307,7 @@ after_throw : Done (Val I64) (i32_const ∷ throw 0 ∷ i32_add ∷ drops ∷ en
 after_throw = refl
 
 -- without what it carries, with another type, the other way round, and with that below the frame
-throw_refused : AllRefused Empty ((throw 0 ∷ []) ∷ (i64_const ∷ throw 0 ∷ []) ∷ (i64_const ∷ i32_const ∷ throw 2 ∷ []) ∷ (i64_const ∷ throw 2 ∷ []) ∷ (ref_null AnyHeap ∷ throw 3 ∷ []) ∷ (i32_const ∷ block Empty ∷ throw 0 ∷ []) ∷ [])
+throw_refused : AllRefused Empty ((throw 0 ∷ []) ∷ (i64_const ∷ throw 0 ∷ []) ∷ (i64_const ∷ i32_const ∷ throw 2 ∷ []) ∷ (i64_const ∷ throw 2 ∷ []) ∷ (ref_null (abstract AnyHeap) ∷ throw 3 ∷ []) ∷ (i32_const ∷ block Empty ∷ throw 0 ∷ []) ∷ [])
 throw_refused = refl
 
 -- of a tag that isn't there, and of one that gives something back, in dead code too
@@ -428,20 +323,20 @@ throw_of_other_known = refl
 -- ---- `throw_ref`
 
 -- of a reference to an exception, null or not, and of any below
-throws_refs : EachEnds false throw_ref (map (λ t. Known t ∷ Known F32 ∷ []) (exnref ∷ no_null ExnHeap ∷ null NoExnHeap ∷ no_null NoExnHeap ∷ []))
+throws_refs : EachEnds false throw_ref (map (λ t. Known t ∷ Known F32 ∷ []) (exnref ∷ no_null (abstract ExnHeap) ∷ null (abstract NoExnHeap) ∷ no_null (abstract NoExnHeap) ∷ []))
 throws_refs = refl
 
-throw_ref_refused : NoneGoes false throw_ref ([] ∷ map (λ t. Known t ∷ []) (I32 ∷ null AnyHeap ∷ null FuncHeap ∷ Ref (reference true (Abstract true ExnHeap)) ∷ []))
+throw_ref_refused : NoneGoes false throw_ref ([] ∷ map (λ t. Known t ∷ []) (I32 ∷ null (abstract AnyHeap) ∷ null (abstract FuncHeap) ∷ Ref (reference true (Abstract true ExnHeap)) ∷ []))
 throw_ref_refused = refl
 
 throws_refs_in_dead : EachEnds true throw_ref ([] ∷ map (λ x. x ∷ []) (Bottom ∷ UnknownRef None ∷ UnknownRef (Some ExnHeap) ∷ UnknownRef (Some NoExnHeap) ∷ Known exnref ∷ []))
 throws_refs_in_dead = refl
 
-throw_ref_of_other_known : NoneGoes true throw_ref (map (λ x. x ∷ []) (UnknownRef (Some AnyHeap) ∷ Known I32 ∷ Known (null AnyHeap) ∷ []))
+throw_ref_of_other_known : NoneGoes true throw_ref (map (λ x. x ∷ []) (UnknownRef (Some AnyHeap) ∷ Known I32 ∷ Known (null (abstract AnyHeap)) ∷ []))
 throw_ref_of_other_known = refl
 
 -- what a clause carries may be thrown again
-throws_caught : Done Empty (block (Val exnref) ∷ try_table Empty (catch_all_ref 0 ∷ []) ∷ throw 1 ∷ end ∷ ref_null ExnHeap ∷ end ∷ throw_ref ∷ end ∷ []) []
+throws_caught : Done Empty (block (Val exnref) ∷ try_table Empty (catch_all_ref 0 ∷ []) ∷ throw 1 ∷ end ∷ ref_null (abstract ExnHeap) ∷ end ∷ throw_ref ∷ end ∷ []) []
 throws_caught = refl
 
 -- ---- a legacy `try` and its parts

@@ -1,15 +1,15 @@
 -- Small bodies of the table's operators on memories, and every row of these operators, computed. What
 -- is expected is what the standard's rules say of them, and for atomic operators the threads proposal.
-use Rattle.std.proofs.Common.{◌≡◌, ◌+◌, ◌-◌, ℕ, pos, nat_eq, Bool, true, false, List, [], ◌∷◌, ◌++◌, length, map, Option, Some, None, refl}
+use Rattle.std.proofs.Common.{◌≡◌, ◌+◌, ◌-◌, ℕ, nat_eq, Bool, true, false, List, [], ◌∷◌, ◌++◌, length, map, Option, Some, None, refl}
 use Rattle.validate_resources.specs.Context.{is_address_type}
-use Rattle.validate_resources.specs.Lists.{Declared, context_of}
+use Rattle.validate_resources.specs.Lists.{Declared}
+use Rattle.validate_resources.specs.Named.{nothing_declared}
 use Rattle.validate_types.specs.Features.{floats, bulk_memory, bulk_memory_opt, threads, memory_control, acquire_release_atomics, multibyte_array_access}
 use Rattle.validate_types.specs.Refs.{nullable_reference}
 use Rattle.validate_types.specs.declared.heap.AbstractHeapType.TheVariants.{Func as FuncHeap}
 use Rattle.validate_types.specs.declared.heap.HeapType.TheVariants.{Abstract, Concrete}
-use Rattle.validate_types.specs.declared.heap.UnpackedIndex.TheVariants.{Module, Id}
 use Rattle.validate_types.specs.declared.types.CompositeInnerType.{CompositeInnerType}
-use Rattle.validate_types.specs.declared.types.CompositeInnerType.TheVariants.{Func as FuncInner, Array as ArrayInner}
+use Rattle.validate_types.specs.declared.types.CompositeInnerType.TheVariants.{Array as ArrayInner}
 use Rattle.validate_types.specs.declared.types.MemoryType.{MemoryType}
 use Rattle.validate_types.specs.declared.types.StorageType.{StorageType}
 use Rattle.validate_types.specs.declared.types.StorageType.TheVariants.{I8, Val as StoredWhole}
@@ -26,19 +26,18 @@ use Rattle.validate_visit.specs.declared.numbers.PackedInteger.TheVariants.{I32B
 use Rattle.validate_visit.specs.declared.numbers.Sign.{Sign}
 use Rattle.validate_visit.specs.declared.op.AtomicOp.{AtomicOp}
 use Rattle.validate_visit.specs.declared.op.AtomicOp.TheVariants.{AtomicCmpxchg, AtomicLoad, AtomicNotify, AtomicRmw, AtomicStore, AtomicWait, AtomicFence, Pause}
-use Rattle.validate_visit.specs.declared.op.ControlOp.TheVariants.{Unreachable, End}
 use Rattle.validate_visit.specs.declared.op.MemoryOp.{MemoryOp}
 use Rattle.validate_visit.specs.declared.op.MemoryOp.TheVariants.{Load, LoadPacked, Store, StorePacked, MemorySize, MemoryGrow, MemoryInit, DataDrop, MemoryCopy, MemoryFill, MemoryDiscard}
-use Rattle.validate_visit.specs.declared.op.NumericOp.TheVariants.{I32Const, I64Const}
 use Rattle.validate_visit.specs.declared.op.Op.{Op}
-use Rattle.validate_visit.specs.declared.op.Op.TheVariants.{Control, Numeric, Memory, Atomic, Reference}
-use Rattle.validate_visit.specs.declared.op.ReferenceOp.TheVariants.{RefNull}
-use Rattle.validation_rules.specs.Context.{SubType, ValType, I32, I64, F32, F64, V128, Ref, BlockType, Empty, Val, Context}
+use Rattle.validate_visit.specs.declared.op.Op.TheVariants.{Memory, Atomic}
+use Rattle.validation_rules.specs.Context.{SubType, ValType, I32, I64, F32, F64, V128, Ref, Empty, Val, Context}
 use Rattle.validation_rules.specs.Fits.{MaybeType, Known}
 use Rattle.validation_rules.specs.Rows.{Block}
 use Rattle.validation_rules.specs.Static.{State, open_state, state_before, start}
 use Rattle.validation_rules.specs.Operators.{row_operator, plain_row, operator, operators}
 use Rattle.validation_rules.proofs.Refusals.{IsRefusedAtLast}
+use Rattle.validation_rules.proofs.Writing.{id, a_type, of_functions, every, within, unreachable, end}
+use Rattle.validation_rules.proofs.Writing.{i32_const, i64_const, null_of, after_all, premise_in}
 
 -- ---- a module of two memories and two data segments: memory 0, which is shared, has addresses of 32
 -- bits, and memory 1 of 64; whether it is shared is nothing to any of these operators
@@ -47,18 +46,14 @@ abbrev memories : List MemoryType
 memories = record { memory64 = false; shared = true } ∷ record { memory64 = true; shared = false } ∷ []
 
 abbrev with_count : Option ℕ → Declared
-with_count count = record { types = []; functions = []; globals = []; tags = []; tables = []; memories = memories; elements = []; data_count = count }
+with_count count = record nothing_declared { memories = memories; data_count = count }
 
 -- with these proposals on
 abbrev over : Option ℕ → ℕ → Context
-over count bits = record { of_module = context_of (with_count count); features = record { 0 = bits }; shared = false; locals = []; set_at_entry = [] }
+over count bits = within (with_count count) bits false
 
 abbrev under : ℕ → Context
 under bits = over (Some 2) bits
-
--- all of them
-abbrev every : ℕ
-every = 2097151
 
 abbrev cx : Context
 cx = under every
@@ -90,7 +85,7 @@ at_offset offset m = record (natural m) { offset = offset }
 -- ---- whole rows
 
 abbrev premise : Context → Op → Bool
-premise c op = ((operator c op).row []).premise
+premise c op = premise_in c [] op
 
 abbrev AllHold : List Op → Type 0
 AllHold ops = map (premise cx) ops ≡ map (λ op. true) ops
@@ -322,33 +317,18 @@ last_in_64 = refl
 
 -- ---- bodies
 
-abbrev i32_const : Op
-i32_const = Numeric (I32Const (pos 0))
-
-abbrev i64_const : Op
-i64_const = Numeric (I64Const (pos 0))
-
-abbrev unreachable : Op
-unreachable = Control Unreachable
-
-abbrev end : Op
-end = Control End
-
 abbrev i32_load : MemArg → Op
 i32_load arg = Memory (Load NumberI32 arg)
 
 abbrev i64_store : MemArg → Op
 i64_store arg = Memory (Store NumberI64 arg)
 
-abbrev after_all : BlockType → List Op → Option State
-after_all ty ops = state_before cx (operators cx ops) (start ty) (length ops)
-
 abbrev Refused : List Op → Type 0
 Refused ops = IsRefusedAtLast cx Empty ops
 
 -- accepted so far, with these operands in the outermost frame, the top first
 abbrev Stands : List Op → List MaybeType → Bool → Type 0
-Stands ops own dead = after_all Empty ops ≡ Some (open_state (record { head = record { kind = Block; block_type = Empty }; operands = own; dead = dead; first_set = [] } ∷ []))
+Stands ops own dead = after_all cx Empty ops ≡ Some (open_state (record { head = record { kind = Block; block_type = Empty }; operands = own; dead = dead; first_set = [] } ∷ []))
 
 -- the address goes, and what lies below it stays
 load_in_32 : Stands (i64_const ∷ i32_const ∷ i32_load (natural 0) ∷ []) (Known I32 ∷ Known I64 ∷ []) false
@@ -405,7 +385,7 @@ copies_turned : Refused (i64_const ∷ i32_const ∷ i32_const ∷ Memory (Memor
 copies_turned = refl
 
 -- a body that grows memory 1 by its own size, and gives what it had
-grows : after_all (Val I64) (Memory (MemorySize 1) ∷ Memory (MemoryGrow 1) ∷ end ∷ []) ≡ Some (record { frames = []; left = Known I64 ∷ [] })
+grows : after_all cx (Val I64) (Memory (MemorySize 1) ∷ Memory (MemoryGrow 1) ∷ end ∷ []) ≡ Some (record { frames = []; left = Known I64 ∷ [] })
 grows = refl
 
 grows_by_other : Refused (Memory (MemorySize 0) ∷ Memory (MemoryGrow 1) ∷ [])
@@ -413,10 +393,6 @@ grows_by_other = refl
 
 -- ---- accesses of arrays, in a module of these types: 0 of packed integers, 1 of the same that can't be
 -- written, 2 of references, 3 of numbers and shared, and 4, which is no array
-
-abbrev a_type : CompositeInnerType → Bool → SubType
-a_type inner shared =
-    record { is_final = true; supertype_idx = None; composite_type = record { inner = inner; shared = shared; descriptor_idx = None; describes_idx = None } }
 
 abbrev array_of : StorageType → Bool → CompositeInnerType
 array_of held mutable = ArrayInner (record { 0 = record { element_type = held; mutable = mutable } })
@@ -426,19 +402,19 @@ funcref = Ref (nullable_reference (Abstract false FuncHeap))
 
 abbrev array_types : List SubType
 array_types =
-    a_type (array_of I8 true) false ∷ a_type (array_of I8 false) false ∷ a_type (array_of (StoredWhole funcref) true) false ∷ a_type (array_of (StoredWhole F64) true) true ∷ a_type (FuncInner (record { params = []; results = [] })) false ∷ []
+    a_type false (array_of I8 true) ∷ a_type false (array_of I8 false) ∷ a_type false (array_of (StoredWhole funcref) true) ∷ a_type true (array_of (StoredWhole F64) true) ∷ a_type (of_functions [] []) false ∷ []
 
 -- with these proposals on, in a function that is shared or isn't
 abbrev over_arrays : ℕ → Bool → Context
 over_arrays bits shared =
-    record { of_module = context_of (record (with_count None) { types = array_types }); features = record { 0 = bits }; shared = shared; locals = []; set_at_entry = [] }
+    within (record (with_count None) { types = array_types }) bits shared
 
 abbrev in_array : ℕ → MemArg
 in_array i = record (natural 0) { target = InArray i }
 
 -- a reference, perhaps null, to the type at this index
 abbrev to_type : ℕ → ValType
-to_type i = Ref (nullable_reference (Concrete (Id (record { index = i }))))
+to_type i = Ref (nullable_reference (Concrete (id i)))
 
 abbrev load_and_store : MemArg → List Op
 load_and_store arg = Memory (Load NumberI32 arg) ∷ Memory (Store NumberI64 arg) ∷ []
@@ -500,16 +476,13 @@ array_first_beyond = refl
 array_atomic : map (premise (over_arrays every false)) (atomic_accesses (in_array 0)) ≡ map (λ op. false) (atomic_accesses (in_array 0))
 array_atomic = refl
 
-abbrev null_array : Op
-null_array = Reference (RefNull (Concrete (Module 0)))
-
 abbrev after_array : List Op → Option State
 after_array ops = state_before (over_arrays every false) (operators (over_arrays every false) ops) (start (Val I32)) (length ops)
 
-array_body : after_array (null_array ∷ i32_const ∷ i32_load (in_array 0) ∷ end ∷ []) ≡ Some (record { frames = []; left = Known I32 ∷ [] })
+array_body : after_array (null_of 0 ∷ i32_const ∷ i32_load (in_array 0) ∷ end ∷ []) ≡ Some (record { frames = []; left = Known I32 ∷ [] })
 array_body = refl
 
-array_body_turned : after_array (i32_const ∷ null_array ∷ i32_load (in_array 0) ∷ []) ≡ None
+array_body_turned : after_array (i32_const ∷ null_of 0 ∷ i32_load (in_array 0) ∷ []) ≡ None
 array_body_turned = refl
 
 array_body_as_memory : after_array (i32_const ∷ i32_load (in_array 0) ∷ []) ≡ None

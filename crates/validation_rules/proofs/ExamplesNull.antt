@@ -1,73 +1,44 @@
 -- Small bodies of the table's operators on references, and of branches that look whether one is null, and
 -- their rows, computed. What is expected is what the standard's rules say of them.
-use Rattle.std.proofs.Common.{◌≡◌, ◌-◌, ◌+◌, ℕ, pos, Bool, true, false, List, [], ◌∷◌, length, map, Option, Some, None, refl}
-use Rattle.validate_resources.specs.Lists.{Declared, context_of}
+use Rattle.std.proofs.Common.{◌≡◌, ◌-◌, ◌+◌, ℕ, Bool, true, false, List, [], ◌∷◌, map, Some, None, refl}
+use Rattle.validate_resources.specs.Lists.{Declared}
+use Rattle.validate_resources.specs.Named.{nothing_declared}
 use Rattle.validate_resources.specs.declared.lists.FuncDecl.{FuncDecl}
 use Rattle.validate_types.specs.Features.{reference_types, function_references, gc, shared_everything_threads}
-use Rattle.validate_types.specs.Refs.{reference}
-use Rattle.validate_types.specs.declared.heap.AbstractHeapType.TheVariants.{Func, Extern, Any}
-use Rattle.validate_types.specs.declared.heap.HeapType.{HeapType}
-use Rattle.validate_types.specs.declared.heap.HeapType.TheVariants.{Abstract, Concrete}
-use Rattle.validate_types.specs.declared.heap.UnpackedIndex.TheVariants.{Module, Id}
-use Rattle.validate_types.specs.declared.types.CompositeInnerType.TheVariants.{Func as FuncInner}
-use Rattle.validate_visit.specs.declared.numbers.IntegerType.TheVariants.{I32 as IntegerI32}
-use Rattle.validate_visit.specs.declared.op.ControlOp.TheVariants.{Unreachable, Block as BlockOp, Loop as LoopOp, End, Drop}
-use Rattle.validate_visit.specs.declared.op.NumericOp.TheVariants.{Eqz, I32Const, I64Const}
+use Rattle.validate_types.specs.declared.heap.AbstractHeapType.TheVariants.{Func, Any}
+use Rattle.validate_types.specs.declared.heap.HeapType.TheVariants.{Abstract}
 use Rattle.validate_visit.specs.declared.op.Op.{Op}
-use Rattle.validate_visit.specs.declared.op.Op.TheVariants.{Control, Numeric, Reference}
-use Rattle.validate_visit.specs.declared.op.ReferenceOp.TheVariants.{RefNull, RefIsNull, RefFunc, RefAsNonNull, BrOnNull, BrOnNonNull}
-use Rattle.validation_rules.specs.Context.{SubType, ValType, I32, I64, Ref, BlockType, Empty, Val, FuncType, Context}
+use Rattle.validate_visit.specs.declared.op.Op.TheVariants.{Reference}
+use Rattle.validate_visit.specs.declared.op.ReferenceOp.TheVariants.{RefIsNull, RefAsNonNull}
+use Rattle.validation_rules.specs.Context.{SubType, ValType, I32, I64, BlockType, Empty, Val, FuncType, Context}
 use Rattle.validation_rules.specs.Fits.{MaybeType, UnknownRef, Known}
-use Rattle.validation_rules.specs.Rows.{Head, FrameKind, Block, Loop, body_head, operands_wanted}
-use Rattle.validation_rules.specs.Static.{Frame, State, open_state, state_before, start}
-use Rattle.validation_rules.specs.Operators.{row_operator, plain_row, operator, operators}
-use Rattle.validation_rules.proofs.Refusals.{states_of}
-
-abbrev func : HeapType
-func = Abstract false Func
-
-abbrev extern : HeapType
-extern = Abstract false Extern
-
-abbrev concrete : ℕ → HeapType
-concrete i = Concrete (Id (record { index = i }))
-
--- with null, and without
-abbrev null : HeapType → ValType
-null h = Ref (reference true h)
-
-abbrev no_null : HeapType → ValType
-no_null h = Ref (reference false h)
+use Rattle.validation_rules.specs.Rows.{Head, Block, Loop, body_head, operands_wanted}
+use Rattle.validation_rules.specs.Static.{open_state}
+use Rattle.validation_rules.specs.Operators.{row_operator, plain_row, operator}
+use Rattle.validation_rules.proofs.Writing.{null, no_null, func, extern, concrete, func_type, to_nothing}
+use Rattle.validation_rules.proofs.Writing.{every, within, unreachable, block, loop, end, drops, i32_const}
+use Rattle.validation_rules.proofs.Writing.{i64_const, i32_eqz, ref_null, null_of, ref_func, br_on_null}
+use Rattle.validation_rules.proofs.Writing.{br_on_non_null, frame, after_all, DoneUnder, LeavesUnder}
+use Rattle.validation_rules.proofs.Writing.{AllRefusedUnder, premise_in}
 
 -- ---- a module of eight function types, and of functions 0 and 2 of type 0, and 1 of type 3; `ref.func` may
 -- not refer to function 2
 
-abbrev a_type : List ValType → List ValType → SubType
-a_type params results =
-    record { is_final = true; supertype_idx = None; composite_type = record { inner = FuncInner (record { params = params; results = results }); shared = false; descriptor_idx = None; describes_idx = None } }
-
 abbrev types : List SubType
-types = a_type [] [] ∷ a_type (I32 ∷ []) (I64 ∷ []) ∷ a_type [] (I32 ∷ null func ∷ []) ∷ a_type [] (I32 ∷ []) ∷ a_type [] (null func ∷ I32 ∷ []) ∷ a_type [] (I32 ∷ no_null func ∷ []) ∷ a_type (I64 ∷ null func ∷ []) (I32 ∷ []) ∷ a_type [] (null func ∷ null func ∷ []) ∷ []
+types = func_type [] [] ∷ func_type (I32 ∷ []) (I64 ∷ []) ∷ func_type [] (I32 ∷ null func ∷ []) ∷ func_type [] (I32 ∷ []) ∷ func_type [] (null func ∷ I32 ∷ []) ∷ func_type [] (I32 ∷ no_null func ∷ []) ∷ func_type (I64 ∷ null func ∷ []) (I32 ∷ []) ∷ func_type [] (null func ∷ null func ∷ []) ∷ []
 
 abbrev functions : List FuncDecl
 functions = record { type_index = 0; referenced = true; exact = false } ∷ record { type_index = 3; referenced = true; exact = false } ∷ record { type_index = 0; referenced = false; exact = false } ∷ []
 
 abbrev declared : Declared
-declared = record { types = types; functions = functions; tables = []; memories = []; globals = []; tags = []; elements = []; data_count = None }
+declared = record nothing_declared { types = types; functions = functions }
 
 -- with these proposals on
 abbrev under : ℕ → Context
-under bits = record { of_module = context_of declared; features = record { 0 = bits }; shared = false; locals = []; set_at_entry = [] }
-
--- all of them
-abbrev every : ℕ
-every = 2097151
+under bits = within declared bits false
 
 abbrev cx : Context
 cx = under every
-
-abbrev to_nothing : BlockType
-to_nothing = FuncType 0
 
 abbrev to_i32_and_funcref : BlockType
 to_i32_and_funcref = FuncType 2
@@ -84,72 +55,25 @@ to_two_funcrefs = FuncType 7
 
 -- ---- operators
 
-abbrev i32_const : Op
-i32_const = Numeric (I32Const (pos 0))
-
-abbrev i64_const : Op
-i64_const = Numeric (I64Const (pos 0))
-
-abbrev i32_eqz : Op
-i32_eqz = Numeric (Eqz IntegerI32)
-
-abbrev unreachable : Op
-unreachable = Control Unreachable
-
-abbrev block : BlockType → Op
-block bt = Control (BlockOp bt)
-
-abbrev loop : BlockType → Op
-loop bt = Control (LoopOp bt)
-
-abbrev end : Op
-end = Control End
-
-abbrev drops : Op
-drops = Control Drop
-
-abbrev ref_null : HeapType → Op
-ref_null h = Reference (RefNull h)
-
--- null of the type at this index
-abbrev null_of : ℕ → Op
-null_of i = ref_null (Concrete (Module i))
-
 abbrev is_null : Op
 is_null = Reference RefIsNull
-
-abbrev ref_func : ℕ → Op
-ref_func f = Reference (RefFunc f)
 
 abbrev as_non_null : Op
 as_non_null = Reference RefAsNonNull
 
-abbrev br_on_null : ℕ → Op
-br_on_null d = Reference (BrOnNull d)
-
-abbrev br_on_non_null : ℕ → Op
-br_on_non_null d = Reference (BrOnNonNull d)
-
 -- ---- outcomes
-
--- the state after the whole list
-abbrev after_all : Context → BlockType → List Op → Option State
-after_all c ty ops = state_before c (operators c ops) (start ty) (length ops)
 
 -- each of these bodies alone is refused, at its last operator
 abbrev AllRefused : BlockType → List (List Op) → Type 0
-AllRefused ty bodies = map (states_of cx ty) bodies ≡ map length bodies
+AllRefused ty bodies = AllRefusedUnder cx ty bodies
 
 -- accepted up to the outermost `end`, with these types left, the top first
 abbrev Done : BlockType → List Op → List MaybeType → Type 0
-Done ty ops left = after_all cx ty ops ≡ Some (record { frames = []; left = left })
-
-abbrev frame : FrameKind → BlockType → List MaybeType → Bool → Frame
-frame kind ty own dead = record { head = record { kind = kind; block_type = ty }; operands = own; dead = dead; first_set = [] }
+Done ty ops left = DoneUnder cx ty ops left
 
 -- accepted so far, with these operands in the body's frame, the top first
 abbrev Leaves : List Op → List MaybeType → Bool → Type 0
-Leaves ops own dead = after_all cx to_nothing ops ≡ Some (open_state (frame Block to_nothing own dead ∷ []))
+Leaves ops own dead = LeavesUnder cx to_nothing ops own dead
 
 -- in a block of this type, that the body begins with
 abbrev InBlock : BlockType → List Op → List MaybeType → Bool → Type 0
@@ -161,7 +85,7 @@ abbrev AllRefusedInBlock : BlockType → List (List Op) → Type 0
 AllRefusedInBlock bt bodies = AllRefused to_nothing (map (λ ops. block bt ∷ ops) bodies)
 
 abbrev premise : Context → Op → Bool
-premise c op = ((operator c op).row (body_head to_nothing ∷ [])).premise
+premise c op = premise_in c (body_head to_nothing ∷ []) op
 
 -- the labels that the operator may branch to, with what it carries there from these operands
 abbrev carried : List Head → Op → List ValType → List (ℕ × List ValType)

@@ -1,19 +1,17 @@
 -- The table's operators of shared-everything threads, and their rows, computed: what each wants and pushes,
 -- and what each of its premises refuses. What is expected is what the proposal's rules say of them; that a
 -- global's references are unshared is upstream's.
-use Rattle.std.proofs.Common.{◌≡◌, ◌-◌, ℕ, Bool, true, false, List, [], ◌∷◌, map, Option, Some, None, refl}
-use Rattle.validate_resources.specs.Lists.{Declared, context_of}
+use Rattle.std.proofs.Common.{◌≡◌, ◌-◌, ℕ, Bool, true, false, List, [], ◌∷◌, map, refl}
+use Rattle.validate_resources.specs.Lists.{Declared}
+use Rattle.validate_resources.specs.Named.{nothing_declared}
 use Rattle.validate_types.specs.Features.{shared_everything_threads}
 use Rattle.validate_types.specs.Refs.{reference}
 use Rattle.validate_types.specs.declared.heap.AbstractHeapType.TheVariants.{Func as FuncHeap, Any as AnyHeap, Eq as EqHeap, I31 as I31Heap}
 use Rattle.validate_types.specs.declared.heap.HeapType.{HeapType}
-use Rattle.validate_types.specs.declared.heap.HeapType.TheVariants.{Abstract, Concrete}
-use Rattle.validate_types.specs.declared.heap.UnpackedIndex.TheVariants.{Id}
-use Rattle.validate_types.specs.declared.types.CompositeInnerType.{CompositeInnerType}
-use Rattle.validate_types.specs.declared.types.CompositeInnerType.TheVariants.{Struct as StructInner, Array as ArrayInner}
+use Rattle.validate_types.specs.declared.heap.HeapType.TheVariants.{Abstract}
+use Rattle.validate_types.specs.declared.types.CompositeInnerType.TheVariants.{Struct as StructInner}
 use Rattle.validate_types.specs.declared.types.FieldType.{FieldType}
 use Rattle.validate_types.specs.declared.types.GlobalType.{GlobalType}
-use Rattle.validate_types.specs.declared.types.StorageType.{StorageType}
 use Rattle.validate_types.specs.declared.types.StorageType.TheVariants.{I8, I16, Val as Holds}
 use Rattle.validate_types.specs.declared.types.TableType.{TableType}
 use Rattle.validate_visit.specs.declared.memory.Ordering.TheVariants.{SeqCst, AcqRel}
@@ -30,13 +28,12 @@ use Rattle.validate_visit.specs.declared.shared.TableAccess.{TableAccess}
 use Rattle.validate_visit.specs.declared.shared.TableAccess.TheVariants.{Get, Set, Xchg, Cmpxchg}
 use Rattle.validation_rules.specs.Context.{SubType, ValType, I32, I64, F64, Ref, Context}
 use Rattle.validation_rules.specs.Operators.{row_operator, plain_row, operator}
+use Rattle.validation_rules.proofs.Writing.{null, null_to, a_type, written, fixed, an_array, every, within}
+use Rattle.validation_rules.proofs.Writing.{premise_in}
 
 -- ---- a module of structs, arrays, globals and tables
 
 -- references that may be null, shared or not
-abbrev null : HeapType → ValType
-null h = Ref (reference true h)
-
 abbrev any : Bool → ValType
 any shared = null (Abstract shared AnyHeap)
 
@@ -46,25 +43,10 @@ eq shared = null (Abstract shared EqHeap)
 abbrev func : Bool → ValType
 func shared = null (Abstract shared FuncHeap)
 
-abbrev concrete : ℕ → ValType
-concrete i = null (Concrete (Id (record { index = i })))
-
-abbrev a_type : Bool → CompositeInnerType → SubType
-a_type shared inner = record { is_final = true; supertype_idx = None; composite_type = record { inner = inner; shared = shared; descriptor_idx = None; describes_idx = None } }
-
-abbrev written : StorageType → FieldType
-written t = record { element_type = t; mutable = true }
-
-abbrev fixed : StorageType → FieldType
-fixed t = record { element_type = t; mutable = false }
-
 -- what fields and globals hold, by these places: 0 to 6 can be written, 7 and 8 can't be
 abbrev fields : List FieldType
 fields =
     written (Holds I32) ∷ written (Holds I64) ∷ written (Holds F64) ∷ written (Holds (any true)) ∷ written (Holds (eq true)) ∷ written (Holds (eq false)) ∷ written I8 ∷ fixed I16 ∷ fixed (Holds I64) ∷ []
-
-abbrev an_array : Bool → FieldType → SubType
-an_array shared f = a_type shared (ArrayInner (record { 0 = f }))
 
 -- 0 and 1 are structs, of which 1 is shared; 2 to 6 are arrays, of which 6 is shared
 abbrev types : List SubType
@@ -95,15 +77,11 @@ tables =
     a_table false false (Abstract true AnyHeap) ∷ a_table true false (Abstract true EqHeap) ∷ a_table false false (Abstract false EqHeap) ∷ a_table false false (Abstract true FuncHeap) ∷ a_table false true (Abstract true I31Heap) ∷ []
 
 abbrev declared : Declared
-declared = record { types = types; functions = []; tables = tables; memories = []; globals = globals; tags = []; elements = []; data_count = None }
+declared = record nothing_declared { types = types; tables = tables; globals = globals }
 
 -- with these proposals on
 abbrev under : ℕ → Bool → Context
-under bits shared = record { of_module = context_of declared; features = record { 0 = bits }; shared = shared; locals = []; set_at_entry = [] }
-
--- all of them
-abbrev every : ℕ
-every = 2097151
+under bits shared = within declared bits shared
 
 -- ---- operators
 
@@ -123,7 +101,7 @@ abbrev whole : TableAccess → FieldAccess
 whole access = Whole (Value access)
 
 abbrev premise : Context → Op → Bool
-premise c op = ((operator c op).row []).premise
+premise c op = premise_in c [] op
 
 -- where the premise holds, of these places
 abbrev held_at : (ℕ → Op) → List ℕ → List Bool
@@ -189,7 +167,7 @@ unshared_tables = refl
 
 -- ---- structs
 
-struct_takes : Says (on_field (whole Get) 1) (concrete 0 ∷ []) (I64 ∷ []) × Says (on_field (GetPacked Signed) 6) (concrete 0 ∷ []) (I32 ∷ []) × Says (on_field (whole Set) 6) (concrete 0 ∷ I32 ∷ []) [] × Says (on_field (whole Xchg) 3) (concrete 0 ∷ any true ∷ []) (any true ∷ []) × Says (on_field (whole Cmpxchg) 4) (concrete 0 ∷ eq true ∷ eq true ∷ []) (eq true ∷ []) × Says (on_field (Whole (Rmw Add)) 0) (concrete 0 ∷ I32 ∷ []) (I32 ∷ [])
+struct_takes : Says (on_field (whole Get) 1) (null_to 0 ∷ []) (I64 ∷ []) × Says (on_field (GetPacked Signed) 6) (null_to 0 ∷ []) (I32 ∷ []) × Says (on_field (whole Set) 6) (null_to 0 ∷ I32 ∷ []) [] × Says (on_field (whole Xchg) 3) (null_to 0 ∷ any true ∷ []) (any true ∷ []) × Says (on_field (whole Cmpxchg) 4) (null_to 0 ∷ eq true ∷ eq true ∷ []) (eq true ∷ []) × Says (on_field (Whole (Rmw Add)) 0) (null_to 0 ∷ I32 ∷ []) (I32 ∷ [])
 struct_takes = ((refl, refl), (refl, refl), (refl, refl), (refl, refl), (refl, refl), (refl, refl))
 
 abbrev all_fields : List ℕ
@@ -218,7 +196,7 @@ unshared_struct = refl
 
 -- ---- arrays
 
-array_takes : Says (on_array (whole Get) 5) (concrete 5 ∷ I32 ∷ []) (any true ∷ []) × Says (on_array (GetPacked Unsigned) 3) (concrete 3 ∷ I32 ∷ []) (I32 ∷ []) × Says (on_array (whole Set) 2) (concrete 2 ∷ I32 ∷ I64 ∷ []) [] × Says (on_array (whole Xchg) 4) (concrete 4 ∷ I32 ∷ eq true ∷ []) (eq true ∷ []) × Says (on_array (whole Cmpxchg) 4) (concrete 4 ∷ I32 ∷ eq true ∷ eq true ∷ []) (eq true ∷ []) × Says (on_array (Whole (Rmw Xor)) 2) (concrete 2 ∷ I32 ∷ I64 ∷ []) (I64 ∷ [])
+array_takes : Says (on_array (whole Get) 5) (null_to 5 ∷ I32 ∷ []) (any true ∷ []) × Says (on_array (GetPacked Unsigned) 3) (null_to 3 ∷ I32 ∷ []) (I32 ∷ []) × Says (on_array (whole Set) 2) (null_to 2 ∷ I32 ∷ I64 ∷ []) [] × Says (on_array (whole Xchg) 4) (null_to 4 ∷ I32 ∷ eq true ∷ []) (eq true ∷ []) × Says (on_array (whole Cmpxchg) 4) (null_to 4 ∷ I32 ∷ eq true ∷ eq true ∷ []) (eq true ∷ []) × Says (on_array (Whole (Rmw Xor)) 2) (null_to 2 ∷ I32 ∷ I64 ∷ []) (I64 ∷ [])
 array_takes = ((refl, refl), (refl, refl), (refl, refl), (refl, refl), (refl, refl), (refl, refl))
 
 -- 0 is a struct, and there is no eighth type

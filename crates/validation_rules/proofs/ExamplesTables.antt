@@ -1,63 +1,42 @@
 -- Small bodies of the table's operators on tables and element segments, of calls through a table and of
 -- calls by a reference, and their rows, computed. What is expected is what the standard's rules say of
 -- them, and for shared tables and types the proposal shared-everything-threads.
-use Rattle.std.proofs.Common.{◌≡◌, ◌-◌, ℕ, pos, nat_eq, Bool, true, false, List, [], ◌∷◌, length, map, Option, Some, None, refl}
-use Rattle.validate_resources.specs.Lists.{Declared, context_of}
+use Rattle.std.proofs.Common.{◌≡◌, ◌-◌, ℕ, nat_eq, Bool, true, false, List, [], ◌∷◌, map, refl}
+use Rattle.validate_resources.specs.Lists.{Declared}
+use Rattle.validate_resources.specs.Named.{nothing_declared}
 use Rattle.validate_resources.specs.declared.lists.FuncDecl.{FuncDecl}
 use Rattle.validate_types.specs.Features.{reference_types, bulk_memory, tail_call, function_references}
 use Rattle.validate_types.specs.Refs.{reference}
-use Rattle.validate_types.specs.declared.heap.AbstractHeapType.TheVariants.{Func, NoFunc, Extern}
+use Rattle.validate_types.specs.declared.heap.AbstractHeapType.TheVariants.{Func, NoFunc}
 use Rattle.validate_types.specs.declared.heap.HeapType.{HeapType}
-use Rattle.validate_types.specs.declared.heap.HeapType.TheVariants.{Abstract, Concrete}
-use Rattle.validate_types.specs.declared.heap.UnpackedIndex.TheVariants.{Module, Id}
+use Rattle.validate_types.specs.declared.heap.HeapType.TheVariants.{Abstract}
 use Rattle.validate_types.specs.declared.refs.RefType.{RefType}
-use Rattle.validate_types.specs.declared.types.CompositeInnerType.TheVariants.{Func as FuncInner}
 use Rattle.validate_types.specs.declared.types.TableType.{TableType}
-use Rattle.validate_visit.specs.declared.op.ControlOp.TheVariants.{Unreachable, Block as BlockOp, End, CallIndirect, ReturnCallIndirect, CallRef, ReturnCallRef, Drop}
-use Rattle.validate_visit.specs.declared.op.NumericOp.TheVariants.{I32Const, I64Const}
+use Rattle.validate_visit.specs.declared.op.ControlOp.TheVariants.{CallIndirect, ReturnCallIndirect, CallRef, ReturnCallRef}
 use Rattle.validate_visit.specs.declared.op.Op.{Op}
-use Rattle.validate_visit.specs.declared.op.Op.TheVariants.{Control, Numeric, Reference, Table}
-use Rattle.validate_visit.specs.declared.op.ReferenceOp.TheVariants.{RefNull, RefFunc}
+use Rattle.validate_visit.specs.declared.op.Op.TheVariants.{Control, Table}
 use Rattle.validate_visit.specs.declared.op.TableOp.{TableOp}
 use Rattle.validate_visit.specs.declared.op.TableOp.TheVariants.{TableGet, TableSet, TableGrow, TableSize, TableFill, TableInit, ElemDrop, TableCopy}
-use Rattle.validation_rules.specs.Context.{SubType, ValType, I32, I64, F32, Ref, BlockType, Empty, Val, FuncType, Context}
+use Rattle.validation_rules.specs.Context.{SubType, ValType, I32, I64, F32, BlockType, Empty, Val, FuncType, Context}
 use Rattle.validation_rules.specs.Fits.{MaybeType, Known}
 use Rattle.validation_rules.specs.Rows.{Head, Block, Loop, body_head}
-use Rattle.validation_rules.specs.Static.{State, open_state, state_before, start}
-use Rattle.validation_rules.specs.Operators.{row_operator, plain_row, operator, operators}
-use Rattle.validation_rules.proofs.Refusals.{states_of}
+use Rattle.validation_rules.specs.Operators.{row_operator, plain_row, operator}
+use Rattle.validation_rules.proofs.Writing.{null, no_null, func, extern, concrete, func_type}
+use Rattle.validation_rules.proofs.Writing.{shared_func_type, to_nothing, every, within, unreachable, block}
+use Rattle.validation_rules.proofs.Writing.{end, drops, i32_const, i64_const, ref_null, null_of, ref_func}
+use Rattle.validation_rules.proofs.Writing.{DoneUnder, LeavesUnder, AllRefusedUnder, premise_in}
 
 -- ---- a module of six types, two functions, seven tables and five element segments
 
-abbrev a_type : Bool → List ValType → List ValType → SubType
-a_type shared params results =
-    record { is_final = true; supertype_idx = None; composite_type = record { inner = FuncInner (record { params = params; results = results }); shared = shared; descriptor_idx = None; describes_idx = None } }
-
 abbrev types : List SubType
-types = a_type false [] [] ∷ a_type false (I32 ∷ I64 ∷ []) (F32 ∷ []) ∷ a_type false [] (I32 ∷ []) ∷ a_type false [] (I64 ∷ []) ∷ a_type false [] (I32 ∷ I64 ∷ []) ∷ a_type true [] [] ∷ []
+types = func_type [] [] ∷ func_type (I32 ∷ I64 ∷ []) (F32 ∷ []) ∷ func_type [] (I32 ∷ []) ∷ func_type [] (I64 ∷ []) ∷ func_type [] (I32 ∷ I64 ∷ []) ∷ shared_func_type [] [] ∷ []
 
 -- both may be referred to
 abbrev functions : List FuncDecl
 functions = map (λ i. record { type_index = i; referenced = true; exact = false }) (1 ∷ 2 ∷ [])
 
-abbrev func : HeapType
-func = Abstract false Func
-
 abbrev shared_func : HeapType
 shared_func = Abstract true Func
-
-abbrev extern : HeapType
-extern = Abstract false Extern
-
-abbrev concrete : ℕ → HeapType
-concrete i = Concrete (Id (record { index = i }))
-
--- with null, and without
-abbrev null : HeapType → ValType
-null h = Ref (reference true h)
-
-abbrev no_null : HeapType → ValType
-no_null h = Ref (reference false h)
 
 abbrev a_table : Bool → RefType → Bool → TableType
 a_table table64 r shared = record { element_type = r; table64 = table64; shared = shared }
@@ -70,15 +49,11 @@ abbrev elements : List RefType
 elements = reference true func ∷ reference false func ∷ reference true extern ∷ reference true (concrete 0) ∷ reference true shared_func ∷ []
 
 abbrev declared : Declared
-declared = record { types = types; functions = functions; tables = tables; memories = []; globals = []; tags = []; elements = elements; data_count = None }
+declared = record nothing_declared { types = types; functions = functions; tables = tables; elements = elements }
 
 -- with these proposals on
 abbrev under : ℕ → Bool → Context
-under bits shared = record { of_module = context_of declared; features = record { 0 = bits }; shared = shared; locals = []; set_at_entry = [] }
-
--- all of them
-abbrev every : ℕ
-every = 2097151
+under bits shared = within declared bits shared
 
 abbrev cx : Context
 cx = under every false
@@ -87,41 +62,10 @@ cx = under every false
 abbrev in_shared : Context
 in_shared = under every true
 
-abbrev to_nothing : BlockType
-to_nothing = FuncType 0
-
 abbrev to_i32_and_i64 : BlockType
 to_i32_and_i64 = FuncType 4
 
 -- ---- operators
-
-abbrev i32_const : Op
-i32_const = Numeric (I32Const (pos 0))
-
-abbrev i64_const : Op
-i64_const = Numeric (I64Const (pos 0))
-
-abbrev ref_null : HeapType → Op
-ref_null h = Reference (RefNull h)
-
--- null of the type at this index
-abbrev null_of : ℕ → Op
-null_of i = ref_null (Concrete (Module i))
-
-abbrev ref_func : ℕ → Op
-ref_func f = Reference (RefFunc f)
-
-abbrev unreachable : Op
-unreachable = Control Unreachable
-
-abbrev block : BlockType → Op
-block bt = Control (BlockOp bt)
-
-abbrev end : Op
-end = Control End
-
-abbrev drops : Op
-drops = Control Drop
 
 abbrev table_get : ℕ → Op
 table_get i = Table (TableGet i)
@@ -163,30 +107,18 @@ return_call_ref type = Control (ReturnCallRef type)
 
 -- ---- outcomes
 
--- the state after the whole list
-abbrev after_all : Context → BlockType → List Op → Option State
-after_all c ty ops = state_before c (operators c ops) (start ty) (length ops)
-
--- each of these bodies alone is refused, at its last operator
-abbrev AllRefusedUnder : Context → BlockType → List (List Op) → Type 0
-AllRefusedUnder c ty bodies = map (states_of c ty) bodies ≡ map length bodies
-
 abbrev AllRefused : BlockType → List (List Op) → Type 0
 AllRefused ty bodies = AllRefusedUnder cx ty bodies
-
--- accepted up to the outermost `end`, with these types left, the top first
-abbrev DoneUnder : Context → BlockType → List Op → List MaybeType → Type 0
-DoneUnder c ty ops left = after_all c ty ops ≡ Some (record { frames = []; left = left })
 
 abbrev Done : BlockType → List Op → List MaybeType → Type 0
 Done ty ops left = DoneUnder cx ty ops left
 
 -- accepted so far, with these operands in the body's frame, the top first
 abbrev Leaves : BlockType → List Op → List MaybeType → Bool → Type 0
-Leaves ty ops own dead = after_all cx ty ops ≡ Some (open_state (record { head = body_head ty; operands = own; dead = dead; first_set = [] } ∷ []))
+Leaves ty ops own dead = LeavesUnder cx ty ops own dead
 
 abbrev premise : Context → Op → Bool
-premise c op = ((operator c op).row (body_head to_nothing ∷ [])).premise
+premise c op = premise_in c (body_head to_nothing ∷ []) op
 
 abbrev NoneHolds : List Op → Type 0
 NoneHolds ops = map (premise cx) ops ≡ map (λ op. false) ops

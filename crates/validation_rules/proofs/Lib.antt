@@ -3,12 +3,13 @@ pub mod Steps
 pub mod Pops
 pub mod Rows
 pub mod Order
-pub mod Keeping
+pub mod PushesValid
 pub mod Valid
 pub mod ValidContinuations
 pub mod ValidShared
 pub mod ValidBodies
 pub mod Refusals
+pub mod Writing
 mod Examples
 mod ExamplesBranches
 mod ExamplesCalls

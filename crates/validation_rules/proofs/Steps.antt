@@ -1,5 +1,5 @@
 -- What a step that is taken pushed and left, and the state before a place that follows another.
-use Rattle.std.proofs.Common.{◌≡◌, ◌≤◌, ℕ, zero, suc, Bool, true, false, List, [], ◌∷◌, ◌++◌, length, drop, map, Option, Some, None, refl, sym, ap, arith, ◌∙◌, slice_get}
+use Rattle.std.proofs.Common.{◌≡◌, ℕ, zero, suc, Bool, true, false, List, [], ◌∷◌, ◌++◌, drop, map, Option, Some, None, refl, sym, ap, ◌∙◌, slice_get}
 use Rattle.std.specs.Option.{option_map}
 use Rattle.std.proofs.lemmas.List.{reverse-append, append_assoc}
 use Rattle.std.specs.Prelude.{if◌then◌else◌, reverse}
@@ -89,19 +89,9 @@ before_next cx (x ∷ code) s (suc k) op t u b g h =
     let m = and_then_given (step cx x s) (λ v. state_before cx code v k) t b in
     ap (λ o. option_and_then (λ v. state_before cx code v (suc k)) o) m.1 ∙ before_next cx code m.0 k op t u m.2 g h
 
--- ---- lists by their ends
-
-pub and_then_each : {A B : Type 0} (o : Option A) (f g : A → Option B) → ((x : A) → f x ≡ g x) → option_and_then f o ≡ option_and_then g o
-and_then_each None f g h = refl
-and_then_each (Some x) f g h = h x
-
 pub and_then_some : {A : Type 0} (o : Option A) → option_and_then (λ x. Some x) o ≡ o
 and_then_some None = refl
 and_then_some (Some x) = refl
-
-pub and_then_twice : {A B C : Type 0} (o : Option A) (f : A → Option B) (g : B → Option C) → option_and_then g (option_and_then f o) ≡ option_and_then (λ x. option_and_then g (f x)) o
-and_then_twice None f g = refl
-and_then_twice (Some x) f g = refl
 
 -- one place further, whether or not the row there holds
 pub before_then : (cx : Context) (code : List Operator) (s : State) (k : ℕ) (op : Operator) (t : State) → state_before cx code s k ≡ Some t → slice_get code k ≡ Some op → state_before cx code s (suc k) ≡ step cx op t
@@ -113,17 +103,3 @@ before_then cx (x ∷ code) s zero op t b g =
 before_then cx (x ∷ code) s (suc k) op t b g =
     let m = and_then_given (step cx x s) (λ v. state_before cx code v k) t b in
     ap (λ o. option_and_then (λ v. state_before cx code v (suc k)) o) m.1 ∙ before_then cx code m.0 k op t m.2 g
-
--- what follows doesn't change the state before a place
-pub before_append : (cx : Context) (code more : List Operator) (s : State) (k : ℕ) → k ≤ length code → state_before cx (code ++ more) s k ≡ state_before cx code s k
-before_append cx code more s zero h = refl
-before_append cx [] more s (suc k) h = absurd (omega (arith, h))
-before_append cx (x ∷ code) more s (suc k) h =
-    and_then_each (step cx x s) (λ v. state_before cx (code ++ more) v k) (λ v. state_before cx code v k) (λ v. before_append cx code more v k (omega (arith, h)))
-
--- a list with one more operator at its end
-pub before_last : (cx : Context) (code : List Operator) (op : Operator) (s : State) → state_before cx (code ++ op ∷ []) s (suc (length code)) ≡ option_and_then (step cx op) (state_before cx code s (length code))
-before_last cx [] op s = and_then_some (step cx op s)
-before_last cx (x ∷ code) op s =
-    and_then_each (step cx x s) (λ v. state_before cx (code ++ op ∷ []) v (suc (length code))) (λ v. option_and_then (step cx op) (state_before cx code v (length code))) (λ v. before_last cx code op v)
-    ∙ sym (and_then_twice (step cx x s) (λ v. state_before cx code v (length code)) (step cx op))

@@ -72,7 +72,7 @@ use Rattle.validation_rules.specs.Rows.{FrameKind, Block, If, Loop, is_loop, Hea
 use Rattle.validation_rules.specs.Static.{Frame, State, heads, locals_set, stack_with, operands_on_top, operands_found, operands_under, pushed_by_row, operands_after, state_after_exit, state_after, open_frames, step_in}
 use Rattle.validation_rules.specs.Operators.{plain_row, plain_row_if, is_accessible_func_type, checked_block, opener, staying_operator, row_operator, delimiter_operator, looking_row_if, drop_pushes, select_result, select_pushes, lookup_row, lookups_row, control_operator, numeric_row, convert_row, memory_row, atomic_row}
 use Rattle.validation_rules.specs.Valid.{IsValidOperand, Resolves, IsValidBlock, IsValidFrame}
-use Rattle.validation_rules.proofs.Keeping.{HeadIsValid, PushesValid, StepsKeepValid}
+use Rattle.validation_rules.proofs.PushesValid.{HeadIsValid, PushesValid, StepsKeepValid}
 use Rattle.validation_rules.proofs.Below.{and_true}
 use Rattle.validation_rules.proofs.Steps.{onto-next, pushed_by_form, label_by, some_injective, guard_some, and_then_given, mapped_some, stepped}
 

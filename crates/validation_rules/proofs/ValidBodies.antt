@@ -1,6 +1,5 @@
--- Every operator of the table keeps the state valid, and so does a whole list: what a gate and the operators
--- on exceptions need for that.
-use Rattle.std.proofs.Common.{◌≡◌, ℕ, zero, suc, Bool, true, false, List, [], ◌∷◌, Option, Some, None, refl, sym, subst, slice_get}
+-- Every operator of the table keeps the state valid: what a gate and the operators on exceptions need for that.
+use Rattle.std.proofs.Common.{◌≡◌, ℕ, Bool, true, false, List, [], Option, Some, None, refl, sym, subst}
 use Rattle.std.specs.List.{AllByRecursion}
 use Rattle.validate_resources.specs.Context.{IsLawful, Valid}
 use Rattle.validate_types.specs.Gates.{is_open}
@@ -13,12 +12,11 @@ use Rattle.validate_visit.specs.declared.op.Op.TheVariants.{Control, Numeric, Co
 use Rattle.validate_visit.specs.declared.op.Op.TheVariants.{Shared}
 use Rattle.validation_rules.specs.Context.{ModuleContext, ValType, Context}
 use Rattle.validation_rules.specs.Exceptions.{types_carried, exception_types, catch_clauses, operator_catching, catch_operator, delegate_operator, exception_operator}
-use Rattle.validation_rules.specs.Operators.{checked_block, delimiter_operator, gated_operator, ungated_operator, operator, operators}
+use Rattle.validation_rules.specs.Operators.{checked_block, delimiter_operator, gated_operator, ungated_operator, operator}
 use Rattle.validation_rules.specs.Rows.{TryTable, LegacyTry, BeginsCatch, Clause, Operator}
-use Rattle.validation_rules.specs.Static.{State, step, state_before}
-use Rattle.validation_rules.specs.Valid.{IsValidStateIn, RowsKeepValid}
+use Rattle.validation_rules.specs.Valid.{RowsKeepValid}
 use Rattle.validation_rules.proofs.Below.{and_true}
-use Rattle.validation_rules.proofs.Keeping.{PushesValid}
+use Rattle.validation_rules.proofs.PushesValid.{PushesValid}
 use Rattle.validation_rules.proofs.Steps.{some_injective, guard_some, and_then_given}
 use Rattle.validation_rules.proofs.ValidContinuations.{continuations_valid}
 use Rattle.validation_rules.proofs.Valid.{steps_keep_valid, nothing_pushed, plain_valid, flat_valid, opener_valid, by_lookup_valid, control_valid, numeric_valid, convert_valid, memory_valid, atomic_valid, reference_valid, table_valid, struct_valid, array_valid}
@@ -107,19 +105,3 @@ pub rows_keep_valid : (md : ModuleContext) → IsLawful md → RowsKeepValid md
 rows_keep_valid md laws cx op s u same h e =
     let l = subst IsLawful (sym same) laws in
     steps_keep_valid cx l (operator cx op) s u (operator_valid cx l op h.locals_valid) h e
-
--- ---- whole lists
-
-module _ (cx : Context) (laws : IsLawful cx.of_module) where
-  -- the state before each place of a list
-  pub before_valid : (code : List Operator) (s : State) (k : ℕ) (t : State) → ((j : ℕ) (op : Operator) → slice_get code j ≡ Some op → PushesValid cx op) → IsValidStateIn cx s → state_before cx code s k ≡ Some t → IsValidStateIn cx t
-  before_valid code s zero t each h e = subst (λ (v : State). IsValidStateIn cx v) (some_injective s t e) h
-  before_valid [] s (suc k) t each h e = absurd cc
-  before_valid (op ∷ code) s (suc k) t each h e =
-      let m = and_then_given (step cx op s) (λ v. state_before cx code v k) t e in
-      before_valid code m.0 k t (λ j o g. each (suc j) o g) (steps_keep_valid cx laws op s m.0 (each 0 op refl) h m.1) m.2
-
-  body_each : (ops : List Op) → AllByRecursion (Valid cx.of_module) cx.locals → (j : ℕ) (op : Operator) → slice_get (operators cx ops) j ≡ Some op → PushesValid cx op
-  body_each [] l j op e = absurd cc
-  body_each (x ∷ ops) l zero op e = subst (PushesValid cx) (some_injective _ _ e) (operator_valid cx laws x l)
-  body_each (x ∷ ops) l (suc j) op e = body_each ops l j op e

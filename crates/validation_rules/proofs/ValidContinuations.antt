@@ -21,7 +21,7 @@ use Rattle.validation_rules.specs.Indirect.{type_reference}
 use Rattle.validation_rules.specs.Rows.{Head, Plain, Row, pushed_for}
 use Rattle.validation_rules.specs.Operators.{plain_row, plain_row_if, lookup_row, lookups_row, staying_operator}
 use Rattle.validation_rules.specs.Valid.{IsValidOperand}
-use Rattle.validation_rules.proofs.Keeping.{PushesValid}
+use Rattle.validation_rules.proofs.PushesValid.{PushesValid}
 use Rattle.validation_rules.proofs.Steps.{some_injective, guard_some, and_then_given}
 use Rattle.validation_rules.proofs.Valid.{all_known, made_valid}
 

@@ -19,7 +19,7 @@ use Rattle.validation_rules.specs.Operators.{row_operator}
 use Rattle.validation_rules.specs.Shared.{given_by, place_row, held_by_global, held_by_table, shared_row}
 use Rattle.validation_rules.specs.Structs.{struct_field, field_value}
 use Rattle.validation_rules.specs.Tables.{table_type}
-use Rattle.validation_rules.proofs.Keeping.{PushesValid}
+use Rattle.validation_rules.proofs.PushesValid.{PushesValid}
 use Rattle.validation_rules.proofs.Valid.{plain_valid, by_lookup_valid, lookups_valid, global_valid, table_found, field_valid, element_valid}
 
 module _ (cx : Context) (laws : IsLawful cx.of_module) where

@@ -119,10 +119,11 @@ may_be_copied md _ _ = false
 
 -- to a place, from a place, so many
 abbrev pub array_copy_row_for : Context → ℕ → FieldType → ValType → Row
-array_copy_row_for cx src to d =
+array_copy_row_for cx src dst_field dst_type =
     array_row_for cx src
-    (λ from s. plain_row_if (to.mutable && may_be_copied cx.of_module from.element_type to.element_type)
-    (d ∷ I32 ∷ s ∷ I32 ∷ I32 ∷ []) [])
+    (λ src_field src_type. plain_row_if
+    (dst_field.mutable && may_be_copied cx.of_module src_field.element_type dst_field.element_type)
+    (dst_type ∷ I32 ∷ src_type ∷ I32 ∷ I32 ∷ []) [])
 
 abbrev pub array_copy_row : Context → ℕ → ℕ → Row
 array_copy_row cx dst src = array_row_for cx dst (array_copy_row_for cx src)

@@ -4,6 +4,7 @@ ghost use Rattle.std.specs.Prelude.{◌≤◌, ◌≡◌, ◌⊎◌, ◌+◌, �
 ghost use Rattle.std.specs.Option.{option_copied, ForSome};
 ghost use Rattle.validation_rules.specs.Static.{operand_count, frame_count};
 ghost use Rattle.validate_locals.specs.Limit.{max_locals};
+ghost use Rattle.validate_stacks.specs.AtOnce.{MeetsAtOnce};
 ghost use Rattle.validate_stacks.specs.Attempts.{may_attempt, stacks_begun, stacks_committed, stacks_rolled_back};
 ghost use Rattle.validate_stacks.specs.Counted.{pops_of_run};
 ghost use Rattle.validate_stacks.specs.Pops.{body_popped_each, IsKept};
@@ -19,7 +20,7 @@ ghost use Rattle.validate_body.specs.Start.{state, stacks_of, func_start, const_
 use validate_locals::Locals;
 use validate_operators::{
     check_array, check_atomic, check_continuation, check_control, check_convert, check_exception,
-    check_memory, check_numeric, check_operator, check_reference, check_shared, check_struct,
+    check_memory, check_numeric, check_operator, check_reference, operator_at_once, check_shared, check_struct,
     check_table,
 };
 use validate_resources::WasmModuleResources;
@@ -144,7 +145,39 @@ impl OperatorValidator {
         ensures valid { IsValidBody (R.context resources.now) (state self.new) }
         ensures kept { IsKept (state self.old) (state self.new) }
     {
+        self.check_in_place(resources, offset, &op)
+    }
+
+    /// [`OperatorValidator::check`] of an operator that lies in a list.
+    #[inline(always)]
+    pub(crate) fn check_in_place<R: WasmModuleResources>(
+        &mut self,
+        resources: &R,
+        offset: u64,
+        op: &Op,
+    ) -> Result<(), Error>
+        requires { MayVisit (R.context resources.now) (stacks_of self.old) }
+        ensures row { Meets (R.context resources.now) (λ cx. operator cx op.now) offset
+            (state self.old) result (state self.new) }
+        ensures memory { TakesNoMemory (R.context resources.now) op.now (state self.old) result }
+        ensures valid { IsValidBody (R.context resources.now) (state self.new) }
+        ensures kept { IsKept (state self.old) (state self.new) }
+    {
         check_operator(&mut self.stacks, resources, offset, op)
+    }
+
+    /// The check of one operator that passes at once. False, with nothing changed, where it takes more.
+    #[inline(always)]
+    pub(crate) fn passes_at_once<R: WasmModuleResources>(
+        &mut self,
+        resources: &R,
+        op: &Op,
+    ) -> bool
+        requires { MayVisit (R.context resources.now) (stacks_of self.old) }
+        ensures { MeetsAtOnce (R.context resources.now) (λ cx. operator cx op.now) (stacks_of self.old)
+            result (stacks_of self.new) }
+    {
+        operator_at_once(&mut self.stacks, resources, op)
     }
 
     /// The check of an operator on control, locals or globals, as [`OperatorValidator::check`].

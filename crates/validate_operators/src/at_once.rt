@@ -6,7 +6,8 @@ ghost use Rattle.validate_stacks.specs.AtOnce.{MeetsAtOnce};
 ghost use Rattle.validate_stacks.specs.Visits.{MayVisit};
 
 use validate_resources::WasmModuleResources;
-use validate_rows::control::nop_at_once;
+use validate_rows::branches::{br_at_once, br_if_at_once, return_at_once};
+use validate_rows::control::{nop_at_once, unreachable_at_once};
 use validate_rows::memory::memory_at_once;
 use validate_rows::numeric::{convert_at_once, numeric_at_once};
 use validate_rows::parametric::drop_at_once;
@@ -48,7 +49,7 @@ fn conversion_at_once<R: WasmModuleResources>(
     convert_at_once(stacks, resources, op)
 }
 
-/// An operator on control or locals. None of those that pass at once has a gate.
+/// An operator on control or locals, its gate aside.
 #[inline(always)]
 fn control_at_once<R: WasmModuleResources>(
     stacks: &mut Stacks,
@@ -60,7 +61,11 @@ fn control_at_once<R: WasmModuleResources>(
         stacks.new }
 {
     match op {
+        ControlOp::Unreachable => unreachable_at_once(stacks, resources),
         ControlOp::Nop => nop_at_once(stacks, resources),
+        ControlOp::Br(relative_depth) => br_at_once(stacks, resources, relative_depth),
+        ControlOp::BrIf(relative_depth) => br_if_at_once(stacks, resources, relative_depth),
+        ControlOp::Return => return_at_once(stacks, resources),
         ControlOp::Drop => drop_at_once(stacks, resources),
         ControlOp::LocalGet(local_index) => local_get_at_once(stacks, resources, local_index),
         ControlOp::LocalSet(local_index) => local_set_at_once(stacks, resources, local_index),

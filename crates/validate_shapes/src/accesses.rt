@@ -111,10 +111,10 @@ pub fn memory_access<R: WasmModuleResources>(
         return None;
     };
     let index_type = memory.index_type();
-    if index_type == ValType::I32 && memarg.offset > u64::from(u32::MAX) {
-        return None;
+    if index_type != ValType::I32 || memarg.offset <= u64::from(u32::MAX) {
+        return Some(index_type);
     }
-    Some(index_type)
+    None
 }
 
 /// The places hold no references, and can be written where that is done.

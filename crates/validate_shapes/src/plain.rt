@@ -27,6 +27,30 @@ pub fn check_plain<R: WasmModuleResources>(
         (λ cx. row_operator (plain_row wanted.now pushed.now)) offset stacks.old.body result
         stacks.new.body }
 {
+    if pushed.len() > 1 {
+        return plain_by_pops(stacks, resources, offset, wanted, pushed);
+    }
+    if plain_at_once(stacks, resources, wanted, pushed.first().copied()) {
+        return Ok(());
+    }
+    plain_by_pops(stacks, resources, offset, wanted, pushed)
+}
+
+/// The same by pops and pushes one by one.
+fn plain_by_pops<R: WasmModuleResources>(
+    stacks: &mut Stacks,
+    resources: &R,
+    offset: u64,
+    wanted: &[ValType],
+    pushed: &[ValType],
+) -> Result<(), Error>
+    requires visit { MayVisit (R.context resources.now) stacks.old }
+    requires wanted { AllByRecursion (Valid (R.context resources.now)) wanted.now }
+    requires pushed { AllByRecursion (Valid (R.context resources.now)) pushed.now }
+    ensures { Meets (R.context resources.now)
+        (λ cx. row_operator (plain_row wanted.now pushed.now)) offset stacks.old.body result
+        stacks.new.body }
+{
     stacks.pop_types(resources, offset, wanted)?;
     stacks.push_types(offset, pushed)
 }

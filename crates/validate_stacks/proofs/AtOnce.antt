@@ -1,9 +1,10 @@
 -- Operands put in place or taken where no attempt is pending, and what fits at once.
-use Rattle.std.proofs.Common.{◌≡◌, ◌≢◌, ◌⊎◌, inl, inr, min, reverse, map, Result, Ok, Err, IsOk, MatchResult, MatchBool, ℕ, zero, suc, ◌+◌, ◌-◌, ◌<◌, ◌≤◌, List, [], ◌∷◌, Bool, true, false, Option, Some, None, is_some, length, take, drop, refl, sym, ◌∙◌, ap, subst, arith}
+use Rattle.std.proofs.Common.{◌≡◌, ◌≢◌, ◌⊎◌, inl, inr, min, reverse, map, Result, Ok, Err, IsOk, MatchResult, MatchBool, ℕ, zero, suc, ◌+◌, ◌-◌, ◌<◌, ◌≤◌, List, [], ◌∷◌, Bool, true, false, Option, Some, None, is_some, IsSome, ⊥, length, take, drop, refl, sym, ◌∙◌, ap, subst, arith}
 use Rattle.std.specs.List.{AllByRecursion}
 use Rattle.std.specs.Option.{option_map}
 use Rattle.std.proofs.lemmas.List.{drop_min, length-drop, length-reverse}
 use Rattle.validate_resources.specs.Context.{ModuleContext, Valid, IsLawful}
+use Rattle.validate_types.specs.Refusal.{Refusal}
 use Rattle.validate_types.specs.declared.features.WasmFeatures.{WasmFeatures}
 use Rattle.validate_types.specs.declared.types.ValType.{ValType}
 use Rattle.validate_visit.specs.declared.frame.Frame.{Frame as FlatFrame}
@@ -17,10 +18,12 @@ use Rattle.validate_stacks.specs.Attempts.{Stacked}
 use Rattle.validation_rules.specs.Static.{Frame, State, operands_found, operands_under, locals_set}
 use Rattle.validate_stacks.specs.AtOnce.{frames_dropped, body_dropped, pushed_list, MeetsAtOnce}
 use Rattle.validate_stacks.specs.Flat.{flat_state, HasShape, IsSound, undone_pending}
-use Rattle.validate_stacks.specs.Pops.{FitsAtOnce, may_pop, body_popped_each, body_pushed_each, has_operands_fitting, operands_found_in, IsKept}
+use Rattle.validate_stacks.specs.Pops.{FitsAtOnce, may_pop, frames_popped_each, body_popped_each, body_pushed_each, has_operands_fitting, operands_found_in, IsKept}
 use Rattle.validate_stacks.specs.State.{BodyState, body_context, body_with_frames, IsValidBody}
-use Rattle.validate_stacks.specs.Steps.{found_in_body, innermost_operands, body_without_first, body_popped, body_pushed}
-use Rattle.validate_stacks.specs.Visits.{Meets}
+use Rattle.validate_stacks.specs.Steps.{found_in_body, innermost_operands, body_without_first, body_popped, body_pushed, body_unreachable}
+use Rattle.validate_stacks.specs.Visits.{Meets, MayVisit}
+use Rattle.validation_rules.proofs.Steps.{some_injective}
+use Rattle.validate_stacks.proofs.Closing.{guarded_some}
 use Rattle.validate_stacks.proofs.Cuts.{state_of}
 use Rattle.validate_stacks.proofs.Matching.{drop_next}
 use Rattle.validate_stacks.proofs.Whole.{popped_none, popped_next, popped_whole, with_frame}
@@ -248,3 +251,70 @@ popped_each_set md (w ∷ ws) v u h =
 pub undone_at_once : (md : ModuleContext) (op : Context → Operator) (v w : Stacked) → w ≡ v → MeetsAtOnce md op v false w
 unfolding MeetsAtOnce
 undone_at_once md op v w e = e
+
+-- ---- the live part ended, and a frame closed
+
+ended_dropped : (n : ℕ) (v : BodyState) → body_unreachable (body_dropped n v) ≡ body_unreachable v
+ended_dropped n v = by v.present.frames
+  where
+    by : (fs : List Frame) → body_unreachable (body_dropped n (body_with_frames fs v)) ≡ body_unreachable (body_with_frames fs v)
+    by [] = refl
+    by (f ∷ fs) = refl
+
+-- where all of it fits, what is under it goes too
+pub ended_whole : (md : ModuleContext) (wanted : List ValType) (v w : BodyState) → has_operands_fitting (body_context md v) wanted v ≡ true → w ≡ body_unreachable v → option_map body_unreachable (body_popped_each md (reverse wanted) v) ≡ Some w
+ended_whole md wanted v w fit e = ap (option_map body_unreachable) (popped_dropped md wanted v fit) ∙ ap Some (ended_dropped (length wanted) v ∙ sym e)
+
+nothing_left : (n : ℕ) (own : List MaybeType) → length own ≤ n → drop n own ≡ []
+nothing_left n [] h = drop_nothing n
+  where
+    nothing : List MaybeType
+    nothing = []
+
+    drop_nothing : (k : ℕ) → drop k nothing ≡ []
+    drop_nothing zero = refl
+    drop_nothing (suc k) = refl
+nothing_left zero (x ∷ own) h = absurd (omega (arith, h))
+nothing_left (suc n) (x ∷ own) h = nothing_left n own (omega (arith, h))
+
+-- no own operand is left, where there were no more than were popped
+pub none_left : (md : ModuleContext) (wanted : List ValType) (v u : BodyState) → length (innermost_operands v.present.frames) ≤ length wanted → body_popped_each md (reverse wanted) v ≡ Some u → innermost_operands u.present.frames ≡ []
+none_left md wanted v u h p = by v.present.frames refl
+  where
+    frameless : (ws : List ValType) (x : BodyState) → x.present.frames ≡ [] → body_popped_each md ws x ≡ Some u → innermost_operands u.present.frames ≡ []
+    frameless [] x e q = ap (λ (w : BodyState). innermost_operands w.present.frames) (some_injective u x (sym q ∙ popped_none md x)) ∙ ap innermost_operands e
+    frameless (w ∷ ws) x e q = absurd (let none : body_popped_each md (w ∷ ws) x ≡ None = ap (λ gs. option_map (λ fs. body_with_frames fs x) (frames_popped_each (body_context md x) (w ∷ ws) gs)) e in clash (sym none ∙ q))
+      where
+        clash : None ≡ Some u → ⊥
+        clash c = cc
+
+    by : (fs : List Frame) → v.present.frames ≡ fs → innermost_operands u.present.frames ≡ []
+    by [] e = frameless (reverse wanted) v e p
+    by (f ∷ fs) e =
+        let s = guarded_some _ _ u (sym (popped_whole md v f fs wanted e) ∙ p) in
+        sym (ap (λ (w : BodyState). innermost_operands w.present.frames) s.1) ∙ nothing_left (length wanted) f.operands (subst (λ gs. length (innermost_operands gs) ≤ length wanted) e h)
+
+pub some_there : {A : Type 0} (o : Option A) → IsSome o → (a : A) × (o ≡ Some a)
+some_there (Some a) h = (a, refl)
+some_there None h = absurd h
+
+-- what is visited where nothing was done at once
+pub may_visit_then : (md : ModuleContext) (op : Context → Operator) (v w : Stacked) (b : Bool) → MeetsAtOnce md op v b w → b ≡ false → MayVisit md v → MayVisit md w
+may_visit_then md op v w b m h k = subst (MayVisit md) (sym (same_at_once md op v w b m h)) k
+
+-- and what is answered there
+pub meets_then : (md : ModuleContext) (op : Context → Operator) (v w : Stacked) (b : Bool) → MeetsAtOnce md op v b w → b ≡ false → (offset : ℕ) (r : Result (Unit {0}) Refusal) (x : BodyState) → Meets md op offset w.body r x → Meets md op offset v.body r x
+meets_then md op v w b m h offset r x k = subst (λ (s : Stacked). Meets md op offset s.body r x) (same_at_once md op v w b m h) k
+
+-- an exchange that pushes nothing
+pub only_popped : (md : ModuleContext) (ws : List ValType) (v u : BodyState) → option_map (body_pushed_each []) (body_popped_each md ws v) ≡ Some u → body_popped_each md ws v ≡ Some u
+only_popped md ws v u h = let parts = mapped_some (body_pushed_each []) (body_popped_each md ws v) u h in parts.1 ∙ ap Some parts.2
+
+-- one that was made, and one that wasn't
+pub was_made : {P Q : Type 0} (b : Bool) → b ≡ true → MatchBool b P Q → P
+was_made true h m = m
+was_made false h m = cc
+
+pub was_not_made : {P Q : Type 0} (b : Bool) → b ≡ false → MatchBool b P Q → Q
+was_not_made true h m = cc
+was_not_made false h m = m

@@ -39,6 +39,29 @@ pub fn try_op<R: WasmModuleResources>(
     ensures valid { IsValidBody (R.context resources.now) (state v.new) }
     ensures kept { IsKept (state v.old) (state v.new) }
 {
+    // What passes at once leaves nothing to be taken back.
+    if v.passes_at_once(resources, &op) {
+        return Ok(());
+    }
+    attempt(v, resources, offset, op)
+}
+
+/// The same by an attempt that is begun and ended.
+#[inline(never)]
+fn attempt<R: WasmModuleResources>(
+    v: &mut OperatorValidator,
+    resources: &R,
+    offset: u64,
+    op: Op,
+) -> Result<(), Error>
+    requires idle { (state v.old).undone ≡ None }
+    requires visit { MayVisit (R.context resources.now) (stacks_of v.old) }
+    ensures meets { Meets (R.context resources.now) (λ cx. operator cx op.entry) offset (state v.old)
+        result (state v.new) }
+    ensures back { OnErr result (state v.new ≡ state v.old) }
+    ensures valid { IsValidBody (R.context resources.now) (state v.new) }
+    ensures kept { IsKept (state v.old) (state v.new) }
+{
     v.begin_try_op();
     let answer = v.check(resources, offset, op);
     end_attempt(v, answer.is_ok());

@@ -57,12 +57,12 @@ pub fn check_ops<R: WasmModuleResources>(
     ensures kept { IsKept (state v.old) (state v.new) }
 {
     for (index, pair) in ops.iter().enumerate() {
-        let (op, offset) = *pair;
+        let (op, offset) = pair;
         match heights.reserve(1) {
             Ok(()) => {}
-            Err(_) => return Err((index, Error::out_of_memory(offset))),
+            Err(_) => return Err((index, Error::out_of_memory(*offset))),
         }
-        match v.check(resources, offset, op) {
+        match v.check_in_place(resources, *offset, op) {
             Ok(()) => {}
             Err(refusal) => return Err((index, refusal)),
         }

@@ -4,6 +4,7 @@ ghost use Rattle.std.specs.Prelude.{◌≤◌, ◌≡◌, ◌⊎◌, ◌<◌, tr
 ghost use Rattle.std.specs.Option.{option_copied, ForSome};
 ghost use Rattle.validation_rules.specs.Static.{operand_count, frame_count};
 ghost use Rattle.validate_locals.specs.Limit.{max_locals};
+ghost use Rattle.validate_stacks.specs.AtOnce.{MeetsAtOnce};
 ghost use Rattle.validate_stacks.specs.Attempts.{may_attempt, stacks_begun, stacks_committed, stacks_rolled_back};
 ghost use Rattle.validate_stacks.specs.Pops.{IsKept};
 ghost use Rattle.validate_stacks.specs.State.{IsStarting, IsValidBody, IsUndoneValid};
@@ -16,7 +17,7 @@ ghost use Rattle.validate_stacks.specs.Steps.{type_at_depth, frame_at, label_at}
 ghost use Rattle.validate_body.specs.Start.{state, stacks_of, func_start, const_start, IsFuncStart, HasTooManyParams, DefinesLocals, CannotDefine};
 
 use validate_locals::Locals;
-use validate_operators::check_operator;
+use validate_operators::{check_operator, operator_at_once};
 use validate_resources::WasmModuleResources;
 use validate_resources::kinds::{expected_func_type, func_type_of};
 use validate_stacks::{OperatorValidatorAllocations, Stacks};
@@ -136,7 +137,39 @@ impl OperatorValidator {
         ensures valid { IsValidBody (R.context resources.now) (state self.new) }
         ensures kept { IsKept (state self.old) (state self.new) }
     {
+        self.check_in_place(resources, offset, &op)
+    }
+
+    /// [`OperatorValidator::check`] of an operator that lies in a list.
+    #[inline(always)]
+    pub(crate) fn check_in_place<R: WasmModuleResources>(
+        &mut self,
+        resources: &R,
+        offset: u64,
+        op: &Op,
+    ) -> Result<(), Error>
+        requires { MayVisit (R.context resources.now) (stacks_of self.old) }
+        ensures row { Meets (R.context resources.now) (λ cx. operator cx op.now) offset
+            (state self.old) result (state self.new) }
+        ensures memory { TakesNoMemory (R.context resources.now) op.now (state self.old) result }
+        ensures valid { IsValidBody (R.context resources.now) (state self.new) }
+        ensures kept { IsKept (state self.old) (state self.new) }
+    {
         check_operator(&mut self.stacks, resources, offset, op)
+    }
+
+    /// The check of one operator that passes at once. False, with nothing changed, where it takes more.
+    #[inline(always)]
+    pub(crate) fn passes_at_once<R: WasmModuleResources>(
+        &mut self,
+        resources: &R,
+        op: &Op,
+    ) -> bool
+        requires { MayVisit (R.context resources.now) (stacks_of self.old) }
+        ensures { MeetsAtOnce (R.context resources.now) (λ cx. operator cx op.now) (stacks_of self.old)
+            result (stacks_of self.new) }
+    {
+        operator_at_once(&mut self.stacks, resources, op)
     }
 
     /// Whether an attempt is pending.

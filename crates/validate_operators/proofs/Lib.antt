@@ -1,2 +1,3 @@
 pub mod Gated
 pub mod Alone
+mod AtOnce

@@ -4,6 +4,7 @@ ghost use Rattle.validation_rules.specs.Operators.{operator};
 ghost use Rattle.validate_stacks.specs.Visits.{MayVisit, Meets};
 ghost use Rattle.validate_operators.specs.Memory.{TakesNoMemory};
 
+use crate::at_once::operator_at_once;
 use crate::groups::{
     check_array, check_atomic, check_continuation, check_control, check_convert, check_exception,
     check_memory, check_numeric, check_reference, check_shared, check_struct, check_table,
@@ -15,19 +16,44 @@ use validate_visit::{ConvertOp, NumericOp, Op};
 
 /// The check of an operator at this offset: accepted exactly where its row holds, memory aside, with the
 /// static step. A refusal carries the offset. A frame has to be open.
+///
+/// Most operators pass at once, by the look of [`operator_at_once`]. The others take the check of their group, out of
+/// line.
 #[inline(always)]
 pub fn check_operator<R: WasmModuleResources>(
     stacks: &mut Stacks,
     resources: &R,
     offset: u64,
-    op: Op,
+    op: &Op,
 ) -> Result<(), Error>
     requires { MayVisit (R.context resources.now) stacks.old }
-    ensures row { Meets (R.context resources.now) (λ cx. operator cx op.entry) offset stacks.old.body
+    ensures row { Meets (R.context resources.now) (λ cx. operator cx op.now) offset stacks.old.body
         result stacks.new.body }
-    ensures memory { TakesNoMemory (R.context resources.now) op.entry stacks.old.body result }
+    ensures memory { TakesNoMemory (R.context resources.now) op.now stacks.old.body result }
 {
-    match op {
+    if operator_at_once(stacks, resources, op) {
+        return Ok(());
+    }
+    match check_in_group(stacks, resources, offset, op) {
+        Ok(()) => Ok(()),
+        Err(refusal) => Err(refusal),
+    }
+}
+
+/// The check of an operator in its group.
+#[inline(never)]
+fn check_in_group<R: WasmModuleResources>(
+    stacks: &mut Stacks,
+    resources: &R,
+    offset: u64,
+    op: &Op,
+) -> Result<(), Error>
+    requires { MayVisit (R.context resources.now) stacks.old }
+    ensures row { Meets (R.context resources.now) (λ cx. operator cx op.now) offset stacks.old.body
+        result stacks.new.body }
+    ensures memory { TakesNoMemory (R.context resources.now) op.now stacks.old.body result }
+{
+    match *op {
         Op::Control(op) => check_control(stacks, resources, offset, op),
         Op::Numeric(op) => any_numeric(stacks, resources, offset, op),
         Op::Convert(op) => any_convert(stacks, resources, offset, op),

@@ -3,6 +3,7 @@
 ghost use Rattle.std.specs.Prelude.{◌≡◌, None, Some, true, false, OnOk, OnErr, IfErr};
 ghost use Rattle.validation_rules.specs.Branches.{br_row, br_if_row, br_table_row, return_row};
 ghost use Rattle.validation_rules.specs.Operators.{staying_operator};
+ghost use Rattle.validate_stacks.specs.AtOnce.{MeetsAtOnce};
 ghost use Rattle.validate_stacks.specs.Pops.{IsKept};
 ghost use Rattle.validate_stacks.specs.State.{IsValidBody, body_context};
 ghost use Rattle.validate_stacks.specs.Visits.{step_body, MayVisit, Meets};
@@ -19,6 +20,27 @@ use validate_visit::BrTable;
 /// text of a refusal: it is refused only where its row doesn't hold.
 #[inline(always)]
 pub fn check_br<R: WasmModuleResources>(
+    stacks: &mut Stacks,
+    resources: &R,
+    offset: u64,
+    relative_depth: u32,
+) -> Result<(), Error>
+    requires { MayVisit (R.context resources.now) stacks.old }
+    ensures visit { Meets (R.context resources.now)
+        (λ cx. staying_operator (λ hs. br_row cx hs relative_depth)) offset stacks.old.body result
+        stacks.new.body }
+    ensures memory { stacks.old.body.undone ≡ None
+        → OnErr result (step_body (R.context resources.now)
+        (λ cx. staying_operator (λ hs. br_row cx hs relative_depth)) stacks.old.body ≡ None) }
+{
+    if br_at_once(stacks, resources, relative_depth) {
+        return Ok(());
+    }
+    br_by_pops(stacks, resources, offset, relative_depth)
+}
+
+/// The same by pops one by one.
+fn br_by_pops<R: WasmModuleResources>(
     stacks: &mut Stacks,
     resources: &R,
     offset: u64,
@@ -50,6 +72,24 @@ pub fn check_br_if<R: WasmModuleResources>(
         (λ cx. staying_operator (λ hs. br_if_row cx hs relative_depth)) offset stacks.old.body result
         stacks.new.body }
 {
+    if br_if_at_once(stacks, resources, relative_depth) {
+        return Ok(());
+    }
+    br_if_by_pops(stacks, resources, offset, relative_depth)
+}
+
+/// The same by pops one by one.
+fn br_if_by_pops<R: WasmModuleResources>(
+    stacks: &mut Stacks,
+    resources: &R,
+    offset: u64,
+    relative_depth: u32,
+) -> Result<(), Error>
+    requires { MayVisit (R.context resources.now) stacks.old }
+    ensures { Meets (R.context resources.now)
+        (λ cx. staying_operator (λ hs. br_if_row cx hs relative_depth)) offset stacks.old.body result
+        stacks.new.body }
+{
     stacks.pop_types(resources, offset, &[ValType::I32])?;
     let (block_type, kind) = label(stacks, offset, relative_depth)?;
     let types = label_types(resources, &block_type, kind);
@@ -71,6 +111,25 @@ pub fn check_return<R: WasmModuleResources>(
         → OnErr result (step_body (R.context resources.now)
         (λ cx. staying_operator (λ hs. return_row cx hs)) stacks.old.body ≡ None) }
 {
+    if return_at_once(stacks, resources) {
+        return Ok(());
+    }
+    return_by_pops(stacks, resources, offset)
+}
+
+/// The same by pops one by one.
+fn return_by_pops<R: WasmModuleResources>(
+    stacks: &mut Stacks,
+    resources: &R,
+    offset: u64,
+) -> Result<(), Error>
+    requires { MayVisit (R.context resources.now) stacks.old }
+    ensures visit { Meets (R.context resources.now) (λ cx. staying_operator (λ hs. return_row cx hs))
+        offset stacks.old.body result stacks.new.body }
+    ensures memory { stacks.old.body.undone ≡ None
+        → OnErr result (step_body (R.context resources.now)
+        (λ cx. staying_operator (λ hs. return_row cx hs)) stacks.old.body ≡ None) }
+{
     let outermost = stacks.control_stack_height() - 1;
     let Some(frame) = stacks.get_frame(outermost) else {
         unreachable!()
@@ -79,6 +138,68 @@ pub fn check_return<R: WasmModuleResources>(
     let results = label_types(resources, &frame.block_type, frame.kind);
     stacks.pop_types(resources, offset, results)?;
     stacks.end_live_part(offset)
+}
+
+/// [`check_br`], where it passes at once. False, with nothing changed, where it doesn't.
+#[inline(always)]
+pub fn br_at_once<R: WasmModuleResources>(
+    stacks: &mut Stacks,
+    resources: &R,
+    relative_depth: u32,
+) -> bool
+    requires { MayVisit (R.context resources.now) stacks.old }
+    ensures { MeetsAtOnce (R.context resources.now)
+        (λ cx. staying_operator (λ hs. br_row cx hs relative_depth)) stacks.old result stacks.new }
+{
+    match stacks.jump(relative_depth) {
+        Some((block_type, kind)) => {
+            stacks.end_at_once(resources, label_types(resources, &block_type, kind))
+        }
+        None => false,
+    }
+}
+
+/// [`check_br_if`], where it passes at once and the label has one type at most. False, with nothing changed,
+/// where it doesn't.
+#[inline(always)]
+pub fn br_if_at_once<R: WasmModuleResources>(
+    stacks: &mut Stacks,
+    resources: &R,
+    relative_depth: u32,
+) -> bool
+    requires { MayVisit (R.context resources.now) stacks.old }
+    ensures { MeetsAtOnce (R.context resources.now)
+        (λ cx. staying_operator (λ hs. br_if_row cx hs relative_depth)) stacks.old result stacks.new }
+{
+    let Some((block_type, kind)) = stacks.jump(relative_depth) else {
+        return false;
+    };
+    let types = label_types(resources, &block_type, kind);
+    if types.is_empty() {
+        return stacks.exchange_at_once(resources, &[ValType::I32], None);
+    }
+    if types.len() > 1 {
+        return false;
+    }
+    stacks.exchange_at_once(resources, &[types[0], ValType::I32], Some(types[0]))
+}
+
+/// [`check_return`], where it passes at once. False, with nothing changed, where it doesn't.
+#[inline(always)]
+pub fn return_at_once<R: WasmModuleResources>(stacks: &mut Stacks, resources: &R) -> bool
+    requires { MayVisit (R.context resources.now) stacks.old }
+    ensures { MeetsAtOnce (R.context resources.now) (λ cx. staying_operator (λ hs. return_row cx hs))
+        stacks.old result stacks.new }
+{
+    let outermost = stacks.control_stack_height() - 1;
+    match stacks.get_frame(outermost) {
+        Some(frame) => {
+            let block_type = frame.block_type;
+            let kind = frame.kind;
+            stacks.end_at_once(resources, label_types(resources, &block_type, kind))
+        }
+        None => false,
+    }
 }
 
 /// A target of `br_table`: its label, which has to have as many types as the default one, and the

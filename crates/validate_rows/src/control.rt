@@ -4,6 +4,7 @@ ghost use Rattle.std.specs.Prelude.{◌≡◌, true, false, None, [], IsOk, OnOk
 ghost use Rattle.validation_rules.specs.Rows.{BeginsElse, Ends, is_if};
 ghost use Rattle.validation_rules.specs.Operators.{plain_row, ending_row, row_operator, delimiter_operator};
 ghost use Rattle.validation_rules.specs.Valid.{IsValidBlock};
+ghost use Rattle.validate_stacks.specs.AtOnce.{MeetsAtOnce};
 ghost use Rattle.validate_stacks.specs.Attempts.{may_frame};
 ghost use Rattle.validate_stacks.specs.Pops.{IsKept};
 ghost use Rattle.validate_stacks.specs.State.{IsValidBody};
@@ -35,6 +36,19 @@ pub fn check_nop<R: WasmModuleResources>(
     Ok(())
 }
 
+/// [`check_nop`], which passes at once.
+#[inline(always)]
+pub fn nop_at_once<R: WasmModuleResources>(stacks: &mut Stacks, resources: &R) -> bool
+    requires { MayVisit (R.context resources.now) stacks.old }
+    ensures { MeetsAtOnce (R.context resources.now) (λ cx. row_operator (plain_row [] [])) stacks.old result
+        stacks.new }
+{
+    // The contract alone reads these.
+    let _resources = resources;
+    let _stacks = stacks;
+    true
+}
+
 /// `unreachable`: the live part of the frame ends here. It is never refused, and takes no memory.
 #[inline(always)]
 pub fn check_unreachable<R: WasmModuleResources>(
@@ -52,10 +66,43 @@ pub fn check_unreachable<R: WasmModuleResources>(
     stacks.end_live_part(offset)
 }
 
+/// [`check_unreachable`], where no attempt is pending. False, with nothing changed, where one is.
+#[inline(always)]
+pub fn unreachable_at_once<R: WasmModuleResources>(stacks: &mut Stacks, resources: &R) -> bool
+    requires { MayVisit (R.context resources.now) stacks.old }
+    ensures { MeetsAtOnce (R.context resources.now) (λ cx. row_operator (ending_row [])) stacks.old result
+        stacks.new }
+{
+    stacks.end_at_once(resources, &[])
+}
+
 /// `else`: closes the first part of an `if`, which has to have exactly its results, and begins the
 /// second with the parameters. It refuses after a frame of another kind.
 #[inline(always)]
 pub fn check_else<R: WasmModuleResources>(
+    stacks: &mut Stacks,
+    resources: &R,
+    offset: u64,
+) -> Result<(), Error>
+    requires { MayVisit (R.context resources.now) stacks.old }
+    ensures { Meets (R.context resources.now) (λ cx. delimiter_operator BeginsElse) offset
+        stacks.old.body result stacks.new.body }
+{
+    let Some(frame) = stacks.get_frame(0) else {
+        return else_by_pops(stacks, resources, offset);
+    };
+    let block_type = frame.block_type;
+    if !is_if_part(frame.kind) {
+        return else_by_pops(stacks, resources, offset);
+    }
+    if stacks.close_at_once(resources, block_type) {
+        return stacks.push_ctrl(resources, offset, FrameKind::Else, block_type);
+    }
+    else_by_pops(stacks, resources, offset)
+}
+
+/// The same by pops one by one.
+fn else_by_pops<R: WasmModuleResources>(
     stacks: &mut Stacks,
     resources: &R,
     offset: u64,
@@ -75,6 +122,29 @@ pub fn check_else<R: WasmModuleResources>(
 /// next outer one. An `if` without `else` has an empty second part.
 #[inline(always)]
 pub fn check_end<R: WasmModuleResources>(
+    stacks: &mut Stacks,
+    resources: &R,
+    offset: u64,
+) -> Result<(), Error>
+    requires { MayVisit (R.context resources.now) stacks.old }
+    ensures { Meets (R.context resources.now) (λ cx. delimiter_operator Ends) offset
+        stacks.old.body result stacks.new.body }
+{
+    let Some(frame) = stacks.get_frame(0) else {
+        return end_by_pops(stacks, resources, offset);
+    };
+    let block_type = frame.block_type;
+    if is_if_part(frame.kind) {
+        return end_by_pops(stacks, resources, offset);
+    }
+    if stacks.close_at_once(resources, block_type) {
+        return stacks.push_types(offset, results(resources, &block_type));
+    }
+    end_by_pops(stacks, resources, offset)
+}
+
+/// The same by pops one by one.
+fn end_by_pops<R: WasmModuleResources>(
     stacks: &mut Stacks,
     resources: &R,
     offset: u64,

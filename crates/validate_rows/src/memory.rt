@@ -7,15 +7,16 @@ ghost use Rattle.validation_rules.specs.Access.{load_row, store_row};
 ghost use Rattle.validation_rules.specs.Memories.{memory_size_row, memory_grow_row, memory_init_row, data_drop_row, memory_copy_row, memory_fill_row, memory_discard_row};
 ghost use Rattle.validation_rules.specs.Memory.{memory_row};
 ghost use Rattle.validation_rules.specs.Operators.{row_operator};
+ghost use Rattle.validate_stacks.specs.AtOnce.{MeetsAtOnce};
 ghost use Rattle.validate_stacks.specs.Visits.{MayVisit, Meets};
 ghost use Rattle.validate_shapes.specs.Operands.{FindsOperands};
 
 use validate_resources::WasmModuleResources;
-use validate_shapes::accesses::{Access, check_memarg, check_memory_access};
+use validate_shapes::accesses::{Access, check_memarg, check_memory_access, memory_access};
 use validate_shapes::memories::{check_data_segment, check_memory_index, narrower_of};
 use validate_shapes::numbers::{number, packed};
 use validate_shapes::operands::{Few, Operands, check_operands};
-use validate_shapes::plain::check_plain;
+use validate_shapes::plain::{check_plain, plain_at_once};
 use validate_stacks::Stacks;
 use validate_types::{Error, ValType};
 use validate_visit::{MemArg, MemArgTarget, MemoryOp};
@@ -280,5 +281,88 @@ pub fn check_memory_row<R: WasmModuleResources>(
             MemArgTarget::Array(_) => check_memory_types(stacks, resources, offset, op),
         },
         _ => check_memory_types(stacks, resources, offset, op),
+    }
+}
+
+/// A load of a number from a memory, where it passes at once.
+#[inline(always)]
+fn load_at_once<R: WasmModuleResources>(
+    stacks: &mut Stacks,
+    resources: &R,
+    memarg: MemArg,
+    memory_index: u32,
+    ty: ValType,
+) -> bool
+    requires visit { MayVisit (R.context resources.now) stacks.old }
+    requires target { memarg.target ≡ Memory memory_index }
+    requires number { is_number_or_vector ty ≡ true }
+    ensures { MeetsAtOnce (R.context resources.now) (λ cx. row_operator (load_row cx memarg ty)) stacks.old
+        result stacks.new }
+{
+    match memory_access(resources, memarg, memory_index) {
+        Some(address) => plain_at_once(stacks, resources, &[address], Some(ty)),
+        None => false,
+    }
+}
+
+/// A store of a number in a memory, where it passes at once.
+#[inline(always)]
+fn store_at_once<R: WasmModuleResources>(
+    stacks: &mut Stacks,
+    resources: &R,
+    memarg: MemArg,
+    memory_index: u32,
+    ty: ValType,
+) -> bool
+    requires visit { MayVisit (R.context resources.now) stacks.old }
+    requires target { memarg.target ≡ Memory memory_index }
+    requires number { is_number_or_vector ty ≡ true }
+    ensures { MeetsAtOnce (R.context resources.now) (λ cx. row_operator (store_row cx memarg ty)) stacks.old
+        result stacks.new }
+{
+    match memory_access(resources, memarg, memory_index) {
+        Some(address) => plain_at_once(stacks, resources, &[address, ty], None),
+        None => false,
+    }
+}
+
+/// [`check_memory_row`] of a load or a store of a memory, where it passes at once. False, with nothing changed,
+/// where it doesn't.
+#[inline(always)]
+pub fn memory_at_once<R: WasmModuleResources>(
+    stacks: &mut Stacks,
+    resources: &R,
+    op: MemoryOp,
+) -> bool
+    requires { MayVisit (R.context resources.now) stacks.old }
+    ensures { MeetsAtOnce (R.context resources.now) (λ cx. row_operator (memory_row cx op)) stacks.old result
+        stacks.new }
+{
+    match op {
+        MemoryOp::Load(ty, memarg) => match memarg.target {
+            MemArgTarget::Memory(memory) => {
+                load_at_once(stacks, resources, memarg, memory, number(ty))
+            }
+            MemArgTarget::Array(_) => false,
+        },
+        MemoryOp::LoadPacked(part, _, memarg) => match memarg.target {
+            MemArgTarget::Memory(memory) => {
+                load_at_once(stacks, resources, memarg, memory, packed(part))
+            }
+            MemArgTarget::Array(_) => false,
+        },
+        MemoryOp::Store(ty, memarg) => match memarg.target {
+            MemArgTarget::Memory(memory) => {
+                store_at_once(stacks, resources, memarg, memory, number(ty))
+            }
+            MemArgTarget::Array(_) => false,
+        },
+        MemoryOp::StorePacked(part, memarg) => match memarg.target {
+            MemArgTarget::Memory(memory) => {
+                store_at_once(stacks, resources, memarg, memory, packed(part))
+            }
+            MemArgTarget::Array(_) => false,
+        },
+        _ => false,
     }
 }

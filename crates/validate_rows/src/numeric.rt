@@ -3,11 +3,12 @@
 ghost use Rattle.validation_rules.specs.Convert.{convert_row};
 ghost use Rattle.validation_rules.specs.Numeric.{numeric_row};
 ghost use Rattle.validation_rules.specs.Operators.{row_operator};
+ghost use Rattle.validate_stacks.specs.AtOnce.{MeetsAtOnce};
 ghost use Rattle.validate_stacks.specs.Visits.{MayVisit, Meets};
 
 use validate_resources::WasmModuleResources;
 use validate_shapes::numbers::{float, integer, number, once, packed, twice};
-use validate_shapes::plain::check_plain;
+use validate_shapes::plain::{check_plain, plain_at_once};
 use validate_stacks::Stacks;
 use validate_types::{Error, ValType};
 use validate_visit::{ConvertOp, NumericOp};
@@ -155,6 +156,88 @@ pub fn check_convert_row<R: WasmModuleResources>(
         ConvertOp::Reinterpret(into) => {
             let from = number(into.reinterpreted());
             check_plain(stacks, resources, offset, once(from), once(number(into)))
+        }
+    }
+}
+
+/// [`check_numeric_row`], where it passes at once. False, with nothing changed, where it doesn't.
+#[inline(always)]
+pub fn numeric_at_once<R: WasmModuleResources>(
+    stacks: &mut Stacks,
+    resources: &R,
+    op: NumericOp,
+) -> bool
+    requires { MayVisit (R.context resources.now) stacks.old }
+    ensures { MeetsAtOnce (R.context resources.now) (λ cx. row_operator (numeric_row op)) stacks.old result
+        stacks.new }
+{
+    match op {
+        NumericOp::I32Const(_) => plain_at_once(stacks, resources, &[], Some(ValType::I32)),
+        NumericOp::I64Const(_) => plain_at_once(stacks, resources, &[], Some(ValType::I64)),
+        NumericOp::F32Const(_) => plain_at_once(stacks, resources, &[], Some(ValType::F32)),
+        NumericOp::F64Const(_) => plain_at_once(stacks, resources, &[], Some(ValType::F64)),
+        NumericOp::Eqz(ty) => {
+            plain_at_once(stacks, resources, &[integer(ty)], Some(ValType::I32))
+        }
+        NumericOp::IntegerUnary(ty, _) => {
+            let ty = integer(ty);
+            plain_at_once(stacks, resources, &[ty], Some(ty))
+        }
+        NumericOp::IntegerBinary(ty, _) => {
+            let ty = integer(ty);
+            plain_at_once(stacks, resources, &[ty, ty], Some(ty))
+        }
+        NumericOp::IntegerComparison(ty, _) => {
+            let ty = integer(ty);
+            plain_at_once(stacks, resources, &[ty, ty], Some(ValType::I32))
+        }
+        NumericOp::FloatUnary(ty, _) => {
+            let ty = float(ty);
+            plain_at_once(stacks, resources, &[ty], Some(ty))
+        }
+        NumericOp::FloatBinary(ty, _) => {
+            let ty = float(ty);
+            plain_at_once(stacks, resources, &[ty, ty], Some(ty))
+        }
+        NumericOp::FloatComparison(ty, _) => {
+            let ty = float(ty);
+            plain_at_once(stacks, resources, &[ty, ty], Some(ValType::I32))
+        }
+        NumericOp::Add128 | NumericOp::Sub128 | NumericOp::MulWide(_) => false,
+    }
+}
+
+/// [`check_convert_row`], where it passes at once. False, with nothing changed, where it doesn't.
+#[inline(always)]
+pub fn convert_at_once<R: WasmModuleResources>(
+    stacks: &mut Stacks,
+    resources: &R,
+    op: ConvertOp,
+) -> bool
+    requires { MayVisit (R.context resources.now) stacks.old }
+    ensures { MeetsAtOnce (R.context resources.now) (λ cx. row_operator (convert_row op)) stacks.old result
+        stacks.new }
+{
+    match op {
+        ConvertOp::Wrap => plain_at_once(stacks, resources, &[ValType::I64], Some(ValType::I32)),
+        ConvertOp::Extend(_) => {
+            plain_at_once(stacks, resources, &[ValType::I32], Some(ValType::I64))
+        }
+        ConvertOp::ExtendPacked(part) => {
+            let ty = packed(part);
+            plain_at_once(stacks, resources, &[ty], Some(ty))
+        }
+        ConvertOp::Trunc(into, from, _) | ConvertOp::TruncSat(into, from, _) => {
+            plain_at_once(stacks, resources, &[float(from)], Some(integer(into)))
+        }
+        ConvertOp::Convert(into, from, _) => {
+            plain_at_once(stacks, resources, &[integer(from)], Some(float(into)))
+        }
+        ConvertOp::Demote => plain_at_once(stacks, resources, &[ValType::F64], Some(ValType::F32)),
+        ConvertOp::Promote => plain_at_once(stacks, resources, &[ValType::F32], Some(ValType::F64)),
+        ConvertOp::Reinterpret(into) => {
+            let from = number(into.reinterpreted());
+            plain_at_once(stacks, resources, &[from], Some(number(into)))
         }
     }
 }

@@ -2,6 +2,7 @@
 
 ghost use Rattle.std.specs.Prelude.{◌≡◌, true, false, None, Some, IfOk, OnErr, IfErr};
 ghost use Rattle.validation_rules.specs.Operators.{never_row, looking_row, drop_pushes, is_selectable, select_result, select_pushes, typed_select_row, row_operator};
+ghost use Rattle.validate_stacks.specs.AtOnce.{MeetsAtOnce};
 ghost use Rattle.validate_stacks.specs.Visits.{step_body, MayVisit, Meets};
 
 use validate_resources::WasmModuleResources;
@@ -27,6 +28,19 @@ pub fn check_drop<R: WasmModuleResources>(
     match stacks.pop_operand(resources, offset, None) {
         Ok(_) => Ok(()),
         Err(refusal) => Err(refusal),
+    }
+}
+
+/// [`check_drop`], where it passes. False, with nothing changed, where it doesn't.
+#[inline(always)]
+pub fn drop_at_once<R: WasmModuleResources>(stacks: &mut Stacks, resources: &R) -> bool
+    requires { MayVisit (R.context resources.now) stacks.old }
+    ensures { MeetsAtOnce (R.context resources.now) (λ cx. row_operator (looking_row 1 drop_pushes))
+        stacks.old result stacks.new }
+{
+    match stacks.pop_at_once(resources, None) {
+        Some(_) => true,
+        None => false,
     }
 }
 

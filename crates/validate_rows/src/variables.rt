@@ -1,8 +1,11 @@
 //! Operators on locals (WebAssembly core specification, "Variable Instructions").
 
-ghost use Rattle.std.specs.Prelude.{◌≡◌, ◌<◌, true, None, Some, IfOk, OnOk, IfErr, length, slice_get};
+ghost use Rattle.std.specs.Prelude.{◌≡◌, ◌<◌, true, None, Some, IfOk, OnOk, IfErr, IsSome, length, slice_get};
+ghost use Rattle.std.specs.Option.{ForSome};
+ghost use Rattle.validation_rules.specs.Static.{is_local_set, locals_set};
 ghost use Rattle.validate_resources.specs.Context.{ModuleContext};
 ghost use Rattle.validation_rules.specs.Operators.{row_operator, local_get_row, local_set_row, local_tee_row};
+ghost use Rattle.validate_stacks.specs.AtOnce.{MeetsAtOnce};
 ghost use Rattle.validate_stacks.specs.Attempts.{may_set};
 ghost use Rattle.validate_stacks.specs.Pops.{IsKept};
 ghost use Rattle.validate_stacks.specs.State.{IsValidBody};
@@ -11,7 +14,7 @@ ghost use Rattle.validate_stacks.specs.Visits.{MayVisit, Meets};
 
 use validate_resources::WasmModuleResources;
 use validate_stacks::Stacks;
-use validate_types::{Error, ValType};
+use validate_types::{Error, MaybeType, ValType};
 
 /// The declared type of a local, or the refusal of an index past the end.
 #[inline(always)]
@@ -117,4 +120,78 @@ pub fn check_local_tee<R: WasmModuleResources>(
     stacks.pop_types(resources, offset, &[ty])?;
     set_init(stacks, offset, local_index)?;
     stacks.push_types(offset, &[ty])
+}
+
+/// The declared type of a local that is set.
+#[inline(always)]
+fn set_local(stacks: &Stacks, local_index: u32) -> Option<ValType>
+    ensures found { ForSome result (λ ty. slice_get stacks.now.body.locals local_index ≡ Some ty) }
+    ensures set { IsSome result → is_local_set stacks.now.body.set_at_entry
+        (locals_set stacks.now.body.present.frames) local_index ≡ true }
+{
+    match stacks.locals().get(local_index) {
+        Some(ty) => {
+            if stacks.is_uninit(local_index) {
+                None
+            } else {
+                Some(ty)
+            }
+        }
+        None => None,
+    }
+}
+
+/// [`check_local_get`], where it passes at once. False, with nothing changed, where it doesn't.
+#[inline(always)]
+pub fn local_get_at_once<R: WasmModuleResources>(
+    stacks: &mut Stacks,
+    resources: &R,
+    local_index: u32,
+) -> bool
+    requires { MayVisit (R.context resources.now) stacks.old }
+    ensures { MeetsAtOnce (R.context resources.now) (λ cx. row_operator (local_get_row cx local_index))
+        stacks.old result stacks.new }
+{
+    // The contract alone reads it.
+    let _resources = resources;
+    match set_local(stacks, local_index) {
+        Some(ty) => stacks.push_at_once(MaybeType::Known(ty)),
+        None => false,
+    }
+}
+
+/// [`check_local_set`], where it passes at once: the local is set already. False, with nothing changed, where it
+/// doesn't.
+#[inline(always)]
+pub fn local_set_at_once<R: WasmModuleResources>(
+    stacks: &mut Stacks,
+    resources: &R,
+    local_index: u32,
+) -> bool
+    requires { MayVisit (R.context resources.now) stacks.old }
+    ensures { MeetsAtOnce (R.context resources.now) (λ cx. row_operator (local_set_row cx local_index))
+        stacks.old result stacks.new }
+{
+    match set_local(stacks, local_index) {
+        Some(ty) => stacks.exchange_at_once(resources, &[ty], None),
+        None => false,
+    }
+}
+
+/// [`check_local_tee`], where it passes at once: the local is set already. False, with nothing changed, where it
+/// doesn't.
+#[inline(always)]
+pub fn local_tee_at_once<R: WasmModuleResources>(
+    stacks: &mut Stacks,
+    resources: &R,
+    local_index: u32,
+) -> bool
+    requires { MayVisit (R.context resources.now) stacks.old }
+    ensures { MeetsAtOnce (R.context resources.now) (λ cx. row_operator (local_tee_row cx local_index))
+        stacks.old result stacks.new }
+{
+    match set_local(stacks, local_index) {
+        Some(ty) => stacks.exchange_at_once(resources, &[ty], Some(ty)),
+        None => false,
+    }
 }

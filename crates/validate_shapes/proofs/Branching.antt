@@ -213,6 +213,14 @@ module _ (md : ModuleContext) (v : BodyState) (o : v.present.frames ≢ []) (d :
   br_if_with b ts hb ht =
       pushes_is md v o if_row b (ts ++ I32 ∷ []) ts (target (body_context md v) (heads v.present.frames) d ∷ []) (ap₂ (λ p ws. row_with p None (ws ++ I32 ∷ []) [] ws None (target (body_context md v) (heads v.present.frames) d ∷ []) [] false) hb ht)
 
+  -- the types of the label, and the test above them
+  module _ (bt : BlockType) (kind : FrameKind) (ts : List ValType) (there : label_at v d ≡ Some (bt, kind)) (types : ts ≡ label_types (body_context md v) (head_of kind bt)) where
+    pub br_if_types : ts ≡ label_types_at (body_context md v) (heads v.present.frames) d
+    br_if_types = types ∙ sym (label_there (body_context md v) (heads v.present.frames) d bt kind there).1
+
+    pub br_if_whole : step_body md (λ c. staying_operator (λ hs. br_if_row c hs d)) v ≡ option_map (λ u. body_pushed_each ts u) (body_popped_each md (reverse (ts ++ I32 ∷ [])) v)
+    br_if_whole = br_if_with true ts (label_there (body_context md v) (heads v.present.frames) d bt kind there).0 (sym br_if_types)
+
   -- the test was not there
   pub br_if_untested : body_popped_each md (reverse (I32 ∷ [])) v ≡ None → step_body md (λ c. staying_operator (λ hs. br_if_row c hs d)) v ≡ None
   br_if_untested n =

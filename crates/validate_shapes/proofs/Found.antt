@@ -1,5 +1,5 @@
 -- Rows that are known once something was looked up.
-use Rattle.std.proofs.Common.{◌≡◌, ℕ, false, List, [], ◌∷◌, None, Result, Ok, Err, OnOk, IfErr, refl, sym, ap, ◌∙◌}
+use Rattle.std.proofs.Common.{◌≡◌, ℕ, Bool, true, false, List, [], ◌∷◌, None, Result, Ok, Err, OnOk, IfErr, refl, sym, ap, ◌∙◌}
 use Rattle.std.specs.Option.{option_map}
 use Rattle.validate_resources.specs.Context.{ModuleContext}
 use Rattle.validate_types.specs.Refusal.{Refusal}
@@ -8,6 +8,8 @@ use Rattle.validation_rules.specs.Rows.{Head, Row}
 use Rattle.validation_rules.specs.Static.{Frame, State, heads, step_in}
 use Rattle.validation_rules.specs.Operators.{row_operator, staying_operator}
 use Rattle.validate_stacks.specs.State.{BodyState, body_context, IsValidBody}
+use Rattle.validate_stacks.specs.AtOnce.{MeetsAtOnce}
+use Rattle.validate_stacks.specs.Attempts.{Stacked}
 use Rattle.validate_stacks.specs.Visits.{step_body, Meets}
 use Rattle.validate_shapes.proofs.Meeting.{meets_refused, meets_as}
 
@@ -54,3 +56,9 @@ module _ (md : ModuleContext) (v : BodyState) (row : Context → List Head → R
     -- a check answered by the row that was found
     pub meets_found : (other : Context → List Head → Row) (w : BodyState) (r : Result (Unit {0}) Refusal) → row_now ≡ other (body_context md v) (heads v.present.frames) → Meets md (λ c. staying_operator (other c)) offset v r w → Meets md (λ c. staying_operator (row c)) offset v r w
     meets_found other w r e m = meets_as md (λ c. staying_operator (other c)) (λ c. staying_operator (row c)) offset v w r (found_as other e) m
+
+  -- the same at once
+  pub found_at_once : (other : Context → List Head → Row) (s w : Stacked) (b : Bool) → s.body ≡ v → row_now ≡ other (body_context md v) (heads v.present.frames) → MeetsAtOnce md (λ c. staying_operator (other c)) s b w → MeetsAtOnce md (λ c. staying_operator (row c)) s b w
+  unfolding MeetsAtOnce
+  found_at_once other s w true is e m = λ offset. rw is (meets_found offset other w.body (Ok tt) e (rw is at (m offset)))
+  found_at_once other s w false is e m = m

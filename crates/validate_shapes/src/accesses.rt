@@ -3,6 +3,7 @@
 
 ghost use Rattle.std.specs.Prelude.{◌≡◌, true, false, [], ◌∷◌, ◌++◌, None, Some, IfOk, OnOk, OnErr, IfErr};
 ghost use Rattle.std.specs.List.{AllByRecursion};
+ghost use Rattle.std.specs.Option.{ForSome};
 ghost use Rattle.validate_resources.specs.Context.{Valid, is_address_type};
 ghost use Rattle.validate_types.specs.declared.types.ValType.TheVariants.{I32};
 ghost use Rattle.validate_visit.specs.declared.memory.MemArgTarget.TheVariants.{Memory, Array};
@@ -90,6 +91,30 @@ pub fn check_memory_access<R: WasmModuleResources>(
         return Err(Error::new(OFFSET_BEYOND, offset));
     }
     Ok(index_type)
+}
+
+/// [`check_memory_access`], where it passes.
+#[inline(always)]
+pub fn memory_access<R: WasmModuleResources>(
+    resources: &R,
+    memarg: MemArg,
+    memory_index: u32,
+) -> Option<ValType>
+    ensures found { ForSome result (λ it. address_types_for memarg
+        (memory_address_types (R.context resources.now) (Memory memory_index)) ≡ Some (it ∷ [])) }
+    ensures index { ForSome result (λ it. is_address_type it ≡ true) }
+{
+    if memarg.align > memarg.max_align {
+        return None;
+    }
+    let Some(memory) = resources.memory_at(memory_index) else {
+        return None;
+    };
+    let index_type = memory.index_type();
+    if index_type != ValType::I32 || memarg.offset <= u64::from(u32::MAX) {
+        return Some(index_type);
+    }
+    None
 }
 
 /// The places hold no references, and can be written where that is done.

@@ -4,6 +4,7 @@ ghost use Rattle.std.specs.Prelude.{◌≡◌, None, true, [], ◌∷◌, ◌++�
 ghost use Rattle.std.specs.List.{AllByRecursion};
 ghost use Rattle.validate_resources.specs.Context.{Valid};
 ghost use Rattle.validation_rules.specs.Operators.{plain_row, ending_row, row_operator};
+ghost use Rattle.validate_stacks.specs.AtOnce.{pushed_list, MeetsAtOnce};
 ghost use Rattle.validate_stacks.specs.Visits.{step_body, MayVisit, Meets};
 
 use validate_resources::WasmModuleResources;
@@ -26,8 +27,50 @@ pub fn check_plain<R: WasmModuleResources>(
         (λ cx. row_operator (plain_row wanted.now pushed.now)) offset stacks.old.body result
         stacks.new.body }
 {
+    if pushed.len() > 1 {
+        return plain_by_pops(stacks, resources, offset, wanted, pushed);
+    }
+    if plain_at_once(stacks, resources, wanted, pushed.first().copied()) {
+        return Ok(());
+    }
+    plain_by_pops(stacks, resources, offset, wanted, pushed)
+}
+
+/// The same by pops and pushes one by one.
+fn plain_by_pops<R: WasmModuleResources>(
+    stacks: &mut Stacks,
+    resources: &R,
+    offset: u64,
+    wanted: &[ValType],
+    pushed: &[ValType],
+) -> Result<(), Error>
+    requires visit { MayVisit (R.context resources.now) stacks.old }
+    requires wanted { AllByRecursion (Valid (R.context resources.now)) wanted.now }
+    requires pushed { AllByRecursion (Valid (R.context resources.now)) pushed.now }
+    ensures { Meets (R.context resources.now)
+        (λ cx. row_operator (plain_row wanted.now pushed.now)) offset stacks.old.body result
+        stacks.new.body }
+{
     stacks.pop_types(resources, offset, wanted)?;
     stacks.push_types(offset, pushed)
+}
+
+/// `[wanted] -> [pushed]`, where it is plain at once: no attempt is pending, each operand is the number or vector
+/// type itself, or not known at all, and there is room. False, with nothing changed, where that isn't so.
+#[inline(always)]
+pub fn plain_at_once<R: WasmModuleResources>(
+    stacks: &mut Stacks,
+    resources: &R,
+    wanted: &[ValType],
+    pushed: Option<ValType>,
+) -> bool
+    requires visit { MayVisit (R.context resources.now) stacks.old }
+    requires wanted { AllByRecursion (Valid (R.context resources.now)) wanted.now }
+    requires pushed { AllByRecursion (Valid (R.context resources.now)) (pushed_list pushed) }
+    ensures { MeetsAtOnce (R.context resources.now)
+        (λ cx. row_operator (plain_row wanted.now (pushed_list pushed))) stacks.old result stacks.new }
+{
+    stacks.exchange_at_once(resources, wanted, pushed)
 }
 
 /// `[types] -> [types above]`: operands of these types stay, and another comes above them.

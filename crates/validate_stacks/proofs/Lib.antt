@@ -8,5 +8,6 @@ pub mod Validity
 pub mod Whole
 pub mod Closing
 pub mod PopRuns
+pub mod AtOnce
 mod Examples
 mod Rising

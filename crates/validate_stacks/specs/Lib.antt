@@ -9,3 +9,4 @@ pub mod Blocks
 pub mod Counted
 pub mod Rising
 pub mod Visits
+pub mod AtOnce

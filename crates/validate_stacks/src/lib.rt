@@ -3,6 +3,7 @@
 #![tactic(auto)]
 
 pub mod allocations;
+pub mod at_once;
 pub mod blocks;
 pub mod counted;
 pub mod either;

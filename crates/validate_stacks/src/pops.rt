@@ -116,7 +116,7 @@ fn not_fitting<R: WasmModuleResources>(
 
 /// Whether nothing is wanted, or this operand isn't known at all, or is the wanted number or vector type.
 #[inline(always)]
-fn fits_at_once(found: MaybeType, expected: Option<ValType>) -> bool
+pub(crate) fn fits_at_once(found: MaybeType, expected: Option<ValType>) -> bool
     ensures { result ≡ true → FitsAtOnce found expected }
 {
     match (found, expected) {
@@ -193,7 +193,7 @@ impl Stacks {
     /// or it is the wanted number or vector type itself. None, with nothing changed, where that isn't so,
     /// or where memory wants.
     #[inline(always)]
-    pub(crate) fn pop_at_once<R: WasmModuleResources>(
+    pub fn pop_at_once<R: WasmModuleResources>(
         &mut self,
         resources: &R,
         expected: Option<ValType>,

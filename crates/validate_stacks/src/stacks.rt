@@ -299,6 +299,31 @@ impl Stacks {
         Ok(Some(ty))
     }
 
+    /// Pushes an operand onto the innermost frame, where there is room and no attempt is pending. False,
+    /// with nothing changed, where that isn't so. It takes no memory.
+    #[inline(always)]
+    pub fn push_at_once(&mut self, ty: MaybeType) -> bool
+        ensures exact { MatchBool result (self.new.body ≡ body_pushed ty self.old.body) (self.new ≡ self.old) }
+        ensures phase { phase_moved self.new.phase ≡ phase_moved self.old.phase }
+    {
+        if self.transaction.is_active() || !self.operands.has_room() {
+            return false;
+        }
+        self.operands.put(ty);
+        true
+    }
+
+    /// Puts an operand in the place of the top own one of the innermost frame. It takes no memory.
+    #[inline(always)]
+    pub(crate) fn replace_operand(&mut self, ty: MaybeType)
+        requires idle { self.old.body.undone ≡ None }
+        requires own { innermost_operands self.old.body.present.frames ≢ [] }
+        ensures replaced { self.new.body ≡ body_pushed ty (body_popped self.old.body) }
+        ensures phase { phase_moved self.new.phase ≡ phase_moved self.old.phase }
+    {
+        self.operands.replace_top(ty);
+    }
+
     /// What a pop would find below so many others, in the innermost frame.
     #[inline(always)]
     pub(crate) fn found_at(&self, depth: usize) -> Option<MaybeType>

@@ -1,6 +1,6 @@
 //! A list that grows and shrinks at its end, and knows its room.
 
-ghost use Rattle.std.specs.Prelude.{◌≡◌, ℕ, ◌+◌, ◌<◌, ◌≤◌, List, [], ◌∷◌, length, IfOk, OnOk, OnErr, IsOk, MatchOption, Option, drop, ◌-◌, slice_get, is_ok, if◌then◌else◌};
+ghost use Rattle.std.specs.Prelude.{◌≡◌, ℕ, ◌+◌, ◌<◌, ◌≤◌, List, [], ◌∷◌, true, length, IfOk, OnOk, OnErr, IsOk, MatchOption, Option, drop, ◌-◌, slice_get, is_ok, if◌then◌else◌};
 ghost use Rattle.std.specs.Option.{option_copied};
 ghost use Rattle.validate_transaction.specs.TakeBack.{is_empty, items_taken_back, CanTakeBack};
 
@@ -74,6 +74,14 @@ impl<T> Pile<T> {
     {
         self.vec.reserve(1)?;
         Ok(())
+    }
+
+    /// Whether there is room for one more item.
+    #[inline(always)]
+    pub fn has_room(&self) -> bool
+        ensures { result ≡ true → length self.now.items < self.now.room }
+    {
+        self.vec.len() < self.vec.capacity()
     }
 
     /// Adds an item where there is room.

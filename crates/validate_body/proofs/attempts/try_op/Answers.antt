@@ -1,43 +1,47 @@
-use Rattle.std.proofs.Common.{IsSome, refl, sym, ap, ◌∙◌, subst}
-use Rattle.validate_stacks.specs.Attempts.{Stacked}
-use Rattle.validate_stacks.specs.Pops.{IsKept}
-use Rattle.validate_stacks.specs.State.{BodyState}
-use Rattle.validate_stacks.specs.Visits.{MayVisit, Meets}
+use Rattle.std.proofs.Common.{◌≡◌, Ok, OnErr, sym, subst, ap, ◌∙◌}
 use Rattle.validation_rules.specs.Operators.{operator}
+use Rattle.validate_stacks.specs.Attempts.{Stacked, body_of}
+use Rattle.validate_stacks.specs.Visits.{MayVisit, Meets}
+use Rattle.validate_stacks.specs.State.{BodyState}
+use Rattle.validate_stacks.proofs.AtOnce.{done_at_once, same_at_once}
 use Rattle.validate_body.specs.Start.{state, stacks_of}
-use Rattle.validate_body.proofs.Attempted.{meets_ended, back_ended}
 use Rattle.validate_body.proofs.Listed.{visit_valid, visit_kept}
 use Rattle.validate_body.proofs.attempts.try_op.Goals as goal
 
-pub check-answer-requires : goal.check-answer-requires
-check-answer-requires g c =
+pub returns-then-passes_at_once-clause-meets : goal.returns-then-passes_at_once-clause-meets
+returns-then-passes_at_once-clause-meets g c =
     let md = g.R.WasmModuleResources.context c.args.resources.now in
-    subst (MayVisit md) (sym c.begin_try_op.ensures.begun) (record { open_frame = c.requires.visit.open_frame; valid = c.requires.visit.valid; attempt = refl })
+    done_at_once md (λ cx. operator cx c.args.op) (stacks_of c.args.v.now) (stacks_of c.passes_at_once.new.self) c.passes_at_once.result c.passes_at_once.ensures c.if-passes_at_once.true c.args.offset
 
-pub end_attempt-requires : goal.end_attempt-requires
-end_attempt-requires g c =
-    subst IsSome (sym (ap (λ (x : BodyState). x.undone) c.check-answer.ensures.kept ∙ ap (λ (x : Stacked). x.body.undone) c.begin_try_op.ensures.begun)) refl
+pub returns-then-passes_at_once-clause-valid : goal.returns-then-passes_at_once-clause-valid
+returns-then-passes_at_once-clause-valid g c = visit_valid _ _ _ _ _ _ (returns-then-passes_at_once-clause-meets g c)
+
+pub returns-then-passes_at_once-clause-kept : goal.returns-then-passes_at_once-clause-kept
+returns-then-passes_at_once-clause-kept g c = visit_kept _ _ _ _ _ _ (returns-then-passes_at_once-clause-meets g c)
+
+pub attempt-requires-clause-idle : goal.attempt-requires-clause-idle
+attempt-requires-clause-idle g c =
+    let md = g.R.WasmModuleResources.context c.args.resources.now in
+    let same = same_at_once md (λ cx. operator cx c.args.op) (stacks_of c.args.v.now) (stacks_of c.passes_at_once.new.self) c.passes_at_once.result c.passes_at_once.ensures c.if-passes_at_once.false in
+    ap (λ (s : Stacked). s.body.undone) same ∙ c.requires.idle
+
+pub attempt-requires-clause-visit : goal.attempt-requires-clause-visit
+attempt-requires-clause-visit g c =
+    let md = g.R.WasmModuleResources.context c.args.resources.now in
+    let same = same_at_once md (λ cx. operator cx c.args.op) (stacks_of c.args.v.now) (stacks_of c.passes_at_once.new.self) c.passes_at_once.result c.passes_at_once.ensures c.if-passes_at_once.false in
+    subst (MayVisit md) (sym same) c.requires.visit
 
 pub returns-clause-meets : goal.returns-clause-meets
 returns-clause-meets g c =
     let md = g.R.WasmModuleResources.context c.args.resources.now in
-    let v = stacks_of c.args.v.now in
-    let w = stacks_of c.check-answer.new.self in
-    let within = subst (λ (x : Stacked). Meets md (λ cx. operator cx c.args.op) c.args.offset x.body c.check-answer.result w.body) c.begin_try_op.ensures.begun c.check-answer.ensures.row in
-    meets_ended md (λ cx. operator cx c.args.op) c.args.offset v w c.requires.idle (stacks_of c.end_attempt.new.v) c.check-answer.result c.is_ok.result c.requires.visit.valid within (c.is_ok.ensures.value) c.end_attempt.ensures.accepted c.end_attempt.ensures.refused
+    let same = same_at_once md (λ cx. operator cx c.args.op) (stacks_of c.args.v.now) (stacks_of c.passes_at_once.new.self) c.passes_at_once.result c.passes_at_once.ensures c.if-passes_at_once.false in
+    subst (λ (s : Stacked). Meets md (λ cx. operator cx c.args.op) c.args.offset s.body c.attempt.result (state c.attempt.new.v)) same c.attempt.ensures.meets
 
 pub returns-clause-back : goal.returns-clause-back
 returns-clause-back g c =
     let md = g.R.WasmModuleResources.context c.args.resources.now in
-    back_ended md (λ cx. operator cx c.args.op) c.args.offset (stacks_of c.args.v.now) (stacks_of c.check-answer.new.self) c.requires.idle (stacks_of c.end_attempt.new.v) c.check-answer.result c.is_ok.result
-    (subst (λ (x : Stacked). IsKept x.body (state c.check-answer.new.self)) c.begin_try_op.ensures.begun c.check-answer.ensures.kept) c.is_ok.ensures.value c.end_attempt.ensures.refused
-
-pub returns-clause-valid : goal.returns-clause-valid
-returns-clause-valid g c =
-    let md = g.R.WasmModuleResources.context c.args.resources.now in
-    visit_valid md _ _ (state c.args.v.now) (state c.end_attempt.new.v) _ (returns-clause-meets g c)
+    let same = same_at_once md (λ cx. operator cx c.args.op) (stacks_of c.args.v.now) (stacks_of c.passes_at_once.new.self) c.passes_at_once.result c.passes_at_once.ensures c.if-passes_at_once.false in
+    subst (λ (s : Stacked). OnErr c.attempt.result (state c.attempt.new.v ≡ s.body)) same c.attempt.ensures.back
 
 pub returns-clause-kept : goal.returns-clause-kept
-returns-clause-kept g c =
-    let md = g.R.WasmModuleResources.context c.args.resources.now in
-    visit_kept md _ _ (state c.args.v.now) (state c.end_attempt.new.v) _ (returns-clause-meets g c)
+returns-clause-kept g c = visit_kept _ _ _ _ _ _ (returns-clause-meets g c)

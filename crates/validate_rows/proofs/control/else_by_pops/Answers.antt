@@ -6,7 +6,7 @@ use Rattle.validate_stacks.proofs.Validity.{kept_on}
 use Rattle.validate_shapes.proofs.Parts.{params_of, else_begins, part_none, part_of_another, part_passes}
 use Rattle.validate_shapes.proofs.Meeting.{meets_none, meets_last, meets_refused}
 use Rattle.validate_stacks.proofs.Phases.{step_frame, step_unset}
-use Rattle.validate_rows.proofs.control.check_else.Goals as goal
+use Rattle.validate_rows.proofs.control.else_by_pops.Goals as goal
 
 pub returns-in_err-frame : goal.returns-in_err-frame
 returns-in_err-frame g c =

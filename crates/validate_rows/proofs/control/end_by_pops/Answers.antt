@@ -10,7 +10,7 @@ use Rattle.validate_stacks.proofs.Validity.{kept_on}
 use Rattle.validate_shapes.proofs.Rows.{end_none, end_refused_if, end_passes, if_by, same_context}
 use Rattle.validate_shapes.proofs.Meeting.{meets_last, meets_refused}
 use Rattle.validate_stacks.proofs.Phases.{step_frame, step_unset}
-use Rattle.validate_rows.proofs.control.check_end.Goals as goal
+use Rattle.validate_rows.proofs.control.end_by_pops.Goals as goal
 
 pub returns-in_err-frame : goal.returns-in_err-frame
 returns-in_err-frame g c =

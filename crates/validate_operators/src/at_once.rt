@@ -1,0 +1,129 @@
+//! Operators that pass at once: no attempt is pending, and nothing is asked of the order of types or of memory.
+
+ghost use Rattle.validate_visit.specs.declared.op.Op.{Op};
+ghost use Rattle.validation_rules.specs.Operators.{operator, control_operator};
+ghost use Rattle.validate_stacks.specs.AtOnce.{MeetsAtOnce};
+ghost use Rattle.validate_stacks.specs.Visits.{MayVisit};
+
+use validate_resources::WasmModuleResources;
+use validate_rows::branches::{br_at_once, br_if_at_once, return_at_once};
+use validate_rows::control::{nop_at_once, unreachable_at_once};
+use validate_rows::memory::memory_at_once;
+use validate_rows::numeric::{convert_at_once, numeric_at_once};
+use validate_rows::parametric::drop_at_once;
+use validate_rows::variables::{local_get_at_once, local_set_at_once, local_tee_at_once};
+use validate_stacks::Stacks;
+use validate_visit::{ControlOp, ConvertOp, MemoryOp, NumericOp, Op};
+
+/// An operator on numbers, behind its gate.
+#[inline(always)]
+fn number_at_once<R: WasmModuleResources>(
+    stacks: &mut Stacks,
+    resources: &R,
+    op: NumericOp,
+) -> bool
+    requires { MayVisit (R.context resources.now) stacks.old }
+    ensures { MeetsAtOnce (R.context resources.now) (λ cx. operator cx (Op.Numeric op)) stacks.old result
+        stacks.new }
+{
+    if !op.gate().is_open(stacks.features()) {
+        return false;
+    }
+    numeric_at_once(stacks, resources, op)
+}
+
+/// A conversion, behind its gate.
+#[inline(always)]
+fn conversion_at_once<R: WasmModuleResources>(
+    stacks: &mut Stacks,
+    resources: &R,
+    op: ConvertOp,
+) -> bool
+    requires { MayVisit (R.context resources.now) stacks.old }
+    ensures { MeetsAtOnce (R.context resources.now) (λ cx. operator cx (Op.Convert op)) stacks.old result
+        stacks.new }
+{
+    if !op.gate().is_open(stacks.features()) {
+        return false;
+    }
+    convert_at_once(stacks, resources, op)
+}
+
+/// An operator on control or locals, its gate aside.
+#[inline(always)]
+fn control_at_once<R: WasmModuleResources>(
+    stacks: &mut Stacks,
+    resources: &R,
+    op: ControlOp,
+) -> bool
+    requires { MayVisit (R.context resources.now) stacks.old }
+    ensures { MeetsAtOnce (R.context resources.now) (λ cx. control_operator cx op.entry) stacks.old result
+        stacks.new }
+{
+    match op {
+        ControlOp::Unreachable => unreachable_at_once(stacks, resources),
+        ControlOp::Nop => nop_at_once(stacks, resources),
+        ControlOp::Br(relative_depth) => br_at_once(stacks, resources, relative_depth),
+        ControlOp::BrIf(relative_depth) => br_if_at_once(stacks, resources, relative_depth),
+        ControlOp::Return => return_at_once(stacks, resources),
+        ControlOp::Drop => drop_at_once(stacks, resources),
+        ControlOp::LocalGet(local_index) => local_get_at_once(stacks, resources, local_index),
+        ControlOp::LocalSet(local_index) => local_set_at_once(stacks, resources, local_index),
+        ControlOp::LocalTee(local_index) => local_tee_at_once(stacks, resources, local_index),
+        _ => false,
+    }
+}
+
+/// An operator on control or locals, behind its gate.
+#[inline(always)]
+fn any_control_at_once<R: WasmModuleResources>(
+    stacks: &mut Stacks,
+    resources: &R,
+    op: ControlOp,
+) -> bool
+    requires { MayVisit (R.context resources.now) stacks.old }
+    ensures { MeetsAtOnce (R.context resources.now) (λ cx. operator cx (Op.Control op.entry)) stacks.old
+        result stacks.new }
+{
+    if !op.gate().is_open(stacks.features()) {
+        return false;
+    }
+    control_at_once(stacks, resources, op)
+}
+
+/// A load or a store of a memory, behind its gate.
+#[inline(always)]
+fn access_at_once<R: WasmModuleResources>(
+    stacks: &mut Stacks,
+    resources: &R,
+    op: MemoryOp,
+) -> bool
+    requires { MayVisit (R.context resources.now) stacks.old }
+    ensures { MeetsAtOnce (R.context resources.now) (λ cx. operator cx (Op.Memory op)) stacks.old result
+        stacks.new }
+{
+    if !op.gate().is_open(stacks.features()) {
+        return false;
+    }
+    memory_at_once(stacks, resources, op)
+}
+
+/// The check of an operator that passes at once, as most do. False, with nothing changed, where it takes more:
+/// an attempt is pending, memory is wanted, a reference is found, or the operator is refused.
+#[inline(always)]
+pub fn operator_at_once<R: WasmModuleResources>(
+    stacks: &mut Stacks,
+    resources: &R,
+    op: &Op,
+) -> bool
+    requires { MayVisit (R.context resources.now) stacks.old }
+    ensures { MeetsAtOnce (R.context resources.now) (λ cx. operator cx op.now) stacks.old result stacks.new }
+{
+    match *op {
+        Op::Control(op) => any_control_at_once(stacks, resources, op),
+        Op::Numeric(op) => number_at_once(stacks, resources, op),
+        Op::Convert(op) => conversion_at_once(stacks, resources, op),
+        Op::Memory(op) => access_at_once(stacks, resources, op),
+        _ => false,
+    }
+}

@@ -1,0 +1,25 @@
+-- Locals that are set already.
+use Rattle.std.proofs.Common.{◌≡◌, ℕ, Bool, true, false, Option, Some, None, IsSome, refl, sym, ap, ◌∙◌, if◌then◌else◌, ap₂}
+use Rattle.validate_resources.specs.Context.{ModuleContext}
+use Rattle.validate_types.specs.declared.types.ValType.{ValType}
+use Rattle.validation_rules.specs.Static.{is_local_set, locals_set}
+use Rattle.std.specs.Prelude.{List}
+use Rattle.validate_stacks.specs.Pops.{body_popped_each, IsKept}
+use Rattle.validate_stacks.specs.State.{BodyState, body_with_frames}
+use Rattle.validate_stacks.specs.Steps.{body_with_local_set, frames_first_setting}
+use Rattle.validate_stacks.proofs.AtOnce.{popped_each_set, popped_each_kept}
+
+chosen : (b : Bool) (u w : BodyState) → b ≡ true → (if b then u else w) ≡ u
+chosen true u w h = refl
+chosen false u w h = cc
+
+-- it is set after pops too
+pub set_already : (md : ModuleContext) (ws : List ValType) (i : ℕ) (v u : BodyState) → body_popped_each md ws v ≡ Some u → is_local_set v.set_at_entry (locals_set v.present.frames) i ≡ true → body_with_local_set i u ≡ u
+set_already md ws i v u p h =
+    let kept = ap (λ (x : BodyState). x.set_at_entry) (popped_each_kept md ws v u p).0 in
+    chosen (is_local_set u.set_at_entry (locals_set u.present.frames) i) u (body_with_frames (frames_first_setting i u.present.frames) u)
+    (ap₂ (λ e s. is_local_set e s i) kept (popped_each_set md ws v u p) ∙ h)
+
+pub some_is : {A : Type 0} (o : Option A) (x : A) → o ≡ Some x → IsSome o
+some_is (Some y) x h = refl
+some_is None x h = cc

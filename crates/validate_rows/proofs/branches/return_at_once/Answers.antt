@@ -1,0 +1,33 @@
+use Rattle.std.proofs.Common.{pred, length, refl, sym, ap, ◌∙◌}
+use Rattle.std.specs.Option.{option_copied}
+use Rattle.validation_rules.specs.Branches.{return_row}
+use Rattle.validation_rules.specs.Static.{heads}
+use Rattle.validate_stacks.specs.State.{body_context}
+use Rattle.validate_stacks.proofs.AtOnce.{met_at_once, not_at_once}
+use Rattle.validate_shapes.proofs.Branching.{label_valid, types_there, br_is, outermost_label}
+use Rattle.validate_shapes.proofs.Meeting.{meets_done}
+use Rattle.validate_rows.proofs.branches.return_at_once.Goals as goal
+
+pub returns-in-None : goal.returns-in-None
+returns-in-None g c = not_at_once _ _ c.args.stacks.now
+
+pub end_at_once-requires : goal.end_at_once-requires
+end_at_once-requires g c =
+    let md = g.R.WasmModuleResources.context c.args.resources.now in
+    let v = c.args.stacks.now.body in
+    let d = pred (length (heads v.present.frames)) in
+    let f = c.in-Some.frame.now in
+    let there = outermost_label v c.control_stack_height-outermost.result f c.control_stack_height-outermost.ensures (sym c.get_frame.ensures ∙ ap option_copied c.in-Some.is) in
+    let laws = g.met.R.WasmModuleResources.lawful c.args.resources.now in
+    label_valid md v d c.label_types.result.now laws c.requires.valid (types_there md v c.requires.open_frame (λ cx hs. return_row cx hs) d refl f.block_type f.kind c.label_types.result.now there (c.label_types.ensures (body_context md v) refl))
+
+pub returns-in-Some : goal.returns-in-Some
+returns-in-Some g c =
+    let md = g.R.WasmModuleResources.context c.args.resources.now in
+    let v = c.args.stacks.now.body in
+    let w = c.end_at_once.new.self.body in
+    let d = pred (length (heads v.present.frames)) in
+    let f = c.in-Some.frame.now in
+    let there = outermost_label v c.control_stack_height-outermost.result f c.control_stack_height-outermost.ensures (sym c.get_frame.ensures ∙ ap option_copied c.in-Some.is) in
+    let is = br_is md v c.requires.open_frame (λ cx hs. return_row cx hs) d refl f.block_type f.kind c.label_types.result.now there (c.label_types.ensures (body_context md v) refl) in
+    met_at_once md _ c.args.stacks.now c.end_at_once.new.self c.end_at_once.result (λ e offset. meets_done md _ offset v w (is ∙ e) (c.end_at_once.ensures.valid c.requires.valid) c.end_at_once.ensures.kept) c.end_at_once.ensures.exact

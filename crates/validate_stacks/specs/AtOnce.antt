@@ -1,0 +1,27 @@
+-- Operands taken and put in place at once (the crate's own).
+use Rattle.std.specs.Prelude.{◌≡◌, ℕ, Bool, List, [], ◌∷◌, Option, Some, None, Ok, drop, MatchBool}
+use Rattle.validate_resources.specs.Context.{ModuleContext}
+use Rattle.validate_types.specs.declared.types.ValType.{ValType}
+use Rattle.validation_rules.specs.Context.{Context}
+use Rattle.validation_rules.specs.Rows.{Operator}
+use Rattle.validation_rules.specs.Static.{Frame}
+use Rattle.validate_stacks.specs.Attempts.{Stacked}
+use Rattle.validate_stacks.specs.State.{BodyState, body_with_frames}
+use Rattle.validate_stacks.specs.Visits.{Meets}
+
+abbrev pub frames_dropped : ℕ → List Frame → List Frame
+frames_dropped n [] = []
+frames_dropped n (f ∷ fs) = record f { operands = drop n f.operands } ∷ fs
+
+-- without so many own operands of the innermost frame, or all
+abbrev pub body_dropped : ℕ → BodyState → BodyState
+body_dropped n v = body_with_frames (frames_dropped n v.present.frames) v
+
+-- one type, or none
+abbrev pub pushed_list : Option ValType → List ValType
+pushed_list None = []
+pushed_list (Some t) = t ∷ []
+
+-- A visit that is made at once or not at all: it is accepted, whatever the offset, or nothing is changed.
+unfoldable pub MeetsAtOnce : ModuleContext → (Context → Operator) → Stacked → Bool → Stacked → Type 0
+MeetsAtOnce md op v answer w = MatchBool answer ((offset : ℕ) → Meets md op offset v.body (Ok tt) w.body) (w ≡ v)

@@ -1,0 +1,142 @@
+//! Operands of numbers, taken and put in place at once where that needs no order of types, no log and no memory.
+
+ghost use Rattle.std.specs.Prelude.{◌≡◌, true, None, Some, reverse, IsSome, MatchBool};
+ghost use Rattle.std.specs.List.{AllByRecursion};
+ghost use Rattle.std.specs.Option.{option_map, ForSome};
+ghost use Rattle.validate_resources.specs.Context.{Valid};
+ghost use Rattle.validate_stacks.specs.Attempts.{phase_moved};
+ghost use Rattle.validate_stacks.specs.AtOnce.{body_dropped, pushed_list};
+ghost use Rattle.validate_stacks.specs.Blocks.{closed_body};
+ghost use Rattle.validate_stacks.specs.Pops.{IsKept, body_popped_each, body_pushed_each, has_operands_fitting};
+ghost use Rattle.validate_stacks.specs.State.{IsValidBody, body_context};
+ghost use Rattle.validate_stacks.specs.Steps.{body_unreachable, frame_at};
+
+use crate::blocks::results;
+use crate::pops::fits_at_once;
+use crate::stacks::Stacks;
+use validate_resources::WasmModuleResources;
+use validate_types::{MaybeType, ValType};
+use validate_visit::BlockType;
+
+impl Stacks {
+    /// Whether pops of these types, the last of the list first, would each find the number or vector type
+    /// itself, or what isn't known at all.
+    #[inline(always)]
+    fn finds_at_once<R: WasmModuleResources>(&self, resources: &R, wanted: &[ValType]) -> bool
+        requires { AllByRecursion (Valid (R.context resources.now)) wanted.now }
+        ensures { result ≡ true → has_operands_fitting
+            (body_context (R.context resources.now) self.now.body) wanted.now self.now.body ≡ true }
+    {
+        // The contract alone reads it.
+        let _resources = resources;
+        let mut left = wanted.len();
+        while left > 0 {
+            left -= 1;
+            match self.found_at(wanted.len() - 1 - left) {
+                Some(found) => {
+                    if !fits_at_once(found, Some(wanted[left])) {
+                        return false;
+                    }
+                }
+                None => return false,
+            }
+        }
+        true
+    }
+
+    /// Takes so many own operands of the innermost frame, or all.
+    #[inline(always)]
+    fn drop_operands(&mut self, count: usize)
+        requires { self.old.body.undone ≡ None }
+        ensures dropped { self.new.body ≡ body_dropped count self.old.body }
+        ensures phase { phase_moved self.new.phase ≡ phase_moved self.old.phase }
+    {
+        for _ in 0..count {
+            let _ = self.pop_any();
+        }
+    }
+
+    /// Pops operands of these types, the last of the list first, and pushes one of the other type, if there
+    /// is one: where no attempt is pending, each operand that is found is the number or vector type itself
+    /// or not known at all, and there is room. False, with nothing changed, where that isn't so. It takes no
+    /// memory.
+    #[inline(always)]
+    pub fn exchange_at_once<R: WasmModuleResources>(
+        &mut self,
+        resources: &R,
+        wanted: &[ValType],
+        pushed: Option<ValType>,
+    ) -> bool
+        requires { AllByRecursion (Valid (R.context resources.now)) wanted.now }
+        ensures exact { MatchBool result
+            (option_map (body_pushed_each (pushed_list pushed))
+            (body_popped_each (R.context resources.now) (reverse wanted.now) self.old.body) ≡ Some self.new.body)
+            (self.new ≡ self.old) }
+        ensures phase { phase_moved self.new.phase ≡ phase_moved self.old.phase }
+    {
+        if self.is_pending() || !self.finds_at_once(resources, wanted) {
+            return false;
+        }
+        let count = wanted.len().min(self.own_len());
+        match pushed {
+            Some(ty) => {
+                if count == 0 {
+                    return self.push_at_once(MaybeType::Known(ty));
+                }
+                self.drop_operands(count - 1);
+                self.replace_operand(MaybeType::Known(ty));
+            }
+            None => self.drop_operands(count),
+        }
+        true
+    }
+
+    /// Pops operands of these types, the last of the list first, and ends the live part of the innermost
+    /// frame, where no attempt is pending and each is found as for [`Stacks::exchange_at_once`]. False, with
+    /// nothing changed, where that isn't so. It takes no memory.
+    #[inline(always)]
+    pub fn end_at_once<R: WasmModuleResources>(&mut self, resources: &R, wanted: &[ValType]) -> bool
+        requires { AllByRecursion (Valid (R.context resources.now)) wanted.now }
+        ensures exact { MatchBool result
+            (option_map body_unreachable
+            (body_popped_each (R.context resources.now) (reverse wanted.now) self.old.body) ≡ Some self.new.body)
+            (self.new ≡ self.old) }
+        ensures valid { IsValidBody (R.context resources.now) self.old.body
+            → IsValidBody (R.context resources.now) self.new.body }
+        ensures kept { IsKept self.old.body self.new.body }
+    {
+        if self.is_pending() || !self.finds_at_once(resources, wanted) {
+            return false;
+        }
+        self.unreachable().is_ok()
+    }
+
+    /// Closes the innermost frame, which has this block type, where no attempt is pending, its results are
+    /// found as for [`Stacks::exchange_at_once`], and none of its operands is left over. False, with nothing
+    /// changed, where that isn't so. It takes no memory.
+    #[inline(always)]
+    pub fn close_at_once<R: WasmModuleResources>(
+        &mut self,
+        resources: &R,
+        block_type: BlockType,
+    ) -> bool
+        requires state { IsValidBody (R.context resources.now) self.old.body }
+        requires open { IsSome (frame_at self.old.body 0) }
+        requires frame { ForSome (frame_at self.old.body 0) (λ f. f.block_type ≡ block_type) }
+        ensures exact { MatchBool result (closed_body (R.context resources.now) self.old.body ≡ Some self.new.body)
+            (self.new ≡ self.old) }
+        ensures idle { result ≡ true → self.new.body.undone ≡ None }
+        ensures valid { IsValidBody (R.context resources.now) self.new.body }
+        ensures kept { IsKept self.old.body self.new.body }
+    {
+        let results = results(resources, &block_type);
+        if self.is_pending()
+            || self.own_len() > results.len()
+            || !self.exchange_at_once(resources, results, None)
+        {
+            return false;
+        }
+        self.pop_bare_ctrl().unwrap();
+        true
+    }
+}

@@ -68,10 +68,7 @@ fn may_be_body(operators: &[(Op<'_>, u64)]) -> bool
 }
 
 /// The module of these declarations, in its canonical form.
-pub fn module_lists(
-    alloc: Global,
-    declarations: ModuleDeclarations,
-) -> Result<ModuleLists, Failure>
+pub fn module_lists(alloc: Global, declarations: ModuleDeclarations) -> Result<ModuleLists, Failure>
     ensures kept { IfOk result (λ lists. module_of (declared_in declarations) ≡ Some (declared_lists lists)) }
     ensures cause { IfErr result (λ failure. (failure ≡ Failure.OutOfMemory)
         ⊎ ((failure ≡ Failure.BadScript BadScript.Module)

@@ -4,9 +4,7 @@ use crate::conversions::CONVERSIONS;
 use crate::numeric::numeric_operator;
 use script_parts::named_in;
 use validate_visit::Op::{Array, Atomic, Control, Exception, Reference, Shared};
-use validate_visit::{
-    ArrayOp, AtomicOp, ControlOp, ExceptionOp, Op, ReferenceOp, SharedOp, Sign,
-};
+use validate_visit::{ArrayOp, AtomicOp, ControlOp, ExceptionOp, Op, ReferenceOp, SharedOp, Sign};
 
 /// The operators without immediates, but for those on numbers.
 const PLAIN: &[(&str, Op<'static>)] = &[

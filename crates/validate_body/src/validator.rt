@@ -160,11 +160,7 @@ impl OperatorValidator {
 
     /// The check of one operator that passes at once. False, with nothing changed, where it takes more.
     #[inline(always)]
-    pub(crate) fn passes_at_once<R: WasmModuleResources>(
-        &mut self,
-        resources: &R,
-        op: &Op,
-    ) -> bool
+    pub(crate) fn passes_at_once<R: WasmModuleResources>(&mut self, resources: &R, op: &Op) -> bool
         requires { MayVisit (R.context resources.now) (stacks_of self.old) }
         ensures { MeetsAtOnce (R.context resources.now) (λ cx. operator cx op.now) (stacks_of self.old)
             result (stacks_of self.new) }

@@ -17,11 +17,7 @@ use validate_visit::{ControlOp, ConvertOp, MemoryOp, NumericOp, Op};
 
 /// An operator on numbers, behind its gate.
 #[inline(always)]
-fn number_at_once<R: WasmModuleResources>(
-    stacks: &mut Stacks,
-    resources: &R,
-    op: NumericOp,
-) -> bool
+fn number_at_once<R: WasmModuleResources>(stacks: &mut Stacks, resources: &R, op: NumericOp) -> bool
     requires { MayVisit (R.context resources.now) stacks.old }
     ensures { MeetsAtOnce (R.context resources.now) (λ cx. operator cx (Op.Numeric op)) stacks.old result
         stacks.new }
@@ -93,11 +89,7 @@ fn any_control_at_once<R: WasmModuleResources>(
 
 /// A load or a store of a memory, behind its gate.
 #[inline(always)]
-fn access_at_once<R: WasmModuleResources>(
-    stacks: &mut Stacks,
-    resources: &R,
-    op: MemoryOp,
-) -> bool
+fn access_at_once<R: WasmModuleResources>(stacks: &mut Stacks, resources: &R, op: MemoryOp) -> bool
     requires { MayVisit (R.context resources.now) stacks.old }
     ensures { MeetsAtOnce (R.context resources.now) (λ cx. operator cx (Op.Memory op)) stacks.old result
         stacks.new }
@@ -111,11 +103,7 @@ fn access_at_once<R: WasmModuleResources>(
 /// The check of an operator that passes at once, as most do. False, with nothing changed, where it takes more:
 /// an attempt is pending, memory is wanted, a reference is found, or the operator is refused.
 #[inline(always)]
-pub fn operator_at_once<R: WasmModuleResources>(
-    stacks: &mut Stacks,
-    resources: &R,
-    op: &Op,
-) -> bool
+pub fn operator_at_once<R: WasmModuleResources>(stacks: &mut Stacks, resources: &R, op: &Op) -> bool
     requires { MayVisit (R.context resources.now) stacks.old }
     ensures { MeetsAtOnce (R.context resources.now) (λ cx. operator cx op.now) stacks.old result stacks.new }
 {

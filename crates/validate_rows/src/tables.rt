@@ -48,7 +48,10 @@ fn get_types<R: WasmModuleResources>(
         (λ cx. table_get_row cx table) offset stacks.now.body result }
 {
     let ty = table_type_at(stacks, resources, offset, table)?;
-    Ok(Operands::few(Few::One(ty.index_type()), Few::One(ValType::Ref(ty.element_type))))
+    Ok(Operands::few(
+        Few::One(ty.index_type()),
+        Few::One(ValType::Ref(ty.element_type)),
+    ))
 }
 
 /// What `table.set` takes: `[it e] -> []`.
@@ -62,7 +65,10 @@ fn set_types<R: WasmModuleResources>(
         (λ cx. table_set_row cx table) offset stacks.now.body result }
 {
     let ty = table_type_at(stacks, resources, offset, table)?;
-    Ok(Operands::few(Few::Two(ty.index_type(), ValType::Ref(ty.element_type)), Few::Zero))
+    Ok(Operands::few(
+        Few::Two(ty.index_type(), ValType::Ref(ty.element_type)),
+        Few::Zero,
+    ))
 }
 
 /// What `table.grow` takes and gives: `[e it] -> [it]`.
@@ -77,7 +83,10 @@ fn grow_types<R: WasmModuleResources>(
 {
     let ty = table_type_at(stacks, resources, offset, table)?;
     let index = ty.index_type();
-    Ok(Operands::few(Few::Two(ValType::Ref(ty.element_type), index), Few::One(index)))
+    Ok(Operands::few(
+        Few::Two(ValType::Ref(ty.element_type), index),
+        Few::One(index),
+    ))
 }
 
 /// What `table.size` gives: `[] -> [it]`.
@@ -106,7 +115,10 @@ fn fill_types<R: WasmModuleResources>(
 {
     let ty = table_type_at(stacks, resources, offset, table)?;
     let index = ty.index_type();
-    Ok(Operands::few(Few::Three(index, ValType::Ref(ty.element_type), index), Few::Zero))
+    Ok(Operands::few(
+        Few::Three(index, ValType::Ref(ty.element_type), index),
+        Few::Zero,
+    ))
 }
 
 /// What `table.init` takes: `[it i32 i32] -> []`.
@@ -123,7 +135,10 @@ fn init_types<R: WasmModuleResources>(
     let ty = table_type_at(stacks, resources, offset, table)?;
     let segment = element_type_at(stacks, resources, offset, elem_index)?;
     check_elements(resources, offset, segment, ty.element_type)?;
-    Ok(Operands::few(Few::Three(ty.index_type(), ValType::I32, ValType::I32), Few::Zero))
+    Ok(Operands::few(
+        Few::Three(ty.index_type(), ValType::I32, ValType::I32),
+        Few::Zero,
+    ))
 }
 
 /// `elem.drop` takes nothing and gives nothing.

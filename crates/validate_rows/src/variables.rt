@@ -46,7 +46,10 @@ fn unknown_local(stacks: &Stacks, offset: u64, local_index: u32) -> Error
 fn uninitialized_local(stacks: &Stacks, offset: u64, local_index: u32) -> Error
     ensures { result.offset ≡ offset }
 {
-    Error::from_text(format!(in stacks.allocator(); "uninitialized local: {local_index}"), offset)
+    Error::from_text(
+        format!(in stacks.allocator(); "uninitialized local: {local_index}"),
+        offset,
+    )
 }
 
 /// Sets a local, with the offset in the refusal.

@@ -24,7 +24,10 @@ fn no_concrete_reference(stacks: &Stacks, offset: u64, found: ValType) -> Error
     ensures { result.offset ≡ offset }
 {
     let found = ty_to_str(found);
-    Error::from_text(format!(in stacks.allocator(); "type mismatch: {found}"), offset)
+    Error::from_text(
+        format!(in stacks.allocator(); "type mismatch: {found}"),
+        offset,
+    )
 }
 
 /// A handler that goes to a label: what the tag carries lies below the label's types but the last, and that

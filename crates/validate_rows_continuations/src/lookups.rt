@@ -51,7 +51,10 @@ pub fn cont_type_at<R: WasmModuleResources>(
 fn no_continuation(alloc: Global, offset: u64, type_index: u32) -> Error
     ensures { result.offset ≡ offset }
 {
-    Error::from_text(format!(in alloc; "non-continuation type {type_index}"), offset)
+    Error::from_text(
+        format!(in alloc; "non-continuation type {type_index}"),
+        offset,
+    )
 }
 
 /// The function type of a continuation: what it still takes and gives (wasmparser's

@@ -20,8 +20,8 @@ use validate_shapes::aggregates::{
     allocated_reference, array_type_at, check_mutable_array, type_reference, wrong_array_packing,
 };
 use validate_shapes::memories::check_data_segment;
-use validate_shapes::tables::element_type_at;
 use validate_shapes::operands::{Few, Operands, Pushed, Wanted, check_operands};
+use validate_shapes::tables::element_type_at;
 use validate_stacks::Stacks;
 use validate_types::{AbstractHeapType, Error, FieldType, RefType, StorageType, ValType};
 use validate_visit::{ArrayOp, Sign};
@@ -284,7 +284,10 @@ fn get_types<R: WasmModuleResources>(
         return Err(wrong_array_packing(offset, None));
     }
     let from = type_reference(stacks, resources, offset, true, index)?;
-    Ok(Operands::few(Few::Two(from, ValType::I32), Few::One(element.element_type.unpack())))
+    Ok(Operands::few(
+        Few::Two(from, ValType::I32),
+        Few::One(element.element_type.unpack()),
+    ))
 }
 
 /// What `array.get_s` and `array.get_u` take and give, of an array whose places hold packed values.
@@ -303,7 +306,10 @@ fn get_packed_types<R: WasmModuleResources>(
         return Err(wrong_array_packing(offset, Some(sign)));
     }
     let from = type_reference(stacks, resources, offset, true, index)?;
-    Ok(Operands::few(Few::Two(from, ValType::I32), Few::One(element.element_type.unpack())))
+    Ok(Operands::few(
+        Few::Two(from, ValType::I32),
+        Few::One(element.element_type.unpack()),
+    ))
 }
 
 /// What `array.set` takes.
@@ -337,7 +343,10 @@ fn fill_types<R: WasmModuleResources>(
     check_mutable_array(offset, element)?;
     let into = type_reference(stacks, resources, offset, true, index)?;
     let value = element.element_type.unpack();
-    Ok(Operands::few(Few::Four(into, ValType::I32, value, ValType::I32), Few::Zero))
+    Ok(Operands::few(
+        Few::Four(into, ValType::I32, value, ValType::I32),
+        Few::Zero,
+    ))
 }
 
 /// What `array.copy` takes: to a place, from a place, so many.
@@ -357,7 +366,10 @@ fn copy_types<R: WasmModuleResources>(
     check_copied(stacks, resources, offset, src, dst)?;
     let into = type_reference(stacks, resources, offset, true, dst_index)?;
     let from = type_reference(stacks, resources, offset, true, src_index)?;
-    Ok(Operands::few(Few::Five(into, ValType::I32, from, ValType::I32, ValType::I32), Few::Zero))
+    Ok(Operands::few(
+        Few::Five(into, ValType::I32, from, ValType::I32, ValType::I32),
+        Few::Zero,
+    ))
 }
 
 /// What `array.init_data` takes: to a place, from one of the data segment, so many.
@@ -375,7 +387,10 @@ fn init_data_types<R: WasmModuleResources>(
     check_mutable_array(offset, element)?;
     check_data(stacks, resources, offset, data_index, element, INIT_DATA)?;
     let into = type_reference(stacks, resources, offset, true, index)?;
-    Ok(Operands::few(Few::Four(into, ValType::I32, ValType::I32, ValType::I32), Few::Zero))
+    Ok(Operands::few(
+        Few::Four(into, ValType::I32, ValType::I32, ValType::I32),
+        Few::Zero,
+    ))
 }
 
 /// What `array.init_elem` takes: to a place, from one of the element segment, so many.
@@ -400,7 +415,10 @@ fn init_elem_types<R: WasmModuleResources>(
         "array.init_elem",
     )?;
     let into = type_reference(stacks, resources, offset, true, index)?;
-    Ok(Operands::few(Few::Four(into, ValType::I32, ValType::I32, ValType::I32), Few::Zero))
+    Ok(Operands::few(
+        Few::Four(into, ValType::I32, ValType::I32, ValType::I32),
+        Few::Zero,
+    ))
 }
 
 /// What an operator on arrays takes and gives, by the types and the segment that it names. `array.len`,

@@ -62,9 +62,7 @@ fn not_allowed(
     ensures { result.offset ≡ offset }
 {
     Error::from_text(
-        format!(in stacks.allocator();
-            "invalid type: `{place}.atomic.{name}` only allows {types}"
-        ),
+        format!(in stacks.allocator(); "invalid type: `{place}.atomic.{name}` only allows {types}"),
         offset,
     )
 }

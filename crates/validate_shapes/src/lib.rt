@@ -16,4 +16,3 @@ pub mod plain;
 pub mod references;
 pub mod tables;
 pub mod tags;
-

@@ -34,7 +34,10 @@ pub fn check_memory_index<R: WasmModuleResources>(
 fn unknown_memory(stacks: &Stacks, offset: u64, memory_index: u32) -> Error
     ensures { result.offset ≡ offset }
 {
-    Error::from_text(format!(in stacks.allocator(); "unknown memory {memory_index}"), offset)
+    Error::from_text(
+        format!(in stacks.allocator(); "unknown memory {memory_index}"),
+        offset,
+    )
 }
 
 /// The type of a length that fits both memories, or both tables.
@@ -77,5 +80,8 @@ pub fn check_data_segment<R: WasmModuleResources>(
 fn unknown_data_segment(stacks: &Stacks, offset: u64, data_index: u32) -> Error
     ensures { result.offset ≡ offset }
 {
-    Error::from_text(format!(in stacks.allocator(); "unknown data segment {data_index}"), offset)
+    Error::from_text(
+        format!(in stacks.allocator(); "unknown data segment {data_index}"),
+        offset,
+    )
 }

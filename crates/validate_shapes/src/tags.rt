@@ -55,5 +55,8 @@ pub fn exception_types_at<'a, R: WasmModuleResources>(
 fn unknown_tag(alloc: Global, offset: u64, tag_index: u32) -> Error
     ensures { result.offset ≡ offset }
 {
-    Error::from_text(format!(in alloc; "unknown tag {tag_index}: tag index out of bounds"), offset)
+    Error::from_text(
+        format!(in alloc; "unknown tag {tag_index}: tag index out of bounds"),
+        offset,
+    )
 }

@@ -59,7 +59,10 @@ pub fn mismatch(alloc: Global, expected: ValType, found: ValType, offset: u64) -
 {
     let expected = ty_to_str(expected);
     let found = ty_to_str(found);
-    Error::from_text(format!(in alloc; "type mismatch: expected {expected}, found {found}"), offset)
+    Error::from_text(
+        format!(in alloc; "type mismatch: expected {expected}, found {found}"),
+        offset,
+    )
 }
 
 /// The refusal of a reference where a number or a vector is wanted.
@@ -108,7 +111,12 @@ fn not_fitting<R: WasmModuleResources>(
     match (found, wanted) {
         (MaybeType::Known(found), _) => mismatch(alloc, wanted, found, offset),
         (MaybeType::UnknownRef(Some(ty)), ValType::Ref(reference)) => {
-            mismatch(alloc, wanted, unknown_reference(resources, ty, reference), offset)
+            mismatch(
+                alloc,
+                wanted,
+                unknown_reference(resources, ty, reference),
+                offset,
+            )
         }
         _ => reference_found(alloc, wanted, offset),
     }

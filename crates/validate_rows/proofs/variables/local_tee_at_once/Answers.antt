@@ -29,8 +29,8 @@ returns-in-Some g c =
     let good = all_get (Valid md) v.locals i t found c.requires.valid.locals_valid in
     met_at_once md _ c.args.stacks.now c.exchange_at_once.new.self c.exchange_at_once.result
     (λ (e : _) (offset : ℕ).
-      let x = exchange_parts md (t ∷ []) (t ∷ []) v w e in
-      let passes = local_tee_is md v i t found c.requires.open_frame ∙ ap (option_map (λ u. body_pushed_each (t ∷ []) (body_with_local_set i u))) x.popped in
-      let stays = set_already md (t ∷ []) i v x.between x.popped set in
-      meets_done md _ offset v w (passes ∙ ap Some (ap (λ (u : BodyState). body_pushed_each (t ∷ []) u) stays ∙ sym x.pushed)) (x.valid (good, tt) c.requires.valid) x.kept)
+    let x = exchange_parts md (t ∷ []) (t ∷ []) v w e in
+    let passes = local_tee_is md v i t found c.requires.open_frame ∙ ap (option_map (λ u. body_pushed_each (t ∷ []) (body_with_local_set i u))) x.popped in
+    let stays = set_already md (t ∷ []) i v x.between x.popped set in
+    meets_done md _ offset v w (passes ∙ ap Some (ap (λ (u : BodyState). body_pushed_each (t ∷ []) u) stays ∙ sym x.pushed)) (x.valid (good, tt) c.requires.valid) x.kept)
     c.exchange_at_once.ensures.exact

@@ -14,10 +14,10 @@ returns g c =
     let v = c.args.stacks.now.body in
     let w = c.exchange_at_once.new.self.body in
     by c.exchange_at_once.result _ (λ (e : _).
-      let x = exchange_parts md (reverse c.args.wanted.now) (pushed_list c.args.pushed) v w e in
-      λ (offset : ℕ). meets_done md (λ cx. row_operator (plain_row c.args.wanted.now (pushed_list c.args.pushed))) offset v w
-        (plain_passes md v x.between w c.args.wanted.now (pushed_list c.args.pushed) c.requires.visit.open_frame x.popped x.pushed)
-        (x.valid c.requires.pushed c.requires.visit.valid) x.kept) c.exchange_at_once.ensures.exact
+    let x = exchange_parts md (reverse c.args.wanted.now) (pushed_list c.args.pushed) v w e in
+    λ (offset : ℕ). meets_done md (λ cx. row_operator (plain_row c.args.wanted.now (pushed_list c.args.pushed))) offset v w
+    (plain_passes md v x.between w c.args.wanted.now (pushed_list c.args.pushed) c.requires.visit.open_frame x.popped x.pushed)
+    (x.valid c.requires.pushed c.requires.visit.valid) x.kept) c.exchange_at_once.ensures.exact
   where
     by : {P Q : Type 0} (b : Bool) (R : Type 0) → (P → Q) → MatchBool b P R → MatchBool b Q R
     by true R f m = f m

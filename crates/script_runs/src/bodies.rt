@@ -147,7 +147,15 @@ fn run_over<R: WasmModuleResources>(
     if let Task::Shown(printed) = work.task {
         let ops = operators.ops.as_slice();
         let texts = (work.script, printed);
-        return compare_places(alloc, report, resources, features, (line, locals), ops, texts);
+        return compare_places(
+            alloc,
+            report,
+            resources,
+            features,
+            (line, locals),
+            ops,
+            texts,
+        );
     }
     match begin_body(alloc, resources, features, line, locals) {
         Ok(v) => run_task(alloc, report, v, operators, resources, work),

@@ -47,7 +47,11 @@ fn parts_of(word: &str, is_index: bool) -> Option<(&str, u32)> {
 fn add_word(text: &mut String, word: &str, is_index: bool) -> Result<(), AllocError> {
     match parts_of(word, is_index) {
         Some((before, index)) => {
-            let last = if before.is_empty() { u32::MAX } else { LAST_NAMED };
+            let last = if before.is_empty() {
+                u32::MAX
+            } else {
+                LAST_NAMED
+            };
             let doubled = index.saturating_mul(2).min(last);
             write!(text, "{before}{doubled} ")
         }

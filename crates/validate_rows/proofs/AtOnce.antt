@@ -1,12 +1,15 @@
--- Locals that are set already.
+-- Locals that are set already, and the innermost frame, for what passes at once.
 use Rattle.std.proofs.Common.{◌≡◌, ℕ, Bool, true, false, Option, Some, None, IsSome, refl, sym, ap, ◌∙◌, if◌then◌else◌, ap₂}
+use Rattle.std.specs.Option.{ForSome}
 use Rattle.validate_resources.specs.Context.{ModuleContext}
+use Rattle.validate_visit.specs.declared.frame.Frame.{Frame as FlatFrame}
+use Rattle.validation_rules.proofs.Steps.{some_injective}
 use Rattle.validate_types.specs.declared.types.ValType.{ValType}
 use Rattle.validation_rules.specs.Static.{is_local_set, locals_set}
 use Rattle.std.specs.Prelude.{List}
 use Rattle.validate_stacks.specs.Pops.{body_popped_each, IsKept}
 use Rattle.validate_stacks.specs.State.{BodyState, body_with_frames}
-use Rattle.validate_stacks.specs.Steps.{body_with_local_set, frames_first_setting}
+use Rattle.validate_stacks.specs.Steps.{frame_at, body_with_local_set, frames_first_setting}
 use Rattle.validate_stacks.proofs.AtOnce.{popped_each_set, popped_each_kept}
 
 chosen : (b : Bool) (u w : BodyState) → b ≡ true → (if b then u else w) ≡ u
@@ -23,3 +26,11 @@ set_already md ws i v u p h =
 pub some_is : {A : Type 0} (o : Option A) (x : A) → o ≡ Some x → IsSome o
 some_is (Some y) x h = refl
 some_is None x h = cc
+
+-- ---- the innermost frame
+
+pub frame_there : (v : BodyState) (f : FlatFrame) → frame_at v 0 ≡ Some f → IsSome (frame_at v 0)
+frame_there v f e = some_is (frame_at v 0) f e
+
+pub block_there : (v : BodyState) (f : FlatFrame) → frame_at v 0 ≡ Some f → ForSome (frame_at v 0) (λ g. g.block_type ≡ f.block_type)
+block_there v f e g h = ap (λ (x : FlatFrame). x.block_type) (some_injective g f (sym h ∙ e))

@@ -258,6 +258,10 @@ module _ (md : ModuleContext) (v : BodyState) (r : FlatFrame) (h : frame_at v 0 
       (ap (λ t. record v { present = state_after_exit v.present.left (block_signature md t).results inner.outer }) inner.block_type
       ∙ sym (p ∙ (ap (λ (x : BodyState). body_pushed_each rs_now x) (sym s.1) ∙ pushed_over rs_now (record v { present = record { frames = inner.outer; left = v.present.left } }) inner.outer refl)))
 
+-- a frame of another kind has no second part
+pub closes_unless_if : (md : ModuleContext) (f : FlatFrame) (v : BodyState) → is_if f.kind ≡ false → may_close_as_if md f v ≡ true
+closes_unless_if md f v k = ap (λ b. if_fits (body_context md v) b (head_of f.kind f.block_type)) k
+
 -- an empty second part: it closes exactly where the parameters are the results
 pub else_closed : (md : ModuleContext) (bt : BlockType) (u : BodyState) → closed_body md (body_with_block md Else bt u) ≡ guard (all_fit (body_context md u) (map Known (block_signature md bt).params) (block_signature md bt).results) (Some u)
 else_closed md bt u = ap (λ b. guard b (Some u)) (else_closes (body_context md u) (head_of Else bt))

@@ -29,7 +29,10 @@ impl AtomicOnAddress {
         match self {
             AtomicOnAddress::Notify => integer_alignment(IntegerType::I32),
             AtomicOnAddress::Wait(ty) => integer_alignment(ty),
-            AtomicOnAddress::Load(part) | AtomicOnAddress::Store(part) | AtomicOnAddress::Rmw(part, _) | AtomicOnAddress::Cmpxchg(part) => access_alignment(part),
+            AtomicOnAddress::Load(part)
+            | AtomicOnAddress::Store(part)
+            | AtomicOnAddress::Rmw(part, _)
+            | AtomicOnAddress::Cmpxchg(part) => access_alignment(part),
         }
     }
 

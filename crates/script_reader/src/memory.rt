@@ -25,7 +25,9 @@ impl LoadOrStore {
     pub fn natural_alignment(self) -> u8 {
         match self {
             LoadOrStore::Load(ty) | LoadOrStore::Store(ty) => number_alignment(ty),
-            LoadOrStore::LoadPacked(part, _) | LoadOrStore::StorePacked(part) => part_alignment(part),
+            LoadOrStore::LoadPacked(part, _) | LoadOrStore::StorePacked(part) => part_alignment(
+                part,
+            ),
         }
     }
 

@@ -27,21 +27,24 @@ impl AtomicOnAddress {
     /// The alignment that is natural for it, as an exponent of 2.
     pub fn natural_alignment(self) -> u8 {
         match self {
-            Notify => integer_alignment(IntegerType::I32),
-            Wait(ty) => integer_alignment(ty),
-            Load(part) | Store(part) | Rmw(part, _) | Cmpxchg(part) => access_alignment(part),
+            AtomicOnAddress::Notify => integer_alignment(IntegerType::I32),
+            AtomicOnAddress::Wait(ty) => integer_alignment(ty),
+            AtomicOnAddress::Load(part)
+            | AtomicOnAddress::Store(part)
+            | AtomicOnAddress::Rmw(part, _)
+            | AtomicOnAddress::Cmpxchg(part) => access_alignment(part),
         }
     }
 
     /// The operator that accesses this.
     pub fn op(self, access: MemArg) -> AtomicOp {
         match self {
-            Notify => AtomicOp::AtomicNotify(access),
-            Wait(ty) => AtomicOp::AtomicWait(ty, access),
-            Load(part) => AtomicOp::AtomicLoad(part, access),
-            Store(part) => AtomicOp::AtomicStore(part, access),
-            Rmw(part, rmw) => AtomicOp::AtomicRmw(part, rmw, access),
-            Cmpxchg(part) => AtomicOp::AtomicCmpxchg(part, access),
+            AtomicOnAddress::Notify => AtomicOp::AtomicNotify(access),
+            AtomicOnAddress::Wait(ty) => AtomicOp::AtomicWait(ty, access),
+            AtomicOnAddress::Load(part) => AtomicOp::AtomicLoad(part, access),
+            AtomicOnAddress::Store(part) => AtomicOp::AtomicStore(part, access),
+            AtomicOnAddress::Rmw(part, rmw) => AtomicOp::AtomicRmw(part, rmw, access),
+            AtomicOnAddress::Cmpxchg(part) => AtomicOp::AtomicCmpxchg(part, access),
         }
     }
 }

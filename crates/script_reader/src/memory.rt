@@ -24,18 +24,20 @@ impl LoadOrStore {
     /// The alignment that is natural for it, as an exponent of 2.
     pub fn natural_alignment(self) -> u8 {
         match self {
-            Load(ty) | Store(ty) => number_alignment(ty),
-            LoadPacked(part, _) | StorePacked(part) => part_alignment(part),
+            LoadOrStore::Load(ty) | LoadOrStore::Store(ty) => number_alignment(ty),
+            LoadOrStore::LoadPacked(part, _) | LoadOrStore::StorePacked(part) => part_alignment(
+                part,
+            ),
         }
     }
 
     /// The operator that accesses this.
     pub fn op(self, access: MemArg) -> MemoryOp {
         match self {
-            Load(ty) => MemoryOp::Load(ty, access),
-            LoadPacked(part, sign) => MemoryOp::LoadPacked(part, sign, access),
-            Store(ty) => MemoryOp::Store(ty, access),
-            StorePacked(part) => MemoryOp::StorePacked(part, access),
+            LoadOrStore::Load(ty) => MemoryOp::Load(ty, access),
+            LoadOrStore::LoadPacked(part, sign) => MemoryOp::LoadPacked(part, sign, access),
+            LoadOrStore::Store(ty) => MemoryOp::Store(ty, access),
+            LoadOrStore::StorePacked(part) => MemoryOp::StorePacked(part, access),
         }
     }
 }

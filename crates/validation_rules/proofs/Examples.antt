@@ -10,7 +10,7 @@ use Rattle.validate_visit.specs.declared.op.Op.{Op}
 use Rattle.validate_visit.specs.declared.op.Op.TheVariants.{Control, Numeric}
 use Rattle.validate_visit.specs.declared.op.ControlOp.TheVariants.{Nop, LocalTee}
 use Rattle.validate_visit.specs.declared.op.NumericOp.TheVariants.{IntegerBinary, I32Const}
-use Rattle.validation_rules.specs.Context.{SubType, ValType, I32, I64, BlockType, Empty, Val, FuncType, Context}
+use Rattle.validation_rules.specs.Context.{Signature, SubType, ValType, I32, I64, BlockType, Empty, Val, FuncType, Context}
 use Rattle.validation_rules.specs.Fits.{MaybeType, Bottom, Known}
 use Rattle.validation_rules.specs.Rows.{Block, Else, Loop, TryTable, LegacyCatch, LegacyCatchAll, Operator}
 use Rattle.validation_rules.specs.Static.{Frame, State, open_state, state_before, start, frame_count, operand_count, operands_found}
@@ -24,6 +24,9 @@ use Rattle.validation_rules.proofs.Writing.{try_table, throw, legacy_try, legacy
 use Rattle.validation_rules.proofs.Writing.{delegate, rethrow, frame, after_all, DoneUnder, OpenUnder}
 
 -- ---- a module of five types and three tags, and a function with two locals of which the first is set at entry
+
+abbrev signature : List ValType → List ValType → Signature
+signature params results = record { params = params; results = results }
 
 abbrev types : List SubType
 types =

@@ -18,7 +18,7 @@ use Rattle.validation_rules.proofs.Refusals.{IsRefusedAtLast}
 use Rattle.validation_rules.proofs.Writing.{func_type, shared_func_type, to_nothing, within, unreachable}
 use Rattle.validation_rules.proofs.Writing.{block, loop, an_if, an_else, end, br, br_if, br_table, a_return}
 use Rattle.validation_rules.proofs.Writing.{drops, typed_select, i32_const, i64_const, i32_eqz, i32_add}
-use Rattle.validation_rules.proofs.Writing.{frame, DoneUnder, OpenUnder, LeavesUnder}
+use Rattle.validation_rules.proofs.Writing.{a_br_table, frame, DoneUnder, OpenUnder, LeavesUnder}
 
 -- ---- a module of three types, and a function without locals
 
@@ -277,10 +277,10 @@ table_of_more : Refused to_nothing (in_blocks (unreachable ∷ br_table (0 ∷ [
 table_of_more = refl
 
 -- an incomplete table, also in dead code
-table_incomplete : Refused to_nothing (i32_const ∷ a_table (0 ∷ []) false 0 ∷ [])
+table_incomplete : Refused to_nothing (i32_const ∷ a_br_table (0 ∷ []) false 0 ∷ [])
 table_incomplete = refl
 
-table_incomplete_dead : Refused to_nothing (unreachable ∷ a_table [] false 0 ∷ [])
+table_incomplete_dead : Refused to_nothing (unreachable ∷ a_br_table [] false 0 ∷ [])
 table_incomplete_dead = refl
 
 -- ---- `return`

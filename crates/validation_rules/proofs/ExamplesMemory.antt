@@ -36,7 +36,7 @@ use Rattle.validation_rules.specs.Rows.{Block}
 use Rattle.validation_rules.specs.Static.{State, open_state, state_before, start}
 use Rattle.validation_rules.specs.Operators.{row_operator, plain_row, operator, operators}
 use Rattle.validation_rules.proofs.Refusals.{IsRefusedAtLast}
-use Rattle.validation_rules.proofs.Writing.{id, a_type, of_functions, every, within, unreachable, end}
+use Rattle.validation_rules.proofs.Writing.{id, a_type, func_type, every, within, unreachable, end}
 use Rattle.validation_rules.proofs.Writing.{i32_const, i64_const, null_of, after_all, premise_in}
 
 -- ---- a module of two memories and two data segments: memory 0, which is shared, has addresses of 32
@@ -402,7 +402,7 @@ funcref = Ref (nullable_reference (Abstract false FuncHeap))
 
 abbrev array_types : List SubType
 array_types =
-    a_type false (array_of I8 true) ∷ a_type false (array_of I8 false) ∷ a_type false (array_of (StoredWhole funcref) true) ∷ a_type true (array_of (StoredWhole F64) true) ∷ a_type (of_functions [] []) false ∷ []
+    a_type false (array_of I8 true) ∷ a_type false (array_of I8 false) ∷ a_type false (array_of (StoredWhole funcref) true) ∷ a_type true (array_of (StoredWhole F64) true) ∷ func_type [] [] ∷ []
 
 -- with these proposals on, in a function that is shared or isn't
 abbrev over_arrays : ℕ → Bool → Context

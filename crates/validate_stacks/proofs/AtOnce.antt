@@ -1,5 +1,5 @@
 -- Operands put in place or taken where no attempt is pending, and what fits at once.
-use Rattle.std.proofs.Common.{◌≡◌, ◌≢◌, ◌⊎◌, inl, inr, min, reverse, map, Result, Ok, Err, IsOk, MatchResult, MatchBool, ℕ, zero, suc, ◌+◌, ◌-◌, ◌<◌, ◌≤◌, List, [], ◌∷◌, Bool, true, false, Option, Some, None, is_some, IsSome, ⊥, length, take, drop, refl, sym, ◌∙◌, ap, subst, arith}
+use Rattle.std.proofs.Common.{◌≡◌, ◌≢◌, ◌⊎◌, inl, inr, min, reverse, map, Result, Ok, Err, IsOk, is_ok, OnOk, MatchResult, MatchBool, ℕ, zero, suc, ◌+◌, ◌-◌, ◌<◌, ◌≤◌, List, [], ◌∷◌, Bool, true, false, Option, Some, None, is_some, IsSome, length, take, drop, refl, sym, ◌∙◌, ap, subst, arith}
 use Rattle.std.specs.List.{AllByRecursion}
 use Rattle.std.specs.Option.{option_map}
 use Rattle.std.proofs.lemmas.List.{drop_min, length-drop, length-reverse}
@@ -296,7 +296,7 @@ none_left md wanted v u h p = by v.present.frames refl
 
 pub some_there : {A : Type 0} (o : Option A) → IsSome o → (a : A) × (o ≡ Some a)
 some_there (Some a) h = (a, refl)
-some_there None h = absurd h
+some_there None h = absurd cc
 
 -- what is visited where nothing was done at once
 pub may_visit_then : (md : ModuleContext) (op : Context → Operator) (v w : Stacked) (b : Bool) → MeetsAtOnce md op v b w → b ≡ false → MayVisit md v → MayVisit md w
@@ -311,10 +311,15 @@ pub only_popped : (md : ModuleContext) (ws : List ValType) (v u : BodyState) →
 only_popped md ws v u h = let parts = mapped_some (body_pushed_each []) (body_popped_each md ws v) u h in parts.1 ∙ ap Some parts.2
 
 -- one that was made, and one that wasn't
-pub was_made : {P Q : Type 0} (b : Bool) → b ≡ true → MatchBool b P Q → P
-was_made true h m = m
-was_made false h m = cc
+pub was_made : {P : Type 0} (Q : Type 0) (b : Bool) → b ≡ true → MatchBool b P Q → P
+was_made Q true h m = m
+was_made Q false h m = cc
 
-pub was_not_made : {P Q : Type 0} (b : Bool) → b ≡ false → MatchBool b P Q → Q
-was_not_made true h m = cc
-was_not_made false h m = m
+pub was_not_made : {Q : Type 0} (P : Type 0) (b : Bool) → b ≡ false → MatchBool b P Q → Q
+was_not_made P true h m = cc
+was_not_made P false h m = m
+
+-- what ends the live part where nothing is recorded: it can't fail
+pub ended_of : {E : Type 0} (md : ModuleContext) (wanted : List ValType) (v : BodyState) (s w : Stacked) (r : Result (Unit {0}) E) (b : Bool) → has_operands_fitting (body_context md v) wanted v ≡ true → OnOk r (w.body ≡ body_unreachable v) → b ≡ is_ok r → IsOk r → MatchBool b (option_map body_unreachable (body_popped_each md (reverse wanted) v) ≡ Some w.body) (w ≡ s)
+ended_of md wanted v s w (Ok x) b fit e is ok = rw is (ended_whole md wanted v w.body fit e)
+ended_of md wanted v s w (Err x) b fit e is ok = absurd cc

@@ -28,7 +28,7 @@ returns-then-close_at_once g c =
     let w = c.push_ctrl.new.self.body in
     let f = c.in-Some.frame.now in
     let there = sym c.get_frame.ensures ∙ ap option_copied c.in-Some.is in
-    let closed = was_made c.close_at_once.result c.if-close_at_once.true c.close_at_once.ensures.exact in
+    let closed = was_made _ c.close_at_once.result c.if-close_at_once.true c.close_at_once.ensures.exact in
     let k : is_if f.kind ≡ true = search rules in
     meets_last md _ c.args.offset v w (body_with_block md Else f.block_type u) c.push_ctrl.result (λ q. part_passes BeginsElse is_if Else params_of else_begins md v f there u w closed k q) c.push_ctrl.ensures.entered c.push_ctrl.ensures.memory c.push_ctrl.ensures.offset
     c.push_ctrl.ensures.valid (kept_on v u w c.close_at_once.ensures.kept c.push_ctrl.ensures.kept)

@@ -23,12 +23,12 @@ close_at_once-requires-clause-frame g c = block_there c.args.stacks.now.body c.i
 pub end_by_pops-requires-3 : goal.end_by_pops-requires-3
 end_by_pops-requires-3 g c =
     let md = g.R.WasmModuleResources.context c.args.resources.now in
-    subst (MayVisit md) (sym (was_not_made c.close_at_once.result c.if-close_at_once.false c.close_at_once.ensures.exact)) c.requires
+    subst (MayVisit md) (sym (was_not_made _ c.close_at_once.result c.if-close_at_once.false c.close_at_once.ensures.exact)) c.requires
 
 pub returns : goal.returns
 returns g c =
     let md = g.R.WasmModuleResources.context c.args.resources.now in
-    subst (λ (s : Stacked). Meets md (λ cx. delimiter_operator Ends) c.args.offset s.body c.end_by_pops-3.result c.end_by_pops-3.new.stacks.body) (was_not_made c.close_at_once.result c.if-close_at_once.false c.close_at_once.ensures.exact) c.end_by_pops-3.ensures
+    subst (λ (s : Stacked). Meets md (λ cx. delimiter_operator Ends) c.args.offset s.body c.end_by_pops-3.result c.end_by_pops-3.new.stacks.body) (was_not_made _ c.close_at_once.result c.if-close_at_once.false c.close_at_once.ensures.exact) c.end_by_pops-3.ensures
 
 pub returns-then-close_at_once : goal.returns-then-close_at_once
 returns-then-close_at_once g c =
@@ -40,7 +40,7 @@ returns-then-close_at_once g c =
     let rs = c.results.result.now in
     let there = sym c.get_frame.ensures ∙ ap option_copied c.in-Some.is in
     let laws = g.met.R.WasmModuleResources.lawful c.args.resources.now in
-    let closed = was_made c.close_at_once.result c.if-close_at_once.true c.close_at_once.ensures.exact in
+    let closed = was_made _ c.close_at_once.result c.if-close_at_once.true c.close_at_once.ensures.exact in
     meets_last md _ c.args.offset v w (body_pushed_each rs u) c.push_types.result
     (λ q. end_passes md v f there u w closed (closes_unless_if md f v (search rules)) (q ∙ ap (λ l. body_pushed_each l u) c.results.ensures)) c.push_types.ensures.pushed c.push_types.ensures.memory c.push_types.ensures.offset
     (c.push_types.ensures.valid md (wants_valid md v f rs laws there c.requires.valid c.results.ensures) c.close_at_once.ensures.valid)

@@ -303,11 +303,13 @@ impl Stacks {
         ensures { result ≡ may_pop (body_context (R.context resources.now) self.now.body) found
             (Some wanted) }
     {
-        match found {
-            None => false,
-            Some(MaybeType::Bottom) => true,
-            Some(MaybeType::UnknownRef(ty)) => self.is_unknown_fitting(resources, ty, wanted),
-            Some(MaybeType::Known(found)) => resources.is_subtype(found, wanted),
+        let Some(actual) = found else {
+            return false;
+        };
+        match actual {
+            MaybeType::Bottom => true,
+            MaybeType::UnknownRef(ty) => self.is_unknown_fitting(resources, ty, wanted),
+            MaybeType::Known(ty) => resources.is_subtype(ty, wanted),
         }
     }
 

@@ -33,3 +33,17 @@ returns-then-not-is_fitting-clause-same g c =
     let none = stops_there md c.args.wanted.now c.loop-left.self.body c.args.self.now.body (ap (λ s. s.body) c.loop-left.invariant.same) c.loop-left.left _ (omega (arith, c.loop-left-test.true)) (omega (arith, c.loop-left-test.true, c.loop-left.invariant.within)) c.found_at-found.result c.found_at-found.ensures failed c.loop-left.invariant.rest in
     let refused = none_popped md c.args.wanted.now c.loop-left.self.body c.args.self.now.body (ap (λ s. s.body) c.loop-left.invariant.same) none c.pop_types.result c.pop_types.new.self.body c.pop_types.ensures.passed in
     search (rules, refused)
+
+pub returns-then-not-is_fitting-clause-refused : goal.returns-then-not-is_fitting-clause-refused
+returns-then-not-is_fitting-clause-refused g c =
+    let md = g.R.WasmModuleResources.context c.args.resources.now in
+    let failed = sym c.if-not-is_fitting.ensures in
+    let none = stops_there md c.args.wanted.now c.loop-left.self.body c.args.self.now.body (ap (λ s. s.body) c.loop-left.invariant.same) c.loop-left.left _ (omega (arith, c.loop-left-test.true)) (omega (arith, c.loop-left-test.true, c.loop-left.invariant.within)) c.found_at-found.result c.found_at-found.ensures failed c.loop-left.invariant.rest in
+    search (rules, none)
+
+pub returns-then-not-is_fitting-clause-idle : goal.returns-then-not-is_fitting-clause-idle
+returns-then-not-is_fitting-clause-idle g c =
+    let md = g.R.WasmModuleResources.context c.args.resources.now in
+    let failed = sym c.if-not-is_fitting.ensures in
+    let none = stops_there md c.args.wanted.now c.loop-left.self.body c.args.self.now.body (ap (λ s. s.body) c.loop-left.invariant.same) c.loop-left.left _ (omega (arith, c.loop-left-test.true)) (omega (arith, c.loop-left-test.true, c.loop-left.invariant.within)) c.found_at-found.result c.found_at-found.ensures failed c.loop-left.invariant.rest in
+    search (rules, none)

@@ -303,9 +303,7 @@ impl Stacks {
         ensures { result ≡ may_pop (body_context (R.context resources.now) self.now.body) found
             (Some wanted) }
     {
-        let Some(actual) = found else {
-            return false;
-        };
+        let Some(actual) = found else { return false };
         match actual {
             MaybeType::Bottom => true,
             MaybeType::UnknownRef(ty) => self.is_unknown_fitting(resources, ty, wanted),

@@ -20,4 +20,25 @@ exchange_at_once-requires g c =
     let md = g.R.WasmModuleResources.context c.args.resources.now in
     let laws = g.met.R.WasmModuleResources.lawful c.args.resources.now in
     let below = takes_valid md c.args.stacks.now.body.shared c.args.block_type c.params.result.now laws c.requires.block c.params.ensures in
-    subst (AllByRecursion (Valid md)) (sym (c.joined-wanted.ensures c.in-Some.wanted c.in-Some.is)) (all_both (Valid md) c.params.result.now c.args.above.now below c.requires.above)
+    subst (AllByRecursion (Valid md)) (sym (c.joined.ensures c.in-Some.wanted c.in-Some.is)) (all_both (Valid md) c.params.result.now c.args.above.now below c.requires.above)
+
+pub push_ctrl-requires-clause-state : goal.push_ctrl-requires-clause-state
+push_ctrl-requires-clause-state g c =
+    let md = g.R.WasmModuleResources.context c.args.resources.now in
+    let made = was_made _ c.exchange_at_once.result c.if-exchange_at_once.true c.exchange_at_once.ensures.exact in
+    (exchange_parts md (reverse c.in-Some.wanted.now) [] c.args.stacks.now.body c.exchange_at_once.new.self.body made).valid tt c.requires.visit.valid
+
+pub returns-then-exchange_at_once : goal.returns-then-exchange_at_once
+returns-then-exchange_at_once g c =
+    let md = g.R.WasmModuleResources.context c.args.resources.now in
+    let v = c.args.stacks.now.body in
+    let u = c.exchange_at_once.new.self.body in
+    let w = c.push_ctrl.new.self.body in
+    let above = c.args.above.now in
+    let made = was_made _ c.exchange_at_once.result c.if-exchange_at_once.true c.exchange_at_once.ensures.exact in
+    let x = exchange_parts md (reverse c.in-Some.wanted.now) [] v u made in
+    let whole : c.in-Some.wanted.now ≡ (block_signature md c.args.block_type).params ++ above = c.joined.ensures c.in-Some.wanted c.in-Some.is ∙ ap (λ ps. ps ++ above) c.params.ensures in
+    let popped : body_popped_each md (reverse ((block_signature md c.args.block_type).params ++ above)) v ≡ Some u = ap (λ ws. body_popped_each md (reverse ws) v) (sym whole) ∙ only_popped md (reverse c.in-Some.wanted.now) v u made in
+    let passes = opened_is md v c.args.kind above c.args.block_type c.requires.visit.open_frame ∙ ap (option_map (λ u. body_with_block md c.args.kind c.args.block_type u)) popped in
+    meets_last md _ c.args.offset v w (body_with_block md c.args.kind c.args.block_type u) c.push_ctrl.result (λ q. passes ∙ ap Some (sym q)) c.push_ctrl.ensures.entered c.push_ctrl.ensures.memory c.push_ctrl.ensures.offset
+    c.push_ctrl.ensures.valid (kept_on v u w x.kept c.push_ctrl.ensures.kept)

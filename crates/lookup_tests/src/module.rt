@@ -1,6 +1,6 @@
 //! Modules: what the first lines of a script declare, and lists of types that no line would write.
 
-use script_reader::{Declarations, Script, read_lists, read_script};
+use script_reader::{Script, read_lists, read_script};
 use std::test::Fail;
 use validate_resources::ModuleLists;
 use validate_types::{Error, FuncType, SubType, UnpackedIndex};
@@ -10,23 +10,11 @@ pub fn read_module(rt: &impl AllocGlobal, lines: &str) -> Result<Result<ModuleLi
     let text = format!(in rt.alloc(); "{lines}\nexpr i32\n")?;
     let lists = read_lists(rt.alloc(), &text)?;
     match read_script(rt.alloc(), &lists, &text) {
-        Ok(Script { declarations, .. }) => Ok(declare(rt, declarations)),
+        Ok(Script { declarations, .. }) => {
+            Ok(ModuleLists::from_declarations(rt.alloc(), declarations))
+        }
         Err(_) => Err(Fail::new("lines that are no script")),
     }
-}
-
-fn declare(rt: &impl AllocGlobal, declared: Declarations) -> Result<ModuleLists, Error> {
-    ModuleLists::new(
-        rt.alloc(),
-        declared.types,
-        declared.functions,
-        declared.tables,
-        declared.memories,
-        declared.globals,
-        declared.tags,
-        declared.elements,
-        declared.data_count,
-    )
 }
 
 /// The lookup over so many function types `[] -> []`, or its refusal: each is declared below the one before

@@ -1,6 +1,5 @@
 pub mod Status
 pub mod Attempts
-pub mod Module
 pub mod Begin
 pub mod Reports
 pub mod Texts

@@ -4,18 +4,18 @@
 #![tactic(auto)]
 
 mod body;
-mod check;
 mod failure;
 mod input;
 mod print;
 mod program;
 mod report;
+mod script;
 mod verdict;
 
 pub use body::run_operators;
-pub use check::{begin_body, module_lists};
 pub use failure::{BadScript, Failure};
 pub use print::print_report;
 pub use program::run;
 pub use report::{Answers, Report};
+pub use script::{begin_body, module_lists};
 pub use verdict::Verdict;

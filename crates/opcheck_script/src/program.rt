@@ -3,11 +3,11 @@
 ghost use Rattle.std.specs.Prelude.{◌≤◌, IfSome, IsErr};
 ghost use Rattle.std.specs.Str.{IsUtf8};
 
-use crate::check::check_script;
 use crate::failure::{BadScript, Failure};
 use crate::input::read_input;
 use crate::print::{print_failure, print_report};
 use crate::report::Report;
+use crate::script::check_script;
 use crate::verdict::{Verdict, status_of};
 use script_reader::{read_lists, read_script};
 use std::alloc::Global;

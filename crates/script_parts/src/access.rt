@@ -2,7 +2,8 @@
 
 ghost use Rattle.std.specs.Prelude.{◌≡◌, map};
 ghost use Rattle.std.specs.Option.{SomeIff, option_copied};
-ghost use Rattle.script_parts.specs.Access.{IsAccess, IsTarget, access_of, target_of, text_after, one_if_some as one_where_some};
+ghost use Rattle.script_parts.specs.Access.{IsAccess, IsTarget, access_of, target_of};
+ghost use Rattle.script_parts.specs.Access as rule;
 
 use crate::numbers::{read_index, read_u8, read_u64};
 use validate_visit::{MemArg, MemArgTarget};
@@ -32,7 +33,7 @@ pub fn read_access(words: &[&str], natural: u8) -> Option<MemArg>
 }
 
 fn one_if_some(said: Option<&str>) -> usize
-    ensures { result ≡ one_where_some (option_copied said.entry) }
+    ensures { result ≡ rule.one_if_some (option_copied said.entry) }
 {
     usize::from(said.is_some())
 }
@@ -51,7 +52,7 @@ fn read_target(memory: Option<&str>, array: Option<&str>) -> Option<MemArgTarget
 
 /// What follows this name in the first word that begins with it, if one does.
 pub fn text_after<'a>(words: &[&'a str], name: &str) -> Option<&'a str>
-    ensures { option_copied result ≡ text_after name.now (map (λ word. word.now) words.now) }
+    ensures { option_copied result ≡ rule.text_after name.now (map (λ word. word.now) words.now) }
 {
     words
         .iter()

@@ -8,8 +8,8 @@ use crate::line::Line;
 use crate::written::Operators;
 use bitflags::Flags;
 use std::alloc::Global;
-use validate_resources::FuncDecl;
-use validate_types::{GlobalType, MemoryType, RefType, SubType, TableType, ValType, WasmFeatures};
+use validate_resources::ModuleDeclarations;
+use validate_types::{ValType, WasmFeatures};
 
 /// What the operators of a script are the body of.
 #[derive(Clone, Copy, Debug, PartialEq, Eq)]
@@ -40,27 +40,6 @@ pub struct LocalLine {
     pub offset: u64,
 }
 
-/// What the module of a script declares.
-#[derive(Drop)]
-pub struct Declarations {
-    /// Its types.
-    pub types: Vec<SubType>,
-    /// Its functions.
-    pub functions: Vec<FuncDecl>,
-    /// Its tables.
-    pub tables: Vec<TableType>,
-    /// Its memories.
-    pub memories: Vec<MemoryType>,
-    /// Its globals.
-    pub globals: Vec<GlobalType>,
-    /// The indices of the types of its tags.
-    pub tags: Vec<u32>,
-    /// The types of its element segments.
-    pub elements: Vec<RefType>,
-    /// How many data segments it has, if it says so.
-    pub data_count: Option<u32>,
-}
-
 /// A script whose lines are all of the grammar, and in their places.
 #[derive(Drop)]
 pub struct Script<'a> {
@@ -69,7 +48,7 @@ pub struct Script<'a> {
     /// Whether it has a `show` line.
     pub shows: bool,
     /// The module.
-    pub declarations: Declarations,
+    pub declarations: ModuleDeclarations,
     /// The `func` or `expr` line.
     pub body: BodyLine,
     /// The `local` lines.
@@ -86,7 +65,7 @@ pub struct Draft<'a> {
     /// Whether a `show` line has come.
     pub shows: bool,
     /// The module.
-    pub declarations: Declarations,
+    pub declarations: ModuleDeclarations,
     /// The `func` or `expr` line, if it has come.
     pub body: Option<BodyLine>,
     /// The `local` lines.
@@ -112,16 +91,7 @@ impl<'a> Draft<'a> {
         Draft {
             features: None,
             shows: false,
-            declarations: Declarations {
-                types: Vec::new(alloc),
-                functions: Vec::new(alloc),
-                tables: Vec::new(alloc),
-                memories: Vec::new(alloc),
-                globals: Vec::new(alloc),
-                tags: Vec::new(alloc),
-                elements: Vec::new(alloc),
-                data_count: None,
-            },
+            declarations: ModuleDeclarations::new(alloc),
             body: None,
             locals: Vec::new(alloc),
             operators: Operators::new(alloc),

@@ -1,4 +1,4 @@
-//! The immediates of operators of shared-everything threads: an ordering, and then indices.
+//! Operators of shared-everything threads: what they do, an ordering, and then indices.
 
 ghost use Rattle.std.specs.Prelude.{◌≡◌, [], ◌∷◌, IfSome, drop, map};
 ghost use Rattle.std.specs.Str.Parse.{digits_value};
@@ -6,7 +6,20 @@ ghost use Rattle.script_parts.specs.Indices.{shared_indices};
 
 use crate::names::named_in;
 use crate::numbers::read_index;
-use validate_visit::{FieldIndex, Ordering, SharedOp};
+use validate_visit::{FieldAccess, FieldIndex, GlobalAccess, Ordering, SharedOp, TableAccess};
+
+/// What such an operator does, and to what.
+#[derive(Clone, Copy)]
+pub enum SharedAccess {
+    /// To a global.
+    Global(GlobalAccess),
+    /// To a place of a table.
+    Table(TableAccess),
+    /// To a field of a struct.
+    Struct(FieldAccess),
+    /// To an element of an array.
+    Array(FieldAccess),
+}
 
 /// The orderings by their names.
 const ORDERINGS: &[(&str, Ordering)] = &[
@@ -19,55 +32,54 @@ pub fn read_ordering(word: &str) -> Option<Ordering> {
     named_in(ORDERINGS, word)
 }
 
-/// The operator with the ordering and the indices that these words write in the place of its own, if it has
-/// so many.
-pub fn read_shared(op: SharedOp, words: &[&str]) -> Option<SharedOp>
+/// The operator that does this, with the ordering and the indices that these words write, if it has so many.
+pub fn read_shared(access: SharedAccess, words: &[&str]) -> Option<SharedOp>
     ensures { IfSome result (λ op. map (λ word. digits_value 10 word.now) (drop 1 words.now)
         ≡ shared_indices op) }
 {
     match *words {
-        [ordering, index] => with_place(op, read_ordering(ordering)?, read_index(index)?),
+        [ordering, index] => with_index(access, read_ordering(ordering)?, read_index(index)?),
         [ordering, ty, field] => {
             let field = FieldIndex {
                 struct_type_index: read_index(ty)?,
                 field_index: read_index(field)?,
             };
-            with_field(op, read_ordering(ordering)?, field)
+            with_field(access, read_ordering(ordering)?, field)
         }
         _ => None,
     }
 }
 
 /// The operator with this ordering and index, if it has one index alone.
-fn with_place(op: SharedOp, ordering: Ordering, index: u32) -> Option<SharedOp>
+fn with_index(access: SharedAccess, ordering: Ordering, index: u32) -> Option<SharedOp>
     ensures { IfSome result (λ op. shared_indices op ≡ index ∷ []) }
 {
-    Some(match op {
-        SharedOp::Global { access, .. } => SharedOp::Global {
+    match access {
+        SharedAccess::Global(access) => Some(SharedOp::Global {
             access,
             ordering,
             global_index: index,
-        },
-        SharedOp::Table { access, .. } => SharedOp::Table {
+        }),
+        SharedAccess::Table(access) => Some(SharedOp::Table {
             access,
             ordering,
             table_index: index,
-        },
-        SharedOp::Array { access, .. } => SharedOp::Array {
+        }),
+        SharedAccess::Array(access) => Some(SharedOp::Array {
             access,
             ordering,
             type_index: index,
-        },
-        SharedOp::Struct { .. } | SharedOp::RefI31Shared => return None,
-    })
+        }),
+        SharedAccess::Struct(_) => None,
+    }
 }
 
 /// The operator with this ordering and field, if it has one.
-fn with_field(op: SharedOp, ordering: Ordering, field: FieldIndex) -> Option<SharedOp>
+fn with_field(access: SharedAccess, ordering: Ordering, field: FieldIndex) -> Option<SharedOp>
     ensures { IfSome result (λ op. shared_indices op ≡ field.struct_type_index ∷ field.field_index ∷ []) }
 {
-    match op {
-        SharedOp::Struct { access, .. } => Some(SharedOp::Struct {
+    match access {
+        SharedAccess::Struct(access) => Some(SharedOp::Struct {
             access,
             ordering,
             field,

@@ -6,7 +6,7 @@ ghost use Rattle.validate_types.specs.declared.types.ArrayType.{ArrayType};
 ghost use Rattle.validate_types.specs.declared.types.ContType.{ContType};
 ghost use Rattle.validate_types.specs.Types.{Signature};
 ghost use Rattle.validate_types.specs.declared.types.CompositeInnerType.{CompositeInnerType};
-ghost use Rattle.script_parts.specs.Access.{text_after as text_behind};
+ghost use Rattle.script_parts.specs.Access as rule;
 ghost use Rattle.script_parts.specs.Fields.{IsFieldName, fits_field};
 ghost use Rattle.std.specs.Option.{SomeIff};
 ghost use Rattle.std.specs.Str.Parse.{digits_value};
@@ -79,7 +79,7 @@ struct Marks {
 /// The index that a mark of a type gives after this prefix, if there is one and it is packed. None of a mark
 /// that gives no such index.
 fn marked_index(marks: &[&str], prefix: &str) -> Option<Option<PackedIndex>>
-    ensures known { IsSome result ↔ IfSome (text_behind prefix.now (map (λ mark. mark.now) marks.now))
+    ensures known { IsSome result ↔ IfSome (rule.text_after prefix.now (map (λ mark. mark.now) marks.now))
         IsPackedIndex }
     ensures index { IfSome result (λ i. i
         ≡ index_in_mark prefix.now (map (λ mark. mark.now) marks.now)) }

@@ -1,99 +1,42 @@
-//! Loads and stores with their immediates.
+//! Loads and stores, and atomic operators on an address, with what they access.
 
-use script_parts::access::read_access;
-use validate_visit::{AtomicOp, MemArg, MemArgTarget, MemoryOp, Op};
+use crate::atomic::ATOMIC_OPERATORS;
+use crate::memory::LOADS_AND_STORES;
+use script_parts::{named_in, read_access};
+use validate_visit::{IntegerType, NumberType, Op, PackedInteger};
 
-/// An access to one byte of memory 0, at its natural alignment.
-pub const BYTES_1: MemArg = MemArg {
-    align: 0,
-    max_align: 0,
-    offset: 0,
-    target: MemArgTarget::Memory(0),
-};
+/// The operator of this name with the access that these words write, if it has one.
+pub fn read_accessing(name: &str, words: &[&str]) -> Option<Op<'static>> {
+    if let Some(named) = named_in(LOADS_AND_STORES, name) {
+        let access = read_access(words, named.natural_alignment())?;
+        return Some(Op::Memory(named.op(access)));
+    }
+    let named = named_in(ATOMIC_OPERATORS, name)?;
+    let access = read_access(words, named.natural_alignment())?;
+    Some(Op::Atomic(named.op(access)))
+}
 
-/// The same to two bytes.
-pub const BYTES_2: MemArg = MemArg {
-    align: 1,
-    max_align: 1,
-    offset: 0,
-    target: MemArgTarget::Memory(0),
-};
-
-/// The same to four bytes.
-pub const BYTES_4: MemArg = MemArg {
-    align: 2,
-    max_align: 2,
-    offset: 0,
-    target: MemArgTarget::Memory(0),
-};
-
-/// The same to eight bytes.
-pub const BYTES_8: MemArg = MemArg {
-    align: 3,
-    max_align: 3,
-    offset: 0,
-    target: MemArgTarget::Memory(0),
-};
-
-/// The operator with the access that these words write in the place of its own, if it has one.
-pub fn with_access(op: Op<'static>, words: &[&str]) -> Option<Op<'static>> {
-    match op {
-        Op::Memory(op) => {
-            let access = read_access(words, memory_access(op)?.max_align)?;
-            Some(Op::Memory(with_memory_access(op, access)))
-        }
-        Op::Atomic(op) => {
-            let access = read_access(words, atomic_access(op)?.max_align)?;
-            Some(Op::Atomic(with_atomic_access(op, access)))
-        }
-        _ => None,
+/// The alignment that is natural for a number, as an exponent of 2.
+pub fn number_alignment(ty: NumberType) -> u8 {
+    match ty {
+        NumberType::I32 | NumberType::F32 => 2,
+        NumberType::I64 | NumberType::F64 => 3,
     }
 }
 
-/// The access of a load or a store.
-fn memory_access(op: MemoryOp) -> Option<MemArg> {
-    match op {
-        MemoryOp::Load(_, access)
-        | MemoryOp::LoadPacked(_, _, access)
-        | MemoryOp::Store(_, access)
-        | MemoryOp::StorePacked(_, access) => Some(access),
-        _ => None,
+/// The same for an integer.
+pub fn integer_alignment(ty: IntegerType) -> u8 {
+    match ty {
+        IntegerType::I32 => 2,
+        IntegerType::I64 => 3,
     }
 }
 
-/// The load or the store with this access.
-fn with_memory_access(op: MemoryOp, access: MemArg) -> MemoryOp {
-    match op {
-        MemoryOp::Load(ty, _) => MemoryOp::Load(ty, access),
-        MemoryOp::LoadPacked(part, sign, _) => MemoryOp::LoadPacked(part, sign, access),
-        MemoryOp::Store(ty, _) => MemoryOp::Store(ty, access),
-        MemoryOp::StorePacked(part, _) => MemoryOp::StorePacked(part, access),
-        other => other,
-    }
-}
-
-/// The access of an atomic operator.
-fn atomic_access(op: AtomicOp) -> Option<MemArg> {
-    match op {
-        AtomicOp::AtomicNotify(access)
-        | AtomicOp::AtomicWait(_, access)
-        | AtomicOp::AtomicLoad(_, access)
-        | AtomicOp::AtomicStore(_, access)
-        | AtomicOp::AtomicRmw(_, _, access)
-        | AtomicOp::AtomicCmpxchg(_, access) => Some(access),
-        AtomicOp::AtomicFence(_) | AtomicOp::Pause => None,
-    }
-}
-
-/// The atomic operator with this access.
-fn with_atomic_access(op: AtomicOp, access: MemArg) -> AtomicOp {
-    match op {
-        AtomicOp::AtomicNotify(_) => AtomicOp::AtomicNotify(access),
-        AtomicOp::AtomicWait(ty, _) => AtomicOp::AtomicWait(ty, access),
-        AtomicOp::AtomicLoad(part, _) => AtomicOp::AtomicLoad(part, access),
-        AtomicOp::AtomicStore(part, _) => AtomicOp::AtomicStore(part, access),
-        AtomicOp::AtomicRmw(part, rmw, _) => AtomicOp::AtomicRmw(part, rmw, access),
-        AtomicOp::AtomicCmpxchg(part, _) => AtomicOp::AtomicCmpxchg(part, access),
-        AtomicOp::AtomicFence(_) | AtomicOp::Pause => op,
+/// The same for a part of an integer.
+pub fn part_alignment(part: PackedInteger) -> u8 {
+    match part {
+        PackedInteger::I32Bits8 | PackedInteger::I64Bits8 => 0,
+        PackedInteger::I32Bits16 | PackedInteger::I64Bits16 => 1,
+        PackedInteger::I64Bits32 => 2,
     }
 }

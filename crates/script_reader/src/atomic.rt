@@ -1,12 +1,57 @@
 //! Atomic operators on an address by their names.
 
-use crate::access::{BYTES_1, BYTES_2, BYTES_4, BYTES_8};
+use self::AtomicOnAddress::{Cmpxchg, Load, Notify, Rmw, Store, Wait};
+use crate::access::{integer_alignment, part_alignment};
 use validate_visit::AtomicAccess::{Packed, Whole};
-use validate_visit::AtomicOp::{
-    AtomicCmpxchg, AtomicLoad, AtomicNotify, AtomicRmw, AtomicStore, AtomicWait,
-};
 use validate_visit::AtomicRmwOp::{Add, And, Or, Sub, Xchg, Xor};
-use validate_visit::{AtomicAccess, AtomicOp, IntegerType, PackedInteger};
+use validate_visit::{AtomicAccess, AtomicOp, AtomicRmwOp, IntegerType, MemArg, PackedInteger};
+
+/// An atomic operator on an address, without what it accesses.
+#[derive(Clone, Copy)]
+pub enum AtomicOnAddress {
+    /// It notifies those that wait.
+    Notify,
+    /// It waits for an integer of this type.
+    Wait(IntegerType),
+    /// It loads.
+    Load(AtomicAccess),
+    /// It stores.
+    Store(AtomicAccess),
+    /// It modifies what it gives.
+    Rmw(AtomicAccess, AtomicRmwOp),
+    /// It compares, and exchanges.
+    Cmpxchg(AtomicAccess),
+}
+
+impl AtomicOnAddress {
+    /// The alignment that is natural for it, as an exponent of 2.
+    pub fn natural_alignment(self) -> u8 {
+        match self {
+            Notify => integer_alignment(IntegerType::I32),
+            Wait(ty) => integer_alignment(ty),
+            Load(part) | Store(part) | Rmw(part, _) | Cmpxchg(part) => access_alignment(part),
+        }
+    }
+
+    /// The operator that accesses this.
+    pub fn op(self, access: MemArg) -> AtomicOp {
+        match self {
+            Notify => AtomicOp::AtomicNotify(access),
+            Wait(ty) => AtomicOp::AtomicWait(ty, access),
+            Load(part) => AtomicOp::AtomicLoad(part, access),
+            Store(part) => AtomicOp::AtomicStore(part, access),
+            Rmw(part, rmw) => AtomicOp::AtomicRmw(part, rmw, access),
+            Cmpxchg(part) => AtomicOp::AtomicCmpxchg(part, access),
+        }
+    }
+}
+
+fn access_alignment(access: AtomicAccess) -> u8 {
+    match access {
+        Whole(ty) => integer_alignment(ty),
+        Packed(part) => part_alignment(part),
+    }
+}
 
 const I32: AtomicAccess = Whole(IntegerType::I32);
 
@@ -22,78 +67,72 @@ const I64_16: AtomicAccess = Packed(PackedInteger::I64Bits16);
 
 const I64_32: AtomicAccess = Packed(PackedInteger::I64Bits32);
 
-/// The atomic operators on an address, each with its natural alignment.
-pub const ATOMIC_ACCESSES: &[(&str, AtomicOp)] = &[
-    ("memory.atomic.notify", AtomicNotify(BYTES_4)),
-    (
-        "memory.atomic.wait32",
-        AtomicWait(IntegerType::I32, BYTES_4),
-    ),
-    (
-        "memory.atomic.wait64",
-        AtomicWait(IntegerType::I64, BYTES_8),
-    ),
-    ("i32.atomic.load", AtomicLoad(I32, BYTES_4)),
-    ("i64.atomic.load", AtomicLoad(I64, BYTES_8)),
-    ("i32.atomic.load8_u", AtomicLoad(I32_8, BYTES_1)),
-    ("i32.atomic.load16_u", AtomicLoad(I32_16, BYTES_2)),
-    ("i64.atomic.load8_u", AtomicLoad(I64_8, BYTES_1)),
-    ("i64.atomic.load16_u", AtomicLoad(I64_16, BYTES_2)),
-    ("i64.atomic.load32_u", AtomicLoad(I64_32, BYTES_4)),
-    ("i32.atomic.store", AtomicStore(I32, BYTES_4)),
-    ("i64.atomic.store", AtomicStore(I64, BYTES_8)),
-    ("i32.atomic.store8", AtomicStore(I32_8, BYTES_1)),
-    ("i32.atomic.store16", AtomicStore(I32_16, BYTES_2)),
-    ("i64.atomic.store8", AtomicStore(I64_8, BYTES_1)),
-    ("i64.atomic.store16", AtomicStore(I64_16, BYTES_2)),
-    ("i64.atomic.store32", AtomicStore(I64_32, BYTES_4)),
-    ("i32.atomic.rmw.add", AtomicRmw(I32, Add, BYTES_4)),
-    ("i64.atomic.rmw.add", AtomicRmw(I64, Add, BYTES_8)),
-    ("i32.atomic.rmw8.add_u", AtomicRmw(I32_8, Add, BYTES_1)),
-    ("i32.atomic.rmw16.add_u", AtomicRmw(I32_16, Add, BYTES_2)),
-    ("i64.atomic.rmw8.add_u", AtomicRmw(I64_8, Add, BYTES_1)),
-    ("i64.atomic.rmw16.add_u", AtomicRmw(I64_16, Add, BYTES_2)),
-    ("i64.atomic.rmw32.add_u", AtomicRmw(I64_32, Add, BYTES_4)),
-    ("i32.atomic.rmw.sub", AtomicRmw(I32, Sub, BYTES_4)),
-    ("i64.atomic.rmw.sub", AtomicRmw(I64, Sub, BYTES_8)),
-    ("i32.atomic.rmw8.sub_u", AtomicRmw(I32_8, Sub, BYTES_1)),
-    ("i32.atomic.rmw16.sub_u", AtomicRmw(I32_16, Sub, BYTES_2)),
-    ("i64.atomic.rmw8.sub_u", AtomicRmw(I64_8, Sub, BYTES_1)),
-    ("i64.atomic.rmw16.sub_u", AtomicRmw(I64_16, Sub, BYTES_2)),
-    ("i64.atomic.rmw32.sub_u", AtomicRmw(I64_32, Sub, BYTES_4)),
-    ("i32.atomic.rmw.and", AtomicRmw(I32, And, BYTES_4)),
-    ("i64.atomic.rmw.and", AtomicRmw(I64, And, BYTES_8)),
-    ("i32.atomic.rmw8.and_u", AtomicRmw(I32_8, And, BYTES_1)),
-    ("i32.atomic.rmw16.and_u", AtomicRmw(I32_16, And, BYTES_2)),
-    ("i64.atomic.rmw8.and_u", AtomicRmw(I64_8, And, BYTES_1)),
-    ("i64.atomic.rmw16.and_u", AtomicRmw(I64_16, And, BYTES_2)),
-    ("i64.atomic.rmw32.and_u", AtomicRmw(I64_32, And, BYTES_4)),
-    ("i32.atomic.rmw.or", AtomicRmw(I32, Or, BYTES_4)),
-    ("i64.atomic.rmw.or", AtomicRmw(I64, Or, BYTES_8)),
-    ("i32.atomic.rmw8.or_u", AtomicRmw(I32_8, Or, BYTES_1)),
-    ("i32.atomic.rmw16.or_u", AtomicRmw(I32_16, Or, BYTES_2)),
-    ("i64.atomic.rmw8.or_u", AtomicRmw(I64_8, Or, BYTES_1)),
-    ("i64.atomic.rmw16.or_u", AtomicRmw(I64_16, Or, BYTES_2)),
-    ("i64.atomic.rmw32.or_u", AtomicRmw(I64_32, Or, BYTES_4)),
-    ("i32.atomic.rmw.xor", AtomicRmw(I32, Xor, BYTES_4)),
-    ("i64.atomic.rmw.xor", AtomicRmw(I64, Xor, BYTES_8)),
-    ("i32.atomic.rmw8.xor_u", AtomicRmw(I32_8, Xor, BYTES_1)),
-    ("i32.atomic.rmw16.xor_u", AtomicRmw(I32_16, Xor, BYTES_2)),
-    ("i64.atomic.rmw8.xor_u", AtomicRmw(I64_8, Xor, BYTES_1)),
-    ("i64.atomic.rmw16.xor_u", AtomicRmw(I64_16, Xor, BYTES_2)),
-    ("i64.atomic.rmw32.xor_u", AtomicRmw(I64_32, Xor, BYTES_4)),
-    ("i32.atomic.rmw.xchg", AtomicRmw(I32, Xchg, BYTES_4)),
-    ("i64.atomic.rmw.xchg", AtomicRmw(I64, Xchg, BYTES_8)),
-    ("i32.atomic.rmw8.xchg_u", AtomicRmw(I32_8, Xchg, BYTES_1)),
-    ("i32.atomic.rmw16.xchg_u", AtomicRmw(I32_16, Xchg, BYTES_2)),
-    ("i64.atomic.rmw8.xchg_u", AtomicRmw(I64_8, Xchg, BYTES_1)),
-    ("i64.atomic.rmw16.xchg_u", AtomicRmw(I64_16, Xchg, BYTES_2)),
-    ("i64.atomic.rmw32.xchg_u", AtomicRmw(I64_32, Xchg, BYTES_4)),
-    ("i32.atomic.rmw.cmpxchg", AtomicCmpxchg(I32, BYTES_4)),
-    ("i64.atomic.rmw.cmpxchg", AtomicCmpxchg(I64, BYTES_8)),
-    ("i32.atomic.rmw8.cmpxchg_u", AtomicCmpxchg(I32_8, BYTES_1)),
-    ("i32.atomic.rmw16.cmpxchg_u", AtomicCmpxchg(I32_16, BYTES_2)),
-    ("i64.atomic.rmw8.cmpxchg_u", AtomicCmpxchg(I64_8, BYTES_1)),
-    ("i64.atomic.rmw16.cmpxchg_u", AtomicCmpxchg(I64_16, BYTES_2)),
-    ("i64.atomic.rmw32.cmpxchg_u", AtomicCmpxchg(I64_32, BYTES_4)),
+/// The atomic operators on an address.
+pub const ATOMIC_OPERATORS: &[(&str, AtomicOnAddress)] = &[
+    ("memory.atomic.notify", Notify),
+    ("memory.atomic.wait32", Wait(IntegerType::I32)),
+    ("memory.atomic.wait64", Wait(IntegerType::I64)),
+    ("i32.atomic.load", Load(I32)),
+    ("i64.atomic.load", Load(I64)),
+    ("i32.atomic.load8_u", Load(I32_8)),
+    ("i32.atomic.load16_u", Load(I32_16)),
+    ("i64.atomic.load8_u", Load(I64_8)),
+    ("i64.atomic.load16_u", Load(I64_16)),
+    ("i64.atomic.load32_u", Load(I64_32)),
+    ("i32.atomic.store", Store(I32)),
+    ("i64.atomic.store", Store(I64)),
+    ("i32.atomic.store8", Store(I32_8)),
+    ("i32.atomic.store16", Store(I32_16)),
+    ("i64.atomic.store8", Store(I64_8)),
+    ("i64.atomic.store16", Store(I64_16)),
+    ("i64.atomic.store32", Store(I64_32)),
+    ("i32.atomic.rmw.add", Rmw(I32, Add)),
+    ("i64.atomic.rmw.add", Rmw(I64, Add)),
+    ("i32.atomic.rmw8.add_u", Rmw(I32_8, Add)),
+    ("i32.atomic.rmw16.add_u", Rmw(I32_16, Add)),
+    ("i64.atomic.rmw8.add_u", Rmw(I64_8, Add)),
+    ("i64.atomic.rmw16.add_u", Rmw(I64_16, Add)),
+    ("i64.atomic.rmw32.add_u", Rmw(I64_32, Add)),
+    ("i32.atomic.rmw.sub", Rmw(I32, Sub)),
+    ("i64.atomic.rmw.sub", Rmw(I64, Sub)),
+    ("i32.atomic.rmw8.sub_u", Rmw(I32_8, Sub)),
+    ("i32.atomic.rmw16.sub_u", Rmw(I32_16, Sub)),
+    ("i64.atomic.rmw8.sub_u", Rmw(I64_8, Sub)),
+    ("i64.atomic.rmw16.sub_u", Rmw(I64_16, Sub)),
+    ("i64.atomic.rmw32.sub_u", Rmw(I64_32, Sub)),
+    ("i32.atomic.rmw.and", Rmw(I32, And)),
+    ("i64.atomic.rmw.and", Rmw(I64, And)),
+    ("i32.atomic.rmw8.and_u", Rmw(I32_8, And)),
+    ("i32.atomic.rmw16.and_u", Rmw(I32_16, And)),
+    ("i64.atomic.rmw8.and_u", Rmw(I64_8, And)),
+    ("i64.atomic.rmw16.and_u", Rmw(I64_16, And)),
+    ("i64.atomic.rmw32.and_u", Rmw(I64_32, And)),
+    ("i32.atomic.rmw.or", Rmw(I32, Or)),
+    ("i64.atomic.rmw.or", Rmw(I64, Or)),
+    ("i32.atomic.rmw8.or_u", Rmw(I32_8, Or)),
+    ("i32.atomic.rmw16.or_u", Rmw(I32_16, Or)),
+    ("i64.atomic.rmw8.or_u", Rmw(I64_8, Or)),
+    ("i64.atomic.rmw16.or_u", Rmw(I64_16, Or)),
+    ("i64.atomic.rmw32.or_u", Rmw(I64_32, Or)),
+    ("i32.atomic.rmw.xor", Rmw(I32, Xor)),
+    ("i64.atomic.rmw.xor", Rmw(I64, Xor)),
+    ("i32.atomic.rmw8.xor_u", Rmw(I32_8, Xor)),
+    ("i32.atomic.rmw16.xor_u", Rmw(I32_16, Xor)),
+    ("i64.atomic.rmw8.xor_u", Rmw(I64_8, Xor)),
+    ("i64.atomic.rmw16.xor_u", Rmw(I64_16, Xor)),
+    ("i64.atomic.rmw32.xor_u", Rmw(I64_32, Xor)),
+    ("i32.atomic.rmw.xchg", Rmw(I32, Xchg)),
+    ("i64.atomic.rmw.xchg", Rmw(I64, Xchg)),
+    ("i32.atomic.rmw8.xchg_u", Rmw(I32_8, Xchg)),
+    ("i32.atomic.rmw16.xchg_u", Rmw(I32_16, Xchg)),
+    ("i64.atomic.rmw8.xchg_u", Rmw(I64_8, Xchg)),
+    ("i64.atomic.rmw16.xchg_u", Rmw(I64_16, Xchg)),
+    ("i64.atomic.rmw32.xchg_u", Rmw(I64_32, Xchg)),
+    ("i32.atomic.rmw.cmpxchg", Cmpxchg(I32)),
+    ("i64.atomic.rmw.cmpxchg", Cmpxchg(I64)),
+    ("i32.atomic.rmw8.cmpxchg_u", Cmpxchg(I32_8)),
+    ("i32.atomic.rmw16.cmpxchg_u", Cmpxchg(I32_16)),
+    ("i64.atomic.rmw8.cmpxchg_u", Cmpxchg(I64_8)),
+    ("i64.atomic.rmw16.cmpxchg_u", Cmpxchg(I64_16)),
+    ("i64.atomic.rmw32.cmpxchg_u", Cmpxchg(I64_32)),
 ];

@@ -2,23 +2,22 @@
 //! their names.
 #![tactic(auto)]
 
-pub mod access;
-pub mod atomic;
-pub mod composites;
-pub mod conversions;
-pub mod features;
-pub mod forms;
-pub mod lines;
-pub mod lists;
-pub mod memory;
-pub mod numeric;
-pub mod operators;
-pub mod script;
-pub mod shared;
+mod access;
+mod atomic;
+mod conversions;
+mod features;
+mod lines;
+mod memory;
+mod numeric;
+mod operator_lists;
+mod operators;
+mod plain;
+mod script;
+mod shared;
 
-pub use crate::lists::read_lists;
+pub use crate::operator_lists::read_lists;
+pub use crate::operators::read_operator;
 pub use crate::script::read_script;
 pub use script_parts::{
-    Body, BodyLine, Declarations, LineError, LocalLine, OperatorList, Operators, Script,
-    ScriptError, WrittenOp,
+    Body, BodyLine, LineError, LocalLine, OperatorList, Operators, Script, ScriptError, WrittenOp,
 };

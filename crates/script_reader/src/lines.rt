@@ -2,48 +2,43 @@
 
 use crate::features::read_feature;
 use crate::operators::read_operator;
-use script_parts::functions::read_function;
-use script_parts::globals::read_global_type;
-use script_parts::memory::read_memory_type;
-use script_parts::numbers::read_index;
-use script_parts::references::read_reference;
-use script_parts::tables::read_table_type;
-use script_parts::types::read_type;
-use script_parts::values::read_value_type;
-use script_parts::{Body, Line, LineError, OperatorList, WrittenOp};
+use script_parts::{
+    Body, Line, LineError, OperatorList, WrittenOp, read_function, read_global_type, read_index,
+    read_memory_type, read_reference, read_table_type, read_type, read_value_type,
+};
 use std::alloc::Global;
 use std::slice;
 
-/// Reads the words of a line, of which there is one at least. An operator with a list takes the next of
-/// these.
-pub fn read_line<'a>(
-    alloc: Global,
-    lists: &mut slice::Iter<'a, OperatorList>,
-    words: &[&str],
-) -> Result<Line<'a>, LineError> {
+/// Reads the words of a line of the module, of which there is one at least: a `func` or `expr` line is the
+/// last of these.
+pub fn read_module_line(alloc: Global, words: &[&str]) -> Result<Line<'static>, LineError> {
     match words.split_first() {
         Some((&"type", rest)) => Ok(Line::SubType(read_type(alloc, rest)?)),
-        Some((&"try", rest)) => {
-            let op = read_operator(lists, rest).ok_or(LineError::Bad)?;
-            let written = WrittenOp::attempted(op).ok_or(LineError::Bad)?;
-            Ok(Line::Operator(written))
-        }
-        _ => match read_flat_line(words) {
-            Some(line) => Ok(line),
-            None => {
-                let op = read_operator(lists, words).ok_or(LineError::Bad)?;
-                Ok(Line::Operator(WrittenOp::plain(op)))
-            }
-        },
+        _ => read_flat_line(words).ok_or(LineError::Bad),
     }
 }
 
-/// Reads the words of a line that takes no memory and is no operator.
+/// Reads the words of a line of the body, of which there is one at least. An operator with a list takes the
+/// next of these.
+pub fn read_body_line<'a>(
+    lists: &mut slice::Iter<'a, OperatorList>,
+    words: &[&str],
+) -> Option<Line<'a>> {
+    match words.split_first()? {
+        (&"local", rest) => read_locals(rest),
+        (&"try", rest) => {
+            let op = read_operator(lists, rest)?;
+            Some(Line::Operator(WrittenOp::attempted(op)?))
+        }
+        _ => Some(Line::Operator(WrittenOp::plain(read_operator(lists, words)?))),
+    }
+}
+
+/// Reads the words of a line of the module that takes no memory.
 fn read_flat_line(words: &[&str]) -> Option<Line<'static>> {
     let (keyword, rest) = words.split_first()?;
     match *keyword {
         "memory" => Some(Line::Memory(read_memory_type(rest)?)),
-        "local" => read_locals(rest),
         "show" if rest.is_empty() => Some(Line::Show),
         "fn" | "table" | "global" => read_marked(keyword, rest),
         _ => read_single(keyword, rest),

@@ -1,35 +1,68 @@
 //! Loads and stores by their names.
 
-use crate::access::{BYTES_1, BYTES_2, BYTES_4, BYTES_8};
-use validate_visit::MemoryOp;
-use validate_visit::MemoryOp::{Load, LoadPacked, Store, StorePacked};
+use self::LoadOrStore::{Load, LoadPacked, Store, StorePacked};
+use crate::access::{number_alignment, part_alignment};
 use validate_visit::NumberType::{F32, F64, I32, I64};
 use validate_visit::PackedInteger::{I32Bits8, I32Bits16, I64Bits8, I64Bits16, I64Bits32};
 use validate_visit::Sign::{Signed, Unsigned};
+use validate_visit::{MemArg, MemoryOp, NumberType, PackedInteger, Sign};
 
-/// The loads and the stores, each with its natural alignment.
-pub const LOADS_AND_STORES: &[(&str, MemoryOp)] = &[
-    ("i32.load", Load(I32, BYTES_4)),
-    ("i64.load", Load(I64, BYTES_8)),
-    ("f32.load", Load(F32, BYTES_4)),
-    ("f64.load", Load(F64, BYTES_8)),
-    ("i32.load8_s", LoadPacked(I32Bits8, Signed, BYTES_1)),
-    ("i32.load8_u", LoadPacked(I32Bits8, Unsigned, BYTES_1)),
-    ("i32.load16_s", LoadPacked(I32Bits16, Signed, BYTES_2)),
-    ("i32.load16_u", LoadPacked(I32Bits16, Unsigned, BYTES_2)),
-    ("i64.load8_s", LoadPacked(I64Bits8, Signed, BYTES_1)),
-    ("i64.load8_u", LoadPacked(I64Bits8, Unsigned, BYTES_1)),
-    ("i64.load16_s", LoadPacked(I64Bits16, Signed, BYTES_2)),
-    ("i64.load16_u", LoadPacked(I64Bits16, Unsigned, BYTES_2)),
-    ("i64.load32_s", LoadPacked(I64Bits32, Signed, BYTES_4)),
-    ("i64.load32_u", LoadPacked(I64Bits32, Unsigned, BYTES_4)),
-    ("i32.store", Store(I32, BYTES_4)),
-    ("i64.store", Store(I64, BYTES_8)),
-    ("f32.store", Store(F32, BYTES_4)),
-    ("f64.store", Store(F64, BYTES_8)),
-    ("i32.store8", StorePacked(I32Bits8, BYTES_1)),
-    ("i32.store16", StorePacked(I32Bits16, BYTES_2)),
-    ("i64.store8", StorePacked(I64Bits8, BYTES_1)),
-    ("i64.store16", StorePacked(I64Bits16, BYTES_2)),
-    ("i64.store32", StorePacked(I64Bits32, BYTES_4)),
+/// A load or a store, without what it accesses.
+#[derive(Clone, Copy)]
+pub enum LoadOrStore {
+    /// A load of a number.
+    Load(NumberType),
+    /// A load of a part of an integer.
+    LoadPacked(PackedInteger, Sign),
+    /// A store of a number.
+    Store(NumberType),
+    /// A store of a part of an integer.
+    StorePacked(PackedInteger),
+}
+
+impl LoadOrStore {
+    /// The alignment that is natural for it, as an exponent of 2.
+    pub fn natural_alignment(self) -> u8 {
+        match self {
+            Load(ty) | Store(ty) => number_alignment(ty),
+            LoadPacked(part, _) | StorePacked(part) => part_alignment(part),
+        }
+    }
+
+    /// The operator that accesses this.
+    pub fn op(self, access: MemArg) -> MemoryOp {
+        match self {
+            Load(ty) => MemoryOp::Load(ty, access),
+            LoadPacked(part, sign) => MemoryOp::LoadPacked(part, sign, access),
+            Store(ty) => MemoryOp::Store(ty, access),
+            StorePacked(part) => MemoryOp::StorePacked(part, access),
+        }
+    }
+}
+
+/// The loads and the stores.
+pub const LOADS_AND_STORES: &[(&str, LoadOrStore)] = &[
+    ("i32.load", Load(I32)),
+    ("i64.load", Load(I64)),
+    ("f32.load", Load(F32)),
+    ("f64.load", Load(F64)),
+    ("i32.load8_s", LoadPacked(I32Bits8, Signed)),
+    ("i32.load8_u", LoadPacked(I32Bits8, Unsigned)),
+    ("i32.load16_s", LoadPacked(I32Bits16, Signed)),
+    ("i32.load16_u", LoadPacked(I32Bits16, Unsigned)),
+    ("i64.load8_s", LoadPacked(I64Bits8, Signed)),
+    ("i64.load8_u", LoadPacked(I64Bits8, Unsigned)),
+    ("i64.load16_s", LoadPacked(I64Bits16, Signed)),
+    ("i64.load16_u", LoadPacked(I64Bits16, Unsigned)),
+    ("i64.load32_s", LoadPacked(I64Bits32, Signed)),
+    ("i64.load32_u", LoadPacked(I64Bits32, Unsigned)),
+    ("i32.store", Store(I32)),
+    ("i64.store", Store(I64)),
+    ("f32.store", Store(F32)),
+    ("f64.store", Store(F64)),
+    ("i32.store8", StorePacked(I32Bits8)),
+    ("i32.store16", StorePacked(I32Bits16)),
+    ("i64.store8", StorePacked(I64Bits8)),
+    ("i64.store16", StorePacked(I64Bits16)),
+    ("i64.store32", StorePacked(I64Bits32)),
 ];

@@ -1,6 +1,6 @@
 //! Operators on numbers by their names: a type, a dot, and a word.
 
-use script_parts::names::named_in;
+use script_parts::named_in;
 use validate_visit::{
     FloatBinaryOp, FloatComparisonOp, FloatType, FloatUnaryOp, IntegerBinaryOp,
     IntegerComparisonOp, IntegerType, IntegerUnaryOp, NumericOp, Sign,

@@ -1,8 +1,7 @@
 //! Reading a whole script.
 
-use crate::lines::read_line;
-use script_parts::words::read_words;
-use script_parts::{Draft, LineError, OperatorList, Script, ScriptError};
+use crate::lines::{read_body_line, read_module_line};
+use script_parts::{Draft, LineError, OperatorList, Script, ScriptError, read_words};
 use std::alloc::Global;
 use std::slice;
 
@@ -40,5 +39,8 @@ fn add_words<'a>(
     if words.is_empty() {
         return Ok(());
     }
-    draft.add(read_line(alloc, lists, words)?, number)
+    if draft.body.is_some() {
+        return draft.add(read_body_line(lists, words).ok_or(LineError::Bad)?, number);
+    }
+    draft.add(read_module_line(alloc, words)?, number)
 }

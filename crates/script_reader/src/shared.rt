@@ -1,12 +1,12 @@
 //! Atomic operators on globals, tables, structs and arrays by their names.
 
-use script_parts::names::named_in;
+use script_parts::{SharedAccess, named_in};
 use validate_visit::FieldAccess::{GetPacked, Whole};
 use validate_visit::GlobalAccess::{Rmw, Value};
 use validate_visit::SharedRmwOp::{Add, And, Or, Sub, Xor};
 use validate_visit::Sign::{Signed, Unsigned};
 use validate_visit::TableAccess::{Cmpxchg, Get, Set, Xchg};
-use validate_visit::{FieldAccess, FieldIndex, GlobalAccess, Ordering, SharedOp, TableAccess};
+use validate_visit::{FieldAccess, GlobalAccess, TableAccess};
 
 /// The accesses to globals.
 const GLOBAL_ACCESSES: &[(&str, GlobalAccess)] = &[
@@ -59,38 +59,17 @@ const ARRAY_ACCESSES: &[(&str, FieldAccess)] = &[
     ("array.atomic.rmw.cmpxchg", Whole(Value(Cmpxchg))),
 ];
 
-/// The atomic operator of this name, sequentially consistent, on the first place, if there is one.
-pub fn shared_operator(name: &str) -> Option<SharedOp> {
-    let ordering = Ordering::SeqCst;
+/// What the atomic operator of this name does, and to what, if there is one.
+pub fn shared_access(name: &str) -> Option<SharedAccess> {
     if let Some(access) = named_in(GLOBAL_ACCESSES, name) {
-        return Some(SharedOp::Global {
-            access,
-            ordering,
-            global_index: 0,
-        });
+        return Some(SharedAccess::Global(access));
     }
     if let Some(access) = named_in(TABLE_ACCESSES, name) {
-        return Some(SharedOp::Table {
-            access,
-            ordering,
-            table_index: 0,
-        });
+        return Some(SharedAccess::Table(access));
     }
     if let Some(access) = named_in(STRUCT_ACCESSES, name) {
-        let field = FieldIndex {
-            struct_type_index: 0,
-            field_index: 0,
-        };
-        return Some(SharedOp::Struct {
-            access,
-            ordering,
-            field,
-        });
+        return Some(SharedAccess::Struct(access));
     }
     let access = named_in(ARRAY_ACCESSES, name)?;
-    Some(SharedOp::Array {
-        access,
-        ordering,
-        type_index: 0,
-    })
+    Some(SharedAccess::Array(access))
 }

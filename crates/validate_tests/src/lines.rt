@@ -13,10 +13,8 @@ ghost use Rattle.wasmparser_validate.specs.Start.{state, stacks_of};
 
 use crate::expect::{Lack, expect, expect_text};
 use crate::seen::{said, seen};
-use script_parts::OperatorList;
-use script_parts::words::read_words;
-use script_reader::operators::read_operator;
-use script_reader::read_lists;
+use script_parts::{OperatorList, read_words};
+use script_reader::{read_lists, read_operator};
 use std::process::Abort;
 use wasmparser_validate::operators::{OperatorValidator, try_and_undo, try_op};
 use wasmparser_validate::resources::WasmModuleResources;

@@ -1,7 +1,7 @@
 use Rattle.std.proofs.Common.{inl}
 use Rattle.wasmparser_validate.specs.Start.{state}
 use Rattle.opcheck_script.proofs.Reports.{of_module}
-use Rattle.opcheck_script.proofs.check.check_operators.Goals as goal
+use Rattle.opcheck_script.proofs.script.check_script.Goals as goal
 
 pub returns-in-Ok-clause-report : goal.returns-in-Ok-clause-report
 returns-in-Ok-clause-report c =

@@ -2,7 +2,7 @@ use Rattle.std.proofs.Common.{arith, rules, ◌≡◌, false}
 use Rattle.wasmparser_validate.specs.Start.{state}
 use Rattle.opcheck_script.specs.Begin.{CannotBegin}
 use Rattle.opcheck_script.proofs.Locals.{one_local_more, bad_line}
-use Rattle.opcheck_script.proofs.check.begin_body.Goals as goal
+use Rattle.opcheck_script.proofs.script.begin_body.Goals as goal
 
 pub loop-local-preserved : goal.loop-local-preserved
 loop-local-preserved g c =

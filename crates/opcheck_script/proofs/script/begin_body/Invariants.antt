@@ -2,7 +2,7 @@ use Rattle.std.proofs.Common.{take}
 use Rattle.wasmparser_validate.specs.State.{IsStarting}
 use Rattle.wasmparser_validate.specs.Start.{state}
 use Rattle.opcheck_script.specs.Begin.{HasLocals}
-use Rattle.opcheck_script.proofs.check.begin_body.Given as goal
+use Rattle.opcheck_script.proofs.script.begin_body.Given as goal
 
 -- The validator is in a starting state for the lookup, with the locals of the lines so far.
 abbrev pub invariant-loop-local : goal.invariant-loop-local

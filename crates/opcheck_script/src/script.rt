@@ -5,9 +5,9 @@ ghost use Rattle.std.specs.List.{list_all};
 ghost use Rattle.wasmparser_validate.specs.Immediates.{is_module_op};
 ghost use Rattle.wasmparser_validate.specs.Kept.{declared_lists};
 ghost use Rattle.wasmparser_validate.specs.Lists.{context_of, module_of};
+ghost use Rattle.wasmparser_validate.specs.Named.{declared_in};
 ghost use Rattle.wasmparser_validate.specs.State.{IsStarting};
 ghost use Rattle.wasmparser_validate.specs.Start.{state};
-ghost use Rattle.opcheck_script.specs.Module.{declared_in};
 ghost use Rattle.opcheck_script.specs.Begin.{IsExpressionStart, IsBodyStart, CannotStart, HasLocals, CannotBegin};
 ghost use Rattle.opcheck_script.specs.Reports.{IsReport, script_body, may_be_body};
 ghost use Rattle.script_parts.specs.Written.{may_all_be_attempted};
@@ -17,11 +17,11 @@ ghost use Rattle.opcheck_script.specs.declared.failure.Failure.{Failure};
 use crate::body::run_operators;
 use crate::failure::{BadScript, Failure};
 use crate::report::{Answers, Report};
-use script_reader::{Body, BodyLine, Declarations, LocalLine, Operators, Script};
+use script_reader::{Body, BodyLine, LocalLine, Operators, Script};
 use std::alloc::Global;
 use wasmparser_validate::operators::{OperatorValidator, OperatorValidatorAllocations};
 use wasmparser_validate::resources::uses::laws;
-use wasmparser_validate::resources::{ModuleLists, WasmModuleResources};
+use wasmparser_validate::resources::{ModuleDeclarations, ModuleLists, WasmModuleResources};
 use wasmparser_validate::types::{Error, ValType, WasmFeatures};
 use wasmparser_validate::visit::{Op, have_module_immediates, is_well_ordered};
 
@@ -46,53 +46,12 @@ pub fn check_script(alloc: Global, script: Script<'_>) -> Result<Report, Failure
         operators,
     } = script;
     let Operators { ops, attempts } = operators;
-    check_operators(
-        alloc,
-        features,
-        declarations,
-        body,
-        &locals,
-        &ops,
-        &attempts,
-        shows,
-    )
-}
-
-/// Checks the operators of a body, some of them attempted, in the module of these declarations, with these
-/// proposals on. It notes the types of the operands where the script shows them.
-fn check_operators(
-    alloc: Global,
-    features: WasmFeatures,
-    declarations: Declarations,
-    line: BodyLine,
-    locals: &[LocalLine],
-    ops: &[(Op<'_>, u64)],
-    attempts: &[bool],
-    shows: bool,
-) -> Result<Report, Failure>
-    requires each { length attempts.now ≡ length ops.now }
-    requires allowed { may_all_be_attempted ops.now attempts.now ≡ true }
-    ensures ordered { OnOk result (may_be_body ops.now ≡ true) }
-    ensures module { OnOk result (IsSome (module_of (declared_in declarations))) }
-    ensures report { IfOk result (λ report. IfSome (module_of (declared_in declarations))
-        (λ lists. IsReport (context_of lists) (record {
-          features = features;
-          shows = shows;
-          line = line;
-          locals = locals.now;
-          operators = record { ops = ops.now; attempts = attempts.now };
-        }) report)) }
-    ensures cause { IfErr result (λ failure. (failure ≡ Failure.OutOfMemory)
-        ⊎ ((failure ≡ Failure.BadScript BadScript.Order) × (may_be_body ops.now ≡ false))
-        ⊎ ((failure ≡ Failure.BadScript BadScript.Module)
-        × (module_of (declared_in declarations) ≡ None))) }
-{
-    if !may_be_body(ops) {
+    if !may_be_body(&ops) {
         return Err(Failure::BadScript(BadScript::Order));
     }
     let module = module_lists(alloc, declarations)?;
-    match begin_body(alloc, &module, &features, line, locals) {
-        Ok(validator) => Ok(run_operators(alloc, validator, ops, attempts, shows, &module)),
+    match begin_body(alloc, &module, &features, body, &locals) {
+        Ok(validator) => Ok(run_operators(alloc, validator, &ops, &attempts, shows, &module)),
         Err(refusal) => Ok(Report {
             answers: Answers::Heights(Vec::new(alloc)),
             outcome: Err(refusal),
@@ -109,26 +68,13 @@ fn may_be_body(operators: &[(Op<'_>, u64)]) -> bool
 }
 
 /// The module of these declarations, in its canonical form.
-pub fn module_lists(alloc: Global, declarations: Declarations) -> Result<ModuleLists, Failure>
+pub fn module_lists(alloc: Global, declarations: ModuleDeclarations) -> Result<ModuleLists, Failure>
     ensures kept { IfOk result (λ lists. module_of (declared_in declarations) ≡ Some (declared_lists lists)) }
     ensures cause { IfErr result (λ failure. (failure ≡ Failure.OutOfMemory)
         ⊎ ((failure ≡ Failure.BadScript BadScript.Module)
         × (module_of (declared_in declarations) ≡ None))) }
 {
-    let Declarations {
-        types,
-        functions,
-        tables,
-        memories,
-        globals,
-        tags,
-        elements,
-        data_count,
-    } = declarations;
-    ModuleLists::new(
-        alloc, types, functions, tables, memories, globals, tags, elements, data_count,
-    )
-    .map_err(|error| {
+    ModuleLists::from_declarations(alloc, declarations).map_err(|error| {
         if error.is_out_of_memory() {
             Failure::OutOfMemory
         } else {

@@ -1,8 +1,6 @@
 //! Reading the lists of a script's operators, before the operators.
 
-use script_parts::listed::{has_list, read_list};
-use script_parts::words::read_words;
-use script_parts::{LineError, OperatorList};
+use script_parts::{LineError, OperatorList, has_list, read_list, read_words};
 use std::alloc::{AllocError, Global};
 
 /// Reads the lists of the operators of a script, in their order, up to the first whose words are no list:

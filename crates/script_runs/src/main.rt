@@ -46,15 +46,15 @@ fn read(rt: &HostRuntime, name: &str, ending: &str) -> Option<String> {
 }
 
 /// What the scripts of a file of cases came to.
-fn report_of_cases(rt: &HostRuntime, name: &str) -> Option<Report> {
+fn report_of_cases(rt: &HostRuntime, name: &str, once: bool) -> Option<Report> {
     let text = read(rt, name, "cases")?;
-    let mut report = Report::new(rt.alloc());
+    let mut report = Report::new(rt.alloc(), once);
     run_cases(rt.alloc(), &mut report, &text).ok()?;
     Some(report)
 }
 
 /// What a script that is a file came to. The words say with which descriptors it runs.
-fn report_of_script(rt: &HostRuntime, name: &str, words: &str) -> Option<Report> {
+fn report_of_script(rt: &HostRuntime, name: &str, words: &str, once: bool) -> Option<Report> {
     let descriptors = descriptors_of(words)?;
     let script = read(rt, name, "script")?;
     let expected = read(rt, name, "expected")?;
@@ -63,24 +63,24 @@ fn report_of_script(rt: &HostRuntime, name: &str, words: &str) -> Option<Report>
         err: "",
         status: 0,
     };
-    let mut report = Report::new(rt.alloc());
+    let mut report = Report::new(rt.alloc(), once);
     run_script(rt.alloc(), &mut report, &script, wanted, descriptors).ok()?;
     Some(report)
 }
 
 /// What the scripts of a file came to, which a line of the input names.
-fn report_of(rt: &HostRuntime, line: &str) -> Option<Report> {
+fn report_of(rt: &HostRuntime, line: &str, once: bool) -> Option<Report> {
     let (name, rest) = line.split_once('.')?;
     match rest.split_once(' ').unwrap_or((rest, "")) {
-        ("cases", "") => report_of_cases(rt, name),
-        ("script", words) => report_of_script(rt, name, words),
+        ("cases", "") => report_of_cases(rt, name, once),
+        ("script", words) => report_of_script(rt, name, words, once),
         _ => None,
     }
 }
 
 /// What the scripts came to that stand in no file.
-fn report_of_others(rt: &HostRuntime) -> Option<Report> {
-    let mut report = Report::new(rt.alloc());
+fn report_of_others(rt: &HostRuntime, once: bool) -> Option<Report> {
+    let mut report = Report::new(rt.alloc(), once);
     run_odd(rt.alloc(), &mut report).ok()?;
     run_many_elements(rt.alloc(), &mut report).ok()?;
     run_broken(rt.alloc(), &mut report).ok()?;
@@ -106,14 +106,19 @@ fn print_report(rt: &HostRuntime, name: &str, report: Option<Report>) -> io::Res
     Ok(false)
 }
 
-/// Runs all of them, and says whether all was as expected.
-fn run_files(rt: &HostRuntime, names: &str) -> io::Result<bool> {
+/// Runs all of them, and says whether all was as expected. Behind a first line `once`, each script runs as one
+/// list alone.
+fn run_files(rt: &HostRuntime, lines: &str) -> io::Result<bool> {
+    let (names, once) = match lines.strip_prefix("once\n") {
+        Some(names) => (names, true),
+        None => (lines, false),
+    };
     let mut is_well = true;
     for line in names.lines() {
         let (name, _) = line.split_once('.').unwrap_or((line, ""));
-        is_well &= print_report(rt, name, report_of(rt, line))?;
+        is_well &= print_report(rt, name, report_of(rt, line, once))?;
     }
-    is_well &= print_report(rt, "in no file", report_of_others(rt))?;
+    is_well &= print_report(rt, "in no file", report_of_others(rt, once))?;
     Ok(is_well)
 }
 

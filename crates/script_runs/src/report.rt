@@ -8,15 +8,18 @@ use std::{fmt, str};
 pub struct Report {
     /// How many there were.
     pub scripts: u64,
+    /// Whether each ran as one list alone.
+    pub once: bool,
     /// What is told of those that came to something else than expected.
     pub told: String,
 }
 
 impl Report {
     /// Of no script yet.
-    pub fn new(alloc: Global) -> Report {
+    pub fn new(alloc: Global, once: bool) -> Report {
         Report {
             scripts: 0,
+            once,
             told: String::new(alloc),
         }
     }

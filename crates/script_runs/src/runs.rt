@@ -72,6 +72,9 @@ fn compare_runs(
     wanted: Outcome<'_>,
 ) -> Result<(), fmt::Error> {
     compare_run(alloc, report, script.as_bytes(), wanted)?;
+    if report.once {
+        return Ok(());
+    }
     compare_attempted(alloc, report, script, wanted)?;
     run_body(alloc, report, script, Lookup::Own, Task::Attempts)?;
     compare_paired(alloc, report, script, wanted)?;

@@ -8,16 +8,13 @@ use crate::report::Report;
 use crate::runs::Outcome;
 use opcheck_script::{begin_body, run};
 use script_reader::{BodyLine, LocalLine};
-use std::alloc::Global;
+use std::alloc::{AllocError, Global};
 use std::{fmt, str};
 use validate_body::OperatorValidator;
 use validate_func::operands_before;
 use validate_resources::WasmModuleResources;
 use validate_types::{ValType, WasmFeatures};
 use validate_visit::{Op, have_module_immediates, is_well_ordered};
-
-/// The most operators that a script has whose types are compared: each place is come to from the start.
-const MOST_OPERATORS: usize = 1_000;
 
 /// The line that a script prints at the operator before this place.
 #[derive(Clone, Copy)]
@@ -77,8 +74,25 @@ fn compare_place<R: WasmModuleResources>(
     }
 }
 
-/// Compares what is printed at each operator of a script with the types of the operands behind it.
-pub fn compare_places<R: WasmModuleResources>(
+/// The operators of a script whose printed lines say that they are accepted: without a refused attempt the types
+/// are the same.
+fn accepted<'a>(
+    alloc: Global,
+    ops: &[(Op<'a>, u64)],
+    printed: &str,
+) -> Result<Vec<(Op<'a>, u64)>, AllocError> {
+    let mut accepted = Vec::new(alloc);
+    for (pair, line) in ops.iter().zip(printed.lines()) {
+        if line.starts_with("ok ") {
+            accepted.push(*pair)?;
+        }
+    }
+    Ok(accepted)
+}
+
+/// Compares what is printed at each of these accepted operators of a script with the types of the operands
+/// behind it.
+fn compare_each<R: WasmModuleResources>(
     alloc: Global,
     report: &mut Report,
     resources: &R,
@@ -87,9 +101,6 @@ pub fn compare_places<R: WasmModuleResources>(
     ops: &[(Op<'_>, u64)],
     (script, printed): (&str, &str),
 ) -> Result<(), fmt::Error> {
-    if ops.len() > MOST_OPERATORS {
-        return Ok(());
-    }
     let mut place: usize = 0;
     for line in printed.lines().filter(|line| line.starts_with("ok ")) {
         place = place.saturating_add(1);
@@ -106,15 +117,30 @@ pub fn compare_places<R: WasmModuleResources>(
     report.compare_number(script, "shows places:", place, ops.len())
 }
 
+/// Compares what is printed at each accepted operator of a script with the types of the operands behind it.
+pub fn compare_places<R: WasmModuleResources>(
+    alloc: Global,
+    report: &mut Report,
+    resources: &R,
+    features: &WasmFeatures,
+    begin: (BodyLine, &[LocalLine]),
+    ops: &[(Op<'_>, u64)],
+    (script, printed): (&str, &str),
+) -> Result<(), fmt::Error> {
+    let ops = accepted(alloc, ops, printed)?;
+    let texts = (script, printed);
+    compare_each(alloc, report, resources, features, begin, &ops, texts)
+}
+
 /// Compares the types of operands that a script shows with those that `operands_before` answers, where it is
-/// accepted and no attempt in it is refused.
+/// accepted.
 pub fn compare_shown(
     alloc: Global,
     report: &mut Report,
     script: &str,
     wanted: Outcome<'_>,
 ) -> Result<(), fmt::Error> {
-    if wanted.status != 0 || wanted.out.lines().any(|line| line.starts_with("refused ")) {
+    if wanted.status != 0 {
         return Ok(());
     }
     let script = if script.lines().any(|line| line.trim() == "show") {

@@ -1,0 +1,118 @@
+//! Recursion groups: types of equal groups are equal (WebAssembly core specification, "Defined Types").
+//!
+//! The lookup over lists gives each declared type an id of its own. So equal types are given one index
+//! here, that of the first of them: whatever names a type is read through a list that says which stands for
+//! it. Each group is read twice: first rolled up, to be compared, and then as it is declared.
+
+use crate::equal::standing_group;
+use crate::subtypes::read_sub_type;
+use crate::words::words_of;
+use binary_numbers::{BinaryReader, Fault, ReadError};
+use binary_operators::{CanonicalTypes, GroupNames};
+use std::alloc::Global;
+use std::collections::BTreeMap;
+use validate_types::SubType;
+
+/// A group of types that was read.
+#[derive(Clone, Copy, Debug, PartialEq, Eq)]
+pub struct Group {
+    /// The index of its first type.
+    pub first: u32,
+    /// How many it has.
+    pub count: u32,
+}
+
+/// The groups that were read.
+#[derive(Drop)]
+pub struct Groups {
+    /// The types of all of them, rolled up.
+    rolled: Vec<SubType>,
+    /// Those that differ, each by its words.
+    known: BTreeMap<Vec<u32>, Group>,
+}
+
+impl Groups {
+    /// No groups. It takes no memory.
+    pub fn new(alloc: Global) -> Groups {
+        Groups {
+            rolled: Vec::new(alloc),
+            known: BTreeMap::new(alloc),
+        }
+    }
+
+    /// Which group stands for the one that was read last, which begins at this index and at this offset: an
+    /// earlier, equal one, or itself. It refuses a type that isn't there, `unknown type: type index out of
+    /// bounds`, and want of memory.
+    fn find(&mut self, alloc: Global, group: Group, offset: u64) -> Result<Group, ReadError> {
+        let first = group.first as usize;
+        if first > self.rolled.len() {
+            return Err(ReadError::malformed(Fault::TypeIndexTooLarge, offset));
+        }
+        let words = words_of(alloc, &self.rolled[first..])?;
+        if words.is_unknown {
+            return Err(ReadError::malformed(Fault::UnknownType, offset));
+        }
+        let candidate = self.known.get(&words.words).copied();
+        if let Some(equal) = standing_group(candidate, &self.rolled, first) {
+            return Ok(equal);
+        }
+        let _none = self.known.insert(words.words, group)?;
+        Ok(group)
+    }
+}
+
+/// Reads how many types a group has.
+fn read_count(reader: &mut BinaryReader<'_>) -> Result<u32, ReadError> {
+    if reader.peek()? != 0x4e {
+        return Ok(1);
+    }
+    let _code = reader.read_u8()?;
+    reader.read_var_u32()
+}
+
+/// Reads so many types, behind those that are there.
+fn read_sub_types(
+    alloc: Global,
+    reader: &mut BinaryReader<'_>,
+    canonical: CanonicalTypes<'_>,
+    count: u32,
+    types: &mut Vec<SubType>,
+) -> Result<(), ReadError> {
+    for _ in 0..count {
+        let ty = read_sub_type(alloc, reader, canonical)?;
+        types.push(ty)?;
+    }
+    Ok(())
+}
+
+/// Says of so many types, behind those of the list, that those from this index on stand for them.
+fn push_canonical(canonical: &mut Vec<u32>, first: u32, count: u32) -> Result<(), ReadError> {
+    for place in 0..count {
+        canonical.push(first.saturating_add(place))?;
+    }
+    Ok(())
+}
+
+/// Reads a group of types behind those that are there, and which types stand for them. It answers whether
+/// earlier ones do. It refuses what the read of a type refuses, and what the search of an equal group does.
+pub fn read_group(
+    alloc: Global,
+    reader: &mut BinaryReader<'_>,
+    types: &mut Vec<SubType>,
+    canonical: &mut Vec<u32>,
+    groups: &mut Groups,
+) -> Result<bool, ReadError> {
+    let offset = reader.offset();
+    let Ok(first) = u32::try_from(canonical.len()) else {
+        return Err(ReadError::malformed(Fault::TypeIndexTooLarge, offset));
+    };
+    let count = read_count(reader)?;
+    let mut again = reader.again();
+    let places = CanonicalTypes::in_group(canonical, GroupNames::Places);
+    read_sub_types(alloc, reader, places, count, &mut groups.rolled)?;
+    let stands = groups.find(alloc, Group { first, count }, offset)?;
+    let indices = CanonicalTypes::in_group(canonical, GroupNames::Indices(stands.first));
+    read_sub_types(alloc, &mut again, indices, count, types)?;
+    push_canonical(canonical, stands.first, count)?;
+    Ok(stands.first != first)
+}

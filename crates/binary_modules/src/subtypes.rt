@@ -1,0 +1,190 @@
+//! The types that a module declares (WebAssembly core specification, "Binary Format: Types", "Recursive Types";
+//! descriptors are of a proposal, "Custom Descriptors").
+
+use binary_numbers::{BinaryReader, Fault, ReadError};
+use binary_operators::{CanonicalTypes, read_type_number, read_value_type, read_value_types};
+use std::alloc::Global;
+use validate_types::{
+    ArrayType, CompositeInnerType, CompositeType, ContType, FieldType, FuncType, PackedIndex,
+    StorageType, StructType, SubType, UnpackedIndex,
+};
+
+/// The index in the form that types pack, or the refusal of one that is too large.
+fn packed(index: UnpackedIndex, offset: u64) -> Result<PackedIndex, ReadError> {
+    match index.pack() {
+        Some(packed) => Ok(packed),
+        None => Err(ReadError::malformed(Fault::TypeIndexTooLarge, offset)),
+    }
+}
+
+fn read_storage_type(
+    reader: &mut BinaryReader<'_>,
+    canonical: CanonicalTypes<'_>,
+) -> Result<StorageType, ReadError> {
+    match reader.peek()? {
+        0x78 => {
+            let _code = reader.read_u8()?;
+            Ok(StorageType::I8)
+        }
+        0x77 => {
+            let _code = reader.read_u8()?;
+            Ok(StorageType::I16)
+        }
+        _ => {
+            let ty = read_value_type(reader, canonical)?;
+            Ok(StorageType::Val(ty))
+        }
+    }
+}
+
+fn read_field(
+    reader: &mut BinaryReader<'_>,
+    canonical: CanonicalTypes<'_>,
+) -> Result<FieldType, ReadError> {
+    let element_type = read_storage_type(reader, canonical)?;
+    let offset = reader.offset();
+    match reader.read_u8()? {
+        0 => Ok(FieldType {
+            element_type,
+            mutable: false,
+        }),
+        1 => Ok(FieldType {
+            element_type,
+            mutable: true,
+        }),
+        _ => Err(ReadError::malformed(Fault::MalformedMutability, offset)),
+    }
+}
+
+fn read_func_type(
+    alloc: Global,
+    reader: &mut BinaryReader<'_>,
+    canonical: CanonicalTypes<'_>,
+) -> Result<FuncType, ReadError> {
+    let mut params = Vec::new(alloc);
+    read_value_types(reader, canonical, &mut params)?;
+    let mut results = Vec::new(alloc);
+    read_value_types(reader, canonical, &mut results)?;
+    Ok(FuncType::new(params, results))
+}
+
+fn read_struct_type(
+    alloc: Global,
+    reader: &mut BinaryReader<'_>,
+    canonical: CanonicalTypes<'_>,
+) -> Result<StructType, ReadError> {
+    let count = reader.read_var_u32()?;
+    let mut fields = Vec::new(alloc);
+    for _ in 0..count {
+        fields.push(read_field(reader, canonical)?)?;
+    }
+    Ok(StructType { fields })
+}
+
+fn read_inner(
+    alloc: Global,
+    reader: &mut BinaryReader<'_>,
+    canonical: CanonicalTypes<'_>,
+) -> Result<CompositeInnerType, ReadError> {
+    let offset = reader.offset();
+    match reader.read_u8()? {
+        0x60 => {
+            let ty = read_func_type(alloc, reader, canonical)?;
+            Ok(CompositeInnerType::Func(ty))
+        }
+        0x5f => {
+            let ty = read_struct_type(alloc, reader, canonical)?;
+            Ok(CompositeInnerType::Struct(ty))
+        }
+        0x5e => {
+            let field = read_field(reader, canonical)?;
+            Ok(CompositeInnerType::Array(ArrayType(field)))
+        }
+        0x5d => {
+            let index = read_type_number(reader)?;
+            let index = packed(canonical.name(index), offset)?;
+            Ok(CompositeInnerType::Cont(ContType(index)))
+        }
+        _ => Err(ReadError::malformed(Fault::InvalidTypeCode, offset)),
+    }
+}
+
+fn read_supertype(
+    reader: &mut BinaryReader<'_>,
+    canonical: CanonicalTypes<'_>,
+) -> Result<Option<PackedIndex>, ReadError> {
+    let offset = reader.offset();
+    match reader.read_var_u32()? {
+        0 => Ok(None),
+        1 => {
+            let index = reader.read_var_u32()?;
+            let index = packed(canonical.name(index), offset)?;
+            Ok(Some(index))
+        }
+        _ => Err(ReadError::malformed(Fault::SeveralSupertypes, offset)),
+    }
+}
+
+/// Reads the index of a type behind this code, if the code stands there.
+fn read_marked_index(
+    reader: &mut BinaryReader<'_>,
+    canonical: CanonicalTypes<'_>,
+    code: u8,
+) -> Result<Option<PackedIndex>, ReadError> {
+    if reader.peek()? != code {
+        return Ok(None);
+    }
+    let _code = reader.read_u8()?;
+    let offset = reader.offset();
+    let index = reader.read_var_u32()?;
+    let index = packed(canonical.name(index), offset)?;
+    Ok(Some(index))
+}
+
+/// Reads the mark of a shared type, if it stands there.
+fn read_shared(reader: &mut BinaryReader<'_>) -> Result<bool, ReadError> {
+    if reader.peek()? != 0x65 {
+        return Ok(false);
+    }
+    let _code = reader.read_u8()?;
+    Ok(true)
+}
+
+fn read_composite_type(
+    alloc: Global,
+    reader: &mut BinaryReader<'_>,
+    canonical: CanonicalTypes<'_>,
+) -> Result<CompositeType, ReadError> {
+    let shared = read_shared(reader)?;
+    let describes_idx = read_marked_index(reader, canonical, 0x4c)?;
+    let descriptor_idx = read_marked_index(reader, canonical, 0x4d)?;
+    let inner = read_inner(alloc, reader, canonical)?;
+    Ok(CompositeType {
+        inner,
+        shared,
+        descriptor_idx,
+        describes_idx,
+    })
+}
+
+/// Reads a type. It refuses what the reads of its parts refuse, `more than one supertype`, `invalid leading byte
+/// of a type`, and `type index greater than implementation limits`.
+pub fn read_sub_type(
+    alloc: Global,
+    reader: &mut BinaryReader<'_>,
+    canonical: CanonicalTypes<'_>,
+) -> Result<SubType, ReadError> {
+    let code = reader.peek()?;
+    let supertype_idx = if code == 0x50 || code == 0x4f {
+        let _code = reader.read_u8()?;
+        read_supertype(reader, canonical)?
+    } else {
+        None
+    };
+    let composite_type = read_composite_type(alloc, reader, canonical)?;
+    Ok(SubType {
+        is_final: code != 0x50,
+        supertype_idx,
+        composite_type,
+    })
+}

@@ -1,0 +1,21 @@
+//! The operators of a binary module by their codes, with the types and the lists in their immediates.
+#![tactic(auto)]
+
+pub mod atomics;
+pub mod blocks;
+pub mod control;
+pub mod garbage;
+pub mod lists;
+pub mod memory;
+pub mod numeric;
+pub mod operators;
+pub mod prefixed;
+pub mod typed;
+pub mod types;
+
+pub use crate::blocks::read_value_types;
+pub use crate::lists::{OperatorLists, lend};
+pub use crate::operators::{read_operator, read_operators};
+pub use crate::types::{
+    CanonicalTypes, GroupNames, read_ref_type, read_type_number, read_value_type,
+};

@@ -1,0 +1,124 @@
+//! The lists that operators lend: they are read beside the operators, and lent to them once all are read.
+
+use binary_numbers::ReadError;
+use std::alloc::Global;
+use validate_types::ValType;
+use validate_visit::{
+    BrTable, Catch, ContinuationOp, ControlOp, ExceptionOp, Handle, Op, ResumeTable, TryTable,
+};
+
+/// Where in its list the list of one operator stands.
+#[derive(Clone, Copy)]
+struct Span {
+    /// The operator at this index has it.
+    index: usize,
+    /// From here on.
+    start: usize,
+    /// Up to here.
+    end: usize,
+}
+
+/// The lists of all operators of a body.
+#[derive(Drop)]
+pub struct OperatorLists {
+    /// The targets of each `br_table`.
+    pub(crate) labels: Vec<u32>,
+    /// The types of each `select` of several values.
+    pub(crate) types: Vec<ValType>,
+    /// The clauses of each `try_table`.
+    pub(crate) catches: Vec<Catch>,
+    /// The handlers of each `resume`.
+    pub(crate) handlers: Vec<Handle>,
+    spans: Vec<Span>,
+}
+
+impl OperatorLists {
+    /// No lists. It takes no memory.
+    pub fn new(alloc: Global) -> OperatorLists {
+        OperatorLists {
+            labels: Vec::new(alloc),
+            types: Vec::new(alloc),
+            catches: Vec::new(alloc),
+            handlers: Vec::new(alloc),
+            spans: Vec::new(alloc),
+        }
+    }
+
+    /// Notes which list the operator at this index has.
+    pub(crate) fn note(&mut self, index: usize, start: usize, end: usize) -> Result<(), ReadError> {
+        self.spans.push(Span { index, start, end })?;
+        Ok(())
+    }
+}
+
+/// The part of a list, or none of it where there is no such part.
+fn part<T>(list: &Vec<T>, span: Span) -> &[T] {
+    if span.start <= span.end && span.end <= list.len() {
+        &list[span.start..span.end]
+    } else {
+        &[]
+    }
+}
+
+/// The operator with its list.
+fn with_list<'a>(op: Op<'a>, lists: &'a OperatorLists, span: Span) -> Op<'a> {
+    match op {
+        Op::Control(ControlOp::BrTable(table)) => Op::Control(ControlOp::BrTable(BrTable {
+            targets: part(&lists.labels, span),
+            complete: true,
+            default: table.default,
+        })),
+        Op::Control(ControlOp::TypedSelectMulti(_)) => {
+            Op::Control(ControlOp::TypedSelectMulti(part(&lists.types, span)))
+        }
+        Op::Exception(ExceptionOp::TryTable(table)) => {
+            Op::Exception(ExceptionOp::TryTable(TryTable {
+                ty: table.ty,
+                catches: part(&lists.catches, span),
+            }))
+        }
+        Op::Continuation(op) => Op::Continuation(with_handlers(op, part(&lists.handlers, span))),
+        _ => op,
+    }
+}
+
+fn with_handlers<'a>(op: ContinuationOp<'a>, handlers: &'a [Handle]) -> ContinuationOp<'a> {
+    let resume_table = ResumeTable { handlers };
+    match op {
+        ContinuationOp::Resume {
+            cont_type_index,
+            ..
+        } => ContinuationOp::Resume {
+            cont_type_index,
+            resume_table,
+        },
+        ContinuationOp::ResumeThrow {
+            cont_type_index,
+            tag_index,
+            ..
+        } => ContinuationOp::ResumeThrow {
+            cont_type_index,
+            tag_index,
+            resume_table,
+        },
+        ContinuationOp::ResumeThrowRef {
+            cont_type_index,
+            ..
+        } => ContinuationOp::ResumeThrowRef {
+            cont_type_index,
+            resume_table,
+        },
+        _ => op,
+    }
+}
+
+/// Lends each operator its list.
+pub fn lend<'a>(lists: &'a OperatorLists, ops: &mut [(Op<'a>, u64)]) {
+    for span in lists.spans.iter() {
+        let index = span.index;
+        if index < ops.len() {
+            let (op, offset) = ops[index];
+            ops[index] = (with_list(op, lists, *span), offset);
+        }
+    }
+}

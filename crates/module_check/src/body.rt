@@ -1,0 +1,278 @@
+//! The check of one body.
+
+ghost use Rattle.std.specs.Prelude.{◌≡◌, ◌≢◌, true, None, IfOk};
+ghost use Rattle.std.specs.List.{list_all};
+ghost use Rattle.validate_visit.specs.declared.frame.BlockType.{BlockType};
+ghost use Rattle.validate_visit.specs.Immediates.{is_module_op};
+ghost use Rattle.validate_visit.specs.Order.{is_well_ordered_list};
+ghost use Rattle.validate_body.specs.Runs.{without_offsets, IsSafeFrom};
+ghost use Rattle.validate_body.specs.Start.{state};
+ghost use Rattle.validate_stacks.specs.State.{IsStarting};
+ghost use Rattle.validation_rules.specs.Static.{start};
+ghost use Rattle.module_check.specs.Begin.{IsBodyStart, IsExpressionStart, HasLocals};
+ghost use Rattle.module_check.specs.Safe.{IsSafeBody};
+ghost use Rattle.module_check.specs.declared.report.Verdict.TheVariants.{Accepted};
+
+use crate::read::{BodyKind, LocalGroup, ReadBody};
+use crate::report::Verdict;
+use binary_numbers::ReadError;
+use std::alloc::Global;
+use validate_body::{OperatorValidator, check_ops};
+use validate_resources::WasmModuleResources;
+use validate_resources::uses::laws;
+use validate_stacks::OperatorValidatorAllocations;
+use validate_types::{Error, ValType, WasmFeatures};
+use validate_visit::{ControlOp, ExceptionOp, Op, have_module_immediates, is_well_ordered};
+
+/// The length of the longest part from the start of the list that is well ordered.
+fn ordered_part(ops: &[(Op<'_>, u64)]) -> usize {
+    let mut low = 0usize;
+    let mut high = ops.len();
+    for _ in 0..64 {
+        let middle = low.saturating_add(high.saturating_sub(low) / 2);
+        if low < middle && middle < high && middle <= ops.len() {
+            if is_well_ordered(&ops[..middle]) {
+                low = middle;
+            } else {
+                high = middle;
+            }
+        }
+    }
+    low
+}
+
+/// The text of the refusal of an operator that doesn't stand in order.
+fn order_text(op: Op<'_>) -> &'static str {
+    match op {
+        Op::Control(ControlOp::Else) => "else found outside of an `if` block",
+        Op::Exception(ExceptionOp::Catch(_)) => "catch found outside of an `try` block",
+        Op::Exception(ExceptionOp::CatchAll) => "catch_all found outside of a `try` block",
+        Op::Exception(ExceptionOp::Delegate(_)) => "delegate found outside of an `try` block",
+        _ => "operators remaining after end of function",
+    }
+}
+
+/// Whether the operator names a global past so many.
+fn names_later_global(op: Op<'_>, globals: usize) -> bool {
+    match op {
+        Op::Control(ControlOp::GlobalGet(index)) => index as usize >= globals,
+        _ => false,
+    }
+}
+
+/// The index of the first operator that names a global past so many, or the length of the list.
+fn part_before_later_global(ops: &[(Op<'_>, u64)], globals: usize) -> usize {
+    for (index, pair) in ops.iter().enumerate() {
+        if names_later_global(pair.0, globals) {
+            return index;
+        }
+    }
+    ops.len()
+}
+
+/// The refusal of the operator behind the part that the validator is asked about.
+fn refusal_behind(ops: &[(Op<'_>, u64)], part: usize, end: u64) -> Verdict
+    ensures { result ≢ Accepted }
+{
+    let Some((op, offset)) = ops.get(part).copied() else {
+        return Verdict::Refused(Error::new("operators out of order", end));
+    };
+    match op {
+        Op::Control(ControlOp::GlobalGet(_)) => Verdict::Refused(Error::new(
+            "unknown global: global index out of bounds",
+            offset,
+        )),
+        _ => Verdict::Refused(Error::new(order_text(op), offset)),
+    }
+}
+
+/// Whether the operators can be those of a body.
+fn may_be_body(ops: &[(Op<'_>, u64)]) -> bool
+    ensures ordered { result ≡ true → is_well_ordered_list (without_offsets ops.now) ≡ true }
+    ensures immediates { result ≡ true → list_all (λ (p : _). is_module_op p.0) ops.now ≡ true }
+{
+    is_well_ordered(ops) && have_module_immediates(ops)
+}
+
+/// Checks operators by the validator of their body, which is new. Behind them there is why no more could be
+/// read, and the bytes end at the offset. Globals past so many are unknown.
+fn check_list<R: WasmModuleResources>(
+    alloc: Global,
+    v: &mut OperatorValidator,
+    resources: &R,
+    ops: &[(Op<'_>, u64)],
+    failure: Option<ReadError>,
+    end: u64,
+    globals: usize,
+) -> Verdict
+    requires starting { IsStarting (R.context resources.now) (state v.old) }
+    ensures whole { result ≡ Accepted → failure ≡ None }
+    ensures safe { result ≡ Accepted → (ty : BlockType) → (state v.old).present ≡ start ty
+        → IsSafeFrom (R.context resources.now) (state v.old) ops.now ty }
+{
+    let known = if globals == usize::MAX {
+        ops.len()
+    } else {
+        part_before_later_global(ops, globals)
+    };
+    if known == ops.len() && may_be_body(ops) {
+        return check_whole(alloc, v, resources, ops, failure, end);
+    }
+    check_part(alloc, v, resources, ops, ordered_part(ops).min(known), end)
+}
+
+/// Checks operators that can be those of a body.
+fn check_whole<R: WasmModuleResources>(
+    alloc: Global,
+    v: &mut OperatorValidator,
+    resources: &R,
+    ops: &[(Op<'_>, u64)],
+    failure: Option<ReadError>,
+    end: u64,
+) -> Verdict
+    requires starting { IsStarting (R.context resources.now) (state v.old) }
+    requires ordered { is_well_ordered_list (without_offsets ops.now) ≡ true }
+    requires immediates { list_all (λ (p : _). is_module_op p.0) ops.now ≡ true }
+    ensures whole { result ≡ Accepted → failure ≡ None }
+    ensures safe { result ≡ Accepted → (ty : BlockType) → (state v.old).present ≡ start ty
+        → IsSafeFrom (R.context resources.now) (state v.old) ops.now ty }
+{
+    let mut heights = Vec::new(alloc);
+    match check_ops(v, ops, resources, &mut heights) {
+        Err((_, refusal)) => Verdict::of_refusal(refusal),
+        Ok(closed) => after_list(closed, failure, end),
+    }
+}
+
+/// Checks the first operators of a list, of which the next one is refused, if none of them is.
+fn check_part<R: WasmModuleResources>(
+    alloc: Global,
+    v: &mut OperatorValidator,
+    resources: &R,
+    ops: &[(Op<'_>, u64)],
+    length: usize,
+    end: u64,
+) -> Verdict
+    requires starting { IsStarting (R.context resources.now) (state v.old) }
+    ensures { result ≢ Accepted }
+{
+    if length <= ops.len() {
+        let part = &ops[..length];
+        if may_be_body(part) {
+            let mut heights = Vec::new(alloc);
+            if let Err((_, refusal)) = check_ops(v, part, resources, &mut heights) {
+                return Verdict::of_refusal(refusal);
+            }
+        }
+    }
+    refusal_behind(ops, length, end)
+}
+
+/// The verdict where the validator accepts each operator that could be read.
+fn after_list(closed: bool, failure: Option<ReadError>, end: u64) -> Verdict
+    ensures closed { result ≡ Accepted → closed ≡ true }
+    ensures whole { result ≡ Accepted → failure ≡ None }
+{
+    if let Some(error) = failure {
+        return Verdict::of_read_error(error);
+    }
+    if closed {
+        return Verdict::Accepted;
+    }
+    Verdict::Refused(Error::new(
+        "control frames remain at end of function body or expression",
+        end,
+    ))
+}
+
+/// A validator of a constant expression of this type, which is checked first.
+fn start_expression<R: WasmModuleResources>(
+    resources: &R,
+    features: &WasmFeatures,
+    ty: ValType,
+    offset: u64,
+    buffers: OperatorValidatorAllocations,
+) -> Result<OperatorValidator, Error>
+    ensures starting { IfOk result (λ validator. IsStarting (R.context resources.now) (state validator)) }
+    ensures made { IfOk result (λ validator. IsExpressionStart (R.context resources.now) features.now ty
+        (state validator)) }
+{
+    laws(resources);
+    let mut canonical = ty;
+    resources.check_value_type(&mut canonical, features, offset)?;
+    OperatorValidator::new_const_expr(features, canonical, buffers)
+}
+
+/// A validator of a body of this kind.
+fn start_body<R: WasmModuleResources>(
+    alloc: Global,
+    resources: &R,
+    features: &WasmFeatures,
+    kind: BodyKind,
+    offset: u64,
+) -> Result<OperatorValidator, Error>
+    ensures starting { IfOk result (λ validator. IsStarting (R.context resources.now) (state validator)) }
+    ensures made { IfOk result (λ validator. IsBodyStart (R.context resources.now) features.now kind
+        (state validator)) }
+{
+    let buffers = OperatorValidatorAllocations::new(alloc);
+    match kind {
+        BodyKind::Function(ty) => {
+            OperatorValidator::new_func(ty, offset, features, resources, buffers)
+        }
+        BodyKind::Expression(ty) => start_expression(resources, features, ty, offset, buffers),
+    }
+}
+
+/// A validator of a body of this kind, with all its locals.
+fn begin_body<R: WasmModuleResources>(
+    alloc: Global,
+    resources: &R,
+    features: &WasmFeatures,
+    kind: BodyKind,
+    offset: u64,
+    locals: &[LocalGroup],
+) -> Result<OperatorValidator, Error>
+    ensures starting { IfOk result (λ validator. IsStarting (R.context resources.now) (state validator)) }
+    ensures locals { IfOk result (λ validator. HasLocals (R.context resources.now) features.now kind
+        locals.now (state validator)) }
+{
+    let mut validator = start_body(alloc, resources, features, kind, offset)?;
+    for local in locals {
+        validator.define_locals(local.offset, local.count, local.ty, resources)?;
+    }
+    Ok(validator)
+}
+
+/// Checks a body of this kind, which was read. Globals past so many are unknown in it.
+///
+/// `Accepted`: all of it was read, each operator is accepted, and the last closes it. Then no run of these
+/// operators gets stuck, and what it returns fits the results, by the start that the kind and the locals make.
+/// `Refused`: by the validator, for the order of the operators, since more frames are open than closed, or for
+/// what couldn't be read. `NotCovered`: a vector operator stands behind operators that are accepted.
+/// `OutOfMemory`: there was no memory for the check.
+pub fn check_body<R: WasmModuleResources>(
+    alloc: Global,
+    resources: &R,
+    features: &WasmFeatures,
+    kind: BodyKind,
+    globals: usize,
+    body: &ReadBody<'_>,
+) -> Verdict
+    ensures whole { result ≡ Accepted → body.now.failure ≡ None }
+    ensures safe { result ≡ Accepted → IsSafeBody (R.context resources.now) features.now kind
+        body.now.locals.items body.now.operators.items }
+{
+    match begin_body(alloc, resources, features, kind, body.start, &body.locals) {
+        Ok(mut v) => check_list(
+            alloc,
+            &mut v,
+            resources,
+            &body.operators,
+            body.failure,
+            body.end,
+            globals,
+        ),
+        Err(refusal) => Verdict::of_refusal(refusal),
+    }
+}

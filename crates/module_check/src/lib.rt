@@ -1,0 +1,15 @@
+//! The check of a binary module: each body of a function and each constant expression is read and handed
+//! to the validator, and what comes of it is told.
+#![tactic(auto)]
+
+mod body;
+mod loaded;
+mod read;
+mod report;
+
+pub use crate::body::check_body;
+pub use crate::loaded::LoadedModule;
+pub use crate::read::{BodyKind, LocalGroup, ReadBody, read_expression, read_function};
+pub use crate::report::{Item, Verdict};
+pub use binary_modules::{FunctionNames, Place};
+pub use binary_operators::OperatorLists;

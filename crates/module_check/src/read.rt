@@ -1,0 +1,122 @@
+//! What is read of a body, before it is checked.
+
+use binary_numbers::{BinaryReader, ReadError};
+use binary_operators::{CanonicalTypes, OperatorLists, lend, read_operators, read_value_type};
+use std::alloc::Global;
+use validate_types::ValType;
+use validate_visit::Op;
+
+/// What kind of body it is.
+#[derive(Clone, Copy, Debug, PartialEq, Eq)]
+pub enum BodyKind {
+    /// That of a function of the type at this index.
+    Function(u32),
+    /// A constant expression that gives a value of this type.
+    Expression(ValType),
+}
+
+/// A group of locals of one type, as a body declares them.
+#[derive(Clone, Copy, Debug, PartialEq, Eq)]
+pub struct LocalGroup {
+    /// How many.
+    pub count: u32,
+    /// Of which type.
+    pub ty: ValType,
+    /// Where the group stands.
+    pub offset: u64,
+}
+
+/// The locals and the operators of a body, as far as they could be read.
+#[derive(Drop)]
+pub struct ReadBody<'a> {
+    /// The locals.
+    pub locals: Vec<LocalGroup>,
+    /// The operators with their offsets.
+    pub operators: Vec<(Op<'a>, u64)>,
+    /// Why no more could be read, unless all was.
+    pub failure: Option<ReadError>,
+    /// Where the body begins.
+    pub start: u64,
+    /// Where it ends, or what couldn't be read begins.
+    pub end: u64,
+}
+
+/// Reads a group of locals.
+fn read_group(
+    reader: &mut BinaryReader<'_>,
+    canonical: CanonicalTypes<'_>,
+) -> Result<LocalGroup, ReadError> {
+    let offset = reader.offset();
+    let count = reader.read_var_u32()?;
+    let ty = read_value_type(reader, canonical)?;
+    Ok(LocalGroup { count, ty, offset })
+}
+
+/// Reads the locals of a body, behind those that are there.
+fn read_locals(
+    reader: &mut BinaryReader<'_>,
+    canonical: CanonicalTypes<'_>,
+    locals: &mut Vec<LocalGroup>,
+) -> Result<(), ReadError> {
+    let groups = reader.read_var_u32()?;
+    for _ in 0..groups {
+        let group = read_group(reader, canonical)?;
+        locals.push(group)?;
+    }
+    Ok(())
+}
+
+/// Reads the locals and the operators of a body.
+fn read_both<'a>(
+    reader: &mut BinaryReader<'_>,
+    canonical: CanonicalTypes<'_>,
+    locals: &mut Vec<LocalGroup>,
+    lists: &mut OperatorLists,
+    operators: &mut Vec<(Op<'a>, u64)>,
+) -> Result<(), ReadError> {
+    read_locals(reader, canonical, locals)?;
+    read_operators(reader, canonical, lists, operators)
+}
+
+/// Reads the body of a function: its locals, and its operators up to the end of the bytes. Their lists are kept
+/// in these, which are empty.
+pub fn read_function<'a>(
+    alloc: Global,
+    reader: &mut BinaryReader<'_>,
+    canonical: CanonicalTypes<'_>,
+    lists: &'a mut OperatorLists,
+) -> ReadBody<'a> {
+    let start = reader.offset();
+    let mut locals = Vec::new(alloc);
+    let mut operators = Vec::new(alloc);
+    let read = read_both(reader, canonical, &mut locals, lists, &mut operators);
+    lend(lists, &mut operators);
+    ReadBody {
+        locals,
+        operators,
+        failure: read.err(),
+        start,
+        end: reader.offset(),
+    }
+}
+
+/// Reads a constant expression: its operators, up to the end of the bytes. Their lists are kept in these, which
+/// are empty.
+pub fn read_expression<'a>(
+    alloc: Global,
+    reader: &mut BinaryReader<'_>,
+    canonical: CanonicalTypes<'_>,
+    lists: &'a mut OperatorLists,
+) -> ReadBody<'a> {
+    let start = reader.offset();
+    let mut operators = Vec::new(alloc);
+    let read = read_operators(reader, canonical, lists, &mut operators);
+    lend(lists, &mut operators);
+    ReadBody {
+        locals: Vec::new(alloc),
+        operators,
+        failure: read.err(),
+        start,
+        end: reader.offset(),
+    }
+}

@@ -1,0 +1,68 @@
+//! What the check of a body or a constant expression comes to.
+
+ghost use Rattle.std.specs.Prelude.{◌≢◌};
+ghost use Rattle.module_check.specs.declared.report.Verdict.TheVariants.{Accepted};
+
+use binary_modules::Place;
+use binary_numbers::{Cause, ReadError};
+use std::fmt;
+use validate_types::Error;
+
+/// What is checked.
+#[derive(Clone, Copy, Debug, PartialEq, Eq)]
+pub enum Item {
+    /// The body of the function at this index.
+    Function(usize),
+    /// A constant expression for this.
+    Expression(Place),
+}
+
+impl fmt::Display for Item {
+    fn fmt<W: fmt::Write>(&self, f: &mut fmt::Formatter<W>) -> fmt::Result {
+        match self {
+            Item::Function(index) => write!(f, "func {index}"),
+            Item::Expression(Place::Table(index)) => write!(f, "table {index} init"),
+            Item::Expression(Place::Global(index)) => write!(f, "global {index} init"),
+            Item::Expression(Place::ElementOffset(index)) => write!(f, "elem {index} offset"),
+            Item::Expression(Place::Element(index)) => write!(f, "elem {index} item"),
+            Item::Expression(Place::DataOffset(index)) => write!(f, "data {index} offset"),
+        }
+    }
+}
+
+/// What the check comes to.
+#[derive(Drop)]
+pub enum Verdict {
+    /// Each operator is accepted, and the last closes the body.
+    Accepted,
+    /// The validator refuses it.
+    Refused(Error),
+    /// It has a vector operator at this offset, which isn't covered, and nothing before is refused.
+    NotCovered(u64),
+    /// There was no memory for the check.
+    OutOfMemory,
+}
+
+impl Verdict {
+    /// The verdict of a refusal by the validator.
+    pub fn of_refusal(refusal: Error) -> Verdict
+        ensures { result ≢ Accepted }
+    {
+        if refusal.is_out_of_memory() {
+            Verdict::OutOfMemory
+        } else {
+            Verdict::Refused(refusal)
+        }
+    }
+
+    /// The verdict where operators can't be read.
+    pub fn of_read_error(error: ReadError) -> Verdict
+        ensures { result ≢ Accepted }
+    {
+        match error.cause {
+            Cause::Malformed(fault) => Verdict::Refused(Error::new(fault.text(), error.offset)),
+            Cause::VectorOperator => Verdict::NotCovered(error.offset),
+            Cause::OutOfMemory => Verdict::OutOfMemory,
+        }
+    }
+}

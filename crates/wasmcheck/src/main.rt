@@ -1,0 +1,19 @@
+//! Checks the bodies of functions and the constant expressions of a binary module, which is read from the file
+//! that is named, or from standard input: prints those that aren't accepted, and how many came to what.
+#![tactic(auto)]
+
+mod options;
+mod print;
+mod program;
+
+use std::process::ExitCode;
+
+fn main(rt: HostRuntime) -> ExitCode {
+    match program::run(&rt) {
+        Ok(status) => ExitCode::from(status),
+        Err(error) => {
+            let _ = eprintln!(rt; "wasmcheck: {error}");
+            ExitCode::from(program::FAILED)
+        }
+    }
+}

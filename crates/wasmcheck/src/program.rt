@@ -1,0 +1,211 @@
+//! The run of the program.
+
+use crate::options::{Options, Wish, read_options};
+use crate::print::{Counts, Detail, print_line, print_module_verdict};
+use module_check::{FunctionNames, LoadedModule};
+use std::alloc::Global;
+use std::io::{BufWriter, IsTerminal, Read, Write};
+use std::{fs, io};
+use validate_types::WasmFeatures;
+
+/// The status where each body and each constant expression is accepted.
+pub const ACCEPTED: u8 = 0;
+
+/// The status where one is refused.
+pub const REFUSED: u8 = 1;
+
+/// The status where the bytes are no module's, or the words aren't understood.
+pub const NO_MODULE: u8 = 2;
+
+/// The status for want of memory, or a failed read or write.
+pub const FAILED: u8 = 3;
+
+/// The status where none is refused, and one isn't covered.
+pub const NOT_COVERED: u8 = 4;
+
+/// After so many bodies it is said how far the check is.
+const MANY: usize = 5_000;
+
+/// How the program is used.
+const HELP: &str = "\
+usage: wasmcheck [OPTIONS] [FILE]
+
+Checks the bodies of functions and the constant expressions of the binary WebAssembly module
+in FILE, or on standard input.
+
+  -q, --quiet      print the last line alone
+  -v, --verbose    print a line for each body, accepted ones too
+  --features LIST  the proposals that are on, by their names, with commas between: all, unless
+                   this is said; a leading - takes one off (-gc,-exceptions)
+  -h, --help       print this
+  -V, --version    print the version
+
+Status: 0 each is accepted; 1 one is refused; 2 no module, or words that aren't understood;
+3 want of memory, or a failed read or write; 4 none is refused, and one isn't covered.
+";
+
+/// The version of the program.
+const VERSION: &str = "wasmcheck 0.1.0, the operator validator of wasmparser 0.263.0";
+
+/// What an acceptance doesn't say.
+const NOT_CHECKED: &str =
+    "not checked: that constant expressions are constant, limits, supertypes against \
+what they declare, finality, segments against their tables, exports, the start function";
+
+/// Reads the bytes of the file, or of standard input.
+fn read_input(rt: &HostRuntime, file: &Option<String>) -> io::Result<Vec<u8>> {
+    match file {
+        Some(name) if name.as_str() != "-" => fs::read(rt, name.as_str()),
+        _ => {
+            let mut input = Vec::new(rt.alloc());
+            rt.reader().read_to_end(&mut input)?;
+            Ok(input)
+        }
+    }
+}
+
+/// Checks each constant expression.
+fn check_expressions<W: Write>(
+    alloc: Global,
+    out: &mut W,
+    module: &LoadedModule<'_>,
+    names: &FunctionNames,
+    features: &WasmFeatures,
+    detail: Detail,
+    counts: &mut Counts,
+) -> io::Result<()> {
+    for index in 0..module.expressions() {
+        if let Some((item, verdict)) = module.check_expression(alloc, features, index) {
+            counts.count(&verdict);
+            print_line(out, module, names, detail, item, &verdict)?;
+        }
+    }
+    Ok(())
+}
+
+/// Says how far the check of many bodies is, where standard error is a terminal.
+fn tell_progress(rt: &HostRuntime, done: usize, all: usize) {
+    if done % MANY == MANY - 1 && rt.stderr().is_terminal() {
+        let _ = eprint!(rt; "\r{done} of {all} bodies");
+        if all.saturating_sub(done) <= MANY {
+            let _ = eprintln!(rt; "");
+        }
+    }
+}
+
+/// Checks each body.
+fn check_bodies<W: Write>(
+    rt: &HostRuntime,
+    out: &mut W,
+    module: &LoadedModule<'_>,
+    names: &FunctionNames,
+    features: &WasmFeatures,
+    detail: Detail,
+    counts: &mut Counts,
+) -> io::Result<()> {
+    let all = module.bodies();
+    for index in 0..all {
+        tell_progress(rt, index, all);
+        let (item, verdict) = module.check_body(rt.alloc(), features, index);
+        counts.count(&verdict);
+        print_line(out, module, names, detail, item, &verdict)?;
+    }
+    Ok(())
+}
+
+/// Checks a module, and answers the status.
+fn check_module<W: Write>(
+    rt: &HostRuntime,
+    out: &mut W,
+    module: &LoadedModule<'_>,
+    features: &WasmFeatures,
+    detail: Detail,
+) -> io::Result<u8> {
+    let names = match module.names(rt.alloc()) {
+        Ok(names) => names,
+        Err(_) => FunctionNames::new(rt.alloc()),
+    };
+    let mut counts = Counts::new();
+    check_expressions(
+        rt.alloc(),
+        out,
+        module,
+        &names,
+        features,
+        detail,
+        &mut counts,
+    )?;
+    check_bodies(rt, out, module, &names, features, detail, &mut counts)?;
+    counts.print(out)?;
+    Ok(counts.status())
+}
+
+/// How much is printed.
+fn detail_of(options: &Options) -> Detail {
+    if options.quiet {
+        Detail::Last
+    } else if options.verbose {
+        Detail::Each
+    } else {
+        Detail::Others
+    }
+}
+
+/// Checks the module of these bytes, and answers the status.
+fn check_input<W: Write>(
+    rt: &HostRuntime,
+    out: &mut W,
+    options: &Options,
+    input: &[u8],
+) -> io::Result<u8> {
+    match LoadedModule::new(rt.alloc(), input) {
+        Ok(module) => check_module(rt, out, &module, &options.features, detail_of(options)),
+        Err(verdict) => print_module_verdict(out, &verdict),
+    }
+}
+
+/// What to say of bytes that don't begin as a module does, if anything.
+fn doubt(input: &[u8]) -> Option<&'static str> {
+    if input.is_empty() {
+        Some("the input is empty")
+    } else if !input.starts_with(b"\0asm".as_slice()) {
+        Some("the input is no binary module: it doesn't begin with \\0asm")
+    } else {
+        None
+    }
+}
+
+/// Reads a module and checks it, and answers the status.
+fn check(rt: &HostRuntime, options: &Options) -> io::Result<u8> {
+    let mut out = BufWriter::new(rt.alloc(), io::writer(rt))?;
+    let input = read_input(rt, &options.file)?;
+    if let Some(text) = doubt(&input) {
+        eprintln!(rt; "wasmcheck: {text}")?;
+    }
+    let status = check_input(rt, &mut out, options, &input)?;
+    out.flush()?;
+    if !options.quiet && (status == ACCEPTED || status == NOT_COVERED) {
+        eprintln!(rt; "{NOT_CHECKED}")?;
+    }
+    Ok(status)
+}
+
+/// Runs the program, and answers its status.
+pub fn run(rt: &HostRuntime) -> io::Result<u8> {
+    let options = read_options(rt)?;
+    match options.wish {
+        Wish::Check => check(rt, &options),
+        Wish::Help => {
+            print!(rt; "{HELP}")?;
+            Ok(ACCEPTED)
+        }
+        Wish::Version => {
+            println!(rt; "{VERSION}")?;
+            Ok(ACCEPTED)
+        }
+        Wish::Unknown => {
+            eprint!(rt; "{HELP}")?;
+            Ok(NO_MODULE)
+        }
+    }
+}

@@ -1,5 +1,5 @@
 -- Locals that are set already, and the innermost frame, for what passes at once.
-use Rattle.std.proofs.Common.{◌≡◌, ℕ, Bool, true, false, Option, Some, None, IsSome, refl, sym, ap, ◌∙◌, if◌then◌else◌, ap₂}
+use Rattle.std.proofs.Common.{◌≡◌, ℕ, Bool, true, false, Option, Some, None, IsSome, is_none, ◌||◌, refl, sym, ap, ◌∙◌, if◌then◌else◌, ap₂}
 use Rattle.std.specs.Option.{ForSome}
 use Rattle.validate_resources.specs.Context.{ModuleContext}
 use Rattle.validate_visit.specs.declared.frame.Frame.{Frame as FlatFrame}
@@ -8,6 +8,7 @@ use Rattle.validate_types.specs.declared.types.ValType.{ValType}
 use Rattle.validation_rules.specs.Static.{is_local_set, locals_set}
 use Rattle.std.specs.Prelude.{List}
 use Rattle.validate_stacks.specs.Pops.{body_popped_each, IsKept}
+use Rattle.validate_stacks.specs.Attempts.{Stacked, is_unmarked, may_frame}
 use Rattle.validate_stacks.specs.State.{BodyState, body_with_frames}
 use Rattle.validate_stacks.specs.Steps.{frame_at, body_with_local_set, frames_first_setting}
 use Rattle.validate_stacks.proofs.AtOnce.{popped_each_set, popped_each_kept}
@@ -34,3 +35,7 @@ frame_there v f e = some_is (frame_at v 0) f e
 
 pub block_there : (v : BodyState) (f : FlatFrame) → frame_at v 0 ≡ Some f → ForSome (frame_at v 0) (λ g. g.block_type ≡ f.block_type)
 block_there v f e g h = ap (λ (x : FlatFrame). x.block_type) (some_injective g f (sym h ∙ e))
+
+-- a frame may be opened where nothing is pending
+pub idle_frame : (v : Stacked) → v.body.undone ≡ None → may_frame v ≡ true
+idle_frame v h = ap (λ o. is_none o || is_unmarked v.phase) h

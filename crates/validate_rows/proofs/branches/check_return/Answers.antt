@@ -1,6 +1,9 @@
+use Rattle.std.proofs.Common.{◌≡◌, None, OnErr, subst}
 use Rattle.validation_rules.specs.Branches.{return_row}
 use Rattle.validation_rules.specs.Operators.{staying_operator}
-use Rattle.validate_stacks.proofs.AtOnce.{done_at_once, may_visit_then, meets_then}
+use Rattle.validate_stacks.specs.Attempts.{Stacked}
+use Rattle.validate_stacks.specs.Visits.{step_body}
+use Rattle.validate_stacks.proofs.AtOnce.{done_at_once, may_visit_then, meets_then, same_at_once}
 use Rattle.validate_rows.proofs.branches.check_return.Goals as goal
 
 pub returns-then-return_at_once-clause-visit : goal.returns-then-return_at_once-clause-visit
@@ -11,3 +14,9 @@ return_by_pops-requires g c = may_visit_then _ (λ cx. staying_operator (λ hs. 
 
 pub returns-clause-visit : goal.returns-clause-visit
 returns-clause-visit g c = meets_then _ (λ cx. staying_operator (λ hs. return_row cx hs)) c.args.stacks.now c.return_at_once.new.stacks c.return_at_once.result c.return_at_once.ensures c.if-return_at_once.false c.args.offset c.return_by_pops.result c.return_by_pops.new.stacks.body c.return_by_pops.ensures.visit
+
+pub returns-clause-memory : goal.returns-clause-memory
+returns-clause-memory g c =
+    let md = g.R.WasmModuleResources.context c.args.resources.now in
+    let same = same_at_once md (λ cx. staying_operator (λ hs. return_row cx hs)) c.args.stacks.now c.return_at_once.new.stacks c.return_at_once.result c.return_at_once.ensures c.if-return_at_once.false in
+    subst (λ (s : Stacked). s.body.undone ≡ None → OnErr c.return_by_pops.result (step_body md (λ cx. staying_operator (λ hs. return_row cx hs)) s.body ≡ None)) same c.return_by_pops.ensures.memory

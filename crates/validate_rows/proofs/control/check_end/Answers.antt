@@ -20,15 +20,15 @@ close_at_once-requires-clause-open g c = frame_there c.args.stacks.now.body c.in
 pub close_at_once-requires-clause-frame : goal.close_at_once-requires-clause-frame
 close_at_once-requires-clause-frame g c = block_there c.args.stacks.now.body c.in-Some.frame.now (sym c.get_frame.ensures ∙ ap option_copied c.in-Some.is)
 
-pub end_by_pops-requires-3 : goal.end_by_pops-requires-3
-end_by_pops-requires-3 g c =
+pub end_by_pops-requires-2 : goal.end_by_pops-requires-2
+end_by_pops-requires-2 g c =
     let md = g.R.WasmModuleResources.context c.args.resources.now in
     subst (MayVisit md) (sym (was_not_made _ c.close_at_once.result c.if-close_at_once.false c.close_at_once.ensures.exact)) c.requires
 
 pub returns : goal.returns
 returns g c =
     let md = g.R.WasmModuleResources.context c.args.resources.now in
-    subst (λ (s : Stacked). Meets md (λ cx. delimiter_operator Ends) c.args.offset s.body c.end_by_pops-3.result c.end_by_pops-3.new.stacks.body) (was_not_made _ c.close_at_once.result c.if-close_at_once.false c.close_at_once.ensures.exact) c.end_by_pops-3.ensures
+    subst (λ (s : Stacked). Meets md (λ cx. delimiter_operator Ends) c.args.offset s.body c.end_by_pops-2.result c.end_by_pops-2.new.stacks.body) (was_not_made _ c.close_at_once.result c.if-close_at_once.false c.close_at_once.ensures.exact) c.end_by_pops-2.ensures
 
 pub returns-then-close_at_once : goal.returns-then-close_at_once
 returns-then-close_at_once g c =

@@ -1,3 +1,4 @@
+use Rattle.std.proofs.Common.{rules}
 use Rattle.validation_rules.specs.Tables.{table_row}
 use Rattle.validate_shapes.specs.Operands.{operands_row}
 use Rattle.validate_shapes.proofs.Found.{meets_barred, meets_found}
@@ -6,7 +7,7 @@ use Rattle.validate_rows.proofs.tables.check_table_row.Goals as goal
 pub returns-in_err-types : goal.returns-in_err-types
 returns-in_err-types g c =
     let md = g.R.WasmModuleResources.context c.args.resources.now in
-    meets_barred md c.args.stacks.now.body (λ cx hs. table_row cx c.args.op) c.args.offset _ tt c.in_err-types.ensures.refused c.in_err-types.ensures.at_offset c.requires.valid
+    meets_barred md c.args.stacks.now.body (λ cx hs. table_row cx c.args.op) c.args.offset _ (search rules) (search (rules, c.in_err-types.ensures.refused)) (search (rules, c.in_err-types.ensures.at_offset)) c.requires.valid
 
 pub returns : goal.returns
 returns g c =

@@ -1,3 +1,4 @@
+use Rattle.std.proofs.Common.{rules}
 use Rattle.validation_rules.specs.Arrays.{array_row}
 use Rattle.validate_shapes.proofs.Found.{meets_barred, meets_found}
 use Rattle.validate_shapes.specs.Operands.{operands_row}
@@ -6,7 +7,7 @@ use Rattle.validate_rows_gc.proofs.arrays.check_array_row.Goals as goal
 pub returns-in_err-types-in_default : goal.returns-in_err-types-in_default
 returns-in_err-types-in_default g c =
     let md = g.R.WasmModuleResources.context c.args.resources.now in
-    meets_barred md c.args.stacks.now.body (λ cx hs. array_row cx c.args.op) c.args.offset _ tt c.in_err-types-in_default.ensures.refused c.in_err-types-in_default.ensures.at_offset c.requires.valid
+    meets_barred md c.args.stacks.now.body (λ cx hs. array_row cx c.args.op) c.args.offset _ (search rules) (search (rules, c.in_err-types-in_default.ensures.refused)) (search (rules, c.in_err-types-in_default.ensures.at_offset)) c.requires.valid
 
 pub returns-in_ok-types-in_default : goal.returns-in_ok-types-in_default
 returns-in_ok-types-in_default g c =

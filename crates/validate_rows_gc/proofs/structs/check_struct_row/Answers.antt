@@ -16,7 +16,7 @@ returns-in_err-types g c =
     let md = g.R.WasmModuleResources.context c.args.resources.now in
     let u = c.pop_descriptor_of.new.stacks.body in
     meets_from md _ (λ cx. row_operator (row_under_descriptor cx c.args.op)) c.args.offset c.args.stacks.now.body u u _ c.in_ok-pop_descriptor_of.ensures.passed c.pop_descriptor_of.ensures.kept
-    (meets_barred md u (λ cx hs. row_under_descriptor cx c.args.op) c.args.offset _ tt c.in_err-types.ensures.refused c.in_err-types.ensures.at_offset c.pop_descriptor_of.ensures.valid)
+    (meets_barred md u (λ cx hs. row_under_descriptor cx c.args.op) c.args.offset _ (search rules) (search (rules, c.in_err-types.ensures.refused)) (search (rules, c.in_err-types.ensures.at_offset)) c.pop_descriptor_of.ensures.valid)
 
 pub returns : goal.returns
 returns g c =

@@ -1,6 +1,6 @@
 //! `opcheck_bench`: how long the validator takes for the body of a script, in the process.
 //!
-//! It reads a script from the standard input, as `opcheck` does, and checks its body many times: by
+//! It reads the script of a function from the standard input, as `opcheck` does, and checks its body many times: by
 //! `check_ops`, which notes the heights, and by single visits, those of `try` lines attempted. For each
 //! way it prints the best time, in nanoseconds an operator, and how many operators there are.
 //!
@@ -14,11 +14,11 @@ mod measure;
 use crate::choice::{Choice, read_choice};
 use crate::failure::Failure;
 use crate::measure::{Subject, Way, best_time};
-use opcheck_script::module_lists;
 use script_reader::{Script, read_lists, read_script};
 use std::io::Read;
 use std::process::ExitCode;
 use std::str;
+use validate_resources::ModuleLists;
 
 /// Reads the input whole.
 fn read(rt: &HostRuntime) -> Result<Vec<u8>, Failure> {
@@ -67,7 +67,7 @@ fn run(rt: &HostRuntime) -> Result<(), Failure> {
         locals,
         operators,
     } = read_script(alloc, &lists, text).map_err(|_| Failure::Script)?;
-    let module = module_lists(alloc, declarations).map_err(|_| Failure::Script)?;
+    let module = ModuleLists::from_declarations(alloc, declarations).map_err(|_| Failure::Script)?;
     let subject = Subject {
         alloc,
         module: &module,

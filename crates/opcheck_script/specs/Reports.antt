@@ -1,10 +1,11 @@
 -- What the check of a script answers (the crate's own).
 use Rattle.std.specs.Prelude.{◌≡◌, ◌⊎◌, ◌↔◌, ℕ, Bool, true, false, IsTrue, List, [], Some, Result, Ok, Err}
-use Rattle.std.specs.Prelude.{length, ◌&&◌, ◌||◌}
+use Rattle.std.specs.Prelude.{length, ◌&&◌, ◌||◌, Option, None, IsSome, IfSome, OnOk, IfOk, IfErr}
 use Rattle.std.specs.List.{list_all, list_any}
 use Rattle.wasmparser_validate.specs.Refusal.{Refusal}
 use Rattle.wasmparser_validate.specs.WasmFeatures.{WasmFeatures}
 use Rattle.wasmparser_validate.specs.Context.{ModuleContext}
+use Rattle.wasmparser_validate.specs.Lists.{Declared, context_of, module_of}
 use Rattle.wasmparser_validate.specs.Immediates.{is_module_op}
 use Rattle.wasmparser_validate.specs.Order.{is_well_ordered_list}
 use Rattle.wasmparser_validate.specs.BlockType.{BlockType}
@@ -14,6 +15,9 @@ use Rattle.wasmparser_validate.specs.Static.{State, start}
 use Rattle.wasmparser_validate.specs.Runs.{without_offsets, body_before, AreHeightsAfter, IsRefusedAt, IsSafeFrom}
 use Rattle.opcheck_script.specs.Attempts.{Attempted, RunsEach, accepted_of}
 use Rattle.opcheck_script.specs.Begin.{HasLocals, CannotBegin}
+use Rattle.opcheck_script.specs.declared.failure.BadScript.TheVariants.{Order, Module}
+use Rattle.opcheck_script.specs.declared.failure.Failure.{Failure}
+use Rattle.opcheck_script.specs.declared.failure.Failure.TheVariants.{BadScript, OutOfMemory}
 use Rattle.opcheck_script.specs.declared.report.Report.{Report}
 use Rattle.opcheck_script.specs.declared.report.Answers.{Answers}
 use Rattle.opcheck_script.specs.declared.report.Answers.TheVariants.{Heights, Each}
@@ -102,3 +106,17 @@ pub record IsRefusedBefore (md : ModuleContext) (body : ScriptBody) (report : Re
 
 abbrev pub IsReport : ModuleContext → ScriptBody → Report → Type 0
 IsReport md body report = IsRun md body report ⊎ IsRefusedBefore md body report
+
+-- What comes of a script with these declarations and this body: a report of a body in order, in its module; or
+-- why there is none, want of memory aside.
+pub record ChecksScript (declared : Declared) (body : ScriptBody) (answer : Result Report Failure) : Type 0 where
+  pub ordered : OnOk answer (may_be_body body.operators.ops ≡ true)
+  pub declares : OnOk answer (IsSome (module_of declared))
+  pub report :
+      IfOk answer (λ report. IfSome (module_of declared) (λ lists. IsReport (context_of lists) body report))
+  pub cause :
+      IfErr answer
+      (λ failure.
+        (failure ≡ OutOfMemory)
+        ⊎ ((failure ≡ BadScript Order) × (may_be_body body.operators.ops ≡ false))
+        ⊎ ((failure ≡ BadScript Module) × (module_of declared ≡ None)))

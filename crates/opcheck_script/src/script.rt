@@ -1,15 +1,15 @@
 //! Checking a script that was read.
 
-ghost use Rattle.std.specs.Prelude.{◌≡◌, ◌⊎◌, true, false, length, None, Some, IsSome, IfSome, IfOk, OnOk, IfErr};
+ghost use Rattle.std.specs.Prelude.{◌≡◌, ◌⊎◌, true, false, length, None, Some, IfOk, IfErr};
 ghost use Rattle.std.specs.List.{list_all};
 ghost use Rattle.wasmparser_validate.specs.Immediates.{is_module_op};
 ghost use Rattle.wasmparser_validate.specs.Kept.{declared_lists};
-ghost use Rattle.wasmparser_validate.specs.Lists.{context_of, module_of};
+ghost use Rattle.wasmparser_validate.specs.Lists.{module_of};
 ghost use Rattle.wasmparser_validate.specs.Named.{declared_in};
 ghost use Rattle.wasmparser_validate.specs.State.{IsStarting};
 ghost use Rattle.wasmparser_validate.specs.Start.{state};
 ghost use Rattle.opcheck_script.specs.Begin.{IsExpressionStart, IsBodyStart, CannotStart, HasLocals, CannotBegin};
-ghost use Rattle.opcheck_script.specs.Reports.{IsReport, script_body, may_be_body};
+ghost use Rattle.opcheck_script.specs.Reports.{ChecksScript, script_body, may_be_body};
 ghost use Rattle.script_parts.specs.Written.{may_all_be_attempted};
 ghost use Rattle.opcheck_script.specs.declared.failure.BadScript.{BadScript};
 ghost use Rattle.opcheck_script.specs.declared.failure.Failure.{Failure};
@@ -27,15 +27,7 @@ use wasmparser_validate::visit::{Op, have_module_immediates, is_well_ordered};
 
 /// Checks a script: first its order, then its module, then its body.
 pub fn check_script(alloc: Global, script: Script<'_>) -> Result<Report, Failure>
-    ensures ordered { OnOk result (may_be_body script.entry.operators.ops.items ≡ true) }
-    ensures module { OnOk result (IsSome (module_of (declared_in script.entry.declarations))) }
-    ensures report { IfOk result (λ report. IfSome (module_of (declared_in script.entry.declarations))
-        (λ lists. IsReport (context_of lists) (script_body script.entry) report)) }
-    ensures cause { IfErr result (λ failure. (failure ≡ Failure.OutOfMemory)
-        ⊎ ((failure ≡ Failure.BadScript BadScript.Order)
-        × (may_be_body script.entry.operators.ops.items ≡ false))
-        ⊎ ((failure ≡ Failure.BadScript BadScript.Module)
-        × (module_of (declared_in script.entry.declarations) ≡ None))) }
+    ensures { ChecksScript (declared_in script.entry.declarations) (script_body script.entry) result }
 {
     let Script {
         features,
@@ -46,12 +38,46 @@ pub fn check_script(alloc: Global, script: Script<'_>) -> Result<Report, Failure
         operators,
     } = script;
     let Operators { ops, attempts } = operators;
-    if !may_be_body(&ops) {
+    check_operators(
+        alloc,
+        features,
+        declarations,
+        body,
+        &locals,
+        &ops,
+        &attempts,
+        shows,
+    )
+}
+
+/// Checks the operators of a body, some of them attempted, in the module of these declarations, with these
+/// proposals on. It notes the types of the operands where the script shows them.
+fn check_operators(
+    alloc: Global,
+    features: WasmFeatures,
+    declarations: ModuleDeclarations,
+    line: BodyLine,
+    locals: &[LocalLine],
+    ops: &[(Op<'_>, u64)],
+    attempts: &[bool],
+    shows: bool,
+) -> Result<Report, Failure>
+    requires each { length attempts.now ≡ length ops.now }
+    requires allowed { may_all_be_attempted ops.now attempts.now ≡ true }
+    ensures { ChecksScript (declared_in declarations) (record {
+          features = features;
+          shows = shows;
+          line = line;
+          locals = locals.now;
+          operators = record { ops = ops.now; attempts = attempts.now };
+        }) result }
+{
+    if !may_be_body(ops) {
         return Err(Failure::BadScript(BadScript::Order));
     }
     let module = module_lists(alloc, declarations)?;
-    match begin_body(alloc, &module, &features, body, &locals) {
-        Ok(validator) => Ok(run_operators(alloc, validator, &ops, &attempts, shows, &module)),
+    match begin_body(alloc, &module, &features, line, locals) {
+        Ok(validator) => Ok(run_operators(alloc, validator, ops, attempts, shows, &module)),
         Err(refusal) => Ok(Report {
             answers: Answers::Heights(Vec::new(alloc)),
             outcome: Err(refusal),

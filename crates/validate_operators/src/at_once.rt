@@ -7,13 +7,15 @@ ghost use Rattle.validate_stacks.specs.Visits.{MayVisit};
 
 use validate_resources::WasmModuleResources;
 use validate_rows::branches::{br_at_once, br_if_at_once, return_at_once};
-use validate_rows::control::{nop_at_once, unreachable_at_once};
+use validate_rows::control::{end_at_once, nop_at_once, unreachable_at_once};
 use validate_rows::memory::memory_at_once;
 use validate_rows::numeric::{convert_at_once, numeric_at_once};
 use validate_rows::parametric::drop_at_once;
 use validate_rows::variables::{local_get_at_once, local_set_at_once, local_tee_at_once};
+use validate_shapes::blocks::opener_at_once;
 use validate_stacks::Stacks;
-use validate_visit::{ControlOp, ConvertOp, MemoryOp, NumericOp, Op};
+use validate_types::ValType;
+use validate_visit::{ControlOp, ConvertOp, FrameKind, MemoryOp, NumericOp, Op};
 
 /// An operator on numbers, behind its gate.
 #[inline(always)]
@@ -59,6 +61,14 @@ fn control_at_once<R: WasmModuleResources>(
     match op {
         ControlOp::Unreachable => unreachable_at_once(stacks, resources),
         ControlOp::Nop => nop_at_once(stacks, resources),
+        ControlOp::Block(ty) => {
+            opener_at_once(stacks, resources, FrameKind::Block, None, ty)
+        }
+        ControlOp::Loop(ty) => opener_at_once(stacks, resources, FrameKind::Loop, None, ty),
+        ControlOp::If(ty) => {
+            opener_at_once(stacks, resources, FrameKind::If, Some(ValType::I32), ty)
+        }
+        ControlOp::End => end_at_once(stacks, resources),
         ControlOp::Br(relative_depth) => br_at_once(stacks, resources, relative_depth),
         ControlOp::BrIf(relative_depth) => br_if_at_once(stacks, resources, relative_depth),
         ControlOp::Return => return_at_once(stacks, resources),

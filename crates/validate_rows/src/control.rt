@@ -130,17 +130,26 @@ pub fn check_end<R: WasmModuleResources>(
     ensures { Meets (R.context resources.now) (λ cx. delimiter_operator Ends) offset
         stacks.old.body result stacks.new.body }
 {
-    let Some(frame) = stacks.get_frame(0) else {
-        return end_by_pops(stacks, resources, offset);
-    };
-    let block_type = frame.block_type;
-    if is_if_part(frame.kind) {
-        return end_by_pops(stacks, resources, offset);
-    }
-    if stacks.close_at_once(resources, block_type) {
-        return stacks.push_types(offset, results(resources, &block_type));
+    if end_at_once(stacks, resources) {
+        return Ok(());
     }
     end_by_pops(stacks, resources, offset)
+}
+
+/// [`check_end`], where it passes at once: the frame is no first part of an `if`, and has one result at most. False,
+/// with nothing changed, where it doesn't.
+#[inline(always)]
+pub fn end_at_once<R: WasmModuleResources>(stacks: &mut Stacks, resources: &R) -> bool
+    requires { MayVisit (R.context resources.now) stacks.old }
+    ensures { MeetsAtOnce (R.context resources.now) (λ cx. delimiter_operator Ends) stacks.old result stacks.new }
+{
+    match stacks.get_frame(0) {
+        Some(frame) => {
+            let block_type = frame.block_type;
+            !is_if_part(frame.kind) && stacks.leave_at_once(resources, block_type)
+        }
+        None => false,
+    }
 }
 
 /// The same by pops one by one.

@@ -1,13 +1,15 @@
 //! Operators that open a frame (WebAssembly core specification, "Control Instructions").
 
-ghost use Rattle.std.specs.Prelude.{◌≡◌, ◌++◌, true, false, None, Some, ◌&&◌, IfOk, OnOk, IfErr};
+ghost use Rattle.std.specs.Prelude.{◌≡◌, ◌++◌, [], true, false, None, Some, ◌&&◌, IfOk, OnOk, IfErr};
 ghost use Rattle.std.specs.Option.{ForSome};
 ghost use Rattle.std.specs.List.{AllByRecursion};
 ghost use Rattle.validate_resources.specs.Context.{Valid};
 ghost use Rattle.validate_types.specs.Features.{has, multi_value};
+ghost use Rattle.validation_rules.specs.Context.{block_signature};
 ghost use Rattle.validation_rules.specs.Operators.{opener, opening_operator, checked_block, is_accessible_func_type};
 ghost use Rattle.validation_rules.specs.Valid.{IsValidBlock};
 ghost use Rattle.validate_stacks.specs.State.{body_context};
+ghost use Rattle.validate_stacks.specs.AtOnce.{pushed_list, MeetsAtOnce};
 ghost use Rattle.validate_stacks.specs.Visits.{MayVisit, Meets};
 
 use validate_resources::WasmModuleResources;
@@ -80,6 +82,30 @@ pub fn check_block_type<R: WasmModuleResources>(
             check_function_type(stacks, resources, offset, index)?;
             Ok(BlockType::FuncType(index))
         }
+    }
+}
+
+/// [`check_block_type`], where it passes, of a block without parameters.
+#[inline(always)]
+fn plain_block_type<R: WasmModuleResources>(
+    stacks: &Stacks,
+    resources: &R,
+    block_type: BlockType,
+) -> Option<BlockType>
+    ensures checked { ForSome result (λ bt. checked_block
+        (body_context (R.context resources.now) stacks.now.body) block_type ≡ Some bt) }
+    ensures plain { ForSome result (λ bt. (block_signature (R.context resources.now) bt).params ≡ []) }
+{
+    match block_type {
+        BlockType::Empty => Some(BlockType::Empty),
+        BlockType::Val(ty) => {
+            let mut checked = ty;
+            match resources.check_value_type(&mut checked, &stacks.features(), 0) {
+                Ok(()) => Some(BlockType::Val(checked)),
+                Err(_) => None,
+            }
+        }
+        BlockType::FuncType(_) => None,
     }
 }
 
@@ -160,4 +186,28 @@ pub fn check_opener<R: WasmModuleResources>(
 {
     let checked = check_block_type(stacks, resources, offset, block_type)?;
     open_frame(stacks, resources, offset, kind, above, checked)
+}
+
+/// [`check_opener`], where it passes at once: the block has no parameters, and there is room for its frame. False,
+/// with nothing changed, where it doesn't.
+#[inline(always)]
+pub fn opener_at_once<R: WasmModuleResources>(
+    stacks: &mut Stacks,
+    resources: &R,
+    kind: FrameKind,
+    above: Option<ValType>,
+    block_type: BlockType,
+) -> bool
+    requires visit { MayVisit (R.context resources.now) stacks.old }
+    requires above { AllByRecursion (Valid (R.context resources.now)) (pushed_list above) }
+    ensures { MeetsAtOnce (R.context resources.now) (λ cx. opener cx kind (pushed_list above) block_type
+        (checked_block cx block_type)) stacks.old result stacks.new }
+{
+    match plain_block_type(stacks, resources, block_type) {
+        Some(checked) => match above {
+            Some(ty) => stacks.open_over_at_once(resources, ty, kind, checked),
+            None => stacks.open_at_once(kind, checked),
+        },
+        None => false,
+    }
 }

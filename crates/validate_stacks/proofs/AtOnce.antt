@@ -1,8 +1,9 @@
 -- Operands put in place or taken where no attempt is pending, and what fits at once.
-use Rattle.std.proofs.Common.{◌≡◌, ◌≢◌, ◌⊎◌, inl, inr, min, reverse, map, Result, Ok, Err, IsOk, is_ok, OnOk, MatchResult, MatchBool, ℕ, zero, suc, ◌+◌, ◌-◌, ◌<◌, ◌≤◌, List, [], ◌∷◌, Bool, true, false, Option, Some, None, is_some, IsSome, length, take, drop, refl, sym, ◌∙◌, ap, subst, arith}
+use Rattle.std.proofs.Common.{◌≡◌, ◌≢◌, ◌⊎◌, inl, inr, min, reverse, map, Result, Ok, Err, IsOk, is_ok, OnOk, MatchResult, MatchOption, MatchBool, ℕ, zero, suc, ◌+◌, ◌-◌, ◌<◌, ◌≤◌, List, [], ◌∷◌, Bool, true, false, Option, Some, None, is_some, IsSome, length, get_or, slice_get, take, drop, refl, sym, ◌∙◌, ap, subst, arith}
 use Rattle.std.specs.List.{AllByRecursion}
 use Rattle.std.specs.Option.{option_map}
-use Rattle.std.proofs.lemmas.List.{drop_min, length-drop, length-reverse}
+use Rattle.std.proofs.lemmas.List.{drop_min, drop-drop, length-drop, length-reverse, length-take-le, take-append-drop}
+use Rattle.std.proofs.Math.Seq.{take-add}
 use Rattle.validate_resources.specs.Context.{ModuleContext, Valid, IsLawful}
 use Rattle.validate_types.specs.Refusal.{Refusal}
 use Rattle.validate_types.specs.declared.features.WasmFeatures.{WasmFeatures}
@@ -10,21 +11,23 @@ use Rattle.validate_types.specs.declared.types.ValType.{ValType}
 use Rattle.validate_visit.specs.declared.frame.Frame.{Frame as FlatFrame}
 use Rattle.validate_transaction.specs.declared.log.Transaction.{Transaction}
 use Rattle.validate_transaction.specs.declared.log.Transaction.TheVariants.{Active, Inactive}
-use Rattle.validate_transaction.specs.Recorded.{log_of, with_push, with_pop}
+use Rattle.validate_transaction.specs.Recorded.{log_of, with_push, with_pop, with_opened}
 use Rattle.validation_rules.specs.Fits.{MaybeType, Bottom, Known, fits, all_fit}
 use Rattle.validation_rules.specs.Context.{Context}
 use Rattle.validation_rules.specs.Rows.{guard, Operator}
-use Rattle.validate_stacks.specs.Attempts.{Stacked}
-use Rattle.validation_rules.specs.Static.{Frame, State, operands_found, operands_under, locals_set}
-use Rattle.validate_stacks.specs.AtOnce.{frames_dropped, body_dropped, pushed_list, MeetsAtOnce}
-use Rattle.validate_stacks.specs.Flat.{flat_state, HasShape, IsSound, undone_pending}
+use Rattle.validate_stacks.specs.Attempts.{Stacked, may_frame}
+use Rattle.validation_rules.specs.Static.{Frame, State, state_with, operands_found, operands_under, locals_set}
+use Rattle.validate_stacks.specs.AtOnce.{frames_dropped, body_dropped, state_given, body_given, pushed_list, MeetsAtOnce}
+use Rattle.validation_rules.specs.Context.{block_signature}
+use Rattle.validate_stacks.specs.Blocks.{closed_body}
+use Rattle.validate_stacks.specs.Flat.{flat_state, stacked_of, HasShape, IsSound, undone_pending}
 use Rattle.validate_stacks.specs.Pops.{FitsAtOnce, may_pop, frames_popped_each, body_popped_each, body_pushed_each, has_operands_fitting, operands_found_in, IsKept}
 use Rattle.validate_stacks.specs.State.{BodyState, body_context, body_with_frames, IsValidBody}
-use Rattle.validate_stacks.specs.Steps.{found_in_body, innermost_operands, body_without_first, body_popped, body_pushed, body_unreachable}
+use Rattle.validate_stacks.specs.Steps.{found_in_body, frame_at, innermost_operands, body_without_first, body_popped, body_pushed, body_unreachable, body_without_frame}
 use Rattle.validate_stacks.specs.Visits.{Meets, MayVisit}
 use Rattle.validation_rules.proofs.Steps.{some_injective}
-use Rattle.validate_stacks.proofs.Closing.{guarded_some}
-use Rattle.validate_stacks.proofs.Cuts.{state_of}
+use Rattle.validate_stacks.proofs.Closing.{guarded_some, closed_passes, wants_valid}
+use Rattle.validate_stacks.proofs.Cuts.{state_of, HasShape-more, above_height}
 use Rattle.validate_stacks.proofs.Matching.{drop_next}
 use Rattle.validate_stacks.proofs.Whole.{popped_none, popped_next, popped_whole, with_frame}
 use Rattle.validate_stacks.proofs.Validity.{popped_valid, popped_kept, pushed_valid, kept_on}
@@ -163,7 +166,8 @@ guard_some : {A : Type 0} (b : Bool) (o : Option A) (u : A) → guard b o ≡ So
 guard_some true o u h = h
 guard_some false o u h = absurd cc
 
-mapped_some : {A B : Type 0} (f : A → B) (o : Option A) (b : B) → option_map f o ≡ Some b → (a : A) × (o ≡ Some a) × (f a ≡ b)
+-- what a value was made of
+pub mapped_some : {A B : Type 0} (f : A → B) (o : Option A) (b : B) → option_map f o ≡ Some b → (a : A) × (o ≡ Some a) × (f a ≡ b)
 mapped_some f (Some a) b h = (a, refl, cc)
 mapped_some f None b h = absurd cc
 
@@ -323,3 +327,164 @@ was_not_made P false h m = m
 pub ended_of : {E : Type 0} (md : ModuleContext) (wanted : List ValType) (v : BodyState) (s w : Stacked) (r : Result (Unit {0}) E) (b : Bool) → has_operands_fitting (body_context md v) wanted v ≡ true → OnOk r (w.body ≡ body_unreachable v) → b ≡ is_ok r → IsOk r → MatchBool b (option_map body_unreachable (body_popped_each md (reverse wanted) v) ≡ Some w.body) (w ≡ s)
 ended_of md wanted v s w (Ok x) b fit e is ok = rw is (ended_whole md wanted v w.body fit e)
 ended_of md wanted v s w (Err x) b fit e is ok = absurd cc
+
+-- ---- a frame opened where nothing is recorded
+
+pub quiet_opened : (t : Transaction) → log_of t ≡ None → with_opened t ≡ t
+quiet_opened (Active log) h = cc
+quiet_opened (Inactive a) h = refl
+
+pub quiet_frame : (fs : List FlatFrame) (ops : List MaybeType) (is : List ℕ) (t : Transaction) (s : Bool) (n : WasmFeatures) (ls : List ValType) (en : List Bool) → log_of t ≡ None → may_frame (stacked_of fs ops is t s n ls en) ≡ true
+quiet_frame fs ops is (Active log) s n ls en h = cc
+quiet_frame fs ops is (Inactive a) s n ls en h = refl
+
+-- ---- own operands given to the next outer frame
+
+-- the frames below, at once and after the own operands of the innermost one
+pub cut-given : (f : FlatFrame) (fs : List FlatFrame) (ops : List MaybeType) (is : List ℕ) (m : ℕ) → HasShape (f ∷ fs) (length ops) m → flat_state fs ops (take f.init_height is) ≡ state_given (flat_state (f ∷ fs) ops is).frames (flat_state (f ∷ fs) ops is).left
+cut-given f [] ops is m h = ap (λ l. state_with l []) (sym (take-append-drop (length ops - f.height) ops))
+cut-given f (g ∷ gs) ops is m h =
+    let k = length ops - f.height in
+    let below : length (drop k ops) ≡ f.height = omega (arith, length-drop k ops, h.0) in
+    let more : length ops - g.height ≡ k + (length (drop k ops) - g.height) = omega (arith, below, h.0, h.2.0) in
+    rw more (rw (take-add k (length (drop k ops) - g.height) ops, ← drop-drop (length (drop k ops) - g.height) k ops) refl)
+
+pub sound_given : (fr fr' : ℕ) (f : FlatFrame) (fs : List FlatFrame) (or : ℕ) (ops : List MaybeType) (ir ir' : ℕ) (en en' : List Bool) (is : List ℕ) (t : Transaction) (ls : List ValType) → log_of t ≡ None → en ≡ en' → IsSound fr (f ∷ fs) or ops ir en is t ls → IsSound fr' fs or ops ir' en' (take f.init_height is) t ls
+sound_given fr fr' f fs or ops ir ir' en en' is (Active log) ls quiet e w = cc
+sound_given fr fr' f fs or ops ir ir' en en' is (Inactive a) ls quiet e w = record {
+  shape = subst (HasShape fs (length ops)) (sym (length-take-le f.init_height is w.shape.1)) (HasShape-more fs f.height (length ops) f.init_height w.shape.0 w.shape.2);
+  marks = ap length (sym e) ∙ w.marks;
+  undo = tt;
+}
+
+pub idle_given : (f : FlatFrame) (fs : List FlatFrame) (ops : List MaybeType) (is : List ℕ) (t : Transaction) (s : Bool) (n : WasmFeatures) (ls : List ValType) (en : List Bool) → log_of t ≡ None → HasShape (f ∷ fs) (length ops) (length is) → state_of fs ops (take f.init_height is) s n ls en (undone_pending fs ops (take f.init_height is) t) ≡ body_given (state_of (f ∷ fs) ops is s n ls en (undone_pending (f ∷ fs) ops is t))
+idle_given f fs ops is (Active log) s n ls en quiet h = cc
+idle_given f fs ops is (Inactive a) s n ls en quiet h = ap (λ (p : State). record { present = p; shared = s; features = n; locals = ls; set_at_entry = en; undone = None }) (cut-given f fs ops is (length is) h)
+
+-- ---- the top own operand taken
+
+-- there is one
+pub taken_there : (fs : List FlatFrame) (ops : List MaybeType) (is : List ℕ) → innermost_operands (flat_state fs ops is).frames ≢ [] → (o : Option MaybeType) (rest : List MaybeType) → MatchOption o ((ops ≡ []) × (rest ≡ [])) (λ x. ops ≡ x ∷ rest) → (x : MaybeType) × (ops ≡ x ∷ rest)
+taken_there fs ops is own (Some x) rest m = (x, m)
+taken_there fs ops is own None rest m = let some = own_there fs ops is own in absurd (omega (arith, some, ap length m.0))
+
+-- it lies above the height of its frame
+above_own : (g : FlatFrame) (gs : List FlatFrame) (x : MaybeType) (ops : List MaybeType) (is : List ℕ) → innermost_operands (flat_state (g ∷ gs) (x ∷ ops) is).frames ≢ [] → g.height ≤ length ops
+above_own g gs x ops is own = by (suc (length ops) - g.height) refl
+  where
+    by : (k : ℕ) → suc (length ops) - g.height ≡ k → g.height ≤ length ops
+    by zero e = absurd (own (ap (λ j. take j (x ∷ ops)) e))
+    by (suc k) e = omega (arith, e)
+
+pub sound_taken : (fr : ℕ) (fs : List FlatFrame) (or or' : ℕ) (x : MaybeType) (ops : List MaybeType) (ir : ℕ) (en : List Bool) (is : List ℕ) (t : Transaction) (ls : List ValType) → log_of t ≡ None → innermost_operands (flat_state fs (x ∷ ops) is).frames ≢ [] → IsSound fr fs or (x ∷ ops) ir en is t ls → IsSound fr fs or' ops ir en is t ls
+sound_taken fr fs or or' x ops ir en is (Active log) ls quiet own w = cc
+sound_taken fr [] or or' x ops ir en is (Inactive a) ls quiet own w = absurd (own refl)
+sound_taken fr (g ∷ gs) or or' x ops ir en is (Inactive a) ls quiet own w = record { shape = (above_own g gs x ops is own, w.shape.1, w.shape.2); marks = w.marks; undo = tt }
+
+pub cut-taken : (fs : List FlatFrame) (x : MaybeType) (ops : List MaybeType) (is : List ℕ) (t : Transaction) (s : Bool) (n : WasmFeatures) (ls : List ValType) (en : List Bool) → log_of t ≡ None → innermost_operands (flat_state fs (x ∷ ops) is).frames ≢ [] → state_of fs ops is s n ls en (undone_pending fs ops is t) ≡ body_popped (state_of fs (x ∷ ops) is s n ls en (undone_pending fs (x ∷ ops) is t))
+cut-taken fs x ops is (Active log) s n ls en quiet own = cc
+cut-taken [] x ops is (Inactive a) s n ls en quiet own = absurd (own refl)
+cut-taken (g ∷ gs) x ops is (Inactive a) s n ls en quiet own = (above_height (g ∷ gs) g x ops is s n ls en None refl (above_own g gs x ops is own)).1
+
+-- where no frame is open, nothing is given
+pub given_nothing : (fs : List FlatFrame) (ops : List MaybeType) (is : List ℕ) (s : Bool) (n : WasmFeatures) (ls : List ValType) (en : List Bool) (un : Option State) → slice_get fs 0 ≡ None → state_of fs ops is s n ls en un ≡ body_given (state_of fs ops is s n ls en un)
+given_nothing [] ops is s n ls en un h = refl
+given_nothing (g ∷ gs) ops is s n ls en un h = cc
+
+-- ---- a frame left
+
+-- one that has no own operand
+pub given_none : (v : BodyState) → length (innermost_operands v.present.frames) ≡ 0 → body_given v ≡ body_without_frame v
+given_none v h = by v.present.frames h
+  where
+    in_frame : (own : List MaybeType) (f : Frame) (fs : List Frame) → length own ≡ 0 → body_given (body_with_frames (record f { operands = own } ∷ fs) v) ≡ body_with_frames fs v
+    in_frame [] f [] e = refl
+    in_frame [] f (g ∷ gs) e = refl
+    in_frame (x ∷ own) f fs e = absurd (omega (arith, e))
+
+    by : (fs : List Frame) → length (innermost_operands fs) ≡ 0 → body_given (body_with_frames fs v) ≡ body_without_frame (body_with_frames fs v)
+    by [] e = refl
+    by (f ∷ fs) e = in_frame f.operands f fs e
+
+-- one that has one, which becomes known
+pub given_one : (v : BodyState) (t : ValType) → length (innermost_operands v.present.frames) ≡ 1 → body_given (body_pushed (Known t) (body_popped v)) ≡ body_pushed (Known t) (body_without_frame v)
+given_one v t h = by v.present.frames h
+  where
+    in_frame : (own : List MaybeType) (f : Frame) (fs : List Frame) → length own ≡ 1 → body_given (body_pushed (Known t) (body_popped (body_with_frames (record f { operands = own } ∷ fs) v))) ≡ body_pushed (Known t) (body_with_frames fs v)
+    in_frame [] f fs e = absurd (omega (arith, e))
+    in_frame (x ∷ []) f [] e = refl
+    in_frame (x ∷ []) f (g ∷ gs) e = refl
+    in_frame (x ∷ y ∷ own) f fs e = absurd (omega (arith, e))
+
+    by : (fs : List Frame) → length (innermost_operands fs) ≡ 1 → body_given (body_pushed (Known t) (body_popped (body_with_frames fs v))) ≡ body_pushed (Known t) (body_without_frame (body_with_frames fs v))
+    by [] e = absurd (omega (arith, e))
+    by (f ∷ fs) e = in_frame f.operands f fs e
+
+-- what is dropped of a frame goes with it
+without_dropped : (n : ℕ) (v : BodyState) → body_without_frame (body_dropped n v) ≡ body_without_frame v
+without_dropped n v = by v.present.frames
+  where
+    by : (fs : List Frame) → body_without_frame (body_dropped n (body_with_frames fs v)) ≡ body_without_frame (body_with_frames fs v)
+    by [] = refl
+    by (f ∷ fs) = refl
+
+pub without_kept : (v : BodyState) → IsKept v (body_without_frame v)
+without_kept v = refl
+
+without_valid : (md : ModuleContext) (v : BodyState) → IsValidBody md v → IsValidBody md (body_without_frame v)
+without_valid md v h = by v.present.frames h
+  where
+    by : (fs : List Frame) → IsValidBody md (body_with_frames fs v) → IsValidBody md (body_without_frame (body_with_frames fs v))
+    by [] k = k
+    by (f ∷ fs) k = record { locals_valid = k.locals_valid; frames = k.frames.1; left = k.left }
+
+module _ (md : ModuleContext) (v : BodyState) (r : FlatFrame) (rs : List ValType) (there : frame_at v 0 ≡ Some r) (same : rs ≡ (block_signature md r.block_type).results) (fit : has_operands_fitting (body_context md v) rs v ≡ true) (own : length (innermost_operands v.present.frames) ≡ length rs) where
+  -- it may be closed
+  pub left_closed : closed_body md v ≡ Some (body_without_frame v)
+  left_closed =
+      let popped = popped_dropped md rs v fit in
+      let none = none_left md rs v (body_dropped (length rs) v) (omega (arith, own)) popped in
+      closed_passes md v r rs there same (body_dropped (length rs) v) popped none ∙ ap Some (without_dropped (length rs) v)
+
+  pub left_whole : (w : BodyState) → w ≡ body_pushed_each rs (body_without_frame v) → option_map (body_pushed_each rs) (closed_body md v) ≡ Some w
+  left_whole w e = ap (option_map (body_pushed_each rs)) left_closed ∙ ap Some (sym e)
+
+  pub left_valid : IsLawful md → IsValidBody md v → (w : BodyState) → w ≡ body_pushed_each rs (body_without_frame v) → IsValidBody md w
+  left_valid laws valid w e = subst (IsValidBody md) (sym e) ((pushed_each_kept md rs (body_without_frame v)).1 (wants_valid md v r rs laws there valid same) (without_valid md v valid))
+
+  pub left_kept : (w : BodyState) → w ≡ body_pushed_each rs (body_without_frame v) → IsKept v w
+  left_kept w e = subst (IsKept v) (sym e) (kept_on v (body_without_frame v) (body_pushed_each rs (body_without_frame v)) refl (pushed_each_kept md rs (body_without_frame v)).0)
+
+-- the one type of a list
+pub one_type : (ts : List ValType) (d : ValType) → length ts ≡ 1 → ts ≡ get_or ts 0 d ∷ []
+one_type [] d h = absurd (omega (arith, h))
+one_type (t ∷ []) d h = refl
+one_type (t ∷ u ∷ ts) d h = absurd (omega (arith, h))
+
+pub no_type : (ts : List ValType) → length ts ≤ 1 → length ts ≢ 1 → ts ≡ []
+no_type [] h n = refl
+no_type (t ∷ []) h n = absurd (n refl)
+no_type (t ∷ u ∷ ts) h n = absurd (omega (arith, h))
+
+-- ---- an operand taken for a frame
+
+pub opened_over : (md : ModuleContext) (t : ValType) (v w : BodyState) (opened : BodyState → BodyState) → has_operands_fitting (body_context md v) (t ∷ []) v ≡ true → w ≡ opened (body_popped v) → option_map opened (body_popped_each md (t ∷ []) v) ≡ Some w
+opened_over md t v w opened fit e =
+    ap (option_map opened) (popped_dropped md (t ∷ []) v fit)
+    ∙ ap (λ u. Some (opened u)) (sym (dropped_next 0 v) ∙ ap body_popped (dropped_none v))
+    ∙ ap Some (sym e)
+
+pub left_one : (v : BodyState) (rs : List ValType) (d : ValType) (x w : BodyState) → length rs ≡ 1 → length (innermost_operands v.present.frames) ≡ length rs → x ≡ body_pushed (Known (get_or rs 0 d)) (body_popped v) → w ≡ body_given x → w ≡ body_pushed_each rs (body_without_frame v)
+left_one v rs d x w one own p g =
+    g ∙ ap body_given p ∙ given_one v (get_or rs 0 d) (own ∙ one)
+    ∙ ap (λ ts. body_pushed_each ts (body_without_frame v)) (sym (one_type rs d one))
+
+pub left_none : (v : BodyState) (rs : List ValType) (w : BodyState) → length rs ≤ 1 → length rs ≢ 1 → length (innermost_operands v.present.frames) ≡ length rs → w ≡ body_given v → w ≡ body_pushed_each rs (body_without_frame v)
+left_none v rs w few not_one own g =
+    let none = no_type rs few not_one in
+    g ∙ given_none v (own ∙ ap length none) ∙ ap (λ ts. body_pushed_each ts (body_without_frame v)) (sym none)
+
+-- what follows from a change that was made
+pub match_made : {P Q : Type 0} (R : Type 0) (b : Bool) → (P → Q) → MatchBool b P R → MatchBool b Q R
+match_made R true f m = f m
+match_made R false f m = m

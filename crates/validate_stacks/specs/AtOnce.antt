@@ -1,10 +1,11 @@
 -- Operands taken and put in place at once (the crate's own).
-use Rattle.std.specs.Prelude.{◌≡◌, ℕ, Bool, List, [], ◌∷◌, Option, Some, None, Ok, drop, MatchBool}
+use Rattle.std.specs.Prelude.{◌≡◌, ℕ, Bool, List, [], ◌∷◌, ◌++◌, Option, Some, None, Ok, drop, MatchBool}
 use Rattle.validate_resources.specs.Context.{ModuleContext}
 use Rattle.validate_types.specs.declared.types.ValType.{ValType}
 use Rattle.validation_rules.specs.Context.{Context}
 use Rattle.validation_rules.specs.Rows.{Operator}
-use Rattle.validation_rules.specs.Static.{Frame}
+use Rattle.validation_rules.specs.Fits.{MaybeType}
+use Rattle.validation_rules.specs.Static.{Frame, State, state_with}
 use Rattle.validate_stacks.specs.Attempts.{Stacked}
 use Rattle.validate_stacks.specs.State.{BodyState, body_with_frames}
 use Rattle.validate_stacks.specs.Visits.{Meets}
@@ -16,6 +17,16 @@ frames_dropped n (f ∷ fs) = record f { operands = drop n f.operands } ∷ fs
 -- without so many own operands of the innermost frame, or all
 abbrev pub body_dropped : ℕ → BodyState → BodyState
 body_dropped n v = body_with_frames (frames_dropped n v.present.frames) v
+
+-- the own operands of the innermost frame, given to the next outer one, or left where there is none
+abbrev pub state_given : List Frame → List MaybeType → State
+state_given [] left = state_with left []
+state_given (f ∷ []) left = state_with (f.operands ++ left) []
+state_given (f ∷ g ∷ fs) left = state_with left (record g { operands = f.operands ++ g.operands } ∷ fs)
+
+-- without the innermost frame, whose own operands pass to the next outer one
+abbrev pub body_given : BodyState → BodyState
+body_given v = record v { present = state_given v.present.frames v.present.left }
 
 -- one type, or none
 abbrev pub pushed_list : Option ValType → List ValType

@@ -1,22 +1,23 @@
 //! Operands of numbers, taken and put in place at once where that needs no order of types, no log and no memory.
 
-ghost use Rattle.std.specs.Prelude.{◌≡◌, true, None, Some, reverse, IsSome, MatchBool};
+ghost use Rattle.std.specs.Prelude.{◌≡◌, [], ◌∷◌, true, None, Some, reverse, IsSome, MatchBool};
 ghost use Rattle.std.specs.List.{AllByRecursion};
 ghost use Rattle.std.specs.Option.{option_map, ForSome};
 ghost use Rattle.validate_resources.specs.Context.{Valid};
+ghost use Rattle.validation_rules.specs.Context.{block_signature};
 ghost use Rattle.validate_stacks.specs.Attempts.{phase_moved};
 ghost use Rattle.validate_stacks.specs.AtOnce.{body_dropped, pushed_list};
 ghost use Rattle.validate_stacks.specs.Blocks.{closed_body};
 ghost use Rattle.validate_stacks.specs.Pops.{IsKept, body_popped_each, body_pushed_each, has_operands_fitting};
 ghost use Rattle.validate_stacks.specs.State.{IsValidBody, body_context};
-ghost use Rattle.validate_stacks.specs.Steps.{body_unreachable, frame_at};
+ghost use Rattle.validate_stacks.specs.Steps.{body_unreachable, body_with_frame, frame_at};
 
 use crate::blocks::results;
 use crate::pops::fits_at_once;
 use crate::stacks::Stacks;
 use validate_resources::WasmModuleResources;
 use validate_types::{MaybeType, ValType};
-use validate_visit::BlockType;
+use validate_visit::{BlockType, FrameKind};
 
 impl Stacks {
     /// Whether pops of these types, the last of the list first, would each find the number or vector type
@@ -138,5 +139,61 @@ impl Stacks {
         }
         self.pop_bare_ctrl().unwrap();
         true
+    }
+
+    /// Closes the innermost frame, which has this block type with one result at most, and gives that to the next
+    /// outer one: where no attempt is pending, the result is found as for [`Stacks::exchange_at_once`], and it is
+    /// the frame's one own operand. False, with nothing changed, where that isn't so. It takes no memory.
+    #[inline(always)]
+    pub fn leave_at_once<R: WasmModuleResources>(
+        &mut self,
+        resources: &R,
+        block_type: BlockType,
+    ) -> bool
+        requires state { IsValidBody (R.context resources.now) self.old.body }
+        requires open { IsSome (frame_at self.old.body 0) }
+        requires frame { ForSome (frame_at self.old.body 0) (λ f. f.block_type ≡ block_type) }
+        ensures exact { MatchBool result
+            (option_map (body_pushed_each (block_signature (R.context resources.now) block_type).results)
+            (closed_body (R.context resources.now) self.old.body) ≡ Some self.new.body)
+            (self.new ≡ self.old) }
+        ensures valid { IsValidBody (R.context resources.now) self.new.body }
+        ensures kept { IsKept self.old.body self.new.body }
+    {
+        let results = results(resources, &block_type);
+        if self.is_pending()
+            || self.own_len() != results.len()
+            || results.len() > 1
+            || !self.finds_at_once(resources, results)
+        {
+            return false;
+        }
+        if results.len() == 1 {
+            self.replace_operand(MaybeType::Known(results[0]));
+        }
+        self.give_operands();
+        true
+    }
+
+    /// Takes an operand of this type, and opens a frame: where no attempt is pending, there is room, and the
+    /// innermost frame has an own operand that is found as for [`Stacks::exchange_at_once`]. False, with nothing
+    /// changed, where that isn't so. It takes no memory.
+    #[inline(always)]
+    pub fn open_over_at_once<R: WasmModuleResources>(
+        &mut self,
+        resources: &R,
+        taken: ValType,
+        kind: FrameKind,
+        block_type: BlockType,
+    ) -> bool
+        requires { Valid (R.context resources.now) taken }
+        ensures { MatchBool result (option_map (body_with_frame kind block_type)
+            (body_popped_each (R.context resources.now) (taken ∷ []) self.old.body) ≡ Some self.new.body)
+            (self.new ≡ self.old) }
+    {
+        if self.is_pending() || self.own_len() == 0 || !self.finds_at_once(resources, &[taken]) {
+            return false;
+        }
+        self.open_over_top(kind, block_type)
     }
 }

@@ -6,6 +6,7 @@ ghost use Rattle.validate_locals.specs.Limit.{max_locals};
 ghost use Rattle.validate_resources.specs.Context.{ModuleContext};
 ghost use Rattle.validate_transaction.specs.TakeBack.{items_taken_back, CanTakeBack};
 ghost use Rattle.validation_rules.specs.Static.{operand_count, frame_count, locals_set, is_local_set};
+ghost use Rattle.validate_stacks.specs.AtOnce.{body_given};
 ghost use Rattle.validate_stacks.specs.Attempts.{phase_moved, may_attempt, may_frame, may_set, may_unset, stacks_begun, stacks_committed, stacks_rolled_back};
 ghost use Rattle.validate_stacks.specs.Flat.{frames_unmarked, inits_in_frames};
 ghost use Rattle.validate_stacks.specs.Pops.{IsKept};
@@ -322,6 +323,66 @@ impl Stacks {
         ensures phase { phase_moved self.new.phase ≡ phase_moved self.old.phase }
     {
         self.operands.replace_top(ty);
+    }
+
+    /// Opens a frame with no operands of its own, where there is room and no attempt is pending. False, with
+    /// nothing changed, where that isn't so. It takes no memory.
+    #[inline(always)]
+    pub fn open_at_once(&mut self, kind: FrameKind, block_type: BlockType) -> bool
+        ensures { MatchBool result (self.new.body ≡ body_with_frame kind block_type self.old.body)
+            (self.new ≡ self.old) }
+    {
+        if self.transaction.is_active() || !self.control.has_room() {
+            return false;
+        }
+        let height = self.operands.len();
+        let init_height = self.inits.height();
+        self.control.put(Frame {
+            kind,
+            block_type,
+            height,
+            unreachable: false,
+            init_height,
+        });
+        true
+    }
+
+    /// Takes the top own operand of the innermost frame, and opens a frame as [`Stacks::open_at_once`] does.
+    #[inline(always)]
+    pub(crate) fn open_over_top(&mut self, kind: FrameKind, block_type: BlockType) -> bool
+        requires { innermost_operands self.old.body.present.frames ≢ [] }
+        ensures { MatchBool result
+            (self.new.body ≡ body_with_frame kind block_type (body_popped self.old.body))
+            (self.new ≡ self.old) }
+    {
+        if self.transaction.is_active() || !self.control.has_room() {
+            return false;
+        }
+        let _top = self.operands.pop();
+        let height = self.operands.len();
+        let init_height = self.inits.height();
+        self.control.put(Frame {
+            kind,
+            block_type,
+            height,
+            unreachable: false,
+            init_height,
+        });
+        true
+    }
+
+    /// Closes the innermost frame, whose own operands pass to the next outer one. It takes no memory.
+    #[inline(always)]
+    pub(crate) fn give_operands(&mut self)
+        requires { self.old.body.undone ≡ None }
+        ensures { self.new.body ≡ body_given self.old.body }
+    {
+        let Some(innermost) = self.control.get(0) else {
+            return;
+        };
+        let first_set_from = innermost.init_height;
+        let _ = self.control.pop();
+        self.inits.drop_ctrl(first_set_from);
     }
 
     /// What a pop would find below so many others, in the innermost frame.

@@ -117,6 +117,6 @@ pub record ChecksScript (declared : Declared) (body : ScriptBody) (answer : Resu
   pub cause :
       IfErr answer
       (λ failure.
-        (failure ≡ OutOfMemory)
-        ⊎ ((failure ≡ BadScript Order) × (may_be_body body.operators.ops ≡ false))
-        ⊎ ((failure ≡ BadScript Module) × (module_of declared ≡ None)))
+      (failure ≡ OutOfMemory)
+      ⊎ ((failure ≡ BadScript Order) × (may_be_body body.operators.ops ≡ false))
+      ⊎ ((failure ≡ BadScript Module) × (module_of declared ≡ None)))

@@ -65,12 +65,12 @@ fn check_operators(
     requires each { length attempts.now ≡ length ops.now }
     requires allowed { may_all_be_attempted ops.now attempts.now ≡ true }
     ensures { ChecksScript (declared_in declarations) (record {
-          features = features;
-          shows = shows;
-          line = line;
-          locals = locals.now;
-          operators = record { ops = ops.now; attempts = attempts.now };
-        }) result }
+      features = features;
+      shows = shows;
+      line = line;
+      locals = locals.now;
+      operators = record { ops = ops.now; attempts = attempts.now };
+    }) result }
 {
     if !may_be_body(ops) {
         return Err(Failure::BadScript(BadScript::Order));

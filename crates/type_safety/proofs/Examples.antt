@@ -17,15 +17,15 @@ use Rattle.validation_rules.specs.Rows.{FrameKind, Block, If, Else, Loop, TryTab
 use Rattle.validation_rules.specs.Operators.{plain_row, looking_row, row_operator, operators, operator}
 use Rattle.validation_rules.specs.Branches.{target}
 use Rattle.validation_rules.proofs.Steps.{some_injective}
-use Rattle.validation_rules.proofs.Writing.{func_type, to_nothing, every, block, loop, an_if, an_else, end}
-use Rattle.validation_rules.proofs.Writing.{br, a_return, drops, local_get, local_set, i32_const, i64_const}
-use Rattle.validation_rules.proofs.Writing.{catch, try_table, throw, legacy_try, legacy_catch, delegate}
+use Rattle.validation_rules.proofs.ExampleWords.{func_type, to_nothing, every, block, loop, an_if, an_else, end}
+use Rattle.validation_rules.proofs.ExampleWords.{br, a_return, drops, local_get, local_set, i32_const, i64_const}
+use Rattle.validation_rules.proofs.ExampleWords.{catch, try_table, throw, legacy_try, legacy_catch, delegate}
 use Rattle.type_safety.specs.Machine.{Label, label_heads, Machine, At, Returned, Trapped, LeftByException, LeftBySuspension, delimiter, delimiters, LabelAccepts, Demand, configuration, IsNotStuck, Step, Run, initial_machine}
 use Rattle.type_safety.specs.Machine.Outcome.{traps, raises, suspends}
 use Rattle.type_safety.proofs.Outcomes.{holding, by_going_on, by_entering, by_entering_else, by_skipping, by_jumping, by_closing, by_ending_part, by_catching, by_catching_legacy}
 use Rattle.type_safety.specs.Theorem.{LabelsBelow, IsAsValidated, IsTypeSafe}
 use Rattle.type_safety.proofs.Bodies.{body_safety}
-use Rattle.type_safety.proofs.Writing.{label, outermost, only, opens_no_if, the_demand}
+use Rattle.type_safety.proofs.ExampleWords.{label, outermost, only, opens_no_if, the_demand}
 
 abbrev types : List SubType
 types = func_type [] [] ∷ func_type (I32 ∷ []) [] ∷ func_type (I32 ∷ []) (I32 ∷ []) ∷ []

@@ -12,14 +12,14 @@ use Rattle.validation_rules.specs.Context.{SubType, ValType, I32, I64, BlockType
 use Rattle.validation_rules.specs.Rows.{Block, Loop, Ends, Target, Operator}
 use Rattle.validation_rules.specs.Operators.{operators, operator}
 use Rattle.validation_rules.proofs.Steps.{some_injective}
-use Rattle.validation_rules.proofs.Writing.{func_type, to_nothing, within, unreachable, block, loop, an_if}
-use Rattle.validation_rules.proofs.Writing.{an_else, end, br_if, br_table, a_return, drops, typed_select}
-use Rattle.validation_rules.proofs.Writing.{i32_const, i64_const}
+use Rattle.validation_rules.proofs.ExampleWords.{func_type, to_nothing, within, unreachable, block, loop, an_if}
+use Rattle.validation_rules.proofs.ExampleWords.{an_else, end, br_if, br_table, a_return, drops, typed_select}
+use Rattle.validation_rules.proofs.ExampleWords.{i32_const, i64_const}
 use Rattle.type_safety.specs.Machine.{Label, label_heads, At, Returned, LabelAccepts, Demand, configuration, Step}
 use Rattle.type_safety.proofs.Outcomes.{holding, by_going_on, by_jumping}
 use Rattle.type_safety.specs.Theorem.{IsTypeSafe}
 use Rattle.type_safety.proofs.Bodies.{body_safety}
-use Rattle.type_safety.proofs.Writing.{label, outermost, only}
+use Rattle.type_safety.proofs.ExampleWords.{label, outermost, only}
 
 abbrev types : List SubType
 types = func_type [] [] ∷ func_type (I32 ∷ []) (I64 ∷ []) ∷ []

@@ -13,13 +13,13 @@ use Rattle.validation_rules.specs.Fits.{Known}
 use Rattle.validation_rules.specs.Rows.{Target, Operator}
 use Rattle.validation_rules.specs.Operators.{operators, operator}
 use Rattle.validation_rules.proofs.Steps.{some_injective}
-use Rattle.validation_rules.proofs.Writing.{func_type, within, block, an_if, end, call, return_call, drops}
-use Rattle.validation_rules.proofs.Writing.{i32_const}
+use Rattle.validation_rules.proofs.ExampleWords.{func_type, within, block, an_if, end, call, return_call, drops}
+use Rattle.validation_rules.proofs.ExampleWords.{i32_const}
 use Rattle.type_safety.specs.Machine.{Label, At, Returned, LabelAccepts, Demand, configuration, IsNotStuck, Step}
 use Rattle.type_safety.proofs.Outcomes.{holding, by_going_on, by_jumping}
 use Rattle.type_safety.specs.Theorem.{IsTypeSafe}
 use Rattle.type_safety.proofs.Bodies.{body_safety}
-use Rattle.type_safety.proofs.Writing.{block_label, outermost, only}
+use Rattle.type_safety.proofs.ExampleWords.{block_label, outermost, only}
 
 -- ---- functions 0 from i32 to i64, and 1 to both; a global i32, and one i64 that can be written
 

@@ -16,13 +16,13 @@ use Rattle.validation_rules.specs.Context.{SubType, ValType, I32, I64, BlockType
 use Rattle.validation_rules.specs.Rows.{Ends, Target, Operator}
 use Rattle.validation_rules.specs.Operators.{operators, operator, plain_row, row_operator}
 use Rattle.validation_rules.proofs.Steps.{some_injective}
-use Rattle.validation_rules.proofs.Writing.{null, no_null, abstract, shared, concrete, a_type, of_functions}
-use Rattle.validation_rules.proofs.Writing.{to_nothing, within, block, end, drops, i32_const, ref_null}
+use Rattle.validation_rules.proofs.ExampleWords.{null, no_null, abstract, shared, concrete, a_type, of_functions}
+use Rattle.validation_rules.proofs.ExampleWords.{to_nothing, within, block, end, drops, i32_const, ref_null}
 use Rattle.type_safety.specs.Machine.{Label, At, LabelAccepts, Demand, configuration, IsNotStuck, Step}
 use Rattle.type_safety.proofs.Outcomes.{holding, by_going_on, by_jumping}
 use Rattle.type_safety.specs.Theorem.{IsTypeSafe}
 use Rattle.type_safety.proofs.Bodies.{body_safety}
-use Rattle.type_safety.proofs.Writing.{block_label, outermost, only}
+use Rattle.type_safety.proofs.ExampleWords.{block_label, outermost, only}
 
 -- ---- a function from nothing to nothing, a type of an i32 and any reference, and a struct
 

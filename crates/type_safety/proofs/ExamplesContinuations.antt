@@ -11,14 +11,14 @@ use Rattle.validate_visit.specs.declared.resume.Handle.TheVariants.{OnLabel, OnS
 use Rattle.validation_rules.specs.Context.{SubType, ValType, I32, I64, F32, BlockType, Empty, Val, FuncType, Context}
 use Rattle.validation_rules.specs.Rows.{Ends, Target, Operator}
 use Rattle.validation_rules.specs.Operators.{operators, operator}
-use Rattle.validation_rules.proofs.Writing.{null_to, to, a_type, func_type, of_continuations, every, within}
-use Rattle.validation_rules.proofs.Writing.{block, end, drops, i32_const, null_of, resume}
+use Rattle.validation_rules.proofs.ExampleWords.{null_to, to, a_type, func_type, of_continuations, every, within}
+use Rattle.validation_rules.proofs.ExampleWords.{block, end, drops, i32_const, null_of, resume}
 use Rattle.type_safety.specs.Machine.{Label, At, LeftBySuspension, LabelAccepts, Demand, configuration, IsNotStuck, Step}
 use Rattle.type_safety.specs.Machine.Outcome.{suspends}
 use Rattle.type_safety.proofs.Outcomes.{holding, by_going_on, by_jumping}
 use Rattle.type_safety.specs.Theorem.{IsTypeSafe}
 use Rattle.type_safety.proofs.Bodies.{body_safety}
-use Rattle.type_safety.proofs.Writing.{block_label, outermost, only, the_demand}
+use Rattle.type_safety.proofs.ExampleWords.{block_label, outermost, only, the_demand}
 
 -- ---- continuations that take an i32 and give an f32; tag 0 carries an i32, and gives an i64 back
 

@@ -23,13 +23,13 @@ use Rattle.validation_rules.specs.Fits.{MaybeType, Known}
 use Rattle.validation_rules.specs.Rows.{Ends, Target, Operator}
 use Rattle.validation_rules.specs.Operators.{operators, operator, looking_row, row_operator}
 use Rattle.validation_rules.proofs.Steps.{some_injective}
-use Rattle.validation_rules.proofs.Writing.{null, no_null, abstract, id, concrete, exact, of_functions}
-use Rattle.validation_rules.proofs.Writing.{to_nothing, every, within, block, end, drops, ref_null}
+use Rattle.validation_rules.proofs.ExampleWords.{null, no_null, abstract, id, concrete, exact, of_functions}
+use Rattle.validation_rules.proofs.ExampleWords.{to_nothing, every, within, block, end, drops, ref_null}
 use Rattle.type_safety.specs.Machine.{Label, At, LabelAccepts, Demand, configuration, IsNotStuck, Step}
 use Rattle.type_safety.proofs.Outcomes.{holding, by_going_on, by_jumping}
 use Rattle.type_safety.specs.Theorem.{IsTypeSafe}
 use Rattle.type_safety.proofs.Bodies.{body_safety}
-use Rattle.type_safety.proofs.Writing.{block_label, outermost, only}
+use Rattle.type_safety.proofs.ExampleWords.{block_label, outermost, only}
 
 -- ---- a function from nothing to nothing, a struct 1 with descriptors of type 2, and a reference to 1
 

@@ -11,16 +11,16 @@ use Rattle.validate_visit.specs.declared.op.Op.{Op}
 use Rattle.validation_rules.specs.Context.{SubType, ValType, I32, BlockType, Empty, Val, FuncType, Context}
 use Rattle.validation_rules.specs.Rows.{FrameKind, Block, TryTable, LegacyTry, LegacyCatch, LegacyCatchAll, is_try, Ends, Clause, Operator}
 use Rattle.validation_rules.specs.Operators.{operators, operator}
-use Rattle.validation_rules.proofs.Writing.{null, no_null, abstract, func_type, every, within, unreachable}
-use Rattle.validation_rules.proofs.Writing.{block, end, drops, i32_const, ref_null, try_table, throw}
-use Rattle.validation_rules.proofs.Writing.{throw_ref, legacy_try, legacy_catch, legacy_catch_all, delegate}
-use Rattle.validation_rules.proofs.Writing.{rethrow}
+use Rattle.validation_rules.proofs.ExampleWords.{null, no_null, abstract, func_type, every, within, unreachable}
+use Rattle.validation_rules.proofs.ExampleWords.{block, end, drops, i32_const, ref_null, try_table, throw}
+use Rattle.validation_rules.proofs.ExampleWords.{throw_ref, legacy_try, legacy_catch, legacy_catch_all, delegate}
+use Rattle.validation_rules.proofs.ExampleWords.{rethrow}
 use Rattle.type_safety.specs.Machine.{Label, Machine, At, Returned, LeftByException, LabelAccepts, Demand, configuration, IsNotStuck, GoesOn, CatchesLegacy, Step, initial_machine}
 use Rattle.type_safety.specs.Machine.Outcome.{raises}
 use Rattle.type_safety.proofs.Outcomes.{holding, by_entering, by_catching, by_catching_legacy}
 use Rattle.type_safety.specs.Theorem.{IsTypeSafe}
 use Rattle.type_safety.proofs.Bodies.{body_safety}
-use Rattle.type_safety.proofs.Writing.{label, outermost, only, opens_no_if, the_demand}
+use Rattle.type_safety.proofs.ExampleWords.{label, outermost, only, opens_no_if, the_demand}
 
 -- ---- exceptions that carry an i32, or nothing
 

@@ -18,13 +18,13 @@ use Rattle.validation_rules.specs.Context.{SubType, ValType, I32, I64, Ref, Empt
 use Rattle.validation_rules.specs.Rows.{Operator}
 use Rattle.validation_rules.specs.Operators.{operators, operator}
 use Rattle.validation_rules.proofs.Steps.{some_injective}
-use Rattle.validation_rules.proofs.Writing.{id, within, end, i32_const, i64_const, null_of}
+use Rattle.validation_rules.proofs.ExampleWords.{id, within, end, i32_const, i64_const, null_of}
 use Rattle.type_safety.specs.Machine.{Machine, At, Trapped, Demand, configuration, IsNotStuck, Step}
 use Rattle.type_safety.specs.Machine.Outcome.{traps}
 use Rattle.type_safety.proofs.Outcomes.{holding, by_going_on}
 use Rattle.type_safety.specs.Theorem.{IsTypeSafe}
 use Rattle.type_safety.proofs.Bodies.{body_safety}
-use Rattle.type_safety.proofs.Writing.{outermost}
+use Rattle.type_safety.proofs.ExampleWords.{outermost}
 
 abbrev declared : Declared
 declared = record nothing_declared { memories = record { memory64 = false; shared = false } ∷ record { memory64 = true; shared = false } ∷ [] }

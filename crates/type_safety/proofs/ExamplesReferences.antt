@@ -17,14 +17,14 @@ use Rattle.validation_rules.specs.References.{last_without_null}
 use Rattle.validation_rules.specs.Rows.{Ends, Target, Operator}
 use Rattle.validation_rules.specs.Operators.{operators, operator}
 use Rattle.validation_rules.proofs.Steps.{some_injective}
-use Rattle.validation_rules.proofs.Writing.{null, no_null, func, concrete, func_type, to_nothing, within}
-use Rattle.validation_rules.proofs.Writing.{block, end, drops, i32_const, ref_null, br_on_null}
-use Rattle.validation_rules.proofs.Writing.{br_on_non_null}
+use Rattle.validation_rules.proofs.ExampleWords.{null, no_null, func, concrete, func_type, to_nothing, within}
+use Rattle.validation_rules.proofs.ExampleWords.{block, end, drops, i32_const, ref_null, br_on_null}
+use Rattle.validation_rules.proofs.ExampleWords.{br_on_non_null}
 use Rattle.type_safety.specs.Machine.{Label, label_heads, At, LabelAccepts, Demand, configuration, IsNotStuck, Step}
 use Rattle.type_safety.proofs.Outcomes.{holding, by_going_on, by_jumping}
 use Rattle.type_safety.specs.Theorem.{IsTypeSafe}
 use Rattle.type_safety.proofs.Bodies.{body_safety}
-use Rattle.type_safety.proofs.Writing.{block_label, outermost, only}
+use Rattle.type_safety.proofs.ExampleWords.{block_label, outermost, only}
 
 -- ---- a function from nothing to nothing, and a type of an i32 and a function
 

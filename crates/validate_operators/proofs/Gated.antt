@@ -12,7 +12,7 @@ use Rattle.validation_rules.specs.Static.{Frame, State, step, step_in}
 use Rattle.validation_rules.specs.Operators.{operator, ungated_operator}
 use Rattle.validate_stacks.specs.State.{BodyState, body_context, IsValidBody}
 use Rattle.validate_stacks.specs.Visits.{step_body, Meets}
-use Rattle.validate_shapes.proofs.Meeting.{meets_none, meets_as}
+use Rattle.validate_shapes.proofs.LastSteps.{meets_none, meets_as}
 
 -- the operator with another premise before its own
 abbrev under : Bool → Operator → Operator

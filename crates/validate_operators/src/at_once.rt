@@ -61,9 +61,7 @@ fn control_at_once<R: WasmModuleResources>(
     match op {
         ControlOp::Unreachable => unreachable_at_once(stacks, resources),
         ControlOp::Nop => nop_at_once(stacks, resources),
-        ControlOp::Block(ty) => {
-            opener_at_once(stacks, resources, FrameKind::Block, None, ty)
-        }
+        ControlOp::Block(ty) => { opener_at_once(stacks, resources, FrameKind::Block, None, ty) }
         ControlOp::Loop(ty) => opener_at_once(stacks, resources, FrameKind::Loop, None, ty),
         ControlOp::If(ty) => {
             opener_at_once(stacks, resources, FrameKind::If, Some(ValType::I32), ty)

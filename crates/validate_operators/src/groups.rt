@@ -24,7 +24,7 @@ use validate_rows::parametric::{
 use validate_rows::tables::check_table_row;
 use validate_rows::variables::{check_local_get, check_local_set, check_local_tee};
 use validate_rows::{indirect, references};
-use validate_rows_continuations::check::check_continuation_row;
+use validate_rows_continuations::continuations::check_continuation_row;
 use validate_rows_exceptions::clauses::check_try_table;
 use validate_rows_exceptions::legacy::{check_catch, check_catch_all, check_delegate};
 use validate_rows_exceptions::throws::{check_rethrow, check_throw, check_throw_ref};

@@ -3,7 +3,7 @@
 ghost use Rattle.std.specs.Prelude.{◌≡◌, true, false, Some, map, OnOk, OnErr, IfErr};
 ghost use Rattle.std.specs.List.{AllByRecursion};
 ghost use Rattle.validate_resources.specs.Context.{Valid};
-ghost use Rattle.validation_rules.specs.Calls.{callee as called, call_row, may_return, tail_call_row, return_call_row};
+ghost use Rattle.validation_rules.specs.Calls.{call_row, may_return, tail_call_row, return_call_row};
 ghost use Rattle.validation_rules.specs.Context.{Context};
 ghost use Rattle.validation_rules.specs.Fits.{Known, all_fit};
 ghost use Rattle.validation_rules.specs.Static.{heads};

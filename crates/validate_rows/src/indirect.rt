@@ -3,7 +3,8 @@
 
 ghost use Rattle.std.specs.Prelude.{◌≡◌, None, Some, IfOk, OnErr, IfErr};
 ghost use Rattle.validate_resources.specs.Context.{Valid};
-ghost use Rattle.validation_rules.specs.Indirect.{function_place as place_of_function, call_operand_row, return_call_operand_row, call_indirect_row, return_call_indirect_row, call_ref_row, return_call_ref_row};
+ghost use Rattle.validation_rules.specs.Indirect.{call_operand_row, return_call_operand_row, call_indirect_row, return_call_indirect_row, call_ref_row, return_call_ref_row};
+ghost use Rattle.validation_rules.specs.Indirect as rule;
 ghost use Rattle.validation_rules.specs.Operators.{row_operator, staying_operator};
 ghost use Rattle.validate_stacks.specs.State.{body_context};
 ghost use Rattle.validate_stacks.specs.Visits.{MayVisit, Meets};
@@ -24,10 +25,10 @@ fn function_place<R: WasmModuleResources>(
     offset: u64,
     table_index: u32,
 ) -> Result<ValType, Error>
-    ensures found { IfOk result (λ t. place_of_function
+    ensures found { IfOk result (λ t. rule.function_place
         (body_context (R.context resources.now) stacks.now.body) table_index ≡ Some t) }
     ensures valid { IfOk result (λ t. Valid (R.context resources.now) t) }
-    ensures refused { OnErr result (place_of_function
+    ensures refused { OnErr result (rule.function_place
         (body_context (R.context resources.now) stacks.now.body) table_index ≡ None) }
     ensures offset { IfErr result (λ e. e.offset ≡ offset) }
 {

@@ -12,7 +12,7 @@ ghost use Rattle.validate_stacks.specs.Visits.{MayVisit, Meets};
 ghost use Rattle.validate_shapes.specs.Operands.{FindsOperands};
 
 use validate_resources::WasmModuleResources;
-use validate_shapes::accesses::{Access, check_memarg, check_memory_access, memory_access};
+use validate_shapes::accesses::{LoadOrStore, check_memarg, check_memory_access, memory_access};
 use validate_shapes::memories::{check_data_segment, check_memory_index, narrower_of};
 use validate_shapes::numbers::{number, packed};
 use validate_shapes::operands::{Few, Operands, check_operands};
@@ -33,7 +33,7 @@ fn load_types<R: WasmModuleResources>(
     ensures { FindsOperands (R.context resources.now)
         (λ cx. load_row cx memarg ty) offset stacks.now.body result }
 {
-    let address = check_memarg(stacks, resources, offset, Access::Load, memarg)?;
+    let address = check_memarg(stacks, resources, offset, LoadOrStore::Load, memarg)?;
     Ok(Operands::few(address.types(), Few::One(ty)))
 }
 
@@ -49,7 +49,7 @@ fn store_types<R: WasmModuleResources>(
     ensures { FindsOperands (R.context resources.now)
         (λ cx. store_row cx memarg ty) offset stacks.now.body result }
 {
-    let address = check_memarg(stacks, resources, offset, Access::Store, memarg)?;
+    let address = check_memarg(stacks, resources, offset, LoadOrStore::Store, memarg)?;
     Ok(Operands::few(address.types_below(ty), Few::Zero))
 }
 

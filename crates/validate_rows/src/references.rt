@@ -4,8 +4,9 @@
 ghost use Rattle.std.specs.Prelude.{◌≡◌, true, false, [], None, Some, IfOk, OnOk, OnErr, IfErr};
 ghost use Rattle.validate_resources.specs.Context.{ModuleContext};
 ghost use Rattle.validate_types.specs.declared.heap.UnpackedIndex.{UnpackedIndex};
-ghost use Rattle.validation_rules.specs.Exact.{function_heap as heap_of_function};
-ghost use Rattle.validation_rules.specs.References.{is_null_gate_open, ref_null_row, ref_func_row, null_test_pushes, non_null_pushes, br_on_null_row, last_reference as ending, br_on_non_null_row};
+ghost use Rattle.validation_rules.specs.Exact as exact_rule;
+ghost use Rattle.validation_rules.specs.References.{is_null_gate_open, ref_null_row, ref_func_row, null_test_pushes, non_null_pushes, br_on_null_row, br_on_non_null_row};
+ghost use Rattle.validation_rules.specs.References as reference_rule;
 ghost use Rattle.validation_rules.specs.Operators.{looking_row, row_operator, staying_operator};
 ghost use Rattle.validate_stacks.specs.State.{body_context};
 ghost use Rattle.validate_stacks.specs.Visits.{MayVisit, Meets};
@@ -68,7 +69,7 @@ fn function_heap<R: WasmModuleResources>(
     function_index: u32,
     id: CoreTypeId,
 ) -> HeapType
-    ensures { result ≡ heap_of_function (body_context (R.context resources.now) stacks.now.body)
+    ensures { result ≡ exact_rule.function_heap (body_context (R.context resources.now) stacks.now.body)
         function_index (UnpackedIndex.Id id) }
 {
     let exact = stacks.features().custom_descriptors()
@@ -156,8 +157,8 @@ pub fn check_br_on_null<R: WasmModuleResources>(
 
 /// The types of a label but its last, and its last, which has to be a reference.
 fn last_reference(types: &[ValType], offset: u64) -> Result<(&[ValType], RefType), Error>
-    ensures found { IfOk result (λ p. ending types.now ≡ Some (p.0.now, p.1)) }
-    ensures refused { OnErr result (ending types.now ≡ None) }
+    ensures found { IfOk result (λ p. reference_rule.last_reference types.now ≡ Some (p.0.now, p.1)) }
+    ensures refused { OnErr result (reference_rule.last_reference types.now ≡ None) }
     ensures offset { IfErr result (λ e. e.offset ≡ offset) }
     ensures memory { IfErr result (λ e. e.wants_memory ≡ false) }
 {

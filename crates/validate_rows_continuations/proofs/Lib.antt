@@ -1,2 +1,2 @@
-pub mod Handling
-pub mod Resuming
+pub mod HandlerLists
+pub mod ResumedRows

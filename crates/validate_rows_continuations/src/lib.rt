@@ -2,6 +2,6 @@
 //! operators.
 #![tactic(auto)]
 
-pub mod check;
+pub mod continuations;
 pub mod handlers;
 pub mod lookups;

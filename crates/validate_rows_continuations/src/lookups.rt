@@ -5,7 +5,8 @@ ghost use Rattle.std.specs.List.{AllByRecursion};
 ghost use Rattle.std.specs.Option.{option_copied};
 ghost use Rattle.validate_resources.specs.Context.{ModuleContext, Valid, IsContinuation, continued_signature};
 ghost use Rattle.validate_types.specs.Signatures.{is_signature_below};
-ghost use Rattle.validation_rules.specs.Continuations.{continuation_type, continuation_signature, referenced_continuation as referenced};
+ghost use Rattle.validation_rules.specs.Continuations.{continuation_type, continuation_signature};
+ghost use Rattle.validation_rules.specs.Continuations as rule;
 ghost use Rattle.validate_stacks.specs.State.{body_context};
 
 use std::alloc::Global;
@@ -98,7 +99,7 @@ pub fn func_type_of_cont_at<'a, R: WasmModuleResources>(
 
 /// Whether it is a reference to a type of the module.
 pub fn is_concrete_reference(ty: ValType) -> bool
-    ensures { (md : ModuleContext) → result ≡ false → referenced md ty ≡ None }
+    ensures { (md : ModuleContext) → result ≡ false → rule.referenced_continuation md ty ≡ None }
 {
     match ty {
         ValType::Ref(ty) => ty.is_concrete_type_ref(),
@@ -112,7 +113,7 @@ pub fn referenced_continuation<'a, R: WasmModuleResources>(
     ty: ValType,
 ) -> Option<&'a FuncType>
     requires { Valid (R.context resources.now) ty }
-    ensures { option_copied result ≡ referenced (R.context resources.now) ty }
+    ensures { option_copied result ≡ rule.referenced_continuation (R.context resources.now) ty }
 {
     let ValType::Ref(ty) = ty else {
         return None;

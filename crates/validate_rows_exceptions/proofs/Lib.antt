@@ -1,2 +1,2 @@
-pub mod Catching
-pub mod Parting
+pub mod TryTables
+pub mod LegacySteps

@@ -1,3 +1,3 @@
-pub mod Looking
-pub mod Casting
-pub mod Describing
+pub mod FoundSteps
+pub mod CastBranches
+pub mod DescriptorSteps

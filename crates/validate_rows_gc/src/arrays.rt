@@ -17,7 +17,7 @@ use crate::found::check_measure;
 use validate_resources::WasmModuleResources;
 use validate_resources::uses::laws;
 use validate_shapes::aggregates::{
-    allocated_reference, array_type_at, check_mutable_array, type_reference, wrong_array_packing,
+    allocated_reference, array_field_at, check_mutable_array, type_reference, wrong_array_packing,
 };
 use validate_shapes::memories::check_data_segment;
 use validate_shapes::operands::{Few, Operands, Pushed, Wanted, check_operands};
@@ -102,7 +102,7 @@ fn no_references(stacks: &Stacks, offset: u64, name: &'static str) -> Error
 
 /// What an element segment holds can be put into places of the array, and the segment is there. A refusal
 /// names the operator.
-fn check_elements<R: WasmModuleResources>(
+fn check_element_segment<R: WasmModuleResources>(
     stacks: &Stacks,
     resources: &R,
     offset: u64,
@@ -180,7 +180,7 @@ fn new_types<R: WasmModuleResources>(
     ensures { FindsOperands (R.context resources.now)
         (λ cx. array_new_row cx index) offset stacks.now.body result }
 {
-    let value = array_type_at(stacks, resources, offset, index)?
+    let value = array_field_at(stacks, resources, offset, index)?
         .element_type
         .unpack();
     let made = allocated_reference(stacks, resources, offset, index)?;
@@ -197,7 +197,7 @@ fn new_default_types<R: WasmModuleResources>(
     ensures { FindsOperands (R.context resources.now)
         (λ cx. array_new_default_row cx index) offset stacks.now.body result }
 {
-    let value = array_type_at(stacks, resources, offset, index)?
+    let value = array_field_at(stacks, resources, offset, index)?
         .element_type
         .unpack();
     if !value.is_defaultable() {
@@ -218,7 +218,7 @@ fn new_fixed_types<R: WasmModuleResources>(
     ensures { FindsOperands (R.context resources.now)
         (λ cx. array_new_fixed_row cx index size) offset stacks.now.body result }
 {
-    let value = array_type_at(stacks, resources, offset, index)?
+    let value = array_field_at(stacks, resources, offset, index)?
         .element_type
         .unpack();
     let made = allocated_reference(stacks, resources, offset, index)?;
@@ -239,7 +239,7 @@ fn new_data_types<R: WasmModuleResources>(
     ensures { FindsOperands (R.context resources.now)
         (λ cx. array_new_data_row cx index data_index) offset stacks.now.body result }
 {
-    let element = array_type_at(stacks, resources, offset, index)?;
+    let element = array_field_at(stacks, resources, offset, index)?;
     check_data(stacks, resources, offset, data_index, element, NEW_DATA)?;
     let made = allocated_reference(stacks, resources, offset, index)?;
     Ok(Operands::few(Few::Two(ValType::I32, ValType::I32), Few::One(made)))
@@ -256,8 +256,8 @@ fn new_elem_types<R: WasmModuleResources>(
     ensures { FindsOperands (R.context resources.now)
         (λ cx. array_new_elem_row cx index elem_index) offset stacks.now.body result }
 {
-    let element = array_type_at(stacks, resources, offset, index)?;
-    check_elements(
+    let element = array_field_at(stacks, resources, offset, index)?;
+    check_element_segment(
         stacks,
         resources,
         offset,
@@ -279,7 +279,7 @@ fn get_types<R: WasmModuleResources>(
     ensures { FindsOperands (R.context resources.now)
         (λ cx. array_read_row cx is_whole_field index) offset stacks.now.body result }
 {
-    let element = array_type_at(stacks, resources, offset, index)?;
+    let element = array_field_at(stacks, resources, offset, index)?;
     if element.element_type.is_packed() {
         return Err(wrong_array_packing(offset, None));
     }
@@ -301,7 +301,7 @@ fn get_packed_types<R: WasmModuleResources>(
     ensures { FindsOperands (R.context resources.now)
         (λ cx. array_read_row cx is_packed_field index) offset stacks.now.body result }
 {
-    let element = array_type_at(stacks, resources, offset, index)?;
+    let element = array_field_at(stacks, resources, offset, index)?;
     if !element.element_type.is_packed() {
         return Err(wrong_array_packing(offset, Some(sign)));
     }
@@ -322,7 +322,7 @@ fn set_types<R: WasmModuleResources>(
     ensures { FindsOperands (R.context resources.now)
         (λ cx. array_set_row cx index) offset stacks.now.body result }
 {
-    let element = array_type_at(stacks, resources, offset, index)?;
+    let element = array_field_at(stacks, resources, offset, index)?;
     check_mutable_array(offset, element)?;
     let into = type_reference(stacks, resources, offset, true, index)?;
     let value = element.element_type.unpack();
@@ -339,7 +339,7 @@ fn fill_types<R: WasmModuleResources>(
     ensures { FindsOperands (R.context resources.now)
         (λ cx. array_fill_row cx index) offset stacks.now.body result }
 {
-    let element = array_type_at(stacks, resources, offset, index)?;
+    let element = array_field_at(stacks, resources, offset, index)?;
     check_mutable_array(offset, element)?;
     let into = type_reference(stacks, resources, offset, true, index)?;
     let value = element.element_type.unpack();
@@ -360,9 +360,9 @@ fn copy_types<R: WasmModuleResources>(
     ensures { FindsOperands (R.context resources.now)
         (λ cx. array_copy_row cx dst_index src_index) offset stacks.now.body result }
 {
-    let dst = array_type_at(stacks, resources, offset, dst_index)?;
+    let dst = array_field_at(stacks, resources, offset, dst_index)?;
     check_mutable_array(offset, dst)?;
-    let src = array_type_at(stacks, resources, offset, src_index)?;
+    let src = array_field_at(stacks, resources, offset, src_index)?;
     check_copied(stacks, resources, offset, src, dst)?;
     let into = type_reference(stacks, resources, offset, true, dst_index)?;
     let from = type_reference(stacks, resources, offset, true, src_index)?;
@@ -383,7 +383,7 @@ fn init_data_types<R: WasmModuleResources>(
     ensures { FindsOperands (R.context resources.now)
         (λ cx. array_init_data_row cx index data_index) offset stacks.now.body result }
 {
-    let element = array_type_at(stacks, resources, offset, index)?;
+    let element = array_field_at(stacks, resources, offset, index)?;
     check_mutable_array(offset, element)?;
     check_data(stacks, resources, offset, data_index, element, INIT_DATA)?;
     let into = type_reference(stacks, resources, offset, true, index)?;
@@ -404,9 +404,9 @@ fn init_elem_types<R: WasmModuleResources>(
     ensures { FindsOperands (R.context resources.now)
         (λ cx. array_init_elem_row cx index elem_index) offset stacks.now.body result }
 {
-    let element = array_type_at(stacks, resources, offset, index)?;
+    let element = array_field_at(stacks, resources, offset, index)?;
     check_mutable_array(offset, element)?;
-    check_elements(
+    check_element_segment(
         stacks,
         resources,
         offset,

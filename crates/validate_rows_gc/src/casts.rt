@@ -3,7 +3,8 @@
 
 ghost use Rattle.std.specs.Prelude.{◌≡◌, true, false, None, Some, IfOk, OnOk, OnErr, IfErr};
 ghost use Rattle.validate_resources.specs.Context.{Valid};
-ghost use Rattle.validation_rules.specs.Casts.{checked_ref as ref_checked, is_castable, cast_type as type_of_cast, cast_operand, ref_test_row, ref_cast_row, is_same_top as are_same_top, may_cast as may_be_cast, checked_cast as cast_checked, split_last as ending, cast_branch_row, br_on_cast_row, br_on_cast_fail_row};
+ghost use Rattle.validation_rules.specs.Casts.{is_castable, cast_operand, ref_test_row, ref_cast_row, may_cast, cast_branch_row, br_on_cast_row, br_on_cast_fail_row};
+ghost use Rattle.validation_rules.specs.Casts as rule;
 ghost use Rattle.validation_rules.specs.Operators.{row_operator, staying_operator};
 ghost use Rattle.validate_stacks.specs.State.{body_context};
 ghost use Rattle.validate_stacks.specs.Visits.{MayVisit, Meets};
@@ -26,11 +27,11 @@ fn checked_ref<R: WasmModuleResources>(
     offset: u64,
     ty: RefType,
 ) -> Result<RefType, Error>
-    ensures found { IfOk result (λ r. ref_checked (body_context (R.context resources.now) stacks.now.body) ty
-        ≡ Some r) }
+    ensures found { IfOk result (λ r. rule.checked_ref
+        (body_context (R.context resources.now) stacks.now.body) ty ≡ Some r) }
     ensures valid { IfOk result (λ r. Valid (R.context resources.now) (ValType.Ref r)) }
     ensures refused { IfErr result (λ e. e.wants_memory ≡ false
-        → ref_checked (body_context (R.context resources.now) stacks.now.body) ty ≡ None) }
+        → rule.checked_ref (body_context (R.context resources.now) stacks.now.body) ty ≡ None) }
     ensures offset { IfErr result (λ e. e.offset ≡ offset) }
 {
     laws(resources);
@@ -72,10 +73,10 @@ pub fn cast_type<R: WasmModuleResources>(
     nullable: bool,
     heap_type: HeapType,
 ) -> Result<RefType, Error>
-    ensures found { IfOk result (λ r. type_of_cast (body_context (R.context resources.now) stacks.now.body)
+    ensures found { IfOk result (λ r. rule.cast_type (body_context (R.context resources.now) stacks.now.body)
         nullable heap_type ≡ Some r) }
     ensures valid { IfOk result (λ r. Valid (R.context resources.now) (ValType.Ref r)) }
-    ensures refused { IfErr result (λ e. e.wants_memory ≡ false → type_of_cast
+    ensures refused { IfErr result (λ e. e.wants_memory ≡ false → rule.cast_type
         (body_context (R.context resources.now) stacks.now.body) nullable heap_type ≡ None) }
     ensures offset { IfErr result (λ e. e.offset ≡ offset) }
 {
@@ -136,7 +137,7 @@ pub fn check_ref_cast<R: WasmModuleResources>(
 
 /// Whether both are one abstract type, as top types are.
 fn is_same_top(a: HeapType, b: HeapType) -> bool
-    ensures { result ≡ are_same_top a b }
+    ensures { result ≡ rule.is_same_top a b }
 {
     match (a, b) {
         (
@@ -161,9 +162,9 @@ fn check_may_cast<R: WasmModuleResources>(
 ) -> Result<(), Error>
     requires from { Valid (R.context resources.now) (ValType.Ref from) }
     requires to { Valid (R.context resources.now) (ValType.Ref to) }
-    ensures passed { OnOk result (may_be_cast (body_context (R.context resources.now) stacks.now.body)
+    ensures passed { OnOk result (may_cast (body_context (R.context resources.now) stacks.now.body)
         from to ≡ true) }
-    ensures refused { OnErr result (may_be_cast (body_context (R.context resources.now) stacks.now.body)
+    ensures refused { OnErr result (may_cast (body_context (R.context resources.now) stacks.now.body)
         from to ≡ false) }
     ensures offset { IfErr result (λ e. e.offset ≡ offset) }
 {
@@ -216,12 +217,12 @@ pub fn checked_cast<R: WasmModuleResources>(
     offset: u64,
     cast: BranchCast,
 ) -> Result<(RefType, RefType), Error>
-    ensures found { IfOk result (λ p. cast_checked (body_context (R.context resources.now) stacks.now.body)
+    ensures found { IfOk result (λ p. rule.checked_cast (body_context (R.context resources.now) stacks.now.body)
         cast ≡ Some p) }
     ensures from { IfOk result (λ p. Valid (R.context resources.now) (ValType.Ref p.0)) }
     ensures to { IfOk result (λ p. Valid (R.context resources.now) (ValType.Ref p.1)) }
     ensures refused { IfErr result (λ e. e.wants_memory ≡ false
-        → cast_checked (body_context (R.context resources.now) stacks.now.body) cast ≡ None) }
+        → rule.checked_cast (body_context (R.context resources.now) stacks.now.body) cast ≡ None) }
     ensures offset { IfErr result (λ e. e.offset ≡ offset) }
 {
     let from = checked_ref(stacks, resources, offset, cast.from_ref_type)?;
@@ -241,8 +242,8 @@ pub enum Taken {
 
 /// The types of a label but its last, and its last.
 fn split_last(types: &[ValType], offset: u64, taken: Taken) -> Result<(&[ValType], ValType), Error>
-    ensures found { IfOk result (λ p. ending types.now ≡ Some (p.0.now, p.1)) }
-    ensures refused { OnErr result (ending types.now ≡ None) }
+    ensures found { IfOk result (λ p. rule.split_last types.now ≡ Some (p.0.now, p.1)) }
+    ensures refused { OnErr result (rule.split_last types.now ≡ None) }
     ensures offset { IfErr result (λ e. e.offset ≡ offset) }
 {
     match types.split_last() {

@@ -2,16 +2,17 @@
 
 ghost use Rattle.std.specs.Prelude.{◌≡◌, true, false, None, Some, IfOk, OnOk, OnErr, IfErr};
 ghost use Rattle.validate_resources.specs.Context.{Valid, is_valid_heap, is_valid_index};
-ghost use Rattle.validate_types.specs.Refs.{is_exact as is_exact_heap};
+ghost use Rattle.validate_types.specs.Refs as reference_rule;
 ghost use Rattle.validate_types.specs.declared.heap.HeapType.{HeapType};
 ghost use Rattle.validate_types.specs.declared.heap.UnpackedIndex.{UnpackedIndex};
-ghost use Rattle.validation_rules.specs.Descriptors.{is_found_exact as may_be_exact, ref_get_desc_row, descriptor_in as index_of_descriptor, ref_cast_desc_eq_row, br_on_cast_desc_eq_row, br_on_cast_desc_eq_fail_row};
+ghost use Rattle.validation_rules.specs.Descriptors.{ref_get_desc_row, ref_cast_desc_eq_row, br_on_cast_desc_eq_row, br_on_cast_desc_eq_fail_row};
+ghost use Rattle.validation_rules.specs.Descriptors as descriptor_rule;
 ghost use Rattle.validation_rules.specs.Operators.{row_operator, staying_operator};
 ghost use Rattle.validation_rules.specs.Valid.{IsValidOperand};
 ghost use Rattle.validate_stacks.specs.Attempts.{phase_moved};
 ghost use Rattle.validate_stacks.specs.Pops.{may_pop, IsKept};
 ghost use Rattle.validate_stacks.specs.State.{IsValidBody, body_context};
-ghost use Rattle.validate_stacks.specs.Steps.{found_in_body as top, body_popped};
+ghost use Rattle.validate_stacks.specs.Steps.{found_in_body, body_popped};
 ghost use Rattle.validate_stacks.specs.Visits.{MayVisit, Meets};
 ghost use Rattle.validate_rows_gc.specs.Descriptors.{found_descriptor};
 
@@ -48,7 +49,7 @@ fn exact_heap_at<R: WasmModuleResources>(
 fn is_found_exact<R: WasmModuleResources>(resources: &R, exact: HeapType, found: MaybeType) -> bool
     requires heap { is_valid_heap (R.context resources.now) exact ≡ true }
     requires operand { IsValidOperand (R.context resources.now) found }
-    ensures { result ≡ may_be_exact (R.context resources.now) exact found }
+    ensures { result ≡ descriptor_rule.is_found_exact (R.context resources.now) exact found }
 {
     match found {
         MaybeType::Bottom | MaybeType::UnknownRef(None) => true,
@@ -74,13 +75,13 @@ pub fn pop_of_type<R: WasmModuleResources>(
 ) -> Result<MaybeType, Error>
     requires wanted { Valid (R.context resources.now) wanted }
     requires state { IsValidBody (R.context resources.now) stacks.old.body }
-    ensures value { IfOk result (λ t. top stacks.old.body ≡ Some t) }
+    ensures value { IfOk result (λ t. found_in_body stacks.old.body ≡ Some t) }
     ensures passed { OnOk result (may_pop (body_context (R.context resources.now) stacks.old.body)
-        (top stacks.old.body) (Some wanted) ≡ true) }
+        (found_in_body stacks.old.body) (Some wanted) ≡ true) }
     ensures operand { IfOk result (λ t. IsValidOperand (R.context resources.now) t) }
     ensures popped { OnOk result (stacks.new.body ≡ body_popped stacks.old.body) }
     ensures refused { IfErr result (λ e. e.wants_memory ≡ false
-        → may_pop (body_context (R.context resources.now) stacks.old.body) (top stacks.old.body)
+        → may_pop (body_context (R.context resources.now) stacks.old.body) (found_in_body stacks.old.body)
         (Some wanted) ≡ false) }
     ensures phase { phase_moved stacks.new.phase ≡ phase_moved stacks.old.phase }
     ensures valid { IsValidBody (R.context resources.now) stacks.new.body }
@@ -126,9 +127,10 @@ fn descriptor_in<R: WasmModuleResources>(
     offset: u64,
     heap_type: HeapType,
 ) -> Result<PackedIndex, Error>
-    ensures found { IfOk result (λ d. index_of_descriptor (R.context resources.now) heap_type ≡ Some d) }
+    ensures found { IfOk result (λ d. descriptor_rule.descriptor_in (R.context resources.now) heap_type
+        ≡ Some d) }
     ensures valid { IfOk result (λ d. is_valid_index (R.context resources.now) d ≡ true) }
-    ensures refused { OnErr result (index_of_descriptor (R.context resources.now) heap_type ≡ None) }
+    ensures refused { OnErr result (descriptor_rule.descriptor_in (R.context resources.now) heap_type ≡ None) }
     ensures offset { IfErr result (λ e. e.offset ≡ offset) }
 {
     match heap_type {
@@ -169,12 +171,12 @@ fn pop_descriptor<R: WasmModuleResources>(
     requires state { IsValidBody (R.context resources.now) stacks.old.body }
     requires descriptor { is_valid_index (R.context resources.now) descriptor ≡ true }
     ensures passed { OnOk result (found_descriptor (body_context (R.context resources.now) stacks.old.body)
-        exact descriptor (top stacks.old.body) ≡ true) }
+        exact descriptor (found_in_body stacks.old.body) ≡ true) }
     ensures popped { OnOk result (stacks.new.body ≡ body_popped stacks.old.body) }
     ensures phase { phase_moved stacks.new.phase ≡ phase_moved stacks.old.phase }
     ensures refused { IfErr result (λ e. e.wants_memory ≡ false → found_descriptor
-        (body_context (R.context resources.now) stacks.old.body) exact descriptor (top stacks.old.body)
-        ≡ false) }
+        (body_context (R.context resources.now) stacks.old.body) exact descriptor
+        (found_in_body stacks.old.body) ≡ false) }
     ensures valid { IsValidBody (R.context resources.now) stacks.new.body }
     ensures kept { IsKept stacks.old.body stacks.new.body }
     ensures offset { IfErr result (λ e. e.offset ≡ offset) }
@@ -199,7 +201,7 @@ fn pop_descriptor<R: WasmModuleResources>(
 
 /// Whether a type is exact.
 fn is_exact(heap_type: HeapType) -> bool
-    ensures { result ≡ is_exact_heap heap_type }
+    ensures { result ≡ reference_rule.is_exact heap_type }
 {
     matches!(&heap_type, HeapType::Exact(_))
 }

@@ -3,13 +3,14 @@
 
 ghost use Rattle.std.specs.Prelude.{◌≡◌, true, false, None, Some, IfOk, OnOk, OnErr, IfErr};
 ghost use Rattle.std.specs.Option.{option_and_then};
-ghost use Rattle.validation_rules.specs.Found.{is_found_below, operand_found_below, measure_row, converted_operand, convert_ref_row, is_same_sharedness as are_alike, ref_eq_row};
+ghost use Rattle.validation_rules.specs.Found.{is_found_below, operand_found_below, measure_row, converted_operand, convert_ref_row, ref_eq_row};
+ghost use Rattle.validation_rules.specs.Found as rule;
 ghost use Rattle.validation_rules.specs.Operators.{row_operator, conversion_row};
 ghost use Rattle.validation_rules.specs.References.{i31};
 ghost use Rattle.validation_rules.specs.Valid.{IsValidOperand};
 ghost use Rattle.validate_stacks.specs.Pops.{IsKept};
 ghost use Rattle.validate_stacks.specs.State.{IsValidBody};
-ghost use Rattle.validate_stacks.specs.Steps.{found_in_body as top, body_popped};
+ghost use Rattle.validate_stacks.specs.Steps.{found_in_body, body_popped};
 ghost use Rattle.validate_stacks.specs.Visits.{MayVisit, Meets};
 
 use validate_resources::WasmModuleResources;
@@ -103,13 +104,13 @@ fn pop_found_below<R: WasmModuleResources>(
 ) -> Result<MaybeType, Error>
     requires { IsValidBody (R.context resources.now) stacks.old.body }
     ensures given { IfOk result (λ t. option_and_then (operand_found_below (R.context resources.now) expected)
-        (top stacks.old.body) ≡ Some t) }
-    ensures found { IfOk result (λ t. top stacks.old.body ≡ Some t) }
+        (found_in_body stacks.old.body) ≡ Some t) }
+    ensures found { IfOk result (λ t. found_in_body stacks.old.body ≡ Some t) }
     ensures passed { IfOk result (λ t. is_found_below (R.context resources.now) expected t ≡ true) }
     ensures operand { IfOk result (λ t. IsValidOperand (R.context resources.now) t) }
     ensures popped { OnOk result (stacks.new.body ≡ body_popped stacks.old.body) }
     ensures refused { IfErr result (λ e. e.wants_memory ≡ false → option_and_then
-        (operand_found_below (R.context resources.now) expected) (top stacks.old.body) ≡ None) }
+        (operand_found_below (R.context resources.now) expected) (found_in_body stacks.old.body) ≡ None) }
     ensures valid { IsValidBody (R.context resources.now) stacks.new.body }
     ensures kept { IsKept stacks.old.body stacks.new.body }
     ensures offset { IfErr result (λ e. e.offset ≡ offset) }
@@ -179,7 +180,7 @@ pub fn check_convert_ref<R: WasmModuleResources>(
 fn is_same_sharedness<R: WasmModuleResources>(resources: &R, a: MaybeType, b: MaybeType) -> bool
     requires first { IsValidOperand (R.context resources.now) a }
     requires second { IsValidOperand (R.context resources.now) b }
-    ensures { result ≡ are_alike (R.context resources.now) a b }
+    ensures { result ≡ rule.is_same_sharedness (R.context resources.now) a b }
 {
     match (a, b) {
         (MaybeType::Known(ValType::Ref(a)), MaybeType::Known(ValType::Ref(b))) => {

@@ -3,9 +3,9 @@
 ghost use Rattle.std.specs.Prelude.{◌≡◌, true, false, None, Some, is_none, OnOk, OnErr, IfOk, IfErr};
 ghost use Rattle.std.specs.List.{list_all, AllByRecursion};
 ghost use Rattle.validate_resources.specs.Context.{Valid};
-ghost use Rattle.validate_types.specs.Types.{is_defaultable as has_default, unpacked_fields};
+ghost use Rattle.validate_types.specs.Types.{is_defaultable, unpacked_fields};
 ghost use Rattle.validation_rules.specs.Operators.{row_operator};
-ghost use Rattle.validation_rules.specs.Descriptors.{descriptor_at as index_of_descriptor};
+ghost use Rattle.validation_rules.specs.Descriptors as rule;
 ghost use Rattle.validation_rules.specs.Rows.{guard};
 ghost use Rattle.validation_rules.specs.Structs.{struct_type, struct_row, struct_new_row, struct_new_default_row};
 ghost use Rattle.validation_rules.specs.Structs.{struct_read_row, struct_set_row};
@@ -13,7 +13,7 @@ ghost use Rattle.validation_rules.specs.Structs.{is_packed_field, is_whole_field
 ghost use Rattle.validate_stacks.specs.Attempts.{phase_moved};
 ghost use Rattle.validate_stacks.specs.Pops.{IsKept};
 ghost use Rattle.validate_stacks.specs.State.{IsValidBody, body_context};
-ghost use Rattle.validate_stacks.specs.Steps.{found_in_body as top, body_popped};
+ghost use Rattle.validate_stacks.specs.Steps.{found_in_body, body_popped};
 ghost use Rattle.validate_shapes.specs.Operands.{FindsOperands};
 ghost use Rattle.validate_stacks.specs.Visits.{step_body, MayVisit, Meets};
 ghost use Rattle.validate_rows_gc.specs.Descriptors.{found_new_descriptor, fields_row, defaults_row, row_under_descriptor};
@@ -31,8 +31,8 @@ use validate_visit::{FieldIndex, Sign, StructOp};
 
 /// Each field has a default value.
 fn check_defaultable(stacks: &Stacks, offset: u64, fields: &[FieldType]) -> Result<(), Error>
-    ensures passed { OnOk result (list_all has_default (unpacked_fields fields.now) ≡ true) }
-    ensures refused { OnErr result (list_all has_default (unpacked_fields fields.now) ≡ false) }
+    ensures passed { OnOk result (list_all is_defaultable (unpacked_fields fields.now) ≡ true) }
+    ensures refused { OnErr result (list_all is_defaultable (unpacked_fields fields.now) ≡ false) }
     ensures offset { IfErr result (λ e. e.offset ≡ offset) }
 {
     let mut rest = fields;
@@ -67,11 +67,11 @@ fn undescribed_struct_at<'a, R: WasmModuleResources>(
     index: u32,
     name: &str,
 ) -> Result<&'a StructType, Error>
-    ensures found { IfOk result (λ s. guard (is_none (index_of_descriptor (R.context resources.now) index))
+    ensures found { IfOk result (λ s. guard (is_none (rule.descriptor_at (R.context resources.now) index))
         (struct_type (body_context (R.context resources.now) stacks.now.body) index) ≡ Some s.now) }
     ensures valid { IfOk result (λ s. AllByRecursion (Valid (R.context resources.now))
         (unpacked_fields s.now)) }
-    ensures refused { OnErr result (guard (is_none (index_of_descriptor (R.context resources.now) index))
+    ensures refused { OnErr result (guard (is_none (rule.descriptor_at (R.context resources.now) index))
         (struct_type (body_context (R.context resources.now) stacks.now.body) index) ≡ None) }
     ensures offset { IfErr result (λ e. e.offset ≡ offset) }
 {
@@ -106,11 +106,11 @@ fn pop_new_descriptor<R: WasmModuleResources>(
     requires state { IsValidBody (R.context resources.now) stacks.old.body }
     ensures passed { OnOk result (found_new_descriptor
         (body_context (R.context resources.now) stacks.old.body)
-        (index_of_descriptor (R.context resources.now) index) (top stacks.old.body) ≡ true) }
+        (rule.descriptor_at (R.context resources.now) index) (found_in_body stacks.old.body) ≡ true) }
     ensures popped { OnOk result (stacks.new.body ≡ body_popped stacks.old.body) }
     ensures refused { IfErr result (λ e. e.wants_memory ≡ false → found_new_descriptor
         (body_context (R.context resources.now) stacks.old.body)
-        (index_of_descriptor (R.context resources.now) index) (top stacks.old.body) ≡ false) }
+        (rule.descriptor_at (R.context resources.now) index) (found_in_body stacks.old.body) ≡ false) }
     ensures phase { phase_moved stacks.new.phase ≡ phase_moved stacks.old.phase }
     ensures valid { IsValidBody (R.context resources.now) stacks.new.body }
     ensures kept { IsKept stacks.old.body stacks.new.body }

@@ -1,2 +1,2 @@
-pub mod Testing
-pub mod Accessing
+pub mod LateTests
+pub mod AccessRows

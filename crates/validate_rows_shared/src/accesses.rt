@@ -3,7 +3,7 @@
 ghost use Rattle.std.specs.Prelude.{◌≡◌, ◌++◌};
 ghost use Rattle.validate_resources.specs.Context.{Valid};
 ghost use Rattle.validate_types.specs.Types.{unpacked_type};
-ghost use Rattle.validation_rules.specs.Shared.{is_integer as is_whole_integer, is_integer_or_below as is_either, is_allowed as may_be_done, is_read as reads, taken_by, given_by as gives};
+ghost use Rattle.validation_rules.specs.Shared as rule;
 ghost use Rattle.validate_shapes.specs.Operands.{few_types};
 ghost use Rattle.validate_rows_shared.specs.Accesses.{place_types};
 
@@ -25,7 +25,7 @@ pub enum Place {
 
 /// Whether it is an integer that is held as it is.
 fn is_integer(held: StorageType) -> bool
-    ensures { result ≡ is_whole_integer held }
+    ensures { result ≡ rule.is_integer held }
 {
     matches!(
         held,
@@ -42,7 +42,7 @@ fn is_integer_or_below<R: WasmModuleResources>(
     held: StorageType,
 ) -> bool
     requires { Valid (R.context resources.now) (unpacked_type held) }
-    ensures { result ≡ is_either (R.context resources.now) shared ty held }
+    ensures { result ≡ rule.is_integer_or_below (R.context resources.now) shared ty held }
 {
     if is_integer(held) {
         return true;
@@ -67,7 +67,7 @@ pub fn is_allowed<R: WasmModuleResources>(
     held: StorageType,
 ) -> bool
     requires { Valid (R.context resources.now) (unpacked_type held) }
-    ensures { result ≡ may_be_done (R.context resources.now) shared access held }
+    ensures { result ≡ rule.is_allowed (R.context resources.now) shared access held }
 {
     match access {
         FieldAccess::GetPacked(_) => held.is_packed(),
@@ -89,7 +89,7 @@ pub fn is_allowed<R: WasmModuleResources>(
 
 /// Whether it leaves what is held as it is.
 pub fn is_read(access: FieldAccess) -> bool
-    ensures { result ≡ reads access }
+    ensures { result ≡ rule.is_read access }
 {
     matches!(
         access,
@@ -99,7 +99,7 @@ pub fn is_read(access: FieldAccess) -> bool
 
 /// What it takes: the operands that name the place, and on them the values.
 pub fn wanted_by(place: Place, access: FieldAccess, value: ValType) -> Few
-    ensures { few_types result ≡ place_types place ++ taken_by access value }
+    ensures { few_types result ≡ place_types place ++ rule.wanted_by access value }
 {
     match access {
         FieldAccess::Whole(GlobalAccess::Value(TableAccess::Get)) | FieldAccess::GetPacked(_) => {
@@ -124,7 +124,7 @@ pub fn wanted_by(place: Place, access: FieldAccess, value: ValType) -> Few
 
 /// What it gives.
 pub fn given_by(access: FieldAccess, value: ValType) -> Few
-    ensures { few_types result ≡ gives access value }
+    ensures { few_types result ≡ rule.given_by access value }
 {
     match access {
         FieldAccess::Whole(GlobalAccess::Value(TableAccess::Set)) => Few::Zero,

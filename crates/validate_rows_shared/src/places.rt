@@ -7,7 +7,8 @@ ghost use Rattle.validate_visit.specs.declared.shared.FieldAccess.{FieldAccess};
 ghost use Rattle.validate_visit.specs.declared.shared.SharedOp.{SharedOp};
 ghost use Rattle.validation_rules.specs.Context.{I32};
 ghost use Rattle.validation_rules.specs.Operators.{row_operator, conversion_row};
-ghost use Rattle.validation_rules.specs.Shared.{is_accessible, is_allowed as may_be_done, is_read as reads, shared_global_row, shared_table_row, shared_struct_row, shared_array_row, shared_i31, shared_row};
+ghost use Rattle.validation_rules.specs.Shared.{is_accessible, shared_global_row, shared_table_row, shared_struct_row, shared_array_row, shared_i31, shared_row};
+ghost use Rattle.validation_rules.specs.Shared as rule;
 ghost use Rattle.validation_rules.specs.Structs.{field_value};
 ghost use Rattle.validate_stacks.specs.State.{body_context};
 ghost use Rattle.validate_stacks.specs.Visits.{MayVisit, Meets};
@@ -17,7 +18,7 @@ ghost use Rattle.validate_rows_shared.specs.Accesses.{tested_row};
 use crate::accesses::{Place, given_by, is_allowed, is_read, name_of, wanted_by};
 use validate_resources::WasmModuleResources;
 use validate_shapes::aggregates::{
-    array_type_at, check_mutable_array, check_mutable_field, struct_field_at, type_reference,
+    array_field_at, check_mutable_array, check_mutable_field, struct_field_at, type_reference,
     wrong_array_packing, wrong_field_packing,
 };
 use validate_shapes::globals::global_type_at;
@@ -176,8 +177,8 @@ fn immutable_global(offset: u64, access: GlobalAccess) -> Error
 
 /// A global that is written can be.
 fn check_global_written(offset: u64, access: GlobalAccess, global: GlobalType) -> Result<(), Error>
-    ensures passed { OnOk result ((reads (FieldAccess.Whole access) || global.mutable) ≡ true) }
-    ensures refused { OnErr result ((reads (FieldAccess.Whole access) || global.mutable) ≡ false) }
+    ensures passed { OnOk result ((rule.is_read (FieldAccess.Whole access) || global.mutable) ≡ true) }
+    ensures refused { OnErr result ((rule.is_read (FieldAccess.Whole access) || global.mutable) ≡ false) }
     ensures offset { IfErr result (λ e. e.offset ≡ offset) }
 {
     if is_read(FieldAccess::Whole(access)) || global.mutable {
@@ -188,7 +189,7 @@ fn check_global_written(offset: u64, access: GlobalAccess, global: GlobalType) -
 }
 
 /// What an operator on globals takes and gives.
-fn global_types<R: WasmModuleResources>(
+fn global_access_types<R: WasmModuleResources>(
     stacks: &Stacks,
     resources: &R,
     offset: u64,
@@ -218,7 +219,7 @@ fn global_types<R: WasmModuleResources>(
 }
 
 /// What an operator on tables takes and gives.
-fn table_types<R: WasmModuleResources>(
+fn table_access_types<R: WasmModuleResources>(
     stacks: &Stacks,
     resources: &R,
     offset: u64,
@@ -253,7 +254,7 @@ fn check_packing(
     access: FieldAccess,
     held: StorageType,
 ) -> Result<(), Error>
-    ensures refused { (md : ModuleContext) → OnErr result (may_be_done md true access held ≡ false) }
+    ensures refused { (md : ModuleContext) → OnErr result (rule.is_allowed md true access held ≡ false) }
     ensures offset { IfErr result (λ e. e.offset ≡ offset) }
 {
     let sign = match access {
@@ -277,8 +278,8 @@ fn check_written(
     access: FieldAccess,
     held: FieldType,
 ) -> Result<(), Error>
-    ensures passed { OnOk result ((reads access || held.mutable) ≡ true) }
-    ensures refused { OnErr result ((reads access || held.mutable) ≡ false) }
+    ensures passed { OnOk result ((rule.is_read access || held.mutable) ≡ true) }
+    ensures refused { OnErr result ((rule.is_read access || held.mutable) ≡ false) }
     ensures offset { IfErr result (λ e. e.offset ≡ offset) }
 {
     if is_read(access) {
@@ -315,7 +316,7 @@ fn check_field<R: WasmModuleResources>(
 }
 
 /// What an operator on structs takes and gives.
-fn struct_types<R: WasmModuleResources>(
+fn struct_access_types<R: WasmModuleResources>(
     stacks: &Stacks,
     resources: &R,
     offset: u64,
@@ -341,7 +342,7 @@ fn struct_types<R: WasmModuleResources>(
 }
 
 /// What an operator on arrays takes and gives.
-fn array_types<R: WasmModuleResources>(
+fn array_access_types<R: WasmModuleResources>(
     stacks: &Stacks,
     resources: &R,
     offset: u64,
@@ -355,7 +356,7 @@ fn array_types<R: WasmModuleResources>(
         (body_context (R.context resources.now) stacks.now.body) access type_index).premise ≡ false) }
     ensures offset { IfErr result (λ e. e.offset ≡ offset) }
 {
-    let held = array_type_at(stacks, resources, offset, type_index)?;
+    let held = array_field_at(stacks, resources, offset, type_index)?;
     let allowed = check_field(stacks, resources, offset, Aggregate::Array, access, held)?;
     let holder = type_reference(stacks, resources, offset, true, type_index)?;
     let value = held.element_type.unpack();
@@ -387,20 +388,20 @@ fn access_types<R: WasmModuleResources>(
             access,
             global_index,
             ..
-        } => global_types(stacks, resources, offset, access, global_index),
+        } => global_access_types(stacks, resources, offset, access, global_index),
         SharedOp::Table {
             access,
             table_index,
             ..
-        } => table_types(stacks, resources, offset, access, table_index),
+        } => table_access_types(stacks, resources, offset, access, table_index),
         SharedOp::Struct { access, field, .. } => {
-            struct_types(stacks, resources, offset, access, field)
+            struct_access_types(stacks, resources, offset, access, field)
         }
         SharedOp::Array {
             access,
             type_index,
             ..
-        } => array_types(stacks, resources, offset, access, type_index),
+        } => array_access_types(stacks, resources, offset, access, type_index),
     }
 }
 

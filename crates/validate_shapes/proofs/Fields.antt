@@ -11,7 +11,7 @@ use Rattle.validation_rules.specs.Structs.{field_value}
 use Rattle.validate_stacks.specs.Pops.{may_pop, body_popped_each}
 use Rattle.validate_stacks.specs.State.{BodyState, body_context}
 use Rattle.validate_stacks.specs.Steps.{found_in_body, body_popped}
-use Rattle.validate_stacks.proofs.Matching.{last_next}
+use Rattle.validate_stacks.proofs.MatchedOperands.{last_next}
 use Rattle.validate_stacks.proofs.Whole.{popped_next}
 
 -- the value of a field that is there is valid where all are

@@ -1,11 +1,11 @@
 pub mod Rows
 mod Fields
-pub mod Meeting
-pub mod Found
-pub mod Branching
-pub mod Carrying
-pub mod Looking
-pub mod Reaching
-pub mod Opening
-pub mod Comparing
+pub mod LastSteps
+pub mod LookupRows
+pub mod BranchSteps
+pub mod CarriedTypes
+pub mod ReferenceSteps
+pub mod HeapReferences
+pub mod OpenerSteps
+pub mod TypesBelow
 pub mod Parts

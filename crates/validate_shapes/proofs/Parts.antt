@@ -16,7 +16,7 @@ use Rattle.validate_stacks.specs.Blocks.{closed_body, closed_body_in}
 use Rattle.validate_stacks.specs.State.{BodyState, body_context, body_with_frames}
 use Rattle.validate_stacks.specs.Steps.{frame_at, head_of}
 use Rattle.validate_stacks.specs.Visits.{step_body}
-use Rattle.validate_stacks.proofs.Closing.{Innermost, innermost, some_frame, guarded_some, guarded_none}
+use Rattle.validate_stacks.proofs.ClosedFrames.{Innermost, innermost, some_frame, guarded_some, guarded_none}
 
 -- a form that begins a part of one kind after a part of some kind, with these types for its block type
 pub record BeginsPart (form : Form) (after : FrameKind → Bool) (kind : FrameKind) (types : Context → BlockType → List ValType) : Type 0 where

@@ -24,7 +24,7 @@ use Rattle.validate_stacks.specs.Steps.{found_in_frames, frame_at, body_popped, 
 use Rattle.validate_stacks.specs.Steps as steps
 use Rattle.validate_stacks.specs.Visits.{step_body}
 use Rattle.validate_stacks.proofs.Whole.{with_frame, popped_none, popped_whole, pushed_whole, pushed_over}
-use Rattle.validate_stacks.proofs.Closing.{Innermost, innermost, some_frame, guarded_some, guarded_none}
+use Rattle.validate_stacks.proofs.ClosedFrames.{Innermost, innermost, some_frame, guarded_some, guarded_none}
 
 or_false : (b : Bool) → b || false ≡ b
 or_false true = refl

@@ -12,7 +12,7 @@ ghost use Rattle.validate_stacks.specs.State.{body_context};
 ghost use Rattle.validate_shapes.specs.Accesses.{may_access_places, address_operands};
 ghost use Rattle.validate_shapes.specs.Operands.{few_types};
 
-use crate::aggregates::{array_type_at, check_mutable_array, type_reference};
+use crate::aggregates::{array_field_at, check_mutable_array, type_reference};
 use crate::memories::check_memory_index;
 use crate::operands::Few;
 use validate_resources::WasmModuleResources;
@@ -28,7 +28,7 @@ const OFFSET_BEYOND: &'static str = "offset out of range: must be <= 2**32";
 
 /// What is done to what is accessed.
 #[derive(Clone, Copy)]
-pub enum Access {
+pub enum LoadOrStore {
     /// It is read.
     Load,
     /// It is written.
@@ -121,14 +121,14 @@ pub fn memory_access<R: WasmModuleResources>(
 fn check_places(
     stacks: &Stacks,
     offset: u64,
-    access: Access,
+    access: LoadOrStore,
     places: FieldType,
 ) -> Result<(), Error>
     ensures passed { OnOk result (may_access_places access places ≡ true) }
     ensures refused { OnErr result (may_access_places access places ≡ false) }
     ensures offset { IfErr result (λ e. e.offset ≡ offset) }
 {
-    if let Access::Store = access {
+    if let LoadOrStore::Store = access {
         check_mutable_array(offset, places)?;
     }
     match places.element_type.unpack() {
@@ -155,7 +155,7 @@ fn check_array_access<R: WasmModuleResources>(
     stacks: &Stacks,
     resources: &R,
     offset: u64,
-    access: Access,
+    access: LoadOrStore,
     memarg: MemArg,
     type_index: u32,
 ) -> Result<ValType, Error>
@@ -174,7 +174,7 @@ fn check_array_access<R: WasmModuleResources>(
     if !stacks.features().multibyte_array_access() {
         return Err(Error::new("multibyte array access support is not enabled", offset));
     }
-    let places = array_type_at(stacks, resources, offset, type_index)?;
+    let places = array_field_at(stacks, resources, offset, type_index)?;
     check_places(stacks, offset, access, places)?;
     if memarg.offset > u64::from(u32::MAX) {
         return Err(Error::new(OFFSET_BEYOND, offset));
@@ -187,7 +187,7 @@ pub fn check_memarg<R: WasmModuleResources>(
     stacks: &Stacks,
     resources: &R,
     offset: u64,
-    access: Access,
+    access: LoadOrStore,
     memarg: MemArg,
 ) -> Result<Address, Error>
     ensures found { IfOk result (λ address. address_types

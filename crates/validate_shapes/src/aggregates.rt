@@ -8,9 +8,10 @@ ghost use Rattle.validate_resources.specs.Context.{Valid, is_valid_index};
 ghost use Rattle.validate_types.specs.Refs.{reference};
 ghost use Rattle.validate_types.specs.Types.{unpacked_fields};
 ghost use Rattle.validation_rules.specs.Arrays.{array_type, array_element};
-ghost use Rattle.validation_rules.specs.Descriptors.{descriptor_at as index_of_descriptor};
-ghost use Rattle.validation_rules.specs.Exact.{declared_heap, allocated_reference as reference_to_allocated};
-ghost use Rattle.validation_rules.specs.Indirect.{type_reference as reference_to_type};
+ghost use Rattle.validation_rules.specs.Descriptors as descriptor_rule;
+ghost use Rattle.validation_rules.specs.Exact.{declared_heap};
+ghost use Rattle.validation_rules.specs.Exact as exact_rule;
+ghost use Rattle.validation_rules.specs.Indirect as indirect_rule;
 ghost use Rattle.validation_rules.specs.Structs.{struct_type, struct_fields, struct_field, field_value};
 ghost use Rattle.validate_stacks.specs.State.{body_context};
 
@@ -115,7 +116,7 @@ fn field_of(struct_type: &StructType, field_index: u32) -> Option<FieldType>
 
 /// What each place of the array type at an index holds. The type has to be declared, and in a shared
 /// function has to be shared (wasmparser's `array_type_at`). It refuses a type of another kind.
-pub fn array_type_at<R: WasmModuleResources>(
+pub fn array_field_at<R: WasmModuleResources>(
     stacks: &Stacks,
     resources: &R,
     offset: u64,
@@ -212,10 +213,10 @@ pub fn type_reference<R: WasmModuleResources>(
     nullable: bool,
     type_index: u32,
 ) -> Result<ValType, Error>
-    ensures found { IfOk result (λ t. reference_to_type
+    ensures found { IfOk result (λ t. indirect_rule.type_reference
         (body_context (R.context resources.now) stacks.now.body) (reference nullable) type_index ≡ Some t) }
     ensures valid { IfOk result (λ t. Valid (R.context resources.now) t) }
-    ensures refused { IfErr result (λ e. e.wants_memory ≡ false → reference_to_type
+    ensures refused { IfErr result (λ e. e.wants_memory ≡ false → indirect_rule.type_reference
         (body_context (R.context resources.now) stacks.now.body) (reference nullable) type_index ≡ None) }
     ensures offset { IfErr result (λ e. e.offset ≡ offset) }
 {
@@ -249,10 +250,10 @@ pub fn allocated_reference<R: WasmModuleResources>(
     offset: u64,
     type_index: u32,
 ) -> Result<ValType, Error>
-    ensures found { IfOk result (λ t. reference_to_allocated
+    ensures found { IfOk result (λ t. exact_rule.allocated_reference
         (body_context (R.context resources.now) stacks.now.body) type_index ≡ Some t) }
     ensures valid { IfOk result (λ t. Valid (R.context resources.now) t) }
-    ensures refused { IfErr result (λ e. e.wants_memory ≡ false → reference_to_allocated
+    ensures refused { IfErr result (λ e. e.wants_memory ≡ false → exact_rule.allocated_reference
         (body_context (R.context resources.now) stacks.now.body) type_index ≡ None) }
     ensures offset { IfErr result (λ e. e.offset ≡ offset) }
 {
@@ -272,7 +273,7 @@ pub fn descriptor_at<R: WasmModuleResources>(
     offset: u64,
     type_index: u32,
 ) -> Result<Option<PackedIndex>, Error>
-    ensures found { IfOk result (λ d. index_of_descriptor (R.context resources.now) type_index ≡ d) }
+    ensures found { IfOk result (λ d. descriptor_rule.descriptor_at (R.context resources.now) type_index ≡ d) }
     ensures valid { IfOk result (λ d. ForSome d (λ u. is_valid_index (R.context resources.now) u ≡ true)) }
     ensures unknown { OnErr result ((R.context resources.now).type_at type_index ≡ None) }
     ensures offset { IfErr result (λ e. e.offset ≡ offset) }

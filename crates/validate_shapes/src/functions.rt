@@ -3,7 +3,7 @@
 ghost use Rattle.std.specs.Prelude.{◌≡◌, None, Some, IfOk, OnErr, IfErr};
 ghost use Rattle.std.specs.List.{AllByRecursion};
 ghost use Rattle.validate_resources.specs.Context.{Valid};
-ghost use Rattle.validation_rules.specs.Calls.{callee as called};
+ghost use Rattle.validation_rules.specs.Calls.{callee};
 ghost use Rattle.validation_rules.specs.Indirect.{typed_callee};
 ghost use Rattle.validate_stacks.specs.State.{body_context};
 
@@ -22,11 +22,11 @@ pub fn type_of_function<'a, R: WasmModuleResources>(
     offset: u64,
     function_index: u32,
 ) -> Result<&'a FuncType, Error>
-    ensures found { IfOk result (λ f. called (body_context (R.context resources.now) stacks.now.body)
+    ensures found { IfOk result (λ f. callee (body_context (R.context resources.now) stacks.now.body)
         function_index ≡ Some f.now) }
     ensures params { IfOk result (λ f. AllByRecursion (Valid (R.context resources.now)) f.now.params) }
     ensures results { IfOk result (λ f. AllByRecursion (Valid (R.context resources.now)) f.now.results) }
-    ensures refused { OnErr result (called (body_context (R.context resources.now) stacks.now.body)
+    ensures refused { OnErr result (callee (body_context (R.context resources.now) stacks.now.body)
         function_index ≡ None) }
     ensures offset { IfErr result (λ e. e.offset ≡ offset) }
 {

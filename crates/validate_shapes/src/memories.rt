@@ -3,7 +3,7 @@
 
 ghost use Rattle.std.specs.Prelude.{◌≡◌, true, false, None, Some, IfOk, OnOk, OnErr, IfErr};
 ghost use Rattle.validate_resources.specs.Context.{is_address_type};
-ghost use Rattle.validation_rules.specs.Memories.{memory_address_type as index_of_memory, narrower_type, is_segment};
+ghost use Rattle.validation_rules.specs.Memories.{memory_address_type, narrower_type, is_segment};
 
 use validate_resources::WasmModuleResources;
 use validate_stacks::Stacks;
@@ -18,9 +18,9 @@ pub fn check_memory_index<R: WasmModuleResources>(
     offset: u64,
     memory_index: u32,
 ) -> Result<ValType, Error>
-    ensures found { IfOk result (λ it. index_of_memory (R.context resources.now) memory_index ≡ Some it) }
+    ensures found { IfOk result (λ it. memory_address_type (R.context resources.now) memory_index ≡ Some it) }
     ensures index { IfOk result (λ it. is_address_type it ≡ true) }
-    ensures unknown { OnErr result (index_of_memory (R.context resources.now) memory_index ≡ None) }
+    ensures unknown { OnErr result (memory_address_type (R.context resources.now) memory_index ≡ None) }
     ensures offset { IfErr result (λ e. e.offset ≡ offset) }
 {
     match resources.memory_at(memory_index) {

@@ -8,7 +8,7 @@ ghost use Rattle.validation_rules.specs.Valid.{IsValidOperand};
 ghost use Rattle.validate_stacks.specs.Attempts.{phase_moved};
 ghost use Rattle.validate_stacks.specs.Pops.{IsKept};
 ghost use Rattle.validate_stacks.specs.State.{IsValidBody};
-ghost use Rattle.validate_stacks.specs.Steps.{found_in_body as top, body_popped, body_pushed};
+ghost use Rattle.validate_stacks.specs.Steps.{found_in_body, body_popped, body_pushed};
 
 use validate_resources::WasmModuleResources;
 use validate_stacks::{Stacks, ty_to_str};
@@ -55,11 +55,12 @@ pub fn pop_non_null_ref<R: WasmModuleResources>(
     offset: u64,
 ) -> Result<MaybeType, Error>
     requires { IsValidBody (R.context resources.now) stacks.old.body }
-    ensures given { IfOk result (λ t. option_and_then operand_without_null (top stacks.old.body) ≡ Some t) }
+    ensures given { IfOk result (λ t. option_and_then operand_without_null (found_in_body stacks.old.body)
+        ≡ Some t) }
     ensures operand { IfOk result (λ t. IsValidOperand (R.context resources.now) t) }
     ensures popped { OnOk result (stacks.new.body ≡ body_popped stacks.old.body) }
     ensures refused { IfErr result (λ e. e.wants_memory ≡ false
-        → option_and_then operand_without_null (top stacks.old.body) ≡ None) }
+        → option_and_then operand_without_null (found_in_body stacks.old.body) ≡ None) }
     ensures phase { phase_moved stacks.new.phase ≡ phase_moved stacks.old.phase }
     ensures valid { IsValidBody (R.context resources.now) stacks.new.body }
     ensures kept { IsKept stacks.old.body stacks.new.body }

@@ -20,15 +20,15 @@ use Rattle.validation_rules.specs.Static.{Frame, State, state_with, operands_fou
 use Rattle.validate_stacks.specs.AtOnce.{frames_dropped, body_dropped, state_given, body_given, pushed_list, MeetsAtOnce}
 use Rattle.validation_rules.specs.Context.{block_signature}
 use Rattle.validate_stacks.specs.Blocks.{closed_body}
-use Rattle.validate_stacks.specs.Flat.{flat_state, stacked_of, HasShape, IsSound, undone_pending}
+use Rattle.validate_stacks.specs.Flat.{state_from_heights, stacked_of, HasShape, IsSound, undone_pending}
 use Rattle.validate_stacks.specs.Pops.{FitsAtOnce, may_pop, frames_popped_each, body_popped_each, body_pushed_each, has_operands_fitting, operands_found_in, IsKept}
 use Rattle.validate_stacks.specs.State.{BodyState, body_context, body_with_frames, IsValidBody}
 use Rattle.validate_stacks.specs.Steps.{found_in_body, frame_at, innermost_operands, body_without_first, body_popped, body_pushed, body_unreachable, body_without_frame}
 use Rattle.validate_stacks.specs.Visits.{Meets, MayVisit}
 use Rattle.validation_rules.proofs.Steps.{some_injective}
-use Rattle.validate_stacks.proofs.Closing.{guarded_some, closed_passes, wants_valid}
+use Rattle.validate_stacks.proofs.ClosedFrames.{guarded_some, closed_passes, wants_valid}
 use Rattle.validate_stacks.proofs.Cuts.{state_of, HasShape-more, above_height}
-use Rattle.validate_stacks.proofs.Matching.{drop_next}
+use Rattle.validate_stacks.proofs.MatchedOperands.{drop_next}
 use Rattle.validate_stacks.proofs.Whole.{popped_none, popped_next, popped_whole, with_frame}
 use Rattle.validate_stacks.proofs.Validity.{popped_valid, popped_kept, pushed_valid, kept_on}
 
@@ -42,15 +42,15 @@ pub quiet_push : (t : Transaction) → log_of t ≡ None → with_push t ≡ t
 quiet_push (Active log) h = cc
 quiet_push (Inactive a) h = refl
 
-pub quiet_undone : (fs : List FlatFrame) (ops ops' : List MaybeType) (is : List ℕ) (t : Transaction) → log_of t ≡ None → undone_pending fs ops is t ≡ undone_pending fs ops' is t
-quiet_undone fs ops ops' is (Active log) h = cc
-quiet_undone fs ops ops' is (Inactive a) h = refl
+pub quiet_undone : (fs : List FlatFrame) (operands operands' : List MaybeType) (is : List ℕ) (t : Transaction) → log_of t ≡ None → undone_pending fs operands is t ≡ undone_pending fs operands' is t
+quiet_undone fs operands operands' is (Active log) h = cc
+quiet_undone fs operands operands' is (Inactive a) h = refl
 
 -- ---- an operand in the place of the top one
 
 -- there is one
-pub own_there : (fs : List FlatFrame) (ops : List MaybeType) (is : List ℕ) → innermost_operands (flat_state fs ops is).frames ≢ [] → 0 < length ops
-own_there [] ops is own = absurd (own refl)
+pub own_there : (fs : List FlatFrame) (operands : List MaybeType) (is : List ℕ) → innermost_operands (state_from_heights fs operands is).frames ≢ [] → 0 < length operands
+own_there [] operands is own = absurd (own refl)
 own_there (g ∷ gs) [] is own = absurd (own (none (0 - g.height)))
   where
     nothing : List MaybeType
@@ -59,20 +59,20 @@ own_there (g ∷ gs) [] is own = absurd (own (none (0 - g.height)))
     none : (n : ℕ) → take n nothing ≡ []
     none zero = refl
     none (suc n) = refl
-own_there (g ∷ gs) (x ∷ ops) is own = omega arith
+own_there (g ∷ gs) (x ∷ operands) is own = omega arith
 
-pub sound_replaced : (fr : ℕ) (fs : List FlatFrame) (or or' : ℕ) (y : MaybeType) (ops : List MaybeType) (ir : ℕ) (set_at_entry : List Bool) (is : List ℕ) (t : Transaction) (ls : List ValType) → log_of t ≡ None → 0 < length ops → IsSound fr fs or ops ir set_at_entry is t ls → IsSound fr fs or' (y ∷ drop 1 ops) ir set_at_entry is t ls
-sound_replaced fr fs or or' y ops ir set_at_entry is (Active log) ls quiet some w = cc
+pub sound_replaced : (fr : ℕ) (fs : List FlatFrame) (or or' : ℕ) (y : MaybeType) (operands : List MaybeType) (ir : ℕ) (set_at_entry : List Bool) (is : List ℕ) (t : Transaction) (ls : List ValType) → log_of t ≡ None → 0 < length operands → IsSound fr fs or operands ir set_at_entry is t ls → IsSound fr fs or' (y ∷ drop 1 operands) ir set_at_entry is t ls
+sound_replaced fr fs or or' y operands ir set_at_entry is (Active log) ls quiet some w = cc
 sound_replaced fr fs or or' y [] ir set_at_entry is (Inactive a) ls quiet some w = absurd (omega (arith, some))
-sound_replaced fr fs or or' y (x ∷ ops) ir set_at_entry is (Inactive a) ls quiet some w = record { shape = w.shape; marks = w.marks; undo = tt }
+sound_replaced fr fs or or' y (x ∷ operands) ir set_at_entry is (Inactive a) ls quiet some w = record { shape = w.shape; marks = w.marks; undo = tt }
 
-pub cut-replaced : (fs : List FlatFrame) (y : MaybeType) (ops : List MaybeType) (is : List ℕ) (s : Bool) (n : WasmFeatures) (ls : List ValType) (en : List Bool) (un : Option State) → innermost_operands (flat_state fs ops is).frames ≢ [] → state_of fs (y ∷ drop 1 ops) is s n ls en un ≡ body_pushed y (body_popped (state_of fs ops is s n ls en un))
-cut-replaced [] y ops is s n ls en un own = absurd (own refl)
+pub cut-replaced : (fs : List FlatFrame) (y : MaybeType) (operands : List MaybeType) (is : List ℕ) (s : Bool) (n : WasmFeatures) (ls : List ValType) (en : List Bool) (un : Option State) → innermost_operands (state_from_heights fs operands is).frames ≢ [] → state_of fs (y ∷ drop 1 operands) is s n ls en un ≡ body_pushed y (body_popped (state_of fs operands is s n ls en un))
+cut-replaced [] y operands is s n ls en un own = absurd (own refl)
 cut-replaced (g ∷ gs) y [] is s n ls en un own = absurd (omega (arith, own_there (g ∷ gs) [] is own))
-cut-replaced (g ∷ gs) y (x ∷ ops) is s n ls en un own = by (suc (length ops) - g.height) refl
+cut-replaced (g ∷ gs) y (x ∷ operands) is s n ls en un own = by (suc (length operands) - g.height) refl
   where
-    by : (k : ℕ) → suc (length ops) - g.height ≡ k → state_of (g ∷ gs) (y ∷ ops) is s n ls en un ≡ body_pushed y (body_popped (state_of (g ∷ gs) (x ∷ ops) is s n ls en un))
-    by zero e = absurd (own (ap (λ j. take j (x ∷ ops)) e))
+    by : (k : ℕ) → suc (length operands) - g.height ≡ k → state_of (g ∷ gs) (y ∷ operands) is s n ls en un ≡ body_pushed y (body_popped (state_of (g ∷ gs) (x ∷ operands) is s n ls en un))
+    by zero e = absurd (own (ap (λ j. take j (x ∷ operands)) e))
     by (suc k) e = rw e refl
 
 -- ---- operands taken
@@ -334,62 +334,62 @@ pub quiet_opened : (t : Transaction) → log_of t ≡ None → with_opened t ≡
 quiet_opened (Active log) h = cc
 quiet_opened (Inactive a) h = refl
 
-pub quiet_frame : (fs : List FlatFrame) (ops : List MaybeType) (is : List ℕ) (t : Transaction) (s : Bool) (n : WasmFeatures) (ls : List ValType) (en : List Bool) → log_of t ≡ None → may_frame (stacked_of fs ops is t s n ls en) ≡ true
-quiet_frame fs ops is (Active log) s n ls en h = cc
-quiet_frame fs ops is (Inactive a) s n ls en h = refl
+pub quiet_frame : (fs : List FlatFrame) (operands : List MaybeType) (is : List ℕ) (t : Transaction) (s : Bool) (n : WasmFeatures) (ls : List ValType) (en : List Bool) → log_of t ≡ None → may_frame (stacked_of fs operands is t s n ls en) ≡ true
+quiet_frame fs operands is (Active log) s n ls en h = cc
+quiet_frame fs operands is (Inactive a) s n ls en h = refl
 
 -- ---- own operands given to the next outer frame
 
 -- the frames below, at once and after the own operands of the innermost one
-pub cut-given : (f : FlatFrame) (fs : List FlatFrame) (ops : List MaybeType) (is : List ℕ) (m : ℕ) → HasShape (f ∷ fs) (length ops) m → flat_state fs ops (take f.init_height is) ≡ state_given (flat_state (f ∷ fs) ops is).frames (flat_state (f ∷ fs) ops is).left
-cut-given f [] ops is m h = ap (λ l. state_with l []) (sym (take-append-drop (length ops - f.height) ops))
-cut-given f (g ∷ gs) ops is m h =
-    let k = length ops - f.height in
-    let below : length (drop k ops) ≡ f.height = omega (arith, length-drop k ops, h.0) in
-    let more : length ops - g.height ≡ k + (length (drop k ops) - g.height) = omega (arith, below, h.0, h.2.0) in
-    rw more (rw (take-add k (length (drop k ops) - g.height) ops, ← drop-drop (length (drop k ops) - g.height) k ops) refl)
+pub cut-given : (f : FlatFrame) (fs : List FlatFrame) (operands : List MaybeType) (is : List ℕ) (m : ℕ) → HasShape (f ∷ fs) (length operands) m → state_from_heights fs operands (take f.init_height is) ≡ state_given (state_from_heights (f ∷ fs) operands is).frames (state_from_heights (f ∷ fs) operands is).left
+cut-given f [] operands is m h = ap (λ l. state_with l []) (sym (take-append-drop (length operands - f.height) operands))
+cut-given f (g ∷ gs) operands is m h =
+    let k = length operands - f.height in
+    let below : length (drop k operands) ≡ f.height = omega (arith, length-drop k operands, h.0) in
+    let more : length operands - g.height ≡ k + (length (drop k operands) - g.height) = omega (arith, below, h.0, h.2.0) in
+    rw more (rw (take-add k (length (drop k operands) - g.height) operands, ← drop-drop (length (drop k operands) - g.height) k operands) refl)
 
-pub sound_given : (fr fr' : ℕ) (f : FlatFrame) (fs : List FlatFrame) (or : ℕ) (ops : List MaybeType) (ir ir' : ℕ) (en en' : List Bool) (is : List ℕ) (t : Transaction) (ls : List ValType) → log_of t ≡ None → en ≡ en' → IsSound fr (f ∷ fs) or ops ir en is t ls → IsSound fr' fs or ops ir' en' (take f.init_height is) t ls
-sound_given fr fr' f fs or ops ir ir' en en' is (Active log) ls quiet e w = cc
-sound_given fr fr' f fs or ops ir ir' en en' is (Inactive a) ls quiet e w = record {
-  shape = subst (HasShape fs (length ops)) (sym (length-take-le f.init_height is w.shape.1)) (HasShape-more fs f.height (length ops) f.init_height w.shape.0 w.shape.2);
+pub sound_given : (fr fr' : ℕ) (f : FlatFrame) (fs : List FlatFrame) (or : ℕ) (operands : List MaybeType) (ir ir' : ℕ) (en en' : List Bool) (is : List ℕ) (t : Transaction) (ls : List ValType) → log_of t ≡ None → en ≡ en' → IsSound fr (f ∷ fs) or operands ir en is t ls → IsSound fr' fs or operands ir' en' (take f.init_height is) t ls
+sound_given fr fr' f fs or operands ir ir' en en' is (Active log) ls quiet e w = cc
+sound_given fr fr' f fs or operands ir ir' en en' is (Inactive a) ls quiet e w = record {
+  shape = subst (HasShape fs (length operands)) (sym (length-take-le f.init_height is w.shape.1)) (HasShape-more fs f.height (length operands) f.init_height w.shape.0 w.shape.2);
   marks = ap length (sym e) ∙ w.marks;
   undo = tt;
 }
 
-pub idle_given : (f : FlatFrame) (fs : List FlatFrame) (ops : List MaybeType) (is : List ℕ) (t : Transaction) (s : Bool) (n : WasmFeatures) (ls : List ValType) (en : List Bool) → log_of t ≡ None → HasShape (f ∷ fs) (length ops) (length is) → state_of fs ops (take f.init_height is) s n ls en (undone_pending fs ops (take f.init_height is) t) ≡ body_given (state_of (f ∷ fs) ops is s n ls en (undone_pending (f ∷ fs) ops is t))
-idle_given f fs ops is (Active log) s n ls en quiet h = cc
-idle_given f fs ops is (Inactive a) s n ls en quiet h = ap (λ (p : State). record { present = p; shared = s; features = n; locals = ls; set_at_entry = en; undone = None }) (cut-given f fs ops is (length is) h)
+pub idle_given : (f : FlatFrame) (fs : List FlatFrame) (operands : List MaybeType) (is : List ℕ) (t : Transaction) (s : Bool) (n : WasmFeatures) (ls : List ValType) (en : List Bool) → log_of t ≡ None → HasShape (f ∷ fs) (length operands) (length is) → state_of fs operands (take f.init_height is) s n ls en (undone_pending fs operands (take f.init_height is) t) ≡ body_given (state_of (f ∷ fs) operands is s n ls en (undone_pending (f ∷ fs) operands is t))
+idle_given f fs operands is (Active log) s n ls en quiet h = cc
+idle_given f fs operands is (Inactive a) s n ls en quiet h = ap (λ (p : State). record { present = p; shared = s; features = n; locals = ls; set_at_entry = en; undone = None }) (cut-given f fs operands is (length is) h)
 
 -- ---- the top own operand taken
 
 -- there is one
-pub taken_there : (fs : List FlatFrame) (ops : List MaybeType) (is : List ℕ) → innermost_operands (flat_state fs ops is).frames ≢ [] → (o : Option MaybeType) (rest : List MaybeType) → MatchOption o ((ops ≡ []) × (rest ≡ [])) (λ x. ops ≡ x ∷ rest) → (x : MaybeType) × (ops ≡ x ∷ rest)
-taken_there fs ops is own (Some x) rest m = (x, m)
-taken_there fs ops is own None rest m = let some = own_there fs ops is own in absurd (omega (arith, some, ap length m.0))
+pub taken_there : (fs : List FlatFrame) (operands : List MaybeType) (is : List ℕ) → innermost_operands (state_from_heights fs operands is).frames ≢ [] → (o : Option MaybeType) (rest : List MaybeType) → MatchOption o ((operands ≡ []) × (rest ≡ [])) (λ x. operands ≡ x ∷ rest) → (x : MaybeType) × (operands ≡ x ∷ rest)
+taken_there fs operands is own (Some x) rest m = (x, m)
+taken_there fs operands is own None rest m = let some = own_there fs operands is own in absurd (omega (arith, some, ap length m.0))
 
 -- it lies above the height of its frame
-above_own : (g : FlatFrame) (gs : List FlatFrame) (x : MaybeType) (ops : List MaybeType) (is : List ℕ) → innermost_operands (flat_state (g ∷ gs) (x ∷ ops) is).frames ≢ [] → g.height ≤ length ops
-above_own g gs x ops is own = by (suc (length ops) - g.height) refl
+above_own : (g : FlatFrame) (gs : List FlatFrame) (x : MaybeType) (operands : List MaybeType) (is : List ℕ) → innermost_operands (state_from_heights (g ∷ gs) (x ∷ operands) is).frames ≢ [] → g.height ≤ length operands
+above_own g gs x operands is own = by (suc (length operands) - g.height) refl
   where
-    by : (k : ℕ) → suc (length ops) - g.height ≡ k → g.height ≤ length ops
-    by zero e = absurd (own (ap (λ j. take j (x ∷ ops)) e))
+    by : (k : ℕ) → suc (length operands) - g.height ≡ k → g.height ≤ length operands
+    by zero e = absurd (own (ap (λ j. take j (x ∷ operands)) e))
     by (suc k) e = omega (arith, e)
 
-pub sound_taken : (fr : ℕ) (fs : List FlatFrame) (or or' : ℕ) (x : MaybeType) (ops : List MaybeType) (ir : ℕ) (en : List Bool) (is : List ℕ) (t : Transaction) (ls : List ValType) → log_of t ≡ None → innermost_operands (flat_state fs (x ∷ ops) is).frames ≢ [] → IsSound fr fs or (x ∷ ops) ir en is t ls → IsSound fr fs or' ops ir en is t ls
-sound_taken fr fs or or' x ops ir en is (Active log) ls quiet own w = cc
-sound_taken fr [] or or' x ops ir en is (Inactive a) ls quiet own w = absurd (own refl)
-sound_taken fr (g ∷ gs) or or' x ops ir en is (Inactive a) ls quiet own w = record { shape = (above_own g gs x ops is own, w.shape.1, w.shape.2); marks = w.marks; undo = tt }
+pub sound_taken : (fr : ℕ) (fs : List FlatFrame) (or or' : ℕ) (x : MaybeType) (operands : List MaybeType) (ir : ℕ) (en : List Bool) (is : List ℕ) (t : Transaction) (ls : List ValType) → log_of t ≡ None → innermost_operands (state_from_heights fs (x ∷ operands) is).frames ≢ [] → IsSound fr fs or (x ∷ operands) ir en is t ls → IsSound fr fs or' operands ir en is t ls
+sound_taken fr fs or or' x operands ir en is (Active log) ls quiet own w = cc
+sound_taken fr [] or or' x operands ir en is (Inactive a) ls quiet own w = absurd (own refl)
+sound_taken fr (g ∷ gs) or or' x operands ir en is (Inactive a) ls quiet own w = record { shape = (above_own g gs x operands is own, w.shape.1, w.shape.2); marks = w.marks; undo = tt }
 
-pub cut-taken : (fs : List FlatFrame) (x : MaybeType) (ops : List MaybeType) (is : List ℕ) (t : Transaction) (s : Bool) (n : WasmFeatures) (ls : List ValType) (en : List Bool) → log_of t ≡ None → innermost_operands (flat_state fs (x ∷ ops) is).frames ≢ [] → state_of fs ops is s n ls en (undone_pending fs ops is t) ≡ body_popped (state_of fs (x ∷ ops) is s n ls en (undone_pending fs (x ∷ ops) is t))
-cut-taken fs x ops is (Active log) s n ls en quiet own = cc
-cut-taken [] x ops is (Inactive a) s n ls en quiet own = absurd (own refl)
-cut-taken (g ∷ gs) x ops is (Inactive a) s n ls en quiet own = (above_height (g ∷ gs) g x ops is s n ls en None refl (above_own g gs x ops is own)).1
+pub cut-taken : (fs : List FlatFrame) (x : MaybeType) (operands : List MaybeType) (is : List ℕ) (t : Transaction) (s : Bool) (n : WasmFeatures) (ls : List ValType) (en : List Bool) → log_of t ≡ None → innermost_operands (state_from_heights fs (x ∷ operands) is).frames ≢ [] → state_of fs operands is s n ls en (undone_pending fs operands is t) ≡ body_popped (state_of fs (x ∷ operands) is s n ls en (undone_pending fs (x ∷ operands) is t))
+cut-taken fs x operands is (Active log) s n ls en quiet own = cc
+cut-taken [] x operands is (Inactive a) s n ls en quiet own = absurd (own refl)
+cut-taken (g ∷ gs) x operands is (Inactive a) s n ls en quiet own = (above_height (g ∷ gs) g x operands is s n ls en None refl (above_own g gs x operands is own)).1
 
 -- where no frame is open, nothing is given
-pub given_nothing : (fs : List FlatFrame) (ops : List MaybeType) (is : List ℕ) (s : Bool) (n : WasmFeatures) (ls : List ValType) (en : List Bool) (un : Option State) → slice_get fs 0 ≡ None → state_of fs ops is s n ls en un ≡ body_given (state_of fs ops is s n ls en un)
-given_nothing [] ops is s n ls en un h = refl
-given_nothing (g ∷ gs) ops is s n ls en un h = cc
+pub given_nothing : (fs : List FlatFrame) (operands : List MaybeType) (is : List ℕ) (s : Bool) (n : WasmFeatures) (ls : List ValType) (en : List Bool) (un : Option State) → slice_get fs 0 ≡ None → state_of fs operands is s n ls en un ≡ body_given (state_of fs operands is s n ls en un)
+given_nothing [] operands is s n ls en un h = refl
+given_nothing (g ∷ gs) operands is s n ls en un h = cc
 
 -- ---- a frame left
 

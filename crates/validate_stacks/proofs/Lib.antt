@@ -1,13 +1,13 @@
 mod Cuts
-mod Undoing
+mod Undone
 pub mod Phases
 mod Marks
 pub mod Looks
-pub mod Matching
+pub mod MatchedOperands
 pub mod Validity
 pub mod Whole
-pub mod Closing
+pub mod ClosedFrames
 pub mod PopRuns
 pub mod AtOnce
 mod Examples
-mod Rising
+mod Heights

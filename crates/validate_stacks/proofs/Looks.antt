@@ -7,7 +7,7 @@ use Rattle.validate_types.specs.declared.types.ValType.{ValType}
 use Rattle.validate_visit.specs.declared.frame.Frame.{Frame as FlatFrame}
 use Rattle.validation_rules.specs.Fits.{MaybeType, Bottom}
 use Rattle.validation_rules.specs.Static.{Frame, State, heads}
-use Rattle.validate_stacks.specs.Flat.{flat_state, with_heights}
+use Rattle.validate_stacks.specs.Flat.{state_from_heights, with_heights}
 use Rattle.validation_rules.specs.Pops.{found_by_pop}
 use Rattle.validate_stacks.specs.Steps.{type_and_kind, found_after_pops_in_frames, innermost_operands, body_without_first, frames_owning, body_popped, body_marked, frames_unreachable, body_unreachable}
 use Rattle.validate_stacks.specs.State.{BodyState}
@@ -24,47 +24,47 @@ label_found (f ∷ fs) n (suc d) = label_found fs n d
 
 -- ---- what is found after some others
 
-pub none_found : (fs : List FlatFrame) (ops : List MaybeType) (is : List ℕ) (d : ℕ) → slice_get fs 0 ≡ None → None ≡ found_after_pops_in_frames d (flat_state fs ops is).frames
-none_found [] ops is d h = refl
-none_found (g ∷ gs) ops is d h = cc
+pub none_found : (fs : List FlatFrame) (operands : List MaybeType) (is : List ℕ) (d : ℕ) → slice_get fs 0 ≡ None → None ≡ found_after_pops_in_frames d (state_from_heights fs operands is).frames
+none_found [] operands is d h = refl
+none_found (g ∷ gs) operands is d h = cc
 
-top_get : (d n : ℕ) (ops : List MaybeType) (dead : Bool) → d < n → n ≤ length ops → slice_get ops d ≡ found_by_pop dead (drop d (take n ops))
-top_get d zero ops dead h k = absurd (omega (arith, h))
+top_get : (d n : ℕ) (operands : List MaybeType) (dead : Bool) → d < n → n ≤ length operands → slice_get operands d ≡ found_by_pop dead (drop d (take n operands))
+top_get d zero operands dead h k = absurd (omega (arith, h))
 top_get d (suc n) [] dead h k = absurd (omega (arith, k))
-top_get zero (suc n) (x ∷ ops) dead h k = refl
-top_get (suc d) (suc n) (x ∷ ops) dead h k = top_get d n ops dead (omega (arith, h)) (omega (arith, k))
+top_get zero (suc n) (x ∷ operands) dead h k = refl
+top_get (suc d) (suc n) (x ∷ operands) dead h k = top_get d n operands dead (omega (arith, h)) (omega (arith, k))
 
 -- an own operand
-pub own_found : (fs : List FlatFrame) (f : FlatFrame) (ops : List MaybeType) (is : List ℕ) (d : ℕ) → slice_get fs 0 ≡ Some f → d < length ops - f.height → slice_get ops d ≡ found_after_pops_in_frames d (flat_state fs ops is).frames
-own_found [] f ops is d h k = cc
-own_found (g ∷ gs) f ops is d h k =
+pub own_found : (fs : List FlatFrame) (f : FlatFrame) (operands : List MaybeType) (is : List ℕ) (d : ℕ) → slice_get fs 0 ≡ Some f → d < length operands - f.height → slice_get operands d ≡ found_after_pops_in_frames d (state_from_heights fs operands is).frames
+own_found [] f operands is d h k = cc
+own_found (g ∷ gs) f operands is d h k =
     let same : g ≡ f = cc in
-    let within : d < length ops - g.height = subst (λ (q : FlatFrame). d < length ops - q.height) (sym same) k in
-    top_get d (length ops - g.height) ops g.unreachable within (omega arith)
+    let within : d < length operands - g.height = subst (λ (q : FlatFrame). d < length operands - q.height) (sym same) k in
+    top_get d (length operands - g.height) operands g.unreachable within (omega arith)
 
 top_none : (dead : Bool) → found_by_pop dead [] ≡ cond dead (Some Bottom) None
 top_none true = refl
 top_none false = refl
 
 -- below the own operands
-pub below_found : (fs : List FlatFrame) (f : FlatFrame) (ops : List MaybeType) (is : List ℕ) (d : ℕ) → slice_get fs 0 ≡ Some f → length ops - f.height ≤ d → cond f.unreachable (Some Bottom) None ≡ found_after_pops_in_frames d (flat_state fs ops is).frames
-below_found [] f ops is d h k = cc
-below_found (g ∷ gs) f ops is d h k =
+pub below_found : (fs : List FlatFrame) (f : FlatFrame) (operands : List MaybeType) (is : List ℕ) (d : ℕ) → slice_get fs 0 ≡ Some f → length operands - f.height ≤ d → cond f.unreachable (Some Bottom) None ≡ found_after_pops_in_frames d (state_from_heights fs operands is).frames
+below_found [] f operands is d h k = cc
+below_found (g ∷ gs) f operands is d h k =
     let same : g ≡ f = cc in
-    let past : length ops - g.height ≤ d = subst (λ (q : FlatFrame). length ops - q.height ≤ d) (sym same) k in
-    let count = length-take-le (length ops - g.height) ops (omega arith) in
-    let none : drop d (take (length ops - g.height) ops) ≡ [] = drop_all d (take (length ops - g.height) ops) (omega (arith, count, past)) in
+    let past : length operands - g.height ≤ d = subst (λ (q : FlatFrame). length operands - q.height ≤ d) (sym same) k in
+    let count = length-take-le (length operands - g.height) operands (omega arith) in
+    let none : drop d (take (length operands - g.height) operands) ≡ [] = drop_all d (take (length operands - g.height) operands) (omega (arith, count, past)) in
     sym (ap (λ l. found_by_pop g.unreachable l) none ∙ (top_none g.unreachable ∙ ap (λ (q : FlatFrame). cond q.unreachable (Some Bottom) None) same))
 
 -- ---- the mark
 
-pub mark_none : (fs : List FlatFrame) (ops : List MaybeType) (is : List ℕ) (s : Bool) (n : WasmFeatures) (ls : List ValType) (en : List Bool) (un : Option State) → slice_get fs 0 ≡ None → state_of fs ops is s n ls en un ≡ body_marked (state_of fs ops is s n ls en un)
-mark_none [] ops is s n ls en un h = refl
-mark_none (g ∷ gs) ops is s n ls en un h = cc
+pub mark_none : (fs : List FlatFrame) (operands : List MaybeType) (is : List ℕ) (s : Bool) (n : WasmFeatures) (ls : List ValType) (en : List Bool) (un : Option State) → slice_get fs 0 ≡ None → state_of fs operands is s n ls en un ≡ body_marked (state_of fs operands is s n ls en un)
+mark_none [] operands is s n ls en un h = refl
+mark_none (g ∷ gs) operands is s n ls en un h = cc
 
-pub mark_dead : (fs : List FlatFrame) (f : FlatFrame) (ops : List MaybeType) (is : List ℕ) (s : Bool) (n : WasmFeatures) (ls : List ValType) (en : List Bool) (un : Option State) → slice_get fs 0 ≡ Some f → f.unreachable ≡ true → state_of fs ops is s n ls en un ≡ body_marked (state_of fs ops is s n ls en un)
-mark_dead [] f ops is s n ls en un h d = cc
-mark_dead (g ∷ gs) f ops is s n ls en un h d =
+pub mark_dead : (fs : List FlatFrame) (f : FlatFrame) (operands : List MaybeType) (is : List ℕ) (s : Bool) (n : WasmFeatures) (ls : List ValType) (en : List Bool) (un : Option State) → slice_get fs 0 ≡ Some f → f.unreachable ≡ true → state_of fs operands is s n ls en un ≡ body_marked (state_of fs operands is s n ls en un)
+mark_dead [] f operands is s n ls en un h d = cc
+mark_dead (g ∷ gs) f operands is s n ls en un h d =
     let e : g.unreachable ≡ true = ap (λ (q : FlatFrame). q.unreachable) (let same : g ≡ f = cc in same) ∙ d in
     rw e refl
 

@@ -19,17 +19,17 @@ state_with_frame f s = record { frames = f ∷ s.frames; left = s.left }
 
 -- the frames with their own parts of the flat lists: all operands, the top first, and the locals that
 -- were set, in order
-abbrev pub flat_state : List FlatFrame → List MaybeType → List ℕ → State
-flat_state [] ops order = record { frames = []; left = ops }
-flat_state (f ∷ fs) ops order =
+abbrev pub state_from_heights : List FlatFrame → List MaybeType → List ℕ → State
+state_from_heights [] operands order = record { frames = []; left = operands }
+state_from_heights (f ∷ fs) operands order =
     state_with_frame
     (record {
       head = record { kind = f.kind; block_type = f.block_type };
-      operands = take (length ops - f.height) ops;
+      operands = take (length operands - f.height) operands;
       dead = f.unreachable;
       first_set = drop f.init_height order;
     })
-    (flat_state fs (drop (length ops - f.height) ops) (take f.init_height order))
+    (state_from_heights fs (drop (length operands - f.height) operands) (take f.init_height order))
 
 -- Heights don't fall from outer to inner, and don't pass the number of operands or of locals that were
 -- set. Outside all frames no local is set.
@@ -61,12 +61,13 @@ undone_inits fs order log =
 
 -- the state once all that the log records is taken back
 abbrev pub undone_state : List FlatFrame → List MaybeType → List ℕ → Log → State
-undone_state fs ops order log =
-    flat_state (undone_frames fs log) (items_taken_back ops log.operands) (undone_inits fs order log)
+undone_state fs operands order log =
+    state_from_heights
+    (undone_frames fs log) (items_taken_back operands log.operands) (undone_inits fs order log)
 
 abbrev pub undone_pending : List FlatFrame → List MaybeType → List ℕ → Transaction → Option State
-undone_pending fs ops order (Active log) = Some (undone_state fs ops order log)
-undone_pending fs ops order (Inactive allocs) = None
+undone_pending fs operands order (Active log) = Some (undone_state fs operands order log)
+undone_pending fs operands order (Inactive allocs) = None
 
 -- By what the log tells, where so many locals were first set since the body began: a frame was marked; a
 -- local was unset; frames were opened or closed; a local was set; operands moved.
@@ -82,13 +83,13 @@ phase_of n (Inactive allocs) = Clean
 
 -- the log can be taken back, within the room that is there
 pub record CanUndo
-    (fr : ℕ) (fs : List FlatFrame) (or : ℕ) (ops : List MaybeType) (ir : ℕ) (set_at_entry : List Bool)
+    (fr : ℕ) (fs : List FlatFrame) (or : ℕ) (stack : List MaybeType) (ir : ℕ) (set_at_entry : List Bool)
     (order : List ℕ) (log : Log) : Type 0 where
   pub shape :
-      HasShape (undone_frames fs log) (length (items_taken_back ops log.operands))
+      HasShape (undone_frames fs log) (length (items_taken_back stack log.operands))
       (length (undone_inits fs order log))
   pub frames : CanTakeBack fr (frames_unmarked log.unreachable fs) log.frames
-  pub operands : CanTakeBack or ops log.operands
+  pub operands : CanTakeBack or stack log.operands
   pub room : length (order ++ log.inits) ≤ ir
   -- what is set and what was unset was unset when it was declared, each once
   pub fresh : AreFresh set_at_entry (order ++ log.inits)
@@ -98,31 +99,32 @@ pub record CanUndo
 
 abbrev pub CanUndoAny :
     ℕ → List FlatFrame → ℕ → List MaybeType → ℕ → List Bool → List ℕ → Transaction → Type 0
-CanUndoAny fr fs or ops ir set_at_entry order (Active log) = CanUndo fr fs or ops ir set_at_entry order log
-CanUndoAny fr fs or ops ir set_at_entry order (Inactive allocs) = Unit {0}
+CanUndoAny fr fs or operands ir set_at_entry order (Active log) =
+    CanUndo fr fs or operands ir set_at_entry order log
+CanUndoAny fr fs or operands ir set_at_entry order (Inactive allocs) = Unit {0}
 
 -- the heights fit the lists, each local has its mark, and a pending attempt can be taken back
 pub record IsSound
-    (fr : ℕ) (frames : List FlatFrame) (or : ℕ) (ops : List MaybeType) (ir : ℕ) (set_at_entry : List Bool)
+    (fr : ℕ) (frames : List FlatFrame) (or : ℕ) (operands : List MaybeType) (ir : ℕ) (set_at_entry : List Bool)
     (order : List ℕ) (t : Transaction) (locals : List ValType) : Type 0 where
-  pub shape : HasShape frames (length ops) (length order)
+  pub shape : HasShape frames (length operands) (length order)
   pub marks : length set_at_entry ≡ length locals
-  pub undo : CanUndoAny fr frames or ops ir set_at_entry order t
+  pub undo : CanUndoAny fr frames or operands ir set_at_entry order t
 
 -- what the flat lists and the log stand for
 abbrev pub stacked_of :
     List FlatFrame → List MaybeType → List ℕ → Transaction → Bool → WasmFeatures → List ValType → List Bool →
     Stacked
-stacked_of fs ops order t shared features locals set_at_entry =
+stacked_of fs operands order t shared features locals set_at_entry =
     record {
       body =
           record {
-            present = flat_state fs ops order;
+            present = state_from_heights fs operands order;
             shared = shared;
             features = features;
             locals = locals;
             set_at_entry = set_at_entry;
-            undone = undone_pending fs ops order t;
+            undone = undone_pending fs operands order t;
           };
       phase = phase_of (length order) t;
     }

@@ -7,6 +7,6 @@ pub mod Names
 pub mod Either
 pub mod Blocks
 pub mod Counted
-pub mod Rising
+pub mod Heights
 pub mod Visits
 pub mod AtOnce

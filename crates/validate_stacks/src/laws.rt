@@ -1,6 +1,6 @@
 //! A law of the stacks, as the contract of a function that does nothing.
 
-ghost use Rattle.validate_stacks.specs.Rising.{HeightsRise};
+ghost use Rattle.validate_stacks.specs.Heights.{HeightsRise};
 ghost use Rattle.validate_stacks.specs.State.{BodyState};
 
 /// The shape of the stacks, in whatever state an accepted or a refused call leaves them: the heights of

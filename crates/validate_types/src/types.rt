@@ -1,7 +1,7 @@
 //! Value types, and the types that a module declares (WebAssembly core specification, "Types").
 
 ghost use Rattle.std.specs.Prelude.{◌≡◌, true, None};
-ghost use Rattle.validate_types.specs.Types.{address_type_of_memory as type_of_addresses, address_type_of_table, is_defaultable, unpacked_type, is_packed};
+ghost use Rattle.validate_types.specs.Types.{address_type_of_memory, address_type_of_table, is_defaultable, unpacked_type, is_packed};
 ghost use Rattle.validate_types.specs.declared.types.CompositeInnerType.TheVariants.{Func};
 
 use crate::heap::{AbstractHeapType, PackedIndex};
@@ -291,7 +291,7 @@ pub struct MemoryType {
 impl MemoryType {
     /// The type of its addresses: `i64` where it is marked as one of 64 bits, else `i32`.
     pub fn index_type(&self) -> ValType
-        ensures { result ≡ type_of_addresses self.now }
+        ensures { result ≡ address_type_of_memory self.now }
     {
         if self.memory64 {
             ValType::I64

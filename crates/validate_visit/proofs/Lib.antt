@@ -1,3 +1,3 @@
-mod Reading
-mod LookingBack
-mod Noting
+mod ReadParts
+mod LookBack
+mod NotedParts

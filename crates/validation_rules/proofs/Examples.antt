@@ -17,11 +17,11 @@ use Rattle.validation_rules.specs.Static.{Frame, State, open_state, state_before
 use Rattle.validation_rules.specs.Pops.{frame_after_pops}
 use Rattle.validation_rules.specs.Operators.{operators}
 use Rattle.validation_rules.proofs.Refusals.{IsRefusedAtLast}
-use Rattle.validation_rules.proofs.Writing.{func_type, to_nothing, every, unreachable, block, loop, an_if}
-use Rattle.validation_rules.proofs.Writing.{an_else, end, br, br_if, br_table, a_return, drops, local_get}
-use Rattle.validation_rules.proofs.Writing.{local_set, i32_const, i64_const, i32_eqz, i32_add, catch}
-use Rattle.validation_rules.proofs.Writing.{try_table, throw, legacy_try, legacy_catch, legacy_catch_all}
-use Rattle.validation_rules.proofs.Writing.{delegate, rethrow, frame, after_all, DoneUnder, OpenUnder}
+use Rattle.validation_rules.proofs.ExampleWords.{func_type, to_nothing, every, unreachable, block, loop, an_if}
+use Rattle.validation_rules.proofs.ExampleWords.{an_else, end, br, br_if, br_table, a_return, drops, local_get}
+use Rattle.validation_rules.proofs.ExampleWords.{local_set, i32_const, i64_const, i32_eqz, i32_add, catch}
+use Rattle.validation_rules.proofs.ExampleWords.{try_table, throw, legacy_try, legacy_catch, legacy_catch_all}
+use Rattle.validation_rules.proofs.ExampleWords.{delegate, rethrow, frame, after_all, DoneUnder, OpenUnder}
 
 -- ---- a module of five types and three tags, and a function with two locals of which the first is set at entry
 

@@ -24,9 +24,9 @@ use Rattle.validation_rules.specs.Fits.{MaybeType, Bottom, UnknownRef, Known}
 use Rattle.validation_rules.specs.Rows.{body_head}
 use Rattle.validation_rules.specs.Static.{State, open_state, step}
 use Rattle.validation_rules.specs.Operators.{row_operator, plain_row, operator}
-use Rattle.validation_rules.proofs.Writing.{null, no_null, func, concrete, exact, a_type, of_functions}
-use Rattle.validation_rules.proofs.Writing.{written, fixed, an_array, every, within, struct_new}
-use Rattle.validation_rules.proofs.Writing.{struct_new_default, premise_in}
+use Rattle.validation_rules.proofs.ExampleWords.{null, no_null, func, concrete, exact, a_type, of_functions}
+use Rattle.validation_rules.proofs.ExampleWords.{written, fixed, an_array, every, within, struct_new}
+use Rattle.validation_rules.proofs.ExampleWords.{struct_new_default, premise_in}
 
 -- ---- a module of a function type, structs and arrays, four element segments and two data segments
 

@@ -15,10 +15,10 @@ use Rattle.validation_rules.specs.Rows.{Block, If, Else, Loop}
 use Rattle.validation_rules.specs.Static.{Frame, open_state, step, step_in}
 use Rattle.validation_rules.specs.Operators.{never_row, row_operator, operator}
 use Rattle.validation_rules.proofs.Refusals.{IsRefusedAtLast}
-use Rattle.validation_rules.proofs.Writing.{func_type, shared_func_type, to_nothing, within, unreachable}
-use Rattle.validation_rules.proofs.Writing.{block, loop, an_if, an_else, end, br, br_if, br_table, a_return}
-use Rattle.validation_rules.proofs.Writing.{drops, typed_select, i32_const, i64_const, i32_eqz, i32_add}
-use Rattle.validation_rules.proofs.Writing.{a_br_table, frame, DoneUnder, OpenUnder, LeavesUnder}
+use Rattle.validation_rules.proofs.ExampleWords.{func_type, shared_func_type, to_nothing, within, unreachable}
+use Rattle.validation_rules.proofs.ExampleWords.{block, loop, an_if, an_else, end, br, br_if, br_table, a_return}
+use Rattle.validation_rules.proofs.ExampleWords.{drops, typed_select, i32_const, i64_const, i32_eqz, i32_add}
+use Rattle.validation_rules.proofs.ExampleWords.{a_br_table, frame, DoneUnder, OpenUnder, LeavesUnder}
 
 -- ---- a module of three types, and a function without locals
 

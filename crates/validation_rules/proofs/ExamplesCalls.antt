@@ -16,10 +16,10 @@ use Rattle.validation_rules.specs.Rows.{Head, Block, Loop, body_head}
 use Rattle.validation_rules.specs.Static.{Frame, open_state}
 use Rattle.validation_rules.specs.Operators.{row_operator, plain_row, operator}
 use Rattle.validation_rules.proofs.Refusals.{IsRefusedAtLast}
-use Rattle.validation_rules.proofs.Writing.{func_type, shared_func_type, to_nothing, every, within}
-use Rattle.validation_rules.proofs.Writing.{unreachable, block, loop, end, call, return_call, drops}
-use Rattle.validation_rules.proofs.Writing.{i32_const, i64_const, frame, after_all, DoneUnder, LeavesUnder}
-use Rattle.validation_rules.proofs.Writing.{AllRefusedUnder}
+use Rattle.validation_rules.proofs.ExampleWords.{func_type, shared_func_type, to_nothing, every, within}
+use Rattle.validation_rules.proofs.ExampleWords.{unreachable, block, loop, end, call, return_call, drops}
+use Rattle.validation_rules.proofs.ExampleWords.{i32_const, i64_const, frame, after_all, DoneUnder, LeavesUnder}
+use Rattle.validation_rules.proofs.ExampleWords.{AllRefusedUnder}
 
 -- ---- a module of six types, seven functions and three globals: function i has type i, and the last one
 -- has type 2

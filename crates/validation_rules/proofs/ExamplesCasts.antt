@@ -20,8 +20,8 @@ use Rattle.validation_rules.specs.Fits.{MaybeType, Bottom, UnknownRef, Known}
 use Rattle.validation_rules.specs.Rows.{Head, Loop, body_head}
 use Rattle.validation_rules.specs.Static.{State, open_state, step}
 use Rattle.validation_rules.specs.Operators.{row_operator, plain_row, operator}
-use Rattle.validation_rules.proofs.Writing.{null, no_null, abstract, shared, id, concrete, named}
-use Rattle.validation_rules.proofs.Writing.{an_open_type, of_functions, every, within, block_head, premise_in}
+use Rattle.validation_rules.proofs.ExampleWords.{null, no_null, abstract, shared, id, concrete, named}
+use Rattle.validation_rules.proofs.ExampleWords.{an_open_type, of_functions, every, within, block_head, premise_in}
 
 -- ---- a module of functions, structs and arrays
 

@@ -23,9 +23,9 @@ use Rattle.validation_rules.specs.Rows.{Block, Loop, Head, Target, Row, body_hea
 use Rattle.validation_rules.specs.Static.{State, open_state, step, state_before, start}
 use Rattle.validation_rules.specs.Operators.{plain_row, row_operator, operator, operators}
 use Rattle.validation_rules.proofs.Refusals.{IsRefusedAtLast}
-use Rattle.validation_rules.proofs.Writing.{null, id, null_to, to, an_open_type, of_functions}
-use Rattle.validation_rules.proofs.Writing.{of_continuations, every, within, unreachable, block, loop, end}
-use Rattle.validation_rules.proofs.Writing.{drops, null_of, resume, block_head, frame, premise_in}
+use Rattle.validation_rules.proofs.ExampleWords.{null, id, null_to, to, an_open_type, of_functions}
+use Rattle.validation_rules.proofs.ExampleWords.{of_continuations, every, within, unreachable, block, loop, end}
+use Rattle.validation_rules.proofs.ExampleWords.{drops, null_of, resume, block_head, frame, premise_in}
 
 -- ---- a module of function types, of the types of their continuations, and of tags
 

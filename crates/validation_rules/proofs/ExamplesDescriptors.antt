@@ -26,8 +26,8 @@ use Rattle.validation_rules.specs.Fits.{MaybeType, Bottom, UnknownRef, Known}
 use Rattle.validation_rules.specs.Rows.{body_head}
 use Rattle.validation_rules.specs.Static.{State, open_state, step}
 use Rattle.validation_rules.specs.Operators.{operator}
-use Rattle.validation_rules.proofs.Writing.{null, no_null, abstract, id, concrete, exact, named, of_functions}
-use Rattle.validation_rules.proofs.Writing.{every, within, struct_new, struct_new_default, premise_in}
+use Rattle.validation_rules.proofs.ExampleWords.{null, no_null, abstract, id, concrete, exact, named, of_functions}
+use Rattle.validation_rules.proofs.ExampleWords.{every, within, struct_new, struct_new_default, premise_in}
 
 abbrev named_exact : ℕ → HeapType
 named_exact i = Exact (Module i)

@@ -16,12 +16,12 @@ use Rattle.validation_rules.specs.Rows.{FrameKind, Block, TryTable, LegacyTry, L
 use Rattle.validation_rules.specs.Static.{Frame, State, open_state, step, state_before, start, frame_count, operand_count}
 use Rattle.validation_rules.specs.Operators.{plain_row, ending_row, row_operator, delimiter_operator, operator, operators}
 use Rattle.validation_rules.proofs.Refusals.{IsRefusedAtLast}
-use Rattle.validation_rules.proofs.Writing.{null, no_null, abstract, func_type, shared_func_type, every}
-use Rattle.validation_rules.proofs.Writing.{unreachable, block, loop, an_if, an_else, end, br, drops}
-use Rattle.validation_rules.proofs.Writing.{local_get, local_set, i32_const, i64_const, i32_add, ref_null}
-use Rattle.validation_rules.proofs.Writing.{catch, try_table, throw, throw_ref, legacy_try, legacy_catch}
-use Rattle.validation_rules.proofs.Writing.{legacy_catch_all, delegate, rethrow, frame, after_all, DoneUnder}
-use Rattle.validation_rules.proofs.Writing.{OpenUnder, LeavesUnder, AllRefusedUnder}
+use Rattle.validation_rules.proofs.ExampleWords.{null, no_null, abstract, func_type, shared_func_type, every}
+use Rattle.validation_rules.proofs.ExampleWords.{unreachable, block, loop, an_if, an_else, end, br, drops}
+use Rattle.validation_rules.proofs.ExampleWords.{local_get, local_set, i32_const, i64_const, i32_add, ref_null}
+use Rattle.validation_rules.proofs.ExampleWords.{catch, try_table, throw, throw_ref, legacy_try, legacy_catch}
+use Rattle.validation_rules.proofs.ExampleWords.{legacy_catch_all, delegate, rethrow, frame, after_all, DoneUnder}
+use Rattle.validation_rules.proofs.ExampleWords.{OpenUnder, LeavesUnder, AllRefusedUnder}
 
 -- ---- a module of function types and tags, and a function with two locals of which the first is set at entry
 

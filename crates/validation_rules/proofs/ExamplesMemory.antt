@@ -36,8 +36,8 @@ use Rattle.validation_rules.specs.Rows.{Block}
 use Rattle.validation_rules.specs.Static.{State, open_state, state_before, start}
 use Rattle.validation_rules.specs.Operators.{row_operator, plain_row, operator, operators}
 use Rattle.validation_rules.proofs.Refusals.{IsRefusedAtLast}
-use Rattle.validation_rules.proofs.Writing.{id, a_type, func_type, every, within, unreachable, end}
-use Rattle.validation_rules.proofs.Writing.{i32_const, i64_const, null_of, after_all, premise_in}
+use Rattle.validation_rules.proofs.ExampleWords.{id, a_type, func_type, every, within, unreachable, end}
+use Rattle.validation_rules.proofs.ExampleWords.{i32_const, i64_const, null_of, after_all, premise_in}
 
 -- ---- a module of two memories and two data segments: memory 0, which is shared, has addresses of 32
 -- bits, and memory 1 of 64; whether it is shared is nothing to any of these operators

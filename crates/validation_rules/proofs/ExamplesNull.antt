@@ -12,14 +12,14 @@ use Rattle.validate_visit.specs.declared.op.Op.TheVariants.{Reference}
 use Rattle.validate_visit.specs.declared.op.ReferenceOp.TheVariants.{RefIsNull, RefAsNonNull}
 use Rattle.validation_rules.specs.Context.{SubType, ValType, I32, I64, BlockType, Empty, Val, FuncType, Context}
 use Rattle.validation_rules.specs.Fits.{MaybeType, UnknownRef, Known}
-use Rattle.validation_rules.specs.Rows.{Head, Block, Loop, body_head, operands_wanted}
+use Rattle.validation_rules.specs.Rows.{Head, Block, Loop, body_head, wanted_count}
 use Rattle.validation_rules.specs.Static.{open_state}
 use Rattle.validation_rules.specs.Operators.{row_operator, plain_row, operator}
-use Rattle.validation_rules.proofs.Writing.{null, no_null, func, extern, concrete, func_type, to_nothing}
-use Rattle.validation_rules.proofs.Writing.{every, within, unreachable, block, loop, end, drops, i32_const}
-use Rattle.validation_rules.proofs.Writing.{i64_const, i32_eqz, ref_null, null_of, ref_func, br_on_null}
-use Rattle.validation_rules.proofs.Writing.{br_on_non_null, frame, after_all, DoneUnder, LeavesUnder}
-use Rattle.validation_rules.proofs.Writing.{AllRefusedUnder, premise_in}
+use Rattle.validation_rules.proofs.ExampleWords.{null, no_null, func, extern, concrete, func_type, to_nothing}
+use Rattle.validation_rules.proofs.ExampleWords.{every, within, unreachable, block, loop, end, drops, i32_const}
+use Rattle.validation_rules.proofs.ExampleWords.{i64_const, i32_eqz, ref_null, null_of, ref_func, br_on_null}
+use Rattle.validation_rules.proofs.ExampleWords.{br_on_non_null, frame, after_all, DoneUnder, LeavesUnder}
+use Rattle.validation_rules.proofs.ExampleWords.{AllRefusedUnder, premise_in}
 
 -- ---- a module of eight function types, and of functions 0 and 2 of type 0, and 1 of type 3; `ref.func` may
 -- not refer to function 2
@@ -193,7 +193,7 @@ null_carries : map (λ d. carried outer (br_on_null d) (I32 ∷ no_null (concret
 null_carries = refl
 
 -- it takes one operand more
-null_takes : map (λ d. operands_wanted ((operator cx (br_on_null d)).row outer).type) (0 ∷ 1 ∷ 2 ∷ 3 ∷ []) ≡ 2 ∷ 2 ∷ 3 ∷ 1 ∷ []
+null_takes : map (λ d. wanted_count ((operator cx (br_on_null d)).row outer).type) (0 ∷ 1 ∷ 2 ∷ 3 ∷ []) ≡ 2 ∷ 2 ∷ 3 ∷ 1 ∷ []
 null_takes = refl
 
 -- a body whose results it may give

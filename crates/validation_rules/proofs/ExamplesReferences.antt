@@ -17,9 +17,9 @@ use Rattle.validation_rules.specs.Fits.{MaybeType, Bottom, UnknownRef, Known, fi
 use Rattle.validation_rules.specs.Static.{state_before, start}
 use Rattle.validation_rules.specs.Operators.{select_result, operators}
 use Rattle.validation_rules.proofs.Refusals.{IsRefusedAtLast}
-use Rattle.validation_rules.proofs.Writing.{null, no_null, abstract, id, concrete, an_open_type, of_functions}
-use Rattle.validation_rules.proofs.Writing.{every, within, unreachable, block, end, return_call, typed_select}
-use Rattle.validation_rules.proofs.Writing.{local_get, local_set, DoneUnder}
+use Rattle.validation_rules.proofs.ExampleWords.{null, no_null, abstract, id, concrete, an_open_type, of_functions}
+use Rattle.validation_rules.proofs.ExampleWords.{every, within, unreachable, block, end, return_call, typed_select}
+use Rattle.validation_rules.proofs.ExampleWords.{local_get, local_set, DoneUnder}
 
 -- ---- a module of four function types: 1 is declared below 0, 2 below 1, and 3 is shared
 

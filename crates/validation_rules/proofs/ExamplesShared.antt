@@ -28,8 +28,8 @@ use Rattle.validate_visit.specs.declared.shared.TableAccess.{TableAccess}
 use Rattle.validate_visit.specs.declared.shared.TableAccess.TheVariants.{Get, Set, Xchg, Cmpxchg}
 use Rattle.validation_rules.specs.Context.{SubType, ValType, I32, I64, F64, Ref, Context}
 use Rattle.validation_rules.specs.Operators.{row_operator, plain_row, operator}
-use Rattle.validation_rules.proofs.Writing.{null, null_to, a_type, written, fixed, an_array, every, within}
-use Rattle.validation_rules.proofs.Writing.{premise_in}
+use Rattle.validation_rules.proofs.ExampleWords.{null, null_to, a_type, written, fixed, an_array, every, within}
+use Rattle.validation_rules.proofs.ExampleWords.{premise_in}
 
 -- ---- a module of structs, arrays, globals and tables
 

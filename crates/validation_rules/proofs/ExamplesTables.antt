@@ -21,10 +21,10 @@ use Rattle.validation_rules.specs.Context.{SubType, ValType, I32, I64, F32, Bloc
 use Rattle.validation_rules.specs.Fits.{MaybeType, Known}
 use Rattle.validation_rules.specs.Rows.{Head, Block, Loop, body_head}
 use Rattle.validation_rules.specs.Operators.{row_operator, plain_row, operator}
-use Rattle.validation_rules.proofs.Writing.{null, no_null, func, extern, concrete, func_type}
-use Rattle.validation_rules.proofs.Writing.{shared_func_type, to_nothing, every, within, unreachable, block}
-use Rattle.validation_rules.proofs.Writing.{end, drops, i32_const, i64_const, ref_null, null_of, ref_func}
-use Rattle.validation_rules.proofs.Writing.{DoneUnder, LeavesUnder, AllRefusedUnder, premise_in}
+use Rattle.validation_rules.proofs.ExampleWords.{null, no_null, func, extern, concrete, func_type}
+use Rattle.validation_rules.proofs.ExampleWords.{shared_func_type, to_nothing, every, within, unreachable, block}
+use Rattle.validation_rules.proofs.ExampleWords.{end, drops, i32_const, i64_const, ref_null, null_of, ref_func}
+use Rattle.validation_rules.proofs.ExampleWords.{DoneUnder, LeavesUnder, AllRefusedUnder, premise_in}
 
 -- ---- a module of six types, two functions, seven tables and five element segments
 

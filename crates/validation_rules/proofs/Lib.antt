@@ -9,7 +9,7 @@ pub mod ValidContinuations
 pub mod ValidShared
 pub mod ValidBodies
 pub mod Refusals
-pub mod Writing
+pub mod ExampleWords
 mod Examples
 mod ExamplesBranches
 mod ExamplesCalls

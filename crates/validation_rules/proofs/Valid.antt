@@ -68,7 +68,7 @@ use Rattle.validation_rules.specs.Descriptors.{descriptor_at, descriptor_in, get
 use Rattle.validation_rules.specs.Structs.{struct_fields, accessible_struct, struct_type, struct_field, field_value, is_packed_field, is_whole_field, struct_row}
 use Rattle.validation_rules.specs.Arrays.{array_element, accessible_array, array_type, is_read_from_data, is_read_from_elements, may_be_copied, array_copy_row_for, array_row}
 use Rattle.validation_rules.specs.Fits.{MaybeType, Bottom, UnknownRef, Known, fits}
-use Rattle.validation_rules.specs.Rows.{FrameKind, Block, If, Loop, is_loop, Head, params, results, Form, Stays, Opens, BeginsElse, BeginsCatch, Ends, Delegates, Plain, Row, Operator, pushed_for, operands_wanted, guard}
+use Rattle.validation_rules.specs.Rows.{FrameKind, Block, If, Loop, is_loop, Head, params, results, Form, Stays, Opens, BeginsElse, BeginsCatch, Ends, Delegates, Plain, Row, Operator, pushed_for, wanted_count, guard}
 use Rattle.validation_rules.specs.Static.{Frame, State, heads, locals_set, stack_with, operands_on_top, operands_found, operands_under, pushed_by_row, operands_after, state_after_exit, state_after, open_frames, step_in}
 use Rattle.validation_rules.specs.Operators.{plain_row, plain_row_if, is_accessible_func_type, checked_block, opener, staying_operator, row_operator, delimiter_operator, looking_row_if, drop_pushes, select_result, select_pushes, lookup_row, lookups_row, control_operator, numeric_row, convert_row, memory_row, atomic_row}
 use Rattle.validation_rules.specs.Valid.{IsValidOperand, Resolves, IsValidBlock, IsValidFrame}
@@ -158,7 +158,7 @@ module _ (cx : Context) (laws : IsLawful cx.of_module) where
   opened_valid types t = all_onto (IsValidOperand cx.of_module) (map Known types) [] (all_known cx.of_module types t) tt
 
   -- what a row that holds gave: its premise, and its operands
-  by_premise : (r : Row) (hs : List Head) (set : List ℕ) (f : Frame) (pushed : List MaybeType) → pushed_by_row cx r hs set f ≡ Some pushed → (r.premise ≡ true) × (pushed_for cx r.type (operands_found (operands_wanted r.type) f) ≡ Some pushed)
+  by_premise : (r : Row) (hs : List Head) (set : List ℕ) (f : Frame) (pushed : List MaybeType) → pushed_by_row cx r hs set f ≡ Some pushed → (r.premise ≡ true) × (pushed_for cx r.type (operands_found (wanted_count r.type) f) ≡ Some pushed)
   by_premise r hs set f pushed p = let g = guard_some _ _ _ p in ((and_true r.premise _ g.0).0, g.1)
 
   closing_premise : (premise rest : Bool) (pushed : List MaybeType) → guard (premise && rest) (Some []) ≡ Some pushed → premise ≡ true
@@ -168,13 +168,13 @@ module _ (cx : Context) (laws : IsLawful cx.of_module) where
   after_valid op v left f fs Stays e pushed h k p =
       let r = op.row (heads (f ∷ fs)) in
       let g = by_premise r (heads (f ∷ fs)) (locals_set (f ∷ fs)) f pushed p in
-      let n = operands_wanted r.type in
+      let n = wanted_count r.type in
       let q = v.pushed (heads (f ∷ fs)) (operands_found n f) pushed g.0 (heads_valid (f ∷ fs) h) (found_valid cx.of_module n f h.0.operands) g.1 in
       ((record { block = h.0.block; operands = own_valid r.ends_live (operands_under n f) pushed (all_drop (IsValidOperand cx.of_module) n f.operands h.0.operands) q }, h.1), k)
   after_valid op v left f fs (Opens o) e pushed h k p =
       let r = op.row (heads (f ∷ fs)) in
       let g = by_premise r (heads (f ∷ fs)) (locals_set (f ∷ fs)) f pushed p in
-      let n = operands_wanted r.type in
+      let n = wanted_count r.type in
       let b = v.opened (heads (f ∷ fs)) o g.0 e in
       ((record { block = b; operands = opened_valid (params cx o) (params_valid cx.of_module laws cx.shared o.block_type b) }, (record { block = h.0.block; operands = all_drop (IsValidOperand cx.of_module) n f.operands h.0.operands }, h.1)), k)
   after_valid op v left f fs BeginsElse e pushed h k p =

@@ -94,9 +94,9 @@ pub record Operator : Type 0 where
   pub row : List Head → Row
 
 -- how many operands it takes
-abbrev pub operands_wanted : InstructionType → ℕ
-operands_wanted (Plain wanted also pushed) = length wanted
-operands_wanted (Looks n gives) = n
+abbrev pub wanted_count : InstructionType → ℕ
+wanted_count (Plain wanted also pushed) = length wanted
+wanted_count (Looks n gives) = n
 
 -- the found operands, taken whole, fit each of the lists
 abbrev pub all_fit_each : Context → List MaybeType → List (List ValType) → Bool

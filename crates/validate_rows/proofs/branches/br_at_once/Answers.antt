@@ -2,8 +2,8 @@ use Rattle.std.proofs.Common.{refl, sym, ◌∙◌}
 use Rattle.validation_rules.specs.Branches.{br_row}
 use Rattle.validate_stacks.specs.State.{body_context}
 use Rattle.validate_stacks.proofs.AtOnce.{met_at_once, not_at_once}
-use Rattle.validate_shapes.proofs.Branching.{label_valid, types_there, br_is}
-use Rattle.validate_shapes.proofs.Meeting.{meets_done}
+use Rattle.validate_shapes.proofs.BranchSteps.{label_valid, types_there, br_is}
+use Rattle.validate_shapes.proofs.LastSteps.{meets_done}
 use Rattle.validate_rows.proofs.branches.br_at_once.Goals as goal
 
 pub returns-in-None : goal.returns-in-None

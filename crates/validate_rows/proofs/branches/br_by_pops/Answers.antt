@@ -3,8 +3,8 @@ use Rattle.validation_rules.specs.Branches.{br_row}
 use Rattle.validate_stacks.specs.State.{body_context}
 use Rattle.validate_stacks.specs.Steps.{body_unreachable}
 use Rattle.validate_stacks.proofs.Validity.{kept_on}
-use Rattle.validate_shapes.proofs.Branching.{label_valid, br_none, types_there, br_refused, br_passes}
-use Rattle.validate_shapes.proofs.Meeting.{meets_none, meets_refused, meets_last}
+use Rattle.validate_shapes.proofs.BranchSteps.{label_valid, br_none, types_there, br_refused, br_passes}
+use Rattle.validate_shapes.proofs.LastSteps.{meets_none, meets_refused, meets_last}
 use Rattle.validate_rows.proofs.branches.br_by_pops.Goals as goal
 
 pub returns-in_err-block_type-clause-visit : goal.returns-in_err-block_type-clause-visit

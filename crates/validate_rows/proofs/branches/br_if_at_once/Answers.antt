@@ -10,8 +10,8 @@ use Rattle.validation_rules.specs.Operators.{staying_operator}
 use Rattle.validate_stacks.specs.State.{body_context}
 use Rattle.validate_stacks.specs.Visits.{step_body}
 use Rattle.validate_stacks.proofs.AtOnce.{exchange_parts, met_at_once, not_at_once}
-use Rattle.validate_shapes.proofs.Branching.{label_valid, br_if_types, br_if_whole}
-use Rattle.validate_shapes.proofs.Meeting.{meets_done}
+use Rattle.validate_shapes.proofs.BranchSteps.{label_valid, br_if_types, br_if_whole}
+use Rattle.validate_shapes.proofs.LastSteps.{meets_done}
 use Rattle.validate_rows.proofs.branches.br_if_at_once.Goals as goal
 
 pub returns-in_default : goal.returns-in_default
@@ -37,8 +37,8 @@ returns-then-is_empty g c =
     let whole = br_if_whole md v c.requires.open_frame c.args.relative_depth c.in-Some.block_type c.in-Some.kind c.label_types-types.result.now (sym c.jump.ensures ∙ c.in-Some.is) (c.label_types-types.ensures (body_context md v) refl) in
     met_at_once md _ c.args.stacks.now c.exchange_at_once.new.self c.exchange_at_once.result
     (λ e offset.
-      let x = exchange_parts md (reverse (I32 ∷ [])) [] v w e in
-      meets_done md _ offset v w (rw (none_of c.label_types-types.result.now (search rules)) at whole ∙ e) (x.valid tt c.requires.valid) x.kept) c.exchange_at_once.ensures.exact
+    let x = exchange_parts md (reverse (I32 ∷ [])) [] v w e in
+    meets_done md _ offset v w (rw (none_of c.label_types-types.result.now (search rules)) at whole ∙ e) (x.valid tt c.requires.valid) x.kept) c.exchange_at_once.ensures.exact
 
 pub exchange_at_once-requires-2 : goal.exchange_at_once-requires-2
 exchange_at_once-requires-2 g c =
@@ -67,5 +67,5 @@ returns g c =
     let with_one = subst (λ (l : List ValType). step_body md (λ cx. staying_operator (λ hs. br_if_row cx hs d)) v ≡ option_map (λ u. body_pushed_each l u) (body_popped_each md (reverse (l ++ I32 ∷ [])) v)) one whole in
     met_at_once md _ c.args.stacks.now c.exchange_at_once-2.new.self c.exchange_at_once-2.result
     (λ e offset.
-      let x = exchange_parts md (reverse (t ∷ I32 ∷ [])) (t ∷ []) v w e in
-      meets_done md _ offset v w (with_one ∙ e) (x.valid (valid.0, tt) c.requires.valid) x.kept) c.exchange_at_once-2.ensures.exact
+    let x = exchange_parts md (reverse (t ∷ I32 ∷ [])) (t ∷ []) v w e in
+    meets_done md _ offset v w (with_one ∙ e) (x.valid (valid.0, tt) c.requires.valid) x.kept) c.exchange_at_once-2.ensures.exact

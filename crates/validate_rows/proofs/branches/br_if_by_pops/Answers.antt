@@ -2,8 +2,8 @@ use Rattle.std.proofs.Common.{rules, Some, refl, sym, ap, ◌∙◌}
 use Rattle.validate_stacks.specs.Pops.{body_pushed_each}
 use Rattle.validate_stacks.specs.State.{body_context}
 use Rattle.validate_stacks.proofs.Validity.{kept_on}
-use Rattle.validate_shapes.proofs.Branching.{label_valid, br_if_untested, br_if_none, types_if, br_if_refused, br_if_passes}
-use Rattle.validate_shapes.proofs.Meeting.{meets_none, meets_last, meets_refused}
+use Rattle.validate_shapes.proofs.BranchSteps.{label_valid, br_if_untested, br_if_none, types_if, br_if_refused, br_if_passes}
+use Rattle.validate_shapes.proofs.LastSteps.{meets_none, meets_last, meets_refused}
 use Rattle.validate_rows.proofs.branches.br_if_by_pops.Goals as goal
 
 pub returns-in_err-pop_types : goal.returns-in_err-pop_types

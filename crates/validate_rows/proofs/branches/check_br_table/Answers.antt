@@ -6,9 +6,9 @@ use Rattle.validate_stacks.specs.Steps.{label_at, body_unreachable}
 use Rattle.validate_stacks.specs.Visits.{step_body}
 use Rattle.validate_stacks.specs.State.{body_context}
 use Rattle.validate_stacks.proofs.Validity.{kept_on}
-use Rattle.validate_shapes.proofs.Branching.{label_valid}
+use Rattle.validate_shapes.proofs.BranchSteps.{label_valid}
 use Rattle.validate_rows.proofs.BranchTables.{table_untested, table_none, types_table, table_refused, table_other_targets, table_passes}
-use Rattle.validate_shapes.proofs.Meeting.{meets_none, meets_refused, meets_last}
+use Rattle.validate_shapes.proofs.LastSteps.{meets_none, meets_refused, meets_last}
 use Rattle.validate_rows.proofs.branches.check_br_table.Goals as goal
 
 pub returns-in_err-pop_types-clause-visit : goal.returns-in_err-pop_types-clause-visit

@@ -1,7 +1,7 @@
 use Rattle.std.proofs.Common.{rules, ◌≡◌, true, false, length, nat_eq, refl, sym, ◌∙◌}
 use Rattle.validation_rules.specs.Static.{heads}
 use Rattle.validate_stacks.specs.State.{body_context}
-use Rattle.validate_shapes.proofs.Branching.{label_there, label_valid}
+use Rattle.validate_shapes.proofs.BranchSteps.{label_there, label_valid}
 use Rattle.validate_rows.proofs.BranchTables.{not_a_label, of_another_count, of_that_count}
 use Rattle.validate_rows.proofs.branches.check_target.Goals as goal
 

@@ -4,8 +4,8 @@ use Rattle.validation_rules.specs.Branches.{return_row}
 use Rattle.validation_rules.specs.Static.{heads}
 use Rattle.validate_stacks.specs.State.{body_context}
 use Rattle.validate_stacks.proofs.AtOnce.{met_at_once, not_at_once}
-use Rattle.validate_shapes.proofs.Branching.{label_valid, types_there, br_is, outermost_label}
-use Rattle.validate_shapes.proofs.Meeting.{meets_done}
+use Rattle.validate_shapes.proofs.BranchSteps.{label_valid, types_there, br_is, outermost_label}
+use Rattle.validate_shapes.proofs.LastSteps.{meets_done}
 use Rattle.validate_rows.proofs.branches.return_at_once.Goals as goal
 
 pub returns-in-None : goal.returns-in-None

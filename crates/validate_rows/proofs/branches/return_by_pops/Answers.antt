@@ -5,8 +5,8 @@ use Rattle.validation_rules.specs.Static.{heads}
 use Rattle.validate_stacks.specs.State.{body_context}
 use Rattle.validate_stacks.specs.Steps.{body_unreachable}
 use Rattle.validate_stacks.proofs.Validity.{kept_on}
-use Rattle.validate_shapes.proofs.Branching.{label_valid, types_there, br_refused, br_passes, some_outermost, outermost_label}
-use Rattle.validate_shapes.proofs.Meeting.{meets_refused, meets_last}
+use Rattle.validate_shapes.proofs.BranchSteps.{label_valid, types_there, br_refused, br_passes, some_outermost, outermost_label}
+use Rattle.validate_shapes.proofs.LastSteps.{meets_refused, meets_last}
 use Rattle.validate_rows.proofs.branches.return_by_pops.Goals as goal
 
 pub unreachable-requires : goal.unreachable-requires

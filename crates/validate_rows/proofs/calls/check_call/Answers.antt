@@ -1,7 +1,7 @@
 use Rattle.std.proofs.Common.{rules}
 use Rattle.validation_rules.specs.Calls.{call_row}
 use Rattle.validation_rules.specs.Operators.{plain_row}
-use Rattle.validate_shapes.proofs.Found.{meets_barred, meets_found}
+use Rattle.validate_shapes.proofs.LookupRows.{meets_barred, meets_found}
 use Rattle.validate_rows.proofs.calls.check_call.Goals as goal
 
 pub returns-in_err-func_type : goal.returns-in_err-func_type

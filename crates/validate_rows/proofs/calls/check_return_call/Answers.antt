@@ -1,6 +1,6 @@
 use Rattle.std.proofs.Common.{rules}
 use Rattle.validation_rules.specs.Calls.{tail_call_row, return_call_row}
-use Rattle.validate_shapes.proofs.Found.{meets_barred, meets_found}
+use Rattle.validate_shapes.proofs.LookupRows.{meets_barred, meets_found}
 use Rattle.validate_rows.proofs.calls.check_return_call.Goals as goal
 
 pub returns-in_err-func_type : goal.returns-in_err-func_type

@@ -5,8 +5,8 @@ use Rattle.validate_stacks.specs.Pops.{body_popped_each}
 use Rattle.validate_stacks.specs.State.{body_context}
 use Rattle.validate_stacks.specs.Steps.{body_unreachable}
 use Rattle.validate_stacks.proofs.Validity.{kept_on}
-use Rattle.validate_rows.proofs.Calling.{tail_of_others, tail_refused, tail_passes}
-use Rattle.validate_shapes.proofs.Meeting.{meets_none, meets_refused, meets_last}
+use Rattle.validate_rows.proofs.TailCalls.{tail_of_others, tail_refused, tail_passes}
+use Rattle.validate_shapes.proofs.LastSteps.{meets_none, meets_refused, meets_last}
 use Rattle.validate_rows.proofs.calls.check_return_call_ty.Goals as goal
 
 pub returns-in_err-check_func_type_same_results : goal.returns-in_err-check_func_type_same_results

@@ -7,10 +7,10 @@ use Rattle.validate_stacks.specs.Attempts.{Stacked}
 use Rattle.validate_stacks.specs.Blocks.{body_with_block}
 use Rattle.validate_stacks.specs.Visits.{MayVisit, Meets}
 use Rattle.validate_stacks.proofs.AtOnce.{was_made, was_not_made}
-use Rattle.validate_stacks.proofs.Closing.{block_valid}
+use Rattle.validate_stacks.proofs.ClosedFrames.{block_valid}
 use Rattle.validate_stacks.proofs.Validity.{kept_on}
 use Rattle.validate_shapes.proofs.Parts.{params_of, else_begins, part_passes}
-use Rattle.validate_shapes.proofs.Meeting.{meets_last}
+use Rattle.validate_shapes.proofs.LastSteps.{meets_last}
 use Rattle.validate_rows.proofs.AtOnce.{frame_there, block_there, idle_frame}
 use Rattle.validate_rows.proofs.control.check_else.Goals as goal
 

@@ -1,7 +1,7 @@
 use Rattle.std.proofs.Common.{rules, ◌≡◌, None, true, false, sym, ap, ◌∙◌}
 use Rattle.validation_rules.specs.Rows.{is_if}
 use Rattle.validate_stacks.specs.Blocks.{closed_body, may_close_as_if}
-use Rattle.validate_stacks.proofs.Closing.{guarded_some, guarded_none}
+use Rattle.validate_stacks.proofs.ClosedFrames.{guarded_some, guarded_none}
 use Rattle.validate_shapes.proofs.Rows.{else_is}
 use Rattle.validate_stacks.specs.Attempts.{innermost_first_set}
 use Rattle.validate_stacks.specs.State.{BodyState}

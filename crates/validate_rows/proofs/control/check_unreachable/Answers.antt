@@ -1,6 +1,6 @@
 use Rattle.validate_stacks.specs.Steps.{body_unreachable}
-use Rattle.validate_shapes.proofs.Branching.{unreachable_is}
-use Rattle.validate_shapes.proofs.Meeting.{meets_last}
+use Rattle.validate_shapes.proofs.BranchSteps.{unreachable_is}
+use Rattle.validate_shapes.proofs.LastSteps.{meets_last}
 use Rattle.validate_rows.proofs.control.check_unreachable.Goals as goal
 
 pub returns-clause-visit : goal.returns-clause-visit

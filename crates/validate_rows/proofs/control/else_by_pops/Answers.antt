@@ -4,7 +4,7 @@ use Rattle.validate_visit.specs.declared.frame.FrameKind.TheVariants.{Else}
 use Rattle.validate_stacks.specs.Blocks.{body_with_block}
 use Rattle.validate_stacks.proofs.Validity.{kept_on}
 use Rattle.validate_shapes.proofs.Parts.{params_of, else_begins, part_none, part_of_another, part_passes}
-use Rattle.validate_shapes.proofs.Meeting.{meets_none, meets_last, meets_refused}
+use Rattle.validate_shapes.proofs.LastSteps.{meets_none, meets_last, meets_refused}
 use Rattle.validate_stacks.proofs.Phases.{step_frame, step_unset}
 use Rattle.validate_rows.proofs.control.else_by_pops.Goals as goal
 

@@ -8,7 +8,7 @@ use Rattle.validate_stacks.specs.Blocks.{closed_body}
 use Rattle.validate_stacks.specs.Pops.{body_pushed_each}
 use Rattle.validate_stacks.proofs.AtOnce.{mapped_some, met_at_once, not_at_once}
 use Rattle.validate_shapes.proofs.Rows.{end_passes, closes_unless_if}
-use Rattle.validate_shapes.proofs.Meeting.{meets_done}
+use Rattle.validate_shapes.proofs.LastSteps.{meets_done}
 use Rattle.validate_rows.proofs.AtOnce.{frame_there, block_there}
 use Rattle.validate_rows.proofs.control.end_at_once.Goals as goal
 
@@ -36,5 +36,5 @@ returns-then-not-is_if_part g c =
     let there = sym c.get_frame.ensures ∙ ap option_copied c.in-Some.is in
     met_at_once md _ c.args.stacks.now c.leave_at_once.new.self c.leave_at_once.result
     (λ e offset.
-      let parts = mapped_some (body_pushed_each (block_signature md f.block_type).results) (closed_body md v) w e in
-      meets_done md _ offset v w (end_passes md v f there parts.0 w parts.1 (closes_unless_if md f v (search rules)) (sym parts.2)) c.leave_at_once.ensures.valid c.leave_at_once.ensures.kept) c.leave_at_once.ensures.exact
+    let parts = mapped_some (body_pushed_each (block_signature md f.block_type).results) (closed_body md v) w e in
+    meets_done md _ offset v w (end_passes md v f there parts.0 w parts.1 (closes_unless_if md f v (search rules)) (sym parts.2)) c.leave_at_once.ensures.valid c.leave_at_once.ensures.kept) c.leave_at_once.ensures.exact

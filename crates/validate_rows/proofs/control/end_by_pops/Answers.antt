@@ -5,10 +5,10 @@ use Rattle.validate_stacks.specs.Blocks.{may_close_as_if}
 use Rattle.validate_stacks.specs.Pops.{body_pushed_each}
 use Rattle.validate_stacks.specs.State.{BodyState}
 use Rattle.validate_stacks.specs.Visits.{step_body}
-use Rattle.validate_stacks.proofs.Closing.{wants_valid}
+use Rattle.validate_stacks.proofs.ClosedFrames.{wants_valid}
 use Rattle.validate_stacks.proofs.Validity.{kept_on}
 use Rattle.validate_shapes.proofs.Rows.{end_none, end_refused_if, end_passes, if_by, same_context}
-use Rattle.validate_shapes.proofs.Meeting.{meets_last, meets_refused}
+use Rattle.validate_shapes.proofs.LastSteps.{meets_last, meets_refused}
 use Rattle.validate_stacks.proofs.Phases.{step_frame, step_unset}
 use Rattle.validate_rows.proofs.control.end_by_pops.Goals as goal
 

@@ -2,7 +2,7 @@ use Rattle.std.proofs.Common.{[], ℕ, true, ◌≡◌, refl}
 use Rattle.validate_stacks.proofs.AtOnce.{met_at_once}
 use Rattle.validate_stacks.proofs.Whole.{popped_none}
 use Rattle.validate_shapes.proofs.Rows.{plain_passes}
-use Rattle.validate_shapes.proofs.Meeting.{meets_done}
+use Rattle.validate_shapes.proofs.LastSteps.{meets_done}
 use Rattle.validate_rows.proofs.control.nop_at_once.Goals as goal
 
 pub returns : goal.returns

@@ -4,8 +4,8 @@ use Rattle.validation_rules.proofs.Steps.{some_injective}
 use Rattle.validate_stacks.specs.Steps.{body_unreachable}
 use Rattle.validate_stacks.proofs.AtOnce.{met_at_once}
 use Rattle.validate_stacks.proofs.Whole.{popped_none}
-use Rattle.validate_shapes.proofs.Branching.{unreachable_is}
-use Rattle.validate_shapes.proofs.Meeting.{meets_done}
+use Rattle.validate_shapes.proofs.BranchSteps.{unreachable_is}
+use Rattle.validate_shapes.proofs.LastSteps.{meets_done}
 use Rattle.validate_rows.proofs.control.unreachable_at_once.Goals as goal
 
 pub returns : goal.returns

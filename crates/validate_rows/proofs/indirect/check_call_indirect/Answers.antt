@@ -1,6 +1,6 @@
 use Rattle.std.proofs.Common.{rules, Some}
 use Rattle.validation_rules.specs.Indirect.{call_indirect_row, call_operand_row}
-use Rattle.validate_shapes.proofs.Found.{meets_barred, meets_found}
+use Rattle.validate_shapes.proofs.LookupRows.{meets_barred, meets_found}
 use Rattle.validate_rows.proofs.indirect.check_call_indirect.Goals as goal
 
 pub returns-in_err-place : goal.returns-in_err-place

@@ -1,6 +1,6 @@
 use Rattle.std.proofs.Common.{rules, sym, ap₂, ◌∙◌}
-use Rattle.validate_rows.proofs.Naming.{call_found, call_unknown, call_missing}
-use Rattle.validate_shapes.proofs.Meeting.{meets_none, meets_from, meets_refused}
+use Rattle.validate_rows.proofs.OperandCalls.{call_found, call_unknown, call_missing}
+use Rattle.validate_shapes.proofs.LastSteps.{meets_none, meets_from, meets_refused}
 use Rattle.validation_rules.specs.Operators.{plain_row, row_operator}
 use Rattle.validation_rules.specs.Context.{Context}
 use Rattle.validate_stacks.specs.Visits.{step_body}

@@ -1,6 +1,6 @@
 use Rattle.std.proofs.Common.{rules, Some}
 use Rattle.validation_rules.specs.Indirect.{return_call_indirect_row, return_call_operand_row}
-use Rattle.validate_shapes.proofs.Found.{meets_barred, meets_found}
+use Rattle.validate_shapes.proofs.LookupRows.{meets_barred, meets_found}
 use Rattle.validate_rows.proofs.indirect.check_return_call_indirect.Goals as goal
 
 pub returns-in_err-place : goal.returns-in_err-place

@@ -1,6 +1,6 @@
 use Rattle.std.proofs.Common.{rules}
-use Rattle.validate_rows.proofs.Naming.{return_call_found, return_call_unknown, return_call_missing}
-use Rattle.validate_shapes.proofs.Meeting.{meets_none, meets_from, meets_refused}
+use Rattle.validate_rows.proofs.OperandCalls.{return_call_found, return_call_unknown, return_call_missing}
+use Rattle.validate_shapes.proofs.LastSteps.{meets_none, meets_from, meets_refused}
 use Rattle.validate_rows.proofs.indirect.check_return_call_operand.Goals as goal
 
 pub returns-in_err-pop_types : goal.returns-in_err-pop_types

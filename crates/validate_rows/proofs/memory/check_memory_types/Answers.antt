@@ -1,7 +1,7 @@
 use Rattle.std.proofs.Common.{rules}
 use Rattle.validation_rules.specs.Memory.{memory_row}
 use Rattle.validate_shapes.specs.Operands.{operands_row}
-use Rattle.validate_shapes.proofs.Found.{meets_barred, meets_found}
+use Rattle.validate_shapes.proofs.LookupRows.{meets_barred, meets_found}
 use Rattle.validate_rows.proofs.memory.check_memory_types.Goals as goal
 
 pub returns-in_err-types : goal.returns-in_err-types

@@ -1,7 +1,7 @@
 use Rattle.std.proofs.Common.{rules, [], ◌∷◌}
 use Rattle.validation_rules.specs.Access.{store_row}
 use Rattle.validation_rules.specs.Operators.{plain_row}
-use Rattle.validate_shapes.proofs.Found.{meets_barred, meets_found}
+use Rattle.validate_shapes.proofs.LookupRows.{meets_barred, meets_found}
 use Rattle.validate_rows.proofs.memory.check_store.Goals as goal
 
 pub returns-in_err-address : goal.returns-in_err-address

@@ -2,7 +2,7 @@ use Rattle.std.proofs.Common.{rules, [], ◌∷◌, refl}
 use Rattle.validation_rules.specs.Access.{load_row}
 use Rattle.validation_rules.specs.Operators.{plain_row}
 use Rattle.validate_stacks.proofs.AtOnce.{not_at_once}
-use Rattle.validate_shapes.proofs.Found.{found_at_once}
+use Rattle.validate_shapes.proofs.LookupRows.{found_at_once}
 use Rattle.validate_rows.proofs.memory.load_at_once.Goals as goal
 
 pub returns-in-None : goal.returns-in-None

@@ -7,8 +7,8 @@ use Rattle.validate_stacks.specs.State.{BodyState, IsValidBody, body_context}
 use Rattle.validate_stacks.specs.Steps.{found_in_body, body_pushed}
 use Rattle.validate_stacks.specs.Visits.{step_body}
 use Rattle.validate_stacks.proofs.Validity.{kept_on, pushed_valid, pushed_kept}
-use Rattle.validate_rows.proofs.Selecting.{test_refused, upper_missing, lower_missing, both_found, no_found, after_valid, after_kept, found_valid, selected_one}
-use Rattle.validate_shapes.proofs.Meeting.{meets_none, meets_done, meets_refused}
+use Rattle.validate_rows.proofs.SelectSteps.{test_refused, upper_missing, lower_missing, both_found, no_found, after_valid, after_kept, found_valid, selected_one}
+use Rattle.validate_shapes.proofs.LastSteps.{meets_none, meets_done, meets_refused}
 use Rattle.validate_rows.proofs.parametric.check_select.Goals as goal
 
 pub returns-in_err-pop_operand : goal.returns-in_err-pop_operand

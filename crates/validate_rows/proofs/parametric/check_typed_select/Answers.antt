@@ -1,7 +1,7 @@
 use Rattle.std.proofs.Common.{rules, [], ◌∷◌}
 use Rattle.validation_rules.specs.Context.{I32}
 use Rattle.validation_rules.specs.Operators.{plain_row, typed_select_row}
-use Rattle.validate_shapes.proofs.Found.{meets_barred, meets_found}
+use Rattle.validate_shapes.proofs.LookupRows.{meets_barred, meets_found}
 use Rattle.validate_rows.proofs.parametric.check_typed_select.Goals as goal
 
 pub returns-in_err-check_value_type : goal.returns-in_err-check_value_type

@@ -1,6 +1,6 @@
 use Rattle.std.proofs.Common.{rules}
 use Rattle.validation_rules.specs.Operators.{never_row}
-use Rattle.validate_shapes.proofs.Found.{meets_barred}
+use Rattle.validate_shapes.proofs.LookupRows.{meets_barred}
 use Rattle.validate_rows.proofs.parametric.check_typed_select_multi.Goals as goal
 
 pub returns-clause-visit : goal.returns-clause-visit

@@ -6,7 +6,7 @@ use Rattle.validate_stacks.specs.Steps.{body_popped}
 use Rattle.validate_stacks.proofs.AtOnce.{met_at_once, undone_at_once}
 use Rattle.validate_stacks.proofs.Validity.{popped_valid, popped_kept}
 use Rattle.validate_shapes.proofs.Rows.{drop_is}
-use Rattle.validate_shapes.proofs.Meeting.{meets_done}
+use Rattle.validate_shapes.proofs.LastSteps.{meets_done}
 use Rattle.validate_rows.proofs.parametric.drop_at_once.Goals as goal
 
 pub returns-in-Some : goal.returns-in-Some

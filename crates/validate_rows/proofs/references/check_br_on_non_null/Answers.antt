@@ -6,10 +6,10 @@ use Rattle.validation_rules.specs.Static.{heads}
 use Rattle.validation_rules.specs.Operators.{lookup_row}
 use Rattle.validation_rules.proofs.Valid.{before_last_valid, last_valid}
 use Rattle.validate_stacks.specs.State.{body_context}
-use Rattle.validate_shapes.proofs.Branching.{label_there, no_label, no_types, label_valid}
-use Rattle.validate_shapes.proofs.Found.{meets_barred}
-use Rattle.validate_shapes.proofs.Looking.{on_non_null_missing, on_non_null_rest}
-use Rattle.validate_shapes.proofs.Meeting.{meets_from, meets_refused}
+use Rattle.validate_shapes.proofs.BranchSteps.{label_there, no_label, no_types, label_valid}
+use Rattle.validate_shapes.proofs.LookupRows.{meets_barred}
+use Rattle.validate_shapes.proofs.ReferenceSteps.{on_non_null_missing, on_non_null_rest}
+use Rattle.validate_shapes.proofs.LastSteps.{meets_from, meets_refused}
 use Rattle.validate_rows.proofs.references.check_br_on_non_null.Goals as goal
 
 pub returns-in_err-block_type : goal.returns-in_err-block_type

@@ -8,9 +8,9 @@ use Rattle.validate_stacks.specs.Pops.{body_popped_each}
 use Rattle.validate_stacks.specs.Steps as steps
 use Rattle.validate_stacks.specs.Steps.{body_pushed}
 use Rattle.validate_stacks.proofs.Validity.{kept_on}
-use Rattle.validate_shapes.proofs.Branching.{label_there, no_label, label_valid}
-use Rattle.validate_shapes.proofs.Looking.{on_null_is, unreferenced, above_missing, above_there, label_below}
-use Rattle.validate_shapes.proofs.Meeting.{meets_none, meets_starved, meets_last, meets_refused}
+use Rattle.validate_shapes.proofs.BranchSteps.{label_there, no_label, label_valid}
+use Rattle.validate_shapes.proofs.ReferenceSteps.{on_null_is, unreferenced, above_missing, above_there, label_below}
+use Rattle.validate_shapes.proofs.LastSteps.{meets_none, meets_starved, meets_last, meets_refused}
 use Rattle.validate_rows.proofs.references.check_br_on_null.Goals as goal
 
 pub returns-in_err-reference : goal.returns-in_err-reference

@@ -5,8 +5,8 @@ use Rattle.validate_stacks.specs.Steps as steps
 use Rattle.validate_stacks.specs.Steps.{body_pushed}
 use Rattle.validate_stacks.proofs.Validity.{kept_on}
 use Rattle.validate_stacks.proofs.Whole.{popped_none}
-use Rattle.validate_shapes.proofs.Looking.{above_is, unreferenced, above_there}
-use Rattle.validate_shapes.proofs.Meeting.{meets_refused, meets_last}
+use Rattle.validate_shapes.proofs.ReferenceSteps.{above_is, unreferenced, above_there}
+use Rattle.validate_shapes.proofs.LastSteps.{meets_refused, meets_last}
 use Rattle.validate_rows.proofs.references.check_ref_as_non_null.Goals as goal
 
 pub returns-in_err-reference : goal.returns-in_err-reference

@@ -11,8 +11,8 @@ use Rattle.validation_rules.specs.References.{ref_func_row}
 use Rattle.validation_rules.specs.Operators.{plain_row, plain_row_if, lookup_row}
 use Rattle.validation_rules.proofs.Valid.{declared_valid}
 use Rattle.validate_stacks.specs.State.{body_context}
-use Rattle.validate_shapes.proofs.Found.{meets_barred, meets_found}
-use Rattle.validate_shapes.proofs.Reaching.{not_made, made_is}
+use Rattle.validate_shapes.proofs.LookupRows.{meets_barred, meets_found}
+use Rattle.validate_shapes.proofs.HeapReferences.{not_made, made_is}
 use Rattle.validate_rows.proofs.references.check_ref_func.Goals as goal
 
 pub returns-in_default : goal.returns-in_default

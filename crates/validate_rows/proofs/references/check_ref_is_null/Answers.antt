@@ -8,8 +8,8 @@ use Rattle.validate_stacks.specs.State.{BodyState}
 use Rattle.validate_stacks.specs.Steps as steps
 use Rattle.validate_stacks.specs.Steps.{body_popped, body_pushed}
 use Rattle.validate_stacks.proofs.Validity.{kept_on}
-use Rattle.validate_shapes.proofs.Looking.{null_is}
-use Rattle.validate_shapes.proofs.Meeting.{meets_refused, meets_last}
+use Rattle.validate_shapes.proofs.ReferenceSteps.{null_is}
+use Rattle.validate_shapes.proofs.LastSteps.{meets_refused, meets_last}
 use Rattle.validate_rows.proofs.references.check_ref_is_null.Goals as goal
 
 pub returns-in_err-pop_non_null_ref : goal.returns-in_err-pop_non_null_ref

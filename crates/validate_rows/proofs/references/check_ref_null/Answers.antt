@@ -7,8 +7,8 @@ use Rattle.validation_rules.specs.Context.{Ref}
 use Rattle.validation_rules.specs.References.{ref_null_row}
 use Rattle.validation_rules.specs.Rows.{guard}
 use Rattle.validation_rules.specs.Operators.{plain_row, lookup_row}
-use Rattle.validate_shapes.proofs.Found.{meets_barred, meets_found}
-use Rattle.validate_shapes.proofs.Reaching.{not_made, made_is}
+use Rattle.validate_shapes.proofs.LookupRows.{meets_barred, meets_found}
+use Rattle.validate_shapes.proofs.HeapReferences.{not_made, made_is}
 use Rattle.validate_rows.proofs.references.check_ref_null.Goals as goal
 
 pub returns-in_err-check_null_gate : goal.returns-in_err-check_null_gate

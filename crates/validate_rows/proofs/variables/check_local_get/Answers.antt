@@ -3,7 +3,7 @@ use Rattle.validate_resources.specs.Context.{Valid}
 use Rattle.validation_rules.specs.Rows.{guard}
 use Rattle.validate_stacks.specs.Pops.{body_pushed_each}
 use Rattle.validate_shapes.proofs.Rows.{no_local_get, local_get_is}
-use Rattle.validate_shapes.proofs.Meeting.{meets_last, meets_refused, all_get, not_true, not_false}
+use Rattle.validate_shapes.proofs.LastSteps.{meets_last, meets_refused, all_get, not_true, not_false}
 use Rattle.validate_rows.proofs.variables.check_local_get.Goals as goal
 
 pub returns-in_err-ty : goal.returns-in_err-ty

@@ -6,7 +6,7 @@ use Rattle.validate_stacks.specs.Steps.{body_with_local_set}
 use Rattle.validate_stacks.specs.Visits.{step_body}
 use Rattle.validate_stacks.proofs.Validity.{kept_on}
 use Rattle.validate_shapes.proofs.Rows.{no_local_set, local_set_is}
-use Rattle.validate_shapes.proofs.Meeting.{meets_last, meets_refused}
+use Rattle.validate_shapes.proofs.LastSteps.{meets_last, meets_refused}
 use Rattle.validate_rows.proofs.variables.check_local_set.Goals as goal
 
 pub returns-in_err-ty : goal.returns-in_err-ty

@@ -10,7 +10,7 @@ use Rattle.validation_rules.specs.Fits.{Known}
 use Rattle.validate_stacks.proofs.AtOnce.{Exchanged, exchange_parts, met_at_once, not_at_once}
 use Rattle.validate_stacks.proofs.Validity.{pushed_valid, pushed_kept}
 use Rattle.validate_shapes.proofs.Rows.{local_get_is, local_set_is, local_tee_is}
-use Rattle.validate_shapes.proofs.Meeting.{meets_done, all_get, not_false}
+use Rattle.validate_shapes.proofs.LastSteps.{meets_done, all_get, not_false}
 use Rattle.validate_rows.proofs.AtOnce.{set_already, some_is}
 use Rattle.validate_rows.proofs.variables.local_set_at_once.Goals as goal
 

@@ -1,7 +1,7 @@
 use Rattle.std.proofs.Common.{sym, ◌∙◌}
 use Rattle.validation_rules.specs.Static.{heads}
 use Rattle.validate_stacks.specs.State.{body_context}
-use Rattle.validate_rows_continuations.proofs.Handling.{handlers_done}
+use Rattle.validate_rows_continuations.proofs.HandlerLists.{handlers_done}
 use Rattle.validate_rows_continuations.proofs.handlers.check_handlers.Goals as goal
 
 pub returns-clause-fits : goal.returns-clause-fits

@@ -10,9 +10,9 @@ use Rattle.validation_rules.specs.Static.{heads, clause_fits}
 use Rattle.validate_stacks.specs.State.{body_context}
 use Rattle.validation_rules.proofs.ValidContinuations.{referenced_valid}
 use Rattle.validate_stacks.specs.Steps.{type_and_kind}
-use Rattle.validate_shapes.proofs.Branching.{label_there, no_label, no_types, label_valid}
-use Rattle.validate_shapes.proofs.Carrying.{carried_at, fits_and_last, front_and_last}
-use Rattle.validate_rows_continuations.proofs.Handling.{none_left, taken_below, last_not_fitting, label_empty, not_continued, not_carried, both_hold}
+use Rattle.validate_shapes.proofs.BranchSteps.{label_there, no_label, no_types, label_valid}
+use Rattle.validate_shapes.proofs.CarriedTypes.{carried_at, fits_and_last, front_and_last}
+use Rattle.validate_rows_continuations.proofs.HandlerLists.{none_left, taken_below, last_not_fitting, label_empty, not_continued, not_carried, both_hold}
 use Rattle.validate_rows_continuations.proofs.handlers.check_label_handler.Goals as goal
 
 pub returns-in_err-block_type-clause-refused : goal.returns-in_err-block_type-clause-refused

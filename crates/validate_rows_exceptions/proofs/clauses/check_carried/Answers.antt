@@ -1,9 +1,9 @@
 use Rattle.std.proofs.Common.{rules, ◌≡◌, true, false, OnOk, OnErr, sym, refl, ◌∙◌, subst}
 use Rattle.validation_rules.specs.Static.{heads}
 use Rattle.validate_stacks.specs.State.{body_context}
-use Rattle.validate_shapes.proofs.Branching.{label_there, label_valid}
-use Rattle.validate_shapes.proofs.Comparing.{other_count}
-use Rattle.validate_shapes.proofs.Carrying.{accepts_none, carried_at}
+use Rattle.validate_shapes.proofs.BranchSteps.{label_there, label_valid}
+use Rattle.validate_shapes.proofs.TypesBelow.{other_count}
+use Rattle.validate_shapes.proofs.CarriedTypes.{accepts_none, carried_at}
 use Rattle.validate_rows_exceptions.proofs.clauses.check_carried.Goals as goal
 
 pub returns-in_err-block_type-clause-refused : goal.returns-in_err-block_type-clause-refused

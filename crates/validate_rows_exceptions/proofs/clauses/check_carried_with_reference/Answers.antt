@@ -6,8 +6,8 @@ use Rattle.validation_rules.specs.Fits.{Known, all_fit}
 use Rattle.validation_rules.specs.Static.{heads}
 use Rattle.validation_rules.proofs.Pops.{and_false}
 use Rattle.validate_stacks.specs.State.{body_context}
-use Rattle.validate_shapes.proofs.Branching.{label_there, label_valid}
-use Rattle.validate_shapes.proofs.Carrying.{accepts_none, carried_at, fits_with_last, last_none, last_of_others, front_and_last}
+use Rattle.validate_shapes.proofs.BranchSteps.{label_there, label_valid}
+use Rattle.validate_shapes.proofs.CarriedTypes.{accepts_none, carried_at, fits_with_last, last_none, last_of_others, front_and_last}
 use Rattle.validate_rows_exceptions.proofs.clauses.check_carried_with_reference.Goals as goal
 
 pub returns-in_err-block_type-clause-refused : goal.returns-in_err-block_type-clause-refused

@@ -7,13 +7,13 @@ use Rattle.validate_stacks.specs.Blocks.{body_with_block}
 use Rattle.validate_stacks.specs.Pops.{body_popped_each}
 use Rattle.validate_stacks.specs.State.{body_context}
 use Rattle.validate_stacks.specs.Visits.{step_body}
-use Rattle.validate_stacks.proofs.Closing.{takes_valid}
+use Rattle.validate_stacks.proofs.ClosedFrames.{takes_valid}
 use Rattle.validate_stacks.proofs.Validity.{kept_on}
-use Rattle.validate_shapes.proofs.Branching.{same_heads}
-use Rattle.validate_shapes.proofs.Meeting.{meets_none, meets_last, meets_refused}
+use Rattle.validate_shapes.proofs.BranchSteps.{same_heads}
+use Rattle.validate_shapes.proofs.LastSteps.{meets_none, meets_last, meets_refused}
 use Rattle.validate_shapes.proofs.Rows.{same_context}
 use Rattle.validate_rows_exceptions.specs.Clauses.{are_fitting_catches}
-use Rattle.validate_rows_exceptions.proofs.Catching.{table_not_checked, table_refused, table_not_fitting, table_passes}
+use Rattle.validate_rows_exceptions.proofs.TryTables.{table_not_checked, table_refused, table_not_fitting, table_passes}
 use Rattle.validate_rows_exceptions.proofs.clauses.check_try_table.Goals as goal
 
 pub returns-in_err-block_type : goal.returns-in_err-block_type

@@ -2,7 +2,7 @@ use Rattle.std.proofs.Common.{◌≡◌, ◌+◌, ◌<◌, suc, true, false, ari
 use Rattle.validate_resources.specs.Context.{ModuleContext}
 use Rattle.validation_rules.specs.Context.{I32}
 use Rattle.validation_rules.specs.Fits.{Known, all_fit}
-use Rattle.validate_shapes.proofs.Comparing.{compared, all_compared, valid_at}
+use Rattle.validate_shapes.proofs.TypesBelow.{compared, all_compared, valid_at}
 use Rattle.validate_rows_exceptions.proofs.clauses.check_types.Goals as goal
 
 pub loop-index-init : goal.loop-index-init

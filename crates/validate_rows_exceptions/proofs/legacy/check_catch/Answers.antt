@@ -1,8 +1,8 @@
 use Rattle.std.proofs.Common.{rules}
 use Rattle.validate_stacks.specs.Pops.{body_pushed_each}
 use Rattle.validate_stacks.proofs.Validity.{kept_on}
-use Rattle.validate_shapes.proofs.Meeting.{meets_none, meets_last, meets_refused}
-use Rattle.validate_rows_exceptions.proofs.Parting.{catch_unknown, catch_refused, catch_passes}
+use Rattle.validate_shapes.proofs.LastSteps.{meets_none, meets_last, meets_refused}
+use Rattle.validate_rows_exceptions.proofs.LegacySteps.{catch_unknown, catch_refused, catch_passes}
 use Rattle.validate_rows_exceptions.proofs.legacy.check_catch.Goals as goal
 
 pub returns-in_err-begin_catch_part : goal.returns-in_err-begin_catch_part

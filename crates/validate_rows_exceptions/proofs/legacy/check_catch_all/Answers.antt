@@ -1,4 +1,4 @@
-use Rattle.validate_shapes.proofs.Meeting.{meets_stated}
+use Rattle.validate_shapes.proofs.LastSteps.{meets_stated}
 use Rattle.validate_rows_exceptions.proofs.legacy.check_catch_all.Goals as goal
 
 pub returns : goal.returns

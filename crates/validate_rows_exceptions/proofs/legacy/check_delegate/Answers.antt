@@ -1,11 +1,11 @@
 use Rattle.std.proofs.Common.{rules, ◌≡◌, true, false}
 use Rattle.validation_rules.specs.Rows.{is_try}
 use Rattle.validate_stacks.specs.Pops.{body_pushed_each}
-use Rattle.validate_stacks.proofs.Closing.{wants_valid}
+use Rattle.validate_stacks.proofs.ClosedFrames.{wants_valid}
 use Rattle.validate_stacks.proofs.Phases.{step_frame, step_unset}
 use Rattle.validate_stacks.proofs.Validity.{kept_on}
-use Rattle.validate_shapes.proofs.Meeting.{meets_none, meets_last, meets_refused}
-use Rattle.validate_rows_exceptions.proofs.Parting.{delegate_none, delegate_of_another, delegate_nowhere, delegate_passes}
+use Rattle.validate_shapes.proofs.LastSteps.{meets_none, meets_last, meets_refused}
+use Rattle.validate_rows_exceptions.proofs.LegacySteps.{delegate_none, delegate_of_another, delegate_nowhere, delegate_passes}
 use Rattle.validate_rows_exceptions.proofs.legacy.check_delegate.Goals as goal
 
 pub returns-in_err-frame : goal.returns-in_err-frame

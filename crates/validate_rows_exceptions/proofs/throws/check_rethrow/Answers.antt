@@ -2,9 +2,9 @@ use Rattle.std.proofs.Common.{rules, [], refl, ap, ◌∙◌}
 use Rattle.validation_rules.specs.Exceptions.{rethrow_row}
 use Rattle.validation_rules.specs.Operators.{ending_row, ending_row_if}
 use Rattle.validation_rules.specs.Static.{heads}
-use Rattle.validate_shapes.proofs.Found.{barred, meets_barred, meets_found}
-use Rattle.validate_shapes.proofs.Meeting.{meets_none}
-use Rattle.validate_rows_exceptions.proofs.Catching.{caught_there, caught_none}
+use Rattle.validate_shapes.proofs.LookupRows.{barred, meets_barred, meets_found}
+use Rattle.validate_shapes.proofs.LastSteps.{meets_none}
+use Rattle.validate_rows_exceptions.proofs.TryTables.{caught_there, caught_none}
 use Rattle.validate_rows_exceptions.proofs.throws.check_rethrow.Goals as goal
 
 pub returns-in_err-kind-clause-visit : goal.returns-in_err-kind-clause-visit

@@ -1,7 +1,7 @@
 use Rattle.std.proofs.Common.{rules}
 use Rattle.validation_rules.specs.Exceptions.{throw_row}
 use Rattle.validation_rules.specs.Operators.{ending_row}
-use Rattle.validate_shapes.proofs.Found.{meets_barred, meets_found}
+use Rattle.validate_shapes.proofs.LookupRows.{meets_barred, meets_found}
 use Rattle.validate_rows_exceptions.proofs.throws.check_throw.Goals as goal
 
 pub returns-in_err-types-clause-visit : goal.returns-in_err-types-clause-visit

@@ -1,6 +1,6 @@
 use Rattle.std.proofs.Common.{rules}
 use Rattle.validation_rules.specs.Arrays.{array_row}
-use Rattle.validate_shapes.proofs.Found.{meets_barred, meets_found}
+use Rattle.validate_shapes.proofs.LookupRows.{meets_barred, meets_found}
 use Rattle.validate_shapes.specs.Operands.{operands_row}
 use Rattle.validate_rows_gc.proofs.arrays.check_array_row.Goals as goal
 

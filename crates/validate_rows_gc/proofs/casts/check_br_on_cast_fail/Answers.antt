@@ -7,7 +7,7 @@ use Rattle.validation_rules.specs.Operators.{lookup_row}
 use Rattle.validation_rules.proofs.Valid.{difference_valid}
 use Rattle.validation_rules.specs.Static.{heads}
 use Rattle.validate_stacks.specs.State.{body_context}
-use Rattle.validate_shapes.proofs.Found.{meets_barred, meets_found}
+use Rattle.validate_shapes.proofs.LookupRows.{meets_barred, meets_found}
 use Rattle.validate_rows_gc.proofs.casts.check_br_on_cast_fail.Goals as goal
 
 pub returns-in_err-from : goal.returns-in_err-from

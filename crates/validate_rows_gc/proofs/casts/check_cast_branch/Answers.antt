@@ -6,11 +6,11 @@ use Rattle.validation_rules.specs.Rows.{guard}
 use Rattle.validation_rules.specs.Static.{heads}
 use Rattle.validation_rules.proofs.Valid.{but_last_valid}
 use Rattle.validate_stacks.specs.State.{body_context}
-use Rattle.validate_shapes.proofs.Branching.{label_there, no_label, label_valid}
-use Rattle.validate_shapes.proofs.Found.{meets_barred}
-use Rattle.validate_shapes.proofs.Meeting.{meets_from, meets_refused}
+use Rattle.validate_shapes.proofs.BranchSteps.{label_there, no_label, label_valid}
+use Rattle.validate_shapes.proofs.LookupRows.{meets_barred}
+use Rattle.validate_shapes.proofs.LastSteps.{meets_from, meets_refused}
 use Rattle.validate_rows_gc.specs.Casts.{cast_types}
-use Rattle.validate_rows_gc.proofs.Casting.{last_is_valid, barred_at, branch_missing, branch_rest}
+use Rattle.validate_rows_gc.proofs.CastBranches.{last_is_valid, barred_at, branch_missing, branch_rest}
 use Rattle.validate_rows_gc.proofs.casts.check_cast_branch.Goals as goal
 
 pub returns-in_err-block_type : goal.returns-in_err-block_type

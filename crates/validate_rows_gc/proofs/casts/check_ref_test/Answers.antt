@@ -3,7 +3,7 @@ use Rattle.validation_rules.specs.Casts.{cast_type, cast_operand, ref_test_row}
 use Rattle.validation_rules.specs.Context.{I32}
 use Rattle.validation_rules.specs.Operators.{plain_row, lookup_row}
 use Rattle.validate_stacks.specs.State.{body_context}
-use Rattle.validate_shapes.proofs.Found.{meets_barred, meets_found}
+use Rattle.validate_shapes.proofs.LookupRows.{meets_barred, meets_found}
 use Rattle.validate_rows_gc.proofs.casts.check_ref_test.Goals as goal
 
 pub returns-in_err-ty : goal.returns-in_err-ty

@@ -1,6 +1,6 @@
 use Rattle.std.proofs.Common.{ap, ◌∙◌}
 use Rattle.validation_rules.specs.Casts.{split_last as ending}
-use Rattle.validate_rows_gc.proofs.Casting.{split_ends}
+use Rattle.validate_rows_gc.proofs.CastBranches.{split_ends}
 use Rattle.validate_rows_gc.proofs.casts.split_last.Goals as goal
 
 pub returns-in-Some-clause-found : goal.returns-in-Some-clause-found

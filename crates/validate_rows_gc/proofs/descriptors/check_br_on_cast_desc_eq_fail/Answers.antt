@@ -11,10 +11,10 @@ use Rattle.validation_rules.proofs.Valid.{difference_valid}
 use Rattle.validate_stacks.specs.State.{body_context}
 use Rattle.validate_stacks.specs.Steps.{found_in_body}
 use Rattle.validate_stacks.specs.Visits.{step_body}
-use Rattle.validate_shapes.proofs.Found.{meets_barred}
-use Rattle.validate_shapes.proofs.Meeting.{meets_refused, meets_from}
+use Rattle.validate_shapes.proofs.LookupRows.{meets_barred}
+use Rattle.validate_shapes.proofs.LastSteps.{meets_refused, meets_from}
 use Rattle.validate_rows_gc.specs.Descriptors.{found_descriptor}
-use Rattle.validate_rows_gc.proofs.Describing.{visit_after, not_cast, without_descriptor, branch_missing, branch_rest}
+use Rattle.validate_rows_gc.proofs.DescriptorSteps.{visit_after, not_cast, without_descriptor, branch_missing, branch_rest}
 use Rattle.validate_rows_gc.proofs.descriptors.check_br_on_cast_desc_eq_fail.Goals as goal
 
 pub returns-in_err-from : goal.returns-in_err-from

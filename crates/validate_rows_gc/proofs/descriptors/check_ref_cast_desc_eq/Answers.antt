@@ -6,11 +6,11 @@ use Rattle.validation_rules.specs.Operators.{plain_row, row_operator}
 use Rattle.validate_stacks.specs.State.{body_context}
 use Rattle.validate_stacks.specs.Steps.{found_in_body}
 use Rattle.validate_stacks.specs.Visits.{step_body}
-use Rattle.validate_shapes.proofs.Found.{meets_barred}
-use Rattle.validate_shapes.proofs.Meeting.{meets_refused, meets_from}
+use Rattle.validate_shapes.proofs.LookupRows.{meets_barred}
+use Rattle.validate_shapes.proofs.LastSteps.{meets_refused, meets_from}
 use Rattle.validate_shapes.proofs.Rows.{same_context}
 use Rattle.validate_rows_gc.specs.Descriptors.{found_descriptor}
-use Rattle.validate_rows_gc.proofs.Describing.{visit_after, no_descriptor, not_castable, cast_missing, cast_rest}
+use Rattle.validate_rows_gc.proofs.DescriptorSteps.{visit_after, no_descriptor, not_castable, cast_missing, cast_rest}
 use Rattle.validate_rows_gc.proofs.descriptors.check_ref_cast_desc_eq.Goals as goal
 
 pub returns-in_err-descriptor : goal.returns-in_err-descriptor

@@ -11,9 +11,9 @@ use Rattle.validation_rules.proofs.Valid.{declared_valid}
 use Rattle.validate_stacks.specs.State.{BodyState, body_context}
 use Rattle.validate_stacks.specs.Steps.{body_pushed}
 use Rattle.validate_stacks.proofs.Validity.{kept_on}
-use Rattle.validate_shapes.proofs.Found.{meets_barred}
-use Rattle.validate_shapes.proofs.Meeting.{meets_refused, meets_none, meets_last}
-use Rattle.validate_rows_gc.proofs.Describing.{untyped, not_exact, undescribed, get_missing, get_there}
+use Rattle.validate_shapes.proofs.LookupRows.{meets_barred}
+use Rattle.validate_shapes.proofs.LastSteps.{meets_refused, meets_none, meets_last}
+use Rattle.validate_rows_gc.proofs.DescriptorSteps.{untyped, not_exact, undescribed, get_missing, get_there}
 use Rattle.validate_rows_gc.proofs.descriptors.check_ref_get_desc.Goals as goal
 
 pub returns-in_err-from : goal.returns-in_err-from

@@ -6,8 +6,8 @@ use Rattle.validation_rules.specs.Found.{operand_found_below}
 use Rattle.validate_stacks.specs.State.{BodyState}
 use Rattle.validate_stacks.specs.Steps.{found_in_body, body_popped, body_pushed}
 use Rattle.validate_stacks.proofs.Validity.{kept_on}
-use Rattle.validate_shapes.proofs.Meeting.{meets_refused, meets_last}
-use Rattle.validate_rows_gc.proofs.Looking.{found_is}
+use Rattle.validate_shapes.proofs.LastSteps.{meets_refused, meets_last}
+use Rattle.validate_rows_gc.proofs.FoundSteps.{found_is}
 use Rattle.validate_rows_gc.proofs.found.check_measure.Goals as goal
 
 pub returns-in_err-pop_found_below : goal.returns-in_err-pop_found_below

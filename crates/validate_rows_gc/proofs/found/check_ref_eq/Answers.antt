@@ -3,8 +3,8 @@ use Rattle.validation_rules.specs.Context.{I32}
 use Rattle.validation_rules.specs.Fits.{Known}
 use Rattle.validate_stacks.specs.Steps.{body_pushed}
 use Rattle.validate_stacks.proofs.Validity.{kept_on}
-use Rattle.validate_shapes.proofs.Meeting.{meets_refused, meets_none, meets_last}
-use Rattle.validate_rows_gc.proofs.Looking.{first_missing, second_missing, not_alike, alike}
+use Rattle.validate_shapes.proofs.LastSteps.{meets_refused, meets_none, meets_last}
+use Rattle.validate_rows_gc.proofs.FoundSteps.{first_missing, second_missing, not_alike, alike}
 use Rattle.validate_rows_gc.proofs.found.check_ref_eq.Goals as goal
 
 pub returns-in_err-above : goal.returns-in_err-above

@@ -1,7 +1,7 @@
 use Rattle.std.proofs.Common.{rules}
 use Rattle.validation_rules.specs.Operators.{row_operator}
-use Rattle.validate_shapes.proofs.Found.{meets_barred, meets_found}
-use Rattle.validate_shapes.proofs.Meeting.{meets_refused, meets_from}
+use Rattle.validate_shapes.proofs.LookupRows.{meets_barred, meets_found}
+use Rattle.validate_shapes.proofs.LastSteps.{meets_refused, meets_from}
 use Rattle.validate_rows_gc.specs.Descriptors.{row_under_descriptor}
 use Rattle.validate_shapes.specs.Operands.{operands_row}
 use Rattle.validate_rows_gc.proofs.structs.check_struct_row.Goals as goal

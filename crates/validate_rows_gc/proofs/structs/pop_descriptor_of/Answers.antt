@@ -8,7 +8,7 @@ use Rattle.validate_stacks.specs.State.{body_context}
 use Rattle.validate_stacks.specs.Steps.{found_in_body}
 use Rattle.validate_stacks.specs.Visits.{step_body}
 use Rattle.validate_rows_gc.specs.Descriptors.{found_new_descriptor, row_under_descriptor}
-use Rattle.validate_rows_gc.proofs.Describing.{on_both, visit_after, made_missing, made_rest}
+use Rattle.validate_rows_gc.proofs.DescriptorSteps.{on_both, visit_after, made_missing, made_rest}
 use Rattle.validate_rows_gc.proofs.structs.pop_descriptor_of.Goals as goal
 
 pub returns-in-StructNewDesc-clause-passed : goal.returns-in-StructNewDesc-clause-passed

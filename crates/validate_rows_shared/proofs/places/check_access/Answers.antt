@@ -1,8 +1,8 @@
 use Rattle.std.proofs.Common.{rules}
 use Rattle.validation_rules.specs.Shared.{shared_row}
-use Rattle.validate_shapes.proofs.Found.{meets_barred}
+use Rattle.validate_shapes.proofs.LookupRows.{meets_barred}
 use Rattle.validate_shapes.specs.Operands.{wanted_types, pushed_types}
-use Rattle.validate_rows_shared.proofs.Testing.{meets_untested, meets_passed, meets_failed}
+use Rattle.validate_rows_shared.proofs.LateTests.{meets_untested, meets_passed, meets_failed}
 use Rattle.validate_rows_shared.proofs.places.check_access.Goals as goal
 
 pub returns-in_err-access : goal.returns-in_err-access

@@ -1,7 +1,7 @@
 use Rattle.std.proofs.Common.{◌≡◌, true, false, sym, ◌∙◌, subst}
 use Rattle.validate_types.specs.declared.refs.RefType.{RefType}
 use Rattle.validate_resources.specs.Context.{is_valid_heap}
-use Rattle.validate_shapes.proofs.Reaching.{not_made, made_is}
+use Rattle.validate_shapes.proofs.HeapReferences.{not_made, made_is}
 use Rattle.validate_shapes.proofs.aggregates.allocated_reference.Goals as goal
 
 pub unreachable-requires : goal.unreachable-requires

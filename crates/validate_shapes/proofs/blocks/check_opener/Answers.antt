@@ -3,8 +3,8 @@ use Rattle.validation_rules.specs.Operators.{opener, checked_block}
 use Rattle.validation_rules.proofs.Valid.{checked_valid}
 use Rattle.validate_stacks.specs.State.{body_context}
 use Rattle.validate_stacks.specs.Visits.{step_body}
-use Rattle.validate_shapes.proofs.Opening.{by_check, not_opened}
-use Rattle.validate_shapes.proofs.Meeting.{meets_as, meets_refused}
+use Rattle.validate_shapes.proofs.OpenerSteps.{by_check, not_opened}
+use Rattle.validate_shapes.proofs.LastSteps.{meets_as, meets_refused}
 use Rattle.validate_shapes.proofs.blocks.check_opener.Goals as goal
 
 pub returns-in_err-checked : goal.returns-in_err-checked

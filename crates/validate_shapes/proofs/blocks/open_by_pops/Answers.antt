@@ -5,11 +5,11 @@ use Rattle.validation_rules.specs.Operators.{opening_operator}
 use Rattle.validate_stacks.specs.Blocks.{body_with_block}
 use Rattle.validate_stacks.specs.Pops.{body_popped_each}
 use Rattle.validate_stacks.specs.Visits.{step_body}
-use Rattle.validate_stacks.proofs.Closing.{takes_valid}
+use Rattle.validate_stacks.proofs.ClosedFrames.{takes_valid}
 use Rattle.validate_stacks.proofs.Validity.{kept_on}
 use Rattle.validate_stacks.proofs.Whole.{none_above, some_above}
-use Rattle.validate_shapes.proofs.Opening.{opened_is}
-use Rattle.validate_shapes.proofs.Meeting.{meets_last, meets_refused}
+use Rattle.validate_shapes.proofs.OpenerSteps.{opened_is}
+use Rattle.validate_shapes.proofs.LastSteps.{meets_last, meets_refused}
 use Rattle.validate_shapes.proofs.blocks.open_by_pops.Goals as goal
 
 pub returns-in_err-pop_types : goal.returns-in_err-pop_types

@@ -8,11 +8,11 @@ use Rattle.validate_stacks.specs.Blocks.{body_with_block}
 use Rattle.validate_stacks.specs.Pops.{body_popped_each}
 use Rattle.validate_stacks.specs.State.{BodyState}
 use Rattle.validate_stacks.proofs.AtOnce.{exchange_parts, only_popped, was_made, was_not_made}
-use Rattle.validate_stacks.proofs.Closing.{takes_valid}
+use Rattle.validate_stacks.proofs.ClosedFrames.{takes_valid}
 use Rattle.validate_stacks.proofs.Phases.{frame_after, step_frame}
 use Rattle.validate_stacks.proofs.Validity.{kept_on}
-use Rattle.validate_shapes.proofs.Opening.{opened_is}
-use Rattle.validate_shapes.proofs.Meeting.{meets_last, all_both}
+use Rattle.validate_shapes.proofs.OpenerSteps.{opened_is}
+use Rattle.validate_shapes.proofs.LastSteps.{meets_last, all_both}
 use Rattle.validate_shapes.proofs.blocks.open_frame.Goals as goal
 
 pub exchange_at_once-requires : goal.exchange_at_once-requires

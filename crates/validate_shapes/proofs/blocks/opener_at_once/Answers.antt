@@ -8,8 +8,8 @@ use Rattle.validate_stacks.specs.AtOnce.{pushed_list, MeetsAtOnce}
 use Rattle.validate_stacks.specs.State.{body_context}
 use Rattle.validate_stacks.proofs.AtOnce.{met_at_once, not_at_once}
 use Rattle.validate_stacks.proofs.Whole.{popped_none}
-use Rattle.validate_shapes.proofs.Opening.{by_check, meets_opened, meets_opened_over}
-use Rattle.validate_shapes.proofs.Meeting.{meets_as}
+use Rattle.validate_shapes.proofs.OpenerSteps.{by_check, meets_opened, meets_opened_over}
+use Rattle.validate_shapes.proofs.LastSteps.{meets_as}
 use Rattle.validate_shapes.proofs.blocks.opener_at_once.Goals as goal
 
 pub returns-in-None : goal.returns-in-None

@@ -2,7 +2,7 @@ use Rattle.std.proofs.Common.{◌≡◌, ◌+◌, ◌<◌, suc, true, false, ari
 use Rattle.validate_resources.specs.Context.{ModuleContext}
 use Rattle.validation_rules.specs.Context.{I32}
 use Rattle.validation_rules.specs.Fits.{Known, all_fit}
-use Rattle.validate_shapes.proofs.Comparing.{other_count, compared, all_compared, valid_at}
+use Rattle.validate_shapes.proofs.TypesBelow.{other_count, compared, all_compared, valid_at}
 use Rattle.validate_shapes.proofs.matching.are_below.Goals as goal
 
 pub returns-then-types-above : goal.returns-then-types-above

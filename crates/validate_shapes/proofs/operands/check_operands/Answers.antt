@@ -5,7 +5,7 @@ use Rattle.validate_stacks.specs.Visits.{step_body}
 use Rattle.validate_stacks.proofs.Validity.{kept_on}
 use Rattle.validate_shapes.specs.Operands.{wanted_types, pushed_types, operands_row}
 use Rattle.validate_shapes.proofs.Rows.{plain_passes, plain_refused}
-use Rattle.validate_shapes.proofs.Meeting.{meets_last, meets_refused}
+use Rattle.validate_shapes.proofs.LastSteps.{meets_last, meets_refused}
 use Rattle.validate_shapes.proofs.operands.check_operands.Goals as goal
 
 pub returns-in_err-pop_wanted : goal.returns-in_err-pop_wanted

@@ -1,8 +1,8 @@
 use Rattle.std.proofs.Common.{rules}
 use Rattle.validate_stacks.specs.Steps.{body_unreachable}
 use Rattle.validate_stacks.proofs.Validity.{kept_on}
-use Rattle.validate_shapes.proofs.Branching.{ending_refused, ending_passes}
-use Rattle.validate_shapes.proofs.Meeting.{meets_last, meets_refused}
+use Rattle.validate_shapes.proofs.BranchSteps.{ending_refused, ending_passes}
+use Rattle.validate_shapes.proofs.LastSteps.{meets_last, meets_refused}
 use Rattle.validate_shapes.proofs.plain.check_ending.Goals as goal
 
 pub returns-in_err-pop_types-clause-row : goal.returns-in_err-pop_types-clause-row

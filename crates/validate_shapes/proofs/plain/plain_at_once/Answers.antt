@@ -4,7 +4,7 @@ use Rattle.validate_stacks.specs.AtOnce.{pushed_list, MeetsAtOnce}
 use Rattle.validate_stacks.specs.Visits.{Meets}
 use Rattle.validate_stacks.proofs.AtOnce.{Exchanged, exchange_parts}
 use Rattle.validate_shapes.proofs.Rows.{plain_passes}
-use Rattle.validate_shapes.proofs.Meeting.{meets_done}
+use Rattle.validate_shapes.proofs.LastSteps.{meets_done}
 use Rattle.validate_shapes.proofs.plain.plain_at_once.Goals as goal
 
 pub returns : goal.returns

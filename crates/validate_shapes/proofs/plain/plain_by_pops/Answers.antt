@@ -4,7 +4,7 @@ use Rattle.validate_stacks.specs.Pops.{body_popped_each, body_pushed_each}
 use Rattle.validate_stacks.specs.Visits.{step_body}
 use Rattle.validate_stacks.proofs.Validity.{kept_on}
 use Rattle.validate_shapes.proofs.Rows.{plain_passes, plain_refused}
-use Rattle.validate_shapes.proofs.Meeting.{meets_last, meets_refused}
+use Rattle.validate_shapes.proofs.LastSteps.{meets_last, meets_refused}
 use Rattle.validate_shapes.proofs.plain.plain_by_pops.Goals as goal
 
 pub returns-in_err-pop_types : goal.returns-in_err-pop_types

@@ -1,6 +1,6 @@
 use Rattle.std.proofs.Common.{take, sym, subst, ◌∙◌, arith}
 use Rattle.validate_visit.specs.Parts.{AreNoted}
-use Rattle.validate_visit.proofs.Reading.{nop_follows, stops-none_open, stops-no_follower, one_further, parts-more}
+use Rattle.validate_visit.proofs.ReadParts.{nop_follows, stops-none_open, stops-no_follower, one_further, parts-more}
 use Rattle.validate_visit.proofs.order.is_well_ordered.Goals.{then-parts-eq0-via-then-parts-eq0, then-parts-eq0-via-else-parts-eq0+then-not-may_follow}
 use Rattle.validate_visit.proofs.order.is_well_ordered.Goals as goal
 

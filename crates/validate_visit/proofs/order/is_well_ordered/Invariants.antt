@@ -2,7 +2,7 @@
 use Rattle.std.proofs.Common.{◌≡◌, ◌+◌, ◌≤◌, true, take}
 use Rattle.validate_visit.specs.Order.{is_ordered_from}
 use Rattle.validate_visit.specs.Parts.{outermost, parts_after_list, AreNoted}
-use Rattle.validate_visit.proofs.Reading.{nestings}
+use Rattle.validate_visit.proofs.ReadParts.{nestings}
 use Rattle.validate_visit.proofs.order.is_well_ordered.Given as goal
 
 abbrev pub invariant-loop-index : goal.invariant-loop-index

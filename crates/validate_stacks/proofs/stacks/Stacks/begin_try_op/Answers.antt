@@ -1,6 +1,6 @@
 use Rattle.std.proofs.Common.{◌∙◌, ap}
 use Rattle.validate_stacks.specs.Attempts.{stacks_begun}
-use Rattle.validate_stacks.proofs.Undoing.{idle_log, sound_begun, begun_is}
+use Rattle.validate_stacks.proofs.Undone.{idle_log, sound_begun, begun_is}
 use Rattle.validate_stacks.proofs.stacks.Stacks.begin_try_op.Goals as goal
 
 pub begin-requires : goal.begin-requires

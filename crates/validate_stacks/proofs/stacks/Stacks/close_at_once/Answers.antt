@@ -3,7 +3,7 @@ use Rattle.validation_rules.specs.Context.{block_signature}
 use Rattle.validate_stacks.specs.Pops.{body_popped_each}
 use Rattle.validate_stacks.specs.Steps.{frame_at, innermost_operands}
 use Rattle.validate_stacks.proofs.AtOnce.{only_popped, was_made, none_left, some_there}
-use Rattle.validate_stacks.proofs.Closing.{wants_valid, closed_passes}
+use Rattle.validate_stacks.proofs.ClosedFrames.{wants_valid, closed_passes}
 use Rattle.validate_stacks.proofs.stacks.Stacks.close_at_once.Goals as goal
 
 pub exchange_at_once-requires : goal.exchange_at_once-requires

@@ -2,7 +2,7 @@ use Rattle.std.proofs.Common.{◌-◌, ◌<◌, length, refl, sym, ◌∙◌, So
 use Rattle.validate_resources.specs.Context.{Valid}
 use Rattle.validate_stacks.specs.State.{body_context}
 use Rattle.validate_stacks.proofs.AtOnce.{fits_by}
-use Rattle.validate_stacks.proofs.Matching.{matching_starts, goes_on_there}
+use Rattle.validate_stacks.proofs.MatchedOperands.{matching_starts, goes_on_there}
 use Rattle.validate_stacks.proofs.Validity.{all_at}
 use Rattle.validate_stacks.proofs.stacks.Stacks.finds_at_once.Goals as goal
 

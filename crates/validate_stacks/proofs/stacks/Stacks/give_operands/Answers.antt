@@ -6,7 +6,7 @@ use Rattle.validate_stacks.specs.Attempts.{body_of}
 use Rattle.validate_stacks.specs.Flat.{undone_pending}
 use Rattle.validate_stacks.specs.State.{BodyState}
 use Rattle.validate_stacks.proofs.AtOnce.{sound_given, idle_given, given_nothing}
-use Rattle.validate_stacks.proofs.Undoing.{popped_top, idle_log}
+use Rattle.validate_stacks.proofs.Undone.{popped_top, idle_log}
 use Rattle.validate_stacks.proofs.stacks.Stacks.give_operands.Goals as goal
 
 pub invariant_of-self : goal.invariant_of-self

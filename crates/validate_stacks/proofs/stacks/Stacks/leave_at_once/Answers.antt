@@ -8,7 +8,7 @@ use Rattle.validate_stacks.specs.Blocks.{closed_body}
 use Rattle.validate_stacks.specs.Pops.{body_pushed_each}
 use Rattle.validate_stacks.specs.Steps.{frame_at, innermost_operands, body_without_frame}
 use Rattle.validate_stacks.proofs.AtOnce.{some_there, left_one, left_none, left_whole, left_valid, left_kept}
-use Rattle.validate_stacks.proofs.Closing.{wants_valid}
+use Rattle.validate_stacks.proofs.ClosedFrames.{wants_valid}
 use Rattle.validate_stacks.proofs.stacks.Stacks.leave_at_once.Goals as goal
 use Rattle.validate_stacks.proofs.stacks.Stacks.leave_at_once.Goals.{then-results-eq1, else-results-eq1}
 

@@ -4,7 +4,7 @@ use Rattle.validate_stacks.specs.Attempts.{body_of}
 use Rattle.validate_stacks.specs.Flat.{undone_pending}
 use Rattle.validate_stacks.specs.Steps.{body_marked}
 use Rattle.validate_stacks.proofs.Looks.{mark_none, mark_dead}
-use Rattle.validate_stacks.proofs.Undoing.{marked_is, sound_mark}
+use Rattle.validate_stacks.proofs.Undone.{marked_is, sound_mark}
 use Rattle.validate_stacks.proofs.stacks.Stacks.mark.Goals as goal
 
 pub returns-in_default : goal.returns-in_default

@@ -1,6 +1,6 @@
 use Rattle.std.proofs.Common.{arith, rules, refl, sym, ap, ◌∙◌}
 use Rattle.validate_stacks.specs.State.{body_context}
-use Rattle.validate_stacks.proofs.Matching.{matching_starts, goes_on_there, stops_there, none_popped}
+use Rattle.validate_stacks.proofs.MatchedOperands.{matching_starts, goes_on_there, stops_there, none_popped}
 use Rattle.validate_stacks.proofs.stacks.Stacks.match_operands.Goals as goal
 
 pub loop-left-init : goal.loop-left-init

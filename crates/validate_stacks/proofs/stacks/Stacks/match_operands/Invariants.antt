@@ -3,7 +3,7 @@ use Rattle.std.proofs.Common.{◌≡◌, ◌≤◌, ◌-◌, length, take, rever
 use Rattle.validation_rules.specs.Fits.{all_fit}
 use Rattle.validate_stacks.specs.State.{body_context}
 use Rattle.validate_stacks.specs.Pops.{has_operands_fitting}
-use Rattle.validate_stacks.proofs.Matching.{after_in}
+use Rattle.validate_stacks.proofs.MatchedOperands.{after_in}
 use Rattle.validate_stacks.proofs.stacks.Stacks.match_operands.Given as goal
 
 abbrev pub decreases-loop-left : goal.decreases-loop-left

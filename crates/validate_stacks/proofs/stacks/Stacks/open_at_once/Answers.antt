@@ -2,7 +2,7 @@ use Rattle.std.proofs.Common.{arith, sym, ◌∙◌, ap}
 use Rattle.validate_stacks.specs.Attempts.{body_of}
 use Rattle.validate_stacks.specs.Steps.{body_with_frame}
 use Rattle.validate_stacks.proofs.AtOnce.{no_log, quiet_opened, quiet_frame}
-use Rattle.validate_stacks.proofs.Undoing.{sound_open, state_open}
+use Rattle.validate_stacks.proofs.Undone.{sound_open, state_open}
 use Rattle.validate_stacks.proofs.stacks.Stacks.open_at_once.Goals as goal
 
 pub invariant_of-self : goal.invariant_of-self

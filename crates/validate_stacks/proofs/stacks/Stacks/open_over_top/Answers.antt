@@ -3,7 +3,7 @@ use Rattle.validate_stacks.specs.Attempts.{body_of}
 use Rattle.validate_stacks.specs.State.{BodyState}
 use Rattle.validate_stacks.specs.Steps.{innermost_operands, body_with_frame, body_popped}
 use Rattle.validate_stacks.proofs.AtOnce.{no_log, quiet_opened, quiet_frame, sound_taken, cut-taken, taken_there}
-use Rattle.validate_stacks.proofs.Undoing.{sound_open, state_open}
+use Rattle.validate_stacks.proofs.Undone.{sound_open, state_open}
 use Rattle.validate_stacks.proofs.stacks.Stacks.open_over_top.Goals as goal
 
 pub invariant_of-self : goal.invariant_of-self

@@ -3,7 +3,7 @@ use Rattle.std.specs.Option.{option_copied}
 use Rattle.validate_stacks.specs.Attempts.{Stacked, phase_moved}
 use Rattle.validate_stacks.specs.Flat.{undone_pending}
 use Rattle.validate_stacks.proofs.Cuts.{state_of, no_frame, at_height, above_height}
-use Rattle.validate_stacks.proofs.Undoing.{popped_top, not_empty, sound_pop, undone_pop, phase_pop}
+use Rattle.validate_stacks.proofs.Undone.{popped_top, not_empty, sound_pop, undone_pop, phase_pop}
 use Rattle.validate_stacks.proofs.stacks.Stacks.pop_any.Goals as goal
 use Rattle.validate_stacks.proofs.stacks.Stacks.pop_any.Goals.{then-frame, else-frame}
 

@@ -1,7 +1,7 @@
 use Rattle.std.proofs.Common.{arith, ◌∙◌, sym, ap, length}
 use Rattle.std.specs.Option.{option_copied}
 use Rattle.validate_stacks.specs.Flat.{undone_pending}
-use Rattle.validate_stacks.proofs.Undoing.{popped_top, close_none, state_close, frames_close, sound_close, inits_within}
+use Rattle.validate_stacks.proofs.Undone.{popped_top, close_none, state_close, frames_close, sound_close, inits_within}
 use Rattle.validate_stacks.proofs.stacks.Stacks.pop_bare_ctrl.Goals as goal
 
 pub returns-in_default-clause-exact : goal.returns-in_default-clause-exact

@@ -3,7 +3,7 @@ use Rattle.std.specs.Option.{option_copied}
 use Rattle.validation_rules.specs.Fits.{MaybeType}
 use Rattle.validate_stacks.specs.Blocks.{closed_body}
 use Rattle.validate_stacks.specs.Pops.{body_popped_each}
-use Rattle.validate_stacks.proofs.Closing.{some_frame, wants_valid, closed_passes, closed_refused, closed_left_over, same_first_set}
+use Rattle.validate_stacks.proofs.ClosedFrames.{some_frame, wants_valid, closed_passes, closed_refused, closed_left_over, same_first_set}
 use Rattle.validate_stacks.proofs.Phases.{frame_after, unset_after}
 use Rattle.validate_stacks.proofs.stacks.Stacks.pop_ctrl.Goals as goal
 

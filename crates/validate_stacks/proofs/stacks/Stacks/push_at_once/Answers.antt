@@ -5,7 +5,7 @@ use Rattle.validate_stacks.specs.Flat.{undone_pending}
 use Rattle.validate_stacks.specs.Steps.{body_pushed}
 use Rattle.validate_stacks.proofs.AtOnce.{no_log, quiet_push, quiet_undone}
 use Rattle.validate_stacks.proofs.Cuts.{cut-push, state_of}
-use Rattle.validate_stacks.proofs.Undoing.{sound_push}
+use Rattle.validate_stacks.proofs.Undone.{sound_push}
 use Rattle.validate_stacks.proofs.stacks.Stacks.push_at_once.Goals as goal
 
 pub invariant_of-self : goal.invariant_of-self

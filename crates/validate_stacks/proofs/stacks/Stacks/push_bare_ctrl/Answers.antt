@@ -1,7 +1,7 @@
 use Rattle.std.proofs.Common.{arith, ◌∙◌, ap}
 use Rattle.validate_stacks.specs.Attempts.{body_of}
 use Rattle.validate_stacks.specs.Steps.{body_with_frame}
-use Rattle.validate_stacks.proofs.Undoing.{sound_open, sound_room, state_open, frames_open}
+use Rattle.validate_stacks.proofs.Undone.{sound_open, sound_room, state_open, frames_open}
 use Rattle.validate_stacks.proofs.stacks.Stacks.push_bare_ctrl.Goals as goal
 
 pub invariant_of-self : goal.invariant_of-self

@@ -5,7 +5,7 @@ use Rattle.validate_stacks.specs.State.{BodyState}
 use Rattle.validate_stacks.specs.Steps.{innermost_operands, body_pushed, body_popped}
 use Rattle.validate_stacks.proofs.AtOnce.{quiet_undone, own_there, sound_replaced, cut-replaced}
 use Rattle.validate_stacks.proofs.Cuts.{state_of}
-use Rattle.validate_stacks.proofs.Undoing.{idle_log}
+use Rattle.validate_stacks.proofs.Undone.{idle_log}
 use Rattle.validate_stacks.proofs.stacks.Stacks.replace_operand.Goals as goal
 
 pub replace_top-requires : goal.replace_top-requires

@@ -1,6 +1,6 @@
 use Rattle.std.proofs.Common.{◌∙◌, ap}
 use Rattle.validate_stacks.specs.Attempts.{stacks_rolled_back}
-use Rattle.validate_stacks.proofs.Undoing.{log_there, undo_at, sound_idle, rolled_back_is}
+use Rattle.validate_stacks.proofs.Undone.{log_there, undo_at, sound_idle, rolled_back_is}
 use Rattle.validate_stacks.proofs.stacks.Stacks.rollback.Goals as goal
 
 pub take-log-requires : goal.take-log-requires

@@ -5,7 +5,7 @@ use Rattle.validate_stacks.specs.Flat.{undone_pending}
 use Rattle.validate_stacks.specs.Steps.{body_with_local_set}
 use Rattle.validate_stacks.proofs.Cuts.{state_of}
 use Rattle.validate_stacks.proofs.Marks.{set_state, shape_set}
-use Rattle.validate_stacks.proofs.Undoing.{undone_set, undo_set}
+use Rattle.validate_stacks.proofs.Undone.{undone_set, undo_set}
 use Rattle.validate_stacks.proofs.stacks.Stacks.set_init.Goals as goal
 
 pub invariant_of-self-2 : goal.invariant_of-self-2

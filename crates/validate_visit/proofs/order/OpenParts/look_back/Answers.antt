@@ -1,7 +1,7 @@
 use Rattle.std.proofs.Common.{◌≡◌, ◌-◌, ◌<◌, ◌∙◌, length, take, drop, sym, ap, arith}
 use Rattle.validate_visit.specs.Parts.{outermost, parts_after_list}
-use Rattle.validate_visit.proofs.Reading.{nestings}
-use Rattle.validate_visit.proofs.LookingBack.{one_left, one_back}
+use Rattle.validate_visit.proofs.ReadParts.{nestings}
+use Rattle.validate_visit.proofs.LookBack.{one_left, one_back}
 use Rattle.validate_visit.proofs.order.OpenParts.look_back.Goals as goal
 
 pub loop-index-preserved : goal.loop-index-preserved

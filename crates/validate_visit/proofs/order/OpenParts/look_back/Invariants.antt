@@ -1,7 +1,7 @@
 -- The innermost parts so far are noted, and what is to be noted next can be told from the operators left.
 use Rattle.std.proofs.Common.{◌≡◌, ◌+◌, ◌≤◌, length, take, drop}
 use Rattle.validate_visit.specs.Parts.{outermost, parts_after_list, AreNoted}
-use Rattle.validate_visit.proofs.Reading.{nestings}
+use Rattle.validate_visit.proofs.ReadParts.{nestings}
 use Rattle.validate_visit.proofs.order.OpenParts.look_back.Given as goal
 
 abbrev pub invariant-loop-index : goal.invariant-loop-index

@@ -2,8 +2,8 @@ use Rattle.std.proofs.Common.{◌≡◌, ◌∙◌, nat_lt, sym, ap, arith}
 use Rattle.validate_visit.specs.declared.op.Op.TheVariants.{Control}
 use Rattle.validate_visit.specs.declared.op.ControlOp.TheVariants.{Nop}
 use Rattle.validate_visit.specs.Order.{nesting, may_stand}
-use Rattle.validate_visit.proofs.Reading.{ordered-front, follows, follows-as_nop}
-use Rattle.validate_visit.proofs.Noting.{noted-stands, outermost_refuses}
+use Rattle.validate_visit.proofs.ReadParts.{ordered-front, follows, follows-as_nop}
+use Rattle.validate_visit.proofs.NotedParts.{noted-stands, outermost_refuses}
 use Rattle.validate_visit.proofs.order.OpenParts.may_follow.Goals as goal
 
 pub returns-then-may_stand_anywhere-clause-answer : goal.returns-then-may_stand_anywhere-clause-answer

@@ -1,8 +1,8 @@
 use Rattle.std.proofs.Common.{◌≡◌, ◌+◌, ◌-◌, min, sym, subst, arith}
 use Rattle.validate_visit.specs.Order.{nesting, parts_after}
 use Rattle.validate_visit.specs.Parts.{most_noted, AreNoted}
-use Rattle.validate_visit.proofs.LookingBack.{opened}
-use Rattle.validate_visit.proofs.Noting.{noted-closed, noted-begun}
+use Rattle.validate_visit.proofs.LookBack.{opened}
+use Rattle.validate_visit.proofs.NotedParts.{noted-closed, noted-begun}
 use Rattle.validate_visit.proofs.order.OpenParts.read.Goals as goal
 
 pub returns-then-closes-clause-noted : goal.returns-then-closes-clause-noted

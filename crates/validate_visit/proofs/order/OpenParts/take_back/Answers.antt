@@ -1,7 +1,7 @@
 use Rattle.std.proofs.Common.{◌≡◌, ◌∙◌, Some, inl, inr, drop, ap, sym}
 use Rattle.std.proofs.lemmas.Bool.{cases_eq}
 use Rattle.validate_visit.specs.Order.{nesting, parts_after, part_begun}
-use Rattle.validate_visit.proofs.Noting.{noted-found, rest-begun}
+use Rattle.validate_visit.proofs.NotedParts.{noted-found, rest-begun}
 use Rattle.validate_visit.proofs.order.OpenParts.take_back.Goals as goal
 
 pub returns-in-Some-clause-noted : goal.returns-in-Some-clause-noted

@@ -1,0 +1,125 @@
+-- Operands matched in place, from the top, are the wanted list taken whole.
+use Rattle.std.proofs.Common.{◌≡◌, ℕ, zero, suc, ◌+◌, ◌-◌, ◌<◌, List, [], ◌∷◌, Bool, true, false, ◌&&◌, Option, Some, Result, Ok, Err, length, take, drop, reverse, get_or, refl, sym, ◌∙◌, ap, ap₂, arith}
+use Rattle.std.proofs.lemmas.List.{take_more, reverse-append, length-reverse, take_all}
+use Rattle.std.specs.Result.{IsErr, OnOk}
+use Rattle.validate_resources.specs.Context.{ModuleContext}
+use Rattle.validate_types.specs.declared.types.ValType.{ValType}
+use Rattle.validation_rules.specs.Context.{Context}
+use Rattle.validation_rules.specs.Fits.{MaybeType, all_fit}
+use Rattle.validation_rules.specs.Static.{Frame, operands_on_top, operands_found}
+use Rattle.validation_rules.proofs.Pops.{fit_turned}
+use Rattle.validate_stacks.specs.Pops.{may_pop, body_popped_each, operands_found_in, has_operands_fitting}
+use Rattle.validate_stacks.specs.State.{BodyState, body_context}
+use Rattle.validation_rules.specs.Pops.{found_by_pop}
+use Rattle.validate_stacks.specs.Steps.{found_after_pops_in_frames, found_after_pops_in_body}
+use Rattle.validate_stacks.proofs.ClosedFrames.{guarded_some}
+use Rattle.validate_stacks.proofs.Whole.{popped_whole}
+
+-- n more operands that pops find, after k others, the top first
+abbrev pub after_in : ℕ → ℕ → List Frame → List MaybeType
+after_in n k [] = []
+after_in n k (f ∷ fs) = operands_on_top n f.dead (drop k f.operands)
+
+pub drop_next : {X : Type 0} (k : ℕ) (xs : List X) → drop (suc k) xs ≡ drop 1 (drop k xs)
+drop_next zero xs = refl
+drop_next (suc k) [] = refl
+drop_next (suc k) (x ∷ xs) = drop_next k xs
+
+module _ (cx : Context) where
+  -- all of the list is left to match
+  pub all_left : (wanted : List ValType) (v : BodyState) → all_fit cx (after_in (length wanted) 0 v.present.frames) (reverse wanted) ≡ has_operands_fitting cx wanted v
+  all_left wanted v = by v.present.frames
+    where
+      by : (fs : List Frame) → all_fit cx (after_in (length wanted) 0 fs) (reverse wanted) ≡ all_fit cx (operands_found_in (length wanted) fs) wanted
+      by [] = sym (fit_turned cx [] wanted)
+      by (f ∷ fs) = sym (fit_turned cx (operands_on_top (length wanted) f.dead f.operands) wanted)
+
+  pub next_in : (n : ℕ) (own : List MaybeType) (dead : Bool) (w : ValType) (ws : List ValType) → all_fit cx (operands_on_top (suc n) dead own) (w ∷ ws) ≡ may_pop cx (found_by_pop dead own) (Some w) && all_fit cx (operands_on_top n dead (drop 1 own)) ws
+  next_in n (x ∷ own) dead w ws = refl
+  next_in n [] true w ws = refl
+  next_in n [] false w ws = refl
+
+  -- one of them matched
+  next_left : (n k : ℕ) (fs : List Frame) (w : ValType) (ws : List ValType) → all_fit cx (after_in (suc n) k fs) (w ∷ ws) ≡ may_pop cx (found_after_pops_in_frames k fs) (Some w) && all_fit cx (after_in n (suc k) fs) ws
+  next_left n k [] w ws = refl
+  next_left n k (f ∷ fs) w ws =
+      next_in n (drop k f.operands) f.dead w ws
+      ∙ ap (λ l. may_pop cx (found_by_pop f.dead (drop k f.operands)) (Some w) && all_fit cx (operands_on_top n f.dead l) ws) (sym (drop_next k f.operands))
+
+  pub last_next : (wanted : List ValType) (i : ℕ) (d : ValType) → i < length wanted → reverse (take (suc i) wanted) ≡ get_or wanted i d ∷ reverse (take i wanted)
+  last_next wanted i d h = ap reverse (ap (λ k. take k wanted) plus ∙ take_more wanted i d h) ∙ reverse-append (take i wanted) (get_or wanted i d ∷ [])
+    where
+      plus : suc i ≡ i + 1
+      plus = omega arith
+
+  -- with the place i of the list still to match, and those below it
+  pub one_matched : (wanted : List ValType) (v : BodyState) (i : ℕ) (d : ValType) → i < length wanted → all_fit cx (after_in (suc i) (length wanted - suc i) v.present.frames) (reverse (take (suc i) wanted)) ≡ may_pop cx (found_after_pops_in_body (length wanted - 1 - i) v) (Some (get_or wanted i d)) && all_fit cx (after_in i (length wanted - i) v.present.frames) (reverse (take i wanted))
+  one_matched wanted v i d h =
+      let place : length wanted - suc i ≡ length wanted - 1 - i = omega arith in
+      let next : suc (length wanted - suc i) ≡ length wanted - i = omega (arith, h) in
+      ap (all_fit cx (after_in (suc i) (length wanted - suc i) v.present.frames)) (last_next wanted i d h)
+      ∙ next_left i (length wanted - suc i) v.present.frames (get_or wanted i d) (reverse (take i wanted))
+      ∙ ap₂ (λ p q. may_pop cx (found_after_pops_in_body p v) (Some (get_or wanted i d)) && all_fit cx (after_in i q v.present.frames) (reverse (take i wanted))) place next
+
+  -- at the start
+  pub matching_starts : (wanted : List ValType) (v : BodyState) → all_fit cx (after_in (length wanted) (length wanted - length wanted) v.present.frames) (reverse (take (length wanted) wanted)) ≡ has_operands_fitting cx wanted v
+  matching_starts wanted v =
+      let none : length wanted - length wanted ≡ 0 = omega arith in
+      ap₂ (λ k ws. all_fit cx (after_in (length wanted) k v.present.frames) (reverse ws)) none (take_all (length wanted) wanted (omega arith)) ∙ all_left wanted v
+
+  -- with n of the list still to match
+  matched : (wanted : List ValType) (v : BodyState) (n : ℕ) (d : ValType) → 0 < n → n - 1 < length wanted → all_fit cx (after_in n (length wanted - n) v.present.frames) (reverse (take n wanted)) ≡ may_pop cx (found_after_pops_in_body (length wanted - 1 - (n - 1)) v) (Some (get_or wanted (n - 1) d)) && all_fit cx (after_in (n - 1) (length wanted - (n - 1)) v.present.frames) (reverse (take (n - 1) wanted))
+  matched wanted v zero d s h = absurd (omega (arith, s))
+  matched wanted v (suc i) d s h =
+      let less : suc i - 1 ≡ i = omega arith in
+      rw less (one_matched wanted v i d (omega (arith, h)))
+
+  pub matching_goes_on : (wanted : List ValType) (v : BodyState) (n : ℕ) (d : ValType) → 0 < n → n - 1 < length wanted → (found : Option MaybeType) → found ≡ found_after_pops_in_body (length wanted - 1 - (n - 1)) v → may_pop cx found (Some (get_or wanted (n - 1) d)) ≡ true → all_fit cx (after_in n (length wanted - n) v.present.frames) (reverse (take n wanted)) ≡ has_operands_fitting cx wanted v → all_fit cx (after_in (n - 1) (length wanted - (n - 1)) v.present.frames) (reverse (take (n - 1) wanted)) ≡ has_operands_fitting cx wanted v
+  matching_goes_on wanted v n d s h found f p e =
+      sym (matched wanted v n d s h ∙ ap (λ o. may_pop cx o (Some (get_or wanted (n - 1) d)) && all_fit cx (after_in (n - 1) (length wanted - (n - 1)) v.present.frames) (reverse (take (n - 1) wanted))) (sym f) ∙ ap (λ b. b && all_fit cx (after_in (n - 1) (length wanted - (n - 1)) v.present.frames) (reverse (take (n - 1) wanted))) p) ∙ e
+
+  pub matching_stops : (wanted : List ValType) (v : BodyState) (n : ℕ) (d : ValType) → 0 < n → n - 1 < length wanted → (found : Option MaybeType) → found ≡ found_after_pops_in_body (length wanted - 1 - (n - 1)) v → may_pop cx found (Some (get_or wanted (n - 1) d)) ≡ false → all_fit cx (after_in n (length wanted - n) v.present.frames) (reverse (take n wanted)) ≡ has_operands_fitting cx wanted v → has_operands_fitting cx wanted v ≡ false
+  matching_stops wanted v n d s h found f p e =
+      sym e ∙ (matched wanted v n d s h ∙ ap (λ o. may_pop cx o (Some (get_or wanted (n - 1) d)) && all_fit cx (after_in (n - 1) (length wanted - (n - 1)) v.present.frames) (reverse (take (n - 1) wanted))) (sym f) ∙ ap (λ b. b && all_fit cx (after_in (n - 1) (length wanted - (n - 1)) v.present.frames) (reverse (take (n - 1) wanted))) p)
+
+-- where no frame is open nothing is popped
+no_pops : (md : ModuleContext) (ws : List ValType) (v w : BodyState) → v.present.frames ≡ [] → body_popped_each md ws v ≡ Some w → ws ≡ []
+no_pops md [] v w n p = refl
+no_pops md (t ∷ ws) v w n p = absurd cc
+
+-- pops of all of the list pass only where all of it fits
+pub popped_fit : (md : ModuleContext) (wanted : List ValType) (v w : BodyState) → body_popped_each md (reverse wanted) v ≡ Some w → has_operands_fitting (body_context md v) wanted v ≡ true
+popped_fit md wanted v w p = by v.present.frames refl
+  where
+    none_fit : (ws : List ValType) (fs : List Frame) → fs ≡ [] → ws ≡ [] → all_fit (body_context md v) (operands_found_in (length ws) fs) ws ≡ true
+    none_fit [] fs n e = ap (λ gs. all_fit (body_context md v) (operands_found_in 0 gs) []) n
+    none_fit (t ∷ ws) fs n e = absurd cc
+
+    length_zero : (ws : List ValType) → length ws ≡ 0 → ws ≡ []
+    length_zero [] h = refl
+    length_zero (t ∷ ws) h = absurd cc
+
+    by : (fs : List Frame) → v.present.frames ≡ fs → has_operands_fitting (body_context md v) wanted v ≡ true
+    by [] n = none_fit wanted v.present.frames n (length_zero wanted (sym (length-reverse wanted) ∙ ap length (no_pops md (reverse wanted) v w n p)))
+    by (f ∷ fs) e =
+        ap (λ gs. all_fit (body_context md v) (operands_found_in (length wanted) gs) wanted) e
+        ∙ (guarded_some (all_fit (body_context md v) (operands_found (length wanted) f) wanted) _ w (sym (popped_whole md v f fs wanted e) ∙ p)).0
+
+-- the same of a state u that is the state v
+module _ (md : ModuleContext) (wanted : List ValType) (u v : BodyState) (same : u ≡ v) (n : ℕ) (d : ValType) (some : 0 < n) (within : n - 1 < length wanted) (found : Option MaybeType) (is_found : found ≡ found_after_pops_in_body (length wanted - 1 - (n - 1)) u) where
+  there : found ≡ found_after_pops_in_body (length wanted - 1 - (n - 1)) v
+  there = is_found ∙ ap (found_after_pops_in_body (length wanted - 1 - (n - 1))) same
+
+  test_same : may_pop (body_context md u) found (Some (get_or wanted (n - 1) d)) ≡ may_pop (body_context md v) found (Some (get_or wanted (n - 1) d))
+  test_same = ap (λ s. may_pop (body_context md s) found (Some (get_or wanted (n - 1) d))) same
+
+  pub goes_on_there : may_pop (body_context md u) found (Some (get_or wanted (n - 1) d)) ≡ true → all_fit (body_context md v) (after_in n (length wanted - n) v.present.frames) (reverse (take n wanted)) ≡ has_operands_fitting (body_context md v) wanted v → all_fit (body_context md v) (after_in (n - 1) (length wanted - (n - 1)) v.present.frames) (reverse (take (n - 1) wanted)) ≡ has_operands_fitting (body_context md v) wanted v
+  goes_on_there p e = matching_goes_on (body_context md v) wanted v n d some within found there (sym test_same ∙ p) e
+
+  pub stops_there : may_pop (body_context md u) found (Some (get_or wanted (n - 1) d)) ≡ false → all_fit (body_context md v) (after_in n (length wanted - n) v.present.frames) (reverse (take n wanted)) ≡ has_operands_fitting (body_context md v) wanted v → has_operands_fitting (body_context md v) wanted v ≡ false
+  stops_there p e = matching_stops (body_context md v) wanted v n d some within found there (sym test_same ∙ p) e
+
+-- pops that pass where not all of it fits: there are none
+pub none_popped : {X : Type 0} (md : ModuleContext) (wanted : List ValType) (u v : BodyState) → u ≡ v → has_operands_fitting (body_context md v) wanted v ≡ false → (r : Result (Unit {0}) X) (w : BodyState) → OnOk r (body_popped_each md (reverse wanted) u ≡ Some w) → IsErr r
+none_popped md wanted u v same other (Ok x) w p = absurd (cc (popped_fit md wanted v w (sym (ap (body_popped_each md (reverse wanted)) same) ∙ p), other))
+none_popped md wanted u v same other (Err e) w p = refl

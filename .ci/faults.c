@@ -1,6 +1,6 @@
-/* The program opcheck under faults. It is loaded before the program (LD_PRELOAD), and stands in for its main, its
-   requests for memory, its reads and its writes. For each script that an argument names, a child runs the
-   program with ample memory, and then one child for each fault:
+/* The program opcheck or wasmcheck under faults. It is loaded before the program (LD_PRELOAD), and stands in for its
+   main, its requests for memory, its reads and its writes. For each script or module that an argument names, a
+   child runs the program with ample memory, and then one child for each fault. Of opcheck:
 
    - a request for memory is refused: one, or all from one on. It ends with status 3, says `out of memory`, and
      has printed whole lines that begin the ample output; or it answers as with ample memory;
@@ -9,7 +9,13 @@
    - a write to standard error fails: the status and standard output stay;
    - reads and writes move one byte each, or are interrupted: the answer stays.
 
-   A crash, or ten seconds without an end, is wrong. Prints a line for each script: `NAME: N runs, M wrong`. */
+   Of wasmcheck, which runs with `-v`, where it differs:
+
+   - a request for memory is refused: status 3, and whole lines, each of the ample output but those that end in
+     `out of memory`; or the ample answer;
+   - a read or a write fails: status 3, and what is printed begins the ample output.
+
+   A crash, or ten seconds without an end, is wrong. Prints a line for each: `NAME: N runs, M wrong`. */
 #include "interposed.h"
 
 #define ROOM (1 << 20)
@@ -31,7 +37,7 @@ static struct seen *seen, *ample;
 static struct faults faults;
 static const char *script;
 static size_t length, taken;
-static int is_running, is_odd;
+static int is_running, is_odd, is_of_modules;
 
 static int is_refused(void) {
     if (!is_running) return 0;
@@ -77,11 +83,12 @@ static int run(struct faults these) {
     pid_t child = fork();
     if (child < 0) _exit(2);
     if (child == 0) {
-        char *arguments[] = {"opcheck", NULL}, *environment[] = {NULL};
+        char *arguments[] = {is_of_modules ? "wasmcheck" : "opcheck", is_of_modules ? "-v" : NULL, NULL};
+        char *environment[] = {NULL};
         alarm(10);
         faults = these;
         is_running = 1;
-        _exit(program(1, arguments, environment));
+        _exit(program(is_of_modules ? 2 : 1, arguments, environment));
     }
     int status;
     waitpid(child, &status, 0);
@@ -114,7 +121,23 @@ static void expect(const char *name, const char *what, long number, int ended, i
                (int)seen->length[2], seen->text[2]);
 }
 
+/* Whether each line that is printed is one of the ample output, in its order, or says `out of memory`. */
+static int has_lines_of_ample(void) {
+    static const char said[] = "out of memory\n";
+    const char *from = ample->text[1], *end = from + ample->length[1];
+    for (const char *line = seen->text[1], *next; line < seen->text[1] + seen->length[1]; line = next) {
+        next = (const char *)memchr(line, '\n', ROOM) + 1;
+        size_t size = next - line;
+        if (size >= sizeof said - 1 && memcmp(next - (sizeof said - 1), said, sizeof said - 1) == 0) continue;
+        from = memmem(from, end - from, line, size);
+        if (!from) return 0;
+        from += size;
+    }
+    return 1;
+}
+
 static int is_want_of_memory(int ended) {
+    if (is_of_modules) return ended == 3 && has_whole_lines() && has_lines_of_ample();
     return ended == 3 && has(2, "out of memory\n") && begins_ample() && has_whole_lines();
 }
 
@@ -134,7 +157,9 @@ static void fail_reads(const char *name) {
     for (long k = 1;; ++k) {
         int ended = run((struct faults){.read = k, .is_short = 1});
         if (seen->reads < k) break;
-        expect(name, "read", k, ended, ended == 2 && has(1, "") && has(2, "bad script: input\n"));
+        int is_right = is_of_modules ? ended == 3 && has(1, "")
+                                     : ended == 2 && has(1, "") && has(2, "bad script: input\n");
+        expect(name, "read", k, ended, is_right);
     }
 }
 
@@ -142,8 +167,9 @@ static void fail_writes(const char *name) {
     for (long k = 1;; ++k) {
         int ended = run((struct faults){.write = k, .is_short = 1});
         if (!seen->refused_write) break;
-        int is_right = seen->refused_write == 1 ? ended == 3 && has(2, "") && begins_ample()
-                                                : ended == status && is_same(1);
+        int is_right = is_of_modules              ? ended == 3 && begins_ample()
+                       : seen->refused_write == 1 ? ended == 3 && has(2, "") && begins_ample()
+                                                  : ended == status && is_same(1);
         expect(name, "write", k, ended, is_right);
     }
 }
@@ -155,7 +181,7 @@ static void move_bytes(const char *name) {
     }
 }
 
-/* Reads a script whole. */
+/* Reads a script or a module whole. */
 static int read_script(const char *name) {
     static char room[ROOM];
     FILE *file = fopen(name, "rb");
@@ -172,13 +198,15 @@ static int run_instead(int count, char **names, char **environment) {
     ample = malloc(sizeof *ample);
     if (seen == MAP_FAILED || !ample) return 2;
     setvbuf(stdout, NULL, _IOLBF, 0);
+    size_t length_of_name = strlen(names[0]);
+    is_of_modules = length_of_name >= 9 && strcmp(names[0] + length_of_name - 9, "wasmcheck") == 0;
     int is_bad = 0;
     for (int i = 1; i < count; ++i) {
         if (!read_script(names[i])) return 2;
         runs = wrong = 0;
         status = run((struct faults){0});
         memcpy(ample, seen, sizeof *ample);
-        expect(names[i], "ample memory", 0, status, 0 <= status && status <= 2);
+        expect(names[i], "ample memory", 0, status, (0 <= status && status <= 2) || (is_of_modules && status == 4));
         refuse_requests(names[i]);
         fail_reads(names[i]);
         fail_writes(names[i]);

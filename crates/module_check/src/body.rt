@@ -1,6 +1,6 @@
 //! The check of one body.
 
-ghost use Rattle.std.specs.Prelude.{◌≡◌, ◌≢◌, true, None, IfOk};
+ghost use Rattle.std.specs.Prelude.{◌≡◌, ◌≢◌, [], true, None, IfOk};
 ghost use Rattle.std.specs.List.{list_all};
 ghost use Rattle.validate_visit.specs.declared.frame.BlockType.{BlockType};
 ghost use Rattle.validate_visit.specs.Immediates.{is_module_op};
@@ -13,10 +13,10 @@ ghost use Rattle.module_check.specs.Begin.{IsBodyStart, IsExpressionStart, HasLo
 ghost use Rattle.module_check.specs.Safe.{IsSafeBody};
 ghost use Rattle.module_check.specs.declared.report.Verdict.TheVariants.{Accepted};
 
+use crate::buffers::BodyBuffers;
 use crate::read::{BodyKind, LocalGroup, ReadBody};
 use crate::report::Verdict;
 use binary_numbers::ReadError;
-use std::alloc::Global;
 use validate_body::{OperatorValidator, check_ops};
 use validate_resources::WasmModuleResources;
 use validate_resources::uses::laws;
@@ -97,8 +97,8 @@ fn may_be_body(ops: &[(Op<'_>, u64)]) -> bool
 /// Checks operators by the validator of their body, which is new. Behind them there is why no more could be
 /// read, and the bytes end at the offset. Globals past so many are unknown.
 fn check_list<R: WasmModuleResources>(
-    alloc: Global,
     v: &mut OperatorValidator,
+    heights: &mut Vec<(usize, usize)>,
     resources: &R,
     ops: &[(Op<'_>, u64)],
     failure: Option<ReadError>,
@@ -106,6 +106,7 @@ fn check_list<R: WasmModuleResources>(
     globals: usize,
 ) -> Verdict
     requires starting { IsStarting (R.context resources.now) (state v.old) }
+    requires empty { heights.old.items ≡ [] }
     ensures whole { result ≡ Accepted → failure ≡ None }
     ensures safe { result ≡ Accepted → (ty : BlockType) → (state v.old).present ≡ start ty
         → IsSafeFrom (R.context resources.now) (state v.old) ops.now ty }
@@ -116,15 +117,22 @@ fn check_list<R: WasmModuleResources>(
         part_before_later_global(ops, globals)
     };
     if known == ops.len() && may_be_body(ops) {
-        return check_whole(alloc, v, resources, ops, failure, end);
+        return check_whole(v, heights, resources, ops, failure, end);
     }
-    check_part(alloc, v, resources, ops, ordered_part(ops).min(known), end)
+    check_part(
+        v,
+        heights,
+        resources,
+        ops,
+        ordered_part(ops).min(known),
+        end,
+    )
 }
 
 /// Checks operators that can be those of a body.
 fn check_whole<R: WasmModuleResources>(
-    alloc: Global,
     v: &mut OperatorValidator,
+    heights: &mut Vec<(usize, usize)>,
     resources: &R,
     ops: &[(Op<'_>, u64)],
     failure: Option<ReadError>,
@@ -133,12 +141,12 @@ fn check_whole<R: WasmModuleResources>(
     requires starting { IsStarting (R.context resources.now) (state v.old) }
     requires ordered { is_well_ordered_list (without_offsets ops.now) ≡ true }
     requires immediates { list_all (λ (p : _). is_module_op p.0) ops.now ≡ true }
+    requires empty { heights.old.items ≡ [] }
     ensures whole { result ≡ Accepted → failure ≡ None }
     ensures safe { result ≡ Accepted → (ty : BlockType) → (state v.old).present ≡ start ty
         → IsSafeFrom (R.context resources.now) (state v.old) ops.now ty }
 {
-    let mut heights = Vec::new(alloc);
-    match check_ops(v, ops, resources, &mut heights) {
+    match check_ops(v, ops, resources, heights) {
         Err((_, refusal)) => Verdict::of_refusal(refusal),
         Ok(closed) => after_list(closed, failure, end),
     }
@@ -146,21 +154,21 @@ fn check_whole<R: WasmModuleResources>(
 
 /// Checks the first operators of a list, of which the next one is refused, if none of them is.
 fn check_part<R: WasmModuleResources>(
-    alloc: Global,
     v: &mut OperatorValidator,
+    heights: &mut Vec<(usize, usize)>,
     resources: &R,
     ops: &[(Op<'_>, u64)],
     length: usize,
     end: u64,
 ) -> Verdict
     requires starting { IsStarting (R.context resources.now) (state v.old) }
+    requires empty { heights.old.items ≡ [] }
     ensures { result ≢ Accepted }
 {
     if length <= ops.len() {
         let part = &ops[..length];
         if may_be_body(part) {
-            let mut heights = Vec::new(alloc);
-            if let Err((_, refusal)) = check_ops(v, part, resources, &mut heights) {
+            if let Err((_, refusal)) = check_ops(v, part, resources, heights) {
                 return Verdict::of_refusal(refusal);
             }
         }
@@ -205,17 +213,16 @@ fn start_expression<R: WasmModuleResources>(
 
 /// A validator of a body of this kind.
 fn start_body<R: WasmModuleResources>(
-    alloc: Global,
     resources: &R,
     features: &WasmFeatures,
     kind: BodyKind,
     offset: u64,
+    buffers: OperatorValidatorAllocations,
 ) -> Result<OperatorValidator, Error>
     ensures starting { IfOk result (λ validator. IsStarting (R.context resources.now) (state validator)) }
     ensures made { IfOk result (λ validator. IsBodyStart (R.context resources.now) features.now kind
         (state validator)) }
 {
-    let buffers = OperatorValidatorAllocations::new(alloc);
     match kind {
         BodyKind::Function(ty) => {
             OperatorValidator::new_func(ty, offset, features, resources, buffers)
@@ -226,18 +233,18 @@ fn start_body<R: WasmModuleResources>(
 
 /// A validator of a body of this kind, with all its locals.
 fn begin_body<R: WasmModuleResources>(
-    alloc: Global,
     resources: &R,
     features: &WasmFeatures,
     kind: BodyKind,
     offset: u64,
     locals: &[LocalGroup],
+    buffers: OperatorValidatorAllocations,
 ) -> Result<OperatorValidator, Error>
     ensures starting { IfOk result (λ validator. IsStarting (R.context resources.now) (state validator)) }
     ensures locals { IfOk result (λ validator. HasLocals (R.context resources.now) features.now kind
         locals.now (state validator)) }
 {
-    let mut validator = start_body(alloc, resources, features, kind, offset)?;
+    let mut validator = start_body(resources, features, kind, offset, buffers)?;
     for local in locals {
         validator.define_locals(local.offset, local.count, local.ty, resources)?;
     }
@@ -252,27 +259,40 @@ fn begin_body<R: WasmModuleResources>(
 /// what couldn't be read. `NotCovered`: a vector operator stands behind operators that are accepted.
 /// `OutOfMemory`: there was no memory for the check.
 pub fn check_body<R: WasmModuleResources>(
-    alloc: Global,
     resources: &R,
     features: &WasmFeatures,
     kind: BodyKind,
     globals: usize,
     body: &ReadBody<'_>,
+    buffers: &mut BodyBuffers,
 ) -> Verdict
     ensures whole { result ≡ Accepted → body.now.failure ≡ None }
     ensures safe { result ≡ Accepted → IsSafeBody (R.context resources.now) features.now kind
         body.now.locals.items body.now.operators.items }
 {
-    match begin_body(alloc, resources, features, kind, body.start, &body.locals) {
-        Ok(mut v) => check_list(
-            alloc,
-            &mut v,
-            resources,
-            &body.operators,
-            body.failure,
-            body.end,
-            globals,
-        ),
+    let allocations = buffers.take();
+    match begin_body(
+        resources,
+        features,
+        kind,
+        body.start,
+        &body.locals,
+        allocations,
+    ) {
+        Ok(mut v) => {
+            buffers.heights.clear();
+            let verdict = check_list(
+                &mut v,
+                &mut buffers.heights,
+                resources,
+                &body.operators,
+                body.failure,
+                body.end,
+                globals,
+            );
+            buffers.put_back(v);
+            verdict
+        }
         Err(refusal) => Verdict::of_refusal(refusal),
     }
 }

@@ -3,13 +3,15 @@
 #![tactic(auto)]
 
 mod body;
+mod buffers;
 mod loaded;
 mod read;
 mod report;
 
 pub use crate::body::check_body;
-pub use crate::loaded::LoadedModule;
+pub use crate::buffers::BodyBuffers;
+pub use crate::loaded::{CheckedBody, LoadedModule};
 pub use crate::read::{BodyKind, LocalGroup, ReadBody, read_expression, read_function};
 pub use crate::report::{Item, Verdict};
-pub use binary_modules::{FunctionNames, Place};
+pub use binary_modules::{ConstantExpression, FunctionNames, Place};
 pub use binary_operators::OperatorLists;

@@ -1,18 +1,20 @@
 //! A module whose bodies are to be checked.
 
-ghost use Rattle.std.specs.Prelude.{◌≡◌, None};
+ghost use Rattle.std.specs.Prelude.{◌≡◌, ◌≢◌, None};
 ghost use Rattle.validate_resources.specs.Kept.{declared_lists};
 ghost use Rattle.validate_resources.specs.Lists.{context_of};
-ghost use Rattle.module_check.specs.Safe.{IsSafeFunction};
+ghost use Rattle.module_check.specs.Safe.{IsSafeBody, IsSafeFunction};
+ghost use Rattle.module_check.specs.declared.read.BodyKind.TheVariants.{Expression};
 ghost use Rattle.module_check.specs.declared.report.Verdict.TheVariants.{Accepted};
 
 use crate::body::check_body;
+use crate::buffers::BodyBuffers;
 use crate::read::{BodyKind, ReadBody, read_expression, read_function};
-use crate::report::{Item, Verdict};
+use crate::report::Verdict;
 use binary_modules::{
     ByteRange, ConstantExpression, FunctionNames, Module, read_function_names, read_module,
 };
-use binary_numbers::{BinaryReader, ReadError};
+use binary_numbers::{BinaryReader, Fault, ReadError};
 use binary_operators::{CanonicalTypes, OperatorLists};
 use std::alloc::Global;
 use validate_resources::{ModuleLists, WasmModuleResources};
@@ -29,6 +31,28 @@ pub struct LoadedModule<'a> {
     bodies: Vec<ByteRange>,
     expressions: Vec<ConstantExpression>,
     names: Option<ByteRange>,
+}
+
+/// A body or a constant expression as far as it could be read, and what its check comes to.
+#[derive(Drop)]
+pub struct CheckedBody<'b> {
+    /// What was read.
+    pub body: ReadBody<'b>,
+    /// What its check comes to.
+    pub verdict: Verdict,
+}
+
+impl<'b> CheckedBody<'b> {
+    /// What isn't there to be read, refused with this text.
+    fn missing(alloc: Global, message: &'static str) -> CheckedBody<'b>
+        ensures { result.verdict ≢ Accepted }
+    {
+        let failure = ReadError::malformed(Fault::UnexpectedEnd, 0);
+        CheckedBody {
+            body: ReadBody::unread(alloc, failure),
+            verdict: Verdict::Refused(Error::new(message, 0)),
+        }
+    }
 }
 
 impl<'a> LoadedModule<'a> {
@@ -79,9 +103,9 @@ impl<'a> LoadedModule<'a> {
         self.bodies.len()
     }
 
-    /// How many constant expressions it has.
-    pub fn expressions(&self) -> usize {
-        self.expressions.len()
+    /// Its constant expressions.
+    pub fn expressions(&self) -> &[ConstantExpression] {
+        &self.expressions
     }
 
     /// For how many types an earlier, equal one stands.
@@ -99,8 +123,19 @@ impl<'a> LoadedModule<'a> {
     }
 
     /// The index of the function whose body is the one at this index.
-    pub fn function_of(&self, body: usize) -> usize {
-        self.imported_functions.saturating_add(body)
+    pub fn function_of(&self, body: usize) -> u32 {
+        let function = self.imported_functions.saturating_add(body);
+        u32::try_from(function).unwrap_or(u32::MAX)
+    }
+
+    /// The index of the body of the function at this index, or None where the module has none for it.
+    pub fn body_of(&self, function: u32) -> Option<usize> {
+        let body = (function as usize).checked_sub(self.imported_functions)?;
+        if body < self.bodies.len() {
+            Some(body)
+        } else {
+            None
+        }
     }
 
     /// The names of its functions, as far as they can be read. It refuses want of memory.
@@ -112,34 +147,33 @@ impl<'a> LoadedModule<'a> {
     }
 
     /// The name of the function at this index, among these names.
-    pub fn name_of(&self, names: &FunctionNames, function: usize) -> Option<&'a str> {
-        match u32::try_from(function) {
-            Ok(index) => names.of(self.bytes, index),
-            Err(_) => None,
-        }
+    pub fn name_of(&self, names: &FunctionNames, function: u32) -> Option<&'a str> {
+        names.of(self.bytes, function)
     }
 
-    /// Reads the body at this index into these lists, or answers None where there is none.
+    /// Reads the body of the function at this index into these lists, which are empty, or answers None where the
+    /// module has none for it.
     pub fn read_body<'b>(
         &self,
         alloc: Global,
-        index: usize,
+        function: u32,
         lists: &'b mut OperatorLists,
     ) -> Option<ReadBody<'b>> {
+        let index = self.body_of(function)?;
         let range = *self.bodies.get(index)?;
         let mut reader = BinaryReader::of_range(self.bytes, range)?;
         let canonical = CanonicalTypes::new(&self.canonical);
         Some(read_function(alloc, &mut reader, canonical, lists))
     }
 
-    /// Reads the constant expression at this index into these lists, or answers None where there is none.
+    /// Reads a constant expression of this module into these lists, which are empty, or answers None where the
+    /// module has no such bytes.
     pub fn read_expression<'b>(
         &self,
         alloc: Global,
-        index: usize,
+        expression: &ConstantExpression,
         lists: &'b mut OperatorLists,
     ) -> Option<ReadBody<'b>> {
-        let expression = self.expressions.get(index)?;
         let mut reader = BinaryReader::of_range(self.bytes, expression.range)?;
         let canonical = CanonicalTypes::new(&self.canonical);
         Some(read_expression(alloc, &mut reader, canonical, lists))
@@ -150,10 +184,10 @@ impl<'a> LoadedModule<'a> {
     /// function's own type and these locals make.
     pub fn check_function(
         &self,
-        alloc: Global,
         features: &WasmFeatures,
         function: u32,
         body: &ReadBody<'_>,
+        buffers: &mut BodyBuffers,
     ) -> Verdict
         ensures whole { result ≡ Accepted → body.now.failure ≡ None }
         ensures safe { result ≡ Accepted → IsSafeFunction (context_of (declared_lists self.now.lists))
@@ -161,12 +195,12 @@ impl<'a> LoadedModule<'a> {
     {
         match self.lists.type_index_of_function(function) {
             Some(ty) => check_body(
-                alloc,
                 &self.lists,
                 features,
                 BodyKind::Function(ty),
                 usize::MAX,
                 body,
+                buffers,
             ),
             None => Verdict::Refused(Error::new(
                 "unknown function: function index out of bounds",
@@ -175,44 +209,49 @@ impl<'a> LoadedModule<'a> {
         }
     }
 
-    /// Reads and checks the body at this index, of those that the module has.
-    pub fn check_body(
+    /// Reads the body of the function at this index into these lists, which are empty, and checks it as
+    /// [`LoadedModule::check_function`] does. It refuses where the module has no body for it.
+    pub fn check_body<'b>(
         &self,
         alloc: Global,
         features: &WasmFeatures,
-        index: usize,
-    ) -> (Item, Verdict) {
-        let function = self.function_of(index);
-        let mut lists = OperatorLists::new(alloc);
-        let verdict = match (
-            self.read_body(alloc, index, &mut lists),
-            u32::try_from(function),
-        ) {
-            (Some(body), Ok(number)) => self.check_function(alloc, features, number, &body),
-            _ => Verdict::Refused(Error::new("unknown function: function index out of bounds", 0)),
+        function: u32,
+        lists: &'b mut OperatorLists,
+        buffers: &mut BodyBuffers,
+    ) -> CheckedBody<'b>
+        ensures whole { result.verdict ≡ Accepted → result.body.failure ≡ None }
+        ensures safe { result.verdict ≡ Accepted
+            → IsSafeFunction (context_of (declared_lists self.now.lists)) features.now function
+            result.body.locals.items result.body.operators.items }
+    {
+        let Some(body) = self.read_body(alloc, function, lists) else {
+            return CheckedBody::missing(alloc, "unknown function: function index out of bounds");
         };
-        (Item::Function(function), verdict)
+        let verdict = self.check_function(features, function, &body, buffers);
+        CheckedBody { body, verdict }
     }
 
-    /// Reads and checks the constant expression at this index, or answers None where there is none.
-    pub fn check_expression(
+    /// Reads a constant expression of this module into these lists, which are empty, and checks it as
+    /// [`check_body`] does. It refuses one of which the module doesn't have the bytes.
+    pub fn check_expression<'b>(
         &self,
         alloc: Global,
         features: &WasmFeatures,
-        index: usize,
-    ) -> Option<(Item, Verdict)> {
-        let expression = *self.expressions.get(index)?;
-        let mut lists = OperatorLists::new(alloc);
-        let body = self.read_expression(alloc, index, &mut lists)?;
+        expression: &ConstantExpression,
+        lists: &'b mut OperatorLists,
+        buffers: &mut BodyBuffers,
+    ) -> CheckedBody<'b>
+        ensures whole { result.verdict ≡ Accepted → result.body.failure ≡ None }
+        ensures safe { result.verdict ≡ Accepted
+            → IsSafeBody (context_of (declared_lists self.now.lists)) features.now
+            (Expression expression.now.ty) result.body.locals.items result.body.operators.items }
+    {
+        let Some(body) = self.read_expression(alloc, expression, lists) else {
+            return CheckedBody::missing(alloc, "the expression is none of this module");
+        };
         let kind = BodyKind::Expression(expression.ty);
-        let verdict = check_body(
-            alloc,
-            &self.lists,
-            features,
-            kind,
-            expression.globals,
-            &body,
-        );
-        Some((Item::Expression(expression.place), verdict))
+        let globals = expression.globals;
+        let verdict = check_body(&self.lists, features, kind, globals, &body, buffers);
+        CheckedBody { body, verdict }
     }
 }

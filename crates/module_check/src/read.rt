@@ -120,3 +120,17 @@ pub fn read_expression<'a>(
         end: reader.offset(),
     }
 }
+
+impl<'a> ReadBody<'a> {
+    /// Where nothing could be read for this.
+    pub(crate) fn unread(alloc: Global, failure: ReadError) -> ReadBody<'a> {
+        let offset = failure.offset;
+        ReadBody {
+            locals: Vec::new(alloc),
+            operators: Vec::new(alloc),
+            failure: Some(failure),
+            start: offset,
+            end: offset,
+        }
+    }
+}

@@ -12,7 +12,7 @@ use validate_types::Error;
 #[derive(Clone, Copy, Debug, PartialEq, Eq)]
 pub enum Item {
     /// The body of the function at this index.
-    Function(usize),
+    Function(u32),
     /// A constant expression for this.
     Expression(Place),
 }

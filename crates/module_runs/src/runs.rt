@@ -1,6 +1,8 @@
 //! Checks of modules, and what they give.
 
-use module_check::{FunctionNames, Item, LoadedModule, Verdict};
+use module_check::{
+    BodyBuffers, ConstantExpression, FunctionNames, Item, LoadedModule, OperatorLists, Verdict,
+};
 use std::alloc::{AllocError, Global};
 use std::fmt::Write;
 use validate_types::{Flags, WasmFeatures};
@@ -41,6 +43,43 @@ fn write_item(
     write_verdict(text, verdict)
 }
 
+/// Writes what comes of a constant expression.
+fn write_expression(
+    alloc: Global,
+    text: &mut String,
+    module: &LoadedModule<'_>,
+    names: &FunctionNames,
+    expression: &ConstantExpression,
+    buffers: &mut BodyBuffers,
+) -> Result<(), AllocError> {
+    let features = WasmFeatures::all();
+    let mut lists = OperatorLists::new(alloc);
+    let checked = module.check_expression(alloc, &features, expression, &mut lists, buffers);
+    let item = Item::Expression(expression.place);
+    write_item(text, module, names, item, &checked.verdict)
+}
+
+/// Writes what comes of the body of a function.
+fn write_body(
+    alloc: Global,
+    text: &mut String,
+    module: &LoadedModule<'_>,
+    names: &FunctionNames,
+    function: u32,
+    buffers: &mut BodyBuffers,
+) -> Result<(), AllocError> {
+    let features = WasmFeatures::all();
+    let mut lists = OperatorLists::new(alloc);
+    let checked = module.check_body(alloc, &features, function, &mut lists, buffers);
+    write_item(
+        text,
+        module,
+        names,
+        Item::Function(function),
+        &checked.verdict,
+    )
+}
+
 /// Writes what comes of each constant expression and each body.
 fn write_module(
     alloc: Global,
@@ -51,15 +90,13 @@ fn write_module(
         Ok(names) => names,
         Err(_) => FunctionNames::new(alloc),
     };
-    let features = WasmFeatures::all();
-    for index in 0..module.expressions() {
-        if let Some((item, verdict)) = module.check_expression(alloc, &features, index) {
-            write_item(text, module, &names, item, &verdict)?;
-        }
+    let mut buffers = BodyBuffers::new(alloc);
+    for expression in module.expressions() {
+        write_expression(alloc, text, module, &names, expression, &mut buffers)?;
     }
     for index in 0..module.bodies() {
-        let (item, verdict) = module.check_body(alloc, &features, index);
-        write_item(text, module, &names, item, &verdict)?;
+        let function = module.function_of(index);
+        write_body(alloc, text, module, &names, function, &mut buffers)?;
     }
     let merged = module.merged();
     writeln!(text, "{merged} types equal to earlier ones")

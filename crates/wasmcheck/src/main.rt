@@ -6,13 +6,15 @@ mod options;
 mod print;
 mod program;
 
+use std::io::Write;
 use std::process::ExitCode;
 
 fn main(rt: HostRuntime) -> ExitCode {
     match program::run(&rt) {
         Ok(status) => ExitCode::from(status),
         Err(error) => {
-            let _ = eprintln!(rt; "wasmcheck: {error}");
+            let mut err = rt.stderr();
+            let _ = writeln!(err, "wasmcheck: {error}");
             ExitCode::from(program::FAILED)
         }
     }

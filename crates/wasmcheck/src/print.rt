@@ -18,7 +18,7 @@ pub enum Detail {
 
 /// How many bodies and expressions came to what.
 #[derive(Drop)]
-pub struct Counts {
+struct Counts {
     accepted: u64,
     refused: u64,
     not_covered: u64,
@@ -27,7 +27,7 @@ pub struct Counts {
 
 impl Counts {
     /// None so far.
-    pub fn new() -> Counts {
+    fn new() -> Counts {
         Counts {
             accepted: 0,
             refused: 0,
@@ -37,7 +37,7 @@ impl Counts {
     }
 
     /// Counts one more.
-    pub fn count(&mut self, verdict: &Verdict) {
+    fn count(&mut self, verdict: &Verdict) {
         match verdict {
             Verdict::Accepted => self.accepted = self.accepted.saturating_add(1),
             Verdict::Refused(_) => self.refused = self.refused.saturating_add(1),
@@ -47,7 +47,7 @@ impl Counts {
     }
 
     /// The status that they come to.
-    pub fn status(&self) -> u8 {
+    fn status(&self) -> u8 {
         if self.wants_memory > 0 {
             FAILED
         } else if self.refused > 0 {
@@ -60,7 +60,7 @@ impl Counts {
     }
 
     /// Prints them.
-    pub fn print<W: Write>(&self, out: &mut W) -> io::Result<()> {
+    fn print<W: Write>(&self, out: &mut W) -> io::Result<()> {
         let accepted = self.accepted;
         let refused = self.refused;
         let not_covered = self.not_covered;
@@ -74,22 +74,6 @@ impl Counts {
         }
         writeln!(out)
     }
-}
-
-/// Prints what an item is, with the function's name where it has one.
-fn print_item<W: Write>(
-    out: &mut W,
-    module: &LoadedModule<'_>,
-    names: &FunctionNames,
-    item: Item,
-) -> io::Result<()> {
-    write!(out, "{item}")?;
-    if let Item::Function(function) = item {
-        if let Some(name) = module.name_of(names, function) {
-            write!(out, " {name:?}")?;
-        }
-    }
-    Ok(())
 }
 
 /// Prints the rest of an item's line.
@@ -111,21 +95,65 @@ fn print_verdict<W: Write>(out: &mut W, verdict: &Verdict) -> io::Result<()> {
     }
 }
 
-/// Prints the line of an item, unless it is left out.
-pub fn print_line<W: Write>(
-    out: &mut W,
-    module: &LoadedModule<'_>,
-    names: &FunctionNames,
+/// What is told of a module.
+#[derive(Drop)]
+pub struct Report<'a, 'm> {
+    module: &'a LoadedModule<'m>,
+    names: FunctionNames,
     detail: Detail,
-    item: Item,
-    verdict: &Verdict,
-) -> io::Result<()> {
-    let is_accepted = matches!(verdict, Verdict::Accepted);
-    if detail == Detail::Last || (is_accepted && detail == Detail::Others) {
-        return Ok(());
+    counts: Counts,
+}
+
+impl<'a, 'm> Report<'a, 'm> {
+    /// Nothing so far, of a module with these names.
+    pub fn new(
+        module: &'a LoadedModule<'m>,
+        names: FunctionNames,
+        detail: Detail,
+    ) -> Report<'a, 'm> {
+        Report {
+            module,
+            names,
+            detail,
+            counts: Counts::new(),
+        }
     }
-    print_item(out, module, names, item)?;
-    print_verdict(out, verdict)
+
+    /// Prints what an item is, with the function's name where it has one.
+    fn print_item<W: Write>(&self, out: &mut W, item: Item) -> io::Result<()> {
+        write!(out, "{item}")?;
+        if let Item::Function(function) = item {
+            if let Some(name) = self.module.name_of(&self.names, function) {
+                write!(out, " {name:?}")?;
+            }
+        }
+        Ok(())
+    }
+
+    /// Whether there is a line for this verdict.
+    fn has_line(&self, verdict: &Verdict) -> bool {
+        match self.detail {
+            Detail::Last => false,
+            Detail::Others => !matches!(verdict, Verdict::Accepted),
+            Detail::Each => true,
+        }
+    }
+
+    /// Counts a verdict, and prints the line of its item, unless it is left out.
+    pub fn tell<W: Write>(&mut self, out: &mut W, item: Item, verdict: &Verdict) -> io::Result<()> {
+        self.counts.count(verdict);
+        if self.has_line(verdict) {
+            self.print_item(out, item)?;
+            print_verdict(out, verdict)?;
+        }
+        Ok(())
+    }
+
+    /// Prints the last line, and answers the status.
+    pub fn end<W: Write>(&self, out: &mut W) -> io::Result<u8> {
+        self.counts.print(out)?;
+        Ok(self.counts.status())
+    }
 }
 
 /// Prints why the module as a whole isn't checked, and answers the status.

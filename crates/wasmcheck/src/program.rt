@@ -1,8 +1,8 @@
 //! The run of the program.
 
 use crate::options::{Options, Wish, read_options};
-use crate::print::{Counts, Detail, print_line, print_module_verdict};
-use module_check::{FunctionNames, LoadedModule};
+use crate::print::{Detail, Report, print_module_verdict};
+use module_check::{BodyBuffers, Item, LoadedModule, OperatorLists, Verdict};
 use std::alloc::Global;
 use std::io::{BufWriter, IsTerminal, Read, Write};
 use std::{fs, io};
@@ -45,7 +45,7 @@ Status: 0 each is accepted; 1 one is refused; 2 no module, or words that aren't 
 ";
 
 /// The version of the program.
-const VERSION: &str = "wasmcheck 0.1.0, the operator validator of wasmparser 0.263.0";
+const VERSION: &str = "wasmcheck 0.1.0, the operator validator of wasmparser 0.263.0\n";
 
 /// What an acceptance doesn't say.
 const NOT_CHECKED: &str =
@@ -69,16 +69,14 @@ fn check_expressions<W: Write>(
     alloc: Global,
     out: &mut W,
     module: &LoadedModule<'_>,
-    names: &FunctionNames,
     features: &WasmFeatures,
-    detail: Detail,
-    counts: &mut Counts,
+    buffers: &mut BodyBuffers,
+    report: &mut Report<'_, '_>,
 ) -> io::Result<()> {
-    for index in 0..module.expressions() {
-        if let Some((item, verdict)) = module.check_expression(alloc, features, index) {
-            counts.count(&verdict);
-            print_line(out, module, names, detail, item, &verdict)?;
-        }
+    for expression in module.expressions() {
+        let mut lists = OperatorLists::new(alloc);
+        let checked = module.check_expression(alloc, features, expression, &mut lists, buffers);
+        report.tell(out, Item::Expression(expression.place), &checked.verdict)?;
     }
     Ok(())
 }
@@ -98,17 +96,17 @@ fn check_bodies<W: Write>(
     rt: &HostRuntime,
     out: &mut W,
     module: &LoadedModule<'_>,
-    names: &FunctionNames,
     features: &WasmFeatures,
-    detail: Detail,
-    counts: &mut Counts,
+    buffers: &mut BodyBuffers,
+    report: &mut Report<'_, '_>,
 ) -> io::Result<()> {
     let all = module.bodies();
     for index in 0..all {
         tell_progress(rt, index, all);
-        let (item, verdict) = module.check_body(rt.alloc(), features, index);
-        counts.count(&verdict);
-        print_line(out, module, names, detail, item, &verdict)?;
+        let function = module.function_of(index);
+        let mut lists = OperatorLists::new(rt.alloc());
+        let checked = module.check_body(rt.alloc(), features, function, &mut lists, buffers);
+        report.tell(out, Item::Function(function), &checked.verdict)?;
     }
     Ok(())
 }
@@ -121,23 +119,14 @@ fn check_module<W: Write>(
     features: &WasmFeatures,
     detail: Detail,
 ) -> io::Result<u8> {
-    let names = match module.names(rt.alloc()) {
-        Ok(names) => names,
-        Err(_) => FunctionNames::new(rt.alloc()),
+    let Ok(names) = module.names(rt.alloc()) else {
+        return print_module_verdict(out, &Verdict::OutOfMemory);
     };
-    let mut counts = Counts::new();
-    check_expressions(
-        rt.alloc(),
-        out,
-        module,
-        &names,
-        features,
-        detail,
-        &mut counts,
-    )?;
-    check_bodies(rt, out, module, &names, features, detail, &mut counts)?;
-    counts.print(out)?;
-    Ok(counts.status())
+    let mut report = Report::new(module, names, detail);
+    let mut buffers = BodyBuffers::new(rt.alloc());
+    check_expressions(rt.alloc(), out, module, features, &mut buffers, &mut report)?;
+    check_bodies(rt, out, module, features, &mut buffers, &mut report)?;
+    report.end(out)
 }
 
 /// How much is printed.
@@ -179,14 +168,21 @@ fn doubt(input: &[u8]) -> Option<&'static str> {
 fn check(rt: &HostRuntime, options: &Options) -> io::Result<u8> {
     let mut out = BufWriter::new(rt.alloc(), io::writer(rt))?;
     let input = read_input(rt, &options.file)?;
+    let mut err = rt.stderr();
     if let Some(text) = doubt(&input) {
-        eprintln!(rt; "wasmcheck: {text}")?;
+        writeln!(err, "wasmcheck: {text}")?;
     }
     let status = check_input(rt, &mut out, options, &input)?;
     out.flush()?;
     if !options.quiet && (status == ACCEPTED || status == NOT_COVERED) {
-        eprintln!(rt; "{NOT_CHECKED}")?;
+        writeln!(err, "{NOT_CHECKED}")?;
     }
+    Ok(status)
+}
+
+/// Writes a text, and answers the status.
+fn write_text<W: Write + Drop>(mut out: W, text: &str, status: u8) -> io::Result<u8> {
+    out.write_all(text.as_bytes())?;
     Ok(status)
 }
 
@@ -195,17 +191,8 @@ pub fn run(rt: &HostRuntime) -> io::Result<u8> {
     let options = read_options(rt)?;
     match options.wish {
         Wish::Check => check(rt, &options),
-        Wish::Help => {
-            print!(rt; "{HELP}")?;
-            Ok(ACCEPTED)
-        }
-        Wish::Version => {
-            println!(rt; "{VERSION}")?;
-            Ok(ACCEPTED)
-        }
-        Wish::Unknown => {
-            eprint!(rt; "{HELP}")?;
-            Ok(NO_MODULE)
-        }
+        Wish::Help => write_text(rt.stdout(), HELP, ACCEPTED),
+        Wish::Version => write_text(rt.stdout(), VERSION, ACCEPTED),
+        Wish::Unknown => write_text(rt.stderr(), HELP, NO_MODULE),
     }
 }

@@ -1,0 +1,65 @@
+//! The check of a binary module for programs in C or Rust: a static library. What its callers keep to, and the
+//! three functions that it takes its memory by, stand in `ffi/tansyattic.h` (docs/MODULES.md).
+#![tactic(auto)]
+
+mod check;
+mod verdict;
+
+ghost use Rattle.std.specs.Prelude.{◌≡◌, length};
+ghost use Rattle.tansyattic.specs.Told.{IsTold};
+
+use crate::check::{check_all, check_one};
+use crate::verdict::TansyatticVerdict;
+use module_check::LoadedModule;
+use std::alloc::Global;
+
+/// The version of the library.
+const VERSION: u32 = 0x00_01_00;
+
+/// The version of the library: 65,536 times the major number, 256 times the minor one, and the patch.
+#[unsafe(no_mangle)]
+pub extern "C" fn tansyattic_version() -> u32 {
+    VERSION
+}
+
+/// Checks each body and each constant expression of a module, of which these are all the bytes. It writes what
+/// they come to, and of the first that weighs most the text, as much as there is room for; it answers the
+/// status.
+#[unsafe(no_mangle)]
+pub extern "C" fn tansyattic_validate(
+    alloc: Global,
+    bytes: &[u8],
+    text: &mut [u8],
+    out: &mut TansyatticVerdict,
+) -> u32
+    ensures status { result ≡ out.new.status }
+    ensures told { IsTold (length text.new) out.new }
+{
+    *out = TansyatticVerdict::new();
+    match LoadedModule::new(alloc, bytes) {
+        Ok(module) => check_all(alloc, &module, text, out),
+        Err(verdict) => out.note_module(&verdict, text),
+    }
+    out.status
+}
+
+/// Checks the body of the function at this index, the imported ones counted, of a module of which these are all
+/// the bytes, as [`tansyattic_validate`] does. The sections of the module are read on each call.
+#[unsafe(no_mangle)]
+pub extern "C" fn tansyattic_validate_function(
+    alloc: Global,
+    bytes: &[u8],
+    function: u32,
+    text: &mut [u8],
+    out: &mut TansyatticVerdict,
+) -> u32
+    ensures status { result ≡ out.new.status }
+    ensures told { IsTold (length text.new) out.new }
+{
+    *out = TansyatticVerdict::new();
+    match LoadedModule::new(alloc, bytes) {
+        Ok(module) => check_one(alloc, &module, function, text, out),
+        Err(verdict) => out.note_module(&verdict, text),
+    }
+    out.status
+}

@@ -2,14 +2,14 @@
 //! constant expressions stand.
 #![tactic(auto)]
 
-pub mod equal;
-pub mod groups;
-pub mod module;
-pub mod names;
-pub mod sections;
-pub mod segments;
-pub mod subtypes;
-pub mod words;
+mod equal;
+mod groups;
+mod module;
+mod names;
+mod sections;
+mod segments;
+mod subtypes;
+mod words;
 
 pub use crate::module::{ConstantExpression, Module, Place};
 pub use crate::names::{FunctionNames, read_function_names};

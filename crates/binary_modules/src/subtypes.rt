@@ -81,7 +81,9 @@ fn read_struct_type(
     Ok(StructType { fields })
 }
 
-fn read_inner(
+/// The type behind what it declares of supertypes, sharedness and descriptors: of a function, a struct, an array or a
+/// continuation.
+fn read_composite_inner_type(
     alloc: Global,
     reader: &mut BinaryReader<'_>,
     canonical: CanonicalTypes<'_>,
@@ -158,7 +160,7 @@ fn read_composite_type(
     let shared = read_shared(reader)?;
     let describes_idx = read_marked_index(reader, canonical, 0x4c)?;
     let descriptor_idx = read_marked_index(reader, canonical, 0x4d)?;
-    let inner = read_inner(alloc, reader, canonical)?;
+    let inner = read_composite_inner_type(alloc, reader, canonical)?;
     Ok(CompositeType {
         inner,
         shared,

@@ -50,7 +50,7 @@ fn of_field(number: u32, field: FieldIndex) -> Option<Op<'static>> {
 }
 
 /// The operator of this number, if its immediates are the index of a type and another number.
-fn of_type_and(number: u32, array_type_index: u32, other: u32) -> Option<Op<'static>> {
+fn of_type_and_number(number: u32, array_type_index: u32, other: u32) -> Option<Op<'static>> {
     match number {
         8 => Some(Op::Array(ArrayOp::ArrayNewFixed {
             array_type_index,
@@ -132,7 +132,7 @@ pub fn read_garbage(
             found(of_type(number, canonical.of(index)), offset)
         }
         2..=5 => read_of_field(reader, canonical, number, offset),
-        8..=10 | 17..=19 => read_of_type_and(reader, canonical, number, offset),
+        8..=10 | 17..=19 => read_of_type_and_number(reader, canonical, number, offset),
         20..=23 | 35 | 36 => {
             let heap_type = read_heap_type(reader, canonical)?;
             found(of_heap_type(number, heap_type), offset)
@@ -160,7 +160,7 @@ fn read_of_field(
     found(of_field(number, field), offset)
 }
 
-fn read_of_type_and(
+fn read_of_type_and_number(
     reader: &mut BinaryReader<'_>,
     canonical: CanonicalTypes<'_>,
     number: u32,
@@ -174,5 +174,8 @@ fn read_of_type_and(
             array_type_index_src: canonical.of(other),
         }));
     }
-    found(of_type_and(number, canonical.of(index), other), offset)
+    found(
+        of_type_and_number(number, canonical.of(index), other),
+        offset,
+    )
 }

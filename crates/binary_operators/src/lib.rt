@@ -1,17 +1,17 @@
 //! The operators of a binary module by their codes, with the types and the lists in their immediates.
 #![tactic(auto)]
 
-pub mod atomics;
-pub mod blocks;
-pub mod control;
-pub mod garbage;
-pub mod lists;
-pub mod memory;
-pub mod numeric;
-pub mod operators;
-pub mod prefixed;
-pub mod typed;
-pub mod types;
+mod atomics;
+mod blocks;
+mod control;
+mod garbage;
+mod lists;
+mod memory;
+mod numeric;
+mod operators;
+mod prefixed;
+mod typed;
+mod types;
 
 pub use crate::blocks::read_value_types;
 pub use crate::lists::{OperatorLists, lend};

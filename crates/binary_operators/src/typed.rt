@@ -16,7 +16,7 @@ fn of_type(code: u8, index: u32) -> Option<Op<'static>> {
 }
 
 /// The operator of this code, if its immediates are the index of a type and another index.
-fn of_type_and(code: u8, type_index: u32, index: u32) -> Option<Op<'static>> {
+fn of_type_and_index(code: u8, type_index: u32, index: u32) -> Option<Op<'static>> {
     match code {
         0x11 => Some(Op::Control(ControlOp::CallIndirect {
             type_index,
@@ -45,10 +45,13 @@ pub fn read_typed(
         let index = reader.read_var_u32()?;
         return found(of_type(code, canonical.of(index)), offset);
     }
-    if of_type_and(code, 0, 0).is_some() {
+    if of_type_and_index(code, 0, 0).is_some() {
         let type_index = reader.read_var_u32()?;
         let index = reader.read_var_u32()?;
-        return found(of_type_and(code, canonical.of(type_index), index), offset);
+        return found(
+            of_type_and_index(code, canonical.of(type_index), index),
+            offset,
+        );
     }
     if code == 0xe1 {
         let argument_index = canonical.of(reader.read_var_u32()?);

@@ -113,15 +113,6 @@ impl<'a> LoadedModule<'a> {
         self.merged
     }
 
-    /// The bytes of all bodies, which is what the checks go over.
-    pub fn bytes_of_bodies(&self) -> usize {
-        let mut count = 0usize;
-        for range in self.bodies.iter() {
-            count = count.saturating_add(range.end.saturating_sub(range.start));
-        }
-        count
-    }
-
     /// The index of the function whose body is the one at this index.
     pub fn function_of(&self, body: usize) -> u32 {
         let function = self.imported_functions.saturating_add(body);

@@ -1,6 +1,6 @@
 -- What the check of a script answers (the crate's own).
 use Rattle.std.specs.Prelude.{◌≡◌, ◌⊎◌, ◌↔◌, ℕ, Bool, true, false, IsTrue, List, [], Some, Result, Ok, Err}
-use Rattle.std.specs.Prelude.{length, ◌&&◌, ◌||◌, Option, None, IsSome, IfSome, OnOk, IfOk, IfErr}
+use Rattle.std.specs.Prelude.{length, ◌&&◌, ◌||◌, None, IsSome, IfSome, OnOk, IfOk, IfErr}
 use Rattle.std.specs.List.{list_all, list_any}
 use Rattle.wasmparser_validate.specs.Refusal.{Refusal}
 use Rattle.wasmparser_validate.specs.WasmFeatures.{WasmFeatures}

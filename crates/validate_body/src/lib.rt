@@ -2,12 +2,12 @@
 //! of type safety.
 #![tactic(auto)]
 
-pub mod attempts;
-pub mod check;
+mod attempts;
+mod check;
 pub mod first_set;
-pub mod proposal;
-pub mod safety;
-pub mod validator;
+mod proposal;
+mod safety;
+mod validator;
 
 pub use crate::attempts::{try_and_undo, try_op};
 pub use crate::check::check_ops;

@@ -14,10 +14,6 @@ ghost use Rattle.validate_operators.specs.Memory.{TakesNoMemory};
 ghost use Rattle.validate_body.specs.Start.{state, current_kind, stacks_of};
 
 use crate::validator::OperatorValidator;
-use validate_operators::{
-    check_array, check_atomic, check_continuation, check_control, check_convert, check_exception,
-    check_memory, check_numeric, check_reference, check_shared, check_struct, check_table,
-};
 use validate_resources::WasmModuleResources;
 use validate_resources::kinds::func_type_of;
 use validate_stacks::Pops;
@@ -166,7 +162,7 @@ impl<'validator, 'resources, R: WasmModuleResources> WasmProposalValidator<
         ensures memory { TakesNoMemory (R.context self.old.resources.now) (Op.Control op.entry)
             (state self.old.inner.now) result }
     {
-        check_control(&mut self.inner.stacks, self.resources, self.offset, op)
+        self.check(Op::Control(op))
     }
 
     /// The check of an operator on numbers.
@@ -179,7 +175,7 @@ impl<'validator, 'resources, R: WasmModuleResources> WasmProposalValidator<
         ensures row { Meets (R.context self.old.resources.now) (λ cx. operator cx (Op.Numeric op))
             self.old.offset (state self.old.inner.now) result (state self.new.inner.now) }
     {
-        check_numeric(&mut self.inner.stacks, self.resources, self.offset, op)
+        self.check(Op::Numeric(op))
     }
 
     /// The check of a conversion.
@@ -192,7 +188,7 @@ impl<'validator, 'resources, R: WasmModuleResources> WasmProposalValidator<
         ensures row { Meets (R.context self.old.resources.now) (λ cx. operator cx (Op.Convert op))
             self.old.offset (state self.old.inner.now) result (state self.new.inner.now) }
     {
-        check_convert(&mut self.inner.stacks, self.resources, self.offset, op)
+        self.check(Op::Convert(op))
     }
 
     /// The check of an operator on memories.
@@ -205,7 +201,7 @@ impl<'validator, 'resources, R: WasmModuleResources> WasmProposalValidator<
         ensures row { Meets (R.context self.old.resources.now) (λ cx. operator cx (Op.Memory op))
             self.old.offset (state self.old.inner.now) result (state self.new.inner.now) }
     {
-        check_memory(&mut self.inner.stacks, self.resources, self.offset, op)
+        self.check(Op::Memory(op))
     }
 
     /// The check of an atomic operator.
@@ -218,7 +214,7 @@ impl<'validator, 'resources, R: WasmModuleResources> WasmProposalValidator<
         ensures row { Meets (R.context self.old.resources.now) (λ cx. operator cx (Op.Atomic op))
             self.old.offset (state self.old.inner.now) result (state self.new.inner.now) }
     {
-        check_atomic(&mut self.inner.stacks, self.resources, self.offset, op)
+        self.check(Op::Atomic(op))
     }
 
     /// The check of an operator on references.
@@ -231,7 +227,7 @@ impl<'validator, 'resources, R: WasmModuleResources> WasmProposalValidator<
         ensures row { Meets (R.context self.old.resources.now) (λ cx. operator cx (Op.Reference op))
             self.old.offset (state self.old.inner.now) result (state self.new.inner.now) }
     {
-        check_reference(&mut self.inner.stacks, self.resources, self.offset, op)
+        self.check(Op::Reference(op))
     }
 
     /// The check of an operator on tables.
@@ -244,7 +240,7 @@ impl<'validator, 'resources, R: WasmModuleResources> WasmProposalValidator<
         ensures row { Meets (R.context self.old.resources.now) (λ cx. operator cx (Op.Table op))
             self.old.offset (state self.old.inner.now) result (state self.new.inner.now) }
     {
-        check_table(&mut self.inner.stacks, self.resources, self.offset, op)
+        self.check(Op::Table(op))
     }
 
     /// The check of an operator on structs.
@@ -257,7 +253,7 @@ impl<'validator, 'resources, R: WasmModuleResources> WasmProposalValidator<
         ensures row { Meets (R.context self.old.resources.now) (λ cx. operator cx (Op.Struct op))
             self.old.offset (state self.old.inner.now) result (state self.new.inner.now) }
     {
-        check_struct(&mut self.inner.stacks, self.resources, self.offset, op)
+        self.check(Op::Struct(op))
     }
 
     /// The check of an operator on continuations.
@@ -271,7 +267,7 @@ impl<'validator, 'resources, R: WasmModuleResources> WasmProposalValidator<
             (λ cx. operator cx (Op.Continuation op.entry)) self.old.offset (state self.old.inner.now) result
             (state self.new.inner.now) }
     {
-        check_continuation(&mut self.inner.stacks, self.resources, self.offset, op)
+        self.check(Op::Continuation(op))
     }
 
     /// The check of an operator of shared-everything threads.
@@ -284,7 +280,7 @@ impl<'validator, 'resources, R: WasmModuleResources> WasmProposalValidator<
         ensures row { Meets (R.context self.old.resources.now) (λ cx. operator cx (Op.Shared op))
             self.old.offset (state self.old.inner.now) result (state self.new.inner.now) }
     {
-        check_shared(&mut self.inner.stacks, self.resources, self.offset, op)
+        self.check(Op::Shared(op))
     }
 
     /// The check of an operator on arrays.
@@ -297,7 +293,7 @@ impl<'validator, 'resources, R: WasmModuleResources> WasmProposalValidator<
         ensures row { Meets (R.context self.old.resources.now) (λ cx. operator cx (Op.Array op))
             self.old.offset (state self.old.inner.now) result (state self.new.inner.now) }
     {
-        check_array(&mut self.inner.stacks, self.resources, self.offset, op)
+        self.check(Op::Array(op))
     }
 
     /// The check of an operator on exceptions.
@@ -312,7 +308,7 @@ impl<'validator, 'resources, R: WasmModuleResources> WasmProposalValidator<
         ensures memory { TakesNoMemory (R.context self.old.resources.now) (Op.Exception op.entry)
             (state self.old.inner.now) result }
     {
-        check_exception(&mut self.inner.stacks, self.resources, self.offset, op)
+        self.check(Op::Exception(op))
     }
 
     /// Pops `n` operands of this type, and ticks for each pop that it tries, also for one that is refused:

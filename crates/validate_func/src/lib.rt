@@ -2,8 +2,8 @@
 //! operands between operators.
 #![tactic(auto)]
 
-pub mod function;
-pub mod operands;
+mod function;
+mod operands;
 
 pub use crate::function::FuncValidator;
 pub use crate::operands::operands_before;

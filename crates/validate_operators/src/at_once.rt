@@ -7,7 +7,9 @@ ghost use Rattle.validate_stacks.specs.Visits.{MayVisit};
 
 use validate_resources::WasmModuleResources;
 use validate_rows::branches::{br_at_once, br_if_at_once, return_at_once};
-use validate_rows::control::{end_at_once, nop_at_once, unreachable_at_once};
+use validate_rows::calls::call_at_once;
+use validate_rows::control::{else_at_once, end_at_once, nop_at_once, unreachable_at_once};
+use validate_rows::globals::{global_get_at_once, global_set_at_once};
 use validate_rows::memory::memory_at_once;
 use validate_rows::numeric::{convert_at_once, numeric_at_once};
 use validate_rows::parametric::drop_at_once;
@@ -19,7 +21,11 @@ use validate_visit::{ControlOp, ConvertOp, FrameKind, MemoryOp, NumericOp, Op};
 
 /// An operator on numbers, behind its gate.
 #[inline(always)]
-fn number_at_once<R: WasmModuleResources>(stacks: &mut Stacks, resources: &R, op: NumericOp) -> bool
+fn gated_numeric_at_once<R: WasmModuleResources>(
+    stacks: &mut Stacks,
+    resources: &R,
+    op: NumericOp,
+) -> bool
     requires { MayVisit (R.context resources.now) stacks.old }
     ensures { MeetsAtOnce (R.context resources.now) (λ cx. operator cx (Op.Numeric op)) stacks.old result
         stacks.new }
@@ -32,7 +38,7 @@ fn number_at_once<R: WasmModuleResources>(stacks: &mut Stacks, resources: &R, op
 
 /// A conversion, behind its gate.
 #[inline(always)]
-fn conversion_at_once<R: WasmModuleResources>(
+fn gated_convert_at_once<R: WasmModuleResources>(
     stacks: &mut Stacks,
     resources: &R,
     op: ConvertOp,
@@ -47,7 +53,7 @@ fn conversion_at_once<R: WasmModuleResources>(
     convert_at_once(stacks, resources, op)
 }
 
-/// An operator on control or locals, its gate aside.
+/// An operator on control, locals or globals, its gate aside.
 #[inline(always)]
 fn control_at_once<R: WasmModuleResources>(
     stacks: &mut Stacks,
@@ -66,21 +72,25 @@ fn control_at_once<R: WasmModuleResources>(
         ControlOp::If(ty) => {
             opener_at_once(stacks, resources, FrameKind::If, Some(ValType::I32), ty)
         }
+        ControlOp::Else => else_at_once(stacks, resources),
         ControlOp::End => end_at_once(stacks, resources),
         ControlOp::Br(relative_depth) => br_at_once(stacks, resources, relative_depth),
         ControlOp::BrIf(relative_depth) => br_if_at_once(stacks, resources, relative_depth),
         ControlOp::Return => return_at_once(stacks, resources),
+        ControlOp::Call(function_index) => call_at_once(stacks, resources, function_index),
         ControlOp::Drop => drop_at_once(stacks, resources),
         ControlOp::LocalGet(local_index) => local_get_at_once(stacks, resources, local_index),
         ControlOp::LocalSet(local_index) => local_set_at_once(stacks, resources, local_index),
         ControlOp::LocalTee(local_index) => local_tee_at_once(stacks, resources, local_index),
+        ControlOp::GlobalGet(global_index) => global_get_at_once(stacks, resources, global_index),
+        ControlOp::GlobalSet(global_index) => global_set_at_once(stacks, resources, global_index),
         _ => false,
     }
 }
 
-/// An operator on control or locals, behind its gate.
+/// An operator on control, locals or globals, behind its gate.
 #[inline(always)]
-fn any_control_at_once<R: WasmModuleResources>(
+fn gated_control_at_once<R: WasmModuleResources>(
     stacks: &mut Stacks,
     resources: &R,
     op: ControlOp,
@@ -97,7 +107,11 @@ fn any_control_at_once<R: WasmModuleResources>(
 
 /// A load or a store of a memory, behind its gate.
 #[inline(always)]
-fn access_at_once<R: WasmModuleResources>(stacks: &mut Stacks, resources: &R, op: MemoryOp) -> bool
+fn gated_memory_at_once<R: WasmModuleResources>(
+    stacks: &mut Stacks,
+    resources: &R,
+    op: MemoryOp,
+) -> bool
     requires { MayVisit (R.context resources.now) stacks.old }
     ensures { MeetsAtOnce (R.context resources.now) (λ cx. operator cx (Op.Memory op)) stacks.old result
         stacks.new }
@@ -108,7 +122,7 @@ fn access_at_once<R: WasmModuleResources>(stacks: &mut Stacks, resources: &R, op
     memory_at_once(stacks, resources, op)
 }
 
-/// The check of an operator that passes at once, as most do. False, with nothing changed, where it takes more:
+/// The check of an operator, where it passes at once, as most do. False, with nothing changed, where it takes its check:
 /// an attempt is pending, memory is wanted, a reference is found, or the operator is refused.
 #[inline(always)]
 pub fn operator_at_once<R: WasmModuleResources>(stacks: &mut Stacks, resources: &R, op: &Op) -> bool
@@ -116,10 +130,10 @@ pub fn operator_at_once<R: WasmModuleResources>(stacks: &mut Stacks, resources: 
     ensures { MeetsAtOnce (R.context resources.now) (λ cx. operator cx op.now) stacks.old result stacks.new }
 {
     match *op {
-        Op::Control(op) => any_control_at_once(stacks, resources, op),
-        Op::Numeric(op) => number_at_once(stacks, resources, op),
-        Op::Convert(op) => conversion_at_once(stacks, resources, op),
-        Op::Memory(op) => access_at_once(stacks, resources, op),
+        Op::Control(op) => gated_control_at_once(stacks, resources, op),
+        Op::Numeric(op) => gated_numeric_at_once(stacks, resources, op),
+        Op::Convert(op) => gated_convert_at_once(stacks, resources, op),
+        Op::Memory(op) => gated_memory_at_once(stacks, resources, op),
         _ => false,
     }
 }

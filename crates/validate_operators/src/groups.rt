@@ -133,8 +133,7 @@ fn check_control_operator<R: WasmModuleResources>(
 
 /// The check of an operator on control, locals or globals: accepted exactly where its row holds, memory
 /// aside, with the static step. A refusal carries the offset.
-#[inline(always)]
-pub fn check_control<R: WasmModuleResources>(
+pub(crate) fn check_control<R: WasmModuleResources>(
     stacks: &mut Stacks,
     resources: &R,
     offset: u64,
@@ -151,8 +150,7 @@ pub fn check_control<R: WasmModuleResources>(
 
 /// The check of an operator on numbers of one type, or of a constant: accepted exactly where its row
 /// holds, memory aside, with the static step. A refusal carries the offset.
-#[inline(always)]
-pub fn check_numeric<R: WasmModuleResources>(
+pub(crate) fn check_numeric<R: WasmModuleResources>(
     stacks: &mut Stacks,
     resources: &R,
     offset: u64,
@@ -168,8 +166,7 @@ pub fn check_numeric<R: WasmModuleResources>(
 
 /// The check of a conversion, or of an extension of a sign: accepted exactly where its row holds,
 /// memory aside, with the static step. A refusal carries the offset.
-#[inline(always)]
-pub fn check_convert<R: WasmModuleResources>(
+pub(crate) fn check_convert<R: WasmModuleResources>(
     stacks: &mut Stacks,
     resources: &R,
     offset: u64,
@@ -185,8 +182,7 @@ pub fn check_convert<R: WasmModuleResources>(
 
 /// The check of an operator on memories: accepted exactly where its row holds, memory aside, with the
 /// static step. A refusal carries the offset.
-#[inline(always)]
-pub fn check_memory<R: WasmModuleResources>(
+pub(crate) fn check_memory<R: WasmModuleResources>(
     stacks: &mut Stacks,
     resources: &R,
     offset: u64,
@@ -202,7 +198,7 @@ pub fn check_memory<R: WasmModuleResources>(
 
 /// The check of an atomic operator on memories: accepted exactly where its row holds, memory aside,
 /// with the static step. A refusal carries the offset.
-pub fn check_atomic<R: WasmModuleResources>(
+pub(crate) fn check_atomic<R: WasmModuleResources>(
     stacks: &mut Stacks,
     resources: &R,
     offset: u64,
@@ -309,7 +305,7 @@ fn check_gc_reference_row<R: WasmModuleResources>(
 
 /// The check of an operator on references: accepted exactly where its row holds, memory aside, with the
 /// static step. A refusal carries the offset.
-pub fn check_reference<R: WasmModuleResources>(
+pub(crate) fn check_reference<R: WasmModuleResources>(
     stacks: &mut Stacks,
     resources: &R,
     offset: u64,
@@ -325,7 +321,7 @@ pub fn check_reference<R: WasmModuleResources>(
 
 /// The check of an operator on tables: accepted exactly where its row holds, memory aside, with the
 /// static step. A refusal carries the offset.
-pub fn check_table<R: WasmModuleResources>(
+pub(crate) fn check_table<R: WasmModuleResources>(
     stacks: &mut Stacks,
     resources: &R,
     offset: u64,
@@ -341,7 +337,7 @@ pub fn check_table<R: WasmModuleResources>(
 
 /// The check of an operator on structs: accepted exactly where its row holds, memory aside, with the
 /// static step. A refusal carries the offset.
-pub fn check_struct<R: WasmModuleResources>(
+pub(crate) fn check_struct<R: WasmModuleResources>(
     stacks: &mut Stacks,
     resources: &R,
     offset: u64,
@@ -357,7 +353,7 @@ pub fn check_struct<R: WasmModuleResources>(
 
 /// The check of an operator on arrays: accepted exactly where its row holds, memory aside, with the
 /// static step. A refusal carries the offset.
-pub fn check_array<R: WasmModuleResources>(
+pub(crate) fn check_array<R: WasmModuleResources>(
     stacks: &mut Stacks,
     resources: &R,
     offset: u64,
@@ -403,7 +399,7 @@ fn check_exception_operator<R: WasmModuleResources>(
 
 /// The check of an operator on exceptions: accepted exactly where its row holds, memory aside, with the
 /// static step. A refusal carries the offset.
-pub fn check_exception<R: WasmModuleResources>(
+pub(crate) fn check_exception<R: WasmModuleResources>(
     stacks: &mut Stacks,
     resources: &R,
     offset: u64,
@@ -420,7 +416,7 @@ pub fn check_exception<R: WasmModuleResources>(
 
 /// The check of an operator on continuations: accepted exactly where its row holds, memory aside, with the
 /// static step. A refusal carries the offset.
-pub fn check_continuation<R: WasmModuleResources>(
+pub(crate) fn check_continuation<R: WasmModuleResources>(
     stacks: &mut Stacks,
     resources: &R,
     offset: u64,
@@ -436,7 +432,7 @@ pub fn check_continuation<R: WasmModuleResources>(
 
 /// The check of an operator of shared-everything threads: accepted exactly where its row holds, memory
 /// aside, with the static step. A refusal carries the offset.
-pub fn check_shared<R: WasmModuleResources>(
+pub(crate) fn check_shared<R: WasmModuleResources>(
     stacks: &mut Stacks,
     resources: &R,
     offset: u64,

@@ -12,13 +12,12 @@ use crate::groups::{
 use validate_resources::WasmModuleResources;
 use validate_stacks::Stacks;
 use validate_types::Error;
-use validate_visit::{ConvertOp, NumericOp, Op};
+use validate_visit::Op;
 
 /// The check of an operator at this offset: accepted exactly where its row holds, memory aside, with the
 /// static step. A refusal carries the offset. A frame has to be open.
 ///
-/// Most operators pass at once, by the look of [`operator_at_once`]. The others take the check of their group, out of
-/// line.
+/// Most operators pass at once ([`operator_at_once`]). The others take the check of their group.
 #[inline(always)]
 pub fn check_operator<R: WasmModuleResources>(
     stacks: &mut Stacks,
@@ -55,8 +54,8 @@ fn check_in_group<R: WasmModuleResources>(
 {
     match *op {
         Op::Control(op) => check_control(stacks, resources, offset, op),
-        Op::Numeric(op) => any_numeric(stacks, resources, offset, op),
-        Op::Convert(op) => any_convert(stacks, resources, offset, op),
+        Op::Numeric(op) => check_numeric(stacks, resources, offset, op),
+        Op::Convert(op) => check_convert(stacks, resources, offset, op),
         Op::Memory(op) => check_memory(stacks, resources, offset, op),
         Op::Atomic(op) => check_atomic(stacks, resources, offset, op),
         Op::Reference(op) => check_reference(stacks, resources, offset, op),
@@ -67,34 +66,4 @@ fn check_in_group<R: WasmModuleResources>(
         Op::Continuation(op) => check_continuation(stacks, resources, offset, op),
         Op::Shared(op) => check_shared(stacks, resources, offset, op),
     }
-}
-
-/// [`check_numeric`], of which there is one copy for operators that are known by their value alone.
-#[inline(never)]
-fn any_numeric<R: WasmModuleResources>(
-    stacks: &mut Stacks,
-    resources: &R,
-    offset: u64,
-    op: NumericOp,
-) -> Result<(), Error>
-    requires { MayVisit (R.context resources.now) stacks.old }
-    ensures { Meets (R.context resources.now) (λ cx. operator cx (Op.Numeric op)) offset
-        stacks.old.body result stacks.new.body }
-{
-    check_numeric(stacks, resources, offset, op)
-}
-
-/// [`check_convert`], of which there is one copy for operators that are known by their value alone.
-#[inline(never)]
-fn any_convert<R: WasmModuleResources>(
-    stacks: &mut Stacks,
-    resources: &R,
-    offset: u64,
-    op: ConvertOp,
-) -> Result<(), Error>
-    requires { MayVisit (R.context resources.now) stacks.old }
-    ensures { Meets (R.context resources.now) (λ cx. operator cx (Op.Convert op)) offset
-        stacks.old.body result stacks.new.body }
-{
-    check_convert(stacks, resources, offset, op)
 }

@@ -1,5 +1,5 @@
 -- Locals that are set already, and the innermost frame, for what passes at once.
-use Rattle.std.proofs.Common.{◌≡◌, ℕ, Bool, true, false, Option, Some, None, IsSome, is_none, ◌||◌, refl, sym, ap, ◌∙◌, if◌then◌else◌, ap₂}
+use Rattle.std.proofs.Common.{◌≡◌, ℕ, [], ◌∷◌, length, arith, Bool, true, false, Option, Some, None, IsSome, is_none, ◌||◌, refl, sym, ap, ◌∙◌, if◌then◌else◌, ap₂}
 use Rattle.std.specs.Option.{ForSome}
 use Rattle.validate_resources.specs.Context.{ModuleContext}
 use Rattle.validate_visit.specs.declared.frame.Frame.{Frame as FlatFrame}
@@ -39,3 +39,9 @@ block_there v f e g h = ap (λ (x : FlatFrame). x.block_type) (some_injective g 
 -- a frame may be opened where nothing is pending
 pub idle_frame : (v : Stacked) → v.body.undone ≡ None → may_frame v ≡ true
 idle_frame v h = ap (λ o. is_none o || is_unmarked v.phase) h
+
+-- ---- no types
+
+pub none_of : (ts : List ValType) → length ts ≡ 0 → ts ≡ []
+none_of [] h = refl
+none_of (t ∷ ts) h = absurd (omega (arith, h))

@@ -16,7 +16,7 @@ use validate_types::{Error, Gate, ValType, WasmFeatures};
 use validate_visit::{AtomicOp, Ordering};
 
 /// Whether an operator may be ordered so.
-fn allows(features: WasmFeatures, ordering: Ordering) -> bool
+fn allows_ordering(features: WasmFeatures, ordering: Ordering) -> bool
     ensures { result ≡ allows_ordering features ordering }
 {
     match ordering {
@@ -31,7 +31,7 @@ fn check_ordering(stacks: &Stacks, offset: u64, ordering: Ordering) -> Result<()
     ensures refused { OnErr result (allows_ordering stacks.now.body.features ordering ≡ false) }
     ensures offset { IfErr result (λ e. e.offset ≡ offset) }
 {
-    if allows(stacks.features(), ordering) {
+    if allows_ordering(stacks.features(), ordering) {
         Ok(())
     } else {
         Err(Error::new("acquire-release atomics are not enabled", offset))

@@ -33,53 +33,14 @@ pub fn check_br<R: WasmModuleResources>(
         → OnErr result (step_body (R.context resources.now)
         (λ cx. staying_operator (λ hs. br_row cx hs relative_depth)) stacks.old.body ≡ None) }
 {
-    if br_at_once(stacks, resources, relative_depth) {
-        return Ok(());
-    }
-    br_by_pops(stacks, resources, offset, relative_depth)
-}
-
-/// The same by pops one by one.
-fn br_by_pops<R: WasmModuleResources>(
-    stacks: &mut Stacks,
-    resources: &R,
-    offset: u64,
-    relative_depth: u32,
-) -> Result<(), Error>
-    requires { MayVisit (R.context resources.now) stacks.old }
-    ensures visit { Meets (R.context resources.now)
-        (λ cx. staying_operator (λ hs. br_row cx hs relative_depth)) offset stacks.old.body result
-        stacks.new.body }
-    ensures memory { stacks.old.body.undone ≡ None
-        → OnErr result (step_body (R.context resources.now)
-        (λ cx. staying_operator (λ hs. br_row cx hs relative_depth)) stacks.old.body ≡ None) }
-{
     let (block_type, kind) = label(stacks, offset, relative_depth)?;
     stacks.pop_types(resources, offset, label_types(resources, &block_type, kind))?;
-    stacks.end_live_part(offset)
+    stacks.unreachable(offset)
 }
 
 /// `br_if`: `[t i32] -> [t]`, with the types t of the label.
 #[inline(always)]
 pub fn check_br_if<R: WasmModuleResources>(
-    stacks: &mut Stacks,
-    resources: &R,
-    offset: u64,
-    relative_depth: u32,
-) -> Result<(), Error>
-    requires { MayVisit (R.context resources.now) stacks.old }
-    ensures { Meets (R.context resources.now)
-        (λ cx. staying_operator (λ hs. br_if_row cx hs relative_depth)) offset stacks.old.body result
-        stacks.new.body }
-{
-    if br_if_at_once(stacks, resources, relative_depth) {
-        return Ok(());
-    }
-    br_if_by_pops(stacks, resources, offset, relative_depth)
-}
-
-/// The same by pops one by one.
-fn br_if_by_pops<R: WasmModuleResources>(
     stacks: &mut Stacks,
     resources: &R,
     offset: u64,
@@ -111,25 +72,6 @@ pub fn check_return<R: WasmModuleResources>(
         → OnErr result (step_body (R.context resources.now)
         (λ cx. staying_operator (λ hs. return_row cx hs)) stacks.old.body ≡ None) }
 {
-    if return_at_once(stacks, resources) {
-        return Ok(());
-    }
-    return_by_pops(stacks, resources, offset)
-}
-
-/// The same by pops one by one.
-fn return_by_pops<R: WasmModuleResources>(
-    stacks: &mut Stacks,
-    resources: &R,
-    offset: u64,
-) -> Result<(), Error>
-    requires { MayVisit (R.context resources.now) stacks.old }
-    ensures visit { Meets (R.context resources.now) (λ cx. staying_operator (λ hs. return_row cx hs))
-        offset stacks.old.body result stacks.new.body }
-    ensures memory { stacks.old.body.undone ≡ None
-        → OnErr result (step_body (R.context resources.now)
-        (λ cx. staying_operator (λ hs. return_row cx hs)) stacks.old.body ≡ None) }
-{
     let outermost = stacks.control_stack_height() - 1;
     let Some(frame) = stacks.get_frame(outermost) else {
         unreachable!()
@@ -137,7 +79,7 @@ fn return_by_pops<R: WasmModuleResources>(
     let frame = *frame;
     let results = label_types(resources, &frame.block_type, frame.kind);
     stacks.pop_types(resources, offset, results)?;
-    stacks.end_live_part(offset)
+    stacks.unreachable(offset)
 }
 
 /// [`check_br`], where it passes at once. False, with nothing changed, where it doesn't.
@@ -153,7 +95,7 @@ pub fn br_at_once<R: WasmModuleResources>(
 {
     match stacks.jump(relative_depth) {
         Some((block_type, kind)) => {
-            stacks.end_at_once(resources, label_types(resources, &block_type, kind))
+            stacks.unreachable_at_once(resources, label_types(resources, &block_type, kind))
         }
         None => false,
     }
@@ -196,7 +138,7 @@ pub fn return_at_once<R: WasmModuleResources>(stacks: &mut Stacks, resources: &R
         Some(frame) => {
             let block_type = frame.block_type;
             let kind = frame.kind;
-            stacks.end_at_once(resources, label_types(resources, &block_type, kind))
+            stacks.unreachable_at_once(resources, label_types(resources, &block_type, kind))
         }
         None => false,
     }
@@ -293,5 +235,5 @@ pub fn check_br_table<R: WasmModuleResources>(
     let types = label_types(resources, &block_type, kind);
     check_targets(stacks, resources, offset, table, types.len())?;
     stacks.pop_types(resources, offset, types)?;
-    stacks.end_live_part(offset)
+    stacks.unreachable(offset)
 }

@@ -8,6 +8,7 @@ ghost use Rattle.validation_rules.specs.Context.{Context};
 ghost use Rattle.validation_rules.specs.Fits.{Known, all_fit};
 ghost use Rattle.validation_rules.specs.Static.{heads};
 ghost use Rattle.validation_rules.specs.Operators.{row_operator, staying_operator};
+ghost use Rattle.validate_stacks.specs.AtOnce.{MeetsAtOnce};
 ghost use Rattle.validate_stacks.specs.State.{body_context};
 ghost use Rattle.validate_stacks.specs.Visits.{MayVisit, Meets};
 
@@ -15,7 +16,7 @@ use std::alloc::{AllocError, Global};
 use validate_resources::WasmModuleResources;
 use validate_shapes::functions::type_of_function;
 use validate_shapes::matching::are_below;
-use validate_shapes::plain::check_plain;
+use validate_shapes::plain::{check_plain, plain_at_once};
 use validate_stacks::Stacks;
 use validate_stacks::blocks::label_types;
 use validate_types::{Error, FuncType, ValType};
@@ -35,6 +36,23 @@ pub fn check_call<R: WasmModuleResources>(
     let func_type = type_of_function(stacks, resources, offset, function_index)?;
     let (params, results) = (func_type.params(), func_type.results());
     check_plain(stacks, resources, offset, params, results)
+}
+
+/// [`check_call`], where it passes at once. False, with nothing changed, where it doesn't.
+#[inline(always)]
+pub fn call_at_once<R: WasmModuleResources>(
+    stacks: &mut Stacks,
+    resources: &R,
+    function_index: u32,
+) -> bool
+    requires { MayVisit (R.context resources.now) stacks.old }
+    ensures { MeetsAtOnce (R.context resources.now) (λ cx. row_operator (call_row cx function_index))
+        stacks.old result stacks.new }
+{
+    let Ok(func_type) = type_of_function(stacks, resources, 0, function_index) else {
+        return false;
+    };
+    plain_at_once(stacks, resources, func_type.params(), func_type.results())
 }
 
 /// The results of a function that is called in the place of the rest of the body: as many as the
@@ -111,7 +129,7 @@ pub(crate) fn check_return_call_ty<R: WasmModuleResources>(
 {
     check_func_type_same_results(stacks, resources, offset, func_type.results())?;
     stacks.pop_types(resources, offset, func_type.params())?;
-    stacks.end_live_part(offset)
+    stacks.unreachable(offset)
 }
 
 /// `return_call`: what the function takes. The body returns its results, and the live part of the frame

@@ -1,21 +1,24 @@
 //! Operators that begin and end parts (WebAssembly core specification, "Control Instructions").
 
 ghost use Rattle.std.specs.Prelude.{◌≡◌, true, false, None, [], IsOk, OnOk, IfErr};
+ghost use Rattle.validation_rules.specs.Context.{Context};
 ghost use Rattle.validation_rules.specs.Rows.{BeginsElse, Ends, is_if};
 ghost use Rattle.validation_rules.specs.Operators.{plain_row, ending_row, row_operator, delimiter_operator};
 ghost use Rattle.validation_rules.specs.Valid.{IsValidBlock};
+ghost use Rattle.validation_rules.specs.Static.{missing_else_fits};
 ghost use Rattle.validate_stacks.specs.AtOnce.{MeetsAtOnce};
 ghost use Rattle.validate_stacks.specs.Attempts.{may_frame};
 ghost use Rattle.validate_stacks.specs.Pops.{IsKept};
 ghost use Rattle.validate_stacks.specs.State.{IsValidBody};
+ghost use Rattle.validate_stacks.specs.Steps.{head_of};
 ghost use Rattle.validate_stacks.specs.Blocks.{may_close_as_if};
 ghost use Rattle.validate_stacks.specs.Visits.{MayVisit, Meets};
 
 use validate_resources::WasmModuleResources;
 use validate_stacks::Stacks;
-use validate_stacks::blocks::results;
+use validate_stacks::blocks::{params, results};
 use validate_types::Error;
-use validate_visit::{Frame, FrameKind};
+use validate_visit::{BlockType, Frame, FrameKind};
 
 /// `nop`: nothing. It is never refused, and takes no memory.
 #[inline(always)]
@@ -63,7 +66,7 @@ pub fn check_unreachable<R: WasmModuleResources>(
 {
     // The contract alone reads it.
     let _resources = resources;
-    stacks.end_live_part(offset)
+    stacks.unreachable(offset)
 }
 
 /// [`check_unreachable`], where no attempt is pending. False, with nothing changed, where one is.
@@ -73,36 +76,13 @@ pub fn unreachable_at_once<R: WasmModuleResources>(stacks: &mut Stacks, resource
     ensures { MeetsAtOnce (R.context resources.now) (λ cx. row_operator (ending_row [])) stacks.old result
         stacks.new }
 {
-    stacks.end_at_once(resources, &[])
+    stacks.unreachable_at_once(resources, &[])
 }
 
 /// `else`: closes the first part of an `if`, which has to have exactly its results, and begins the
 /// second with the parameters. It refuses after a frame of another kind.
 #[inline(always)]
 pub fn check_else<R: WasmModuleResources>(
-    stacks: &mut Stacks,
-    resources: &R,
-    offset: u64,
-) -> Result<(), Error>
-    requires { MayVisit (R.context resources.now) stacks.old }
-    ensures { Meets (R.context resources.now) (λ cx. delimiter_operator BeginsElse) offset
-        stacks.old.body result stacks.new.body }
-{
-    let Some(frame) = stacks.get_frame(0) else {
-        return else_by_pops(stacks, resources, offset);
-    };
-    let block_type = frame.block_type;
-    if !is_if_part(frame.kind) {
-        return else_by_pops(stacks, resources, offset);
-    }
-    if stacks.close_at_once(resources, block_type) {
-        return stacks.push_ctrl(resources, offset, FrameKind::Else, block_type);
-    }
-    else_by_pops(stacks, resources, offset)
-}
-
-/// The same by pops one by one.
-fn else_by_pops<R: WasmModuleResources>(
     stacks: &mut Stacks,
     resources: &R,
     offset: u64,
@@ -118,6 +98,26 @@ fn else_by_pops<R: WasmModuleResources>(
     stacks.push_ctrl(resources, offset, FrameKind::Else, frame.block_type)
 }
 
+/// [`check_else`], where it passes at once: the `if` has no parameters. False, with nothing changed, where it doesn't.
+#[inline(always)]
+pub fn else_at_once<R: WasmModuleResources>(stacks: &mut Stacks, resources: &R) -> bool
+    requires { MayVisit (R.context resources.now) stacks.old }
+    ensures { MeetsAtOnce (R.context resources.now) (λ cx. delimiter_operator BeginsElse) stacks.old result
+        stacks.new }
+{
+    let Some(frame) = stacks.get_frame(0) else {
+        return false;
+    };
+    let block_type = frame.block_type;
+    if !is_if_part(frame.kind) {
+        return false;
+    }
+    if !params(resources, &block_type).is_empty() {
+        return false;
+    }
+    stacks.reopen_at_once(resources, FrameKind::Else, block_type)
+}
+
 /// `end`: closes the innermost frame, which has to have exactly its results, and gives them to the
 /// next outer one. An `if` without `else` has an empty second part.
 #[inline(always)]
@@ -130,41 +130,36 @@ pub fn check_end<R: WasmModuleResources>(
     ensures { Meets (R.context resources.now) (λ cx. delimiter_operator Ends) offset
         stacks.old.body result stacks.new.body }
 {
-    if end_at_once(stacks, resources) {
-        return Ok(());
-    }
-    end_by_pops(stacks, resources, offset)
+    let frame = stacks.pop_ctrl(resources, offset)?;
+    check_empty_else(stacks, resources, offset, frame)?;
+    stacks.push_types(offset, results(resources, &frame.block_type))
 }
 
-/// [`check_end`], where it passes at once: the frame is no first part of an `if`, and has one result at most. False,
-/// with nothing changed, where it doesn't.
+/// [`check_end`], where it passes at once: the frame has one result at most, and none where it is the first part of an
+/// `if`. False, with nothing changed, where it doesn't.
 #[inline(always)]
 pub fn end_at_once<R: WasmModuleResources>(stacks: &mut Stacks, resources: &R) -> bool
     requires { MayVisit (R.context resources.now) stacks.old }
     ensures { MeetsAtOnce (R.context resources.now) (λ cx. delimiter_operator Ends) stacks.old result stacks.new }
 {
-    match stacks.get_frame(0) {
-        Some(frame) => {
-            let block_type = frame.block_type;
-            !is_if_part(frame.kind) && stacks.leave_at_once(resources, block_type)
-        }
-        None => false,
+    let Some(frame) = stacks.get_frame(0) else {
+        return false;
+    };
+    let block_type = frame.block_type;
+    if !may_lack_else(frame.kind, block_type) {
+        return false;
     }
+    stacks.leave_at_once(resources, block_type)
 }
 
-/// The same by pops one by one.
-fn end_by_pops<R: WasmModuleResources>(
-    stacks: &mut Stacks,
-    resources: &R,
-    offset: u64,
-) -> Result<(), Error>
-    requires { MayVisit (R.context resources.now) stacks.old }
-    ensures { Meets (R.context resources.now) (λ cx. delimiter_operator Ends) offset
-        stacks.old.body result stacks.new.body }
+/// Whether a frame is no first part of an `if`, or one that takes and gives nothing.
+fn may_lack_else(kind: FrameKind, block_type: BlockType) -> bool
+    ensures { result ≡ true → (cx : Context) → missing_else_fits cx (head_of kind block_type) ≡ true }
 {
-    let frame = stacks.pop_ctrl(resources, offset)?;
-    check_empty_else(stacks, resources, offset, frame)?;
-    stacks.push_types(offset, results(resources, &frame.block_type))
+    match kind {
+        FrameKind::If => matches!(block_type, BlockType::Empty),
+        _ => true,
+    }
 }
 
 fn is_if_part(kind: FrameKind) -> bool

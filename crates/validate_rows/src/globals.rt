@@ -2,12 +2,12 @@
 
 ghost use Rattle.validation_rules.specs.Calls.{global_get_row, global_set_row};
 ghost use Rattle.validation_rules.specs.Operators.{row_operator};
-ghost use Rattle.validate_stacks.specs.State.{body_context};
+ghost use Rattle.validate_stacks.specs.AtOnce.{MeetsAtOnce};
 ghost use Rattle.validate_stacks.specs.Visits.{MayVisit, Meets};
 
 use validate_resources::WasmModuleResources;
 use validate_shapes::globals::global_type_at;
-use validate_shapes::plain::check_plain;
+use validate_shapes::plain::{check_plain, plain_at_once};
 use validate_stacks::Stacks;
 use validate_types::Error;
 
@@ -47,4 +47,41 @@ pub fn check_global_set<R: WasmModuleResources>(
         ));
     }
     check_plain(stacks, resources, offset, &[global.content_type], &[])
+}
+
+/// [`check_global_get`], where it passes at once. False, with nothing changed, where it doesn't.
+#[inline(always)]
+pub fn global_get_at_once<R: WasmModuleResources>(
+    stacks: &mut Stacks,
+    resources: &R,
+    global_index: u32,
+) -> bool
+    requires { MayVisit (R.context resources.now) stacks.old }
+    ensures { MeetsAtOnce (R.context resources.now) (λ cx. row_operator (global_get_row cx global_index))
+        stacks.old result stacks.new }
+{
+    let Ok(global) = global_type_at(stacks, resources, 0, global_index) else {
+        return false;
+    };
+    plain_at_once(stacks, resources, &[], &[global.content_type])
+}
+
+/// [`check_global_set`], where it passes at once. False, with nothing changed, where it doesn't.
+#[inline(always)]
+pub fn global_set_at_once<R: WasmModuleResources>(
+    stacks: &mut Stacks,
+    resources: &R,
+    global_index: u32,
+) -> bool
+    requires { MayVisit (R.context resources.now) stacks.old }
+    ensures { MeetsAtOnce (R.context resources.now) (λ cx. row_operator (global_set_row cx global_index))
+        stacks.old result stacks.new }
+{
+    let Ok(ty) = global_type_at(stacks, resources, 0, global_index) else {
+        return false;
+    };
+    if !ty.mutable {
+        return false;
+    }
+    plain_at_once(stacks, resources, &[ty.content_type], &[])
 }

@@ -2,7 +2,6 @@
 
 ghost use Rattle.std.specs.Prelude.{◌≡◌, true};
 ghost use Rattle.validate_resources.specs.Context.{is_number_or_vector};
-ghost use Rattle.validate_visit.specs.declared.memory.MemArgTarget.TheVariants.{Memory};
 ghost use Rattle.validation_rules.specs.Access.{load_row, store_row};
 ghost use Rattle.validation_rules.specs.Memories.{memory_size_row, memory_grow_row, memory_init_row, data_drop_row, memory_copy_row, memory_fill_row, memory_discard_row};
 ghost use Rattle.validation_rules.specs.Memory.{memory_row};
@@ -12,11 +11,11 @@ ghost use Rattle.validate_stacks.specs.Visits.{MayVisit, Meets};
 ghost use Rattle.validate_shapes.specs.Operands.{FindsOperands};
 
 use validate_resources::WasmModuleResources;
-use validate_shapes::accesses::{LoadOrStore, check_memarg, check_memory_access, memory_access};
+use validate_shapes::accesses::{AccessKind, accessed_address_type, check_memarg};
 use validate_shapes::memories::{check_data_segment, check_memory_index, narrower_of};
 use validate_shapes::numbers::{number, packed};
 use validate_shapes::operands::{Few, Operands, check_operands};
-use validate_shapes::plain::{check_plain, plain_at_once};
+use validate_shapes::plain::plain_at_once;
 use validate_stacks::Stacks;
 use validate_types::{Error, ValType};
 use validate_visit::{MemArg, MemArgTarget, MemoryOp};
@@ -33,7 +32,7 @@ fn load_types<R: WasmModuleResources>(
     ensures { FindsOperands (R.context resources.now)
         (λ cx. load_row cx memarg ty) offset stacks.now.body result }
 {
-    let address = check_memarg(stacks, resources, offset, LoadOrStore::Load, memarg)?;
+    let address = check_memarg(stacks, resources, offset, AccessKind::Load, memarg)?;
     Ok(Operands::few(address.types(), Few::One(ty)))
 }
 
@@ -49,7 +48,7 @@ fn store_types<R: WasmModuleResources>(
     ensures { FindsOperands (R.context resources.now)
         (λ cx. store_row cx memarg ty) offset stacks.now.body result }
 {
-    let address = check_memarg(stacks, resources, offset, LoadOrStore::Store, memarg)?;
+    let address = check_memarg(stacks, resources, offset, AccessKind::Store, memarg)?;
     Ok(Operands::few(address.types_below(ty), Few::Zero))
 }
 
@@ -187,8 +186,8 @@ fn memory_types<R: WasmModuleResources>(
     }
 }
 
-/// The check of an operator on memories by what it takes and gives, its gate aside.
-fn check_memory_types<R: WasmModuleResources>(
+/// The check of an operator on memories, its gate aside.
+pub fn check_memory_row<R: WasmModuleResources>(
     stacks: &mut Stacks,
     resources: &R,
     offset: u64,
@@ -202,132 +201,52 @@ fn check_memory_types<R: WasmModuleResources>(
     check_operands(stacks, resources, offset, types)
 }
 
-/// A load of a number from a memory: `[it] -> [t]`.
-#[inline(always)]
-fn check_load<R: WasmModuleResources>(
-    stacks: &mut Stacks,
-    resources: &R,
-    offset: u64,
-    memarg: MemArg,
-    memory_index: u32,
-    ty: ValType,
-) -> Result<(), Error>
-    requires visit { MayVisit (R.context resources.now) stacks.old }
-    requires target { memarg.target ≡ Memory memory_index }
-    requires number { is_number_or_vector ty ≡ true }
-    ensures { Meets (R.context resources.now) (λ cx. row_operator (load_row cx memarg ty)) offset
-        stacks.old.body result stacks.new.body }
-{
-    let address = check_memory_access(stacks, resources, offset, memarg, memory_index)?;
-    check_plain(stacks, resources, offset, &[address], &[ty])
-}
-
-/// A store of a number in a memory: `[it t] -> []`.
-#[inline(always)]
-fn check_store<R: WasmModuleResources>(
-    stacks: &mut Stacks,
-    resources: &R,
-    offset: u64,
-    memarg: MemArg,
-    memory_index: u32,
-    ty: ValType,
-) -> Result<(), Error>
-    requires visit { MayVisit (R.context resources.now) stacks.old }
-    requires target { memarg.target ≡ Memory memory_index }
-    requires number { is_number_or_vector ty ≡ true }
-    ensures { Meets (R.context resources.now) (λ cx. row_operator (store_row cx memarg ty)) offset
-        stacks.old.body result stacks.new.body }
-{
-    let address = check_memory_access(stacks, resources, offset, memarg, memory_index)?;
-    check_plain(stacks, resources, offset, &[address, ty], &[])
-}
-
-/// The check of an operator on memories, its gate aside. Loads and stores of memories, which are met
-/// most, take their operands without making a value of them first.
-#[inline(always)]
-pub fn check_memory_row<R: WasmModuleResources>(
-    stacks: &mut Stacks,
-    resources: &R,
-    offset: u64,
-    op: MemoryOp,
-) -> Result<(), Error>
-    requires { MayVisit (R.context resources.now) stacks.old }
-    ensures { Meets (R.context resources.now) (λ cx. row_operator (memory_row cx op)) offset
-        stacks.old.body result stacks.new.body }
-{
-    match op {
-        MemoryOp::Load(ty, memarg) => match memarg.target {
-            MemArgTarget::Memory(memory) => {
-                check_load(stacks, resources, offset, memarg, memory, number(ty))
-            }
-            MemArgTarget::Array(_) => check_memory_types(stacks, resources, offset, op),
-        },
-        MemoryOp::LoadPacked(part, _, memarg) => match memarg.target {
-            MemArgTarget::Memory(memory) => {
-                check_load(stacks, resources, offset, memarg, memory, packed(part))
-            }
-            MemArgTarget::Array(_) => check_memory_types(stacks, resources, offset, op),
-        },
-        MemoryOp::Store(ty, memarg) => match memarg.target {
-            MemArgTarget::Memory(memory) => {
-                check_store(stacks, resources, offset, memarg, memory, number(ty))
-            }
-            MemArgTarget::Array(_) => check_memory_types(stacks, resources, offset, op),
-        },
-        MemoryOp::StorePacked(part, memarg) => match memarg.target {
-            MemArgTarget::Memory(memory) => {
-                check_store(stacks, resources, offset, memarg, memory, packed(part))
-            }
-            MemArgTarget::Array(_) => check_memory_types(stacks, resources, offset, op),
-        },
-        _ => check_memory_types(stacks, resources, offset, op),
-    }
-}
-
-/// A load of a number from a memory, where it passes at once.
+/// A load of a number, where it is one from a memory and passes at once.
 #[inline(always)]
 fn load_at_once<R: WasmModuleResources>(
     stacks: &mut Stacks,
     resources: &R,
     memarg: MemArg,
-    memory_index: u32,
     ty: ValType,
 ) -> bool
     requires visit { MayVisit (R.context resources.now) stacks.old }
-    requires target { memarg.target ≡ Memory memory_index }
     requires number { is_number_or_vector ty ≡ true }
     ensures { MeetsAtOnce (R.context resources.now) (λ cx. row_operator (load_row cx memarg ty)) stacks.old
         result stacks.new }
 {
-    match memory_access(resources, memarg, memory_index) {
-        Some(address) => plain_at_once(stacks, resources, &[address], Some(ty)),
+    let MemArgTarget::Memory(memory_index) = memarg.target else {
+        return false;
+    };
+    match accessed_address_type(resources, memarg, memory_index) {
+        Some(address) => plain_at_once(stacks, resources, &[address], &[ty]),
         None => false,
     }
 }
 
-/// A store of a number in a memory, where it passes at once.
+/// A store of a number, where it is one in a memory and passes at once.
 #[inline(always)]
 fn store_at_once<R: WasmModuleResources>(
     stacks: &mut Stacks,
     resources: &R,
     memarg: MemArg,
-    memory_index: u32,
     ty: ValType,
 ) -> bool
     requires visit { MayVisit (R.context resources.now) stacks.old }
-    requires target { memarg.target ≡ Memory memory_index }
     requires number { is_number_or_vector ty ≡ true }
     ensures { MeetsAtOnce (R.context resources.now) (λ cx. row_operator (store_row cx memarg ty)) stacks.old
         result stacks.new }
 {
-    match memory_access(resources, memarg, memory_index) {
-        Some(address) => plain_at_once(stacks, resources, &[address, ty], None),
+    let MemArgTarget::Memory(memory_index) = memarg.target else {
+        return false;
+    };
+    match accessed_address_type(resources, memarg, memory_index) {
+        Some(address) => plain_at_once(stacks, resources, &[address, ty], &[]),
         None => false,
     }
 }
 
-/// [`check_memory_row`] of a load or a store of a memory, where it passes at once. False, with nothing changed,
-/// where it doesn't.
+/// [`check_memory_row`] of a load or a store of a memory, where it passes at once: what it takes and gives is no value
+/// first. False, with nothing changed, where it doesn't.
 #[inline(always)]
 pub fn memory_at_once<R: WasmModuleResources>(
     stacks: &mut Stacks,
@@ -339,30 +258,14 @@ pub fn memory_at_once<R: WasmModuleResources>(
         stacks.new }
 {
     match op {
-        MemoryOp::Load(ty, memarg) => match memarg.target {
-            MemArgTarget::Memory(memory) => {
-                load_at_once(stacks, resources, memarg, memory, number(ty))
-            }
-            MemArgTarget::Array(_) => false,
-        },
-        MemoryOp::LoadPacked(part, _, memarg) => match memarg.target {
-            MemArgTarget::Memory(memory) => {
-                load_at_once(stacks, resources, memarg, memory, packed(part))
-            }
-            MemArgTarget::Array(_) => false,
-        },
-        MemoryOp::Store(ty, memarg) => match memarg.target {
-            MemArgTarget::Memory(memory) => {
-                store_at_once(stacks, resources, memarg, memory, number(ty))
-            }
-            MemArgTarget::Array(_) => false,
-        },
-        MemoryOp::StorePacked(part, memarg) => match memarg.target {
-            MemArgTarget::Memory(memory) => {
-                store_at_once(stacks, resources, memarg, memory, packed(part))
-            }
-            MemArgTarget::Array(_) => false,
-        },
+        MemoryOp::Load(ty, memarg) => load_at_once(stacks, resources, memarg, number(ty)),
+        MemoryOp::LoadPacked(part, _, memarg) => {
+            load_at_once(stacks, resources, memarg, packed(part))
+        }
+        MemoryOp::Store(ty, memarg) => store_at_once(stacks, resources, memarg, number(ty)),
+        MemoryOp::StorePacked(part, memarg) => {
+            store_at_once(stacks, resources, memarg, packed(part))
+        }
         _ => false,
     }
 }

@@ -172,36 +172,34 @@ pub fn numeric_at_once<R: WasmModuleResources>(
         stacks.new }
 {
     match op {
-        NumericOp::I32Const(_) => plain_at_once(stacks, resources, &[], Some(ValType::I32)),
-        NumericOp::I64Const(_) => plain_at_once(stacks, resources, &[], Some(ValType::I64)),
-        NumericOp::F32Const(_) => plain_at_once(stacks, resources, &[], Some(ValType::F32)),
-        NumericOp::F64Const(_) => plain_at_once(stacks, resources, &[], Some(ValType::F64)),
-        NumericOp::Eqz(ty) => {
-            plain_at_once(stacks, resources, &[integer(ty)], Some(ValType::I32))
-        }
+        NumericOp::I32Const(_) => plain_at_once(stacks, resources, &[], &[ValType::I32]),
+        NumericOp::I64Const(_) => plain_at_once(stacks, resources, &[], &[ValType::I64]),
+        NumericOp::F32Const(_) => plain_at_once(stacks, resources, &[], &[ValType::F32]),
+        NumericOp::F64Const(_) => plain_at_once(stacks, resources, &[], &[ValType::F64]),
+        NumericOp::Eqz(ty) => { plain_at_once(stacks, resources, &[integer(ty)], &[ValType::I32]) }
         NumericOp::IntegerUnary(ty, _) => {
             let ty = integer(ty);
-            plain_at_once(stacks, resources, &[ty], Some(ty))
+            plain_at_once(stacks, resources, &[ty], &[ty])
         }
         NumericOp::IntegerBinary(ty, _) => {
             let ty = integer(ty);
-            plain_at_once(stacks, resources, &[ty, ty], Some(ty))
+            plain_at_once(stacks, resources, &[ty, ty], &[ty])
         }
         NumericOp::IntegerComparison(ty, _) => {
             let ty = integer(ty);
-            plain_at_once(stacks, resources, &[ty, ty], Some(ValType::I32))
+            plain_at_once(stacks, resources, &[ty, ty], &[ValType::I32])
         }
         NumericOp::FloatUnary(ty, _) => {
             let ty = float(ty);
-            plain_at_once(stacks, resources, &[ty], Some(ty))
+            plain_at_once(stacks, resources, &[ty], &[ty])
         }
         NumericOp::FloatBinary(ty, _) => {
             let ty = float(ty);
-            plain_at_once(stacks, resources, &[ty, ty], Some(ty))
+            plain_at_once(stacks, resources, &[ty, ty], &[ty])
         }
         NumericOp::FloatComparison(ty, _) => {
             let ty = float(ty);
-            plain_at_once(stacks, resources, &[ty, ty], Some(ValType::I32))
+            plain_at_once(stacks, resources, &[ty, ty], &[ValType::I32])
         }
         NumericOp::Add128 | NumericOp::Sub128 | NumericOp::MulWide(_) => false,
     }
@@ -219,25 +217,25 @@ pub fn convert_at_once<R: WasmModuleResources>(
         stacks.new }
 {
     match op {
-        ConvertOp::Wrap => plain_at_once(stacks, resources, &[ValType::I64], Some(ValType::I32)),
+        ConvertOp::Wrap => plain_at_once(stacks, resources, &[ValType::I64], &[ValType::I32]),
         ConvertOp::Extend(_) => {
-            plain_at_once(stacks, resources, &[ValType::I32], Some(ValType::I64))
+            plain_at_once(stacks, resources, &[ValType::I32], &[ValType::I64])
         }
         ConvertOp::ExtendPacked(part) => {
             let ty = packed(part);
-            plain_at_once(stacks, resources, &[ty], Some(ty))
+            plain_at_once(stacks, resources, &[ty], &[ty])
         }
         ConvertOp::Trunc(into, from, _) | ConvertOp::TruncSat(into, from, _) => {
-            plain_at_once(stacks, resources, &[float(from)], Some(integer(into)))
+            plain_at_once(stacks, resources, &[float(from)], &[integer(into)])
         }
         ConvertOp::Convert(into, from, _) => {
-            plain_at_once(stacks, resources, &[integer(from)], Some(float(into)))
+            plain_at_once(stacks, resources, &[integer(from)], &[float(into)])
         }
-        ConvertOp::Demote => plain_at_once(stacks, resources, &[ValType::F64], Some(ValType::F32)),
-        ConvertOp::Promote => plain_at_once(stacks, resources, &[ValType::F32], Some(ValType::F64)),
+        ConvertOp::Demote => plain_at_once(stacks, resources, &[ValType::F64], &[ValType::F32]),
+        ConvertOp::Promote => plain_at_once(stacks, resources, &[ValType::F32], &[ValType::F64]),
         ConvertOp::Reinterpret(into) => {
             let from = number(into.reinterpreted());
-            plain_at_once(stacks, resources, &[from], Some(number(into)))
+            plain_at_once(stacks, resources, &[from], &[number(into)])
         }
     }
 }

@@ -127,7 +127,7 @@ pub fn check_local_tee<R: WasmModuleResources>(
 
 /// The declared type of a local that is set.
 #[inline(always)]
-fn set_local(stacks: &Stacks, local_index: u32) -> Option<ValType>
+fn type_of_set_local(stacks: &Stacks, local_index: u32) -> Option<ValType>
     ensures found { ForSome result (λ ty. slice_get stacks.now.body.locals local_index ≡ Some ty) }
     ensures set { IsSome result → is_local_set stacks.now.body.set_at_entry
         (locals_set stacks.now.body.present.frames) local_index ≡ true }
@@ -157,7 +157,7 @@ pub fn local_get_at_once<R: WasmModuleResources>(
 {
     // The contract alone reads it.
     let _resources = resources;
-    match set_local(stacks, local_index) {
+    match type_of_set_local(stacks, local_index) {
         Some(ty) => stacks.push_at_once(MaybeType::Known(ty)),
         None => false,
     }
@@ -175,7 +175,7 @@ pub fn local_set_at_once<R: WasmModuleResources>(
     ensures { MeetsAtOnce (R.context resources.now) (λ cx. row_operator (local_set_row cx local_index))
         stacks.old result stacks.new }
 {
-    match set_local(stacks, local_index) {
+    match type_of_set_local(stacks, local_index) {
         Some(ty) => stacks.exchange_at_once(resources, &[ty], None),
         None => false,
     }
@@ -193,7 +193,7 @@ pub fn local_tee_at_once<R: WasmModuleResources>(
     ensures { MeetsAtOnce (R.context resources.now) (λ cx. row_operator (local_tee_row cx local_index))
         stacks.old result stacks.new }
 {
-    match set_local(stacks, local_index) {
+    match type_of_set_local(stacks, local_index) {
         Some(ty) => stacks.exchange_at_once(resources, &[ty], Some(ty)),
         None => false,
     }

@@ -59,9 +59,6 @@ module _ (cx : Context) (hs : List Head) (i : ℕ) (handlers : List Handle) wher
       found_so_far =
           ap₂ (λ o p. lookups_row o p (λ (f : Signature) (t : ValType). lookups_row (wanted f) (all_clauses cx hs f handlers) (λ ts clauses. resumed_row cx hs f ts t clauses))) is refers
 
-      pub nothing_taken : wanted f ≡ None → (resuming_row cx hs wanted i handlers).premise ≡ false
-      nothing_taken n = ap (λ (r : Row). r.premise) (found_so_far ∙ ap (λ o. row_for o (all_clauses cx hs f handlers)) n)
-
       -- its step is that of a plain row
       pub resuming_is : (ts : List ValType) → wanted f ≡ Some ts → are_fitting_handlers cx hs f handlers ≡ true → without_targets (resuming_row cx hs wanted i handlers) ≡ plain_row (ts ++ t ∷ []) f.results
       resuming_is ts takes fit =

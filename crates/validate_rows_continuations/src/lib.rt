@@ -3,5 +3,5 @@
 #![tactic(auto)]
 
 pub mod continuations;
-pub mod handlers;
-pub mod lookups;
+mod handlers;
+mod lookups;

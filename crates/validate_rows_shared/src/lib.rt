@@ -1,5 +1,5 @@
 //! Checks of operators of shared-everything threads: each answers by the row of its operators.
 #![tactic(auto)]
 
-pub mod accesses;
+mod accesses;
 pub mod places;

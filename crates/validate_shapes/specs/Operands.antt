@@ -8,7 +8,7 @@ use Rattle.validation_rules.specs.Context.{Context, ValType}
 use Rattle.validation_rules.specs.Rows.{Row}
 use Rattle.validation_rules.specs.Operators.{plain_row}
 use Rattle.validate_stacks.specs.State.{BodyState, body_context}
-use Rattle.validate_shapes.specs.declared.operands.Few.{Few as Types}
+use Rattle.validate_shapes.specs.declared.operands.Few.{Few as FewTypes}
 use Rattle.validate_shapes.specs.declared.operands.Few.TheVariants.{Zero, One, Two, Three, Four, Five}
 use Rattle.validate_shapes.specs.declared.operands.Operands.{Operands}
 use Rattle.validate_shapes.specs.declared.operands.Pushed.{Pushed}
@@ -16,7 +16,7 @@ use Rattle.validate_shapes.specs.declared.operands.Pushed.TheVariants.{Few as Fe
 use Rattle.validate_shapes.specs.declared.operands.Wanted.{Wanted}
 use Rattle.validate_shapes.specs.declared.operands.Wanted.TheVariants.{Few, Fields, Run, Under}
 
-abbrev pub few_types : Types → List ValType
+abbrev pub few_types : FewTypes → List ValType
 few_types Zero = []
 few_types (One a) = a ∷ []
 few_types (Two a b) = a ∷ b ∷ []

@@ -28,7 +28,7 @@ const OFFSET_BEYOND: &'static str = "offset out of range: must be <= 2**32";
 
 /// What is done to what is accessed.
 #[derive(Clone, Copy)]
-pub enum LoadOrStore {
+pub enum AccessKind {
     /// It is read.
     Load,
     /// It is written.
@@ -68,8 +68,7 @@ impl Address {
 
 /// The type of the address of a load or a store of this memory: the alignment is at most the natural one,
 /// and the offset one that the address allows.
-#[inline(always)]
-pub fn check_memory_access<R: WasmModuleResources>(
+fn check_memory_access<R: WasmModuleResources>(
     stacks: &Stacks,
     resources: &R,
     offset: u64,
@@ -93,9 +92,9 @@ pub fn check_memory_access<R: WasmModuleResources>(
     Ok(index_type)
 }
 
-/// [`check_memory_access`], where it passes.
+/// The type that [`check_memory_access`] answers, where it passes.
 #[inline(always)]
-pub fn memory_access<R: WasmModuleResources>(
+pub fn accessed_address_type<R: WasmModuleResources>(
     resources: &R,
     memarg: MemArg,
     memory_index: u32,
@@ -121,14 +120,14 @@ pub fn memory_access<R: WasmModuleResources>(
 fn check_places(
     stacks: &Stacks,
     offset: u64,
-    access: LoadOrStore,
+    access: AccessKind,
     places: FieldType,
 ) -> Result<(), Error>
     ensures passed { OnOk result (may_access_places access places ≡ true) }
     ensures refused { OnErr result (may_access_places access places ≡ false) }
     ensures offset { IfErr result (λ e. e.offset ≡ offset) }
 {
-    if let LoadOrStore::Store = access {
+    if let AccessKind::Store = access {
         check_mutable_array(offset, places)?;
     }
     match places.element_type.unpack() {
@@ -155,7 +154,7 @@ fn check_array_access<R: WasmModuleResources>(
     stacks: &Stacks,
     resources: &R,
     offset: u64,
-    access: LoadOrStore,
+    access: AccessKind,
     memarg: MemArg,
     type_index: u32,
 ) -> Result<ValType, Error>
@@ -187,7 +186,7 @@ pub fn check_memarg<R: WasmModuleResources>(
     stacks: &Stacks,
     resources: &R,
     offset: u64,
-    access: LoadOrStore,
+    access: AccessKind,
     memarg: MemArg,
 ) -> Result<Address, Error>
     ensures found { IfOk result (λ address. address_types

@@ -1,6 +1,6 @@
 //! Operators that open a frame (WebAssembly core specification, "Control Instructions").
 
-ghost use Rattle.std.specs.Prelude.{◌≡◌, ◌++◌, [], true, false, None, Some, ◌&&◌, IfOk, OnOk, IfErr};
+ghost use Rattle.std.specs.Prelude.{◌≡◌, [], true, false, None, Some, ◌&&◌, IfOk, OnOk, IfErr};
 ghost use Rattle.std.specs.Option.{ForSome};
 ghost use Rattle.std.specs.List.{AllByRecursion};
 ghost use Rattle.validate_resources.specs.Context.{Valid};
@@ -109,47 +109,10 @@ fn plain_block_type<R: WasmModuleResources>(
     }
 }
 
-/// Two lists as one, where one of them is empty.
-fn joined<'a>(below: &'a [ValType], above: &'a [ValType]) -> Option<&'a [ValType]>
-    ensures { ForSome result (λ both. both.now ≡ below.now ++ above.now) }
-{
-    if above.is_empty() {
-        Some(below)
-    } else if below.is_empty() {
-        Some(above)
-    } else {
-        None
-    }
-}
-
 /// Takes the operands above, and then the parameters of a checked block type, and opens a frame over
 /// the parameters.
 #[inline(always)]
 fn open_frame<R: WasmModuleResources>(
-    stacks: &mut Stacks,
-    resources: &R,
-    offset: u64,
-    kind: FrameKind,
-    above: &[ValType],
-    block_type: BlockType,
-) -> Result<(), Error>
-    requires visit { MayVisit (R.context resources.now) stacks.old }
-    requires above { AllByRecursion (Valid (R.context resources.now)) above.now }
-    requires block { IsValidBlock (R.context resources.now) stacks.old.body.shared block_type }
-    ensures { Meets (R.context resources.now) (λ cx. opening_operator cx kind above.now block_type)
-        offset stacks.old.body result stacks.new.body }
-{
-    let Some(wanted) = joined(params(resources, &block_type), above) else {
-        return open_by_pops(stacks, resources, offset, kind, above, block_type);
-    };
-    if stacks.exchange_at_once(resources, wanted, None) {
-        return stacks.push_ctrl(resources, offset, kind, block_type);
-    }
-    open_by_pops(stacks, resources, offset, kind, above, block_type)
-}
-
-/// The same by pops one by one.
-fn open_by_pops<R: WasmModuleResources>(
     stacks: &mut Stacks,
     resources: &R,
     offset: u64,

@@ -4,12 +4,14 @@ ghost use Rattle.std.specs.Prelude.{◌≡◌, ◌++◌, true, false, Some, None
 ghost use Rattle.std.specs.List.{AllByRecursion};
 ghost use Rattle.validate_resources.specs.Context.{ModuleContext, Valid};
 ghost use Rattle.validate_types.specs.Types.{unpacked_fields};
-ghost use Rattle.validation_rules.specs.Operators.{row_operator};
+ghost use Rattle.validation_rules.specs.Operators.{plain_row, row_operator};
+ghost use Rattle.validate_stacks.specs.AtOnce.{MeetsAtOnce};
 ghost use Rattle.validate_stacks.specs.Pops.{body_popped_each, body_pushed_each, IsKept};
 ghost use Rattle.validate_stacks.specs.State.{IsValidBody};
 ghost use Rattle.validate_stacks.specs.Visits.{MayVisit, Meets};
 ghost use Rattle.validate_shapes.specs.Operands.{few_types, wanted_types, pushed_types, operands_row, AreValidWanted, AreValidOperands};
 
+use crate::plain::plain_at_once;
 use validate_resources::WasmModuleResources;
 use validate_stacks::{Pops, Stacks};
 use validate_types::{Error, FieldType, ValType};
@@ -213,8 +215,76 @@ fn push_given(stacks: &mut Stacks, offset: u64, pushed: Pushed<'_>) -> Result<()
     }
 }
 
+/// `[wanted] -> [pushed]` of a few types each, where it passes at once and one type at most is pushed. False, with
+/// nothing changed, where it doesn't.
+#[inline(always)]
+fn few_at_once<R: WasmModuleResources>(
+    stacks: &mut Stacks,
+    resources: &R,
+    wanted: &[ValType],
+    pushed: Few,
+) -> bool
+    requires visit { MayVisit (R.context resources.now) stacks.old }
+    requires wanted { AllByRecursion (Valid (R.context resources.now)) wanted.now }
+    requires pushed { AllByRecursion (Valid (R.context resources.now)) (few_types pushed) }
+    ensures { MeetsAtOnce (R.context resources.now)
+        (λ cx. row_operator (plain_row wanted.now (few_types pushed))) stacks.old result stacks.new }
+{
+    match pushed {
+        Few::Zero => plain_at_once(stacks, resources, wanted, &[]),
+        Few::One(ty) => plain_at_once(stacks, resources, wanted, &[ty]),
+        _ => false,
+    }
+}
+
+/// [`check_operands`], where it passes at once, and a few types are taken and one at most given. False, with nothing
+/// changed, where it doesn't.
+pub fn operands_at_once<R: WasmModuleResources>(
+    stacks: &mut Stacks,
+    resources: &R,
+    operands: Operands<'_>,
+) -> bool
+    requires visit { MayVisit (R.context resources.now) stacks.old }
+    requires operands { AreValidOperands (R.context resources.now) operands }
+    ensures { MeetsAtOnce (R.context resources.now) (λ cx. row_operator (operands_row operands.entry))
+        stacks.old result stacks.new }
+{
+    let Pushed::Few(pushed) = operands.pushed else {
+        return false;
+    };
+    let Wanted::Few(wanted) = operands.wanted else {
+        return false;
+    };
+    match wanted {
+        Few::Zero => few_at_once(stacks, resources, &[], pushed),
+        Few::One(a) => few_at_once(stacks, resources, &[a], pushed),
+        Few::Two(a, b) => few_at_once(stacks, resources, &[a, b], pushed),
+        Few::Three(a, b, c) => few_at_once(stacks, resources, &[a, b, c], pushed),
+        Few::Four(a, b, c, d) => few_at_once(stacks, resources, &[a, b, c, d], pushed),
+        Few::Five(a, b, c, d, e) => few_at_once(stacks, resources, &[a, b, c, d, e], pushed),
+    }
+}
+
 /// `[wanted] -> [pushed]`.
 pub fn check_operands<R: WasmModuleResources>(
+    stacks: &mut Stacks,
+    resources: &R,
+    offset: u64,
+    operands: Operands<'_>,
+) -> Result<(), Error>
+    requires visit { MayVisit (R.context resources.now) stacks.old }
+    requires operands { AreValidOperands (R.context resources.now) operands }
+    ensures { Meets (R.context resources.now) (λ cx. row_operator (operands_row operands.entry)) offset
+        stacks.old.body result stacks.new.body }
+{
+    if operands_at_once(stacks, resources, operands) {
+        return Ok(());
+    }
+    operands_by_pops(stacks, resources, offset, operands)
+}
+
+/// The same by pops and pushes one by one.
+fn operands_by_pops<R: WasmModuleResources>(
     stacks: &mut Stacks,
     resources: &R,
     offset: u64,

@@ -4,7 +4,7 @@ ghost use Rattle.std.specs.Prelude.{◌≡◌, None, true, [], ◌∷◌, ◌++�
 ghost use Rattle.std.specs.List.{AllByRecursion};
 ghost use Rattle.validate_resources.specs.Context.{Valid};
 ghost use Rattle.validation_rules.specs.Operators.{plain_row, ending_row, row_operator};
-ghost use Rattle.validate_stacks.specs.AtOnce.{pushed_list, MeetsAtOnce};
+ghost use Rattle.validate_stacks.specs.AtOnce.{MeetsAtOnce};
 ghost use Rattle.validate_stacks.specs.Visits.{step_body, MayVisit, Meets};
 
 use validate_resources::WasmModuleResources;
@@ -27,10 +27,7 @@ pub fn check_plain<R: WasmModuleResources>(
         (λ cx. row_operator (plain_row wanted.now pushed.now)) offset stacks.old.body result
         stacks.new.body }
 {
-    if pushed.len() > 1 {
-        return plain_by_pops(stacks, resources, offset, wanted, pushed);
-    }
-    if plain_at_once(stacks, resources, wanted, pushed.first().copied()) {
+    if plain_at_once(stacks, resources, wanted, pushed) {
         return Ok(());
     }
     plain_by_pops(stacks, resources, offset, wanted, pushed)
@@ -55,22 +52,25 @@ fn plain_by_pops<R: WasmModuleResources>(
     stacks.push_types(offset, pushed)
 }
 
-/// `[wanted] -> [pushed]`, where it is plain at once: no attempt is pending, each operand is the number or vector
-/// type itself, or not known at all, and there is room. False, with nothing changed, where that isn't so.
+/// [`check_plain`], where it passes at once: no attempt is pending, each operand is the number or vector type itself,
+/// or not known at all, one type at most is pushed, and there is room. False, with nothing changed, where it doesn't.
 #[inline(always)]
 pub fn plain_at_once<R: WasmModuleResources>(
     stacks: &mut Stacks,
     resources: &R,
     wanted: &[ValType],
-    pushed: Option<ValType>,
+    pushed: &[ValType],
 ) -> bool
     requires visit { MayVisit (R.context resources.now) stacks.old }
     requires wanted { AllByRecursion (Valid (R.context resources.now)) wanted.now }
-    requires pushed { AllByRecursion (Valid (R.context resources.now)) (pushed_list pushed) }
+    requires pushed { AllByRecursion (Valid (R.context resources.now)) pushed.now }
     ensures { MeetsAtOnce (R.context resources.now)
-        (λ cx. row_operator (plain_row wanted.now (pushed_list pushed))) stacks.old result stacks.new }
+        (λ cx. row_operator (plain_row wanted.now pushed.now)) stacks.old result stacks.new }
 {
-    stacks.exchange_at_once(resources, wanted, pushed)
+    if pushed.len() > 1 {
+        return false;
+    }
+    stacks.exchange_at_once(resources, wanted, pushed.first().copied())
 }
 
 /// `[types] -> [types above]`: operands of these types stay, and another comes above them.
@@ -110,5 +110,5 @@ pub fn check_ending<R: WasmModuleResources>(
         stacks.old.body ≡ None) }
 {
     stacks.pop_types(resources, offset, types)?;
-    stacks.end_live_part(offset)
+    stacks.unreachable(offset)
 }

@@ -135,6 +135,14 @@ popped_dropped md wanted v h = by v.present.frames refl
         ∙ guard_open (all_fit (body_context md v) (operands_found (length wanted) f) wanted) _ (sym (ap (λ gs. all_fit (body_context md v) (operands_found_in (length wanted) gs) wanted) e) ∙ h)
         ∙ ap (λ gs. Some (body_with_frames gs v)) (sym (ap (frames_dropped (length wanted)) e))
 
+-- the frames stay open
+pub dropped_open : (n : ℕ) (v : BodyState) → v.present.frames ≢ [] → (body_dropped n v).present.frames ≢ []
+dropped_open n v o = by v.present.frames o
+  where
+    by : (fs : List Frame) → fs ≢ [] → frames_dropped n fs ≢ []
+    by [] h = absurd (h refl)
+    by (f ∷ fs) h = λ e. cc
+
 -- no more than there are
 pub dropped_within : (n k : ℕ) (v : BodyState) → k ≡ min n (length (innermost_operands v.present.frames)) → body_dropped n v ≡ body_dropped k v
 dropped_within n k v h = by v.present.frames ∙ ap (λ j. body_dropped j v) (sym h)
@@ -310,10 +318,6 @@ may_visit_then md op v w b m h k = subst (MayVisit md) (sym (same_at_once md op 
 pub meets_then : (md : ModuleContext) (op : Context → Operator) (v w : Stacked) (b : Bool) → MeetsAtOnce md op v b w → b ≡ false → (offset : ℕ) (r : Result (Unit {0}) Refusal) (x : BodyState) → Meets md op offset w.body r x → Meets md op offset v.body r x
 meets_then md op v w b m h offset r x k = subst (λ (s : Stacked). Meets md op offset s.body r x) (same_at_once md op v w b m h) k
 
--- an exchange that pushes nothing
-pub only_popped : (md : ModuleContext) (ws : List ValType) (v u : BodyState) → option_map (body_pushed_each []) (body_popped_each md ws v) ≡ Some u → body_popped_each md ws v ≡ Some u
-only_popped md ws v u h = let parts = mapped_some (body_pushed_each []) (body_popped_each md ws v) u h in parts.1 ∙ ap Some parts.2
-
 -- one that was made, and one that wasn't
 pub was_made : {P : Type 0} (Q : Type 0) (b : Bool) → b ≡ true → MatchBool b P Q → P
 was_made Q true h m = m
@@ -386,6 +390,11 @@ cut-taken fs x operands is (Active log) s n ls en quiet own = cc
 cut-taken [] x operands is (Inactive a) s n ls en quiet own = absurd (own refl)
 cut-taken (g ∷ gs) x operands is (Inactive a) s n ls en quiet own = (above_height (g ∷ gs) g x operands is s n ls en None refl (above_own g gs x operands is own)).1
 
+-- where there is none in the list, no frame is open
+pub frameless : (fs : List FlatFrame) (operands : List MaybeType) (is : List ℕ) → slice_get fs 0 ≡ None → (state_from_heights fs operands is).frames ≡ []
+frameless [] operands is h = refl
+frameless (g ∷ gs) operands is h = cc
+
 -- where no frame is open, nothing is given
 pub given_nothing : (fs : List FlatFrame) (operands : List MaybeType) (is : List ℕ) (s : Bool) (n : WasmFeatures) (ls : List ValType) (en : List Bool) (un : Option State) → slice_get fs 0 ≡ None → state_of fs operands is s n ls en un ≡ body_given (state_of fs operands is s n ls en un)
 given_nothing [] operands is s n ls en un h = refl
@@ -421,17 +430,14 @@ given_one v t h = by v.present.frames h
     by (f ∷ fs) e = in_frame f.operands f fs e
 
 -- what is dropped of a frame goes with it
-without_dropped : (n : ℕ) (v : BodyState) → body_without_frame (body_dropped n v) ≡ body_without_frame v
+pub without_dropped : (n : ℕ) (v : BodyState) → body_without_frame (body_dropped n v) ≡ body_without_frame v
 without_dropped n v = by v.present.frames
   where
     by : (fs : List Frame) → body_without_frame (body_dropped n (body_with_frames fs v)) ≡ body_without_frame (body_with_frames fs v)
     by [] = refl
     by (f ∷ fs) = refl
 
-pub without_kept : (v : BodyState) → IsKept v (body_without_frame v)
-without_kept v = refl
-
-without_valid : (md : ModuleContext) (v : BodyState) → IsValidBody md v → IsValidBody md (body_without_frame v)
+pub without_valid : (md : ModuleContext) (v : BodyState) → IsValidBody md v → IsValidBody md (body_without_frame v)
 without_valid md v h = by v.present.frames h
   where
     by : (fs : List Frame) → IsValidBody md (body_with_frames fs v) → IsValidBody md (body_without_frame (body_with_frames fs v))

@@ -1,4 +1,4 @@
-//! Operands of numbers, taken and put in place at once where that needs no order of types, no log and no memory.
+//! Operands and frames, moved at once where that needs no log and no memory.
 
 ghost use Rattle.std.specs.Prelude.{◌≡◌, [], ◌∷◌, true, None, Some, reverse, IsSome, MatchBool};
 ghost use Rattle.std.specs.List.{AllByRecursion};
@@ -20,6 +20,18 @@ use validate_types::{MaybeType, ValType};
 use validate_visit::{BlockType, FrameKind};
 
 impl Stacks {
+    /// Takes so many own operands of the innermost frame, or all.
+    #[inline(always)]
+    fn drop_operands(&mut self, count: usize)
+        requires { self.old.body.undone ≡ None }
+        ensures dropped { self.new.body ≡ body_dropped count self.old.body }
+        ensures phase { phase_moved self.new.phase ≡ phase_moved self.old.phase }
+    {
+        for _ in 0..count {
+            let _ = self.pop_any();
+        }
+    }
+
     /// Whether pops of these types, the last of the list first, would each find the number or vector type
     /// itself, or what isn't known at all.
     #[inline(always)]
@@ -45,39 +57,25 @@ impl Stacks {
         true
     }
 
-    /// Takes so many own operands of the innermost frame, or all.
+    /// Takes the operands that fit these types, and pushes one of the other type, if there is one and there is room.
     #[inline(always)]
-    fn drop_operands(&mut self, count: usize)
-        requires { self.old.body.undone ≡ None }
-        ensures dropped { self.new.body ≡ body_dropped count self.old.body }
-        ensures phase { phase_moved self.new.phase ≡ phase_moved self.old.phase }
-    {
-        for _ in 0..count {
-            let _ = self.pop_any();
-        }
-    }
-
-    /// Pops operands of these types, the last of the list first, and pushes one of the other type, if there
-    /// is one: where no attempt is pending, each operand that is found is the number or vector type itself
-    /// or not known at all, and there is room. False, with nothing changed, where that isn't so. It takes no
-    /// memory.
-    #[inline(always)]
-    pub fn exchange_at_once<R: WasmModuleResources>(
+    fn exchange<R: WasmModuleResources>(
         &mut self,
         resources: &R,
         wanted: &[ValType],
         pushed: Option<ValType>,
     ) -> bool
-        requires { AllByRecursion (Valid (R.context resources.now)) wanted.now }
+        requires idle { self.old.body.undone ≡ None }
+        requires fitting { has_operands_fitting (body_context (R.context resources.now) self.old.body) wanted.now
+            self.old.body ≡ true }
         ensures exact { MatchBool result
             (option_map (body_pushed_each (pushed_list pushed))
             (body_popped_each (R.context resources.now) (reverse wanted.now) self.old.body) ≡ Some self.new.body)
             (self.new ≡ self.old) }
         ensures phase { phase_moved self.new.phase ≡ phase_moved self.old.phase }
     {
-        if self.is_pending() || !self.finds_at_once(resources, wanted) {
-            return false;
-        }
+        // The contract alone reads it.
+        let _resources = resources;
         let count = wanted.len().min(self.own_len());
         match pushed {
             Some(ty) => {
@@ -92,58 +90,115 @@ impl Stacks {
         true
     }
 
-    /// Pops operands of these types, the last of the list first, and ends the live part of the innermost
-    /// frame, where no attempt is pending and each is found as for [`Stacks::exchange_at_once`]. False, with
-    /// nothing changed, where that isn't so. It takes no memory.
+    /// [`Stacks::exchange_at_once`] by the order of types.
+    #[inline(never)]
+    fn exchange_by_order<R: WasmModuleResources>(
+        &mut self,
+        resources: &R,
+        wanted: &[ValType],
+        pushed: Option<ValType>,
+    ) -> bool
+        requires idle { self.old.body.undone ≡ None }
+        requires types { AllByRecursion (Valid (R.context resources.now)) wanted.now }
+        requires state { IsValidBody (R.context resources.now) self.old.body }
+        ensures exact { MatchBool result
+            (option_map (body_pushed_each (pushed_list pushed))
+            (body_popped_each (R.context resources.now) (reverse wanted.now) self.old.body) ≡ Some self.new.body)
+            (self.new ≡ self.old) }
+        ensures phase { phase_moved self.new.phase ≡ phase_moved self.old.phase }
+    {
+        if !self.has_operands_fitting(resources, wanted) {
+            return false;
+        }
+        self.exchange(resources, wanted, pushed)
+    }
+
+    /// Pops operands of these types, the last of the list first, and pushes one of the other type, if there is one:
+    /// where no attempt is pending, each operand that is found fits, and there is room. False, with nothing changed,
+    /// where that isn't so. It takes no memory.
     #[inline(always)]
-    pub fn end_at_once<R: WasmModuleResources>(&mut self, resources: &R, wanted: &[ValType]) -> bool
-        requires { AllByRecursion (Valid (R.context resources.now)) wanted.now }
+    pub fn exchange_at_once<R: WasmModuleResources>(
+        &mut self,
+        resources: &R,
+        wanted: &[ValType],
+        pushed: Option<ValType>,
+    ) -> bool
+        requires types { AllByRecursion (Valid (R.context resources.now)) wanted.now }
+        requires state { IsValidBody (R.context resources.now) self.old.body }
+        ensures exact { MatchBool result
+            (option_map (body_pushed_each (pushed_list pushed))
+            (body_popped_each (R.context resources.now) (reverse wanted.now) self.old.body) ≡ Some self.new.body)
+            (self.new ≡ self.old) }
+        ensures phase { phase_moved self.new.phase ≡ phase_moved self.old.phase }
+    {
+        if self.is_pending() {
+            return false;
+        }
+        // Numbers, which are met most, have a path of their own with no call on it.
+        if self.finds_at_once(resources, wanted) {
+            return self.exchange(resources, wanted, pushed);
+        }
+        self.exchange_by_order(resources, wanted, pushed)
+    }
+
+    /// Pops operands of these types, the last of the list first, and ends the live part of the innermost frame: where
+    /// no attempt is pending, and each operand that is found fits. False, with nothing changed, where that isn't so. It
+    /// takes no memory.
+    #[inline(always)]
+    pub fn unreachable_at_once<R: WasmModuleResources>(
+        &mut self,
+        resources: &R,
+        wanted: &[ValType],
+    ) -> bool
+        requires types { AllByRecursion (Valid (R.context resources.now)) wanted.now }
+        requires state { IsValidBody (R.context resources.now) self.old.body }
         ensures exact { MatchBool result
             (option_map body_unreachable
             (body_popped_each (R.context resources.now) (reverse wanted.now) self.old.body) ≡ Some self.new.body)
             (self.new ≡ self.old) }
-        ensures valid { IsValidBody (R.context resources.now) self.old.body
-            → IsValidBody (R.context resources.now) self.new.body }
+        ensures valid { IsValidBody (R.context resources.now) self.new.body }
         ensures kept { IsKept self.old.body self.new.body }
     {
-        if self.is_pending() || !self.finds_at_once(resources, wanted) {
+        if self.is_pending() || !self.has_operands_fitting(resources, wanted) {
             return false;
         }
-        self.unreachable().is_ok()
+        self.unreachable(0).is_ok()
     }
 
-    /// Closes the innermost frame, which has this block type, where no attempt is pending, its results are
-    /// found as for [`Stacks::exchange_at_once`], and none of its operands is left over. False, with nothing
-    /// changed, where that isn't so. It takes no memory.
+    /// Closes the innermost frame, which has this block type, and opens another in its place, of this kind and without
+    /// operands: where no attempt is pending, the frame has as many own operands as results, and they fit. False, with
+    /// nothing changed, where that isn't so. It takes no memory.
     #[inline(always)]
-    pub fn close_at_once<R: WasmModuleResources>(
+    pub fn reopen_at_once<R: WasmModuleResources>(
         &mut self,
         resources: &R,
+        kind: FrameKind,
         block_type: BlockType,
     ) -> bool
         requires state { IsValidBody (R.context resources.now) self.old.body }
         requires open { IsSome (frame_at self.old.body 0) }
         requires frame { ForSome (frame_at self.old.body 0) (λ f. f.block_type ≡ block_type) }
-        ensures exact { MatchBool result (closed_body (R.context resources.now) self.old.body ≡ Some self.new.body)
+        ensures exact { MatchBool result (option_map (body_with_frame kind block_type)
+            (closed_body (R.context resources.now) self.old.body) ≡ Some self.new.body)
             (self.new ≡ self.old) }
-        ensures idle { result ≡ true → self.new.body.undone ≡ None }
         ensures valid { IsValidBody (R.context resources.now) self.new.body }
         ensures kept { IsKept self.old.body self.new.body }
     {
         let results = results(resources, &block_type);
-        if self.is_pending()
-            || self.own_len() > results.len()
-            || !self.exchange_at_once(resources, results, None)
+        if self.own_len() != results.len()
+            || self.is_pending()
+            || !self.has_operands_fitting(resources, results)
         {
             return false;
         }
-        self.pop_bare_ctrl().unwrap();
+        self.drop_operands(results.len());
+        self.reopen(kind, block_type);
         true
     }
 
-    /// Closes the innermost frame, which has this block type with one result at most, and gives that to the next
-    /// outer one: where no attempt is pending, the result is found as for [`Stacks::exchange_at_once`], and it is
-    /// the frame's one own operand. False, with nothing changed, where that isn't so. It takes no memory.
+    /// Closes the innermost frame, which has this block type, and gives its result to the next outer one: where no
+    /// attempt is pending, the frame has one result at most and so many own operands, and that one fits. False, with
+    /// nothing changed, where that isn't so. It takes no memory.
     #[inline(always)]
     pub fn leave_at_once<R: WasmModuleResources>(
         &mut self,
@@ -164,7 +219,7 @@ impl Stacks {
         if self.is_pending()
             || self.own_len() != results.len()
             || results.len() > 1
-            || !self.finds_at_once(resources, results)
+            || !self.has_operands_fitting(resources, results)
         {
             return false;
         }
@@ -175,9 +230,8 @@ impl Stacks {
         true
     }
 
-    /// Takes an operand of this type, and opens a frame: where no attempt is pending, there is room, and the
-    /// innermost frame has an own operand that is found as for [`Stacks::exchange_at_once`]. False, with nothing
-    /// changed, where that isn't so. It takes no memory.
+    /// Takes an operand of this type, and opens a frame: where no attempt is pending, there is room, and the innermost
+    /// frame has an own operand, which fits. False, with nothing changed, where that isn't so. It takes no memory.
     #[inline(always)]
     pub fn open_over_at_once<R: WasmModuleResources>(
         &mut self,
@@ -186,12 +240,16 @@ impl Stacks {
         kind: FrameKind,
         block_type: BlockType,
     ) -> bool
-        requires { Valid (R.context resources.now) taken }
+        requires taken { Valid (R.context resources.now) taken }
+        requires state { IsValidBody (R.context resources.now) self.old.body }
         ensures { MatchBool result (option_map (body_with_frame kind block_type)
             (body_popped_each (R.context resources.now) (taken ∷ []) self.old.body) ≡ Some self.new.body)
             (self.new ≡ self.old) }
     {
-        if self.is_pending() || self.own_len() == 0 || !self.finds_at_once(resources, &[taken]) {
+        if self.is_pending()
+            || self.own_len() == 0
+            || !self.has_operands_fitting(resources, &[taken])
+        {
             return false;
         }
         self.open_over_top(kind, block_type)

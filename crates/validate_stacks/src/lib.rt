@@ -2,15 +2,15 @@
 //! by contracts as the static state of the rules of validation.
 #![tactic(auto)]
 
-pub mod allocations;
-pub mod at_once;
+mod allocations;
+mod at_once;
 pub mod blocks;
-pub mod counted;
-pub mod either;
-pub mod laws;
-pub mod lists;
+mod counted;
+mod either;
+mod laws;
+mod lists;
 pub mod pops;
-pub mod stacks;
+mod stacks;
 
 pub use crate::allocations::OperatorValidatorAllocations;
 pub use crate::counted::Pops;

@@ -1,13 +1,14 @@
-//! Pops and pushes of lists of types, and the end of the live part of a frame.
+//! Pops and pushes of lists of types.
 
-ghost use Rattle.std.specs.Prelude.{◌≡◌, true, false, None, Some, OnOk, OnErr, IfErr, IsOk, length, reverse, take, ◌≤◌};
+ghost use Rattle.std.specs.Prelude.{◌≡◌, ◌≤◌, true, false, None, Some, OnOk, OnErr, IfErr, length, reverse, take};
 ghost use Rattle.std.specs.List.{AllByRecursion};
 ghost use Rattle.validate_resources.specs.Context.{ModuleContext, Valid};
 ghost use Rattle.validate_stacks.specs.Attempts.{phase_moved};
 ghost use Rattle.validate_stacks.specs.State.{IsValidBody, body_context};
-ghost use Rattle.validate_stacks.specs.Steps.{body_unreachable};
-ghost use Rattle.validate_stacks.specs.Pops.{body_popped_each, body_pushed_each, has_operands_fitting, IsKept};
+ghost use Rattle.validate_stacks.specs.Pops.{body_popped_each, body_pushed_each, has_operands_fitting, may_pop, IsKept};
+ghost use Rattle.validate_stacks.specs.Steps.{found_after_pops_in_body};
 
+use crate::pops::fits_at_once;
 use crate::stacks::Stacks;
 use validate_resources::WasmModuleResources;
 use validate_types::{Error, MaybeType, ValType};
@@ -79,6 +80,66 @@ impl Stacks {
         Ok(())
     }
 
+    /// Whether pops of these types would pass, the last of the list first.
+    #[inline(always)]
+    pub(crate) fn has_operands_fitting<R: WasmModuleResources>(
+        &self,
+        resources: &R,
+        wanted: &[ValType],
+    ) -> bool
+        requires types { AllByRecursion (Valid (R.context resources.now)) wanted.now }
+        requires state { IsValidBody (R.context resources.now) self.now.body }
+        ensures { result ≡ has_operands_fitting (body_context (R.context resources.now) self.now.body)
+            wanted.now self.now.body }
+    {
+        let mut left = wanted.len();
+        while left > 0 {
+            left -= 1;
+            if !self.is_fitting_at(resources, wanted.len() - 1 - left, wanted[left]) {
+                return false;
+            }
+        }
+        true
+    }
+
+    /// Whether the operand that a pop finds after so many others fits the wanted type.
+    #[inline(always)]
+    fn is_fitting_at<R: WasmModuleResources>(
+        &self,
+        resources: &R,
+        depth: usize,
+        wanted: ValType,
+    ) -> bool
+        requires wanted { Valid (R.context resources.now) wanted }
+        requires state { IsValidBody (R.context resources.now) self.now.body }
+        ensures { result ≡ may_pop (body_context (R.context resources.now) self.now.body)
+            (found_after_pops_in_body depth self.now.body) (Some wanted) }
+    {
+        let Some(found) = self.found_at(depth) else {
+            return false;
+        };
+        if fits_at_once(found, Some(wanted)) {
+            return true;
+        }
+        self.is_fitting_by_order(resources, depth, wanted)
+    }
+
+    /// The same by the order of types. It looks for the operand again, so that nothing is copied where it isn't called.
+    #[inline(never)]
+    fn is_fitting_by_order<R: WasmModuleResources>(
+        &self,
+        resources: &R,
+        depth: usize,
+        wanted: ValType,
+    ) -> bool
+        requires wanted { Valid (R.context resources.now) wanted }
+        requires state { IsValidBody (R.context resources.now) self.now.body }
+        ensures { result ≡ may_pop (body_context (R.context resources.now) self.now.body)
+            (found_after_pops_in_body depth self.now.body) (Some wanted) }
+    {
+        self.is_fitting(resources, self.found_at(depth), wanted)
+    }
+
     /// Checks that pops of these types would pass, the last of the list first, and leaves the operands in
     /// place (wasmparser's `match_stack_operands`, which pops and pushes them). Where they would not, it
     /// makes them, so that it refuses as they do, and the operands are popped up to the one that doesn't
@@ -105,15 +166,10 @@ impl Stacks {
         ensures valid { IsValidBody (R.context resources.now) self.new.body }
         ensures kept { IsKept self.old.body self.new.body }
     {
-        let mut left = wanted.len();
-        while left > 0 {
-            left -= 1;
-            let found = self.found_at(wanted.len() - 1 - left);
-            if !self.is_fitting(resources, found, wanted[left]) {
-                return self.pop_types(resources, offset, wanted);
-            }
+        if self.has_operands_fitting(resources, wanted) {
+            return Ok(());
         }
-        Ok(())
+        self.pop_types(resources, offset, wanted)
     }
 
     /// Pushes an operand of each of these types, the first of the list first. It refuses for want of
@@ -135,21 +191,5 @@ impl Stacks {
             }
         }
         Ok(())
-    }
-
-    /// Ends the live part of the innermost frame, with the offset in the refusal. It takes no memory
-    /// where no attempt is pending.
-    pub fn end_live_part(&mut self, offset: u64) -> Result<(), Error>
-        ensures ended { OnOk result (self.new.body ≡ body_unreachable self.old.body) }
-        ensures memory { IfErr result (λ e. e.wants_memory ≡ true) }
-        ensures offset { IfErr result (λ e. e.offset ≡ offset) }
-        ensures valid { (md : ModuleContext) → IsValidBody md self.old.body → IsValidBody md self.new.body }
-        ensures kept { IsKept self.old.body self.new.body }
-        ensures idle { self.old.body.undone ≡ None → IsOk result }
-    {
-        match self.unreachable() {
-            Ok(()) => Ok(()),
-            Err(_) => Err(Error::out_of_memory(offset)),
-        }
     }
 }

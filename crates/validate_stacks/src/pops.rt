@@ -290,8 +290,7 @@ impl Stacks {
         }
     }
 
-    /// Whether an operand was found that fits the wanted type.
-    #[inline(always)]
+    /// Whether an operand was found that fits the wanted type, by the order of types.
     pub(crate) fn is_fitting<R: WasmModuleResources>(
         &self,
         resources: &R,
@@ -313,7 +312,6 @@ impl Stacks {
 
     /// Whether an unknown reference, of which an abstract type may be known, fits the wanted type: with
     /// the sharedness of that.
-    #[inline(never)]
     fn is_unknown_fitting<R: WasmModuleResources>(
         &self,
         resources: &R,

@@ -1,6 +1,6 @@
 //! The operands, the open frames and the locals.
 
-ghost use Rattle.std.specs.Prelude.{◌≡◌, ◌≢◌, ◌+◌, ◌<◌, ◌≤◌, true, None, Some, [], length, is_some, IfOk, OnOk, OnErr, IsOk, IsSome, MatchBool, MatchResult, IsTrue, not};
+ghost use Rattle.std.specs.Prelude.{◌≡◌, ◌≢◌, ◌+◌, ◌<◌, ◌≤◌, true, false, None, Some, [], length, is_some, IfOk, OnOk, IfErr, OnErr, IsOk, IsSome, MatchBool, MatchResult, IsTrue, not};
 ghost use Rattle.std.specs.Option.{option_copied, ForSome};
 ghost use Rattle.validate_locals.specs.Limit.{max_locals};
 ghost use Rattle.validate_resources.specs.Context.{ModuleContext};
@@ -19,7 +19,7 @@ use std::marker::Model;
 use validate_locals::{LocalInits, Locals};
 use validate_transaction::pile::take_back;
 use validate_transaction::{Pile, Transaction};
-use validate_types::{MaybeType, OutOfMemory, ValType, WasmFeatures};
+use validate_types::{Error, MaybeType, OutOfMemory, ValType, WasmFeatures};
 use validate_visit::{BlockType, Frame, FrameKind};
 
 /// The operands, the open frames and the locals of a body (wasmparser's `OperatorValidator` without
@@ -337,13 +337,8 @@ impl Stacks {
         }
         let height = self.operands.len();
         let init_height = self.inits.height();
-        self.control.put(Frame {
-            kind,
-            block_type,
-            height,
-            unreachable: false,
-            init_height,
-        });
+        self.control
+            .put(live_frame(kind, block_type, height, init_height));
         true
     }
 
@@ -361,14 +356,32 @@ impl Stacks {
         let _top = self.operands.pop();
         let height = self.operands.len();
         let init_height = self.inits.height();
-        self.control.put(Frame {
-            kind,
-            block_type,
-            height,
-            unreachable: false,
-            init_height,
-        });
+        self.control
+            .put(live_frame(kind, block_type, height, init_height));
         true
+    }
+
+    /// Opens a frame in the place of the innermost one, which has no operands of its own: the locals that were first
+    /// set in that aren't set any more. It takes no memory.
+    #[inline(always)]
+    pub(crate) fn reopen(&mut self, kind: FrameKind, block_type: BlockType)
+        requires idle { self.old.body.undone ≡ None }
+        requires open { self.old.body.present.frames ≢ [] }
+        requires own { innermost_operands self.old.body.present.frames ≡ [] }
+        ensures { self.new.body ≡ body_with_frame kind block_type (body_without_frame self.old.body) }
+    {
+        let Some(innermost) = self.control.get(0) else {
+            unreachable!()
+        };
+        let closed = innermost.init_height;
+        // The proof takes from this read that there is room.
+        let _count = self.control.len();
+        let _ = self.control.pop();
+        self.inits.drop_ctrl(closed);
+        let height = self.operands.len();
+        let init_height = self.inits.height();
+        self.control
+            .put(live_frame(kind, block_type, height, init_height));
     }
 
     /// Closes the innermost frame, whose own operands pass to the next outer one. It takes no memory.
@@ -420,15 +433,21 @@ impl Stacks {
     }
 
     /// Ends the live part of the innermost frame (wasmparser's `unreachable`): it is dead from here on,
-    /// and its own operands go. It takes no memory where no attempt is pending.
-    pub fn unreachable(&mut self) -> Result<(), OutOfMemory>
+    /// and its own operands go. It refuses, at the offset handed in, for want of memory alone, and takes none where
+    /// no attempt is pending.
+    pub fn unreachable(&mut self, offset: u64) -> Result<(), Error>
         ensures ended { OnOk result (self.new.body ≡ body_unreachable self.old.body) }
+        ensures memory { IfErr result (λ e. e.wants_memory ≡ true) }
+        ensures offset { IfErr result (λ e. e.offset ≡ offset) }
         ensures valid { (md : ModuleContext) → IsValidBody md self.old.body → IsValidBody md self.new.body }
         ensures kept { IsKept self.old.body self.new.body }
         ensures idle { self.old.body.undone ≡ None → IsOk result }
     {
         while self.own_len() > 0 {
-            let _ = self.pop_any()?;
+            match self.pop_any() {
+                Ok(_) => {}
+                Err(_) => return Err(Error::out_of_memory(offset)),
+            }
         }
         self.mark();
         Ok(())
@@ -461,13 +480,8 @@ impl Stacks {
         self.transaction.push_ctrl()?;
         let height = self.operands.len();
         let init_height = self.inits.height();
-        self.control.put(Frame {
-            kind,
-            block_type,
-            height,
-            unreachable: false,
-            init_height,
-        });
+        self.control
+            .put(live_frame(kind, block_type, height, init_height));
         Ok(())
     }
 
@@ -541,6 +555,20 @@ impl Stacks {
         self.inits.put_back(&log.inits);
         self.inits.drop_ctrl(log.init_height);
         self.transaction.keep(log);
+    }
+}
+
+/// A live frame, over so many operands and locals that were set.
+#[inline(always)]
+fn live_frame(kind: FrameKind, block_type: BlockType, height: usize, init_height: usize) -> Frame
+    ensures { result ≡ record { kind = kind; block_type = block_type; height = height; unreachable = false; init_height = init_height } }
+{
+    Frame {
+        kind,
+        block_type,
+        height,
+        unreachable: false,
+        init_height,
     }
 }
 

@@ -9,8 +9,8 @@ use Rattle.validate_rows.proofs.branches.br_at_once.Goals as goal
 pub returns-in-None : goal.returns-in-None
 returns-in-None g c = not_at_once _ _ c.args.stacks.now
 
-pub end_at_once-requires : goal.end_at_once-requires
-end_at_once-requires g c =
+pub unreachable_at_once-requires-clause-types : goal.unreachable_at_once-requires-clause-types
+unreachable_at_once-requires-clause-types g c =
     let md = g.R.WasmModuleResources.context c.args.resources.now in
     let v = c.args.stacks.now.body in
     let d = c.args.relative_depth in
@@ -21,7 +21,7 @@ pub returns-in-Some : goal.returns-in-Some
 returns-in-Some g c =
     let md = g.R.WasmModuleResources.context c.args.resources.now in
     let v = c.args.stacks.now.body in
-    let w = c.end_at_once.new.self.body in
+    let w = c.unreachable_at_once.new.self.body in
     let d = c.args.relative_depth in
     let is = br_is md v c.requires.open_frame (λ cx hs. br_row cx hs d) d refl c.in-Some.block_type c.in-Some.kind c.label_types.result.now (sym c.jump.ensures ∙ c.in-Some.is) (c.label_types.ensures (body_context md v) refl) in
-    met_at_once md _ c.args.stacks.now c.end_at_once.new.self c.end_at_once.result (λ e offset. meets_done md _ offset v w (is ∙ e) (c.end_at_once.ensures.valid c.requires.valid) c.end_at_once.ensures.kept) c.end_at_once.ensures.exact
+    met_at_once md _ c.args.stacks.now c.unreachable_at_once.new.self c.unreachable_at_once.result (λ e offset. meets_done md _ offset v w (is ∙ e) c.unreachable_at_once.ensures.valid c.unreachable_at_once.ensures.kept) c.unreachable_at_once.ensures.exact

@@ -12,6 +12,7 @@ use Rattle.validate_stacks.specs.Visits.{step_body}
 use Rattle.validate_stacks.proofs.AtOnce.{exchange_parts, met_at_once, not_at_once}
 use Rattle.validate_shapes.proofs.BranchSteps.{label_valid, br_if_types, br_if_whole}
 use Rattle.validate_shapes.proofs.LastSteps.{meets_done}
+use Rattle.validate_rows.proofs.AtOnce.{none_of}
 use Rattle.validate_rows.proofs.branches.br_if_at_once.Goals as goal
 
 pub returns-in_default : goal.returns-in_default
@@ -19,10 +20,6 @@ returns-in_default g c = not_at_once _ _ c.args.stacks.now
 
 pub returns-then-types-gt1 : goal.returns-then-types-gt1
 returns-then-types-gt1 g c = not_at_once _ _ c.args.stacks.now
-
-none_of : (ts : List ValType) → length ts ≡ 0 → ts ≡ []
-none_of [] h = refl
-none_of (t ∷ ts) h = absurd (omega (arith, h))
 
 one_of : (b : Bool) (ts : List ValType) → b ≡ false → b ≡ (length ts == 0) → length ts ≤ 1 → ts ≡ get_or ts 0 I32 ∷ []
 one_of b [] f e h = absurd cc
@@ -40,8 +37,8 @@ returns-then-is_empty g c =
     let x = exchange_parts md (reverse (I32 ∷ [])) [] v w e in
     meets_done md _ offset v w (rw (none_of c.label_types-types.result.now (search rules)) at whole ∙ e) (x.valid tt c.requires.valid) x.kept) c.exchange_at_once.ensures.exact
 
-pub exchange_at_once-requires-2 : goal.exchange_at_once-requires-2
-exchange_at_once-requires-2 g c =
+pub exchange_at_once-requires-2-clause-types : goal.exchange_at_once-requires-2-clause-types
+exchange_at_once-requires-2-clause-types g c =
     let md = g.R.WasmModuleResources.context c.args.resources.now in
     let v = c.args.stacks.now.body in
     let d = c.args.relative_depth in

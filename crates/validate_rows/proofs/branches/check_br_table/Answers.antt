@@ -105,6 +105,6 @@ returns-clause-visit g c =
     let same = ap (λ q. q.body) c.in_ok-check_targets.ensures.same in
     let passed = sym (ap (body_popped_each md (reverse c.label_types-types.result.now)) same) ∙ c.in_ok-pop_types-2.ensures.passed in
     let w = c.pop_types-2.new.self.body in
-    let x = c.end_live_part.new.self.body in
-    meets_last md _ c.args.offset v x (body_unreachable w) c.end_live_part.result (λ q. table_passes md v c.requires.open_frame t.complete t.targets.now t.default c.pop_types.new.self.body c.in_ok-pop_types.ensures.passed c.in_ok-block_type.block_type c.in_ok-block_type.kind c.label_types-types.result.now (ap (label_at u) (sym c.default.ensures) ∙ c.in_ok-block_type.ensures.found) (c.label_types-types.ensures (body_context md v) refl) w x c.in_ok-check_targets.ensures.fits passed q) c.end_live_part.ensures.ended c.end_live_part.ensures.memory c.end_live_part.ensures.offset
-    (c.end_live_part.ensures.valid md c.pop_types-2.ensures.valid) (kept_on v w x (kept_on v s w (kept_on v u s c.pop_types.ensures.kept c.check_targets.ensures.kept) c.pop_types-2.ensures.kept) c.end_live_part.ensures.kept)
+    let x = c.unreachable.new.self.body in
+    meets_last md _ c.args.offset v x (body_unreachable w) c.unreachable.result (λ q. table_passes md v c.requires.open_frame t.complete t.targets.now t.default c.pop_types.new.self.body c.in_ok-pop_types.ensures.passed c.in_ok-block_type.block_type c.in_ok-block_type.kind c.label_types-types.result.now (ap (label_at u) (sym c.default.ensures) ∙ c.in_ok-block_type.ensures.found) (c.label_types-types.ensures (body_context md v) refl) w x c.in_ok-check_targets.ensures.fits passed q) c.unreachable.ensures.ended c.unreachable.ensures.memory c.unreachable.ensures.offset
+    (c.unreachable.ensures.valid md c.pop_types-2.ensures.valid) (kept_on v w x (kept_on v s w (kept_on v u s c.pop_types.ensures.kept c.check_targets.ensures.kept) c.pop_types-2.ensures.kept) c.unreachable.ensures.kept)

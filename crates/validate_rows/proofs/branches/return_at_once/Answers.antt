@@ -11,8 +11,8 @@ use Rattle.validate_rows.proofs.branches.return_at_once.Goals as goal
 pub returns-in-None : goal.returns-in-None
 returns-in-None g c = not_at_once _ _ c.args.stacks.now
 
-pub end_at_once-requires : goal.end_at_once-requires
-end_at_once-requires g c =
+pub unreachable_at_once-requires-clause-types : goal.unreachable_at_once-requires-clause-types
+unreachable_at_once-requires-clause-types g c =
     let md = g.R.WasmModuleResources.context c.args.resources.now in
     let v = c.args.stacks.now.body in
     let d = pred (length (heads v.present.frames)) in
@@ -25,9 +25,9 @@ pub returns-in-Some : goal.returns-in-Some
 returns-in-Some g c =
     let md = g.R.WasmModuleResources.context c.args.resources.now in
     let v = c.args.stacks.now.body in
-    let w = c.end_at_once.new.self.body in
+    let w = c.unreachable_at_once.new.self.body in
     let d = pred (length (heads v.present.frames)) in
     let f = c.in-Some.frame.now in
     let there = outermost_label v c.control_stack_height-outermost.result f c.control_stack_height-outermost.ensures (sym c.get_frame.ensures ∙ ap option_copied c.in-Some.is) in
     let is = br_is md v c.requires.open_frame (λ cx hs. return_row cx hs) d refl f.block_type f.kind c.label_types.result.now there (c.label_types.ensures (body_context md v) refl) in
-    met_at_once md _ c.args.stacks.now c.end_at_once.new.self c.end_at_once.result (λ e offset. meets_done md _ offset v w (is ∙ e) (c.end_at_once.ensures.valid c.requires.valid) c.end_at_once.ensures.kept) c.end_at_once.ensures.exact
+    met_at_once md _ c.args.stacks.now c.unreachable_at_once.new.self c.unreachable_at_once.result (λ e offset. meets_done md _ offset v w (is ∙ e) c.unreachable_at_once.ensures.valid c.unreachable_at_once.ensures.kept) c.unreachable_at_once.ensures.exact

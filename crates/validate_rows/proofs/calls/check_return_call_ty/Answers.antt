@@ -29,8 +29,8 @@ returns g c =
     let md = g.R.WasmModuleResources.context c.args.resources.now in
     let v = c.args.stacks.now.body in
     let u = c.pop_types.new.self.body in
-    let w = c.end_live_part.new.self.body in
+    let w = c.unreachable.new.self.body in
     let below = ap (λ ts. comes_back (body_context md v) (heads v.present.frames) ts) (sym c.results.ensures) ∙ c.in_ok-check_func_type_same_results.ensures.below in
     let popped = ap (λ ts. body_popped_each md (reverse ts) v) (sym c.params.ensures) ∙ c.in_ok-pop_types.ensures.passed in
-    meets_last md _ c.args.offset v w (body_unreachable u) c.end_live_part.result (λ q. tail_passes md v c.requires.visit.open_frame c.args.func_type.now.params c.args.func_type.now.results u w below popped q) c.end_live_part.ensures.ended c.end_live_part.ensures.memory c.end_live_part.ensures.offset
-    (c.end_live_part.ensures.valid md c.pop_types.ensures.valid) (kept_on v u w c.pop_types.ensures.kept c.end_live_part.ensures.kept)
+    meets_last md _ c.args.offset v w (body_unreachable u) c.unreachable.result (λ q. tail_passes md v c.requires.visit.open_frame c.args.func_type.now.params c.args.func_type.now.results u w below popped q) c.unreachable.ensures.ended c.unreachable.ensures.memory c.unreachable.ensures.offset
+    (c.unreachable.ensures.valid md c.pop_types.ensures.valid) (kept_on v u w c.pop_types.ensures.kept c.unreachable.ensures.kept)

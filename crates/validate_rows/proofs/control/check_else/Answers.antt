@@ -1,47 +1,40 @@
-use Rattle.std.proofs.Common.{rules, ◌≡◌, true, false, sym, ap, subst, ◌∙◌}
-use Rattle.std.specs.Option.{option_copied}
-use Rattle.validate_visit.specs.declared.frame.FrameKind.TheVariants.{Else}
-use Rattle.validation_rules.specs.Operators.{delimiter_operator}
+use Rattle.std.proofs.Common.{rules, ◌≡◌, true, false}
 use Rattle.validation_rules.specs.Rows.{BeginsElse, is_if}
-use Rattle.validate_stacks.specs.Attempts.{Stacked}
+use Rattle.validate_visit.specs.declared.frame.FrameKind.TheVariants.{Else}
 use Rattle.validate_stacks.specs.Blocks.{body_with_block}
-use Rattle.validate_stacks.specs.Visits.{MayVisit, Meets}
-use Rattle.validate_stacks.proofs.AtOnce.{was_made, was_not_made}
-use Rattle.validate_stacks.proofs.ClosedFrames.{block_valid}
 use Rattle.validate_stacks.proofs.Validity.{kept_on}
-use Rattle.validate_shapes.proofs.Parts.{params_of, else_begins, part_passes}
-use Rattle.validate_shapes.proofs.LastSteps.{meets_last}
-use Rattle.validate_rows.proofs.AtOnce.{frame_there, block_there, idle_frame}
+use Rattle.validate_shapes.proofs.Parts.{params_of, else_begins, part_none, part_of_another, part_passes}
+use Rattle.validate_shapes.proofs.LastSteps.{meets_none, meets_last, meets_refused}
+use Rattle.validate_stacks.proofs.Phases.{step_frame, step_unset}
 use Rattle.validate_rows.proofs.control.check_else.Goals as goal
 
-pub close_at_once-requires-clause-open : goal.close_at_once-requires-clause-open
-close_at_once-requires-clause-open g c = frame_there c.args.stacks.now.body c.in-Some.frame.now (sym c.get_frame.ensures ∙ ap option_copied c.in-Some.is)
-
-pub close_at_once-requires-clause-frame : goal.close_at_once-requires-clause-frame
-close_at_once-requires-clause-frame g c = block_there c.args.stacks.now.body c.in-Some.frame.now (sym c.get_frame.ensures ∙ ap option_copied c.in-Some.is)
-
-pub returns-then-close_at_once : goal.returns-then-close_at_once
-returns-then-close_at_once g c =
+pub returns-in_err-frame : goal.returns-in_err-frame
+returns-in_err-frame g c =
     let md = g.R.WasmModuleResources.context c.args.resources.now in
     let v = c.args.stacks.now.body in
-    let u = c.close_at_once.new.self.body in
-    let w = c.push_ctrl.new.self.body in
-    let f = c.in-Some.frame.now in
-    let there = sym c.get_frame.ensures ∙ ap option_copied c.in-Some.is in
-    let closed = was_made _ c.close_at_once.result c.if-close_at_once.true c.close_at_once.ensures.exact in
-    let k : is_if f.kind ≡ true = search rules in
-    meets_last md _ c.args.offset v w (body_with_block md Else f.block_type u) c.push_ctrl.result (λ q. part_passes BeginsElse is_if Else params_of else_begins md v f there u w closed k q) c.push_ctrl.ensures.entered c.push_ctrl.ensures.memory c.push_ctrl.ensures.offset
-    c.push_ctrl.ensures.valid (kept_on v u w c.close_at_once.ensures.kept c.push_ctrl.ensures.kept)
+    let none = part_none BeginsElse is_if Else params_of else_begins md v c.requires.open_frame in
+    meets_refused md _ c.args.offset v c.pop_ctrl.new.self.body _ (search rules) (search (rules, none)) (search rules) c.pop_ctrl.ensures.valid c.pop_ctrl.ensures.kept
 
-pub push_ctrl-requires-clause-frames : goal.push_ctrl-requires-clause-frames
-push_ctrl-requires-clause-frames g c = idle_frame c.close_at_once.new.self (c.close_at_once.ensures.idle c.if-close_at_once.true)
-
-pub else_by_pops-requires-2 : goal.else_by_pops-requires-2
-else_by_pops-requires-2 g c =
+pub returns-then-not-is_if_part : goal.returns-then-not-is_if_part
+returns-then-not-is_if_part g c =
     let md = g.R.WasmModuleResources.context c.args.resources.now in
-    subst (MayVisit md) (sym (was_not_made _ c.close_at_once.result c.if-close_at_once.false c.close_at_once.ensures.exact)) c.requires
+    let v = c.args.stacks.now.body in
+    let k : is_if c.in_ok-frame.frame.kind ≡ false = search rules in
+    let none = part_of_another BeginsElse is_if Else params_of else_begins md v c.in_ok-frame.frame c.in_ok-frame.ensures.frame k in
+    meets_none md _ c.args.offset v c.pop_ctrl.new.self.body _ (search rules) none (search rules) c.pop_ctrl.ensures.valid c.pop_ctrl.ensures.kept
 
 pub returns : goal.returns
 returns g c =
     let md = g.R.WasmModuleResources.context c.args.resources.now in
-    subst (λ (s : Stacked). Meets md (λ cx. delimiter_operator BeginsElse) c.args.offset s.body c.else_by_pops-2.result c.else_by_pops-2.new.stacks.body) (was_not_made _ c.close_at_once.result c.if-close_at_once.false c.close_at_once.ensures.exact) c.else_by_pops-2.ensures
+    let v = c.args.stacks.now.body in
+    let u = c.pop_ctrl.new.self.body in
+    let f = c.in_ok-frame.frame in
+    let k : is_if f.kind ≡ true = search rules in
+    meets_last md _ c.args.offset v c.push_ctrl.new.self.body (body_with_block md Else f.block_type u) c.push_ctrl.result (λ q. part_passes BeginsElse is_if Else params_of else_begins md v f c.in_ok-frame.ensures.frame u c.push_ctrl.new.self.body c.in_ok-frame.ensures.closed k q) c.push_ctrl.ensures.entered c.push_ctrl.ensures.memory c.push_ctrl.ensures.offset
+    c.push_ctrl.ensures.valid (kept_on v u c.push_ctrl.new.self.body c.pop_ctrl.ensures.kept c.push_ctrl.ensures.kept)
+
+pub pop_ctrl-requires-clause-frames : goal.pop_ctrl-requires-clause-frames
+pop_ctrl-requires-clause-frames g c = step_frame c.args.stacks.now c.requires.attempt
+
+pub pop_ctrl-requires-clause-unsets : goal.pop_ctrl-requires-clause-unsets
+pop_ctrl-requires-clause-unsets g c = step_unset c.args.stacks.now c.requires.attempt

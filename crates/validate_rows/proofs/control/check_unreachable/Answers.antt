@@ -7,6 +7,6 @@ pub returns-clause-visit : goal.returns-clause-visit
 returns-clause-visit g c =
     let md = g.R.WasmModuleResources.context c.args.resources.now in
     let v = c.args.stacks.now.body in
-    let w = c.end_live_part.new.self.body in
-    meets_last md _ c.args.offset v w (body_unreachable v) c.end_live_part.result (λ q. unreachable_is md v w c.requires.open_frame q) c.end_live_part.ensures.ended c.end_live_part.ensures.memory c.end_live_part.ensures.offset
-    (c.end_live_part.ensures.valid md c.requires.valid) c.end_live_part.ensures.kept
+    let w = c.unreachable.new.self.body in
+    meets_last md _ c.args.offset v w (body_unreachable v) c.unreachable.result (λ q. unreachable_is md v w c.requires.open_frame q) c.unreachable.ensures.ended c.unreachable.ensures.memory c.unreachable.ensures.offset
+    (c.unreachable.ensures.valid md c.requires.valid) c.unreachable.ensures.kept

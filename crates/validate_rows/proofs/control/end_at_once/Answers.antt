@@ -1,25 +1,20 @@
-use Rattle.std.proofs.Common.{rules, Bool, not, sym, ap, subst, ◌∙◌}
+use Rattle.std.proofs.Common.{sym, ap, ◌∙◌}
 use Rattle.std.specs.Option.{option_copied}
 use Rattle.validation_rules.specs.Context.{block_signature}
-use Rattle.validation_rules.specs.Operators.{delimiter_operator}
-use Rattle.validation_rules.specs.Rows.{Ends}
-use Rattle.validate_stacks.specs.AtOnce.{MeetsAtOnce}
 use Rattle.validate_stacks.specs.Blocks.{closed_body}
 use Rattle.validate_stacks.specs.Pops.{body_pushed_each}
+use Rattle.validate_stacks.specs.State.{body_context}
 use Rattle.validate_stacks.proofs.AtOnce.{mapped_some, met_at_once, not_at_once}
-use Rattle.validate_shapes.proofs.Rows.{end_passes, closes_unless_if}
+use Rattle.validate_shapes.proofs.Rows.{end_passes}
 use Rattle.validate_shapes.proofs.LastSteps.{meets_done}
 use Rattle.validate_rows.proofs.AtOnce.{frame_there, block_there}
 use Rattle.validate_rows.proofs.control.end_at_once.Goals as goal
 
-pub returns-in-None : goal.returns-in-None
-returns-in-None g c = not_at_once _ _ c.args.stacks.now
+pub returns-in_default : goal.returns-in_default
+returns-in_default g c = not_at_once _ _ c.args.stacks.now
 
-pub returns-else-not-is_if_part : goal.returns-else-not-is_if_part
-returns-else-not-is_if_part g c =
-    let md = g.R.WasmModuleResources.context c.args.resources.now in
-    let s = c.args.stacks.now in
-    subst (λ (b : Bool). MeetsAtOnce md (λ cx. delimiter_operator Ends) s (not b) s) (sym c.if-not-is_if_part.false) (not_at_once _ _ s)
+pub returns-then-not-may_lack_else : goal.returns-then-not-may_lack_else
+returns-then-not-may_lack_else g c = not_at_once _ _ c.args.stacks.now
 
 pub leave_at_once-requires-clause-open : goal.leave_at_once-requires-clause-open
 leave_at_once-requires-clause-open g c = frame_there c.args.stacks.now.body c.in-Some.frame.now (sym c.get_frame.ensures ∙ ap option_copied c.in-Some.is)
@@ -27,8 +22,8 @@ leave_at_once-requires-clause-open g c = frame_there c.args.stacks.now.body c.in
 pub leave_at_once-requires-clause-frame : goal.leave_at_once-requires-clause-frame
 leave_at_once-requires-clause-frame g c = block_there c.args.stacks.now.body c.in-Some.frame.now (sym c.get_frame.ensures ∙ ap option_copied c.in-Some.is)
 
-pub returns-then-not-is_if_part : goal.returns-then-not-is_if_part
-returns-then-not-is_if_part g c =
+pub returns : goal.returns
+returns g c =
     let md = g.R.WasmModuleResources.context c.args.resources.now in
     let v = c.args.stacks.now.body in
     let w = c.leave_at_once.new.self.body in
@@ -37,4 +32,4 @@ returns-then-not-is_if_part g c =
     met_at_once md _ c.args.stacks.now c.leave_at_once.new.self c.leave_at_once.result
     (λ e offset.
     let parts = mapped_some (body_pushed_each (block_signature md f.block_type).results) (closed_body md v) w e in
-    meets_done md _ offset v w (end_passes md v f there parts.0 w parts.1 (closes_unless_if md f v (search rules)) (sym parts.2)) c.leave_at_once.ensures.valid c.leave_at_once.ensures.kept) c.leave_at_once.ensures.exact
+    meets_done md _ offset v w (end_passes md v f there parts.0 w parts.1 (c.may_lack_else.ensures c.if-not-may_lack_else.false (body_context md v)) (sym parts.2)) c.leave_at_once.ensures.valid c.leave_at_once.ensures.kept) c.leave_at_once.ensures.exact

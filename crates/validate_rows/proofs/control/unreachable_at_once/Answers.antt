@@ -12,6 +12,6 @@ pub returns : goal.returns
 returns g c =
     let md = g.R.WasmModuleResources.context c.args.resources.now in
     let v = c.args.stacks.now.body in
-    let w = c.end_at_once.new.self.body in
-    met_at_once md _ c.args.stacks.now c.end_at_once.new.self c.end_at_once.result
-    (λ e offset. meets_done md _ offset v w (unreachable_is md v w c.requires.open_frame (sym (some_injective _ _ (sym (ap (option_map body_unreachable) (popped_none md v)) ∙ e)))) (c.end_at_once.ensures.valid c.requires.valid) c.end_at_once.ensures.kept) c.end_at_once.ensures.exact
+    let w = c.unreachable_at_once.new.self.body in
+    met_at_once md _ c.args.stacks.now c.unreachable_at_once.new.self c.unreachable_at_once.result
+    (λ e offset. meets_done md _ offset v w (unreachable_is md v w c.requires.open_frame (sym (some_injective _ _ (sym (ap (option_map body_unreachable) (popped_none md v)) ∙ e)))) c.unreachable_at_once.ensures.valid c.unreachable_at_once.ensures.kept) c.unreachable_at_once.ensures.exact

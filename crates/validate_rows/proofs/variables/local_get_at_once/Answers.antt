@@ -23,8 +23,8 @@ returns-in-Some g c =
     let v = c.args.stacks.now.body in
     let w = c.push_at_once.new.self.body in
     let t = c.in-Some.ty in
-    let found = c.set_local.ensures.found t c.in-Some.is in
-    let set = c.set_local.ensures.set (some_is c.set_local.result t c.in-Some.is) in
+    let found = c.type_of_set_local.ensures.found t c.in-Some.is in
+    let set = c.type_of_set_local.ensures.set (some_is c.type_of_set_local.result t c.in-Some.is) in
     let passes = local_get_is md v c.args.local_index t found c.requires.open_frame ∙ ap (λ b. guard b (Some (body_pushed_each (t ∷ []) v))) set in
     let good = all_get (Valid md) v.locals c.args.local_index t found c.requires.valid.locals_valid in
     met_at_once md _ c.args.stacks.now c.push_at_once.new.self c.push_at_once.result

@@ -24,8 +24,8 @@ returns-in-Some g c =
     let w = c.exchange_at_once.new.self.body in
     let t = c.in-Some.ty in
     let i = c.args.local_index in
-    let found = c.set_local.ensures.found t c.in-Some.is in
-    let set = c.set_local.ensures.set (some_is c.set_local.result t c.in-Some.is) in
+    let found = c.type_of_set_local.ensures.found t c.in-Some.is in
+    let set = c.type_of_set_local.ensures.set (some_is c.type_of_set_local.result t c.in-Some.is) in
     let good = all_get (Valid md) v.locals i t found c.requires.valid.locals_valid in
     met_at_once md _ c.args.stacks.now c.exchange_at_once.new.self c.exchange_at_once.result
     (λ (e : _) (offset : ℕ).

@@ -15,8 +15,8 @@ use Rattle.validate_shapes.proofs.blocks.opener_at_once.Goals as goal
 pub returns-in-None : goal.returns-in-None
 returns-in-None g c = not_at_once _ _ c.args.stacks.now
 
-pub open_over_at_once-requires : goal.open_over_at_once-requires
-open_over_at_once-requires g c =
+pub open_over_at_once-requires-clause-taken : goal.open_over_at_once-requires-clause-taken
+open_over_at_once-requires-clause-taken g c =
     let md = g.R.WasmModuleResources.context c.args.resources.now in
     (subst (λ (a : Option ValType). AllByRecursion (Valid md) (pushed_list a)) c.in-Some-above.is c.requires.above).0
 

@@ -23,6 +23,6 @@ returns-clause-row g c =
     let md = g.R.WasmModuleResources.context c.args.resources.now in
     let v = c.args.stacks.now.body in
     let u = c.pop_types.new.self.body in
-    let w = c.end_live_part.new.self.body in
-    meets_last md _ c.args.offset v w (body_unreachable u) c.end_live_part.result (λ q. ending_passes md v c.requires.visit.open_frame c.args.types.now u w c.in_ok-pop_types.ensures.passed q) c.end_live_part.ensures.ended c.end_live_part.ensures.memory c.end_live_part.ensures.offset
-    (c.end_live_part.ensures.valid md c.pop_types.ensures.valid) (kept_on v u w c.pop_types.ensures.kept c.end_live_part.ensures.kept)
+    let w = c.unreachable.new.self.body in
+    meets_last md _ c.args.offset v w (body_unreachable u) c.unreachable.result (λ q. ending_passes md v c.requires.visit.open_frame c.args.types.now u w c.in_ok-pop_types.ensures.passed q) c.unreachable.ensures.ended c.unreachable.ensures.memory c.unreachable.ensures.offset
+    (c.unreachable.ensures.valid md c.pop_types.ensures.valid) (kept_on v u w c.pop_types.ensures.kept c.unreachable.ensures.kept)

@@ -12,8 +12,8 @@ use Rattle.validate_stacks.proofs.ClosedFrames.{wants_valid}
 use Rattle.validate_stacks.proofs.stacks.Stacks.leave_at_once.Goals as goal
 use Rattle.validate_stacks.proofs.stacks.Stacks.leave_at_once.Goals.{then-results-eq1, else-results-eq1}
 
-pub finds_at_once-requires : goal.finds_at_once-requires
-finds_at_once-requires g c =
+pub has_operands_fitting-requires-clause-types : goal.has_operands_fitting-requires-clause-types
+has_operands_fitting-requires-clause-types g c =
     let md = g.R.WasmModuleResources.context c.args.resources.now in
     let v = c.args.self.now.body in
     let rs = c.results-results.result.now in
@@ -28,7 +28,7 @@ returns-clause-exact g c =
     let rs = c.results-results.result.now in
     let there = some_there (frame_at v 0) c.requires.open in
     let same = c.results-results.ensures ∙ ap (λ b. (block_signature md b).results) (sym (c.requires.frame there.0 there.1)) in
-    let fit = c.finds_at_once.ensures c.if-not-finds_at_once.false in
+    let fit = sym c.has_operands_fitting.ensures ∙ c.if-not-has_operands_fitting.false in
     let own : length (innermost_operands v.present.frames) ≡ length rs = omega (arith, c.own_len.ensures, c.if-own_len-results.false) in
     let left : c.give_operands.new.self.body ≡ body_pushed_each rs (body_without_frame v) =
     elim c.if-results-eq1.branch [
@@ -44,7 +44,7 @@ returns-clause-valid g c =
     let rs = c.results-results.result.now in
     let there = some_there (frame_at v 0) c.requires.open in
     let same = c.results-results.ensures ∙ ap (λ b. (block_signature md b).results) (sym (c.requires.frame there.0 there.1)) in
-    let fit = c.finds_at_once.ensures c.if-not-finds_at_once.false in
+    let fit = sym c.has_operands_fitting.ensures ∙ c.if-not-has_operands_fitting.false in
     let own : length (innermost_operands v.present.frames) ≡ length rs = omega (arith, c.own_len.ensures, c.if-own_len-results.false) in
     let left : c.give_operands.new.self.body ≡ body_pushed_each rs (body_without_frame v) =
     elim c.if-results-eq1.branch [
@@ -60,7 +60,7 @@ returns-clause-kept g c =
     let rs = c.results-results.result.now in
     let there = some_there (frame_at v 0) c.requires.open in
     let same = c.results-results.ensures ∙ ap (λ b. (block_signature md b).results) (sym (c.requires.frame there.0 there.1)) in
-    let fit = c.finds_at_once.ensures c.if-not-finds_at_once.false in
+    let fit = sym c.has_operands_fitting.ensures ∙ c.if-not-has_operands_fitting.false in
     let own : length (innermost_operands v.present.frames) ≡ length rs = omega (arith, c.own_len.ensures, c.if-own_len-results.false) in
     let left : c.give_operands.new.self.body ≡ body_pushed_each rs (body_without_frame v) =
     elim c.if-results-eq1.branch [

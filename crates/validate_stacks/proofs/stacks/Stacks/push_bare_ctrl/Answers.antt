@@ -18,19 +18,19 @@ pub invariant_of-self-2 : goal.invariant_of-self-2
 invariant_of-self-2 c =
     let s = c.self.inside in
     let may = rw (← c.self.view_is) at c.requires in
-    rw (c.put.ensures.items, c.take_room.ensures.items, c.in_ok-push_ctrl.ensures.exact, c.len-height.ensures.value, c.height-init_height.ensures.value)
+    rw (c.put.ensures.items, c.take_room.ensures.items, c.in_ok-push_ctrl.ensures.exact, c.live_frame.ensures, c.len-height.ensures.value, c.height-init_height.ensures.value)
     (sound_open c.args.kind c.args.block_type s.control.room c.put.new.self.room s.control.items s.operands.room s.operands.items s.inits.room s.inits.set_at_entry s.inits.order s.transaction s.shared s.features s.locals may (omega arith) c.self.invariant)
 
 pub returns-clause-exact : goal.returns-clause-exact
 returns-clause-exact c =
     let s = c.self.inside in
     let may = rw (← c.self.view_is) at c.requires in
-    rw (c.put.ensures.items, c.take_room.ensures.items, c.in_ok-push_ctrl.ensures.exact, c.len-height.ensures.value, c.height-init_height.ensures.value)
+    rw (c.put.ensures.items, c.take_room.ensures.items, c.in_ok-push_ctrl.ensures.exact, c.live_frame.ensures, c.len-height.ensures.value, c.height-init_height.ensures.value)
     (state_open c.args.kind c.args.block_type s.control.items s.operands.items s.inits.order s.transaction s.shared s.features s.locals s.inits.set_at_entry may ∙ ap (body_with_frame c.args.kind c.args.block_type) (ap body_of c.self.view_is))
 
 pub returns-clause-frames : goal.returns-clause-frames
 returns-clause-frames c =
     let s = c.self.inside in
     let may = rw (← c.self.view_is) at c.requires in
-    rw (c.put.ensures.items, c.take_room.ensures.items, c.in_ok-push_ctrl.ensures.exact, c.len-height.ensures.value, c.height-init_height.ensures.value)
+    rw (c.put.ensures.items, c.take_room.ensures.items, c.in_ok-push_ctrl.ensures.exact, c.live_frame.ensures, c.len-height.ensures.value, c.height-init_height.ensures.value)
     (frames_open _ s.control.items s.operands.items s.inits.order s.transaction s.shared s.features s.locals s.inits.set_at_entry may)

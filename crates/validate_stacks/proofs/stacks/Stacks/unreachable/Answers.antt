@@ -7,13 +7,13 @@ use Rattle.validate_stacks.proofs.Looks.{ended_popped}
 use Rattle.validate_stacks.proofs.Validity.{popped_valid, popped_kept, kept_on}
 use Rattle.validate_stacks.proofs.stacks.Stacks.unreachable.Goals as goal
 
-pub returns-in_err-pop_any-clause-valid : goal.returns-in_err-pop_any-clause-valid
-returns-in_err-pop_any-clause-valid c = λ md h. subst (IsValidBody md) (ap body_of (sym c.in_err-pop_any.ensures.exact)) (c.loop-self.invariant.valid md h)
+pub returns-in-Err-clause-valid : goal.returns-in-Err-clause-valid
+returns-in-Err-clause-valid c = λ md h. subst (IsValidBody md) (ap body_of (sym c.in-Err.ensures.exact)) (c.loop-self.invariant.valid md h)
 
 pub loop-self-preserved : goal.loop-self-preserved
 loop-self-preserved c =
     let v = c.loop-self.self.body in
-    let e = c.in_ok-pop_any.ensures.exact.1 in
+    let e = c.in-Ok.ensures.exact.1 in
     record {
       same = ap body_unreachable e ∙ (ended_popped v ∙ c.loop-self.invariant.same);
       valid = λ md h. subst (IsValidBody md) (sym e) (popped_valid md v (c.loop-self.invariant.valid md h));

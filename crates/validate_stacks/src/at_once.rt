@@ -8,12 +8,11 @@ ghost use Rattle.validation_rules.specs.Context.{block_signature};
 ghost use Rattle.validate_stacks.specs.Attempts.{phase_moved};
 ghost use Rattle.validate_stacks.specs.AtOnce.{body_dropped, pushed_list};
 ghost use Rattle.validate_stacks.specs.Blocks.{closed_body};
-ghost use Rattle.validate_stacks.specs.Pops.{IsKept, body_popped_each, body_pushed_each, has_operands_fitting};
-ghost use Rattle.validate_stacks.specs.State.{IsValidBody, body_context};
+ghost use Rattle.validate_stacks.specs.Pops.{IsKept, body_popped_each, body_pushed_each};
+ghost use Rattle.validate_stacks.specs.State.{IsValidBody};
 ghost use Rattle.validate_stacks.specs.Steps.{body_unreachable, body_with_frame, frame_at};
 
 use crate::blocks::results;
-use crate::pops::fits_at_once;
 use crate::stacks::Stacks;
 use validate_resources::WasmModuleResources;
 use validate_types::{MaybeType, ValType};
@@ -30,87 +29,6 @@ impl Stacks {
         for _ in 0..count {
             let _ = self.pop_any();
         }
-    }
-
-    /// Whether pops of these types, the last of the list first, would each find the number or vector type
-    /// itself, or what isn't known at all.
-    #[inline(always)]
-    fn finds_at_once<R: WasmModuleResources>(&self, resources: &R, wanted: &[ValType]) -> bool
-        requires { AllByRecursion (Valid (R.context resources.now)) wanted.now }
-        ensures { result ≡ true → has_operands_fitting
-            (body_context (R.context resources.now) self.now.body) wanted.now self.now.body ≡ true }
-    {
-        // The contract alone reads it.
-        let _resources = resources;
-        let mut left = wanted.len();
-        while left > 0 {
-            left -= 1;
-            match self.found_at(wanted.len() - 1 - left) {
-                Some(found) => {
-                    if !fits_at_once(found, Some(wanted[left])) {
-                        return false;
-                    }
-                }
-                None => return false,
-            }
-        }
-        true
-    }
-
-    /// Takes the operands that fit these types, and pushes one of the other type, if there is one and there is room.
-    #[inline(always)]
-    fn exchange<R: WasmModuleResources>(
-        &mut self,
-        resources: &R,
-        wanted: &[ValType],
-        pushed: Option<ValType>,
-    ) -> bool
-        requires idle { self.old.body.undone ≡ None }
-        requires fitting { has_operands_fitting (body_context (R.context resources.now) self.old.body) wanted.now
-            self.old.body ≡ true }
-        ensures exact { MatchBool result
-            (option_map (body_pushed_each (pushed_list pushed))
-            (body_popped_each (R.context resources.now) (reverse wanted.now) self.old.body) ≡ Some self.new.body)
-            (self.new ≡ self.old) }
-        ensures phase { phase_moved self.new.phase ≡ phase_moved self.old.phase }
-    {
-        // The contract alone reads it.
-        let _resources = resources;
-        let count = wanted.len().min(self.own_len());
-        match pushed {
-            Some(ty) => {
-                if count == 0 {
-                    return self.push_at_once(MaybeType::Known(ty));
-                }
-                self.drop_operands(count - 1);
-                self.replace_operand(MaybeType::Known(ty));
-            }
-            None => self.drop_operands(count),
-        }
-        true
-    }
-
-    /// [`Stacks::exchange_at_once`] by the order of types.
-    #[inline(never)]
-    fn exchange_by_order<R: WasmModuleResources>(
-        &mut self,
-        resources: &R,
-        wanted: &[ValType],
-        pushed: Option<ValType>,
-    ) -> bool
-        requires idle { self.old.body.undone ≡ None }
-        requires types { AllByRecursion (Valid (R.context resources.now)) wanted.now }
-        requires state { IsValidBody (R.context resources.now) self.old.body }
-        ensures exact { MatchBool result
-            (option_map (body_pushed_each (pushed_list pushed))
-            (body_popped_each (R.context resources.now) (reverse wanted.now) self.old.body) ≡ Some self.new.body)
-            (self.new ≡ self.old) }
-        ensures phase { phase_moved self.new.phase ≡ phase_moved self.old.phase }
-    {
-        if !self.has_operands_fitting(resources, wanted) {
-            return false;
-        }
-        self.exchange(resources, wanted, pushed)
     }
 
     /// Pops operands of these types, the last of the list first, and pushes one of the other type, if there is one:
@@ -131,14 +49,21 @@ impl Stacks {
             (self.new ≡ self.old) }
         ensures phase { phase_moved self.new.phase ≡ phase_moved self.old.phase }
     {
-        if self.is_pending() {
+        if self.is_pending() || !self.has_operands_fitting(resources, wanted) {
             return false;
         }
-        // Numbers, which are met most, have a path of their own with no call on it.
-        if self.finds_at_once(resources, wanted) {
-            return self.exchange(resources, wanted, pushed);
+        let count = wanted.len().min(self.own_len());
+        match pushed {
+            Some(ty) => {
+                if count == 0 {
+                    return self.push_at_once(MaybeType::Known(ty));
+                }
+                self.drop_operands(count - 1);
+                self.replace_operand(MaybeType::Known(ty));
+            }
+            None => self.drop_operands(count),
         }
-        self.exchange_by_order(resources, wanted, pushed)
+        true
     }
 
     /// Pops operands of these types, the last of the list first, and ends the live part of the innermost frame: where

@@ -2,9 +2,9 @@
 //! lookup over lists.
 #![tactic(auto)]
 
-pub mod declarations;
+mod declarations;
 pub mod kinds;
-pub mod lists;
+mod lists;
 pub mod uses;
 
 ghost use Rattle.std.specs.Prelude.{◌≡◌, true, false, None, Some, IsSome, OnOk, IfErr};

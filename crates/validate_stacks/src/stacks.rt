@@ -17,8 +17,7 @@ use crate::allocations::OperatorValidatorAllocations;
 use std::alloc::Global;
 use std::marker::Model;
 use validate_locals::{LocalInits, Locals};
-use validate_transaction::pile::take_back;
-use validate_transaction::{Pile, Transaction};
+use validate_transaction::{Pile, Transaction, take_back};
 use validate_types::{Error, MaybeType, OutOfMemory, ValType, WasmFeatures};
 use validate_visit::{BlockType, Frame, FrameKind};
 

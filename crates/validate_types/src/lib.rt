@@ -2,14 +2,14 @@
 //! refusal: what wasmparser's validator takes from the layers below it.
 #![tactic(auto)]
 
-pub mod display;
-pub mod error;
-pub mod features;
-pub mod gate;
-pub mod heap;
-pub mod refs;
-pub mod signature;
-pub mod types;
+mod display;
+mod error;
+mod features;
+mod gate;
+mod heap;
+mod refs;
+mod signature;
+mod types;
 
 pub use crate::error::{Error, OutOfMemory};
 pub use crate::features::WasmFeatures;

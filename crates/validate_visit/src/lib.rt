@@ -2,21 +2,21 @@
 //! what they name, and the test of a list's order.
 #![tactic(auto)]
 
-pub mod br_table;
-pub mod catch;
-pub mod frame;
-pub mod frame_stack;
-pub mod gates;
-pub mod ieee;
-pub mod immediates;
-pub mod memory;
-pub mod module_arity;
-pub mod numbers;
-pub mod numeric;
-pub mod op;
-pub mod order;
-pub mod resume;
-pub mod shared;
+mod br_table;
+mod catch;
+mod frame;
+mod frame_stack;
+mod gates;
+mod ieee;
+mod immediates;
+mod memory;
+mod module_arity;
+mod numbers;
+mod numeric;
+mod op;
+mod order;
+mod resume;
+mod shared;
 
 pub use crate::br_table::{BrTable, BrTableTargets, IncompleteTable};
 pub use crate::catch::{Catch, TryTable};

@@ -52,6 +52,16 @@ fn seen<R: WasmModuleResources>(
     Ok(text)
 }
 
+/// What can be seen of a function validator is what was seen before.
+fn expect_seen<R: WasmModuleResources>(
+    rt: &(impl Abort + AllocGlobal),
+    function: &FuncValidator<'_, '_, R>,
+    before: &str,
+) -> Result<(), Lack> {
+    expect_text(rt, &seen(rt, function)?, before, "an attempt");
+    Ok(())
+}
+
 /// Visits an operator, or attempts it, where a frame is open.
 fn answer<'a, R: WasmModuleResources>(
     rt: &impl Abort,
@@ -71,16 +81,14 @@ fn visit<'a, R: WasmModuleResources>(
     rt: &impl Abort,
     function: &mut FuncValidator<'a, '_, R>,
     op: Op<'a>,
-) -> Result<(), Error> {
+) -> Result<(), Lack> {
     let accepted = function.accepted().len();
-    let visited = answer(rt, function, op, false);
-    if visited.is_err() {
-        expect(
-            rt,
-            function.is_failed() && function.accepted().len() == accepted,
-        );
+    if answer(rt, function, op, false).is_ok() {
+        return Ok(());
     }
-    visited
+    expect(rt, function.is_failed());
+    expect_same(rt, function.accepted().len(), accepted);
+    Err(Lack("a visit is refused"))
 }
 
 /// An attempt without memory leaves no trace, and comes again.
@@ -88,14 +96,13 @@ fn attempt<'a, R: WasmModuleResources>(
     rt: &(impl Abort + AllocGlobal),
     function: &mut FuncValidator<'a, '_, R>,
     op: Op<'a>,
-) -> Result<Result<(), Error>, Lack> {
+) -> Result<(), Lack> {
     let before = seen(rt, function)?;
-    let attempted = answer(rt, function, op, true);
-    if attempted.is_ok() {
-        return Ok(attempted);
+    if answer(rt, function, op, true).is_ok() {
+        return Ok(());
     }
-    expect_text(rt, &seen(rt, function)?, &before, "an attempt");
-    Ok(answer(rt, function, op, true))
+    expect_seen(rt, function, &before)?;
+    Ok(answer(rt, function, op, true)?)
 }
 
 /// Visits or attempts an operator, which is accepted and leaves this many operands and frames.
@@ -107,7 +114,7 @@ fn expect_op<'a, R: WasmModuleResources>(
     attempted: bool,
 ) -> Result<(), Lack> {
     if attempted {
-        attempt(rt, function, op)??;
+        attempt(rt, function, op)?;
     } else {
         visit(rt, function, op)?;
     }
@@ -158,17 +165,26 @@ fn expect_in(
     answer
 }
 
+/// The operators of a script, visited and attempted.
+fn expect_script(
+    rt: &(impl Abort + AllocGlobal),
+    setting: &Setting,
+    script: &str,
+    lines: &str,
+) -> Result<(), Lack> {
+    let lists = read_lists(rt.alloc(), script)?;
+    let Ok(read) = read_script(rt.alloc(), &lists, script) else {
+        return Err(Lack("lines that are no script"));
+    };
+    expect_in(rt, setting, &read.operators.ops, lines, false)?;
+    expect_in(rt, setting, &read.operators.ops, lines, true)
+}
+
 /// A body of a table, visited and attempted.
 fn expect_body(rt: &(impl Abort + AllocGlobal), body: &str) -> Result<(), Lack> {
     let (head, lines) = body.split_once("\n--\n").unwrap_or((HEAD, body));
     let setting = Setting::read(rt, head)?;
-    let script = script_of(rt, head, lines)?;
-    let lists = read_lists(rt.alloc(), &script)?;
-    let Ok(read) = read_script(rt.alloc(), &lists, &script) else {
-        return Err(Lack("lines that are no script"));
-    };
-    expect_in(rt, &setting, &read.operators.ops, lines, false)?;
-    expect_in(rt, &setting, &read.operators.ops, lines, true)
+    expect_script(rt, &setting, &script_of(rt, head, lines)?, lines)
 }
 
 #[test]
@@ -183,25 +199,39 @@ fn groups_of_operators_in_functions_whichever_allocation_fails(
     Ok(())
 }
 
+/// Visits operators, each of which is accepted.
+fn expect_accepted<R: WasmModuleResources>(
+    rt: &impl Abort,
+    function: &mut FuncValidator<'static, '_, R>,
+    ops: &[Op<'static>],
+) {
+    for op in ops {
+        expect(rt, answer(rt, function, *op, false).is_ok());
+    }
+}
+
+/// An operator is refused with this text.
+fn expect_refused<R: WasmModuleResources>(
+    rt: &impl Abort,
+    function: &mut FuncValidator<'static, '_, R>,
+    op: Op<'static>,
+    attempted: bool,
+    text: &str,
+) {
+    expect_error(rt, answer(rt, function, op, attempted).err(), text, 9);
+}
+
 /// `i64.const`, `i32.const`, then an `i32.add` that is refused and leaves no trace, `drop`, `drop`, `end`.
 fn expect_refused_attempt<R: WasmModuleResources>(
     rt: &impl Abort,
     function: &mut FuncValidator<'static, '_, R>,
 ) {
-    expect(rt, answer(rt, function, I64_CONST, false).is_ok());
-    expect(rt, answer(rt, function, I32_CONST, false).is_ok());
-    let refused = answer(rt, function, I32_ADD, true);
-    expect_error(
-        rt,
-        refused.err(),
-        "type mismatch: expected i32, found i64",
-        9,
-    );
+    expect_accepted(rt, function, &[I64_CONST, I32_CONST]);
+    let text = "type mismatch: expected i32, found i64";
+    expect_refused(rt, function, I32_ADD, true, text);
     expect_same(rt, function.peek_operand_at(0), Some(Some(ValType::I32)));
     expect_same(rt, function.peek_operand_at(1), Some(Some(ValType::I64)));
-    for op in [DROP, DROP, END] {
-        expect(rt, answer(rt, function, op, false).is_ok());
-    }
+    expect_accepted(rt, function, &[DROP, DROP, END]);
     expect(rt, function.finish(9).is_ok());
     expect_same(rt, function.accepted().len(), 5);
 }
@@ -221,20 +251,14 @@ fn expect_refusals<R: WasmModuleResources>(
 ) {
     let open = "control frames remain at end of function: END opcode expected";
     expect_error(rt, function.finish(9).err(), open, 9);
-    expect(
-        rt,
-        answer(rt, function, I32_ADD, false).is_err() && function.is_failed(),
-    );
+    let nothing = "type mismatch: expected i32 but nothing on stack";
+    expect_refused(rt, function, I32_ADD, false, nothing);
+    expect(rt, function.is_failed());
+    let failed = "function validator has failed";
     for attempted in [false, true] {
-        let refused = answer(rt, function, I32_CONST, attempted);
-        expect_error(rt, refused.err(), "function validator has failed", 9);
+        expect_refused(rt, function, I32_CONST, attempted, failed);
     }
-    expect_error(
-        rt,
-        function.finish(9).err(),
-        "function validator has failed",
-        9,
-    );
+    expect_error(rt, function.finish(9).err(), failed, 9);
     expect(rt, function.accepted().is_empty());
 }
 
@@ -247,19 +271,23 @@ fn a_failed_one_refuses_whatever_comes(rt: HostRuntime) -> Result<(), Lack> {
 }
 
 /// The types of the operands before operator `k` of a body of `[i32] -> [i32]`.
-fn types_before(
+fn expect_types_before(
     rt: &(impl Abort + AllocGlobal),
     setting: &Setting,
     ops: &[(Op<'_>, u64)],
     k: usize,
-) -> Result<Vec<Option<ValType>>, Lack>
+    wanted: &[Option<ValType>],
+) -> Result<(), Lack>
     requires ordered { is_well_ordered_list (without_offsets ops.now) ≡ true }
     requires immediates { list_all (λ (p : _). is_module_op p.0) ops.now ≡ true }
     requires within { k ≤ length ops.now }
 {
     let mut v = setting.validator(OperatorValidatorAllocations::new(rt.alloc()))?;
     match operands_before(rt.alloc(), &mut v, ops, &setting.lists, k) {
-        Ok(types) => Ok(types),
+        Ok(types) => {
+            expect_same(rt, types.as_slice(), wanted);
+            Ok(())
+        }
         Err((_, refusal)) => Err(Lack::from(refusal)),
     }
 }
@@ -274,17 +302,8 @@ fn operands_before_the_first_and_behind_the_last_operator(rt: HostRuntime) -> Re
         (END, 6),
     ];
     expect(&rt, is_well_ordered(&ops) && have_module_immediates(&ops));
-    expect(&rt, types_before(&rt, &setting, &ops, 0)?.is_empty());
     let i32 = Some(ValType::I32);
-    expect_same(
-        &rt,
-        types_before(&rt, &setting, &ops, 2)?.as_slice(),
-        &[i32, i32],
-    );
-    expect_same(
-        &rt,
-        types_before(&rt, &setting, &ops, 4)?.as_slice(),
-        &[i32],
-    );
-    Ok(())
+    expect_types_before(&rt, &setting, &ops, 0, &[])?;
+    expect_types_before(&rt, &setting, &ops, 2, &[i32, i32])?;
+    expect_types_before(&rt, &setting, &ops, 4, &[i32])
 }

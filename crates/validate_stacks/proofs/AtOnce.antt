@@ -1,8 +1,8 @@
 -- Operands put in place or taken where no attempt is pending, and what fits at once.
-use Rattle.std.proofs.Common.{◌≡◌, ◌≢◌, ◌⊎◌, inl, inr, min, reverse, map, Result, Ok, Err, IsOk, is_ok, OnOk, MatchResult, MatchOption, MatchBool, ℕ, zero, suc, ◌+◌, ◌-◌, ◌<◌, ◌≤◌, List, [], ◌∷◌, Bool, true, false, Option, Some, None, is_some, IsSome, length, get_or, slice_get, take, drop, refl, sym, ◌∙◌, ap, subst, arith}
+use Rattle.std.proofs.Common.{◌≡◌, ◌≢◌, ◌⊎◌, inl, inr, min, reverse, Result, Ok, Err, IsOk, is_ok, OnOk, MatchResult, MatchOption, MatchBool, ℕ, zero, suc, ◌+◌, ◌-◌, ◌<◌, ◌≤◌, List, [], ◌∷◌, Bool, true, false, Option, Some, None, is_some, IsSome, length, get_or, slice_get, take, drop, refl, sym, ◌∙◌, ap, subst, arith}
 use Rattle.std.specs.List.{AllByRecursion}
 use Rattle.std.specs.Option.{option_map}
-use Rattle.std.proofs.lemmas.List.{drop_min, drop-drop, length-drop, length-reverse, length-take-le, take-append-drop}
+use Rattle.std.proofs.lemmas.List.{drop_min, drop-drop, length-drop, length-take-le, take-append-drop}
 use Rattle.std.proofs.Math.Seq.{take-add}
 use Rattle.validate_resources.specs.Context.{ModuleContext, Valid, IsLawful}
 use Rattle.validate_types.specs.Refusal.{Refusal}
@@ -11,12 +11,12 @@ use Rattle.validate_types.specs.declared.types.ValType.{ValType}
 use Rattle.validate_visit.specs.declared.frame.Frame.{Frame as FlatFrame}
 use Rattle.validate_transaction.specs.declared.log.Transaction.{Transaction}
 use Rattle.validate_transaction.specs.declared.log.Transaction.TheVariants.{Active, Inactive}
-use Rattle.validate_transaction.specs.Recorded.{log_of, with_push, with_pop, with_opened}
+use Rattle.validate_transaction.specs.Recorded.{log_of, with_push, with_opened}
 use Rattle.validation_rules.specs.Fits.{MaybeType, Bottom, Known, fits, all_fit}
 use Rattle.validation_rules.specs.Context.{Context}
 use Rattle.validation_rules.specs.Rows.{guard, Operator}
 use Rattle.validate_stacks.specs.Attempts.{Stacked, may_frame}
-use Rattle.validation_rules.specs.Static.{Frame, State, state_with, operands_found, operands_under, locals_set}
+use Rattle.validation_rules.specs.Static.{Frame, State, state_with, operands_found, locals_set}
 use Rattle.validate_stacks.specs.AtOnce.{frames_dropped, body_dropped, state_given, body_given, pushed_list, MeetsAtOnce}
 use Rattle.validation_rules.specs.Context.{block_signature}
 use Rattle.validate_stacks.specs.Blocks.{closed_body}
@@ -27,9 +27,9 @@ use Rattle.validate_stacks.specs.Steps.{found_in_body, frame_at, innermost_opera
 use Rattle.validate_stacks.specs.Visits.{Meets, MayVisit}
 use Rattle.validation_rules.proofs.Steps.{some_injective}
 use Rattle.validate_stacks.proofs.ClosedFrames.{guarded_some, closed_passes, wants_valid}
-use Rattle.validate_stacks.proofs.Cuts.{state_of, HasShape-more, above_height}
+use Rattle.validate_stacks.proofs.Cuts.{state_of, own-cut, HasShape-more, above_height}
 use Rattle.validate_stacks.proofs.MatchedOperands.{drop_next}
-use Rattle.validate_stacks.proofs.Whole.{popped_none, popped_next, popped_whole, with_frame}
+use Rattle.validate_stacks.proofs.Whole.{popped_none, popped_next, popped_whole}
 use Rattle.validate_stacks.proofs.Validity.{popped_valid, popped_kept, pushed_valid, kept_on}
 
 -- ---- no attempt is pending
@@ -389,6 +389,35 @@ pub cut-taken : (fs : List FlatFrame) (x : MaybeType) (operands : List MaybeType
 cut-taken fs x operands is (Active log) s n ls en quiet own = cc
 cut-taken [] x operands is (Inactive a) s n ls en quiet own = absurd (own refl)
 cut-taken (g ∷ gs) x operands is (Inactive a) s n ls en quiet own = (above_height (g ∷ gs) g x operands is s n ls en None refl (above_own g gs x operands is own)).1
+
+-- ---- own operands taken
+
+-- no more than all operands
+pub own_within : (fs : List FlatFrame) (operands : List MaybeType) (is : List ℕ) → length (innermost_operands (state_from_heights fs operands is).frames) ≤ length operands
+own_within [] operands is = omega arith
+own_within (g ∷ gs) operands is = omega (arith, own-cut (g ∷ gs) g operands is refl)
+
+-- so many of them
+pub dropped_whole : (n fr : ℕ) (fs : List FlatFrame) (or : ℕ) (operands : List MaybeType) (ir : ℕ) (en : List Bool) (is : List ℕ) (t : Transaction) (s : Bool) (nf : WasmFeatures) (ls : List ValType) → log_of t ≡ None → n ≤ length (innermost_operands (state_from_heights fs operands is).frames) → IsSound fr fs or operands ir en is t ls → IsSound fr fs or (drop n operands) ir en is t ls × (state_of fs (drop n operands) is s nf ls en (undone_pending fs (drop n operands) is t) ≡ body_dropped n (state_of fs operands is s nf ls en (undone_pending fs operands is t)))
+dropped_whole zero fr fs or operands ir en is t s nf ls quiet own w = (w, sym (dropped_none _))
+dropped_whole (suc n) fr fs or operands ir en is t s nf ls quiet own w =
+    let before = dropped_whole n fr fs or operands ir en is t s nf ls quiet (omega (arith, own)) w in
+    by (drop n operands) refl before.0 before.1 (subst (λ (u : BodyState). innermost_operands u.present.frames ≢ []) (sym before.1) (some_left n v (omega (arith, own))))
+  where
+    at : List MaybeType → BodyState
+    at left = state_of fs left is s nf ls en (undone_pending fs left is t)
+
+    v : BodyState
+    v = at operands
+
+    plus : n + 1 ≡ suc n
+    plus = omega arith
+
+    by : (left : List MaybeType) → drop n operands ≡ left → IsSound fr fs or left ir en is t ls → at left ≡ body_dropped n v → innermost_operands (state_from_heights fs left is).frames ≢ [] → IsSound fr fs or (drop (suc n) operands) ir en is t ls × (at (drop (suc n) operands) ≡ body_dropped (suc n) v)
+    by [] e sound same there = absurd (omega (arith, own_there fs [] is there))
+    by (x ∷ rest) e sound same there =
+        let left_is : rest ≡ drop (suc n) operands = sym (drop_next n operands ∙ ap (drop 1) e) in
+        (subst (λ k. IsSound fr fs or k ir en is t ls) left_is (sound_taken fr fs or or x rest ir en is t ls quiet there sound), ap at (sym left_is) ∙ cut-taken fs x rest is t s nf ls en quiet there ∙ ap body_popped same ∙ dropped_next n v ∙ ap (λ k. body_dropped k v) plus)
 
 -- where there is none in the list, no frame is open
 pub frameless : (fs : List FlatFrame) (operands : List MaybeType) (is : List ℕ) → slice_get fs 0 ≡ None → (state_from_heights fs operands is).frames ≡ []

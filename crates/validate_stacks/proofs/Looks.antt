@@ -11,7 +11,7 @@ use Rattle.validate_stacks.specs.Flat.{state_from_heights, with_heights}
 use Rattle.validation_rules.specs.Pops.{found_by_pop}
 use Rattle.validate_stacks.specs.Steps.{type_and_kind, found_after_pops_in_frames, innermost_operands, body_without_first, frames_owning, body_popped, body_marked, frames_unreachable, body_unreachable}
 use Rattle.validate_stacks.specs.State.{BodyState}
-use Rattle.validate_stacks.proofs.Cuts.{state_of}
+use Rattle.validate_stacks.proofs.Cuts.{state_of, own-cut}
 
 -- ---- labels
 
@@ -41,6 +41,10 @@ own_found (g ∷ gs) f operands is d h k =
     let same : g ≡ f = cc in
     let within : d < length operands - g.height = subst (λ (q : FlatFrame). d < length operands - q.height) (sym same) k in
     top_get d (length operands - g.height) operands g.unreachable within (omega arith)
+
+pub own_found_there : (fs : List FlatFrame) (operands : List MaybeType) (is : List ℕ) (d : ℕ) → d < length (innermost_operands (state_from_heights fs operands is).frames) → slice_get operands d ≡ found_after_pops_in_frames d (state_from_heights fs operands is).frames
+own_found_there [] operands is d h = absurd (omega (arith, h))
+own_found_there (g ∷ gs) operands is d h = own_found (g ∷ gs) g operands is d refl (omega (arith, h, own-cut (g ∷ gs) g operands is refl))
 
 top_none : (dead : Bool) → found_by_pop dead [] ≡ cond dead (Some Bottom) None
 top_none true = refl

@@ -19,18 +19,6 @@ use validate_types::{MaybeType, ValType};
 use validate_visit::{BlockType, FrameKind};
 
 impl Stacks {
-    /// Takes so many own operands of the innermost frame, or all.
-    #[inline(always)]
-    fn drop_operands(&mut self, count: usize)
-        requires { self.old.body.undone ≡ None }
-        ensures dropped { self.new.body ≡ body_dropped count self.old.body }
-        ensures phase { phase_moved self.new.phase ≡ phase_moved self.old.phase }
-    {
-        for _ in 0..count {
-            let _ = self.pop_any();
-        }
-    }
-
     /// Pops operands of these types, the last of the list first, and pushes one of the other type, if there is one:
     /// where no attempt is pending, each operand that is found fits, and there is room. False, with nothing changed,
     /// where that isn't so. It takes no memory.
@@ -49,10 +37,11 @@ impl Stacks {
             (self.new ≡ self.old) }
         ensures phase { phase_moved self.new.phase ≡ phase_moved self.old.phase }
     {
-        if self.is_pending() || !self.has_operands_fitting(resources, wanted) {
+        let own = self.own_len();
+        if self.is_pending() || !self.has_fitting_among(resources, own, wanted) {
             return false;
         }
-        let count = wanted.len().min(self.own_len());
+        let count = wanted.len().min(own);
         match pushed {
             Some(ty) => {
                 if count == 0 {

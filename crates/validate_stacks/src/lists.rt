@@ -6,7 +6,7 @@ ghost use Rattle.validate_resources.specs.Context.{ModuleContext, Valid};
 ghost use Rattle.validate_stacks.specs.Attempts.{phase_moved};
 ghost use Rattle.validate_stacks.specs.State.{IsValidBody, body_context};
 ghost use Rattle.validate_stacks.specs.Pops.{body_popped_each, body_pushed_each, has_operands_fitting, may_pop, IsKept};
-ghost use Rattle.validate_stacks.specs.Steps.{found_after_pops_in_body};
+ghost use Rattle.validate_stacks.specs.Steps.{innermost_operands, found_after_pops_in_body};
 
 use crate::pops::fits_at_once;
 use crate::stacks::Stacks;
@@ -92,30 +92,50 @@ impl Stacks {
         ensures { result ≡ has_operands_fitting (body_context (R.context resources.now) self.now.body)
             wanted.now self.now.body }
     {
+        self.has_fitting_among(resources, self.own_len(), wanted)
+    }
+
+    /// The same, where the innermost frame has so many own operands.
+    #[inline(always)]
+    pub(crate) fn has_fitting_among<R: WasmModuleResources>(
+        &self,
+        resources: &R,
+        own: usize,
+        wanted: &[ValType],
+    ) -> bool
+        requires own { own ≡ length (innermost_operands self.now.body.present.frames) }
+        requires types { AllByRecursion (Valid (R.context resources.now)) wanted.now }
+        requires state { IsValidBody (R.context resources.now) self.now.body }
+        ensures { result ≡ has_operands_fitting (body_context (R.context resources.now) self.now.body)
+            wanted.now self.now.body }
+    {
         let mut left = wanted.len();
         while left > 0 {
             left -= 1;
-            if !self.is_fitting_at(resources, wanted.len() - 1 - left, wanted[left]) {
+            if !self.is_fitting_at(resources, own, wanted.len() - 1 - left, wanted[left]) {
                 return false;
             }
         }
         true
     }
 
-    /// Whether the operand that a pop finds after so many others fits the wanted type.
+    /// Whether the operand that a pop finds after so many others fits the wanted type, where the innermost frame
+    /// has so many own operands.
     #[inline(always)]
     fn is_fitting_at<R: WasmModuleResources>(
         &self,
         resources: &R,
+        own: usize,
         depth: usize,
         wanted: ValType,
     ) -> bool
+        requires own { own ≡ length (innermost_operands self.now.body.present.frames) }
         requires wanted { Valid (R.context resources.now) wanted }
         requires state { IsValidBody (R.context resources.now) self.now.body }
         ensures { result ≡ may_pop (body_context (R.context resources.now) self.now.body)
             (found_after_pops_in_body depth self.now.body) (Some wanted) }
     {
-        let Some(found) = self.found_at(depth) else {
+        let Some(found) = self.found_among(own, depth) else {
             return false;
         };
         if fits_at_once(found, Some(wanted)) {

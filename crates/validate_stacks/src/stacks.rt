@@ -6,7 +6,7 @@ ghost use Rattle.validate_locals.specs.Limit.{max_locals};
 ghost use Rattle.validate_resources.specs.Context.{ModuleContext};
 ghost use Rattle.validate_transaction.specs.TakeBack.{items_taken_back, CanTakeBack};
 ghost use Rattle.validation_rules.specs.Static.{operand_count, frame_count, locals_set, is_local_set};
-ghost use Rattle.validate_stacks.specs.AtOnce.{body_given};
+ghost use Rattle.validate_stacks.specs.AtOnce.{body_dropped, body_given};
 ghost use Rattle.validate_stacks.specs.Attempts.{phase_moved, may_attempt, may_frame, may_set, may_unset, stacks_begun, stacks_committed, stacks_rolled_back};
 ghost use Rattle.validate_stacks.specs.Flat.{frames_unmarked, inits_in_frames};
 ghost use Rattle.validate_stacks.specs.Pops.{IsKept};
@@ -324,6 +324,18 @@ impl Stacks {
         self.operands.replace_top(ty);
     }
 
+    /// Takes so many own operands of the innermost frame, which has as many. It takes no memory.
+    #[inline(always)]
+    pub(crate) fn drop_operands(&mut self, count: usize)
+        requires idle { self.old.body.undone ≡ None }
+        requires own { count ≤ length (innermost_operands self.old.body.present.frames) }
+        ensures dropped { self.new.body ≡ body_dropped count self.old.body }
+        ensures phase { phase_moved self.new.phase ≡ phase_moved self.old.phase }
+    {
+        let all = self.operands.len();
+        self.operands.truncate(all - count);
+    }
+
     /// Opens a frame with no operands of its own, where there is room and no attempt is pending. False, with
     /// nothing changed, where that isn't so. It takes no memory.
     #[inline(always)]
@@ -411,6 +423,18 @@ impl Stacks {
         } else {
             None
         }
+    }
+
+    /// The same, where the innermost frame has so many own operands.
+    #[inline(always)]
+    pub(crate) fn found_among(&self, own: usize, depth: usize) -> Option<MaybeType>
+        requires { own ≡ length (innermost_operands self.now.body.present.frames) }
+        ensures { result ≡ found_after_pops_in_body depth self.now.body }
+    {
+        if depth < own {
+            return self.operands.get(depth).copied();
+        }
+        self.found_at(depth)
     }
 
     /// Marks the innermost frame as dead.

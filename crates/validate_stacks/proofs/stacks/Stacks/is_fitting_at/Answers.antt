@@ -1,4 +1,4 @@
-use Rattle.std.proofs.Common.{◌≡◌, Some, sym, ap, ◌∙◌}
+use Rattle.std.proofs.Common.{Some, sym, ap, ◌∙◌}
 use Rattle.validate_stacks.specs.Pops.{may_pop}
 use Rattle.validate_stacks.specs.State.{body_context}
 use Rattle.validate_stacks.proofs.AtOnce.{fits_by}
@@ -9,4 +9,4 @@ returns-then-fits_at_once g c =
     let md = g.R.WasmModuleResources.context c.args.resources.now in
     let v = c.args.self.now.body in
     let fits = fits_by md (g.met.R.WasmModuleResources.lawful c.args.resources.now) v c.in-Some.found c.args.wanted c.requires.wanted (c.fits_at_once.ensures c.if-fits_at_once.true) in
-    sym (ap (λ o. may_pop (body_context md v) o (Some c.args.wanted)) (sym c.found_at.ensures ∙ c.in-Some.is) ∙ fits)
+    sym (ap (λ o. may_pop (body_context md v) o (Some c.args.wanted)) (sym c.found_among.ensures ∙ c.in-Some.is) ∙ fits)

@@ -1,4 +1,4 @@
-use Rattle.std.proofs.Common.{arith, sym, ◌∙◌, ap}
+use Rattle.std.proofs.Common.{sym, ◌∙◌, ap}
 use Rattle.validate_stacks.specs.Attempts.{body_of}
 use Rattle.validate_stacks.specs.Steps.{body_with_frame}
 use Rattle.validate_stacks.proofs.AtOnce.{no_log, quiet_opened, quiet_frame}

@@ -1,4 +1,4 @@
-use Rattle.std.proofs.Common.{◌≡◌, ◌≢◌, ◌∷◌, [], arith, sym, ◌∙◌, ap, subst, length}
+use Rattle.std.proofs.Common.{◌≢◌, [], sym, ◌∙◌, ap, subst}
 use Rattle.validate_stacks.specs.Attempts.{body_of}
 use Rattle.validate_stacks.specs.State.{BodyState}
 use Rattle.validate_stacks.specs.Steps.{innermost_operands, body_with_frame, body_popped}

@@ -1,4 +1,4 @@
-use Rattle.std.proofs.Common.{◌∷◌, length, sym, ◌∙◌, ap, arith}
+use Rattle.std.proofs.Common.{◌∷◌, length, sym, ◌∙◌, ap}
 use Rattle.validation_rules.specs.Static.{State}
 use Rattle.validate_stacks.specs.Attempts.{body_of}
 use Rattle.validate_stacks.specs.Flat.{undone_pending}

@@ -1,9 +1,9 @@
-use Rattle.std.proofs.Common.{◌≡◌, ◌∙◌, arith, sym, ap, length, subst}
+use Rattle.std.proofs.Common.{◌∙◌, sym, ap, length}
 use Rattle.std.specs.Option.{option_copied}
 use Rattle.validate_stacks.specs.AtOnce.{body_given}
 use Rattle.validate_stacks.specs.Attempts.{body_of}
 use Rattle.validate_stacks.specs.State.{BodyState}
-use Rattle.validate_stacks.specs.Steps.{innermost_operands, body_with_frame, body_without_frame}
+use Rattle.validate_stacks.specs.Steps.{body_with_frame}
 use Rattle.validate_stacks.proofs.AtOnce.{quiet_opened, quiet_frame, sound_given, idle_given, given_none, frameless}
 use Rattle.validate_stacks.proofs.Undone.{popped_top, idle_log, sound_open, state_open}
 use Rattle.validate_stacks.proofs.stacks.Stacks.reopen.Goals as goal

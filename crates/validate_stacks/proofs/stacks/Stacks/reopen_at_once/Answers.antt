@@ -2,10 +2,9 @@ use Rattle.std.proofs.Common.{◌≡◌, ◌≢◌, [], Some, length, refl, sym,
 use Rattle.std.specs.Option.{option_map}
 use Rattle.validation_rules.specs.Context.{block_signature}
 use Rattle.validation_rules.specs.Valid.{IsValidBlock}
-use Rattle.validate_visit.specs.declared.frame.BlockType.{BlockType}
 use Rattle.validate_stacks.specs.AtOnce.{body_dropped}
 use Rattle.validate_stacks.specs.Pops.{IsKept}
-use Rattle.validate_stacks.specs.State.{BodyState, IsValidBody}
+use Rattle.validate_stacks.specs.State.{BodyState}
 use Rattle.validate_stacks.specs.Steps.{frame_at, innermost_operands, body_with_frame, body_without_frame}
 use Rattle.validate_stacks.proofs.AtOnce.{some_there, left_closed, none_left, popped_dropped, without_dropped, without_valid, dropped_open}
 use Rattle.validate_stacks.proofs.ClosedFrames.{innermost, wants_valid, block_valid, opened_valid}

@@ -1,4 +1,4 @@
-use Rattle.std.proofs.Common.{◌∷◌, [], ◌≢◌, length, drop, sym, ◌∙◌, ap, subst, arith}
+use Rattle.std.proofs.Common.{◌∷◌, [], ◌≢◌, drop, sym, ◌∙◌, ap, subst}
 use Rattle.validate_stacks.specs.Attempts.{body_of}
 use Rattle.validate_stacks.specs.Flat.{undone_pending}
 use Rattle.validate_stacks.specs.State.{BodyState}

@@ -1,7 +1,7 @@
-use Rattle.std.proofs.Common.{arith, rules, refl, sym, ◌∙◌}
+use Rattle.std.proofs.Common.{arith, refl, sym, ◌∙◌}
 use Rattle.validate_stacks.specs.State.{body_context}
 use Rattle.validate_stacks.proofs.MatchedOperands.{matching_starts, goes_on_there, stops_there}
-use Rattle.validate_stacks.proofs.stacks.Stacks.has_operands_fitting.Goals as goal
+use Rattle.validate_stacks.proofs.stacks.Stacks.has_fitting_among.Goals as goal
 
 pub loop-left-init : goal.loop-left-init
 loop-left-init g c =

@@ -62,7 +62,8 @@ fn try_each<R: WasmModuleResources>(
     Some(())
 }
 
-/// Makes the body. None where there is no such function, nothing can be printed, or memory is wanting.
+/// Makes the body. None where there is no such function, no memory for a validator of it, or nothing can be printed.
+/// An operator for which there is no memory counts as refused.
 fn generate<R: WasmModuleResources>(rt: &HostRuntime, resources: &R) -> Option<()> {
     let buffers = OperatorValidatorAllocations::new(rt.alloc());
     let features = WasmFeatures::all();

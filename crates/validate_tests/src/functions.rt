@@ -2,7 +2,8 @@
 //!
 //! The bodies pass whichever allocation fails, one in a run: behind a visit without memory the validator has
 //! failed, and everything is there at a second try; an attempt without memory leaves no trace, and is accepted
-//! when it comes again. `rt try --test --fail-alloc N` runs them so, for N from 1 on.
+//! when it comes again. `rt try --test --fail-alloc N` runs them so, for N from 1 on, by hand: `.ci/growths` refuses
+//! all requests behind one too, where no second try can pass.
 
 ghost use Rattle.std.specs.Prelude.{◌≡◌, ◌≤◌, true, false, [], length};
 ghost use Rattle.std.specs.List.{list_all};
@@ -76,7 +77,8 @@ fn answer<'a, R: WasmModuleResources>(
     function.op(9, op)
 }
 
-/// A visit without memory marks as failed, and keeps the list.
+/// Visits an operator. Where it is refused, here for want of memory, the validator has failed, and has accepted as
+/// many as before.
 fn visit<'a, R: WasmModuleResources>(
     rt: &impl Abort,
     function: &mut FuncValidator<'a, '_, R>,

@@ -184,7 +184,11 @@ fn visit<R: WasmModuleResources>(
         result (state validator.new) }
 {
     if attempted {
-        return try_op(validator, resources, offset, op);
+        // An answer that is handed on as it is would be copied whole.
+        return match try_op(validator, resources, offset, op) {
+            Ok(()) => Ok(()),
+            Err(refusal) => Err(refusal),
+        };
     }
     validator.check(resources, offset, op)
 }

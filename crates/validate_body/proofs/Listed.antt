@@ -1,5 +1,5 @@
 -- One operator of a list further.
-use Rattle.std.proofs.Common.{◌&&◌, ◌≡◌, ◌≢◌, ℕ, zero, suc, ◌+◌, ◌<◌, ◌⊎◌, inl, inr, Bool, true, false, List, [], ◌∷◌, ◌++◌, map, length, drop, get_or, slice_get, Option, Some, None, Result, Ok, Err, IfErr, refl, sym, ap, ◌∙◌, subst, arith, length-append}
+use Rattle.std.proofs.Common.{add-one, is_none, ◌||◌, ◌&&◌, ◌≡◌, ◌≢◌, ℕ, zero, suc, ◌+◌, ◌<◌, ◌⊎◌, inl, inr, Bool, true, false, List, [], ◌∷◌, ◌++◌, map, length, drop, get_or, slice_get, Option, Some, None, Result, Ok, Err, IfErr, refl, sym, ap, ◌∙◌, subst, arith, length-append}
 use Rattle.std.specs.Option.{option_map}
 use Rattle.std.proofs.lemmas.List.{drop_more}
 use Rattle.validate_resources.specs.Context.{ModuleContext, IsLawful}
@@ -19,7 +19,11 @@ use Rattle.validation_rules.proofs.Order.{operator_nests}
 use Rattle.validation_rules.proofs.Steps.{stepped, before_then}
 use Rattle.validate_stacks.specs.Pops.{IsKept}
 use Rattle.validate_stacks.specs.State.{BodyState, body_context, IsValidBody}
-use Rattle.validate_stacks.specs.Visits.{Meets}
+use Rattle.validate_stacks.specs.AtOnce.{MeetsAtOnce}
+use Rattle.validate_stacks.specs.Attempts.{Stacked, is_quiet}
+use Rattle.validate_stacks.specs.Visits.{MayVisit, Meets}
+use Rattle.validate_stacks.proofs.AtOnce.{same_at_once}
+use Rattle.validate_stacks.proofs.Validity.{kept_on}
 use Rattle.type_safety.proofs.Bodies.{body_safety, body_heights}
 use Rattle.validate_body.specs.Runs.{IsAcceptedBody, without_offsets, body_operators, body_before, heights_of, AreHeightsAfter, IsRefusedAt, IsSafeFrom}
 
@@ -94,6 +98,14 @@ visit_valid md op offset v w r m = m.valid
 pub visit_kept : (md : ModuleContext) (op : Context → Operator) (offset : ℕ) (v w : BodyState) (r : Result (Unit {0}) Refusal) → Meets md op offset v r w → IsKept v w
 unfolding Meets
 visit_kept md op offset v w r m = m.kept
+
+-- where nothing passed at once, the check is of the state before
+pub row_before : (md : ModuleContext) (op : Context → Operator) (offset : ℕ) (v w : Stacked) (b : Bool) (r : Result (Unit {0}) Refusal) (u : BodyState) → MeetsAtOnce md op v b w → b ≡ false → Meets md op offset w.body r u → Meets md op offset v.body r u
+row_before md op offset v w b r u m h row = subst (λ (x : Stacked). Meets md op offset x.body r u) (same_at_once md op v w b m h) row
+
+-- the state after it, by another name
+pub row_after : (md : ModuleContext) (op : Context → Operator) (offset : ℕ) (v u w : BodyState) (r : Result (Unit {0}) Refusal) → w ≡ u → Meets md op offset v r u → Meets md op offset v r w
+row_after md op offset v u w r e row = subst (Meets md op offset v r) (sym e) row
 
 -- ---- the operator at a place
 
@@ -186,6 +198,39 @@ noted_next md v ops i hs hs' u a b n r ea eb e =
         let su : s ≡ u = cc in
         let place : k ≡ length hs = q ∙ sym n.count in
         ap (λ j. slice_get (hs ++ (a, b) ∷ []) j) place ∙ (get_last hs (a, b) ∙ (ap (λ m. Some (m, b)) ea ∙ (ap (λ m. Some (operand_count u, m)) eb ∙ ap (λ (z : State). Some (heights_of z)) (sym su))))
+
+-- ---- one operator further
+
+pub record IsFurther (md : ModuleContext) (v : BodyState) (ops : List (Op × ℕ)) (i : ℕ) (w : BodyState) (hs : List (ℕ × ℕ)) : Type 0 where
+  pub run : body_before md v ops i ≡ Some w.present
+  pub valid : IsValidBody md w
+  pub kept : IsKept v w
+  pub ordered : IsOrderedBelow w.present.frames (drop i ops)
+  pub noted : AreHeightsAfter md v ops i hs
+
+pub further : (md : ModuleContext) (v : BodyState) (ops : List (Op × ℕ)) (i : ℕ) (d : Op × ℕ) → i < length ops → (u w : BodyState) (x : Unit {0}) → IsKept v u → body_before md v ops i ≡ Some u.present → IsOrderedBelow u.present.frames (drop i ops) → (hs hs' : List (ℕ × ℕ)) (a b : ℕ) → AreHeightsAfter md v ops i hs → a ≡ operand_count w.present → b ≡ frame_count w.present → hs' ≡ hs ++ (a, b) ∷ [] → Meets md (λ cx. operator cx (get_or ops i d).0) (get_or ops i d).1 u (Ok x) w → IsFurther md v ops (i + 1) w hs'
+further md v ops i d h u w x k r o hs hs' a b n ea eb e m =
+    let next = accepted_next md v ops i d h u w x k r m in
+    record {
+      run = rw add-one next;
+      valid = visit_valid md _ _ u w _ m;
+      kept = kept_on v u w k (visit_kept md _ _ u w _ m);
+      ordered = ordered_on md v ops i d h u w x k r m o;
+      noted = noted_next md v ops i hs hs' w.present a b n next ea eb e;
+    }
+
+-- an operator of the list may be visited
+open_next : (fs : List Frame) (ops : List (Op × ℕ)) (i : ℕ) → i < length ops → IsOrderedBelow fs (drop i ops) → fs ≢ []
+open_next fs [] i h o = absurd (omega (arith, h))
+open_next fs (p ∷ ops) zero h o = some_open fs p ops o
+open_next fs (p ∷ ops) (suc i) h o = open_next fs ops i (omega (arith, h)) o
+
+pub may_visit_next : (md : ModuleContext) (v : BodyState) (ops : List (Op × ℕ)) (i : ℕ) (u : Stacked) → i < length ops → v.undone ≡ None → IsKept v u.body → IsValidBody md u.body → IsOrderedBelow u.body.present.frames (drop i ops) → MayVisit md u
+may_visit_next md v ops i u h n k valid o = record {
+  open_frame = open_next u.body.present.frames ops i h o;
+  valid = valid;
+  attempt = ap (λ p. is_none p || is_quiet u.phase) (ap (λ (x : BodyState). x.undone) k ∙ n);
+}
 
 -- ---- the end of the list
 

@@ -1,7 +1,8 @@
 //! The check of a whole list of operators.
 
-ghost use Rattle.std.specs.Prelude.{◌≡◌, ◌↔◌, [], true, length, IsTrue, IfOk, OnOk, IfErr, MatchResult, Some};
+ghost use Rattle.std.specs.Prelude.{◌≡◌, ◌<◌, ◌↔◌, [], true, length, IsTrue, IfOk, OnOk, IfErr, MatchResult, Some};
 ghost use Rattle.std.specs.List.{list_all};
+ghost use Rattle.std.specs.Vec.{vec_capacity, vec_len};
 ghost use Rattle.validate_visit.specs.Immediates.{is_module_op};
 ghost use Rattle.validate_visit.specs.Order.{is_well_ordered_list};
 ghost use Rattle.validate_visit.specs.declared.frame.BlockType.{BlockType};
@@ -58,16 +59,26 @@ pub fn check_ops<R: WasmModuleResources>(
 {
     for (index, pair) in ops.iter().enumerate() {
         let (op, offset) = pair;
-        match heights.reserve(1) {
-            Ok(()) => {}
-            Err(_) => return Err((index, Error::out_of_memory(*offset))),
+        if !has_room(heights) {
+            return Err((index, Error::out_of_memory(*offset)));
         }
-        match v.check_in_place(resources, *offset, op) {
-            Ok(()) => {}
-            Err(refusal) => return Err((index, refusal)),
+        if !v.passes_at_once(resources, op) {
+            match v.check_in_place(resources, *offset, op) {
+                Ok(()) => {}
+                Err(refusal) => return Err((index, refusal)),
+            }
         }
         let noted = (v.operand_stack_height(), v.control_stack_height());
         heights.push_reserved(noted);
     }
     Ok(v.control_stack_height() == 0)
+}
+
+/// Whether there is room for one more pair of heights, which it asks for where there is none.
+#[inline(always)]
+fn has_room(heights: &mut Vec<(usize, usize)>) -> bool
+    ensures room { result ≡ true → vec_len heights.new < vec_capacity heights.new }
+    ensures items { heights.new.items ≡ heights.old.items }
+{
+    heights.len() < heights.capacity() || heights.reserve(1).is_ok()
 }

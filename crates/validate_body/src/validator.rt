@@ -137,10 +137,16 @@ impl OperatorValidator {
         ensures valid { IsValidBody (R.context resources.now) (state self.new) }
         ensures kept { IsKept (state self.old) (state self.new) }
     {
-        self.check_in_place(resources, offset, &op)
+        if self.passes_at_once(resources, &op) {
+            return Ok(());
+        }
+        match check_operator(&mut self.stacks, resources, offset, &op) {
+            Ok(()) => Ok(()),
+            Err(refusal) => Err(refusal),
+        }
     }
 
-    /// [`OperatorValidator::check`] of an operator that lies in a list.
+    /// [`OperatorValidator::check`] of an operator that lies in a list and doesn't pass at once.
     #[inline(always)]
     pub(crate) fn check_in_place<R: WasmModuleResources>(
         &mut self,

@@ -1,4 +1,4 @@
-//! Operators that pass at once: no attempt is pending, and nothing is asked of the order of types or of memory.
+//! Operators that pass at once: no attempt is pending, and no memory is wanted.
 
 ghost use Rattle.validate_visit.specs.declared.op.Op.{Op};
 ghost use Rattle.validation_rules.specs.Operators.{operator, control_operator};
@@ -6,13 +6,13 @@ ghost use Rattle.validate_stacks.specs.AtOnce.{MeetsAtOnce};
 ghost use Rattle.validate_stacks.specs.Visits.{MayVisit};
 
 use validate_resources::WasmModuleResources;
-use validate_rows::branches::{br_at_once, br_if_at_once, return_at_once};
+use validate_rows::branches::{br_at_once, br_if_at_once, br_table_at_once, return_at_once};
 use validate_rows::calls::call_at_once;
 use validate_rows::control::{else_at_once, end_at_once, nop_at_once, unreachable_at_once};
 use validate_rows::globals::{global_get_at_once, global_set_at_once};
 use validate_rows::memory::memory_at_once;
 use validate_rows::numeric::{convert_at_once, numeric_at_once};
-use validate_rows::parametric::drop_at_once;
+use validate_rows::parametric::{drop_at_once, select_at_once};
 use validate_rows::variables::{local_get_at_once, local_set_at_once, local_tee_at_once};
 use validate_shapes::blocks::opener_at_once;
 use validate_stacks::Stacks;
@@ -76,9 +76,11 @@ fn control_at_once<R: WasmModuleResources>(
         ControlOp::End => end_at_once(stacks, resources),
         ControlOp::Br(relative_depth) => br_at_once(stacks, resources, relative_depth),
         ControlOp::BrIf(relative_depth) => br_if_at_once(stacks, resources, relative_depth),
+        ControlOp::BrTable(table) => br_table_at_once(stacks, resources, table),
         ControlOp::Return => return_at_once(stacks, resources),
         ControlOp::Call(function_index) => call_at_once(stacks, resources, function_index),
         ControlOp::Drop => drop_at_once(stacks, resources),
+        ControlOp::Select => select_at_once(stacks, resources),
         ControlOp::LocalGet(local_index) => local_get_at_once(stacks, resources, local_index),
         ControlOp::LocalSet(local_index) => local_set_at_once(stacks, resources, local_index),
         ControlOp::LocalTee(local_index) => local_tee_at_once(stacks, resources, local_index),
@@ -123,7 +125,7 @@ fn gated_memory_at_once<R: WasmModuleResources>(
 }
 
 /// The check of an operator, where it passes at once, as most do. False, with nothing changed, where it takes its check:
-/// an attempt is pending, memory is wanted, a reference is found, or the operator is refused.
+/// an attempt is pending, memory is wanted, the operator has no form at once, or it is refused.
 #[inline(always)]
 pub fn operator_at_once<R: WasmModuleResources>(stacks: &mut Stacks, resources: &R, op: &Op) -> bool
     requires { MayVisit (R.context resources.now) stacks.old }

@@ -4,7 +4,6 @@ ghost use Rattle.validation_rules.specs.Operators.{operator};
 ghost use Rattle.validate_stacks.specs.Visits.{MayVisit, Meets};
 ghost use Rattle.validate_operators.specs.Memory.{TakesNoMemory};
 
-use crate::at_once::operator_at_once;
 use crate::groups::{
     check_array, check_atomic, check_continuation, check_control, check_convert, check_exception,
     check_memory, check_numeric, check_reference, check_shared, check_struct, check_table,
@@ -14,34 +13,12 @@ use validate_stacks::Stacks;
 use validate_types::Error;
 use validate_visit::Op;
 
-/// The check of an operator at this offset: accepted exactly where its row holds, memory aside, with the
-/// static step. A refusal carries the offset. A frame has to be open.
+/// The check of an operator at this offset, in its group: accepted exactly where its row holds, memory aside, with
+/// the static step. A refusal carries the offset. A frame has to be open.
 ///
-/// Most operators pass at once ([`operator_at_once`]). The others take the check of their group.
-#[inline(always)]
-pub fn check_operator<R: WasmModuleResources>(
-    stacks: &mut Stacks,
-    resources: &R,
-    offset: u64,
-    op: &Op,
-) -> Result<(), Error>
-    requires { MayVisit (R.context resources.now) stacks.old }
-    ensures row { Meets (R.context resources.now) (λ cx. operator cx op.now) offset stacks.old.body
-        result stacks.new.body }
-    ensures memory { TakesNoMemory (R.context resources.now) op.now stacks.old.body result }
-{
-    if operator_at_once(stacks, resources, op) {
-        return Ok(());
-    }
-    match check_in_group(stacks, resources, offset, op) {
-        Ok(()) => Ok(()),
-        Err(refusal) => Err(refusal),
-    }
-}
-
-/// The check of an operator in its group.
+/// Most operators pass at once ([`operator_at_once`](crate::operator_at_once)), and are asked that first.
 #[inline(never)]
-fn check_in_group<R: WasmModuleResources>(
+pub fn check_operator<R: WasmModuleResources>(
     stacks: &mut Stacks,
     resources: &R,
     offset: u64,

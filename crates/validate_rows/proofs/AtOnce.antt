@@ -1,10 +1,11 @@
 -- Locals that are set already, and the innermost frame, for what passes at once.
-use Rattle.std.proofs.Common.{◌≡◌, ℕ, [], ◌∷◌, length, arith, Bool, true, false, Option, Some, None, IsSome, is_none, ◌||◌, refl, sym, ap, ◌∙◌, if◌then◌else◌, ap₂}
+use Rattle.std.proofs.Common.{◌==◌, ◌≤◌, get_or, ◌≡◌, ℕ, [], ◌∷◌, length, arith, Bool, true, false, Option, Some, None, IsSome, is_none, ◌||◌, refl, sym, ap, ◌∙◌, if◌then◌else◌, ap₂}
 use Rattle.std.specs.Option.{ForSome}
 use Rattle.validate_resources.specs.Context.{ModuleContext}
 use Rattle.validate_visit.specs.declared.frame.Frame.{Frame as FlatFrame}
 use Rattle.validation_rules.proofs.Steps.{some_injective}
 use Rattle.validate_types.specs.declared.types.ValType.{ValType}
+use Rattle.validate_types.specs.declared.types.ValType.TheVariants.{I32}
 use Rattle.validation_rules.specs.Static.{is_local_set, locals_set}
 use Rattle.std.specs.Prelude.{List}
 use Rattle.validate_stacks.specs.Pops.{body_popped_each, IsKept}
@@ -45,3 +46,10 @@ idle_frame v h = ap (λ o. is_none o || is_unmarked v.phase) h
 pub none_of : (ts : List ValType) → length ts ≡ 0 → ts ≡ []
 none_of [] h = refl
 none_of (t ∷ ts) h = absurd (omega (arith, h))
+
+-- ---- one type
+
+pub one_of : (b : Bool) (ts : List ValType) → b ≡ false → b ≡ (length ts == 0) → length ts ≤ 1 → ts ≡ get_or ts 0 I32 ∷ []
+one_of b [] f e h = absurd cc
+one_of b (t ∷ []) f e h = refl
+one_of b (t ∷ u ∷ ts) f e h = absurd (omega (arith, h))

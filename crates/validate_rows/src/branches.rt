@@ -1,13 +1,16 @@
 //! Branches (WebAssembly core specification, "Control Instructions").
 
-ghost use Rattle.std.specs.Prelude.{◌≡◌, None, Some, true, false, OnOk, OnErr, IfErr};
+ghost use Rattle.std.specs.Prelude.{◌≡◌, ◌++◌, ◌∷◌, [], None, Some, true, false, OnOk, OnErr, IfErr};
+ghost use Rattle.std.specs.List.{AllByRecursion};
+ghost use Rattle.validate_resources.specs.Context.{Valid};
+ghost use Rattle.validation_rules.specs.Context.{I32};
 ghost use Rattle.validation_rules.specs.Branches.{br_row, br_if_row, br_table_row, return_row};
 ghost use Rattle.validation_rules.specs.Operators.{staying_operator};
 ghost use Rattle.validate_stacks.specs.AtOnce.{MeetsAtOnce};
-ghost use Rattle.validate_stacks.specs.Pops.{IsKept};
+ghost use Rattle.validate_stacks.specs.Pops.{has_operands_fitting, IsKept};
 ghost use Rattle.validate_stacks.specs.State.{IsValidBody, body_context};
 ghost use Rattle.validate_stacks.specs.Visits.{step_body, MayVisit, Meets};
-ghost use Rattle.validate_rows.specs.Targets.{is_table_target, are_targets};
+ghost use Rattle.validate_rows.specs.Targets.{is_table_target, are_targets, IsTargetInPlace};
 
 use validate_resources::WasmModuleResources;
 use validate_shapes::labels::label;
@@ -236,4 +239,93 @@ pub fn check_br_table<R: WasmModuleResources>(
     check_targets(stacks, resources, offset, table, types.len())?;
     stacks.pop_types(resources, offset, types)?;
     stacks.unreachable(offset)
+}
+
+/// Whether operands of these types lie under one of type `i32`; of two types or more it says no.
+#[inline(always)]
+fn fits_under_index<R: WasmModuleResources>(
+    stacks: &Stacks,
+    resources: &R,
+    types: &[ValType],
+) -> bool
+    requires types { AllByRecursion (Valid (R.context resources.now)) types.now }
+    requires state { IsValidBody (R.context resources.now) stacks.now.body }
+    ensures { result ≡ true → has_operands_fitting (body_context (R.context resources.now) stacks.now.body)
+        (types.now ++ I32 ∷ []) stacks.now.body ≡ true }
+{
+    if types.is_empty() {
+        return stacks.has_operands_fitting(resources, &[ValType::I32]);
+    }
+    if types.len() > 1 {
+        return false;
+    }
+    stacks.has_operands_fitting(resources, &[types[0], ValType::I32])
+}
+
+/// Whether this label has so many types, and the operands fit it where they lie; of two types or more it says no.
+fn is_target_in_place<R: WasmModuleResources>(
+    stacks: &Stacks,
+    resources: &R,
+    relative_depth: u32,
+    count: usize,
+) -> bool
+    requires { IsValidBody (R.context resources.now) stacks.now.body }
+    ensures { result ≡ true → IsTargetInPlace (R.context resources.now) stacks.now.body count relative_depth }
+{
+    let Some((block_type, kind)) = stacks.jump(relative_depth) else {
+        return false;
+    };
+    let types = label_types(resources, &block_type, kind);
+    if types.len() != count {
+        return false;
+    }
+    fits_under_index(stacks, resources, types)
+}
+
+/// Whether each of these labels is such a target.
+fn are_targets_in_place<R: WasmModuleResources>(
+    stacks: &Stacks,
+    resources: &R,
+    targets: &[u32],
+    count: usize,
+) -> bool
+    requires { IsValidBody (R.context resources.now) stacks.now.body }
+    ensures { result ≡ true → AllByRecursion
+        (IsTargetInPlace (R.context resources.now) stacks.now.body count) targets.now }
+{
+    for relative_depth in targets {
+        if !is_target_in_place(stacks, resources, *relative_depth, count) {
+            return false;
+        }
+    }
+    true
+}
+
+/// [`check_br_table`], where it passes at once and each label has one type at most. False, with nothing changed, where
+/// it doesn't.
+#[inline(never)]
+pub fn br_table_at_once<R: WasmModuleResources>(
+    stacks: &mut Stacks,
+    resources: &R,
+    table: BrTable,
+) -> bool
+    requires { MayVisit (R.context resources.now) stacks.old }
+    ensures { MeetsAtOnce (R.context resources.now)
+        (λ cx. staying_operator (λ hs. br_table_row cx hs table.entry.complete table.entry.targets.now
+        table.entry.default)) stacks.old result stacks.new }
+{
+    let Some((block_type, kind)) = stacks.jump(table.default) else {
+        return false;
+    };
+    let types = label_types(resources, &block_type, kind);
+    if !table.complete
+        || types.len() > 1
+        || !are_targets_in_place(stacks, resources, table.targets, types.len())
+    {
+        return false;
+    }
+    if types.is_empty() {
+        return stacks.unreachable_at_once(resources, &[ValType::I32]);
+    }
+    stacks.unreachable_at_once(resources, &[types[0], ValType::I32])
 }

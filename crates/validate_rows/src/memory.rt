@@ -245,8 +245,8 @@ fn store_at_once<R: WasmModuleResources>(
     }
 }
 
-/// [`check_memory_row`] of a load or a store of a memory, where it passes at once: what it takes and gives is no value
-/// first. False, with nothing changed, where it doesn't.
+/// [`check_memory_row`] of a load or a store of a memory, where it passes at once: what it takes and gives isn't made a
+/// value first. False, with nothing changed, where it doesn't.
 #[inline(always)]
 pub fn memory_at_once<R: WasmModuleResources>(
     stacks: &mut Stacks,

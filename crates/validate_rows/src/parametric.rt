@@ -98,6 +98,26 @@ pub fn check_select<R: WasmModuleResources>(
     }
 }
 
+/// [`check_select`], where it passes at once, and the upper operand is a known number or vector. False, with nothing
+/// changed, where it doesn't.
+#[inline(always)]
+pub fn select_at_once<R: WasmModuleResources>(stacks: &mut Stacks, resources: &R) -> bool
+    requires { MayVisit (R.context resources.now) stacks.old }
+    ensures { MeetsAtOnce (R.context resources.now) (λ cx. row_operator (looking_row 3 (select_pushes cx)))
+        stacks.old result stacks.new }
+{
+    let Some(upper) = stacks.found_at(1) else {
+        return false;
+    };
+    let MaybeType::Known(ty) = upper else {
+        return false;
+    };
+    if !can_select(upper) {
+        return false;
+    }
+    stacks.exchange_at_once(resources, &[ty, ty, ValType::I32], Some(ty))
+}
+
 /// `select` with its type: `[t t i32] -> [t]` of the checked type.
 pub fn check_typed_select<R: WasmModuleResources>(
     stacks: &mut Stacks,

@@ -341,7 +341,7 @@ fn struct_access_types<R: WasmModuleResources>(
     Ok(TestedOperands { operands, allowed })
 }
 
-/// What an operator on arrays takes and gives.
+/// What an atomic access of an array takes and gives.
 fn array_access_types<R: WasmModuleResources>(
     stacks: &Stacks,
     resources: &R,

@@ -52,8 +52,8 @@ fn plain_by_pops<R: WasmModuleResources>(
     stacks.push_types(offset, pushed)
 }
 
-/// [`check_plain`], where it passes at once: no attempt is pending, each operand is the number or vector type itself,
-/// or not known at all, one type at most is pushed, and there is room. False, with nothing changed, where it doesn't.
+/// [`check_plain`], where it passes at once: no attempt is pending, each operand is there and fits, one type at most is
+/// pushed, and there is room. False, with nothing changed, where it doesn't.
 #[inline(always)]
 pub fn plain_at_once<R: WasmModuleResources>(
     stacks: &mut Stacks,

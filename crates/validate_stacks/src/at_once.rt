@@ -20,8 +20,8 @@ use validate_visit::{BlockType, FrameKind};
 
 impl Stacks {
     /// Pops operands of these types, the last of the list first, and pushes one of the other type, if there is one:
-    /// where no attempt is pending, each operand that is found fits, and there is room. False, with nothing changed,
-    /// where that isn't so. It takes no memory.
+    /// where no attempt is pending, each pop finds an operand, which fits, and there is room, where the innermost frame
+    /// has none that goes. False, with nothing changed, where that isn't so. It takes no memory.
     #[inline(always)]
     pub fn exchange_at_once<R: WasmModuleResources>(
         &mut self,
@@ -56,8 +56,8 @@ impl Stacks {
     }
 
     /// Pops operands of these types, the last of the list first, and ends the live part of the innermost frame: where
-    /// no attempt is pending, and each operand that is found fits. False, with nothing changed, where that isn't so. It
-    /// takes no memory.
+    /// no attempt is pending, and each pop finds an operand, which fits. False, with nothing changed, where that isn't
+    /// so. It takes no memory.
     #[inline(always)]
     pub fn unreachable_at_once<R: WasmModuleResources>(
         &mut self,

@@ -82,7 +82,7 @@ impl Stacks {
 
     /// Whether pops of these types would pass, the last of the list first.
     #[inline(always)]
-    pub(crate) fn has_operands_fitting<R: WasmModuleResources>(
+    pub fn has_operands_fitting<R: WasmModuleResources>(
         &self,
         resources: &R,
         wanted: &[ValType],

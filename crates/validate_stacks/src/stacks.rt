@@ -324,7 +324,8 @@ impl Stacks {
         self.operands.replace_top(ty);
     }
 
-    /// Takes so many own operands of the innermost frame, which has as many. It takes no memory.
+    /// Takes so many own operands of the innermost frame, which has as many at least, while no attempt is pending. It
+    /// takes no memory.
     #[inline(always)]
     pub(crate) fn drop_operands(&mut self, count: usize)
         requires idle { self.old.body.undone ≡ None }
@@ -411,7 +412,7 @@ impl Stacks {
 
     /// What a pop would find below so many others, in the innermost frame.
     #[inline(always)]
-    pub(crate) fn found_at(&self, depth: usize) -> Option<MaybeType>
+    pub fn found_at(&self, depth: usize) -> Option<MaybeType>
         ensures { result ≡ found_after_pops_in_body depth self.now.body }
     {
         let frame = self.control.get(0)?;

@@ -12,7 +12,7 @@ use Rattle.validate_stacks.specs.Visits.{step_body}
 use Rattle.validate_stacks.proofs.AtOnce.{exchange_parts, met_at_once, not_at_once}
 use Rattle.validate_shapes.proofs.BranchSteps.{label_valid, br_if_types, br_if_whole}
 use Rattle.validate_shapes.proofs.LastSteps.{meets_done}
-use Rattle.validate_rows.proofs.AtOnce.{none_of}
+use Rattle.validate_rows.proofs.AtOnce.{none_of, one_of}
 use Rattle.validate_rows.proofs.branches.br_if_at_once.Goals as goal
 
 pub returns-in_default : goal.returns-in_default
@@ -20,11 +20,6 @@ returns-in_default g c = not_at_once _ _ c.args.stacks.now
 
 pub returns-then-types-gt1 : goal.returns-then-types-gt1
 returns-then-types-gt1 g c = not_at_once _ _ c.args.stacks.now
-
-one_of : (b : Bool) (ts : List ValType) → b ≡ false → b ≡ (length ts == 0) → length ts ≤ 1 → ts ≡ get_or ts 0 I32 ∷ []
-one_of b [] f e h = absurd cc
-one_of b (t ∷ []) f e h = refl
-one_of b (t ∷ u ∷ ts) f e h = absurd (omega (arith, h))
 
 pub returns-then-is_empty : goal.returns-then-is_empty
 returns-then-is_empty g c =

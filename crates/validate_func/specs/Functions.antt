@@ -32,6 +32,10 @@ function_from r v =
 abbrev pub body_state : {R : Type 0} → FunctionState R → BodyState
 body_state f = record f.starting { present = f.present }
 
+-- the same, as if no operator had been refused
+abbrev pub unmarked : {R : Type 0} → FunctionState R → FunctionState R
+unmarked f = record f { failed = false }
+
 -- the state is that of the static run over the accepted operators, from the starting state
 abbrev pub IsStaticRun : {R : Type 0} → ModuleContext → FunctionState R → Type 0
 IsStaticRun md f = body_before md f.starting f.accepted (length f.accepted) ≡ Some f.present

@@ -8,7 +8,7 @@ ghost use Rattle.validate_stacks.specs.State.{IsStarting};
 ghost use Rattle.validate_stacks.specs.Steps.{type_at_depth, frame_at};
 ghost use Rattle.validate_body.specs.Runs.{IsAcceptedBody, IsSafeFrom};
 ghost use Rattle.validate_body.specs.Start.{state, current_kind, DefinesLocals, CannotDefine};
-ghost use Rattle.validate_func.specs.Functions.{function_from, body_state, IsStaticRun, Accepts, Refuses, Fails};
+ghost use Rattle.validate_func.specs.Functions.{function_from, body_state, unmarked, IsStaticRun, Accepts, Refuses, Fails};
 ghost use Rattle.validate_func.specs.Operands.{types_in};
 
 use crate::operands::operand_types;
@@ -105,6 +105,21 @@ impl<'a, 'resources, R: WasmModuleResources> FuncValidator<'a, 'resources, R> {
         }
         // It has failed until the operator is accepted.
         self.failed = true;
+        self.visit(offset, op)
+    }
+
+    /// Visits an operator, where this validator is marked as failed for its sake alone: clauses speak of what
+    /// it was without the mark, which goes where the operator is accepted.
+    fn visit(&mut self, offset: u64, op: Op<'a>) -> Result<(), Error>
+        requires marked { self.old.failed ≡ true }
+        requires run { IsStaticRun (R.context self.old.resources) self.old }
+        requires open_frame { self.old.present.frames ≢ [] }
+        ensures accepted { OnOk result (Accepts (R.context self.old.resources) (op.entry, offset)
+            (unmarked self.old) self.new) }
+        ensures refused { IfErr result (Refuses (R.context self.old.resources) (op.entry, offset)
+            (unmarked self.old)) }
+        ensures marked { OnErr result (self.new ≡ record self.old { present = self.new.present }) }
+    {
         if self.accepted.reserve(1).is_err() {
             return Err(Error::out_of_memory(offset));
         }
@@ -129,6 +144,19 @@ impl<'a, 'resources, R: WasmModuleResources> FuncValidator<'a, 'resources, R> {
         if self.failed {
             return Err(has_failed(offset));
         }
+        self.attempt(offset, op)
+    }
+
+    /// Attempts an operator, where none was refused.
+    fn attempt(&mut self, offset: u64, op: Op<'a>) -> Result<(), Error>
+        requires none_failed { self.old.failed ≡ false }
+        requires open_frame { self.old.present.frames ≢ [] }
+        ensures accepted { OnOk result (Accepts (R.context self.old.resources) (op.entry, offset) self.old
+            self.new) }
+        ensures refused { IfErr result (Refuses (R.context self.old.resources) (op.entry, offset)
+            self.old) }
+        ensures back { OnErr result (self.new ≡ self.old) }
+    {
         if self.accepted.reserve(1).is_err() {
             return Err(Error::out_of_memory(offset));
         }
@@ -155,13 +183,20 @@ impl<'a, 'resources, R: WasmModuleResources> FuncValidator<'a, 'resources, R> {
         if self.failed {
             return Err(has_failed(offset));
         }
-        if self.validator.control_stack_height() > 0 {
+        if self.has_open_frame() {
             return Err(Error::new(
                 "control frames remain at end of function: END opcode expected",
                 offset,
             ));
         }
         Ok(())
+    }
+
+    /// Whether a frame is open.
+    fn has_open_frame(&self) -> bool
+        ensures { result ≡ false ↔ (self.now.present.frames ≡ []) }
+    {
+        self.validator.control_stack_height() > 0
     }
 
     /// The operators that were accepted, in order, with their offsets. While it hasn't failed, the state is

@@ -5,9 +5,10 @@ ghost use Rattle.std.specs.List.{list_all};
 ghost use Rattle.validate_visit.specs.Immediates.{is_module_op};
 ghost use Rattle.validate_visit.specs.Order.{is_well_ordered_list};
 ghost use Rattle.validate_visit.specs.declared.frame.BlockType.{BlockType};
-ghost use Rattle.validation_rules.specs.Static.{start};
+ghost use Rattle.validation_rules.specs.Static.{start, operand_count};
 ghost use Rattle.validate_stacks.specs.Pops.{IsKept};
 ghost use Rattle.validate_stacks.specs.State.{IsStarting, IsValidBody};
+ghost use Rattle.validate_stacks.specs.Steps.{type_at_depth};
 ghost use Rattle.validate_body.specs.Runs.{without_offsets, body_before, IsAcceptedBody, IsRefusedAt};
 ghost use Rattle.validate_body.specs.Start.{state};
 ghost use Rattle.validate_func.specs.Operands.{types_in, types_before, AreTypesOfRuns};
@@ -91,10 +92,18 @@ pub(crate) fn operand_types(
     let height = v.operand_stack_height();
     let mut types = Vec::with_capacity(alloc, height)?;
     for depth in (0..height).rev() {
-        match v.peek_operand_at(depth) {
-            Some(ty) => types.push_reserved(ty),
-            None => unreachable!(),
-        }
+        types.push_reserved(operand_at(v, depth));
     }
     Ok(types)
+}
+
+/// The type of the operand at this depth, where one is; None where its type isn't known.
+fn operand_at(v: &OperatorValidator, depth: usize) -> Option<ValType>
+    requires { depth < operand_count (state v.now).present }
+    ensures { type_at_depth (state v.now) depth ≡ Some result }
+{
+    match v.peek_operand_at(depth) {
+        Some(ty) => ty,
+        None => unreachable!(),
+    }
 }

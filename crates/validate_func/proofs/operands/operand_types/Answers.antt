@@ -1,7 +1,7 @@
-use Rattle.std.proofs.Common.{◌≤◌, ◌<◌, ◌-◌, ◌++◌, ◌∷◌, [], length, sym, ap, ◌∙◌, arith}
+use Rattle.std.proofs.Common.{◌≤◌, ◌-◌, ◌++◌, ◌∷◌, [], length, sym, ap, ◌∙◌, arith}
 use Rattle.validate_stacks.specs.Steps.{all_operands}
 use Rattle.validate_body.specs.Start.{state}
-use Rattle.validate_func.proofs.Types.{length-all, types_more, types_none, type_there}
+use Rattle.validate_func.proofs.Types.{length-all, types_more, types_none}
 use Rattle.validate_func.proofs.operands.operand_types.Goals as goal
 
 pub loop-depth-init : goal.loop-depth-init
@@ -20,12 +20,6 @@ loop-depth-preserved c =
     record {
       room = omega (arith, c.push_reserved.ensures.capacity, c.loop-depth.invariant.room);
       count = omega (arith, c.push_reserved.ensures.len, c.loop-depth.invariant.count, c.loop-depth-test.true);
-      so_far = c.push_reserved.ensures.items ∙ (ap (λ l. l ++ c.in-Some.ty ∷ []) c.loop-depth.invariant.so_far
-          ∙ sym (types_more (all_operands s.frames s.left) (c.loop-depth.depth - 1) c.loop-depth.depth c.in-Some.ty (omega arith) (sym c.peek_operand_at.ensures ∙ c.in-Some.is)));
+      so_far = c.push_reserved.ensures.items ∙ (ap (λ l. l ++ c.operand_at.result ∷ []) c.loop-depth.invariant.so_far
+          ∙ sym (types_more (all_operands s.frames s.left) (c.loop-depth.depth - 1) c.loop-depth.depth c.operand_at.result (omega arith) c.operand_at.ensures));
     }
-
-pub unreachable-requires : goal.unreachable-requires
-unreachable-requires c =
-    let s = (state c.args.v.now).present in
-    let below : c.loop-depth.depth - 1 < length (all_operands s.frames s.left) = omega (arith, length-all s.frames s.left, c.operand_stack_height-height.ensures, c.loop-depth-test.true, c.loop-depth.invariant.count) in
-    type_there (all_operands s.frames s.left) (c.loop-depth.depth - 1) below (sym c.peek_operand_at.ensures ∙ c.in-None.is)

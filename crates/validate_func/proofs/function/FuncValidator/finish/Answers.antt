@@ -1,9 +1,9 @@
-use Rattle.std.proofs.Common.{◌≤◌, length, arith, subst}
+use Rattle.std.proofs.Common.{ap, ◌∙◌, subst}
 use Rattle.validate_body.specs.Runs.{IsAcceptedBody}
 use Rattle.validate_body.specs.Start.{state}
 use Rattle.validate_body.proofs.Listed.{safe_accepted}
 use Rattle.validate_func.specs.Functions.{FunctionState, state_from}
-use Rattle.validate_func.proofs.Accepted.{no_frames, accepted_whole}
+use Rattle.validate_func.proofs.Accepted.{accepted_whole}
 use Rattle.validate_func.proofs.function.FuncValidator.finish.Goals as goal
 
 pub returns-clause-rows : goal.returns-clause-rows
@@ -11,9 +11,9 @@ returns-clause-rows g c =
     let context = g.R.WasmModuleResources.context in
     let inside = c.self.inside in
     let v = state inside.validator in
-    let none : length v.present.frames ≤ 0 = omega (arith, c.control_stack_height.ensures, c.if-control_stack_height-gt0.false) in
+    let none = ap (λ (f : FunctionState g.row.R.Denot). f.present.frames) c.self.view_is ∙ c.has_open_frame.ensures.0 c.if-has_open_frame.false in
     subst (λ (f : FunctionState g.row.R.Denot). IsAcceptedBody (context f.resources) f.starting f.accepted) c.self.view_is
-    (accepted_whole (context inside.resources.now) (state_from inside.first_frame v) inside.accepted.items v.present (c.self.invariant.run c.if-self.false) (no_frames v.present.frames none))
+    (accepted_whole (context inside.resources.now) (state_from inside.first_frame v) inside.accepted.items v.present (c.self.invariant.run c.if-self.false) none)
 
 pub returns-clause-safe : goal.returns-clause-safe
 returns-clause-safe g c =

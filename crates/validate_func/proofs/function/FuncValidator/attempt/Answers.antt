@@ -4,7 +4,7 @@ use Rattle.validate_body.specs.Start.{state}
 use Rattle.validate_body.proofs.Listed.{visited, not_visited, visit_offset}
 use Rattle.validate_func.specs.Functions.{FunctionState, function_state, Accepts, Refuses}
 use Rattle.validate_func.proofs.Accepted.{sound_accepted, accepts}
-use Rattle.validate_func.proofs.function.FuncValidator.try_op.Goals as goal
+use Rattle.validate_func.proofs.function.FuncValidator.attempt.Goals as goal
 
 pub returns-in_err-try_op-clause-refused : goal.returns-in_err-try_op-clause-refused
 returns-in_err-try_op-clause-refused g c =
@@ -25,9 +25,10 @@ invariant_of-self-2 g c =
     let p : Op × ℕ = (c.args.op, c.args.offset) in
     let v = state c.self.inside.validator in
     let w = state c.try_op.new.v in
-    let listed = c.push_reserved.ensures.items ∙ ap (λ (l : List (Op × ℕ)). l ++ p ∷ []) c.reserve.ensures.items in
+    let listed = ◌∙◌ {A = List (Op × ℕ)} c.push_reserved.ensures.items (ap (λ (l : List (Op × ℕ)). l ++ p ∷ []) c.reserve.ensures.items) in
     let row = visited md p.0 p.1 v w c.in_ok-try_op.field-0 c.in_ok-try_op.ensures.meets in
-    sound_accepted md c.self.inside.first_frame v w _ _ p _ _ c.try_op.ensures.kept listed row c.if-self.false c.if-self.false c.self.invariant c.try_op.ensures.valid
+    let none_failed = ap (λ (f : FunctionState g.row.R.Denot). f.failed) c.self.view_is ∙ c.requires.none_failed in
+    sound_accepted md c.self.inside.first_frame v w _ _ p _ _ c.try_op.ensures.kept listed row none_failed c.self.invariant (c.self.invariant.run none_failed) c.try_op.ensures.valid
 
 pub returns-clause-accepted : goal.returns-clause-accepted
 returns-clause-accepted g c =
@@ -36,8 +37,9 @@ returns-clause-accepted g c =
     let p : Op × ℕ = (c.args.op, c.args.offset) in
     let v = state c.self.inside.validator in
     let w = state c.try_op.new.v in
-    let listed = c.push_reserved.ensures.items ∙ ap (λ (l : List (Op × ℕ)). l ++ p ∷ []) c.reserve.ensures.items in
+    let listed = ◌∙◌ {A = List (Op × ℕ)} c.push_reserved.ensures.items (ap (λ (l : List (Op × ℕ)). l ++ p ∷ []) c.reserve.ensures.items) in
     let row = visited md p.0 p.1 v w c.in_ok-try_op.field-0 c.in_ok-try_op.ensures.meets in
     let new = function_state c.self.inside.resources.now c.self.inside.first_frame w c.push_reserved.new.self.items c.self.inside.failed in
+    let none_failed = ap (λ (f : FunctionState g.row.R.Denot). f.failed) c.self.view_is ∙ c.requires.none_failed in
     subst (λ (f : FunctionState g.row.R.Denot). Accepts (context f.resources) p f new) c.self.view_is
-    (accepts md c.self.inside.first_frame v w _ _ p _ _ c.try_op.ensures.kept listed row c.if-self.false c.if-self.false c.self.inside.resources.now)
+    (accepts md c.self.inside.first_frame v w _ _ p _ _ c.try_op.ensures.kept listed row none_failed c.self.inside.resources.now none_failed)

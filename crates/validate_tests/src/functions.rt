@@ -10,15 +10,19 @@ ghost use Rattle.std.specs.List.{list_all};
 ghost use Rattle.wasmparser_validate.specs.Immediates.{is_module_op};
 ghost use Rattle.wasmparser_validate.specs.Order.{is_well_ordered_list};
 ghost use Rattle.wasmparser_validate.specs.Runs.{without_offsets};
+ghost use Rattle.wasmparser_validate.specs.Start.{state};
+ghost use Rattle.wasmparser_validate.specs.State.{IsStarting};
 
 use crate::expect::{Lack, expect, expect_error, expect_same, expect_text};
+use crate::lines::parts_of;
+use crate::lists::script_of;
 use crate::setting::{HEAD, Setting};
 use crate::tables::GROUPS;
 use script_reader::{read_lists, read_script};
 use std::process::Abort;
 use wasmparser_validate::func::{FuncValidator, operands_before};
-use wasmparser_validate::operators::OperatorValidatorAllocations;
-use wasmparser_validate::resources::WasmModuleResources;
+use wasmparser_validate::operators::{OperatorValidator, OperatorValidatorAllocations};
+use wasmparser_validate::resources::{ModuleLists, WasmModuleResources};
 use wasmparser_validate::types::{Error, ValType};
 use wasmparser_validate::visit::{
     ControlOp, IntegerBinaryOp, IntegerType, NumericOp, Op, have_module_immediates, is_well_ordered,
@@ -42,15 +46,34 @@ fn seen<R: WasmModuleResources>(
     rt: &impl AllocGlobal,
     function: &FuncValidator<'_, '_, R>,
 ) -> Result<String, Lack> {
-    let accepted = function.accepted().len();
-    let mut text = format!(in rt.alloc(); "{accepted} {}", function.is_failed())?;
+    let mut text = String::new(rt.alloc());
+    add_seen(&mut text, function)?;
+    Ok(text)
+}
+
+/// Adds how many operators were accepted, whether it has failed, the frames and the operands.
+fn add_seen<R: WasmModuleResources>(
+    text: &mut String,
+    function: &FuncValidator<'_, '_, R>,
+) -> Result<(), Lack> {
+    write!(
+        text,
+        "{} {}",
+        accepted_count(function),
+        function.is_failed()
+    )?;
     for depth in 0..function.control_stack_height() {
         write!(text, " {:?}", function.get_frame(depth))?;
     }
     for depth in 0..function.operand_stack_height() {
         write!(text, " {:?}", function.peek_operand_at(depth))?;
     }
-    Ok(text)
+    Ok(())
+}
+
+/// How many operators were accepted.
+fn accepted_count<R: WasmModuleResources>(function: &FuncValidator<'_, '_, R>) -> usize {
+    function.accepted().len()
 }
 
 /// What can be seen of a function validator is what was seen before.
@@ -84,13 +107,15 @@ fn visit<'a, R: WasmModuleResources>(
     function: &mut FuncValidator<'a, '_, R>,
     op: Op<'a>,
 ) -> Result<(), Lack> {
-    let accepted = function.accepted().len();
-    if answer(rt, function, op, false).is_ok() {
-        return Ok(());
+    let accepted = accepted_count(function);
+    match answer(rt, function, op, false) {
+        Ok(()) => Ok(()),
+        Err(refusal) => {
+            expect(rt, function.is_failed());
+            expect_same(rt, accepted_count(function), accepted);
+            Err(Lack::from(refusal))
+        }
     }
-    expect(rt, function.is_failed());
-    expect_same(rt, function.accepted().len(), accepted);
-    Err(Lack("a visit is refused"))
 }
 
 /// An attempt without memory leaves no trace, and comes again.
@@ -135,21 +160,10 @@ fn expect_ops<'a, R: WasmModuleResources>(
     attempted: bool,
 ) -> Result<(), Lack> {
     for (pair, line) in ops.iter().zip(lines.lines()) {
-        let (_, heights) = line.split_once(" => ").unwrap_or((line, ""));
+        let (_, heights) = parts_of(line);
         expect_op(rt, function, pair.0, heights, attempted)?;
     }
     Ok(())
-}
-
-/// The script of a body: its first lines, and its operators without what each leaves.
-fn script_of(rt: &impl AllocGlobal, head: &str, lines: &str) -> Result<String, Lack> {
-    let mut script = head.to_string(rt.alloc())?;
-    for line in lines.lines() {
-        let (written, _) = line.split_once(" => ").unwrap_or((line, ""));
-        script.push_str("\n")?;
-        script.push_str(written)?;
-    }
-    Ok(script)
 }
 
 /// The operators of a body, in a function of this setting.
@@ -201,17 +215,6 @@ fn groups_of_operators_in_functions_whichever_allocation_fails(
     Ok(())
 }
 
-/// Visits operators, each of which is accepted.
-fn expect_accepted<R: WasmModuleResources>(
-    rt: &impl Abort,
-    function: &mut FuncValidator<'static, '_, R>,
-    ops: &[Op<'static>],
-) {
-    for op in ops {
-        expect(rt, answer(rt, function, *op, false).is_ok());
-    }
-}
-
 /// An operator is refused with this text.
 fn expect_refused<R: WasmModuleResources>(
     rt: &impl Abort,
@@ -227,23 +230,26 @@ fn expect_refused<R: WasmModuleResources>(
 fn expect_refused_attempt<R: WasmModuleResources>(
     rt: &impl Abort,
     function: &mut FuncValidator<'static, '_, R>,
-) {
-    expect_accepted(rt, function, &[I64_CONST, I32_CONST]);
+) -> Result<(), Lack> {
+    visit(rt, function, I64_CONST)?;
+    visit(rt, function, I32_CONST)?;
     let text = "type mismatch: expected i32, found i64";
     expect_refused(rt, function, I32_ADD, true, text);
     expect_same(rt, function.peek_operand_at(0), Some(Some(ValType::I32)));
     expect_same(rt, function.peek_operand_at(1), Some(Some(ValType::I64)));
-    expect_accepted(rt, function, &[DROP, DROP, END]);
-    expect(rt, function.finish(9).is_ok());
-    expect_same(rt, function.accepted().len(), 5);
+    visit(rt, function, DROP)?;
+    visit(rt, function, DROP)?;
+    visit(rt, function, END)?;
+    function.finish(9)?;
+    expect_same(rt, accepted_count(function), 5);
+    Ok(())
 }
 
 #[test]
 fn a_refused_attempt_is_not_among_the_accepted(rt: HostRuntime) -> Result<(), Lack> {
     let setting = Setting::read(&rt, HEAD)?;
     let v = setting.validator(OperatorValidatorAllocations::new(rt.alloc()))?;
-    expect_refused_attempt(&rt, &mut FuncValidator::new(rt.alloc(), v, &setting.lists));
-    Ok(())
+    expect_refused_attempt(&rt, &mut FuncValidator::new(rt.alloc(), v, &setting.lists))
 }
 
 /// Has a frame open at first; and has failed behind a refused visit.
@@ -261,7 +267,7 @@ fn expect_refusals<R: WasmModuleResources>(
         expect_refused(rt, function, I32_CONST, attempted, failed);
     }
     expect_error(rt, function.finish(9).err(), failed, 9);
-    expect(rt, function.accepted().is_empty());
+    expect_same(rt, accepted_count(function), 0);
 }
 
 #[test]
@@ -272,20 +278,22 @@ fn a_failed_one_refuses_whatever_comes(rt: HostRuntime) -> Result<(), Lack> {
     Ok(())
 }
 
-/// The types of the operands before operator `k` of a body of `[i32] -> [i32]`.
+/// The types of the operands before operator `k` of a body that starts in this validator.
 fn expect_types_before(
     rt: &(impl Abort + AllocGlobal),
-    setting: &Setting,
+    v: &mut OperatorValidator,
+    lists: &ModuleLists,
     ops: &[(Op<'_>, u64)],
     k: usize,
     wanted: &[Option<ValType>],
 ) -> Result<(), Lack>
+    requires starting { IsStarting (⟦<ModuleLists as WasmModuleResources>⟧.context lists.now)
+        (state v.old) }
     requires ordered { is_well_ordered_list (without_offsets ops.now) ≡ true }
     requires immediates { list_all (λ (p : _). is_module_op p.0) ops.now ≡ true }
     requires within { k ≤ length ops.now }
 {
-    let mut v = setting.validator(OperatorValidatorAllocations::new(rt.alloc()))?;
-    match operands_before(rt.alloc(), &mut v, ops, &setting.lists, k) {
+    match operands_before(rt.alloc(), v, ops, lists, k) {
         Ok(types) => {
             expect_same(rt, types.as_slice(), wanted);
             Ok(())
@@ -294,18 +302,31 @@ fn expect_types_before(
     }
 }
 
-#[test]
-fn operands_before_the_first_and_behind_the_last_operator(rt: HostRuntime) -> Result<(), Lack> {
-    let setting = Setting::read(&rt, "type func i32 -> i32\nfunc 0")?;
+/// The same of a new body of `[i32] -> [i32]`: two operands are added.
+fn expect_before(
+    rt: &(impl Abort + AllocGlobal),
+    setting: &Setting,
+    k: usize,
+    wanted: &[Option<ValType>],
+) -> Result<(), Lack>
+    requires { k ≤ 4 }
+{
     let ops = [
         (Op::Control(ControlOp::LocalGet(0)), 3),
         (I32_CONST, 4),
         (I32_ADD, 5),
         (END, 6),
     ];
-    expect(&rt, is_well_ordered(&ops) && have_module_immediates(&ops));
+    expect(rt, is_well_ordered(&ops) && have_module_immediates(&ops));
+    let mut v = setting.validator(OperatorValidatorAllocations::new(rt.alloc()))?;
+    expect_types_before(rt, &mut v, &setting.lists, &ops, k, wanted)
+}
+
+#[test]
+fn operands_before_the_first_and_behind_the_last_operator(rt: HostRuntime) -> Result<(), Lack> {
+    let setting = Setting::read(&rt, "type func i32 -> i32\nfunc 0")?;
     let i32 = Some(ValType::I32);
-    expect_types_before(&rt, &setting, &ops, 0, &[])?;
-    expect_types_before(&rt, &setting, &ops, 2, &[i32, i32])?;
-    expect_types_before(&rt, &setting, &ops, 4, &[i32])
+    expect_before(&rt, &setting, 0, &[])?;
+    expect_before(&rt, &setting, 2, &[i32, i32])?;
+    expect_before(&rt, &setting, 4, &[i32])
 }

@@ -53,7 +53,8 @@ fn expect_last<R: WasmModuleResources>(
 {
     expect_lines(rt, v, lists, lines, Way::Visited)?;
     expect(rt, v.control_stack_height() > 0);
-    expect(rt, visit(v, lists, op).is_ok());
+    let answer = visit(v, lists, op);
+    expect(rt, answer.is_ok());
     Ok(())
 }
 

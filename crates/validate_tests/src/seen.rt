@@ -10,6 +10,11 @@ use wasmparser_validate::visit::{Frame, FrameKind};
 /// were, and the operands, the top last.
 pub fn seen(rt: &impl AllocGlobal, v: &OperatorValidator) -> Result<String, Lack> {
     let mut text = String::new(rt.alloc());
+    add_seen(&mut text, v)?;
+    Ok(text)
+}
+
+fn add_seen(text: &mut String, v: &OperatorValidator) -> Result<(), Lack> {
     for depth in 0..v.control_stack_height() {
         write!(text, "{:?}", v.get_frame(depth))?;
     }
@@ -17,8 +22,7 @@ pub fn seen(rt: &impl AllocGlobal, v: &OperatorValidator) -> Result<String, Lack
         write!(text, " {index}")?;
     }
     text.push_str(":")?;
-    add_operands(&mut text, v)?;
-    Ok(text)
+    add_operands(text, v)
 }
 
 /// What a visit answered: how many operands and frames there are behind it, or the words of its refusal. Then
@@ -29,9 +33,17 @@ pub fn said(
     answer: Result<(), Error>,
 ) -> Result<String, Lack> {
     let mut text = String::new(rt.alloc());
-    add_answer(&mut text, v, answer)?;
-    add_innermost(&mut text, v)?;
+    add_said(&mut text, v, answer)?;
     Ok(text)
+}
+
+fn add_said(
+    text: &mut String,
+    v: &OperatorValidator,
+    answer: Result<(), Error>,
+) -> Result<(), Lack> {
+    add_answer(text, v, answer)?;
+    add_innermost(text, v)
 }
 
 fn add_answer(

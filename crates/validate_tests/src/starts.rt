@@ -1,6 +1,6 @@
 //! Validators as they are made, what is declared in them, and a constant expression checked as a list.
 
-ghost use Rattle.std.specs.Prelude.{◌≡◌, IfOk, true, List, []};
+ghost use Rattle.std.specs.Prelude.{◌≡◌, IfOk, true, false, List, []};
 ghost use Rattle.std.specs.List.{list_all};
 ghost use Rattle.wasmparser_validate.specs.Immediates.{is_module_op};
 ghost use Rattle.wasmparser_validate.specs.Order.{is_well_ordered_list};
@@ -90,7 +90,26 @@ fn locals_are_declared_up_to_the_limit(rt: HostRuntime) -> Result<(), Lack> {
     expect_limits(&rt, &setting)
 }
 
-/// Declares 60 locals in a new body. Where memory is wanting there are none, and a second try declares them.
+/// Declares 60 locals in a new body, and says whether there are; where memory is wanting there are none.
+fn are_defined<R: WasmModuleResources>(
+    rt: &impl Abort,
+    v: &mut OperatorValidator,
+    lists: &R,
+) -> bool
+    requires { IsStarting (R.context lists.now) (state v.old) }
+    ensures { result ≡ false → IsStarting (R.context lists.now) (state v.new) }
+{
+    match v.define_locals(0, 60, ValType::I64, lists) {
+        Ok(()) => true,
+        Err(refusal) => {
+            expect(rt, refusal.is_out_of_memory());
+            expect_same(rt, v.locals().len_locals(), 0);
+            false
+        }
+    }
+}
+
+/// Where memory is wanting a second try declares them.
 fn expect_defined<R: WasmModuleResources>(
     rt: &impl Abort,
     v: &mut OperatorValidator,
@@ -98,9 +117,7 @@ fn expect_defined<R: WasmModuleResources>(
 ) -> Result<(), Error>
     requires { IsStarting (R.context lists.now) (state v.old) }
 {
-    if let Err(refusal) = v.define_locals(0, 60, ValType::I64, lists) {
-        expect(rt, refusal.is_out_of_memory());
-        expect_same(rt, v.locals().len_locals(), 0);
+    if !are_defined(rt, v, lists) {
         v.define_locals(0, 60, ValType::I64, lists)?;
     }
     expect_same(rt, v.locals().len_locals(), 60);

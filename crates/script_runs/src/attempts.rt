@@ -1,21 +1,16 @@
 //! Scripts once more, with every operator attempted that may be.
 
+use crate::words::{first_word, has_line, has_word};
 use std::alloc::{AllocError, Global};
 
 /// The first words of lines that are no operators, and the operators that can't be attempted.
 const PLAIN: &str = "feature show type fn table memory global tag elem data func expr local \
     block loop if else end try_table legacy_try catch catch_all delegate try";
 
-/// Whether a script has a `show` line.
-fn has_show_line(script: &str) -> bool {
-    script.lines().any(|line| line.trim() == "show")
-}
-
 /// Whether the line is an operator that may be attempted.
 fn may_be_attempted(line: &str) -> bool {
-    let words = line.trim();
-    let (name, _) = words.split_once(' ').unwrap_or((words, ""));
-    !name.is_empty() && !name.starts_with('#') && !PLAIN.split(' ').any(|word| word == name)
+    let name = first_word(line);
+    !name.is_empty() && !name.starts_with('#') && !has_word(PLAIN, name)
 }
 
 /// The number of the line whose refusal ends the run that prints this, and 0 where none does.
@@ -63,20 +58,12 @@ fn answer_before(printed: &str, shows: bool) -> &str {
         .unwrap_or(if shows { "ok 0 1 []" } else { "ok 0 1" })
 }
 
-/// What the script that `attempted` gives prints, and its status, where the script prints this and has
-/// this status: the same, but that a refusal that ended the run leaves what was there before it.
-fn printed_then(
-    alloc: Global,
-    printed: &str,
-    status: u8,
-    (taken_back, shows): (bool, bool),
-) -> Result<(String, u8), AllocError> {
-    if !taken_back {
-        return Ok((printed.to_string(alloc)?, status));
-    }
+/// What the script that `attempted` gives prints, where it takes back the refusal that ended the run that prints
+/// this: the same, but with what was there before it.
+fn printed_then(alloc: Global, printed: &str, shows: bool) -> Result<String, AllocError> {
     let lines = printed.strip_suffix("refused\n").unwrap_or(printed);
     let answer = answer_before(printed, shows);
-    Ok((format!(in alloc; "{lines}{answer}\nopen\n")?, 1))
+    format!(in alloc; "{lines}{answer}\nopen\n")
 }
 
 /// A script and what it prints, with its status.
@@ -90,8 +77,9 @@ pub fn attempted(
     status: u8,
 ) -> Result<Run, AllocError> {
     let mut text = String::new(alloc);
-    let taken_back = add_each_attempted(&mut text, script, last_line(printed))?;
-    let ways = (taken_back, has_show_line(script));
-    let (printed, status) = printed_then(alloc, printed, status, ways)?;
-    Ok((text, printed, status))
+    if add_each_attempted(&mut text, script, last_line(printed))? {
+        let printed = printed_then(alloc, printed, has_line(script, "show"))?;
+        return Ok((text, printed, 1));
+    }
+    Ok((text, printed.to_string(alloc)?, status))
 }

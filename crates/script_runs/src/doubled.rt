@@ -1,5 +1,6 @@
 //! Scripts with the indices of types doubled, as a lookup wants them in which two indices name each type.
 
+use crate::words::{first_word, has_word};
 use std::alloc::{AllocError, Global};
 
 /// The greatest index that a type may name.
@@ -22,9 +23,9 @@ fn is_type_index(name: &str, place: usize) -> bool {
     let is_atomic = name.contains(".atomic.");
     match place {
         1 if is_aggregate => !is_atomic,
-        1 => FIRST.split_whitespace().any(|other| other == name),
+        1 => has_word(FIRST, name),
         2 if is_aggregate && is_atomic => true,
-        2 => SECOND.split_whitespace().any(|other| other == name),
+        2 => has_word(SECOND, name),
         _ => false,
     }
 }
@@ -66,7 +67,7 @@ fn add_line(text: &mut String, line: &str) -> Result<(), AllocError> {
     if operator.len() < line.len() {
         text.push_str("try ")?;
     }
-    let name = operator.split_whitespace().next().unwrap_or("");
+    let name = first_word(operator);
     for (place, word) in operator.split_whitespace().enumerate() {
         add_word(text, word, is_type_index(name, place))?;
     }
@@ -74,18 +75,23 @@ fn add_line(text: &mut String, line: &str) -> Result<(), AllocError> {
     Ok(())
 }
 
+/// Adds a line of a script, doubled where it is one of the body. Whether it is.
+fn add_script_line(text: &mut String, line: &str, is_body: bool) -> Result<bool, AllocError> {
+    let first = first_word(line);
+    if is_body || first == "func" || first == "expr" {
+        add_line(text, line)?;
+        return Ok(true);
+    }
+    writeln!(text, "{line}")?;
+    Ok(false)
+}
+
 /// The script with the indices of types in its body doubled: those of its module lines stay.
 pub fn doubled(alloc: Global, script: &str) -> Result<String, AllocError> {
     let mut text = String::new(alloc);
     let mut is_body = false;
     for line in script.lines() {
-        let first = line.split_whitespace().next().unwrap_or("");
-        is_body |= first == "func" || first == "expr";
-        if is_body {
-            add_line(&mut text, line)?;
-        } else {
-            writeln!(text, "{line}")?;
-        }
+        is_body = add_script_line(&mut text, line, is_body)?;
     }
     Ok(text)
 }

@@ -1,7 +1,7 @@
 //! Readers and writers that fail, at each byte.
 
 use crate::report::Report;
-use crate::runs::Outcome;
+use crate::runs::{Outcome, compare_outcome};
 use opcheck_script::run;
 use std::alloc::Global;
 use std::io::{Read, Write};
@@ -60,6 +60,13 @@ const SCRIPTS: &[(&str, Outcome<'static>)] = &[
     ),
 ];
 
+/// What comes of a script whose reader fails.
+const BAD_INPUT: Outcome<'static> = Outcome {
+    out: "",
+    err: "bad script: input\n",
+    status: 2,
+};
+
 /// Gives its bytes one by one, and then fails.
 #[derive(Drop)]
 struct BrokenReader<'a> {
@@ -87,6 +94,16 @@ struct BrokenWriter {
     taken: Vec<u8>,
 }
 
+impl BrokenWriter {
+    /// One with room for so many bytes.
+    fn new(alloc: Global, room: usize) -> BrokenWriter {
+        BrokenWriter {
+            room,
+            taken: Vec::new(alloc),
+        }
+    }
+}
+
 impl Write for BrokenWriter {
     fn write(&mut self, buf: &[u8]) -> io::Result<usize> {
         if self.room == 0 {
@@ -110,9 +127,12 @@ fn run_read(alloc: Global, report: &mut Report, bytes: &[u8]) -> Result<(), fmt:
     let mut printed = Vec::new(alloc);
     let mut said = Vec::new(alloc);
     let status = run(alloc, BrokenReader { bytes }, &mut printed, &mut said);
-    report.compare_output("a broken reader", "prints", &printed, "")?;
-    report.compare_output("a broken reader", "says", &said, "bad script: input\n")?;
-    report.compare_number("a broken reader", "ends with", status as usize, 2)
+    compare_outcome(
+        report,
+        "a broken reader",
+        (&printed, &said, status),
+        BAD_INPUT,
+    )
 }
 
 /// Runs a script with outputs that have room for what is wanted on them alone.
@@ -122,18 +142,10 @@ fn run_written(
     script: &str,
     wanted: Outcome<'_>,
 ) -> Result<(), fmt::Error> {
-    let mut out = BrokenWriter {
-        room: wanted.out.len(),
-        taken: Vec::new(alloc),
-    };
-    let mut err = BrokenWriter {
-        room: wanted.err.len(),
-        taken: Vec::new(alloc),
-    };
+    let mut out = BrokenWriter::new(alloc, wanted.out.len());
+    let mut err = BrokenWriter::new(alloc, wanted.err.len());
     let status = run(alloc, script.as_bytes(), &mut out, &mut err);
-    report.compare_output(script, "prints before a failure", &out.taken, wanted.out)?;
-    report.compare_output(script, "says before a failure", &err.taken, wanted.err)?;
-    report.compare_number(script, "ends with", status as usize, wanted.status as usize)
+    compare_outcome(report, script, (&out.taken, &err.taken, status), wanted)
 }
 
 /// A script whose reader fails at each byte and behind the last.

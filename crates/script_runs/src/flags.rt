@@ -1,7 +1,7 @@
 //! Proposals: the lines that turn them on, and what the operators of each are refused with.
 
-use std::alloc::Global;
-use std::fmt;
+use crate::words::{behind_name, has_line};
+use std::alloc::{AllocError, Global};
 
 /// Every flag of a proposal, and behind a colon the refusal of the operators that need it, where the
 /// tables have some.
@@ -41,7 +41,7 @@ fn flag_name(line: &str) -> &str {
 }
 
 /// The lines that turn every proposal on but this one.
-pub fn all_but(alloc: Global, flag: &str) -> Result<String, fmt::Error> {
+pub fn all_but(alloc: Global, flag: &str) -> Result<String, AllocError> {
     let mut lines = String::new(alloc);
     for line in FLAGS.lines() {
         let name = flag_name(line);
@@ -54,31 +54,30 @@ pub fn all_but(alloc: Global, flag: &str) -> Result<String, fmt::Error> {
 
 /// Whether this is the name of a flag.
 pub fn is_flag(name: &str) -> bool {
-    !name.is_empty() && FLAGS.lines().any(|line| flag_name(line) == name)
+    for line in FLAGS.lines() {
+        if !line.is_empty() && flag_name(line) == name {
+            return true;
+        }
+    }
+    false
 }
 
 /// The refusal of an operator without the proposal of this flag.
 pub fn refusal_without(flag: &str) -> Option<&'static str> {
-    FLAGS
-        .lines()
-        .filter_map(|line| line.split_once(':'))
-        .find(|(name, _)| *name == flag)
-        .map(|(_, text)| text.trim())
+    behind_name(FLAGS, flag, ":")
 }
 
 /// Whether a line of the script turns a proposal on, or is meant to.
 pub fn names_flags(script: &str) -> bool {
-    script
-        .lines()
-        .any(|line| line.split_whitespace().next() == Some("feature"))
+    has_line(script, "feature")
 }
 
 /// The script behind lines that turn on every proposal but custom descriptors, or nothing where it turns
 /// some on itself.
-pub fn without_descriptors(alloc: Global, script: &str) -> Result<String, fmt::Error> {
+pub fn without_descriptors(alloc: Global, script: &str) -> Result<String, AllocError> {
     if names_flags(script) {
         return Ok(String::new(alloc));
     }
     let features = all_but(alloc, DESCRIPTORS)?;
-    Ok(format!(in alloc; "{features}{script}")?)
+    format!(in alloc; "{features}{script}")
 }

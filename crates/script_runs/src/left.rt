@@ -154,8 +154,10 @@ pub fn run_left(
     (lines, is_refused): (&str, bool),
 ) -> Result<(), fmt::Error> {
     let plain = without_descriptors(alloc, head)?;
-    for line in lines.lines().filter(|line| !line.is_empty()) {
-        run_line(alloc, report, (head, &plain), line, is_refused)?;
+    for line in lines.lines() {
+        if !line.is_empty() {
+            run_line(alloc, report, (head, &plain), line, is_refused)?;
+        }
     }
     Ok(())
 }

@@ -30,6 +30,7 @@ mod shown;
 mod tables;
 mod transcript;
 mod undone;
+mod words;
 
 use crate::cases::{descriptors_of, run_cases};
 use crate::fakes::run_broken;
@@ -88,11 +89,7 @@ fn report_of_others(rt: &HostRuntime, once: bool) -> Option<Report> {
 }
 
 /// Prints what scripts came to, and says whether all was as expected.
-fn print_report(rt: &HostRuntime, name: &str, report: Option<Report>) -> io::Result<bool> {
-    let Some(report) = report else {
-        println!(rt; "{name}: not read")?;
-        return Ok(false);
-    };
+fn print_report(rt: &HostRuntime, name: &str, report: &Report) -> io::Result<bool> {
     let noun = if report.scripts == 1 {
         "script"
     } else {
@@ -106,6 +103,17 @@ fn print_report(rt: &HostRuntime, name: &str, report: Option<Report>) -> io::Res
     Ok(false)
 }
 
+/// The same where they could be read.
+fn print_read(rt: &HostRuntime, name: &str, report: Option<Report>) -> io::Result<bool> {
+    match report {
+        Some(report) => print_report(rt, name, &report),
+        None => {
+            println!(rt; "{name}: not read")?;
+            Ok(false)
+        }
+    }
+}
+
 /// Runs all of them, and says whether all was as expected. Behind a first line `once`, each script runs as one
 /// list alone.
 fn run_files(rt: &HostRuntime, lines: &str) -> io::Result<bool> {
@@ -116,9 +124,9 @@ fn run_files(rt: &HostRuntime, lines: &str) -> io::Result<bool> {
     let mut is_well = true;
     for line in names.lines() {
         let (name, _) = line.split_once('.').unwrap_or((line, ""));
-        is_well &= print_report(rt, name, report_of(rt, line, once))?;
+        is_well &= print_read(rt, name, report_of(rt, line, once))?;
     }
-    is_well &= print_report(rt, "in no file", report_of_others(rt, once))?;
+    is_well &= print_read(rt, "in no file", report_of_others(rt, once))?;
     Ok(is_well)
 }
 

@@ -3,7 +3,7 @@
 
 use crate::report::Report;
 use crate::runs::{Descriptors, Outcome, run_bytes, run_script};
-use std::alloc::Global;
+use std::alloc::{AllocError, Global};
 use std::fmt;
 
 /// A script, and what it comes to.
@@ -82,22 +82,20 @@ pub fn run_odd(alloc: Global, report: &mut Report) -> Result<(), fmt::Error> {
 }
 
 /// The script of an array that is made of a thousand operands.
-fn add_many_elements(script: &mut String) -> Result<(), fmt::Error> {
+fn add_many_elements(script: &mut String) -> Result<(), AllocError> {
     script.push_str("type func ->\ntype array i8\nfunc 0\n")?;
     for place in 0..1000 {
         writeln!(script, "i32.const {place}")?;
     }
-    script.push_str("array.new_fixed 1 1000\ndrop\nend\n")?;
-    Ok(())
+    script.push_str("array.new_fixed 1 1000\ndrop\nend\n")
 }
 
 /// What it prints.
-fn add_many_heights(out: &mut String) -> Result<(), fmt::Error> {
-    for place in 0..1000 {
-        writeln!(out, "ok {} 1", place + 1)?;
+fn add_many_heights(out: &mut String) -> Result<(), AllocError> {
+    for height in 1..=1000 {
+        writeln!(out, "ok {height} 1")?;
     }
-    out.push_str("ok 1 1\nok 0 1\nok 0 0\naccepted\n")?;
-    Ok(())
+    out.push_str("ok 1 1\nok 0 1\nok 0 0\naccepted\n")
 }
 
 /// An array of many elements is made of as many operands.

@@ -18,10 +18,9 @@ use validate_visit::{have_module_immediates, is_well_ordered};
 
 /// The word, or a sign in the place of one that begins with a digit.
 fn without_number(word: &str) -> &str {
-    if word.starts_with(|c: char| c.is_ascii_digit()) {
-        "N"
-    } else {
-        word
+    match word.as_bytes() {
+        [b'0'..=b'9', ..] => "N",
+        _ => word,
     }
 }
 

@@ -30,6 +30,18 @@ pub enum Descriptors {
     Without,
 }
 
+/// Compares both outputs and the status.
+pub fn compare_outcome(
+    report: &mut Report,
+    script: &str,
+    (printed, said, status): (&[u8], &[u8], u8),
+    wanted: Outcome<'_>,
+) -> Result<(), fmt::Error> {
+    report.compare_output(script, "prints", printed, wanted.out)?;
+    report.compare_output(script, "says", said, wanted.err)?;
+    report.compare_number(script, "ends with", status as usize, wanted.status as usize)
+}
+
 /// Runs a script, and compares both outputs and the status.
 fn compare_run(
     alloc: Global,
@@ -41,9 +53,7 @@ fn compare_run(
     let mut said = Vec::new(alloc);
     let status = run(alloc, script, &mut printed, &mut said);
     let text = str::from_utf8(script).unwrap_or("bytes that are no text");
-    report.compare_output(text, "prints", &printed, wanted.out)?;
-    report.compare_output(text, "says", &said, wanted.err)?;
-    report.compare_number(text, "ends with", status as usize, wanted.status as usize)
+    compare_outcome(report, text, (&printed, &said, status), wanted)
 }
 
 /// Runs a script with each operator attempted that may be.
@@ -81,6 +91,40 @@ fn compare_runs(
     compare_shown(alloc, report, script, wanted)
 }
 
+/// Runs a script as one list, and in the other ways too where that is wanted.
+fn compare_moved(
+    alloc: Global,
+    report: &mut Report,
+    script: &str,
+    wanted: Outcome<'_>,
+    is_alone: bool,
+) -> Result<(), fmt::Error> {
+    if is_alone {
+        return compare_runs(alloc, report, script, wanted);
+    }
+    compare_run(alloc, report, script.as_bytes(), wanted)
+}
+
+/// The same of a script behind these lines, where this is of the script alone.
+fn compare_behind(
+    alloc: Global,
+    report: &mut Report,
+    (features, script): (&str, &str),
+    wanted: Outcome<'_>,
+    is_alone: bool,
+) -> Result<(), fmt::Error> {
+    let lines = features.lines().count() as u64;
+    let moved = format!(in alloc; "{features}{script}")?;
+    let out = renumbered(alloc, wanted.out, lines)?;
+    let err = renumbered(alloc, wanted.err, lines)?;
+    let wanted = Outcome {
+        out: &out,
+        err: &err,
+        ..wanted
+    };
+    compare_moved(alloc, report, &moved, wanted, is_alone)
+}
+
 /// Runs a script behind lines that turn on every proposal but custom descriptors: as one list, and in the
 /// other ways too where it is run so alone.
 fn compare_without(
@@ -91,19 +135,7 @@ fn compare_without(
     is_alone: bool,
 ) -> Result<(), fmt::Error> {
     let features = all_but(alloc, DESCRIPTORS)?;
-    let lines = features.lines().count() as u64;
-    let out = renumbered(alloc, wanted.out, lines)?;
-    let err = renumbered(alloc, wanted.err, lines)?;
-    let script = format!(in alloc; "{features}{script}")?;
-    let wanted = Outcome {
-        out: &out,
-        err: &err,
-        ..wanted
-    };
-    if is_alone {
-        return compare_runs(alloc, report, &script, wanted);
-    }
-    compare_run(alloc, report, script.as_bytes(), wanted)
+    compare_behind(alloc, report, (&features, script), wanted, is_alone)
 }
 
 /// Runs a script in all ways.

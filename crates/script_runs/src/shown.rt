@@ -6,6 +6,7 @@ ghost use Rattle.validate_stacks.specs.State.{IsStarting};
 use crate::bodies::{Lookup, Task, run_body};
 use crate::report::Report;
 use crate::runs::Outcome;
+use crate::words::has_line;
 use opcheck_script::{begin_body, run};
 use script_reader::{BodyLine, LocalLine};
 use std::alloc::{AllocError, Global};
@@ -132,6 +133,14 @@ pub fn compare_places<R: WasmModuleResources>(
     compare_each(alloc, report, resources, features, begin, &ops, texts)
 }
 
+/// The script, or the one that shows the types of operands too.
+fn showing(alloc: Global, script: &str) -> Result<String, AllocError> {
+    if has_line(script, "show") {
+        return script.to_string(alloc);
+    }
+    format!(in alloc; "show\n{script}")
+}
+
 /// Compares the types of operands that a script shows with those that `operands_before` answers, where it is
 /// accepted.
 pub fn compare_shown(
@@ -143,11 +152,7 @@ pub fn compare_shown(
     if wanted.status != 0 {
         return Ok(());
     }
-    let script = if script.lines().any(|line| line.trim() == "show") {
-        script.to_string(alloc)?
-    } else {
-        format!(in alloc; "show\n{script}")?
-    };
+    let script = showing(alloc, script)?;
     let mut printed = Vec::new(alloc);
     let mut said = Vec::new(alloc);
     run(alloc, script.as_bytes(), &mut printed, &mut said);

@@ -13,6 +13,7 @@ ghost use Rattle.std.specs.Prelude.{◌<◌, vec_len};
 use crate::flags::{DESCRIPTORS, all_but, refusal_without};
 use crate::report::Report;
 use crate::runs::{Descriptors, Outcome, run_script};
+use crate::words::behind_name;
 use std::alloc::{AllocError, Global};
 use std::fmt;
 
@@ -20,16 +21,40 @@ use std::fmt;
 const EXACT: &str = "ref:exact-";
 
 /// The types that the tables name, and to each another one.
-const OTHERS: &[(&str, &str)] = &[
-    ("i32", "i64"),
-    ("i64", "i32"),
-    ("f32", "f64"),
-    ("f64", "f32"),
-    ("funcref", "externref"),
-    ("externref", "funcref"),
-    ("exnref", "externref"),
-    ("eqref", "externref"),
-];
+const OTHERS: &str = "
+i32 i64
+i64 i32
+f32 f64
+f64 f32
+funcref externref
+externref funcref
+exnref externref
+eqref externref
+";
+
+/// The same types, and to each an operator that gives one value of it.
+const CONSTANTS: &str = "
+i32 i32.const
+i64 i64.const
+f32 f32.const
+f64 f64.const
+funcref ref.null func
+externref ref.null extern
+exnref ref.null exn
+eqref ref.null eq
+";
+
+/// How refusals call types, by how the names of those begin in a table.
+const TEXTS: &str = "
+refnull:shared-any (ref null (shared any))
+refnull:shared-eq (ref null (shared eq))
+ref:i31 (ref i31)
+ref:shared-i31 (ref (shared i31))
+refnull:exact- (ref null (exact type))
+refnull: (ref null (type))
+ref:exact- (ref (exact type))
+ref: (ref (type))
+";
 
 /// Whether a word names a reference type by what it refers to.
 fn is_long_name(ty: &str) -> bool {
@@ -41,42 +66,23 @@ fn another(ty: &str) -> Option<&'static str> {
     if is_long_name(ty) {
         return Some("externref");
     }
-    OTHERS.iter().find(|pair| pair.0 == ty).map(|pair| pair.1)
+    behind_name(OTHERS, ty, " ")
 }
 
 /// How refusals call the type that a table names.
 fn text_of(ty: &str) -> &str {
-    match ty {
-        "refnull:shared-any" => "(ref null (shared any))",
-        "refnull:shared-eq" => "(ref null (shared eq))",
-        "ref:i31" => "(ref i31)",
-        "ref:shared-i31" => "(ref (shared i31))",
-        _ if ty.starts_with("refnull:exact-") => "(ref null (exact type))",
-        _ if ty.starts_with("refnull:") => "(ref null (type))",
-        _ if ty.starts_with("ref:exact-") => "(ref (exact type))",
-        _ if ty.starts_with("ref:") => "(ref (type))",
-        _ => ty,
+    for line in TEXTS.lines() {
+        let (start, text) = line.split_once(' ').unwrap_or((line, ""));
+        if !start.is_empty() && ty.starts_with(start) {
+            return text;
+        }
     }
+    ty
 }
-
-/// The types that the tables name, and to each an operator that gives one value of it.
-const CONSTANTS: &[(&str, &str)] = &[
-    ("i32", "i32.const"),
-    ("i64", "i64.const"),
-    ("f32", "f32.const"),
-    ("f64", "f64.const"),
-    ("funcref", "ref.null func"),
-    ("externref", "ref.null extern"),
-    ("exnref", "ref.null exn"),
-    ("eqref", "ref.null eq"),
-];
 
 /// The operator that gives one value of this type, if the tables name it.
 fn constant_of(ty: &str) -> Option<&'static str> {
-    CONSTANTS
-        .iter()
-        .find(|pair| pair.0 == ty)
-        .map(|pair| pair.1)
+    behind_name(CONSTANTS, ty, " ")
 }
 
 /// A script that is being written, and what it is to print.
@@ -87,15 +93,32 @@ struct Draft {
     operands: usize,
 }
 
+/// Adds the first lines of the script of a body that takes nothing and gives these types, behind these lines.
+fn add_head(
+    script: &mut String,
+    (features, module): (&str, &str),
+    gives: &[&str],
+) -> Result<(), AllocError> {
+    script.push_str("type func ->")?;
+    for ty in gives {
+        write!(script, " {ty}")?;
+    }
+    write!(script, "\n{features}{module}func 0\n")
+}
+
+/// Adds an operator that gives one value of this type: the null of a nullable reference.
+fn add_constant(script: &mut String, ty: &str) -> Result<(), AllocError> {
+    match ty.strip_prefix("refnull:") {
+        Some(name) => writeln!(script, "ref.null {name}"),
+        None => writeln!(script, "{}", constant_of(ty).unwrap_or("none")),
+    }
+}
+
 impl Draft {
     /// A body that takes nothing and gives these types, behind these lines.
-    fn begin(alloc: Global, lines: &str, gives: &[&str]) -> Result<Draft, fmt::Error> {
+    fn begin(alloc: Global, lines: (&str, &str), gives: &[&str]) -> Result<Draft, AllocError> {
         let mut script = String::new(alloc);
-        script.push_str("type func ->")?;
-        for ty in gives {
-            write!(script, " {ty}")?;
-        }
-        write!(script, "\n{lines}func 0\n")?;
+        add_head(&mut script, lines, gives)?;
         Ok(Draft {
             script,
             printed: String::new(alloc),
@@ -104,24 +127,49 @@ impl Draft {
     }
 
     /// Adds an operator that leaves so many operands and frames.
-    fn add(&mut self, op: &str, operands: usize, frames: usize) -> Result<(), fmt::Error> {
-        writeln!(self.script, "{op}")?;
-        writeln!(self.printed, "ok {operands} {frames}")?;
+    fn add(&mut self, op: &str, operands: usize, frames: usize) -> Result<(), AllocError> {
         self.operands = operands;
-        Ok(())
+        writeln!(self.script, "{op}")?;
+        writeln!(self.printed, "ok {operands} {frames}")
     }
 
-    /// Adds a constant of each of these types: the null of a nullable reference.
-    fn add_constants(&mut self, types: &[&str]) -> Result<(), fmt::Error> {
+    /// Adds a constant of each of these types.
+    fn add_constants(&mut self, types: &[&str]) -> Result<(), AllocError> {
         for ty in types {
             self.operands = self.operands.saturating_add(1);
-            match ty.strip_prefix("refnull:") {
-                Some(name) => writeln!(self.script, "ref.null {name}")?,
-                None => writeln!(self.script, "{}", constant_of(ty).unwrap_or("none"))?,
-            }
+            add_constant(&mut self.script, ty)?;
             writeln!(self.printed, "ok {} 1", self.operands)?;
         }
         Ok(())
+    }
+
+    /// Adds the `end` of the body, which is accepted.
+    fn close(&mut self) -> Result<(), AllocError> {
+        self.add("end", self.operands, 0)?;
+        self.printed.push_str("accepted\n")
+    }
+
+    /// Adds an operator that is refused in these words.
+    fn refuse(&mut self, op: &str, text: &str) -> Result<(), AllocError> {
+        writeln!(self.script, "{op}")?;
+        let line = self.script.lines().count();
+        write!(self.printed, "refused {line}: {text}\nrefused\n")
+    }
+
+    /// The script comes to what is printed and to this status.
+    fn run(
+        &self,
+        alloc: Global,
+        report: &mut Report,
+        status: u8,
+        descriptors: Descriptors,
+    ) -> Result<(), fmt::Error> {
+        let wanted = Outcome {
+            out: &self.printed,
+            err: "",
+            status,
+        };
+        run_script(alloc, report, &self.script, wanted, descriptors)
     }
 
     /// The script with the `end` of the body behind it is accepted.
@@ -131,15 +179,8 @@ impl Draft {
         report: &mut Report,
         descriptors: Descriptors,
     ) -> Result<(), fmt::Error> {
-        let operands = self.operands;
-        self.add("end", operands, 0)?;
-        self.printed.push_str("accepted\n")?;
-        let wanted = Outcome {
-            out: &self.printed,
-            err: "",
-            status: 0,
-        };
-        run_script(alloc, report, &self.script, wanted, descriptors)
+        self.close()?;
+        self.run(alloc, report, 0, descriptors)
     }
 
     /// The script with this operator behind it is refused there, in these words.
@@ -150,16 +191,33 @@ impl Draft {
         (op, text): (&str, &str),
         descriptors: Descriptors,
     ) -> Result<(), fmt::Error> {
-        writeln!(self.script, "{op}")?;
-        let line = self.script.lines().count();
-        write!(self.printed, "refused {line}: {text}\nrefused\n")?;
-        let wanted = Outcome {
-            out: &self.printed,
-            err: "",
-            status: 1,
-        };
-        run_script(alloc, report, &self.script, wanted, descriptors)
+        self.refuse(op, text)?;
+        self.run(alloc, report, 1, descriptors)
     }
+}
+
+/// How an operand of this type is refused in place of one of that type.
+fn mismatch(alloc: Global, wanted: &str, found: &str) -> Result<String, AllocError> {
+    format!(in alloc; "type mismatch: expected {wanted}, found {found}")
+}
+
+/// How an operator is refused without its operand of this type.
+fn absence(alloc: Global, wanted: &str) -> Result<String, AllocError> {
+    format!(in alloc; "type mismatch: expected {wanted} but nothing on stack")
+}
+
+/// These types, but with this one at this place.
+fn types_with<'a>(
+    alloc: Global,
+    types: &[&'a str],
+    place: usize,
+    other: &'a str,
+) -> Result<Vec<&'a str>, AllocError> {
+    let mut changed = Vec::new(alloc);
+    for (k, ty) in types.iter().enumerate() {
+        changed.push(if k == place { other } else { *ty })?;
+    }
+    Ok(changed)
 }
 
 /// An operator as a table has it.
@@ -179,16 +237,15 @@ struct Row<'a> {
 impl<'a> Row<'a> {
     /// Over what it takes it is accepted, and gives what it gives.
     fn run_given(&self, alloc: Global, report: &mut Report) -> Result<(), fmt::Error> {
-        let mut draft = Draft::begin(alloc, self.module, &self.gives)?;
+        let mut draft = Draft::begin(alloc, ("", self.module), &self.gives)?;
         draft.add_constants(&self.takes)?;
         draft.add(self.op, self.gives.len(), 1)?;
         draft.run_accepted(alloc, report, self.descriptors)
     }
 
     /// A body that gives these types, with nothing in it yet but dead code, behind lines with proposals.
-    fn dead(&self, alloc: Global, features: &str, gives: &[&str]) -> Result<Draft, fmt::Error> {
-        let lines = format!(in alloc; "{features}{}", self.module)?;
-        let mut draft = Draft::begin(alloc, &lines, gives)?;
+    fn dead(&self, alloc: Global, features: &str, gives: &[&str]) -> Result<Draft, AllocError> {
+        let mut draft = Draft::begin(alloc, (features, self.module), gives)?;
         draft.add("unreachable", 0, 1)?;
         Ok(draft)
     }
@@ -214,12 +271,18 @@ impl<'a> Row<'a> {
     ) -> Result<(), fmt::Error>
         requires { place < vec_len self.now.takes }
     {
-        let ty = self.takes[place];
-        let mut draft = Draft::begin(alloc, self.module, &self.gives)?;
+        let text = absence(alloc, text_of(self.takes[place]))?;
+        let mut draft = Draft::begin(alloc, ("", self.module), &self.gives)?;
         draft.add_constants(&self.takes[place + 1..])?;
-        let wanted = text_of(ty);
-        let text = format!(in alloc; "type mismatch: expected {wanted} but nothing on stack")?;
         draft.run_refused(alloc, report, (self.op, &text), self.descriptors)
+    }
+
+    /// A body that gives what it takes, but with another type at this place.
+    fn draft_with(&self, alloc: Global, place: usize, other: &str) -> Result<Draft, AllocError> {
+        let operands = types_with(alloc, &self.takes, place, other)?;
+        let mut draft = Draft::begin(alloc, ("", self.module), &self.gives)?;
+        draft.add_constants(&operands)?;
+        Ok(draft)
     }
 
     /// Over another type at this place it is refused.
@@ -233,12 +296,8 @@ impl<'a> Row<'a> {
     {
         let ty = self.takes[place];
         let other = another(ty).unwrap_or("none");
-        let mut draft = Draft::begin(alloc, self.module, &self.gives)?;
-        draft.add_constants(&self.takes[..place])?;
-        draft.add_constants(&[other])?;
-        draft.add_constants(&self.takes[place + 1..])?;
-        let wanted = text_of(ty);
-        let text = format!(in alloc; "type mismatch: expected {wanted}, found {other}")?;
+        let text = mismatch(alloc, text_of(ty), other)?;
+        let draft = self.draft_with(alloc, place, other)?;
         draft.run_refused(alloc, report, (self.op, &text), self.descriptors)
     }
 
@@ -251,18 +310,12 @@ impl<'a> Row<'a> {
         Ok(())
     }
 
-    /// What it gives, but with this type at this place.
-    fn gives_with(
-        &self,
-        alloc: Global,
-        place: usize,
-        other: &'a str,
-    ) -> Result<Vec<&'a str>, AllocError>
-        requires { place < vec_len self.now.gives }
-    {
-        let mut wanted = self.gives.to_vec(alloc)?;
-        wanted[place] = other;
-        Ok(wanted)
+    /// The operator in dead code of a body that gives what it gives, but with another type at this place.
+    fn dead_with(&self, alloc: Global, place: usize, other: &str) -> Result<Draft, AllocError> {
+        let wanted = types_with(alloc, &self.gives, place, other)?;
+        let mut draft = self.dead(alloc, "", &wanted)?;
+        draft.add(self.op, self.gives.len(), 1)?;
+        Ok(draft)
     }
 
     /// What it gives at this place is of its type and no other, in dead code too: where the body is to
@@ -277,11 +330,8 @@ impl<'a> Row<'a> {
     {
         let ty = self.gives[place];
         let other = another(ty).unwrap_or("none");
-        let wanted = self.gives_with(alloc, place, other)?;
-        let mut draft = self.dead(alloc, "", &wanted)?;
-        draft.add(self.op, self.gives.len(), 1)?;
-        let given = text_of(ty);
-        let text = format!(in alloc; "type mismatch: expected {other}, found {given}")?;
+        let text = mismatch(alloc, other, text_of(ty))?;
+        let draft = self.dead_with(alloc, place, other)?;
         draft.run_refused(alloc, report, ("end", &text), self.descriptors)
     }
 
@@ -354,41 +404,39 @@ struct Reading<'a> {
 /// The types that these words name.
 fn types_of<'a>(
     alloc: Global,
-    report: &mut Report,
     words: &'a str,
     address: &'a str,
-) -> Result<Vec<&'a str>, fmt::Error> {
+) -> Result<Vec<&'a str>, AllocError> {
     let mut types = Vec::new(alloc);
-    for word in words.split(' ').filter(|word| !word.is_empty()) {
-        let ty = if word == "it" { address } else { word };
-        if another(ty).is_none() {
-            report.refuse(words, "has a word that is no type")?;
-        }
-        if types.push(ty).is_err() {
-            return Err(fmt::Error);
-        }
+    for word in words.split_whitespace() {
+        types.push(if word == "it" { address } else { word })?;
     }
     Ok(types)
 }
 
 /// The operator that a line of a table has.
-fn read_row<'a>(
-    alloc: Global,
-    report: &mut Report,
-    line: &'a str,
-    reading: Reading<'a>,
-) -> Result<Row<'a>, fmt::Error> {
+fn read_row<'a>(alloc: Global, line: &'a str, reading: Reading<'a>) -> Result<Row<'a>, AllocError> {
     let (rest, needs) = line.split_once('|').unwrap_or((line, "none"));
     let (op, types) = rest.split_once(": ").unwrap_or((rest, ""));
     let (takes, gives) = types.split_once("->").unwrap_or((types, "no arrow"));
     Ok(Row {
         module: reading.module,
         op: op.trim(),
-        takes: types_of(alloc, report, takes, reading.address)?,
-        gives: types_of(alloc, report, gives, reading.address)?,
+        takes: types_of(alloc, takes, reading.address)?,
+        gives: types_of(alloc, gives, reading.address)?,
         needs: needs.trim(),
         descriptors: reading.descriptors,
     })
+}
+
+/// Tells it where one of these words is no type that the tables name.
+fn check_types(report: &mut Report, op: &str, types: &[&str]) -> Result<(), fmt::Error> {
+    for ty in types {
+        if another(ty).is_none() {
+            report.refuse(op, "has a word that is no type")?;
+        }
+    }
+    Ok(())
 }
 
 /// Runs the operator of a line, a type of what is allocated beginning in this way.
@@ -399,7 +447,9 @@ fn run_row(
     reading: Reading<'_>,
 ) -> Result<(), fmt::Error> {
     let line = line.replace(alloc, "new:", allocated)?;
-    let row = read_row(alloc, report, &line, reading)?;
+    let row = read_row(alloc, &line, reading)?;
+    check_types(report, row.op, &row.takes)?;
+    check_types(report, row.op, &row.gives)?;
     row.run(alloc, report)
 }
 
@@ -430,11 +480,15 @@ fn run_line(
 
 /// How many rows of a table have this operator.
 fn count_of(table: &str, op: &str) -> usize {
-    table
-        .lines()
-        .filter_map(|line| line.split_once(": "))
-        .filter(|(other, _)| other.trim() == op)
-        .count()
+    let mut count: usize = 0;
+    for line in table.lines() {
+        if let Some((other, _)) = line.split_once(": ")
+            && other.trim() == op
+        {
+            count = count.saturating_add(1);
+        }
+    }
+    count
 }
 
 /// Runs each of the rows of a table.
@@ -444,10 +498,12 @@ fn run_rows(
     table: &str,
     reading: Reading<'_>,
 ) -> Result<(), fmt::Error> {
-    for line in table.lines().filter(|line| !line.trim().is_empty()) {
+    for line in table.lines() {
         let (op, _) = line.split_once(": ").unwrap_or((line, ""));
-        report.compare_number(op, "has rows:", count_of(table, op.trim()), 1)?;
-        run_line(alloc, report, line.trim_end(), reading)?;
+        if !op.trim().is_empty() {
+            report.compare_number(op, "has rows:", count_of(table, op.trim()), 1)?;
+            run_line(alloc, report, line.trim_end(), reading)?;
+        }
     }
     Ok(())
 }

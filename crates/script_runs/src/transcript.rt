@@ -5,25 +5,32 @@ use crate::runs::{Descriptors, Outcome, run_script};
 use std::alloc::{AllocError, Global};
 use std::fmt;
 
-/// Runs a script, and compares what it prints, the last line being this verdict. A bad script prints
-/// nothing and says why.
+/// Runs a script that is bad: it prints this and says why.
+fn run_to_error(
+    alloc: Global,
+    report: &mut Report,
+    script: &str,
+    (out, verdict): (&str, &str),
+    descriptors: Descriptors,
+) -> Result<(), fmt::Error> {
+    let said = format!(in alloc; "{verdict}\n")?;
+    let wanted = Outcome {
+        out,
+        err: &said,
+        status: 2,
+    };
+    run_script(alloc, report, script, wanted, descriptors)
+}
+
+/// Runs a script, and compares what it prints, the last line being this verdict.
 fn run_to_verdict(
     alloc: Global,
     report: &mut Report,
     script: &str,
-    lines: &str,
-    (verdict, descriptors): (&str, Descriptors),
+    (lines, verdict): (&str, &str),
+    descriptors: Descriptors,
 ) -> Result<(), fmt::Error> {
-    let last = format!(in alloc; "{verdict}\n")?;
-    if verdict.starts_with("bad script") {
-        let wanted = Outcome {
-            out: lines,
-            err: &last,
-            status: 2,
-        };
-        return run_script(alloc, report, script, wanted, descriptors);
-    }
-    let out = format!(in alloc; "{lines}{last}")?;
+    let out = format!(in alloc; "{lines}{verdict}\n")?;
     let wanted = Outcome {
         out: &out,
         err: "",
@@ -50,12 +57,20 @@ struct Case<'a> {
 }
 
 impl<'a> Case<'a> {
-    fn new(alloc: Global, head: &'a str) -> Result<Case<'a>, AllocError> {
-        Ok(Case {
+    /// One of no lines yet.
+    fn new(alloc: Global, head: &'a str) -> Case<'a> {
+        Case {
             head,
-            script: head.to_string(alloc)?,
+            script: String::new(alloc),
             printed: String::new(alloc),
-        })
+        }
+    }
+
+    /// Begins a script.
+    fn begin(&mut self) -> Result<(), AllocError> {
+        self.script.clear();
+        self.printed.clear();
+        self.script.push_str(self.head)
     }
 
     /// Adds a line of the script, and what is printed there.
@@ -64,20 +79,36 @@ impl<'a> Case<'a> {
         add_line(&mut self.printed, answer)
     }
 
-    /// Runs the script, and begins the next one.
+    /// Runs the script, which comes to this verdict: a bad one says it on the error output.
     fn run(
-        &mut self,
+        &self,
         alloc: Global,
         report: &mut Report,
         verdict: &str,
         descriptors: Descriptors,
     ) -> Result<(), fmt::Error> {
-        let verdict = (verdict, descriptors);
-        run_to_verdict(alloc, report, &self.script, &self.printed, verdict)?;
-        self.script.clear();
-        self.printed.clear();
-        self.script.push_str(self.head)?;
-        Ok(())
+        let printed = (self.printed.as_str(), verdict);
+        if verdict.starts_with("bad script") {
+            return run_to_error(alloc, report, &self.script, printed, descriptors);
+        }
+        run_to_verdict(alloc, report, &self.script, printed, descriptors)
+    }
+
+    /// Adds a line, or runs the script and begins the next one. Whether it ran.
+    fn read(
+        &mut self,
+        alloc: Global,
+        report: &mut Report,
+        (written, answer): (&str, &str),
+        descriptors: Descriptors,
+    ) -> Result<bool, fmt::Error> {
+        if written.is_empty() && !answer.is_empty() {
+            self.run(alloc, report, answer, descriptors)?;
+            self.begin()?;
+            return Ok(true);
+        }
+        self.add(written, answer)?;
+        Ok(false)
     }
 }
 
@@ -99,16 +130,11 @@ pub fn run_transcript(
     transcript: &str,
     descriptors: Descriptors,
 ) -> Result<(), fmt::Error> {
-    let mut case = Case::new(alloc, head)?;
+    let mut case = Case::new(alloc, head);
+    case.begin()?;
     let mut ran = false;
     for line in transcript.lines() {
-        let (written, answer) = parts_of(line);
-        if written.is_empty() && !answer.is_empty() {
-            case.run(alloc, report, answer, descriptors)?;
-            ran = true;
-        } else {
-            case.add(written, answer)?;
-        }
+        ran |= case.read(alloc, report, parts_of(line), descriptors)?;
     }
     if !ran || case.script.as_str() != head {
         return report.refuse(&case.script, "has no verdict");
@@ -116,19 +142,31 @@ pub fn run_transcript(
     Ok(())
 }
 
-/// A text with this row in place of each `$0`, and the first word of the row in place of each `$1`, the
-/// second in place of each `$2`, and so on. Where the row has an arrow, what stands behind it takes the
-/// place of `$text`, and the row is what stands before it.
+/// A text with this word in place of each `$N`, N being this number.
+fn with_word(alloc: Global, text: &str, number: usize, word: &str) -> Result<String, AllocError> {
+    let mark = format!(in alloc; "${number}")?;
+    text.replace(alloc, mark.as_str(), word)
+}
+
+/// A text with the first of these words in place of each `$1`, the second in place of each `$2`, and so on.
+fn with_words(alloc: Global, text: &str, words: &str) -> Result<String, AllocError> {
+    let mut filled = text.to_string(alloc)?;
+    let mut number: usize = 0;
+    for word in words.split_whitespace() {
+        number = number.saturating_add(1);
+        filled = with_word(alloc, &filled, number, word)?;
+    }
+    Ok(filled)
+}
+
+/// A text with this row in place of each `$0`, and the words of the row in place of each `$1`, `$2` and so on.
+/// Where the row has an arrow, what stands behind it takes the place of `$text`, and the row is what stands
+/// before it.
 fn fill(alloc: Global, text: &str, row: &str) -> Result<String, AllocError> {
     let (row, behind) = row.split_once(" => ").unwrap_or((row, ""));
     let text = text.replace(alloc, "$text", behind)?;
-    let mut filled = text.replace(alloc, "$0", row)?;
-    for (k, word) in row.split_whitespace().enumerate() {
-        let number = k.saturating_add(1);
-        let mark = format!(in alloc; "${number}")?;
-        filled = filled.replace(alloc, mark.as_str(), word)?;
-    }
-    Ok(filled)
+    let text = text.replace(alloc, "$0", row)?;
+    with_words(alloc, &text, row)
 }
 
 /// Runs a transcript behind these first lines, filled by this row.
@@ -186,8 +224,10 @@ pub fn run_bad_lines(
 ) -> Result<(), fmt::Error> {
     let number = head.lines().count().saturating_add(1);
     let said = format!(in alloc; "bad script: line {number}\n")?;
-    for line in lines.lines().filter(|line| !line.is_empty()) {
-        run_bad_line(alloc, report, head, line, &said)?;
+    for line in lines.lines() {
+        if !line.is_empty() {
+            run_bad_line(alloc, report, head, line, &said)?;
+        }
     }
     Ok(())
 }

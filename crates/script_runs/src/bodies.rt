@@ -98,40 +98,43 @@ fn attempt_each<R: WasmModuleResources>(
     Ok(())
 }
 
+/// Does this with the validator of a body that has begun, where it is lent.
+fn run_lent<R: WasmModuleResources>(
+    alloc: Global,
+    report: &mut Report,
+    v: &mut OperatorValidator,
+    ops: &[(Op<'_>, u64)],
+    resources: &R,
+    work: Work<'_>,
+) -> Result<(), fmt::Error>
+    requires { IsStarting (R.context resources.now) (state v.old) }
+{
+    match work.task {
+        Task::Attempts => attempt_each(alloc, report, v, ops, resources, work.script),
+        Task::List(left) => check_list(alloc, report, v, ops, resources, work.script, left),
+        Task::Lines(lines) => run_lines(alloc, report, v, resources, lines),
+        Task::Shown(_) | Task::Printed(_) => Ok(()),
+    }
+}
+
 /// Does this with a body that has begun.
 fn run_task<R: WasmModuleResources>(
     alloc: Global,
     report: &mut Report,
-    mut v: OperatorValidator,
+    v: OperatorValidator,
     operators: &Operators<'_>,
     resources: &R,
     work: Work<'_>,
 ) -> Result<(), fmt::Error>
     requires { IsStarting (R.context resources.now) (state v) }
 {
-    let Work {
-        script,
-        shows,
-        task,
-    } = work;
-    let ops = operators.ops.as_slice();
-    match task {
-        Task::Attempts => attempt_each(alloc, report, &mut v, ops, resources, script),
-        Task::List(left) => check_list(alloc, report, &mut v, ops, resources, script, left),
-        Task::Lines(lines) => run_lines(alloc, report, &mut v, resources, lines),
-        Task::Shown(_) => Ok(()),
-        Task::Printed(wanted) => {
-            run_printed(
-                alloc,
-                report,
-                v,
-                operators,
-                shows,
-                resources,
-                (script, wanted),
-            )
-        }
+    if let Task::Printed(wanted) = work.task {
+        let texts = (work.script, wanted);
+        return run_printed(alloc, report, v, operators, work.shows, resources, texts);
     }
+    let mut v = v;
+    let ops = operators.ops.as_slice();
+    run_lent(alloc, report, &mut v, ops, resources, work)
 }
 
 /// Begins the body of a script over this lookup, and does this with it.

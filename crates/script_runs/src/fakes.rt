@@ -157,36 +157,48 @@ fn run_each_read(alloc: Global, report: &mut Report, script: &str) -> Result<(),
     Ok(())
 }
 
-/// A script whose output fails at each byte: the status is 3, and nothing is said. Where the error output fails
-/// the status stays.
-fn run_each_written(
+/// A script whose output fails at each byte: the status is 3, and nothing is said.
+fn run_each_output(
     alloc: Global,
     report: &mut Report,
     script: &str,
-    ample: Outcome<'_>,
+    ample: &str,
 ) -> Result<(), fmt::Error> {
-    for (place, _) in ample.out.char_indices() {
+    for place in 0..ample.len() {
         report.count();
+        let out = ample.get(..place).unwrap_or("");
         let wanted = Outcome {
-            out: ample.out.get(..place).unwrap_or(""),
+            out,
             err: "",
             status: 3,
         };
         run_written(alloc, report, script, wanted)?;
     }
-    for (place, _) in ample.err.char_indices() {
+    Ok(())
+}
+
+/// A script whose error output fails at each byte: the status stays.
+fn run_each_error(
+    alloc: Global,
+    report: &mut Report,
+    script: &str,
+    ample: Outcome<'_>,
+) -> Result<(), fmt::Error> {
+    for place in 0..ample.err.len() {
         report.count();
         let err = ample.err.get(..place).unwrap_or("");
         run_written(alloc, report, script, Outcome { err, ..ample })?;
     }
-    run_written(alloc, report, script, ample)
+    Ok(())
 }
 
 /// Runs scripts over readers and writers that fail at each byte in turn.
 pub fn run_broken(alloc: Global, report: &mut Report) -> Result<(), fmt::Error> {
     for (script, ample) in SCRIPTS {
         run_each_read(alloc, report, script)?;
-        run_each_written(alloc, report, script, *ample)?;
+        run_each_output(alloc, report, script, ample.out)?;
+        run_each_error(alloc, report, script, *ample)?;
+        run_written(alloc, report, script, *ample)?;
     }
     Ok(())
 }

@@ -31,15 +31,16 @@ pub struct Left<'a> {
     pub operands: &'a str,
 }
 
-/// Compares the words of a refusal, where they are looked at.
-fn compare_text(
+/// Compares the place of a refusal, and its words where they are looked at.
+fn compare_refusal(
     report: &mut Report,
     script: &str,
-    found: &str,
-    wanted: Option<&str>,
+    (place, wanted): (usize, usize),
+    (found, text): (&str, Option<&str>),
 ) -> Result<(), fmt::Error> {
-    match wanted {
-        Some(wanted) => report.compare(script, "is refused", found, wanted),
+    report.compare_number(script, "accepts", place, wanted)?;
+    match text {
+        Some(text) => report.compare(script, "is refused", found, text),
         None => Ok(()),
     }
 }
@@ -60,10 +61,42 @@ fn compare_answer(
     match answer {
         Ok(_) => report.compare_number(script, "accepts", count, wanted),
         Err((place, refusal)) => {
-            report.compare_number(script, "accepts", place, wanted)?;
-            compare_text(report, script, refusal.message(), left.text)
+            compare_refusal(
+                report,
+                script,
+                (place, wanted),
+                (refusal.message(), left.text),
+            )
         }
     }
+}
+
+/// Checks operators as one list.
+fn answer_of<R: WasmModuleResources>(
+    alloc: Global,
+    v: &mut OperatorValidator,
+    ops: &[(Op<'_>, u64)],
+    resources: &R,
+) -> Result<bool, (usize, Error)>
+    requires starting { IsStarting (R.context resources.now) (state v.old) }
+    requires ordered { is_well_ordered_list (without_offsets ops.now) ≡ true }
+    requires immediates { list_all (λ (p : _). is_module_op p.0) ops.now ≡ true }
+{
+    let mut heights = Vec::new(alloc);
+    check_ops(v, ops, resources, &mut heights)
+}
+
+/// Compares the types of the operands that are left.
+fn compare_operands(
+    alloc: Global,
+    report: &mut Report,
+    v: &OperatorValidator,
+    script: &str,
+    wanted: &str,
+) -> Result<(), fmt::Error> {
+    let mut operands = String::new(alloc);
+    add_operand_types(&mut operands, v)?;
+    report.compare(script, "leaves", operands.trim(), wanted)
 }
 
 /// Checks the operators of a script as one list, and compares what it answers and leaves.
@@ -81,12 +114,9 @@ pub fn check_list<R: WasmModuleResources>(
     if !is_well_ordered(ops) || !have_module_immediates(ops) {
         return report.refuse(script, "is out of order");
     }
-    let mut heights = Vec::new(alloc);
-    let answer = check_ops(v, ops, resources, &mut heights);
+    let answer = answer_of(alloc, v, ops, resources);
     compare_answer(report, script, answer, ops.len(), left)?;
-    let mut operands = String::new(alloc);
-    add_operand_types(&mut operands, v)?;
-    report.compare(script, "leaves", operands.trim(), left.operands)
+    compare_operands(alloc, report, v, script, left.operands)
 }
 
 /// The script of these operators, parted by commas, behind these first lines.

@@ -9,7 +9,7 @@ use crate::report::Report;
 use crate::runs::Outcome;
 use opcheck_script::{Answers, print_report, run_operators};
 use script_reader::Operators;
-use std::alloc::Global;
+use std::alloc::{AllocError, Global};
 use std::{fmt, str};
 use validate_body::OperatorValidator;
 use validate_resources::WasmModuleResources;
@@ -24,34 +24,35 @@ fn without_number(word: &str) -> &str {
     }
 }
 
-/// Whether two texts have the same words, but for numbers.
-fn are_alike(found: &str, wanted: &str) -> bool {
-    found.split(' ').count() == wanted.split(' ').count()
-        && found.split(' ').zip(wanted.split(' ')).all(|(word, other)| without_number(word)
-            == without_number(other))
+/// Adds a line without the numbers in the words of a refusal, which stand behind a colon.
+fn add_without_numbers(text: &mut String, line: &str) -> Result<(), AllocError> {
+    let (place, words) = line.split_once(": ").unwrap_or((line, ""));
+    text.push_str(place)?;
+    for word in words.split(' ') {
+        text.push_str(" ")?;
+        text.push_str(without_number(word))?;
+    }
+    text.push_str("\n")
 }
 
-/// Whether a line is the one that was wanted, but for numbers in the words of a refusal.
-fn is_line(found: &str, wanted: &str) -> bool {
-    match (found.split_once(": "), wanted.split_once(": ")) {
-        (Some((place, text)), Some((other, words))) => place == other && are_alike(text, words),
-        _ => found == wanted,
+/// What is printed, without the numbers in the words of refusals.
+fn without_numbers(alloc: Global, printed: &str) -> Result<String, AllocError> {
+    let mut text = String::new(alloc);
+    for line in printed.lines() {
+        add_without_numbers(&mut text, line)?;
     }
+    Ok(text)
 }
 
 /// Compares what is printed, but for numbers in the words of refusals, which name indices.
 fn compare_lines(
+    alloc: Global,
     report: &mut Report,
     script: &str,
     found: &str,
     wanted: &str,
 ) -> Result<(), fmt::Error> {
-    let is_same = found.lines().count() == wanted.lines().count()
-        && found
-            .lines()
-            .zip(wanted.lines())
-            .all(|(line, other)| is_line(line, other));
-    if is_same {
+    if without_numbers(alloc, found)? == without_numbers(alloc, wanted)? {
         return Ok(());
     }
     report.compare(script, "prints over other indices", found, wanted)
@@ -70,7 +71,7 @@ fn compare_printed(
         return Err(fmt::Error);
     }
     let found = str::from_utf8(&printed).unwrap_or("bytes that are no text");
-    compare_lines(report, script, found, wanted)
+    compare_lines(alloc, report, script, found, wanted)
 }
 
 /// The same of a body that is refused before its operators.

@@ -47,31 +47,33 @@ fn shown_in(line: &str) -> &str {
 }
 
 /// Compares the types that a line shows with those of the operands at its place.
+fn compare_types(
+    alloc: Global,
+    report: &mut Report,
+    types: &[Option<ValType>],
+    shown: Shown<'_>,
+) -> Result<(), fmt::Error> {
+    let wanted = text_of(alloc, types)?;
+    report.compare(shown.script, "shows", shown_in(shown.line), &wanted)
+}
+
+/// The same, where the place is one of these operators.
 fn compare_place<R: WasmModuleResources>(
     alloc: Global,
     report: &mut Report,
-    v: OperatorValidator,
+    v: &mut OperatorValidator,
     ops: &[(Op<'_>, u64)],
     resources: &R,
     shown: Shown<'_>,
 ) -> Result<(), fmt::Error>
-    requires { IsStarting (R.context resources.now) (state v) }
+    requires { IsStarting (R.context resources.now) (state v.old) }
 {
-    let Shown {
-        script,
-        line,
-        place,
-    } = shown;
-    if place > ops.len() || !is_well_ordered(ops) || !have_module_immediates(ops) {
-        return report.refuse(script, "is out of order");
+    if shown.place > ops.len() || !is_well_ordered(ops) || !have_module_immediates(ops) {
+        return report.refuse(shown.script, "is out of order");
     }
-    let mut v = v;
-    match operands_before(alloc, &mut v, ops, resources, place) {
-        Ok(types) => {
-            let wanted = text_of(alloc, &types)?;
-            report.compare(script, "shows", shown_in(line), &wanted)
-        }
-        Err(_) => report.refuse(script, "is refused before what it shows"),
+    match operands_before(alloc, v, ops, resources, shown.place) {
+        Ok(types) => compare_types(alloc, report, &types, shown),
+        Err(_) => report.refuse(shown.script, "is refused before what it shows"),
     }
 }
 
@@ -83,12 +85,30 @@ fn accepted<'a>(
     printed: &str,
 ) -> Result<Vec<(Op<'a>, u64)>, AllocError> {
     let mut accepted = Vec::new(alloc);
-    for (pair, line) in ops.iter().zip(printed.lines()) {
-        if line.starts_with("ok ") {
+    for (place, line) in printed.lines().enumerate() {
+        if line.starts_with("ok ")
+            && let Some(pair) = ops.get(place)
+        {
             accepted.push(*pair)?;
         }
     }
     Ok(accepted)
+}
+
+/// Begins the body of a script, and compares the types that a line shows with those of the operands at its place.
+fn compare_begun<R: WasmModuleResources>(
+    alloc: Global,
+    report: &mut Report,
+    resources: &R,
+    features: &WasmFeatures,
+    (body, locals): (BodyLine, &[LocalLine]),
+    ops: &[(Op<'_>, u64)],
+    shown: Shown<'_>,
+) -> Result<(), fmt::Error> {
+    match begin_body(alloc, resources, features, body, locals) {
+        Ok(mut v) => compare_place(alloc, report, &mut v, ops, resources, shown),
+        Err(_) => report.refuse(shown.script, "has no body to begin"),
+    }
 }
 
 /// Compares what is printed at each of these accepted operators of a script with the types of the operands
@@ -98,21 +118,20 @@ fn compare_each<R: WasmModuleResources>(
     report: &mut Report,
     resources: &R,
     features: &WasmFeatures,
-    (body, locals): (BodyLine, &[LocalLine]),
+    begin: (BodyLine, &[LocalLine]),
     ops: &[(Op<'_>, u64)],
     (script, printed): (&str, &str),
 ) -> Result<(), fmt::Error> {
     let mut place: usize = 0;
-    for line in printed.lines().filter(|line| line.starts_with("ok ")) {
-        place = place.saturating_add(1);
-        let shown = Shown {
-            script,
-            line,
-            place,
-        };
-        match begin_body(alloc, resources, features, body, locals) {
-            Ok(v) => compare_place(alloc, report, v, ops, resources, shown)?,
-            Err(_) => report.refuse(script, "has no body to begin")?,
+    for line in printed.lines() {
+        if line.starts_with("ok ") {
+            place = place.saturating_add(1);
+            let shown = Shown {
+                script,
+                line,
+                place,
+            };
+            compare_begun(alloc, report, resources, features, begin, ops, shown)?;
         }
     }
     report.compare_number(script, "shows places:", place, ops.len())

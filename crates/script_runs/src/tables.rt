@@ -56,14 +56,9 @@ ref:exact- (ref (exact type))
 ref: (ref (type))
 ";
 
-/// Whether a word names a reference type by what it refers to.
-fn is_long_name(ty: &str) -> bool {
-    ty.starts_with("ref:") || ty.starts_with("refnull:")
-}
-
 /// A type that isn't this one, if the tables name this one.
 fn another(ty: &str) -> Option<&'static str> {
-    if is_long_name(ty) {
+    if ty.starts_with("ref:") || ty.starts_with("refnull:") {
         return Some("externref");
     }
     behind_name(OTHERS, ty, " ")
@@ -380,6 +375,8 @@ impl<'a> Row<'a> {
     /// Runs the operator in all these ways. Its gate is tested where its types are those that its proposal
     /// alone gives.
     fn run(&self, alloc: Global, report: &mut Report) -> Result<(), fmt::Error> {
+        check_types(report, self.op, &self.takes)?;
+        check_types(report, self.op, &self.gives)?;
         self.run_given(alloc, report)?;
         self.run_dead(alloc, report, "")?;
         self.run_mismatches(alloc, report)?;
@@ -448,8 +445,6 @@ fn run_row(
 ) -> Result<(), fmt::Error> {
     let line = line.replace(alloc, "new:", allocated)?;
     let row = read_row(alloc, &line, reading)?;
-    check_types(report, row.op, &row.takes)?;
-    check_types(report, row.op, &row.gives)?;
     row.run(alloc, report)
 }
 
@@ -500,7 +495,7 @@ fn run_rows(
 ) -> Result<(), fmt::Error> {
     for line in table.lines() {
         let (op, _) = line.split_once(": ").unwrap_or((line, ""));
-        if !op.trim().is_empty() {
+        if !line.trim().is_empty() {
             report.compare_number(op, "has rows:", count_of(table, op.trim()), 1)?;
             run_line(alloc, report, line.trim_end(), reading)?;
         }

@@ -81,6 +81,39 @@ fn undo<R: WasmModuleResources>(
     added
 }
 
+/// Attempts an operator, takes it back, and compares what was seen within the attempt.
+fn compare_within<R: WasmModuleResources>(
+    alloc: Global,
+    report: &mut Report,
+    v: &mut OperatorValidator,
+    op: Op<'_>,
+    resources: &R,
+    line: &str,
+) -> Result<(), fmt::Error>
+    requires idle { (state v.old).undone ≡ None }
+    requires visit { MayVisit (R.context resources.now) (stacks_of v.old) }
+    ensures same { state v.new ≡ state v.old }
+{
+    let mut seen = String::new(alloc);
+    undo(&mut seen, v, resources, op)?;
+    let (_, wanted) = parts_of(line);
+    report.compare(line, "comes within the attempt to", &seen, wanted)
+}
+
+/// Tells it where something else is seen than before an attempt, or one is pending.
+fn compare_behind(
+    alloc: Global,
+    report: &mut Report,
+    v: &OperatorValidator,
+    before: &Seen,
+    line: &str,
+) -> Result<(), fmt::Error> {
+    if Seen::of(alloc, v)? != *before || v.is_pending() || !v.can_attempt() {
+        return report.refuse(line, "leaves a trace");
+    }
+    Ok(())
+}
+
 /// Attempts an operator, takes it back, and compares what was seen within the attempt and what is there behind it.
 fn compare_undone<R: WasmModuleResources>(
     alloc: Global,
@@ -95,14 +128,8 @@ fn compare_undone<R: WasmModuleResources>(
     ensures same { state v.new ≡ state v.old }
 {
     let before = Seen::of(alloc, v)?;
-    let mut seen = String::new(alloc);
-    undo(&mut seen, v, resources, op)?;
-    let (_, wanted) = parts_of(line);
-    report.compare(line, "comes within the attempt to", &seen, wanted)?;
-    if Seen::of(alloc, v)? != before || v.is_pending() || !v.can_attempt() {
-        return report.refuse(line, "leaves a trace");
-    }
-    Ok(())
+    compare_within(alloc, report, v, op, resources, line)?;
+    compare_behind(alloc, report, v, &before, line)
 }
 
 /// Visits an operator, and compares what it answers.

@@ -8,7 +8,7 @@ use Rattle.validate_types.specs.declared.types.ValType.{ValType}
 use Rattle.validate_types.specs.declared.types.ValType.TheVariants.{I32}
 use Rattle.validation_rules.specs.Static.{is_local_set, locals_set}
 use Rattle.std.specs.Prelude.{List}
-use Rattle.validate_stacks.specs.Pops.{body_popped_each, IsKept}
+use Rattle.validate_stacks.specs.Pops.{body_popped_each}
 use Rattle.validate_stacks.specs.Attempts.{Stacked, is_unmarked, may_frame}
 use Rattle.validate_stacks.specs.State.{BodyState, body_with_frames}
 use Rattle.validate_stacks.specs.Steps.{frame_at, body_with_local_set, frames_first_setting}

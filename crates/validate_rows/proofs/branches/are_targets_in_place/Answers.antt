@@ -1,4 +1,4 @@
-use Rattle.std.proofs.Common.{ap, sym, subst, arith}
+use Rattle.std.proofs.Common.{sym, subst, arith}
 use Rattle.std.specs.List.{AllByRecursion}
 use Rattle.std.proofs.lemmas.List.{drop_more}
 use Rattle.validate_rows.specs.Targets.{IsTargetInPlace}
@@ -10,6 +10,6 @@ loop-relative_depth-preserved g c =
     let i = c.loop-relative_depth.relative_depth-index in
     record {
       rest = λ all. c.loop-relative_depth.invariant.rest
-        (subst (AllByRecursion (IsTargetInPlace md c.args.stacks.now.body c.args.count)) (sym (drop_more c.args.targets.now i _ (omega arith)))
-        (c.is_target_in_place.ensures c.if-not-is_target_in_place.false, all));
+          (subst (AllByRecursion (IsTargetInPlace md c.args.stacks.now.body c.args.count)) (sym (drop_more c.args.targets.now i _ (omega arith)))
+          (c.is_target_in_place.ensures c.if-not-is_target_in_place.false, all));
     }

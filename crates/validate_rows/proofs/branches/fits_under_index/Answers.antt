@@ -1,4 +1,4 @@
-use Rattle.std.proofs.Common.{rules, true, ◌≡◌, List, [], ◌∷◌, ◌++◌, get_or, refl, sym, subst, ◌∙◌}
+use Rattle.std.proofs.Common.{rules, true, ◌≡◌, List, [], ◌∷◌, ◌++◌, refl, sym, subst, ◌∙◌}
 use Rattle.std.specs.List.{AllByRecursion}
 use Rattle.validate_resources.specs.Context.{Valid}
 use Rattle.validate_types.specs.declared.types.ValType.{ValType}

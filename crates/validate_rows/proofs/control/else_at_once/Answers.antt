@@ -5,7 +5,6 @@ use Rattle.validate_visit.specs.declared.frame.FrameKind.TheVariants.{Else}
 use Rattle.validation_rules.specs.Context.{block_signature}
 use Rattle.validation_rules.specs.Rows.{BeginsElse, is_if}
 use Rattle.validate_stacks.specs.Blocks.{closed_body}
-use Rattle.validate_stacks.specs.Pops.{body_pushed_each}
 use Rattle.validate_stacks.specs.Steps.{body_with_frame}
 use Rattle.validate_stacks.proofs.AtOnce.{mapped_some, met_at_once, not_at_once}
 use Rattle.validate_shapes.proofs.Parts.{params_of, else_begins, part_passes, body_with_part}

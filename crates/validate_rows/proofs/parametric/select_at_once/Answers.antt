@@ -1,8 +1,6 @@
-use Rattle.std.proofs.Common.{rules, ◌≡◌, ◌∷◌, [], true, Some, reverse, refl, sym, ap, ◌∙◌, subst}
+use Rattle.std.proofs.Common.{rules, ◌≡◌, ◌∷◌, [], true, Some, reverse, refl, sym, ap, ◌∙◌}
 use Rattle.validate_types.specs.declared.types.ValType.TheVariants.{I32}
-use Rattle.validate_types.specs.declared.types.ValType.{ValType}
-use Rattle.validation_rules.specs.Fits.{MaybeType, Known}
-use Rattle.validation_rules.specs.Operators.{is_selectable}
+use Rattle.validation_rules.specs.Fits.{MaybeType}
 use Rattle.validate_resources.specs.Context.{is_number_or_vector}
 use Rattle.validate_stacks.proofs.AtOnce.{exchange_parts, met_at_once, not_at_once}
 use Rattle.validate_shapes.proofs.LastSteps.{meets_done}

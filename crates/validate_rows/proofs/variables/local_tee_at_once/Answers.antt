@@ -1,16 +1,12 @@
-use Rattle.std.proofs.Common.{[], ◌∷◌, ◌≡◌, ℕ, Some, Ok, refl, sym, ap, ◌∙◌, subst, reverse}
+use Rattle.std.proofs.Common.{[], ◌∷◌, ℕ, Some, sym, ap, ◌∙◌}
 use Rattle.std.specs.Option.{option_map}
 use Rattle.validate_resources.specs.Context.{Valid}
-use Rattle.validation_rules.specs.Rows.{guard}
-use Rattle.validation_rules.specs.Operators.{row_operator, local_get_row, local_set_row, local_tee_row}
-use Rattle.validate_stacks.specs.Pops.{IsKept, body_pushed_each}
-use Rattle.validate_stacks.specs.State.{IsValidBody, BodyState}
+use Rattle.validate_stacks.specs.Pops.{body_pushed_each}
+use Rattle.validate_stacks.specs.State.{BodyState}
 use Rattle.validate_stacks.specs.Steps.{body_with_local_set}
-use Rattle.validation_rules.specs.Fits.{Known}
-use Rattle.validate_stacks.proofs.AtOnce.{Exchanged, exchange_parts, met_at_once, not_at_once}
-use Rattle.validate_stacks.proofs.Validity.{pushed_valid, pushed_kept}
-use Rattle.validate_shapes.proofs.Rows.{local_get_is, local_set_is, local_tee_is}
-use Rattle.validate_shapes.proofs.LastSteps.{meets_done, all_get, not_false}
+use Rattle.validate_stacks.proofs.AtOnce.{exchange_parts, met_at_once, not_at_once}
+use Rattle.validate_shapes.proofs.Rows.{local_tee_is}
+use Rattle.validate_shapes.proofs.LastSteps.{meets_done, all_get}
 use Rattle.validate_rows.proofs.AtOnce.{set_already, some_is}
 use Rattle.validate_rows.proofs.variables.local_tee_at_once.Goals as goal
 

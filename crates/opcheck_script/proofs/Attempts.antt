@@ -2,14 +2,14 @@
 use Rattle.std.proofs.Common.{◌≡◌, ◌≢◌, ◌<◌, drop, ℕ, zero, suc, Bool, true, false, not, ◌&&◌, ◌||◌, List, [], ◌∷◌, ◌++◌, map, length, slice_get, Some, None, Result, Ok, Err, IfOk, IfErr, refl, sym, ap, ◌∙◌, subst, arith}
 use Rattle.std.specs.Option.{option_and_then}
 use Rattle.std.specs.Result.{is_ok, OnOk}
-use Rattle.wasmparser_validate.specs.Refusal.{Refusal}
-use Rattle.wasmparser_validate.specs.Order.{Nesting, nesting, Stays, may_stand, parts_after, is_ordered_from}
-use Rattle.wasmparser_validate.specs.Op.{Op}
-use Rattle.wasmparser_validate.specs.ValidationContext.{Context}
-use Rattle.wasmparser_validate.specs.Static.{Frame, State, step, state_before}
-use Rattle.wasmparser_validate.specs.Operators.{operator, operators}
-use Rattle.wasmparser_validate.specs.Runs.{without_offsets}
-use Rattle.wasmparser_validate.proofs.Listed.{kinds, IsOrderedBelow, some_open, ordered_next}
+use Rattle.validate_types.specs.Refusal.{Refusal}
+use Rattle.validate_visit.specs.Order.{Nesting, nesting, Stays, may_stand, parts_after, is_ordered_from}
+use Rattle.validate_visit.specs.declared.op.Op.{Op}
+use Rattle.validation_rules.specs.Context.{Context}
+use Rattle.validation_rules.specs.Static.{Frame, State, step, state_before}
+use Rattle.validation_rules.specs.Operators.{operator, operators}
+use Rattle.validate_body.specs.Runs.{without_offsets}
+use Rattle.validate_body.proofs.Listed.{kinds, IsOrderedBelow, some_open, ordered_next}
 use Rattle.opcheck_script.specs.Attempts.{Answer, IsAnswer, AreAnswers, EndsRun, RunEnds, accepted_of, accepted_at}
 use Rattle.script_parts.specs.Written.{is_staying, may_be_attempted, may_all_be_attempted}
 

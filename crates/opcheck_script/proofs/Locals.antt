@@ -1,11 +1,11 @@
 -- One more `local` line of a body.
-use Rattle.std.proofs.Common.{◌≡◌, false, ℕ, ◌+◌, ◌<◌, List, [], ◌∷◌, ◌++◌, length, take, get_or, refl, sym, subst, inr}
+use Rattle.std.proofs.Common.{◌≡◌, ℕ, ◌+◌, ◌<◌, List, [], ◌∷◌, ◌++◌, length, take, get_or, refl, sym, subst, inr}
 use Rattle.std.proofs.lemmas.List.{take_more}
 use Rattle.std.proofs.lemmas.Option.{slice_get-get_or}
-use Rattle.wasmparser_validate.specs.WasmFeatures.{WasmFeatures}
-use Rattle.wasmparser_validate.specs.Context.{ModuleContext}
-use Rattle.wasmparser_validate.specs.State.{BodyState}
-use Rattle.wasmparser_validate.specs.Start.{DefinesLocals, CannotDefine}
+use Rattle.validate_types.specs.declared.features.WasmFeatures.{WasmFeatures}
+use Rattle.validate_resources.specs.Context.{ModuleContext}
+use Rattle.validate_stacks.specs.State.{BodyState}
+use Rattle.validate_body.specs.Start.{DefinesLocals, CannotDefine}
 use Rattle.opcheck_script.specs.Begin.{DefinesEach, HasLocals, CannotBegin}
 use Rattle.script_parts.specs.declared.script.Body.{Body}
 use Rattle.script_parts.specs.declared.script.BodyLine.{BodyLine}

@@ -1,11 +1,11 @@
 -- The report of a run.
 use Rattle.std.proofs.Common.{◌≡◌, ◌↔◌, ℕ, Bool, IsTrue, List, [], length, Option, Some, IfSome, Result, Ok, Err, sym, subst}
-use Rattle.wasmparser_validate.specs.Refusal.{Refusal}
-use Rattle.wasmparser_validate.specs.Context.{ModuleContext}
-use Rattle.wasmparser_validate.specs.Op.{Op}
-use Rattle.wasmparser_validate.specs.State.{BodyState}
-use Rattle.wasmparser_validate.specs.Static.{State}
-use Rattle.wasmparser_validate.specs.Runs.{body_before, AreHeightsAfter, IsRefusedAt}
+use Rattle.validate_types.specs.Refusal.{Refusal}
+use Rattle.validate_resources.specs.Context.{ModuleContext}
+use Rattle.validate_visit.specs.declared.op.Op.{Op}
+use Rattle.validate_stacks.specs.State.{BodyState}
+use Rattle.validation_rules.specs.Static.{State}
+use Rattle.validate_body.specs.Runs.{body_before, AreHeightsAfter, IsRefusedAt}
 use Rattle.opcheck_script.specs.Reports.{RunsThrough}
 
 -- what holds of the lists that are kept

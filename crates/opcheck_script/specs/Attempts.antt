@@ -3,16 +3,16 @@ use Rattle.std.specs.Prelude.{◌≡◌, ◌↔◌, ℕ, Bool, true, false, IsTr
 use Rattle.std.specs.Prelude.{Result, Ok, Err, length, slice_get}
 use Rattle.std.specs.Option.{option_map}
 use Rattle.std.specs.Global.{Vec}
-use Rattle.wasmparser_validate.specs.ValType.{ValType}
-use Rattle.wasmparser_validate.specs.Refusal.{Refusal}
-use Rattle.wasmparser_validate.specs.Context.{ModuleContext}
-use Rattle.wasmparser_validate.specs.Op.{Op}
-use Rattle.wasmparser_validate.specs.ValidationContext.{Context}
-use Rattle.wasmparser_validate.specs.Static.{State, step, operand_count, frame_count}
-use Rattle.wasmparser_validate.specs.Operators.{operator}
-use Rattle.wasmparser_validate.specs.State.{BodyState, body_context}
-use Rattle.wasmparser_validate.specs.Operands.{types_in}
-use Rattle.wasmparser_validate.specs.Runs.{body_before}
+use Rattle.validate_types.specs.declared.types.ValType.{ValType}
+use Rattle.validate_types.specs.Refusal.{Refusal}
+use Rattle.validate_resources.specs.Context.{ModuleContext}
+use Rattle.validate_visit.specs.declared.op.Op.{Op}
+use Rattle.validation_rules.specs.Context.{Context}
+use Rattle.validation_rules.specs.Static.{State, step, operand_count, frame_count}
+use Rattle.validation_rules.specs.Operators.{operator}
+use Rattle.validate_stacks.specs.State.{BodyState, body_context}
+use Rattle.validate_func.specs.Operands.{types_in}
+use Rattle.validate_body.specs.Runs.{body_before}
 use Rattle.opcheck_script.specs.declared.report.After.{After}
 
 -- the operators of a body, and which of them are attempted

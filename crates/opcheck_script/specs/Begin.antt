@@ -1,10 +1,10 @@
 -- The states that the bodies of scripts start in (the crate's own).
 use Rattle.std.specs.Prelude.{◌≡◌, ◌⊎◌, ℕ, List, [], ◌∷◌, Some, None, slice_get, take}
-use Rattle.wasmparser_validate.specs.WasmFeatures.{WasmFeatures}
-use Rattle.wasmparser_validate.specs.ValType.{ValType}
-use Rattle.wasmparser_validate.specs.Context.{ModuleContext, signature_at}
-use Rattle.wasmparser_validate.specs.State.{BodyState}
-use Rattle.wasmparser_validate.specs.Start.{const_start, IsFuncStart, HasTooManyParams, DefinesLocals, CannotDefine}
+use Rattle.validate_types.specs.declared.features.WasmFeatures.{WasmFeatures}
+use Rattle.validate_types.specs.declared.types.ValType.{ValType}
+use Rattle.validate_resources.specs.Context.{ModuleContext, signature_at}
+use Rattle.validate_stacks.specs.State.{BodyState}
+use Rattle.validate_body.specs.Start.{const_start, IsFuncStart, HasTooManyParams, DefinesLocals, CannotDefine}
 use Rattle.script_parts.specs.declared.script.Body.{Body}
 use Rattle.script_parts.specs.declared.script.Body.TheVariants.{Function, Expression}
 use Rattle.script_parts.specs.declared.script.BodyLine.{BodyLine}

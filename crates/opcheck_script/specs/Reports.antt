@@ -2,17 +2,17 @@
 use Rattle.std.specs.Prelude.{◌≡◌, ◌⊎◌, ◌↔◌, ℕ, Bool, true, false, IsTrue, List, [], Some, Result, Ok, Err}
 use Rattle.std.specs.Prelude.{length, ◌&&◌, ◌||◌, None, IsSome, IfSome, OnOk, IfOk, IfErr}
 use Rattle.std.specs.List.{list_all, list_any}
-use Rattle.wasmparser_validate.specs.Refusal.{Refusal}
-use Rattle.wasmparser_validate.specs.WasmFeatures.{WasmFeatures}
-use Rattle.wasmparser_validate.specs.Context.{ModuleContext}
-use Rattle.wasmparser_validate.specs.Lists.{Declared, context_of, module_of}
-use Rattle.wasmparser_validate.specs.Immediates.{is_module_op}
-use Rattle.wasmparser_validate.specs.Order.{is_well_ordered_list}
-use Rattle.wasmparser_validate.specs.BlockType.{BlockType}
-use Rattle.wasmparser_validate.specs.Op.{Op}
-use Rattle.wasmparser_validate.specs.State.{BodyState}
-use Rattle.wasmparser_validate.specs.Static.{State, start}
-use Rattle.wasmparser_validate.specs.Runs.{without_offsets, body_before, AreHeightsAfter, IsRefusedAt, IsSafeFrom}
+use Rattle.validate_types.specs.Refusal.{Refusal}
+use Rattle.validate_types.specs.declared.features.WasmFeatures.{WasmFeatures}
+use Rattle.validate_resources.specs.Context.{ModuleContext}
+use Rattle.validate_resources.specs.Lists.{Declared, context_of, module_of}
+use Rattle.validate_visit.specs.Immediates.{is_module_op}
+use Rattle.validate_visit.specs.Order.{is_well_ordered_list}
+use Rattle.validate_visit.specs.declared.frame.BlockType.{BlockType}
+use Rattle.validate_visit.specs.declared.op.Op.{Op}
+use Rattle.validate_stacks.specs.State.{BodyState}
+use Rattle.validation_rules.specs.Static.{State, start}
+use Rattle.validate_body.specs.Runs.{without_offsets, body_before, AreHeightsAfter, IsRefusedAt, IsSafeFrom}
 use Rattle.opcheck_script.specs.Attempts.{Attempted, RunsEach, accepted_of}
 use Rattle.opcheck_script.specs.Begin.{HasLocals, CannotBegin}
 use Rattle.opcheck_script.specs.declared.failure.BadScript.TheVariants.{Order, Module}

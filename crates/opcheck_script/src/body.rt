@@ -2,25 +2,25 @@
 
 ghost use Rattle.std.specs.Prelude.{◌≡◌, ◌≢◌, ◌<◌, ◌||◌, true, false, [], Ok, Err, Some, IfOk, IfErr, OnOk, OnErr, length, slice_get};
 ghost use Rattle.std.specs.List.{list_all, list_any};
-ghost use Rattle.wasmparser_validate.specs.Immediates.{is_module_op};
-ghost use Rattle.wasmparser_validate.specs.Order.{is_well_ordered_list};
-ghost use Rattle.wasmparser_validate.specs.BlockType.{BlockType};
-ghost use Rattle.wasmparser_validate.specs.Static.{start};
-ghost use Rattle.wasmparser_validate.specs.State.{IsStarting, body_context};
-ghost use Rattle.wasmparser_validate.specs.Runs.{without_offsets, IsSafeFrom};
-ghost use Rattle.wasmparser_validate.specs.Start.{state};
-ghost use Rattle.wasmparser_validate.specs.Functions.{function_from, Accepts, Refuses};
+ghost use Rattle.validate_visit.specs.Immediates.{is_module_op};
+ghost use Rattle.validate_visit.specs.Order.{is_well_ordered_list};
+ghost use Rattle.validate_visit.specs.declared.frame.BlockType.{BlockType};
+ghost use Rattle.validation_rules.specs.Static.{start};
+ghost use Rattle.validate_stacks.specs.State.{IsStarting, body_context};
+ghost use Rattle.validate_body.specs.Runs.{without_offsets, IsSafeFrom};
+ghost use Rattle.validate_body.specs.Start.{state};
+ghost use Rattle.validate_func.specs.Functions.{function_from, Accepts, Refuses};
 ghost use Rattle.opcheck_script.specs.Attempts.{IsThere, IsAnswer, EndsRun, RunsEach, accepted_of, accepted_at};
 ghost use Rattle.script_parts.specs.Written.{may_all_be_attempted};
 ghost use Rattle.opcheck_script.specs.Reports.{Runs, accepted_in, is_attempted};
 
 use crate::report::{After, Answers, Report};
 use std::alloc::Global;
-use wasmparser_validate::func::FuncValidator;
-use wasmparser_validate::operators::{OperatorValidator, check_ops};
-use wasmparser_validate::resources::WasmModuleResources;
-use wasmparser_validate::types::{Error, OutOfMemory};
-use wasmparser_validate::visit::Op;
+use validate_body::{OperatorValidator, check_ops};
+use validate_func::FuncValidator;
+use validate_resources::WasmModuleResources;
+use validate_types::{Error, OutOfMemory};
+use validate_visit::Op;
 
 /// What is answered at an operator: what is there after it, or the refusal of an attempt.
 type Answer = Result<After, Error>;

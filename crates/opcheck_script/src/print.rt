@@ -12,7 +12,7 @@ use crate::report::{After, Answers, Report};
 use crate::verdict::Verdict;
 use std::io;
 use std::io::Write;
-use wasmparser_validate::types::{Error, ValType};
+use validate_types::{Error, ValType};
 
 /// Prints a line for each operator that is accepted or attempted, the refusal that ended the run if
 /// there is one, and the verdict. A report that ends in want of memory has no verdict.

@@ -1,6 +1,6 @@
 //! What the check of a script comes to.
 
-use wasmparser_validate::types::{Error, ValType};
+use validate_types::{Error, ValType};
 
 /// What is there after an operator that is accepted.
 #[derive(Drop)]

@@ -2,12 +2,12 @@
 
 ghost use Rattle.std.specs.Prelude.{◌≡◌, ◌⊎◌, true, false, length, None, Some, IfOk, IfErr};
 ghost use Rattle.std.specs.List.{list_all};
-ghost use Rattle.wasmparser_validate.specs.Immediates.{is_module_op};
-ghost use Rattle.wasmparser_validate.specs.Kept.{declared_lists};
-ghost use Rattle.wasmparser_validate.specs.Lists.{module_of};
-ghost use Rattle.wasmparser_validate.specs.Named.{declared_in};
-ghost use Rattle.wasmparser_validate.specs.State.{IsStarting};
-ghost use Rattle.wasmparser_validate.specs.Start.{state};
+ghost use Rattle.validate_visit.specs.Immediates.{is_module_op};
+ghost use Rattle.validate_resources.specs.Kept.{declared_lists};
+ghost use Rattle.validate_resources.specs.Lists.{module_of};
+ghost use Rattle.validate_resources.specs.Named.{declared_in};
+ghost use Rattle.validate_stacks.specs.State.{IsStarting};
+ghost use Rattle.validate_body.specs.Start.{state};
 ghost use Rattle.opcheck_script.specs.Begin.{IsExpressionStart, IsBodyStart, CannotStart, HasLocals, CannotBegin};
 ghost use Rattle.opcheck_script.specs.Reports.{ChecksScript, script_body, may_be_body};
 ghost use Rattle.script_parts.specs.Written.{may_all_be_attempted};
@@ -19,11 +19,12 @@ use crate::failure::{BadScript, Failure};
 use crate::report::{Answers, Report};
 use script_reader::{Body, BodyLine, LocalLine, Operators, Script};
 use std::alloc::Global;
-use wasmparser_validate::operators::{OperatorValidator, OperatorValidatorAllocations};
-use wasmparser_validate::resources::uses::laws;
-use wasmparser_validate::resources::{ModuleDeclarations, ModuleLists, WasmModuleResources};
-use wasmparser_validate::types::{Error, ValType, WasmFeatures};
-use wasmparser_validate::visit::{Op, have_module_immediates, is_well_ordered};
+use validate_body::OperatorValidator;
+use validate_resources::uses::laws;
+use validate_resources::{ModuleDeclarations, ModuleLists, WasmModuleResources};
+use validate_stacks::OperatorValidatorAllocations;
+use validate_types::{Error, ValType, WasmFeatures};
+use validate_visit::{Op, have_module_immediates, is_well_ordered};
 
 /// Checks a script: first its order, then its module, then its body.
 pub fn check_script(alloc: Global, script: Script<'_>) -> Result<Report, Failure>

@@ -1,12 +1,12 @@
 use Rattle.std.proofs.Common.{◌≡◌, true, false, List, [], ◌∷◌, ◌++◌, ◌+◌, ◌<◌, ℕ, length, drop, get_or, slice_get, Err, sym, ap, ◌∙◌, subst, arith, length-append}
 use Rattle.std.proofs.lemmas.List.{drop_more}
-use Rattle.wasmparser_validate.specs.Refusal.{Refusal}
-use Rattle.wasmparser_validate.specs.Op.{Op}
-use Rattle.wasmparser_validate.specs.State.{body_context}
-use Rattle.wasmparser_validate.specs.Static.{State}
-use Rattle.wasmparser_validate.specs.Functions.{FunctionState}
-use Rattle.wasmparser_validate.specs.Runs.{IsSafeFrom}
-use Rattle.wasmparser_validate.proofs.Listed.{IsOrderedBelow, at_place}
+use Rattle.validate_types.specs.Refusal.{Refusal}
+use Rattle.validate_visit.specs.declared.op.Op.{Op}
+use Rattle.validate_stacks.specs.State.{body_context}
+use Rattle.validation_rules.specs.Static.{State}
+use Rattle.validate_func.specs.Functions.{FunctionState}
+use Rattle.validate_body.specs.Runs.{IsSafeFrom}
+use Rattle.validate_body.proofs.Listed.{IsOrderedBelow, at_place}
 use Rattle.opcheck_script.specs.Attempts.{Answer, IsAnswer, AreAnswers, EndsRun, RunsEach, accepted_of, accepted_at}
 use Rattle.opcheck_script.proofs.Attempts.{next_answered, accepted_rows, none_accepted, accepted_more, open_at, still_ordered, attempted_flat, ends_at, short_of_memory, when_ok}
 use Rattle.opcheck_script.proofs.body.answer_each.Goals as goal

@@ -1,8 +1,8 @@
 -- There is an answer for each operator so far, those that were accepted lead to the state that is there, and the
 -- rest of the list is in order below its frames.
 use Rattle.std.proofs.Common.{◌≡◌, length, drop}
-use Rattle.wasmparser_validate.specs.State.{body_context}
-use Rattle.wasmparser_validate.proofs.Listed.{IsOrderedBelow}
+use Rattle.validate_stacks.specs.State.{body_context}
+use Rattle.validate_body.proofs.Listed.{IsOrderedBelow}
 use Rattle.opcheck_script.specs.Attempts.{AreAnswers, accepted_of}
 use Rattle.opcheck_script.proofs.body.answer_each.Given as goal
 

@@ -1,8 +1,8 @@
 use Rattle.std.proofs.Common.{◌≡◌, true, Ok, subst}
-use Rattle.wasmparser_validate.specs.BlockType.{BlockType}
-use Rattle.wasmparser_validate.specs.Functions.{FunctionState}
-use Rattle.wasmparser_validate.specs.Runs.{IsSafeFrom}
-use Rattle.wasmparser_validate.specs.Static.{start}
+use Rattle.validate_visit.specs.declared.frame.BlockType.{BlockType}
+use Rattle.validate_func.specs.Functions.{FunctionState}
+use Rattle.validate_body.specs.Runs.{IsSafeFrom}
+use Rattle.validation_rules.specs.Static.{start}
 use Rattle.opcheck_script.specs.Attempts.{accepted_of}
 use Rattle.opcheck_script.proofs.body.run_each.Goals as goal
 

@@ -1,5 +1,5 @@
 use Rattle.std.proofs.Common.{arith, rules, ◌≡◌, false}
-use Rattle.wasmparser_validate.specs.Start.{state}
+use Rattle.validate_body.specs.Start.{state}
 use Rattle.opcheck_script.specs.Begin.{CannotBegin}
 use Rattle.opcheck_script.proofs.Locals.{one_local_more, bad_line}
 use Rattle.opcheck_script.proofs.script.begin_body.Goals as goal

@@ -1,6 +1,6 @@
 use Rattle.std.proofs.Common.{take}
-use Rattle.wasmparser_validate.specs.State.{IsStarting}
-use Rattle.wasmparser_validate.specs.Start.{state}
+use Rattle.validate_stacks.specs.State.{IsStarting}
+use Rattle.validate_body.specs.Start.{state}
 use Rattle.opcheck_script.specs.Begin.{HasLocals}
 use Rattle.opcheck_script.proofs.script.begin_body.Given as goal
 

@@ -6,11 +6,9 @@ ghost use Rattle.validate_stacks.specs.Visits.{MayVisit};
 ghost use Rattle.wasmparser_validate.specs.Start.{state, stacks_of};
 ghost use Rattle.wasmparser_validate.specs.State.{IsStarting};
 
-use crate::expect::{Lack, expect, expect_same};
-use crate::lines::{Way, expect_lines, expect_said};
-use crate::seen::said;
-use crate::setting::{HEAD, Setting};
+use crate::lines::{Way, expect_lines};
 use std::process::Abort;
+use test_parts::{HEAD, Lack, Setting, expect, expect_said, expect_same, said};
 use wasmparser_validate::operators::{OperatorValidator, OperatorValidatorAllocations, Pops};
 use wasmparser_validate::resources::WasmModuleResources;
 use wasmparser_validate::types::{Error, ValType};

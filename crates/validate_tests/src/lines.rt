@@ -11,11 +11,10 @@ ghost use Rattle.validate_stacks.specs.State.{IsValidBody};
 ghost use Rattle.validate_stacks.specs.Visits.{MayVisit, Meets};
 ghost use Rattle.wasmparser_validate.specs.Start.{state, stacks_of};
 
-use crate::expect::{Lack, expect, expect_text};
-use crate::seen::{said, seen};
 use script_parts::{OperatorList, read_words};
 use script_reader::{read_lists, read_operator};
 use std::process::Abort;
+use test_parts::{Lack, answer_in, expect, expect_said, expect_text, said, seen};
 use wasmparser_validate::operators::{OperatorValidator, try_and_undo, try_op};
 use wasmparser_validate::resources::WasmModuleResources;
 use wasmparser_validate::types::Error;
@@ -55,29 +54,6 @@ fn visit_by_row<R: WasmModuleResources>(
     ensures { Meets (R.context lists.now) (λ cx. operator cx op.entry) 7 (state v.old) result (state v.new) }
 {
     v.with_resources(lists, 7).visit_operator(op)
-}
-
-/// The operator of a line, and its answer alone.
-pub fn parts_of(line: &str) -> (&str, &str) {
-    let (written, wanted) = line.split_once(" => ").unwrap_or((line, ""));
-    (written, answer_in(wanted))
-}
-
-/// The answer alone, without what stands behind it.
-fn answer_in(text: &str) -> &str {
-    match text.split_once(" => ") {
-        Some((answer, _)) => answer,
-        None => text,
-    }
-}
-
-/// What was said is what a line wants, which may be the answer alone.
-pub fn expect_said(rt: &impl Abort, said: &str, wanted: &str) {
-    if wanted.contains("=>") {
-        expect_text(rt, said, wanted, said);
-    } else {
-        expect_text(rt, answer_in(said), wanted, said);
-    }
 }
 
 /// Visits the operator.

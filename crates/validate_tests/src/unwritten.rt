@@ -4,11 +4,9 @@
 ghost use Rattle.wasmparser_validate.specs.Start.{state};
 ghost use Rattle.wasmparser_validate.specs.State.{IsStarting};
 
-use crate::expect::{Lack, expect};
-use crate::lines::{expect_said, visit};
-use crate::seen::said;
-use crate::setting::Setting;
+use crate::lines::visit;
 use std::process::Abort;
+use test_parts::{Lack, Setting, expect, expect_said, said};
 use wasmparser_validate::operators::{OperatorValidator, OperatorValidatorAllocations};
 use wasmparser_validate::resources::WasmModuleResources;
 use wasmparser_validate::visit::{

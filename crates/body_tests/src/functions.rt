@@ -1,9 +1,8 @@
 //! Function validators: worked rows, and a body for each group of operators, each visited and each attempted.
 //!
-//! The bodies pass whichever allocation fails, one in a run: behind a visit without memory the validator has
-//! failed, and everything is there at a second try; an attempt without memory leaves no trace, and is accepted
-//! when it comes again. `rt try --test --fail-alloc N` runs them so, for N from 1 on, by hand: `.ci/growths` refuses
-//! all requests behind one too, where no second try can pass.
+//! The bodies pass whichever request for memory is refused, one in a run: behind a visit without memory the
+//! validator has failed, and everything is there at a second try; an attempt without memory leaves no trace, and is
+//! accepted when it comes again. `.ci/growths` refuses one request after the other.
 
 ghost use Rattle.std.specs.Prelude.{◌≡◌, ◌≤◌, true, false, [], length};
 ghost use Rattle.std.specs.List.{list_all};
@@ -13,13 +12,12 @@ ghost use Rattle.wasmparser_validate.specs.Runs.{without_offsets};
 ghost use Rattle.wasmparser_validate.specs.Start.{state};
 ghost use Rattle.wasmparser_validate.specs.State.{IsStarting};
 
-use crate::expect::{Lack, expect, expect_error, expect_same, expect_text};
-use crate::lines::parts_of;
-use crate::lists::script_of;
-use crate::setting::{HEAD, Setting};
-use crate::tables::GROUPS;
 use script_reader::{read_lists, read_script};
 use std::process::Abort;
+use test_parts::{
+    GROUPS, HEAD, Lack, Setting, expect, expect_error, expect_same, expect_text, parts_of,
+    script_of,
+};
 use wasmparser_validate::func::{FuncValidator, operands_before};
 use wasmparser_validate::operators::{OperatorValidator, OperatorValidatorAllocations};
 use wasmparser_validate::resources::{ModuleLists, WasmModuleResources};
@@ -204,7 +202,7 @@ fn expect_body(rt: &(impl Abort + AllocGlobal), body: &str) -> Result<(), Lack> 
 }
 
 #[test]
-fn groups_of_operators_in_functions_whichever_allocation_fails(
+fn groups_of_operators_in_functions_whichever_request_is_refused(
     rt: HostRuntime,
 ) -> Result<(), Lack> {
     for body in GROUPS.split("\n\n") {

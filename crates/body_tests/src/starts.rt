@@ -9,11 +9,10 @@ ghost use Rattle.wasmparser_validate.specs.Start.{state};
 ghost use Rattle.wasmparser_validate.specs.State.{BodyState, IsStarting};
 ghost use Rattle.wasmparser_validate.specs.Static.{start};
 
-use crate::expect::{Lack, expect, expect_error, expect_same};
-use crate::setting::{HEAD, Setting};
 use bitflags::Flags;
 use std::alloc::AllocError;
 use std::process::Abort;
+use test_parts::{HEAD, Lack, Setting, expect, expect_error, expect_same};
 use wasmparser_validate::operators::{
     OperatorValidator, OperatorValidatorAllocations, check_ops, safety_law,
 };

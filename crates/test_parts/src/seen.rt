@@ -1,10 +1,10 @@
 //! What can be seen of a validator's state, as a text.
 
 use crate::expect::{Lack, NO_MEMORY};
+use validate_body::OperatorValidator;
 use validate_body::first_set::inits_of;
-use wasmparser_validate::operators::OperatorValidator;
-use wasmparser_validate::types::Error;
-use wasmparser_validate::visit::{Frame, FrameKind};
+use validate_types::Error;
+use validate_visit::{Frame, FrameKind};
 
 /// All that can be seen: the open frames, the innermost first, the locals that were set, in the order in which they
 /// were, and the operands, the top last.

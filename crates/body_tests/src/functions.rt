@@ -6,23 +6,25 @@
 
 ghost use Rattle.std.specs.Prelude.{◌≡◌, ◌≤◌, true, false, [], length};
 ghost use Rattle.std.specs.List.{list_all};
-ghost use Rattle.wasmparser_validate.specs.Immediates.{is_module_op};
-ghost use Rattle.wasmparser_validate.specs.Order.{is_well_ordered_list};
-ghost use Rattle.wasmparser_validate.specs.Runs.{without_offsets};
-ghost use Rattle.wasmparser_validate.specs.Start.{state};
-ghost use Rattle.wasmparser_validate.specs.State.{IsStarting};
+ghost use Rattle.validate_visit.specs.Immediates.{is_module_op};
+ghost use Rattle.validate_visit.specs.Order.{is_well_ordered_list};
+ghost use Rattle.validate_body.specs.Runs.{without_offsets};
+ghost use Rattle.validate_body.specs.Start.{state};
+ghost use Rattle.validate_stacks.specs.State.{IsStarting};
 
+use crate::answers::parts_of;
+use crate::expect::{Lack, expect, expect_error, expect_same, expect_text};
+use crate::lists::script_of;
+use crate::setting::{HEAD, Setting};
+use crate::tables::GROUPS;
 use script_reader::{read_lists, read_script};
 use std::process::Abort;
-use test_parts::{
-    GROUPS, HEAD, Lack, Setting, expect, expect_error, expect_same, expect_text, parts_of,
-    script_of,
-};
-use wasmparser_validate::func::{FuncValidator, operands_before};
-use wasmparser_validate::operators::{OperatorValidator, OperatorValidatorAllocations};
-use wasmparser_validate::resources::{ModuleLists, WasmModuleResources};
-use wasmparser_validate::types::{Error, ValType};
-use wasmparser_validate::visit::{
+use validate_body::OperatorValidator;
+use validate_func::{FuncValidator, operands_before};
+use validate_resources::{ModuleLists, WasmModuleResources};
+use validate_stacks::OperatorValidatorAllocations;
+use validate_types::{Error, ValType};
+use validate_visit::{
     ControlOp, IntegerBinaryOp, IntegerType, NumericOp, Op, have_module_immediates, is_well_ordered,
 };
 

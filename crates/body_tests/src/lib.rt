@@ -1,10 +1,25 @@
-//! Tests of the calls of `wasmparser_validate` about whole bodies, of what no script can show: validators as they
-//! are made, lists, and function validators. Expected values come from the standard and from upstream's texts.
+//! Tests of the calls about whole bodies, of what no script can show: validators as they are made, lists, and
+//! function validators. The library has what they share with the tests of single visits: what a body is checked in,
+//! bodies with their answers, what can be seen of a validator, and what ends a test that isn't met. Expected values
+//! come from the standard and from upstream's texts.
 #![tactic(auto)]
 
+mod answers;
+mod expect;
 #[cfg(test)]
 mod functions;
+mod lists;
+mod seen;
+mod setting;
 #[cfg(test)]
 mod sides;
 #[cfg(test)]
 mod starts;
+mod tables;
+
+pub use crate::answers::{answer_in, expect_said, parts_of};
+pub use crate::expect::{Lack, expect, expect_error, expect_same, expect_text};
+pub use crate::lists::expect_list;
+pub use crate::seen::{said, seen};
+pub use crate::setting::{HEAD, Setting};
+pub use crate::tables::{BODIES, GROUPS};

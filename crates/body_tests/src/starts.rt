@@ -2,23 +2,23 @@
 
 ghost use Rattle.std.specs.Prelude.{◌≡◌, IfOk, true, false, List, []};
 ghost use Rattle.std.specs.List.{list_all};
-ghost use Rattle.wasmparser_validate.specs.Immediates.{is_module_op};
-ghost use Rattle.wasmparser_validate.specs.Order.{is_well_ordered_list};
-ghost use Rattle.wasmparser_validate.specs.Runs.{without_offsets, IsAcceptedBody, IsSafeFrom};
-ghost use Rattle.wasmparser_validate.specs.Start.{state};
-ghost use Rattle.wasmparser_validate.specs.State.{BodyState, IsStarting};
-ghost use Rattle.wasmparser_validate.specs.Static.{start};
+ghost use Rattle.validate_visit.specs.Immediates.{is_module_op};
+ghost use Rattle.validate_visit.specs.Order.{is_well_ordered_list};
+ghost use Rattle.validate_body.specs.Runs.{without_offsets, IsAcceptedBody, IsSafeFrom};
+ghost use Rattle.validate_body.specs.Start.{state};
+ghost use Rattle.validate_stacks.specs.State.{BodyState, IsStarting};
+ghost use Rattle.validation_rules.specs.Static.{start};
 
+use crate::expect::{Lack, expect, expect_error, expect_same};
+use crate::setting::{HEAD, Setting};
 use bitflags::Flags;
 use std::alloc::AllocError;
 use std::process::Abort;
-use test_parts::{HEAD, Lack, Setting, expect, expect_error, expect_same};
-use wasmparser_validate::operators::{
-    OperatorValidator, OperatorValidatorAllocations, check_ops, safety_law,
-};
-use wasmparser_validate::resources::{ModuleLists, WasmModuleResources};
-use wasmparser_validate::types::{Error, ValType, WasmFeatures};
-use wasmparser_validate::visit::{
+use validate_body::{OperatorValidator, check_ops, safety_law};
+use validate_resources::{ModuleLists, WasmModuleResources};
+use validate_stacks::OperatorValidatorAllocations;
+use validate_types::{Error, ValType, WasmFeatures};
+use validate_visit::{
     BlockType, ControlOp, Frame, FrameKind, NumericOp, Op, have_module_immediates, is_well_ordered,
 };
 

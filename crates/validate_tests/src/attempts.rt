@@ -6,8 +6,8 @@ ghost use Rattle.validate_stacks.specs.State.{IsStarting, IsValidBody};
 ghost use Rattle.wasmparser_validate.specs.Start.{state};
 
 use crate::lines::{Way, expect_lines, visit};
+use body_tests::{HEAD, Lack, Setting, expect, expect_same};
 use std::process::Abort;
-use test_parts::{HEAD, Lack, Setting, expect, expect_same};
 use validate_body::first_set::inits_of;
 use wasmparser_validate::operators::{
     OperatorValidator, OperatorValidatorAllocations, try_and_undo,

@@ -7,8 +7,8 @@ ghost use Rattle.wasmparser_validate.specs.Start.{state, stacks_of};
 ghost use Rattle.wasmparser_validate.specs.State.{IsStarting};
 
 use crate::lines::{Way, expect_lines};
+use body_tests::{HEAD, Lack, Setting, expect, expect_said, expect_same, said};
 use std::process::Abort;
-use test_parts::{HEAD, Lack, Setting, expect, expect_said, expect_same, said};
 use wasmparser_validate::operators::{OperatorValidator, OperatorValidatorAllocations, Pops};
 use wasmparser_validate::resources::WasmModuleResources;
 use wasmparser_validate::types::{Error, ValType};

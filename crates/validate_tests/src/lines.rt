@@ -11,10 +11,10 @@ ghost use Rattle.validate_stacks.specs.State.{IsValidBody};
 ghost use Rattle.validate_stacks.specs.Visits.{MayVisit, Meets};
 ghost use Rattle.wasmparser_validate.specs.Start.{state, stacks_of};
 
+use body_tests::{Lack, answer_in, expect, expect_said, expect_text, said, seen};
 use script_parts::{OperatorList, read_words};
 use script_reader::{read_lists, read_operator};
 use std::process::Abort;
-use test_parts::{Lack, answer_in, expect, expect_said, expect_text, said, seen};
 use wasmparser_validate::operators::{OperatorValidator, try_and_undo, try_op};
 use wasmparser_validate::resources::WasmModuleResources;
 use wasmparser_validate::types::Error;

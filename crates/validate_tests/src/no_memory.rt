@@ -4,9 +4,9 @@ ghost use Rattle.wasmparser_validate.specs.Start.{state};
 ghost use Rattle.wasmparser_validate.specs.State.{IsStarting};
 
 use crate::lines::{Way, expect_lines, read_op, visit};
+use body_tests::{Lack, Setting, expect};
 use script_reader::read_lists;
 use std::process::Abort;
-use test_parts::{Lack, Setting, expect};
 use wasmparser_validate::operators::{OperatorValidator, OperatorValidatorAllocations};
 use wasmparser_validate::resources::WasmModuleResources;
 use wasmparser_validate::visit::Op;

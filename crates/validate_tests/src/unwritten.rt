@@ -5,8 +5,8 @@ ghost use Rattle.wasmparser_validate.specs.Start.{state};
 ghost use Rattle.wasmparser_validate.specs.State.{IsStarting};
 
 use crate::lines::visit;
+use body_tests::{Lack, Setting, expect, expect_said, said};
 use std::process::Abort;
-use test_parts::{Lack, Setting, expect, expect_said, said};
 use wasmparser_validate::operators::{OperatorValidator, OperatorValidatorAllocations};
 use wasmparser_validate::resources::WasmModuleResources;
 use wasmparser_validate::visit::{

@@ -18,7 +18,7 @@ mod starts;
 mod tables;
 
 pub use crate::answers::{answer_in, expect_said, parts_of};
-pub use crate::expect::{Lack, expect, expect_error, expect_same, expect_text};
+pub use crate::expect::{Lack, expect, expect_same, expect_text};
 pub use crate::lists::expect_list;
 pub use crate::seen::{said, seen};
 pub use crate::setting::{HEAD, Setting};

@@ -387,25 +387,27 @@ pub fn read_module(alloc: Global, bytes: &[u8]) -> Result<Module, ReadError> {
     read_header(&mut reader)?;
     let mut last = 0;
     for _ in 0..bytes.len() {
-        if !reader.is_at_end() {
-            last = read_next(alloc, &mut reader, &mut module, last)?;
+        if reader.is_at_end() {
+            break;
         }
+        last = read_next(alloc, &mut reader, &mut module, last)?;
     }
     check_counts(&module, reader.offset())?;
     module.mark_referenced();
     Ok(module)
 }
 
-/// As many bodies as functions, and as many data segments as the module says.
+/// Refuses, at this offset, a module that hasn't as many bodies as functions of its own (`InconsistentCode`), or as
+/// many data segments as it says (`InconsistentData`).
 fn check_counts(module: &Module, offset: u64) -> Result<(), ReadError> {
     let functions = module.declarations.functions.len();
     if functions.saturating_sub(module.imported_functions) != module.bodies.len() {
         return Err(ReadError::malformed(Fault::InconsistentCode, offset));
     }
-    if let Some(count) = module.declarations.data_count {
-        if count as usize != module.data_segments {
-            return Err(ReadError::malformed(Fault::InconsistentData, offset));
-        }
+    if let Some(count) = module.declarations.data_count
+        && count as usize != module.data_segments
+    {
+        return Err(ReadError::malformed(Fault::InconsistentData, offset));
     }
     Ok(())
 }

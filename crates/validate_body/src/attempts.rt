@@ -63,7 +63,7 @@ fn attempt<R: WasmModuleResources>(
     ensures kept { IsKept (state v.old) (state v.new) }
 {
     v.begin_try_op();
-    let answer = v.check(resources, offset, op);
+    let answer = v.check_in_place(resources, offset, &op);
     end_attempt(v, answer.is_ok());
     answer
 }

@@ -140,6 +140,7 @@ impl OperatorValidator {
         if self.passes_at_once(resources, &op) {
             return Ok(());
         }
+        // Of an accepted operator the tag alone is written, where an answer that is handed on is copied whole.
         match check_operator(&mut self.stacks, resources, offset, &op) {
             Ok(()) => Ok(()),
             Err(refusal) => Err(refusal),

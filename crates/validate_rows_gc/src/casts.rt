@@ -321,7 +321,8 @@ pub struct CastTypes {
 }
 
 /// A branch by a cast, of types that are checked: `[t from] -> [t left]`, with the types t of the label but
-/// its last, which lies above what is carried there.
+/// its last, which lies above what is carried there. A label is refused that isn't there or has no types, or whose
+/// last type isn't above what is carried, and so are operands that don't fit.
 pub fn check_cast_branch<R: WasmModuleResources>(
     stacks: &mut Stacks,
     resources: &R,

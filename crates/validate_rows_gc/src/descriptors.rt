@@ -66,7 +66,7 @@ fn is_found_exact<R: WasmModuleResources>(resources: &R, exact: HeapType, found:
     }
 }
 
-/// Pops an operand of this type.
+/// [`Stacks::pop_operand`] of a type that is wanted; that what is found is valid too is among its clauses.
 pub fn pop_of_type<R: WasmModuleResources>(
     stacks: &mut Stacks,
     resources: &R,
@@ -203,7 +203,7 @@ fn pop_descriptor<R: WasmModuleResources>(
 fn is_exact(heap_type: HeapType) -> bool
     ensures { result ≡ reference_rule.is_exact heap_type }
 {
-    matches!(&heap_type, HeapType::Exact(_))
+    matches!(heap_type, HeapType::Exact(_))
 }
 
 /// `ref.cast_desc_eq`: `[(ref null top) (ref null d)] -> [t]`, with the top type of the hierarchy of the type t cast

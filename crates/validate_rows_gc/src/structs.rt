@@ -29,7 +29,8 @@ use validate_stacks::Stacks;
 use validate_types::{Error, FieldType, RefType, StructType, ValType};
 use validate_visit::{FieldIndex, Sign, StructOp};
 
-/// Each field has a default value.
+/// Refuses the first field without a default value, whichever operator asks, as `struct.new_default` does: ``invalid
+/// `struct.new_default`: T field is not defaultable``.
 fn check_defaultable(stacks: &Stacks, offset: u64, fields: &[FieldType]) -> Result<(), Error>
     ensures passed { OnOk result (list_all is_defaultable (unpacked_fields fields.now) ≡ true) }
     ensures refused { OnErr result (list_all is_defaultable (unpacked_fields fields.now) ≡ false) }

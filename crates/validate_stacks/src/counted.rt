@@ -36,7 +36,7 @@ impl Pops {
 
     /// One more was tried.
     #[inline(always)]
-    pub fn tick(&mut self)
+    pub(crate) fn tick(&mut self)
         requires { self.old + 1 < 2 ^ 64 }
         ensures { self.new ≡ self.old + 1 }
     {

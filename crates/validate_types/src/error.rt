@@ -35,7 +35,7 @@ enum Message {
 /// wasmparser's `BinaryReaderError`, there named `Error` inside the validator.
 #[derive(Debug, Drop)]
 pub struct Error {
-    // In this order of the fields an answer is copied faster (docs/WORKING.md).
+    // In this order of the fields an answer is copied faster.
     message: Message,
     offset: u64,
 }

@@ -5,6 +5,7 @@ pub mod Rows
 pub mod Order
 pub mod PushesValid
 pub mod Valid
+pub mod ValidAggregates
 pub mod ValidContinuations
 pub mod ValidShared
 pub mod ValidBodies

@@ -19,7 +19,8 @@ use Rattle.validation_rules.proofs.Below.{and_true}
 use Rattle.validation_rules.proofs.PushesValid.{PushesValid}
 use Rattle.validation_rules.proofs.Steps.{some_injective, guard_some, and_then_given}
 use Rattle.validation_rules.proofs.ValidContinuations.{continuations_valid}
-use Rattle.validation_rules.proofs.Valid.{steps_keep_valid, nothing_pushed, plain_valid, flat_valid, opener_valid, by_lookup_valid, control_valid, numeric_valid, convert_valid, memory_valid, atomic_valid, reference_valid, table_valid, struct_valid, array_valid}
+use Rattle.validation_rules.proofs.Valid.{steps_keep_valid, nothing_pushed, plain_valid, flat_valid, opener_valid, by_lookup_valid, control_valid, numeric_valid, convert_valid, memory_valid, atomic_valid, reference_valid, table_valid}
+use Rattle.validation_rules.proofs.ValidAggregates.{struct_valid, array_valid}
 use Rattle.validation_rules.proofs.ValidShared.{shared_valid}
 
 module _ (cx : Context) (laws : IsLawful cx.of_module) where

@@ -23,7 +23,8 @@ use Rattle.validation_rules.specs.Operators.{plain_row, plain_row_if, lookup_row
 use Rattle.validation_rules.specs.Valid.{IsValidOperand}
 use Rattle.validation_rules.proofs.PushesValid.{PushesValid}
 use Rattle.validation_rules.proofs.Steps.{some_injective, guard_some, and_then_given}
-use Rattle.validation_rules.proofs.Valid.{all_known, made_valid}
+use Rattle.validation_rules.proofs.Valid.{all_known}
+use Rattle.validation_rules.proofs.ValidAggregates.{made_valid}
 
 module _ (cx : Context) (laws : IsLawful cx.of_module) where
   -- what a function type takes and gives is valid

@@ -20,7 +20,8 @@ use Rattle.validation_rules.specs.Shared.{given_by, place_row, held_by_global, h
 use Rattle.validation_rules.specs.Structs.{struct_field, field_value}
 use Rattle.validation_rules.specs.Tables.{table_type}
 use Rattle.validation_rules.proofs.PushesValid.{PushesValid}
-use Rattle.validation_rules.proofs.Valid.{plain_valid, by_lookup_valid, lookups_valid, global_valid, table_found, field_valid, element_valid}
+use Rattle.validation_rules.proofs.Valid.{plain_valid, by_lookup_valid, lookups_valid, global_valid, table_found}
+use Rattle.validation_rules.proofs.ValidAggregates.{field_valid, element_valid}
 
 module _ (cx : Context) (laws : IsLawful cx.of_module) where
   given_valid : (access : FieldAccess) (t : ValType) → Valid cx.of_module t → AllByRecursion (Valid cx.of_module) (given_by access t)

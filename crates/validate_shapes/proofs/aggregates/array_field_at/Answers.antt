@@ -4,7 +4,7 @@ use Rattle.std.specs.Option.{option_copied}
 use Rattle.validate_resources.specs.Context.{Valid}
 use Rattle.validate_types.specs.Types.{unpacked_fields}
 use Rattle.validate_types.specs.declared.types.FieldType.{FieldType}
-use Rattle.validation_rules.proofs.Valid.{array_inner}
+use Rattle.validation_rules.proofs.ValidAggregates.{array_inner}
 use Rattle.validate_stacks.specs.State.{body_context}
 use Rattle.validate_shapes.proofs.aggregates.array_field_at.Goals as goal
 

@@ -1,5 +1,5 @@
 use Rattle.std.proofs.Common.{sym, ◌∙◌}
-use Rattle.validation_rules.proofs.Valid.{field_in}
+use Rattle.validation_rules.proofs.ValidAggregates.{field_in}
 use Rattle.validate_stacks.specs.State.{body_context}
 use Rattle.validate_shapes.proofs.aggregates.struct_field_at.Goals as goal
 

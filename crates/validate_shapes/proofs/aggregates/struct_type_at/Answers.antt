@@ -4,7 +4,7 @@ use Rattle.std.specs.Option.{option_copied}
 use Rattle.validate_resources.specs.Context.{Valid}
 use Rattle.validate_types.specs.Types.{unpacked_fields}
 use Rattle.validate_types.specs.declared.types.FieldType.{FieldType}
-use Rattle.validation_rules.proofs.Valid.{struct_inner}
+use Rattle.validation_rules.proofs.ValidAggregates.{struct_inner}
 use Rattle.validate_stacks.specs.State.{body_context}
 use Rattle.validate_shapes.proofs.aggregates.struct_type_at.Goals as goal
 

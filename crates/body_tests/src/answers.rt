@@ -1,6 +1,6 @@
 //! A line with an operator and what it answers: what stands there, and whether that was said.
 
-use crate::expect::expect_text;
+use crate::expectations::expect_text;
 use std::process::Abort;
 
 /// The operator of a line, and its answer alone.

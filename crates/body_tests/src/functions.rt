@@ -13,7 +13,7 @@ ghost use Rattle.validate_body.specs.Start.{state};
 ghost use Rattle.validate_stacks.specs.State.{IsStarting};
 
 use crate::answers::parts_of;
-use crate::expect::{Lack, expect, expect_error, expect_same, expect_text};
+use crate::expectations::{Lack, expect, expect_error, expect_same, expect_text};
 use crate::lists::script_of;
 use crate::setting::{HEAD, Setting};
 use crate::tables::GROUPS;

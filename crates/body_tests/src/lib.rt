@@ -5,21 +5,21 @@
 #![tactic(auto)]
 
 mod answers;
-mod expect;
+mod expectations;
 #[cfg(test)]
 mod functions;
 mod lists;
-mod seen;
 mod setting;
 #[cfg(test)]
 mod sides;
 #[cfg(test)]
 mod starts;
 mod tables;
+mod texts;
 
 pub use crate::answers::{answer_in, expect_said, parts_of};
-pub use crate::expect::{Lack, expect, expect_same, expect_text};
+pub use crate::expectations::{Lack, expect, expect_same, expect_text};
 pub use crate::lists::expect_list;
-pub use crate::seen::{said, seen};
 pub use crate::setting::{HEAD, Setting};
 pub use crate::tables::{BODIES, GROUPS};
+pub use crate::texts::{said, seen};

@@ -1,6 +1,6 @@
 //! Operators with their answers, one a line, in a body.
 //!
-//! A line is an operator as scripts write it, an arrow, and what `said` of `seen` gives; what stands there
+//! A line is an operator as scripts write it, an arrow, and what `said` of `body_tests` gives; what stands there
 //! behind the second arrow may be left out. With a `try` before it the operator is visited within an attempt,
 //! which is taken back: the answer is that within, and behind it everything is as before.
 

@@ -1,6 +1,6 @@
 //! What can be seen of a validator's state, as a text.
 
-use crate::expect::{Lack, NO_MEMORY};
+use crate::expectations::{Lack, NO_MEMORY};
 use validate_body::OperatorValidator;
 use validate_body::first_set::inits_of;
 use validate_types::Error;

@@ -1,7 +1,6 @@
-//! A line with an operator and what it answers: what stands there, and whether that was said.
+//! Lines with an operator and what it answers each: the parts of one, and the script that they come to.
 
-use crate::expectations::expect_text;
-use std::process::Abort;
+use crate::expectations::Lack;
 
 /// The operator of a line, and its answer alone.
 pub fn parts_of(line: &str) -> (&str, &str) {
@@ -17,11 +16,19 @@ pub fn answer_in(text: &str) -> &str {
     }
 }
 
-/// What was said is what a line wants, which may be the answer alone.
-pub fn expect_said(rt: &impl Abort, said: &str, wanted: &str) {
-    if wanted.contains("=>") {
-        expect_text(rt, said, wanted, said);
-    } else {
-        expect_text(rt, answer_in(said), wanted, said);
+/// The script of a body: its first lines, and its operators without their answers.
+pub fn script_of(rt: &impl AllocGlobal, head: &str, lines: &str) -> Result<String, Lack> {
+    let mut script = head.to_string(rt.alloc())?;
+    add_operators(&mut script, lines)?;
+    Ok(script)
+}
+
+/// Adds the operators of these lines, one a line.
+fn add_operators(script: &mut String, lines: &str) -> Result<(), Lack> {
+    for line in lines.lines() {
+        let (written, _) = parts_of(line);
+        script.push_str("\n")?;
+        script.push_str(written)?;
     }
+    Ok(())
 }

@@ -7,7 +7,8 @@ ghost use Rattle.wasmparser_validate.specs.Start.{state, stacks_of};
 ghost use Rattle.wasmparser_validate.specs.State.{IsStarting};
 
 use crate::lines::{Way, expect_lines};
-use body_tests::{HEAD, Lack, Setting, expect, expect_said, expect_same, said};
+use crate::texts::{expect_said, said};
+use body_tests::{HEAD, Lack, Setting, expect, expect_same};
 use std::process::Abort;
 use wasmparser_validate::operators::{OperatorValidator, OperatorValidatorAllocations, Pops};
 use wasmparser_validate::resources::WasmModuleResources;

@@ -1,6 +1,6 @@
 //! Operators with their answers, one a line, in a body.
 //!
-//! A line is an operator as scripts write it, an arrow, and what `said` of `body_tests` gives; what stands there
+//! A line is an operator as scripts write it, an arrow, and what `said` of `texts` gives; what stands there
 //! behind the second arrow may be left out. With a `try` before it the operator is visited within an attempt,
 //! which is taken back: the answer is that within, and behind it everything is as before.
 
@@ -11,7 +11,8 @@ ghost use Rattle.validate_stacks.specs.State.{IsValidBody};
 ghost use Rattle.validate_stacks.specs.Visits.{MayVisit, Meets};
 ghost use Rattle.wasmparser_validate.specs.Start.{state, stacks_of};
 
-use body_tests::{Lack, answer_in, expect, expect_said, expect_text, said, seen};
+use crate::texts::{expect_said, said, seen};
+use body_tests::{Lack, answer_in, expect, expect_text};
 use script_parts::{OperatorList, read_words};
 use script_reader::{read_lists, read_operator};
 use std::process::Abort;

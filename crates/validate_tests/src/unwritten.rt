@@ -5,7 +5,8 @@ ghost use Rattle.wasmparser_validate.specs.Start.{state};
 ghost use Rattle.wasmparser_validate.specs.State.{IsStarting};
 
 use crate::lines::visit;
-use body_tests::{Lack, Setting, expect, expect_said, said};
+use crate::texts::{expect_said, said};
+use body_tests::{Lack, Setting, expect};
 use std::process::Abort;
 use wasmparser_validate::operators::{OperatorValidator, OperatorValidatorAllocations};
 use wasmparser_validate::resources::WasmModuleResources;

@@ -1,10 +1,11 @@
 //! What can be seen of a validator's state, as a text.
 
-use crate::expectations::{Lack, NO_MEMORY};
-use validate_body::OperatorValidator;
+use body_tests::{Lack, NO_MEMORY, answer_in, expect_text};
+use std::process::Abort;
 use validate_body::first_set::inits_of;
-use validate_types::Error;
-use validate_visit::{Frame, FrameKind};
+use wasmparser_validate::operators::OperatorValidator;
+use wasmparser_validate::types::Error;
+use wasmparser_validate::visit::{Frame, FrameKind};
 
 /// All that can be seen: the open frames, the innermost first, the locals that were set, in the order in which they
 /// were, and the operands, the top last.
@@ -103,5 +104,14 @@ fn kind_name(kind: FrameKind) -> &'static str {
         FrameKind::LegacyTry => "legacy_try",
         FrameKind::LegacyCatch => "catch",
         FrameKind::LegacyCatchAll => "catch_all",
+    }
+}
+
+/// What was said is what a line wants, which may be the answer alone.
+pub fn expect_said(rt: &impl Abort, said: &str, wanted: &str) {
+    if wanted.contains("=>") {
+        expect_text(rt, said, wanted, said);
+    } else {
+        expect_text(rt, answer_in(said), wanted, said);
     }
 }

@@ -1,6 +1,6 @@
 //! Lines with an operator and what it answers each: the parts of one, and the script that they come to.
 
-use crate::expectations::Lack;
+use crate::lack::Lack;
 
 /// The operator of a line, and its answer alone.
 pub fn parts_of(line: &str) -> (&str, &str) {

@@ -13,7 +13,8 @@ ghost use Rattle.validate_body.specs.Start.{state};
 ghost use Rattle.validate_stacks.specs.State.{IsStarting};
 
 use crate::answers::{parts_of, script_of};
-use crate::expectations::{Lack, expect, expect_error, expect_same, expect_text};
+use crate::expectations::{expect, expect_error, expect_same, expect_text};
+use crate::lack::Lack;
 use crate::setting::{HEAD, Setting};
 use crate::tables::GROUPS;
 use script_reader::{read_lists, read_script};

@@ -9,7 +9,8 @@ ghost use Rattle.validate_body.specs.Start.{state};
 ghost use Rattle.validate_stacks.specs.State.{BodyState, IsStarting};
 ghost use Rattle.validation_rules.specs.Static.{start};
 
-use crate::expectations::{Lack, expect, expect_error, expect_same};
+use crate::expectations::{expect, expect_error, expect_same};
+use crate::lack::Lack;
 use crate::setting::{HEAD, Setting};
 use bitflags::Flags;
 use std::alloc::AllocError;

@@ -5,8 +5,9 @@ ghost use Rattle.std.specs.Prelude.{◌≡◌, ◌≢◌, None, []};
 ghost use Rattle.validate_stacks.specs.State.{IsStarting, IsValidBody};
 ghost use Rattle.wasmparser_validate.specs.Start.{state};
 
+use crate::expectations::{expect, expect_same};
 use crate::lines::{Way, expect_lines, visit};
-use body_tests::{HEAD, Lack, Setting, expect, expect_same};
+use body_tests::{HEAD, Lack, Setting};
 use std::process::Abort;
 use validate_body::first_set::inits_of;
 use wasmparser_validate::operators::{

@@ -6,9 +6,10 @@ ghost use Rattle.validate_stacks.specs.Visits.{MayVisit};
 ghost use Rattle.wasmparser_validate.specs.Start.{state, stacks_of};
 ghost use Rattle.wasmparser_validate.specs.State.{IsStarting};
 
+use crate::expectations::{expect, expect_same};
 use crate::lines::{Way, expect_lines};
 use crate::texts::{expect_said, said};
-use body_tests::{HEAD, Lack, Setting, expect, expect_same};
+use body_tests::{HEAD, Lack, Setting};
 use std::process::Abort;
 use wasmparser_validate::operators::{OperatorValidator, OperatorValidatorAllocations, Pops};
 use wasmparser_validate::resources::WasmModuleResources;

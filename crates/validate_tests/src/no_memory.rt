@@ -3,8 +3,9 @@
 ghost use Rattle.wasmparser_validate.specs.Start.{state};
 ghost use Rattle.wasmparser_validate.specs.State.{IsStarting};
 
+use crate::expectations::expect;
 use crate::lines::{Way, expect_lines, read_op, visit};
-use body_tests::{Lack, Setting, expect};
+use body_tests::{Lack, Setting};
 use script_reader::read_lists;
 use std::process::Abort;
 use wasmparser_validate::operators::{OperatorValidator, OperatorValidatorAllocations};

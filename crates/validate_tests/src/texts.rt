@@ -1,6 +1,7 @@
 //! What can be seen of a validator's state, as a text.
 
-use body_tests::{Lack, NO_MEMORY, answer_in, expect_text};
+use crate::expectations::expect_text;
+use body_tests::{Lack, NO_MEMORY, answer_in};
 use std::process::Abort;
 use validate_body::first_set::inits_of;
 use wasmparser_validate::operators::OperatorValidator;

@@ -4,9 +4,10 @@
 ghost use Rattle.wasmparser_validate.specs.Start.{state};
 ghost use Rattle.wasmparser_validate.specs.State.{IsStarting};
 
+use crate::expectations::expect;
 use crate::lines::visit;
 use crate::texts::{expect_said, said};
-use body_tests::{Lack, Setting, expect};
+use body_tests::{Lack, Setting};
 use std::process::Abort;
 use wasmparser_validate::operators::{OperatorValidator, OperatorValidatorAllocations};
 use wasmparser_validate::resources::WasmModuleResources;

@@ -1,0 +1,24 @@
+//! What a test expects. A call of these is proved at once, where a branch for what isn't met, and the text
+//! of it, cost seconds each. They may end the program, so no library has them for both crates of tests.
+
+ghost use Rattle.std.specs.Prelude.{◌≡◌, true};
+
+use std::fmt::Debug;
+use std::process::Abort;
+
+/// It is so.
+pub fn expect(rt: &impl Abort, is_so: bool)
+    ensures { is_so ≡ true }
+{
+    assert!(rt; is_so);
+}
+
+/// What was found is what was wanted.
+pub fn expect_same<T: PartialEq + Debug + Drop>(rt: &impl Abort, found: T, wanted: T) {
+    assert_eq!(rt; found, wanted);
+}
+
+/// The text that was found of this is the one that was wanted.
+pub fn expect_text(rt: &impl Abort, found: &str, wanted: &str, of: &str) {
+    assert_eq!(rt; found, wanted, "{of}");
+}

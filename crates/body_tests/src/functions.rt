@@ -108,14 +108,21 @@ fn visit<'a, R: WasmModuleResources>(
     op: Op<'a>,
 ) -> Result<(), Lack> {
     let accepted = accepted_count(function);
-    match answer(rt, function, op, false) {
-        Ok(()) => Ok(()),
-        Err(refusal) => {
-            expect(rt, function.is_failed());
-            expect_same(rt, accepted_count(function), accepted);
-            Err(Lack::from(refusal))
-        }
+    let answer = answer(rt, function, op, false);
+    if answer.is_err() {
+        expect_failed(rt, function, accepted);
     }
+    Ok(answer?)
+}
+
+/// It has failed, and has accepted this many.
+fn expect_failed<R: WasmModuleResources>(
+    rt: &impl Abort,
+    function: &FuncValidator<'_, '_, R>,
+    accepted: usize,
+) {
+    expect(rt, function.is_failed());
+    expect_same(rt, accepted_count(function), accepted);
 }
 
 /// An attempt without memory leaves no trace, and comes again.
@@ -140,13 +147,33 @@ fn expect_op<'a, R: WasmModuleResources>(
     heights: &str,
     attempted: bool,
 ) -> Result<(), Lack> {
+    accept(rt, function, op, attempted)?;
+    expect_heights(rt, function, heights)
+}
+
+/// Visits or attempts an operator, which is accepted.
+fn accept<'a, R: WasmModuleResources>(
+    rt: &(impl Abort + AllocGlobal),
+    function: &mut FuncValidator<'a, '_, R>,
+    op: Op<'a>,
+    attempted: bool,
+) -> Result<(), Lack> {
     if attempted {
-        attempt(rt, function, op)?;
+        attempt(rt, function, op)
     } else {
-        visit(rt, function, op)?;
+        visit(rt, function, op)
     }
+}
+
+/// There are this many operands and frames.
+fn expect_heights<R: WasmModuleResources>(
+    rt: &(impl Abort + AllocGlobal),
+    function: &FuncValidator<'_, '_, R>,
+    heights: &str,
+) -> Result<(), Lack> {
     let operands = function.operand_stack_height();
-    let left = format!(in rt.alloc(); "{operands} {}", function.control_stack_height())?;
+    let frames = function.control_stack_height();
+    let left = format!(in rt.alloc(); "{operands} {frames}")?;
     expect_text(rt, &left, heights, heights);
     Ok(())
 }

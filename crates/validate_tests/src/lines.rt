@@ -95,8 +95,19 @@ fn expect_undone<R: WasmModuleResources>(
     let answer = visit(v, lists, op);
     let within = said(rt, v, answer);
     v.rollback();
-    expect_text(rt, &seen(rt, v)?, &before, wanted);
+    expect_seen(rt, v, &before, wanted)?;
     expect_said(rt, &within?, wanted);
+    Ok(())
+}
+
+/// What can be seen is what was seen before.
+fn expect_seen(
+    rt: &(impl Abort + AllocGlobal),
+    v: &OperatorValidator,
+    before: &str,
+    wanted: &str,
+) -> Result<(), Lack> {
+    expect_text(rt, &seen(rt, v)?, before, wanted);
     Ok(())
 }
 
@@ -116,10 +127,10 @@ fn expect_attempted<R: WasmModuleResources>(
 {
     let before = seen(rt, v)?;
     let _ = try_and_undo(v, lists, 7, op);
-    expect_text(rt, &seen(rt, v)?, &before, wanted);
+    expect_seen(rt, v, &before, wanted)?;
     let answer = try_op(v, lists, 7, op);
     if answer.is_err() {
-        expect_text(rt, &seen(rt, v)?, &before, wanted);
+        expect_seen(rt, v, &before, wanted)?;
     }
     expect_said(rt, &said(rt, v, answer)?, answer_in(wanted));
     Ok(())
@@ -133,7 +144,12 @@ pub fn read_op<'a>(
 ) -> Result<Op<'a>, Lack> {
     let mut words = Vec::new(rt.alloc());
     read_words(&mut words, text)?;
-    match read_operator(&mut list.iter(), &words) {
+    read_op_of(list, &words)
+}
+
+/// The operator that these words write.
+fn read_op_of<'a>(list: &'a [OperatorList], words: &[&str]) -> Result<Op<'a>, Lack> {
+    match read_operator(&mut list.iter(), words) {
         Some(op) => Ok(op),
         None => Err(Lack("a text that is no operator")),
     }

@@ -1,6 +1,7 @@
 //! Operators that take no memory: whatever is refused, they are accepted.
 
-ghost use Rattle.wasmparser_validate.specs.Start.{state};
+ghost use Rattle.validate_stacks.specs.Visits.{MayVisit};
+ghost use Rattle.wasmparser_validate.specs.Start.{state, stacks_of};
 ghost use Rattle.wasmparser_validate.specs.State.{IsStarting};
 
 use crate::expectations::expect;
@@ -53,9 +54,21 @@ fn expect_last<R: WasmModuleResources>(
 {
     expect_lines(rt, v, lists, lines, Way::Visited)?;
     expect(rt, v.control_stack_height() > 0);
+    expect_accepted(rt, v, lists, op);
+    Ok(())
+}
+
+/// It is accepted.
+fn expect_accepted<R: WasmModuleResources>(
+    rt: &impl Abort,
+    v: &mut OperatorValidator,
+    lists: &R,
+    op: Op<'_>,
+)
+    requires { MayVisit (R.context lists.now) (stacks_of v.old) }
+{
     let answer = visit(v, lists, op);
     expect(rt, answer.is_ok());
-    Ok(())
 }
 
 /// The operators of a body.

@@ -54,16 +54,23 @@ fn add_answer(
     answer: Result<(), Error>,
 ) -> Result<(), Lack> {
     match answer {
-        Ok(()) => {
-            let operands = v.operand_stack_height();
-            let frames = v.control_stack_height();
-            write!(text, "{operands} {frames}")?;
-        }
-        Err(refusal) if refusal.is_out_of_memory() => {
-            return Err(NO_MEMORY);
-        }
-        Err(refusal) => text.push_str(refusal.message())?,
+        Ok(()) => add_heights(text, v),
+        Err(refusal) => add_refusal(text, &refusal),
     }
+}
+
+fn add_heights(text: &mut String, v: &OperatorValidator) -> Result<(), Lack> {
+    let operands = v.operand_stack_height();
+    let frames = v.control_stack_height();
+    write!(text, "{operands} {frames}")?;
+    Ok(())
+}
+
+fn add_refusal(text: &mut String, refusal: &Error) -> Result<(), Lack> {
+    if refusal.is_out_of_memory() {
+        return Err(NO_MEMORY);
+    }
+    text.push_str(refusal.message())?;
     Ok(())
 }
 

@@ -6,32 +6,27 @@ use Rattle.validate_rows.proofs.branches.check_targets.Goals as goal
 pub returns-in_err-check_target-in-Ok-clause-refused :
     goal.returns-in_err-check_target-in-Ok-clause-refused
 returns-in_err-check_target-in-Ok-clause-refused g c =
-    let md = g.R.WasmModuleResources.context c.args.resources.now in
     let first : targets_left c.loop-target.target-iterator ≡ Ok c.in-Ok.relative_depth ∷ targets_left c.next.new.self = c.in-Some.ensures.steps ∙ ap (λ r. r ∷ targets_left c.next.new.self) c.in-Ok.is in
-    let none = one_is_none md c.args.stacks.now.body c.args.count c.args.table.complete c.args.table.targets.now (targets_left c.loop-target.target-iterator) c.loop-target.invariant.rest c.in-Ok.relative_depth (targets_left c.next.new.self) first in
+    let none = one_is_none (g.R.WasmModuleResources.context c.args.resources.now) c.args.stacks.now.body c.args.count c.args.table.complete c.args.table.targets.now (targets_left c.loop-target.target-iterator) c.loop-target.invariant.rest c.in-Ok.relative_depth (targets_left c.next.new.self) first in
     search (rules, none)
 
 pub returns-in_err-check_target-in-Ok-clause-idle :
     goal.returns-in_err-check_target-in-Ok-clause-idle
 returns-in_err-check_target-in-Ok-clause-idle g c =
-    let md = g.R.WasmModuleResources.context c.args.resources.now in
     let first : targets_left c.loop-target.target-iterator ≡ Ok c.in-Ok.relative_depth ∷ targets_left c.next.new.self = c.in-Some.ensures.steps ∙ ap (λ r. r ∷ targets_left c.next.new.self) c.in-Ok.is in
-    let none = one_is_none md c.args.stacks.now.body c.args.count c.args.table.complete c.args.table.targets.now (targets_left c.loop-target.target-iterator) c.loop-target.invariant.rest c.in-Ok.relative_depth (targets_left c.next.new.self) first in
+    let none = one_is_none (g.R.WasmModuleResources.context c.args.resources.now) c.args.stacks.now.body c.args.count c.args.table.complete c.args.table.targets.now (targets_left c.loop-target.target-iterator) c.loop-target.invariant.rest c.in-Ok.relative_depth (targets_left c.next.new.self) first in
     search (rules, none)
 
 pub returns-in-Err-clause-refused : goal.returns-in-Err-clause-refused
 returns-in-Err-clause-refused g c =
-    let md = g.R.WasmModuleResources.context c.args.resources.now in
     let first : targets_left c.loop-target.target-iterator ≡ Err c.in-Err.field-0 ∷ targets_left c.next.new.self = c.in-Some.ensures.steps ∙ ap (λ r. r ∷ targets_left c.next.new.self) c.in-Err.is in
-    λ _. end_missing md c.args.stacks.now.body c.args.count c.args.table.complete c.args.table.targets.now (targets_left c.loop-target.target-iterator) c.loop-target.invariant.rest c.in-Err.field-0 (targets_left c.next.new.self) first
+    λ _. end_missing (g.R.WasmModuleResources.context c.args.resources.now) c.args.stacks.now.body c.args.count c.args.table.complete c.args.table.targets.now (targets_left c.loop-target.target-iterator) c.loop-target.invariant.rest c.in-Err.field-0 (targets_left c.next.new.self) first
 
 pub returns-in-Err-clause-idle : goal.returns-in-Err-clause-idle
 returns-in-Err-clause-idle g c =
-    let md = g.R.WasmModuleResources.context c.args.resources.now in
     let first : targets_left c.loop-target.target-iterator ≡ Err c.in-Err.field-0 ∷ targets_left c.next.new.self = c.in-Some.ensures.steps ∙ ap (λ r. r ∷ targets_left c.next.new.self) c.in-Err.is in
-    λ _. end_missing md c.args.stacks.now.body c.args.count c.args.table.complete c.args.table.targets.now (targets_left c.loop-target.target-iterator) c.loop-target.invariant.rest c.in-Err.field-0 (targets_left c.next.new.self) first
+    λ _. end_missing (g.R.WasmModuleResources.context c.args.resources.now) c.args.stacks.now.body c.args.count c.args.table.complete c.args.table.targets.now (targets_left c.loop-target.target-iterator) c.loop-target.invariant.rest c.in-Err.field-0 (targets_left c.next.new.self) first
 
 pub returns-clause-fits : goal.returns-clause-fits
 returns-clause-fits g c =
-    let md = g.R.WasmModuleResources.context c.args.resources.now in
-    all_were md c.args.stacks.now.body c.args.count c.args.table.complete c.args.table.targets.now (targets_left c.loop-target.target-iterator) c.loop-target.invariant.rest c.in-None.ensures.steps.0
+    all_were (g.R.WasmModuleResources.context c.args.resources.now) c.args.stacks.now.body c.args.count c.args.table.complete c.args.table.targets.now (targets_left c.loop-target.target-iterator) c.loop-target.invariant.rest c.in-None.ensures.steps.0

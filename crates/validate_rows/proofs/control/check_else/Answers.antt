@@ -10,28 +10,23 @@ use Rattle.validate_rows.proofs.control.check_else.Goals as goal
 
 pub returns-in_err-frame : goal.returns-in_err-frame
 returns-in_err-frame g c =
-    let md = g.R.WasmModuleResources.context c.args.resources.now in
-    let v = c.args.stacks.now.body in
-    let none = part_none BeginsElse is_if Else params_of else_begins md v c.requires.open_frame in
-    meets_refused md _ c.args.offset v c.pop_ctrl.new.self.body _ (search rules) (search (rules, none)) (search rules) c.pop_ctrl.ensures.valid c.pop_ctrl.ensures.kept
+    let none = part_none BeginsElse is_if Else params_of else_begins (g.R.WasmModuleResources.context c.args.resources.now) c.args.stacks.now.body c.requires.open_frame in
+    meets_refused _ _ _ _ _ _ (search rules) (search (rules, none)) (search rules) c.pop_ctrl.ensures.valid c.pop_ctrl.ensures.kept
 
 pub returns-then-not-is_if_part : goal.returns-then-not-is_if_part
 returns-then-not-is_if_part g c =
-    let md = g.R.WasmModuleResources.context c.args.resources.now in
-    let v = c.args.stacks.now.body in
     let k : is_if c.in_ok-frame.frame.kind ≡ false = search rules in
-    let none = part_of_another BeginsElse is_if Else params_of else_begins md v c.in_ok-frame.frame c.in_ok-frame.ensures.frame k in
-    meets_none md _ c.args.offset v c.pop_ctrl.new.self.body _ (search rules) none (search rules) c.pop_ctrl.ensures.valid c.pop_ctrl.ensures.kept
+    let none = part_of_another BeginsElse is_if Else params_of else_begins (g.R.WasmModuleResources.context c.args.resources.now) c.args.stacks.now.body c.in_ok-frame.frame c.in_ok-frame.ensures.frame k in
+    meets_none _ _ _ _ _ _ (search rules) none (search rules) c.pop_ctrl.ensures.valid c.pop_ctrl.ensures.kept
 
 pub returns : goal.returns
 returns g c =
     let md = g.R.WasmModuleResources.context c.args.resources.now in
-    let v = c.args.stacks.now.body in
     let u = c.pop_ctrl.new.self.body in
     let f = c.in_ok-frame.frame in
     let k : is_if f.kind ≡ true = search rules in
-    meets_last md _ c.args.offset v c.push_ctrl.new.self.body (body_with_block md Else f.block_type u) c.push_ctrl.result (λ q. part_passes BeginsElse is_if Else params_of else_begins md v f c.in_ok-frame.ensures.frame u c.push_ctrl.new.self.body c.in_ok-frame.ensures.closed k q) c.push_ctrl.ensures.entered c.push_ctrl.ensures.memory c.push_ctrl.ensures.offset
-    c.push_ctrl.ensures.valid (kept_on v u c.push_ctrl.new.self.body c.pop_ctrl.ensures.kept c.push_ctrl.ensures.kept)
+    meets_last _ _ _ _ _ (body_with_block md Else f.block_type u) _ (λ q. part_passes BeginsElse is_if Else params_of else_begins md c.args.stacks.now.body f c.in_ok-frame.ensures.frame u c.push_ctrl.new.self.body c.in_ok-frame.ensures.closed k q) c.push_ctrl.ensures.entered c.push_ctrl.ensures.memory c.push_ctrl.ensures.offset
+    c.push_ctrl.ensures.valid (kept_on c.args.stacks.now.body u c.push_ctrl.new.self.body c.pop_ctrl.ensures.kept c.push_ctrl.ensures.kept)
 
 pub pop_ctrl-requires-clause-frames : goal.pop_ctrl-requires-clause-frames
 pop_ctrl-requires-clause-frames g c = step_frame c.args.stacks.now c.requires.attempt

@@ -1,118 +1,94 @@
-use Rattle.std.proofs.Common.{rules, ◌≡◌, true, refl, sym, ap, ◌∙◌, subst}
+use Rattle.std.proofs.Common.{rules, ◌≡◌, true, false, List, None, Some, slice_get, refl, sym, ap, ◌∙◌, subst}
+use Rattle.std.specs.List.{AllByRecursion}
+use Rattle.std.specs.Option.{option_map}
 use Rattle.validate_types.specs.declared.refs.RefType.{RefType}
-use Rattle.validate_resources.specs.Context.{is_valid_heap}
+use Rattle.validate_resources.specs.Context.{ModuleContext, Valid, is_valid_heap}
+use Rattle.validation_rules.specs.Branches.{has_label, label_types_at}
+use Rattle.validation_rules.specs.Context.{Context}
 use Rattle.validation_rules.specs.References.{last_reference, br_on_non_null_row_for, br_on_non_null_row}
+use Rattle.validation_rules.specs.Rows.{Head}
 use Rattle.validation_rules.specs.Static.{heads}
 use Rattle.validation_rules.specs.Operators.{lookup_row}
 use Rattle.validation_rules.proofs.Valid.{before_last_valid, last_valid}
 use Rattle.validate_stacks.specs.State.{body_context}
+use Rattle.validate_stacks.specs.Steps.{type_and_kind}
 use Rattle.validate_shapes.proofs.BranchSteps.{label_there, no_label, no_types, label_valid}
 use Rattle.validate_shapes.proofs.LookupRows.{meets_barred}
 use Rattle.validate_shapes.proofs.ReferenceSteps.{on_non_null_missing, on_non_null_rest}
 use Rattle.validate_shapes.proofs.LastSteps.{meets_from, meets_refused}
+use Rattle.validate_rows.proofs.references.check_br_on_non_null.Given.{Over}
+use Rattle.validate_rows.proofs.references.check_br_on_non_null.Goals.{Start, After-label_types-types, In_ok-others}
 use Rattle.validate_rows.proofs.references.check_br_on_non_null.Goals as goal
+
+module _ (g : Over) (c : Start g) where
+  abbrev md : ModuleContext
+  md = g.R.WasmModuleResources.context c.args.resources.now
+
+  abbrev cx : Context
+  cx = body_context md c.args.stacks.now.body
+
+  abbrev hs : List Head
+  hs = heads c.args.stacks.now.body.present.frames
+
+  barred_without_last : last_reference (label_types_at cx hs c.args.relative_depth) ≡ None → (br_on_non_null_row cx hs c.args.relative_depth).premise ≡ false
+  barred_without_last = ap (λ o. (lookup_row o (br_on_non_null_row_for cx hs c.args.relative_depth)).premise)
+
+  barred_without_label : option_map type_and_kind (slice_get hs c.args.relative_depth) ≡ None → (br_on_non_null_row cx hs c.args.relative_depth).premise ≡ false
+  barred_without_label n = barred_without_last (ap last_reference (no_types cx hs c.args.relative_depth (no_label hs c.args.relative_depth n)))
+
+module _ (g : Over) (c : After-label_types-types g) where
+  abbrev start : Start g
+  start = (goal.at.After-label_types-types g c).Start
+
+  has_the_label : has_label (hs g start) c.args.relative_depth ≡ true
+  has_the_label = (label_there (cx g start) (hs g start) c.args.relative_depth _ _ c.in_ok-block_type.ensures.found).0
+
+  types_of_label : c.label_types-types.result.now ≡ label_types_at (cx g start) (hs g start) c.args.relative_depth
+  types_of_label = c.label_types-types.ensures (cx g start) refl ∙ sym (label_there (cx g start) (hs g start) c.args.relative_depth _ _ c.in_ok-block_type.ensures.found).1
+
+  types_valid : AllByRecursion (Valid (md g start)) c.label_types-types.result.now
+  types_valid = label_valid (md g start) c.args.stacks.now.body _ _ (g.met.R.WasmModuleResources.lawful c.args.resources.now) c.requires.valid types_of_label
+
+module _ (g : Over) (c : In_ok-others g) where
+  abbrev labelled : After-label_types-types g
+  labelled = (goal.at.In_ok-others g c).After-label_types-types
+
+  ends_in_reference : last_reference (label_types_at (cx g (start g labelled)) (hs g (start g labelled)) c.args.relative_depth) ≡ Some (c.in_ok-others.others.now, c.in_ok-others.last)
+  ends_in_reference = ap last_reference (sym (types_of_label g labelled)) ∙ c.in_ok-others.ensures.found
+
+  others_valid : AllByRecursion (Valid (md g (start g labelled))) c.in_ok-others.others.now
+  others_valid = before_last_valid (cx g (start g labelled)) (g.met.R.WasmModuleResources.lawful c.args.resources.now) _ _ (types_valid g labelled) c.in_ok-others.ensures.found
 
 pub returns-in_err-block_type : goal.returns-in_err-block_type
 returns-in_err-block_type g c =
-    let md = g.R.WasmModuleResources.context c.args.resources.now in
-    let v = c.args.stacks.now.body in
-    let cx = body_context md v in
-    let hs = heads v.present.frames in
-    let d = c.args.relative_depth in
-    let none = ap (λ ts. (lookup_row (last_reference ts) (br_on_non_null_row_for cx hs d)).premise) (no_types cx hs d (no_label hs d c.in_err-block_type.ensures.missing)) in
-    meets_barred md v (λ cx hs. br_on_non_null_row cx hs d) c.args.offset _ (search rules) (search (rules, none)) (search rules) c.requires.valid
+    let none = barred_without_label g (goal.at.returns-in_err-block_type g c).Start c.in_err-block_type.ensures.missing in
+    meets_barred _ _ (λ cx hs. br_on_non_null_row cx hs c.args.relative_depth) _ _ (search rules) (search (rules, none)) (search rules) c.requires.valid
 
 pub returns-in_err-others : goal.returns-in_err-others
 returns-in_err-others g c =
-    let md = g.R.WasmModuleResources.context c.args.resources.now in
-    let v = c.args.stacks.now.body in
-    let cx = body_context md v in
-    let hs = heads v.present.frames in
-    let d = c.args.relative_depth in
-    let label = label_there cx hs d c.in_ok-block_type.block_type c.in_ok-block_type.kind c.in_ok-block_type.ensures.found in
-    let types = c.label_types-types.ensures cx refl ∙ sym label.1 in
-    let none = ap (λ o. (lookup_row o (br_on_non_null_row_for cx hs d)).premise) (ap last_reference (sym types) ∙ c.in_err-others.ensures.refused) in
-    meets_barred md v (λ cx hs. br_on_non_null_row cx hs d) c.args.offset _ (search rules) (search (rules, none)) (search rules) c.requires.valid
+    let types = types_of_label g (goal.at.returns-in_err-others g c).After-label_types-types in
+    let none = barred_without_last g (goal.at.returns-in_err-others g c).Start (ap last_reference (sym types) ∙ c.in_err-others.ensures.refused) in
+    meets_barred _ _ (λ cx hs. br_on_non_null_row cx hs c.args.relative_depth) _ _ (search rules) (search (rules, none)) (search rules) c.requires.valid
 
 pub pop_types-requires-clause-types : goal.pop_types-requires-clause-types
 pop_types-requires-clause-types g c =
-    let md = g.R.WasmModuleResources.context c.args.resources.now in
-    let v = c.args.stacks.now.body in
-    let cx = body_context md v in
-    let hs = heads v.present.frames in
-    let d = c.args.relative_depth in
-    let laws = g.met.R.WasmModuleResources.lawful c.args.resources.now in
-    let label = label_there cx hs d c.in_ok-block_type.block_type c.in_ok-block_type.kind c.in_ok-block_type.ensures.found in
-    let ts = c.label_types-types.result.now in
-    let types = c.label_types-types.ensures cx refl ∙ sym label.1 in
-    let others = c.in_ok-others.others.now in
-    let last = c.in_ok-others.last in
-    let valid = label_valid md v d ts laws c.requires.valid types in
-    (subst (λ (r : RefType). is_valid_heap md r.heap_type ≡ true) (sym c.nullable.ensures) (last_valid cx laws ts (others, last) valid c.in_ok-others.ensures.found), tt)
+    let at = (goal.at.pop_types-requires-clause-types g c).After-label_types-types in
+    let valid = last_valid (cx g (start g at)) (g.met.R.WasmModuleResources.lawful c.args.resources.now) _ _ (types_valid g at) c.in_ok-others.ensures.found in
+    (subst (λ (r : RefType). is_valid_heap (md g (start g at)) r.heap_type ≡ true) (sym c.nullable.ensures) valid, tt)
 
 pub returns-in_err-pop_types : goal.returns-in_err-pop_types
 returns-in_err-pop_types g c =
-    let md = g.R.WasmModuleResources.context c.args.resources.now in
-    let v = c.args.stacks.now.body in
-    let cx = body_context md v in
-    let hs = heads v.present.frames in
-    let d = c.args.relative_depth in
-    let label = label_there cx hs d c.in_ok-block_type.block_type c.in_ok-block_type.kind c.in_ok-block_type.ensures.found in
-    let ts = c.label_types-types.result.now in
-    let types = c.label_types-types.ensures cx refl ∙ sym label.1 in
-    let others = c.in_ok-others.others.now in
-    let last = c.in_ok-others.last in
-    let with = c.nullable.result in
-    let ends = ap last_reference (sym types) ∙ c.in_ok-others.ensures.found in
-    let none = on_non_null_missing md v c.requires.open_frame d others last with label.0 ends c.nullable.ensures in
-    meets_refused md _ c.args.offset v c.pop_types.new.self.body _ (search rules) (search (rules, none)) (search rules) c.pop_types.ensures.valid c.pop_types.ensures.kept
+    let none = on_non_null_missing (g.R.WasmModuleResources.context c.args.resources.now) c.args.stacks.now.body c.requires.open_frame c.args.relative_depth _ _ c.nullable.result (has_the_label g (goal.at.returns-in_err-pop_types g c).After-label_types-types) (ends_in_reference g (goal.at.returns-in_err-pop_types g c).In_ok-others) c.nullable.ensures in
+    meets_refused _ _ _ _ _ _ (search rules) (search (rules, none)) (search rules) c.pop_types.ensures.valid c.pop_types.ensures.kept
 
 pub check_plain-requires-clause-wanted : goal.check_plain-requires-clause-wanted
-check_plain-requires-clause-wanted g c =
-    let md = g.R.WasmModuleResources.context c.args.resources.now in
-    let v = c.args.stacks.now.body in
-    let cx = body_context md v in
-    let hs = heads v.present.frames in
-    let d = c.args.relative_depth in
-    let laws = g.met.R.WasmModuleResources.lawful c.args.resources.now in
-    let label = label_there cx hs d c.in_ok-block_type.block_type c.in_ok-block_type.kind c.in_ok-block_type.ensures.found in
-    let ts = c.label_types-types.result.now in
-    let types = c.label_types-types.ensures cx refl ∙ sym label.1 in
-    let others = c.in_ok-others.others.now in
-    let last = c.in_ok-others.last in
-    let valid = label_valid md v d ts laws c.requires.valid types in
-    before_last_valid cx laws ts (others, last) valid c.in_ok-others.ensures.found
+check_plain-requires-clause-wanted g c = others_valid g (goal.at.check_plain-requires-clause-wanted g c).In_ok-others
 
 pub check_plain-requires-clause-pushed : goal.check_plain-requires-clause-pushed
-check_plain-requires-clause-pushed g c =
-    let md = g.R.WasmModuleResources.context c.args.resources.now in
-    let v = c.args.stacks.now.body in
-    let cx = body_context md v in
-    let hs = heads v.present.frames in
-    let d = c.args.relative_depth in
-    let laws = g.met.R.WasmModuleResources.lawful c.args.resources.now in
-    let label = label_there cx hs d c.in_ok-block_type.block_type c.in_ok-block_type.kind c.in_ok-block_type.ensures.found in
-    let ts = c.label_types-types.result.now in
-    let types = c.label_types-types.ensures cx refl ∙ sym label.1 in
-    let others = c.in_ok-others.others.now in
-    let last = c.in_ok-others.last in
-    let valid = label_valid md v d ts laws c.requires.valid types in
-    before_last_valid cx laws ts (others, last) valid c.in_ok-others.ensures.found
+check_plain-requires-clause-pushed g c = others_valid g (goal.at.check_plain-requires-clause-pushed g c).In_ok-others
 
 pub returns : goal.returns
 returns g c =
-    let md = g.R.WasmModuleResources.context c.args.resources.now in
-    let v = c.args.stacks.now.body in
-    let cx = body_context md v in
-    let hs = heads v.present.frames in
-    let d = c.args.relative_depth in
-    let label = label_there cx hs d c.in_ok-block_type.block_type c.in_ok-block_type.kind c.in_ok-block_type.ensures.found in
-    let ts = c.label_types-types.result.now in
-    let types = c.label_types-types.ensures cx refl ∙ sym label.1 in
-    let others = c.in_ok-others.others.now in
-    let last = c.in_ok-others.last in
-    let with = c.nullable.result in
-    let ends = ap last_reference (sym types) ∙ c.in_ok-others.ensures.found in
-    let u = c.pop_types.new.self.body in
-    let same = on_non_null_rest md v c.requires.open_frame d others last with label.0 ends c.nullable.ensures u c.in_ok-pop_types.ensures.passed in
-    meets_from md _ _ c.args.offset v u c.check_plain.new.stacks.body c.check_plain.result same c.pop_types.ensures.kept c.check_plain.ensures
+    meets_from _ _ _ _ _ _ _ _
+    (on_non_null_rest (g.R.WasmModuleResources.context c.args.resources.now) c.args.stacks.now.body c.requires.open_frame c.args.relative_depth _ _ c.nullable.result (has_the_label g (goal.at.returns g c).After-label_types-types) (ends_in_reference g (goal.at.returns g c).In_ok-others) c.nullable.ensures c.pop_types.new.self.body c.in_ok-pop_types.ensures.passed)
+    c.pop_types.ensures.kept c.check_plain.ensures

@@ -1,5 +1,5 @@
 use Rattle.std.proofs.Common.{rules, ◌≡◌, true, false, [], ◌∷◌, sym, ap, ◌∙◌, subst}
-use Rattle.validate_resources.specs.Context.{is_valid_heap}
+use Rattle.validate_resources.specs.Context.{ModuleContext, is_valid_heap}
 use Rattle.validate_types.specs.Refs.{reference}
 use Rattle.validate_types.specs.declared.heap.CoreTypeId.{CoreTypeId}
 use Rattle.validate_types.specs.declared.heap.HeapType.{HeapType}
@@ -13,40 +13,41 @@ use Rattle.validation_rules.proofs.Valid.{declared_valid}
 use Rattle.validate_stacks.specs.State.{body_context}
 use Rattle.validate_shapes.proofs.LookupRows.{meets_barred, meets_found}
 use Rattle.validate_shapes.proofs.HeapReferences.{not_made, made_is}
+use Rattle.validate_rows.proofs.references.check_ref_func.Given.{Over}
+use Rattle.validate_rows.proofs.references.check_ref_func.Goals.{After-function_heap-heap_type}
 use Rattle.validate_rows.proofs.references.check_ref_func.Goals as goal
+
+module _ (g : Over) (c : After-function_heap-heap_type g) where
+  abbrev md : ModuleContext
+  md = g.R.WasmModuleResources.context c.args.resources.now
+
+  heap_valid : is_valid_heap md c.function_heap-heap_type.result ≡ true
+  heap_valid =
+      let laws = g.met.R.WasmModuleResources.lawful c.args.resources.now in
+      let known = laws.functions c.args.function_index c.in-Some.id (sym c.type_id_of_function.ensures ∙ c.in-Some.is) in
+      subst (λ (h : HeapType). is_valid_heap md h ≡ true) (sym c.function_heap-heap_type.ensures) (declared_valid (body_context md c.args.stacks.now.body) laws _ (Id c.in-Some.id) known)
 
 pub returns-in_default : goal.returns-in_default
 returns-in_default g c =
-    let md = g.R.WasmModuleResources.context c.args.resources.now in
-    meets_barred md c.args.stacks.now.body (λ cx hs. ref_func_row cx c.args.function_index) c.args.offset _ (search rules) (search rules) (search rules) c.requires.valid
+    meets_barred _ _ (λ cx hs. ref_func_row cx c.args.function_index) _ _ (search rules) (search rules) (search rules) c.requires.valid
 
 pub returns-then-not-is_function_referenced : goal.returns-then-not-is_function_referenced
 returns-then-not-is_function_referenced g c =
-    let md = g.R.WasmModuleResources.context c.args.resources.now in
-    meets_barred md c.args.stacks.now.body (λ cx hs. ref_func_row cx c.args.function_index) c.args.offset _ (search rules) (search rules) (search rules) c.requires.valid
+    meets_barred _ _ (λ cx hs. ref_func_row cx c.args.function_index) _ _ (search rules) (search rules) (search rules) c.requires.valid
 
 pub unreachable-requires : goal.unreachable-requires
 unreachable-requires g c =
-    let md = g.R.WasmModuleResources.context c.args.resources.now in
-    let cx = body_context md c.args.stacks.now.body in
-    let laws = g.met.R.WasmModuleResources.lawful c.args.resources.now in
-    let known = laws.functions c.args.function_index c.in-Some.id (sym c.type_id_of_function.ensures ∙ c.in-Some.is) in
-    let valid = subst (λ (h : HeapType). is_valid_heap md h ≡ true) (sym c.function_heap-heap_type.ensures) (declared_valid cx laws _ (Id c.in-Some.id) known) in
-    not_made md c.function_heap-heap_type.result false valid (sym c.new-2.ensures ∙ c.in_default-new.is)
+    let at = (goal.at.unreachable-requires g c).After-function_heap-heap_type in
+    not_made (md g at) c.function_heap-heap_type.result false (heap_valid g at) (sym c.new-2.ensures ∙ c.in_default-new.is)
 
 pub returns : goal.returns
 returns g c =
-    let md = g.R.WasmModuleResources.context c.args.resources.now in
-    let v = c.args.stacks.now.body in
-    let cx = body_context md v in
+    let at = (goal.at.returns g c).After-function_heap-heap_type in
+    let cx = body_context (md g at) c.args.stacks.now.body in
     let f = c.args.function_index in
-    let laws = g.met.R.WasmModuleResources.lawful c.args.resources.now in
-    let known = laws.functions f c.in-Some.id (sym c.type_id_of_function.ensures ∙ c.in-Some.is) in
-    let valid = subst (λ (h : HeapType). is_valid_heap md h ≡ true) (sym c.function_heap-heap_type.ensures) (declared_valid cx laws _ (Id c.in-Some.id) known) in
     let ps = Ref (reference false (function_heap cx f (Id c.in-Some.id))) ∷ [] in
-    let found = ap (λ o. lookup_row o (λ (id : CoreTypeId). plain_row_if (md.is_referenced f) [] (Ref (reference false (function_heap cx f (Id id))) ∷ []))) (sym c.type_id_of_function.ensures ∙ c.in-Some.is) in
+    let found = ap (λ o. lookup_row o (λ (id : CoreTypeId). plain_row_if (cx.of_module.is_referenced f) [] (Ref (reference false (function_heap cx f (Id id))) ∷ []))) (sym c.type_id_of_function.ensures ∙ c.in-Some.is) in
     let referenced = ap (λ b. plain_row_if b [] ps) (sym c.is_function_referenced.ensures ∙ c.if-not-is_function_referenced.false) in
     let heap = ap (λ (h : HeapType). plain_row [] (Ref (reference false h) ∷ [])) (sym c.function_heap-heap_type.ensures) in
-    let made = ap (λ (r : RefType). plain_row [] (Ref r ∷ [])) (made_is md c.function_heap-heap_type.result false c.in-Some-new.ty valid (sym c.new-2.ensures ∙ c.in-Some-new.is)) in
-    let there = found ∙ (referenced ∙ (heap ∙ made)) in
-    meets_found md v (λ cx hs. ref_func_row cx f) c.args.offset (λ cx hs. plain_row [] (Ref c.in-Some-new.ty ∷ [])) _ _ there c.check_plain.ensures
+    let made = ap (λ (r : RefType). plain_row [] (Ref r ∷ [])) (made_is (md g at) c.function_heap-heap_type.result false c.in-Some-new.ty (heap_valid g at) (sym c.new-2.ensures ∙ c.in-Some-new.is)) in
+    meets_found (md g at) c.args.stacks.now.body (λ cx hs. ref_func_row cx f) c.args.offset (λ cx hs. plain_row [] (Ref c.in-Some-new.ty ∷ [])) _ _ (found ∙ (referenced ∙ (heap ∙ made))) c.check_plain.ensures

@@ -11,26 +11,21 @@ use Rattle.validate_rows.proofs.variables.check_local_set.Goals as goal
 
 pub returns-in_err-ty : goal.returns-in_err-ty
 returns-in_err-ty g c =
-    let md = g.R.WasmModuleResources.context c.args.resources.now in
-    let v = c.args.stacks.now.body in
-    let none = no_local_set md v c.args.local_index c.in_err-ty.ensures.missing in
-    meets_refused md _ c.args.offset v v _ (search rules) (search (rules, none)) (search rules) c.requires.valid refl
+    let none = no_local_set (g.R.WasmModuleResources.context c.args.resources.now) c.args.stacks.now.body c.args.local_index c.in_err-ty.ensures.missing in
+    meets_refused _ _ _ _ _ _ (search rules) (search (rules, none)) (search rules) c.requires.valid refl
 
 pub returns-in_err-pop_types : goal.returns-in_err-pop_types
 returns-in_err-pop_types g c =
     let md = g.R.WasmModuleResources.context c.args.resources.now in
     let v = c.args.stacks.now.body in
-    let t = c.in_ok-ty.ty in
-    let none : body_popped_each md (t ∷ []) v ≡ None → step_body md (λ cx. row_operator (local_set_row cx c.args.local_index)) v ≡ None =
-    λ n. local_set_is md v c.args.local_index t c.in_ok-ty.ensures.found c.requires.open_frame ∙ ap (option_map (λ u. body_with_local_set c.args.local_index u)) n in
-    meets_refused md _ c.args.offset v c.pop_types.new.self.body _ (search rules) (search (rules, none)) (search rules) c.pop_types.ensures.valid c.pop_types.ensures.kept
+    let none : body_popped_each md (c.in_ok-ty.ty ∷ []) v ≡ None → step_body md (λ cx. row_operator (local_set_row cx c.args.local_index)) v ≡ None =
+    λ n. local_set_is md v c.args.local_index c.in_ok-ty.ty c.in_ok-ty.ensures.found c.requires.open_frame ∙ ap (option_map (λ u. body_with_local_set c.args.local_index u)) n in
+    meets_refused _ _ _ _ _ _ (search rules) (search (rules, none)) (search rules) c.pop_types.ensures.valid c.pop_types.ensures.kept
 
 pub returns : goal.returns
 returns g c =
     let md = g.R.WasmModuleResources.context c.args.resources.now in
-    let v = c.args.stacks.now.body in
     let u = c.pop_types.new.self.body in
-    let t = c.in_ok-ty.ty in
-    let passes = local_set_is md v c.args.local_index t c.in_ok-ty.ensures.found c.requires.open_frame ∙ ap (option_map (λ u. body_with_local_set c.args.local_index u)) c.in_ok-pop_types.ensures.passed in
-    meets_last md _ c.args.offset v c.set_init.new.stacks.body (body_with_local_set c.args.local_index u) c.set_init.result (λ q. passes ∙ ap Some (sym q)) c.set_init.ensures.set c.set_init.ensures.memory c.set_init.ensures.offset
-    (c.set_init.ensures.valid md c.pop_types.ensures.valid) (kept_on v u c.set_init.new.stacks.body c.pop_types.ensures.kept c.set_init.ensures.kept)
+    let passes = local_set_is md c.args.stacks.now.body c.args.local_index c.in_ok-ty.ty c.in_ok-ty.ensures.found c.requires.open_frame ∙ ap (option_map (λ u. body_with_local_set c.args.local_index u)) c.in_ok-pop_types.ensures.passed in
+    meets_last _ _ _ _ _ (body_with_local_set c.args.local_index u) _ (λ q. passes ∙ ap Some (sym q)) c.set_init.ensures.set c.set_init.ensures.memory c.set_init.ensures.offset
+    (c.set_init.ensures.valid md c.pop_types.ensures.valid) (kept_on c.args.stacks.now.body u c.set_init.new.stacks.body c.pop_types.ensures.kept c.set_init.ensures.kept)

@@ -12,18 +12,14 @@ use Rattle.validate_rows_gc.proofs.casts.check_br_on_cast.Goals as goal
 
 pub returns-in_err-from : goal.returns-in_err-from
 returns-in_err-from g c =
-    let md = g.R.WasmModuleResources.context c.args.resources.now in
-    let v = c.args.stacks.now.body in
-    let cx = body_context md v in
-    let d = c.args.cast.relative_depth in
-    let none = λ (n : checked_cast cx c.args.cast ≡ None). ap (λ o. (lookup_row o (λ p. cast_branch_row cx (heads v.present.frames) d (types_on_cast p))).premise) n in
-    meets_barred md v (λ cx hs. br_on_cast_row cx hs c.args.cast) c.args.offset _ (search rules) (search (rules, none)) (search rules) c.requires.valid
+    let cx = body_context (g.R.WasmModuleResources.context c.args.resources.now) c.args.stacks.now.body in
+    let none = λ (n : checked_cast cx c.args.cast ≡ None). ap (λ o. (lookup_row o (λ p. cast_branch_row cx (heads c.args.stacks.now.body.present.frames) c.args.cast.relative_depth (types_on_cast p))).premise) n in
+    meets_barred _ _ (λ cx hs. br_on_cast_row cx hs c.args.cast) _ _ (search rules) (search (rules, none)) (search rules) c.requires.valid
 
 pub check_cast_branch-requires-clause-left : goal.check_cast_branch-requires-clause-left
 check_cast_branch-requires-clause-left g c =
     let md = g.R.WasmModuleResources.context c.args.resources.now in
-    let laws = g.met.R.WasmModuleResources.lawful c.args.resources.now in
-    subst (λ (r : RefType). Valid md (Ref r)) (sym c.difference.ensures) (difference_valid (body_context md c.args.stacks.now.body) laws c.in_ok-from.from c.in_ok-from.to c.in_ok-from.ensures.from)
+    subst (λ (r : RefType). Valid md (Ref r)) (sym c.difference.ensures) (difference_valid (body_context md c.args.stacks.now.body) (g.met.R.WasmModuleResources.lawful c.args.resources.now) c.in_ok-from.from c.in_ok-from.to c.in_ok-from.ensures.from)
 
 pub returns : goal.returns
 returns g c =
@@ -32,7 +28,6 @@ returns g c =
     let cx = body_context md v in
     let d = c.args.cast.relative_depth in
     let from = c.in_ok-from.from in
-    let to = c.in_ok-from.to in
     let found = ap (λ o. lookup_row o (λ p. cast_branch_row cx (heads v.present.frames) d (types_on_cast p))) c.in_ok-from.ensures.found in
-    let row = found ∙ ap (λ r. cast_branch_row cx (heads v.present.frames) d (record { from = from; carried = to; left = r })) (sym c.difference.ensures) in
-    meets_found md v (λ cx hs. br_on_cast_row cx hs c.args.cast) c.args.offset (λ cx hs. cast_branch_row cx hs d (record { from = from; carried = to; left = c.difference.result })) _ _ row c.check_cast_branch.ensures
+    let row = found ∙ ap (λ r. cast_branch_row cx (heads v.present.frames) d (record { from = from; carried = c.in_ok-from.to; left = r })) (sym c.difference.ensures) in
+    meets_found md v (λ cx hs. br_on_cast_row cx hs c.args.cast) c.args.offset (λ cx hs. cast_branch_row cx hs d (record { from = from; carried = c.in_ok-from.to; left = c.difference.result })) _ _ row c.check_cast_branch.ensures

@@ -18,51 +18,36 @@ use Rattle.validate_rows_gc.proofs.descriptors.check_ref_get_desc.Goals as goal
 
 pub returns-in_err-from : goal.returns-in_err-from
 returns-in_err-from g c =
-    let md = g.R.WasmModuleResources.context c.args.resources.now in
-    let v = c.args.stacks.now.body in
-    let none = untyped md v c.requires.open_frame c.args.type_index in
-    meets_barred md v (λ cx hs. ref_get_desc_row cx c.args.type_index) c.args.offset _ (search rules) (search (rules, none)) (search rules) c.requires.valid
+    let none = untyped (g.R.WasmModuleResources.context c.args.resources.now) c.args.stacks.now.body c.requires.open_frame c.args.type_index in
+    meets_barred _ _ (λ cx hs. ref_get_desc_row cx c.args.type_index) _ _ (search rules) (search (rules, none)) (search rules) c.requires.valid
 
 pub returns-in_err-exact : goal.returns-in_err-exact
 returns-in_err-exact g c =
-    let md = g.R.WasmModuleResources.context c.args.resources.now in
-    let v = c.args.stacks.now.body in
-    let none = not_exact md v c.requires.open_frame c.args.type_index in
-    meets_barred md v (λ cx hs. ref_get_desc_row cx c.args.type_index) c.args.offset _ (search rules) (search (rules, none)) (search rules) c.requires.valid
+    let none = not_exact (g.R.WasmModuleResources.context c.args.resources.now) c.args.stacks.now.body c.requires.open_frame c.args.type_index in
+    meets_barred _ _ (λ cx hs. ref_get_desc_row cx c.args.type_index) _ _ (search rules) (search (rules, none)) (search rules) c.requires.valid
 
 pub returns-in_err-found : goal.returns-in_err-found
 returns-in_err-found g c =
-    let md = g.R.WasmModuleResources.context c.args.resources.now in
-    let v = c.args.stacks.now.body in
-    let none = get_missing md v c.requires.open_frame c.args.type_index c.in_ok-from.from c.in_ok-exact.exact c.in_ok-from.ensures.found c.in_ok-exact.ensures.found in
-    meets_refused md _ c.args.offset v c.pop_of_type.new.stacks.body _ (search rules) (search (rules, none)) (search rules) c.pop_of_type.ensures.valid c.pop_of_type.ensures.kept
+    let none = get_missing (g.R.WasmModuleResources.context c.args.resources.now) c.args.stacks.now.body c.requires.open_frame c.args.type_index c.in_ok-from.from c.in_ok-exact.exact c.in_ok-from.ensures.found c.in_ok-exact.ensures.found in
+    meets_refused _ _ _ _ _ _ (search rules) (search (rules, none)) (search rules) c.pop_of_type.ensures.valid c.pop_of_type.ensures.kept
 
 pub returns-in_err-index : goal.returns-in_err-index
 returns-in_err-index g c =
-    let md = g.R.WasmModuleResources.context c.args.resources.now in
-    let v = c.args.stacks.now.body in
-    let none = undescribed md v c.requires.open_frame c.args.type_index (ap (option_and_then descriptor_of) c.in_err-index.ensures.unknown) in
-    meets_refused md _ c.args.offset v c.pop_of_type.new.stacks.body _ (search rules) (search (rules, none)) (search rules) c.pop_of_type.ensures.valid c.pop_of_type.ensures.kept
+    let none = undescribed (g.R.WasmModuleResources.context c.args.resources.now) c.args.stacks.now.body c.requires.open_frame c.args.type_index (ap (option_and_then descriptor_of) c.in_err-index.ensures.unknown) in
+    meets_refused _ _ _ _ _ _ (search rules) (search (rules, none)) (search rules) c.pop_of_type.ensures.valid c.pop_of_type.ensures.kept
 
 pub returns-in-None : goal.returns-in-None
 returns-in-None g c =
-    let md = g.R.WasmModuleResources.context c.args.resources.now in
-    let v = c.args.stacks.now.body in
-    let none = undescribed md v c.requires.open_frame c.args.type_index (c.in_ok-index.ensures.found ∙ c.in-None.is) in
-    meets_none md _ c.args.offset v c.pop_of_type.new.stacks.body _ tt none (search rules) c.pop_of_type.ensures.valid c.pop_of_type.ensures.kept
+    let none = undescribed (g.R.WasmModuleResources.context c.args.resources.now) c.args.stacks.now.body c.requires.open_frame c.args.type_index (c.in_ok-index.ensures.found ∙ c.in-None.is) in
+    meets_none _ _ _ _ _ _ tt none (search rules) c.pop_of_type.ensures.valid c.pop_of_type.ensures.kept
 
 pub returns-in-Some : goal.returns-in-Some
 returns-in-Some g c =
     let md = g.R.WasmModuleResources.context c.args.resources.now in
     let v = c.args.stacks.now.body in
     let u = c.pop_of_type.new.stacks.body in
-    let w = c.push_found.new.stacks.body in
-    let laws = g.met.R.WasmModuleResources.lawful c.args.resources.now in
-    let d = c.in-Some.descriptor in
-    let given = Known (Ref (non_null_reference c.declared_heap.result)) in
-    let heap = c.declared_heap.ensures ∙ ap₂ declared_heap c.is_found_exact-is_exact.ensures c.unpack.ensures in
-    let valid = subst (λ (h : HeapType). is_valid_heap md h ≡ true) (sym c.declared_heap.ensures) (declared_valid (body_context md v) laws _ _ (c.in_ok-index.ensures.valid _ (c.in-Some.is ∙ ap Some (sym c.unpack.ensures)))) in
-    let there = get_there md v c.requires.open_frame c.args.type_index c.in_ok-from.from c.in_ok-exact.exact c.in_ok-from.ensures.found c.in_ok-exact.ensures.found d c.in_ok-found.found (c.in_ok-index.ensures.found ∙ c.in-Some.is) c.in_ok-found.ensures.value c.in_ok-found.ensures.passed in
-    let passes = there ∙ ap₂ (λ (h : HeapType) (q : BodyState). Some (body_pushed (Known (Ref (non_null_reference h))) q)) (sym heap) (sym c.in_ok-found.ensures.popped) in
-    meets_last md _ c.args.offset v w (body_pushed given u) c.push_found.result (λ q. passes ∙ ap Some (sym q)) c.push_found.ensures.pushed c.push_found.ensures.memory c.push_found.ensures.offset
-    (c.push_found.ensures.valid md valid c.pop_of_type.ensures.valid) (kept_on v u w c.pop_of_type.ensures.kept c.push_found.ensures.kept)
+    let valid = subst (λ (h : HeapType). is_valid_heap md h ≡ true) (sym c.declared_heap.ensures) (declared_valid (body_context md v) (g.met.R.WasmModuleResources.lawful c.args.resources.now) _ _ (c.in_ok-index.ensures.valid _ (c.in-Some.is ∙ ap Some (sym c.unpack.ensures)))) in
+    let there = get_there md v c.requires.open_frame c.args.type_index c.in_ok-from.from c.in_ok-exact.exact c.in_ok-from.ensures.found c.in_ok-exact.ensures.found c.in-Some.descriptor c.in_ok-found.found (c.in_ok-index.ensures.found ∙ c.in-Some.is) c.in_ok-found.ensures.value c.in_ok-found.ensures.passed in
+    let passes = there ∙ ap₂ (λ (h : HeapType) (q : BodyState). Some (body_pushed (Known (Ref (non_null_reference h))) q)) (sym (c.declared_heap.ensures ∙ ap₂ declared_heap c.is_found_exact-is_exact.ensures c.unpack.ensures)) (sym c.in_ok-found.ensures.popped) in
+    meets_last _ _ _ _ _ (body_pushed (Known (Ref (non_null_reference c.declared_heap.result))) u) _ (λ q. passes ∙ ap Some (sym q)) c.push_found.ensures.pushed c.push_found.ensures.memory c.push_found.ensures.offset
+    (c.push_found.ensures.valid md valid c.pop_of_type.ensures.valid) (kept_on v u c.push_found.new.stacks.body c.pop_of_type.ensures.kept c.push_found.ensures.kept)

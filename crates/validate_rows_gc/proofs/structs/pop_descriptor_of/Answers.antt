@@ -14,15 +14,13 @@ use Rattle.validate_rows_gc.proofs.structs.pop_descriptor_of.Goals as goal
 pub returns-in-StructNewDesc-clause-passed : goal.returns-in-StructNewDesc-clause-passed
 returns-in-StructNewDesc-clause-passed g c =
     let md = g.R.WasmModuleResources.context c.args.resources.now in
-    let v = c.args.stacks.now.body in
     let u = c.pop_new_descriptor.new.stacks.body in
-    subst (λ (op : StructOp). OnOk c.pop_new_descriptor.result (step_body md (λ cx. row_operator (struct_row cx op)) v ≡ step_body md (λ cx. row_operator (row_under_descriptor cx op)) u)) (sym c.in-StructNewDesc.is)
-    (on_both c.pop_new_descriptor.result c.pop_new_descriptor.ensures.passed c.pop_new_descriptor.ensures.popped (λ found popped. made_rest md v c.requires.open_frame (λ fields. true) (unpacked_fields) c.in-StructNewDesc.index u found popped))
+    subst (λ (op : StructOp). OnOk c.pop_new_descriptor.result (step_body md (λ cx. row_operator (struct_row cx op)) c.args.stacks.now.body ≡ step_body md (λ cx. row_operator (row_under_descriptor cx op)) u)) (sym c.in-StructNewDesc.is)
+    (on_both c.pop_new_descriptor.result c.pop_new_descriptor.ensures.passed c.pop_new_descriptor.ensures.popped (λ found popped. made_rest md c.args.stacks.now.body c.requires.open_frame (λ fields. true) (unpacked_fields) c.in-StructNewDesc.index u found popped))
 
 pub returns-in-StructNewDesc-clause-visit : goal.returns-in-StructNewDesc-clause-visit
 returns-in-StructNewDesc-clause-visit g c =
-    let md = g.R.WasmModuleResources.context c.args.resources.now in
-    on_both c.pop_new_descriptor.result c.pop_new_descriptor.ensures.passed c.pop_new_descriptor.ensures.popped (λ found popped. visit_after md c.args.stacks.now c.pop_new_descriptor.new.stacks c.requires popped c.pop_new_descriptor.ensures.phase c.pop_new_descriptor.ensures.valid c.pop_new_descriptor.ensures.kept)
+    on_both c.pop_new_descriptor.result c.pop_new_descriptor.ensures.passed c.pop_new_descriptor.ensures.popped (λ found popped. visit_after (g.R.WasmModuleResources.context c.args.resources.now) c.args.stacks.now c.pop_new_descriptor.new.stacks c.requires popped c.pop_new_descriptor.ensures.phase c.pop_new_descriptor.ensures.valid c.pop_new_descriptor.ensures.kept)
 
 pub returns-in-StructNewDesc-clause-refused : goal.returns-in-StructNewDesc-clause-refused
 returns-in-StructNewDesc-clause-refused g c =
@@ -35,15 +33,13 @@ returns-in-StructNewDesc-clause-refused g c =
 pub returns-in-StructNewDefaultDesc-clause-passed : goal.returns-in-StructNewDefaultDesc-clause-passed
 returns-in-StructNewDefaultDesc-clause-passed g c =
     let md = g.R.WasmModuleResources.context c.args.resources.now in
-    let v = c.args.stacks.now.body in
     let u = c.pop_new_descriptor-in-StructNewDefaultDesc.new.stacks.body in
-    subst (λ (op : StructOp). OnOk c.pop_new_descriptor-in-StructNewDefaultDesc.result (step_body md (λ cx. row_operator (struct_row cx op)) v ≡ step_body md (λ cx. row_operator (row_under_descriptor cx op)) u)) (sym c.in-StructNewDefaultDesc.is)
-    (on_both c.pop_new_descriptor-in-StructNewDefaultDesc.result c.pop_new_descriptor-in-StructNewDefaultDesc.ensures.passed c.pop_new_descriptor-in-StructNewDefaultDesc.ensures.popped (λ found popped. made_rest md v c.requires.open_frame (have_defaults) (λ fields. []) c.in-StructNewDefaultDesc.index u found popped))
+    subst (λ (op : StructOp). OnOk c.pop_new_descriptor-in-StructNewDefaultDesc.result (step_body md (λ cx. row_operator (struct_row cx op)) c.args.stacks.now.body ≡ step_body md (λ cx. row_operator (row_under_descriptor cx op)) u)) (sym c.in-StructNewDefaultDesc.is)
+    (on_both c.pop_new_descriptor-in-StructNewDefaultDesc.result c.pop_new_descriptor-in-StructNewDefaultDesc.ensures.passed c.pop_new_descriptor-in-StructNewDefaultDesc.ensures.popped (λ found popped. made_rest md c.args.stacks.now.body c.requires.open_frame (have_defaults) (λ fields. []) c.in-StructNewDefaultDesc.index u found popped))
 
 pub returns-in-StructNewDefaultDesc-clause-visit : goal.returns-in-StructNewDefaultDesc-clause-visit
 returns-in-StructNewDefaultDesc-clause-visit g c =
-    let md = g.R.WasmModuleResources.context c.args.resources.now in
-    on_both c.pop_new_descriptor-in-StructNewDefaultDesc.result c.pop_new_descriptor-in-StructNewDefaultDesc.ensures.passed c.pop_new_descriptor-in-StructNewDefaultDesc.ensures.popped (λ found popped. visit_after md c.args.stacks.now c.pop_new_descriptor-in-StructNewDefaultDesc.new.stacks c.requires popped c.pop_new_descriptor-in-StructNewDefaultDesc.ensures.phase c.pop_new_descriptor-in-StructNewDefaultDesc.ensures.valid c.pop_new_descriptor-in-StructNewDefaultDesc.ensures.kept)
+    on_both c.pop_new_descriptor-in-StructNewDefaultDesc.result c.pop_new_descriptor-in-StructNewDefaultDesc.ensures.passed c.pop_new_descriptor-in-StructNewDefaultDesc.ensures.popped (λ found popped. visit_after (g.R.WasmModuleResources.context c.args.resources.now) c.args.stacks.now c.pop_new_descriptor-in-StructNewDefaultDesc.new.stacks c.requires popped c.pop_new_descriptor-in-StructNewDefaultDesc.ensures.phase c.pop_new_descriptor-in-StructNewDefaultDesc.ensures.valid c.pop_new_descriptor-in-StructNewDefaultDesc.ensures.kept)
 
 pub returns-in-StructNewDefaultDesc-clause-refused : goal.returns-in-StructNewDefaultDesc-clause-refused
 returns-in-StructNewDefaultDesc-clause-refused g c =

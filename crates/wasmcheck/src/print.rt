@@ -149,8 +149,18 @@ impl<'a, 'm> Report<'a, 'm> {
         Ok(())
     }
 
+    /// Prints how many types are equal to earlier ones, if there are some and each line is printed.
+    fn print_merged<W: Write>(&self, out: &mut W) -> io::Result<()> {
+        let merged = self.module.merged();
+        if self.detail == Detail::Each && merged > 0 {
+            writeln!(out, "{merged} types equal to earlier ones")?;
+        }
+        Ok(())
+    }
+
     /// Prints the last line, and answers the status.
     pub fn end<W: Write>(&self, out: &mut W) -> io::Result<u8> {
+        self.print_merged(out)?;
         self.counts.print(out)?;
         Ok(self.counts.status())
     }

@@ -4,14 +4,6 @@
 //! validator has failed, and everything is there at a second try; an attempt without memory leaves no trace, and is
 //! accepted when it comes again. `.ci/growths` refuses one request after the other.
 
-ghost use Rattle.std.specs.Prelude.{◌≡◌, ◌≤◌, true, false, [], length};
-ghost use Rattle.std.specs.List.{list_all};
-ghost use Rattle.validate_visit.specs.Immediates.{is_module_op};
-ghost use Rattle.validate_visit.specs.Order.{is_well_ordered_list};
-ghost use Rattle.validate_body.specs.Runs.{without_offsets};
-ghost use Rattle.validate_body.specs.Start.{state};
-ghost use Rattle.validate_stacks.specs.State.{IsStarting};
-
 use crate::answers::{parts_of, script_of};
 use crate::expectations::{expect, expect_error, expect_same, expect_text};
 use crate::lack::Lack;
@@ -19,14 +11,11 @@ use crate::setting::{HEAD, Setting};
 use crate::tables::GROUPS;
 use script_reader::{read_lists, read_script};
 use std::process::Abort;
-use validate_body::OperatorValidator;
-use validate_func::{FuncValidator, operands_before};
-use validate_resources::{ModuleLists, WasmModuleResources};
+use validate_func::FuncValidator;
+use validate_resources::WasmModuleResources;
 use validate_stacks::OperatorValidatorAllocations;
 use validate_types::{Error, ValType};
-use validate_visit::{
-    ControlOp, IntegerBinaryOp, IntegerType, NumericOp, Op, have_module_immediates, is_well_ordered,
-};
+use validate_visit::{ControlOp, IntegerBinaryOp, IntegerType, NumericOp, Op};
 
 const I64_CONST: Op<'static> = Op::Numeric(NumericOp::I64Const(5));
 
@@ -303,57 +292,4 @@ fn a_failed_one_refuses_whatever_comes(rt: HostRuntime) -> Result<(), Lack> {
     let v = setting.validator(OperatorValidatorAllocations::new(rt.alloc()))?;
     expect_refusals(&rt, &mut FuncValidator::new(rt.alloc(), v, &setting.lists));
     Ok(())
-}
-
-/// The types of the operands before operator `k` of a body that starts in this validator.
-fn expect_types_before(
-    rt: &(impl Abort + AllocGlobal),
-    v: &mut OperatorValidator,
-    lists: &ModuleLists,
-    ops: &[(Op<'_>, u64)],
-    k: usize,
-    wanted: &[Option<ValType>],
-) -> Result<(), Lack>
-    requires starting { IsStarting (⟦<ModuleLists as WasmModuleResources>⟧.context lists.now)
-        (state v.old) }
-    requires ordered { is_well_ordered_list (without_offsets ops.now) ≡ true }
-    requires immediates { list_all (λ (p : _). is_module_op p.0) ops.now ≡ true }
-    requires within { k ≤ length ops.now }
-{
-    match operands_before(rt.alloc(), v, ops, lists, k) {
-        Ok(types) => {
-            expect_same(rt, types.as_slice(), wanted);
-            Ok(())
-        }
-        Err((_, refusal)) => Err(Lack::from(refusal)),
-    }
-}
-
-/// The same of a new body of `[i32] -> [i32]`: two operands are added.
-fn expect_before(
-    rt: &(impl Abort + AllocGlobal),
-    setting: &Setting,
-    k: usize,
-    wanted: &[Option<ValType>],
-) -> Result<(), Lack>
-    requires { k ≤ 4 }
-{
-    let ops = [
-        (Op::Control(ControlOp::LocalGet(0)), 3),
-        (I32_CONST, 4),
-        (I32_ADD, 5),
-        (END, 6),
-    ];
-    expect(rt, is_well_ordered(&ops) && have_module_immediates(&ops));
-    let mut v = setting.validator(OperatorValidatorAllocations::new(rt.alloc()))?;
-    expect_types_before(rt, &mut v, &setting.lists, &ops, k, wanted)
-}
-
-#[test]
-fn operands_before_the_first_and_behind_the_last_operator(rt: HostRuntime) -> Result<(), Lack> {
-    let setting = Setting::read(&rt, "type func i32 -> i32\nfunc 0")?;
-    let i32 = Some(ValType::I32);
-    expect_before(&rt, &setting, 0, &[])?;
-    expect_before(&rt, &setting, 2, &[i32, i32])?;
-    expect_before(&rt, &setting, 4, &[i32])
 }

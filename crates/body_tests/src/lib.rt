@@ -1,7 +1,6 @@
 //! Tests of the calls about whole bodies, of what no script can show: validators as they are made, lists, and
 //! function validators. The library has what they share with the tests of single visits: what a body is checked in,
-//! and bodies with their answers. Expected values come from the standard and from
-//! upstream's texts.
+//! and bodies with their answers. Expected values come from the standard and from upstream's texts.
 #![tactic(auto)]
 
 mod answers;

@@ -10,14 +10,13 @@
 //! indices name each type. Where it is accepted, the types of operands that it shows are those that
 //! `operands_before` answers at each place. One without `feature` lines runs again as one list with every
 //! proposal on but custom descriptors, and answers the same. Last come scripts that are in no file: with
-//! odd bytes, computed, and over readers and writers that fail.
+//! odd bytes, and computed.
 #![tactic(auto)]
 
 mod attempts;
 mod bodies;
 mod cases;
 mod doubled;
-mod fakes;
 mod flags;
 mod left;
 mod odd;
@@ -33,7 +32,6 @@ mod undone;
 mod words;
 
 use crate::cases::{descriptors_of, run_cases};
-use crate::fakes::run_broken;
 use crate::odd::{run_many_elements, run_odd};
 use crate::report::Report;
 use crate::runs::{Outcome, run_script};
@@ -84,7 +82,6 @@ fn report_of_others(rt: &HostRuntime, once: bool) -> Option<Report> {
     let mut report = Report::new(rt.alloc(), once);
     run_odd(rt.alloc(), &mut report).ok()?;
     run_many_elements(rt.alloc(), &mut report).ok()?;
-    run_broken(rt.alloc(), &mut report).ok()?;
     Some(report)
 }
 

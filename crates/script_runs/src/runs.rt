@@ -31,7 +31,7 @@ pub enum Descriptors {
 }
 
 /// Compares both outputs and the status.
-pub fn compare_outcome(
+fn compare_outcome(
     report: &mut Report,
     script: &str,
     (printed, said, status): (&[u8], &[u8], u8),

@@ -112,7 +112,7 @@ fn compare_begun<R: WasmModuleResources>(
 }
 
 /// Compares what is printed at each of these accepted operators of a script with the types of the operands
-/// behind it.
+/// behind it; before the first there are none.
 fn compare_each<R: WasmModuleResources>(
     alloc: Global,
     report: &mut Report,
@@ -123,6 +123,12 @@ fn compare_each<R: WasmModuleResources>(
     (script, printed): (&str, &str),
 ) -> Result<(), fmt::Error> {
     let mut place: usize = 0;
+    let first = Shown {
+        script,
+        line: "[]",
+        place,
+    };
+    compare_begun(alloc, report, resources, features, begin, ops, first)?;
     for line in printed.lines() {
         if line.starts_with("ok ") {
             place = place.saturating_add(1);

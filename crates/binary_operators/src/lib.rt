@@ -15,7 +15,7 @@ mod types;
 
 pub use crate::blocks::read_value_types;
 pub use crate::lists::{OperatorLists, lend};
-pub use crate::operators::{read_operator, read_operators};
+pub use crate::operators::read_operator;
 pub use crate::types::{
     CanonicalTypes, GroupNames, read_ref_type, read_type_number, read_value_type,
 };

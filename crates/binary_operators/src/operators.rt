@@ -1,7 +1,5 @@
 //! Operators (WebAssembly core specification, "Binary Format: Instructions").
 
-ghost use Rattle.std.specs.Prelude.{◌≡◌, [], OnOk};
-
 use crate::atomics::read_atomic;
 use crate::control::{read_control, read_variable};
 use crate::garbage::read_garbage;
@@ -10,7 +8,7 @@ use crate::memory::read_access;
 use crate::numeric::numeric;
 use crate::prefixed::read_prefixed;
 use crate::types::CanonicalTypes;
-use binary_numbers::{BinaryReader, Fault, ReadError};
+use binary_numbers::{BinaryReader, ReadError};
 use validate_visit::Op;
 
 /// Reads one operator, the one at this index of its body. The list of one that has a list is read into the
@@ -41,40 +39,5 @@ pub fn read_operator(
         0xfd => Err(ReadError::vector_operator(offset)),
         0xfe => read_atomic(reader, canonical, offset),
         _ => read_control(reader, canonical, lists, index, code, offset),
-    }
-}
-
-/// Reads operators up to the end of the bytes, each with its offset, behind those that are there. It refuses
-/// what an operator's read refuses, and then those before it are there.
-pub fn read_operators<'a>(
-    reader: &mut BinaryReader<'_>,
-    canonical: CanonicalTypes<'_>,
-    lists: &mut OperatorLists,
-    ops: &mut Vec<(Op<'a>, u64)>,
-) -> Result<(), ReadError>
-    ensures { OnOk result (reader.new.left ≡ []) }
-{
-    for _ in 0..=reader.bytes_left() {
-        if reader.is_at_end() {
-            return Ok(());
-        }
-        read_next(reader, canonical, lists, ops)?;
-    }
-    Err(ReadError::malformed(Fault::UnexpectedEnd, reader.offset()))
-}
-
-/// Reads one operator behind those that are there.
-fn read_next<'a>(
-    reader: &mut BinaryReader<'_>,
-    canonical: CanonicalTypes<'_>,
-    lists: &mut OperatorLists,
-    ops: &mut Vec<(Op<'a>, u64)>,
-) -> Result<(), ReadError> {
-    let offset = reader.offset();
-    let index = ops.len();
-    let op = read_operator(reader, canonical, lists, index)?;
-    match ops.push((op, offset)) {
-        Ok(()) => Ok(()),
-        Err(_) => Err(ReadError::out_of_memory(offset)),
     }
 }

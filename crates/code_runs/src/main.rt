@@ -9,7 +9,7 @@ mod types;
 
 use crate::encode::write_operator;
 use binary_numbers::BinaryReader;
-use binary_operators::{CanonicalTypes, OperatorLists, lend, read_operators};
+use binary_operators::{CanonicalTypes, OperatorLists, lend, read_operator};
 use script_reader::{Script, read_lists, read_script};
 use std::alloc::{AllocError, Global};
 use std::process::ExitCode;
@@ -23,21 +23,19 @@ fn bytes_of(alloc: Global, op: Op<'_>) -> Result<Vec<u8>, AllocError> {
     Ok(bytes)
 }
 
-/// The bytes of the operators that these bytes are read as, or None where they aren't read.
+/// The bytes of the operator that these bytes are read as, or None where they aren't read as one.
 fn read_again(alloc: Global, bytes: &[u8]) -> Result<Option<Vec<u8>>, AllocError> {
     let mut lists = OperatorLists::new(alloc);
-    let mut ops = Vec::new(alloc);
     let mut reader = BinaryReader::new(bytes);
-    let canonical = CanonicalTypes::new(&[]);
-    if read_operators(&mut reader, canonical, &mut lists, &mut ops).is_err() {
+    let Ok(op) = read_operator(&mut reader, CanonicalTypes::new(&[]), &mut lists, 0) else {
+        return Ok(None);
+    };
+    if !reader.is_at_end() {
         return Ok(None);
     }
+    let mut ops = [(op, 0)];
     lend(&lists, &mut ops);
-    let mut again = Vec::new(alloc);
-    for pair in ops.iter() {
-        write_operator(&mut again, pair.0)?;
-    }
-    Ok(Some(again))
+    bytes_of(alloc, ops[0].0).map(Some)
 }
 
 /// Whether an operator is read as itself.

@@ -280,7 +280,6 @@ pub fn check_body<R: WasmModuleResources>(
         allocations,
     ) {
         Ok(mut v) => {
-            buffers.heights.clear();
             let verdict = check_list(
                 &mut v,
                 &mut buffers.heights,

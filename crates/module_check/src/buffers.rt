@@ -1,5 +1,7 @@
 //! What one body after another is checked in.
 
+ghost use Rattle.std.specs.Prelude.{◌≡◌, []};
+
 use std::alloc::Global;
 use std::mem;
 use validate_body::OperatorValidator;
@@ -23,8 +25,12 @@ impl BodyBuffers {
         }
     }
 
-    /// Takes the buffers for a validator; there are none until it gives them back.
-    pub(crate) fn take(&mut self) -> OperatorValidatorAllocations {
+    /// Takes the buffers for a validator; there are none until it gives them back. Of the body before no
+    /// heights are left.
+    pub(crate) fn take(&mut self) -> OperatorValidatorAllocations
+        ensures { self.new.heights.items ≡ [] }
+    {
+        self.heights.clear();
         let none = OperatorValidatorAllocations::new(self.allocations.allocator());
         mem::replace(&mut self.allocations, none)
     }

@@ -1,7 +1,9 @@
 //! What is read of a body, before it is checked.
 
-use binary_numbers::{BinaryReader, ReadError};
-use binary_operators::{CanonicalTypes, OperatorLists, lend, read_operators, read_value_type};
+ghost use Rattle.std.specs.Prelude.{◌≡◌, [], None, OnOk};
+
+use binary_numbers::{BinaryReader, Fault, ReadError};
+use binary_operators::{CanonicalTypes, OperatorLists, lend, read_operator, read_value_type};
 use std::alloc::Global;
 use validate_types::ValType;
 use validate_visit::Op;
@@ -66,6 +68,41 @@ fn read_locals(
     Ok(())
 }
 
+/// Reads operators up to the end of the bytes, each with its offset, behind those that are there. It refuses
+/// what an operator's read refuses, and then those before it are there.
+fn read_operators<'a>(
+    reader: &mut BinaryReader<'_>,
+    canonical: CanonicalTypes<'_>,
+    lists: &mut OperatorLists,
+    ops: &mut Vec<(Op<'a>, u64)>,
+) -> Result<(), ReadError>
+    ensures { OnOk result (reader.new.left ≡ []) }
+{
+    for _ in 0..=reader.bytes_left() {
+        if reader.is_at_end() {
+            return Ok(());
+        }
+        read_next(reader, canonical, lists, ops)?;
+    }
+    Err(ReadError::malformed(Fault::UnexpectedEnd, reader.offset()))
+}
+
+/// Reads one operator behind those that are there.
+fn read_next<'a>(
+    reader: &mut BinaryReader<'_>,
+    canonical: CanonicalTypes<'_>,
+    lists: &mut OperatorLists,
+    ops: &mut Vec<(Op<'a>, u64)>,
+) -> Result<(), ReadError> {
+    let offset = reader.offset();
+    let index = ops.len();
+    let op = read_operator(reader, canonical, lists, index)?;
+    match ops.push((op, offset)) {
+        Ok(()) => Ok(()),
+        Err(_) => Err(ReadError::out_of_memory(offset)),
+    }
+}
+
 /// Reads the locals and the operators of a body.
 fn read_both<'a>(
     reader: &mut BinaryReader<'_>,
@@ -73,7 +110,9 @@ fn read_both<'a>(
     locals: &mut Vec<LocalGroup>,
     lists: &mut OperatorLists,
     operators: &mut Vec<(Op<'a>, u64)>,
-) -> Result<(), ReadError> {
+) -> Result<(), ReadError>
+    ensures { OnOk result (reader.new.left ≡ []) }
+{
     read_locals(reader, canonical, locals)?;
     read_operators(reader, canonical, lists, operators)
 }
@@ -85,7 +124,9 @@ pub fn read_function<'a>(
     reader: &mut BinaryReader<'_>,
     canonical: CanonicalTypes<'_>,
     lists: &'a mut OperatorLists,
-) -> ReadBody<'a> {
+) -> ReadBody<'a>
+    ensures { result.failure ≡ None → reader.new.left ≡ [] }
+{
     let start = reader.offset();
     let mut locals = Vec::new(alloc);
     let mut operators = Vec::new(alloc);
@@ -107,7 +148,9 @@ pub fn read_expression<'a>(
     reader: &mut BinaryReader<'_>,
     canonical: CanonicalTypes<'_>,
     lists: &'a mut OperatorLists,
-) -> ReadBody<'a> {
+) -> ReadBody<'a>
+    ensures { result.failure ≡ None → reader.new.left ≡ [] }
+{
     let start = reader.offset();
     let mut operators = Vec::new(alloc);
     let read = read_operators(reader, canonical, lists, &mut operators);

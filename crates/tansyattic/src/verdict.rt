@@ -117,6 +117,17 @@ impl TansyatticVerdict {
         self.text_length = write_text(message.as_bytes(), text);
     }
 
+    /// Counts what isn't covered, at this offset, and tells it where nothing else is told.
+    fn note_not_covered(&mut self, item: Option<Item>, offset: u64, text: &mut [u8])
+        requires { IsTold (length text.old) self.old }
+        ensures { IsTold (length text.new) self.new }
+    {
+        self.not_covered = self.not_covered.saturating_add(1);
+        if self.status == ACCEPTED {
+            self.tell(NOT_COVERED, item, offset, "a vector operator", text);
+        }
+    }
+
     /// Counts a verdict, and tells it where it weighs more than what is told.
     pub fn note(&mut self, verdict: &Verdict, item: Option<Item>, text: &mut [u8])
         requires { IsTold (length text.old) self.old }
@@ -130,12 +141,7 @@ impl TansyatticVerdict {
                     self.tell(REFUSED, item, refusal.offset(), refusal.message(), text);
                 }
             }
-            Verdict::NotCovered(offset) => {
-                self.not_covered = self.not_covered.saturating_add(1);
-                if self.status == ACCEPTED {
-                    self.tell(NOT_COVERED, item, *offset, "a vector operator", text);
-                }
-            }
+            Verdict::NotCovered(offset) => self.note_not_covered(item, *offset, text),
             Verdict::OutOfMemory => {
                 if self.status != OUT_OF_MEMORY {
                     self.tell(OUT_OF_MEMORY, item, 0, "out of memory", text);

@@ -1,11 +1,11 @@
 //! Function validators: worked rows, and a body for each group of operators, each visited and each attempted.
 //!
-//! The bodies pass whichever request for memory is refused, one in a run: behind a visit without memory the
-//! validator has failed, and everything is there at a second try; an attempt without memory leaves no trace, and is
-//! accepted when it comes again. `.ci/growths` refuses one request after the other.
+//! The bodies pass whichever request for memory is refused, one in a run: behind a visit without memory everything is
+//! there at a second try in a new function; an attempt without memory is accepted when it comes again. `.ci/growths`
+//! refuses one request after the other. What a refusal leaves, the contracts say.
 
-use crate::answers::{parts_of, script_of};
-use crate::expectations::{expect, expect_error, expect_same, expect_text};
+use crate::answers::script_of;
+use crate::expectations::{expect, expect_error, expect_same};
 use crate::lack::Lack;
 use crate::setting::{HEAD, Setting};
 use crate::tables::GROUPS;
@@ -30,51 +30,6 @@ const DROP: Op<'static> = Op::Control(ControlOp::Drop);
 
 const END: Op<'static> = Op::Control(ControlOp::End);
 
-/// What can be seen of a function validator.
-fn seen<R: WasmModuleResources>(
-    rt: &impl AllocGlobal,
-    function: &FuncValidator<'_, '_, R>,
-) -> Result<String, Lack> {
-    let mut text = String::new(rt.alloc());
-    add_seen(&mut text, function)?;
-    Ok(text)
-}
-
-/// Adds how many operators were accepted, whether it has failed, the frames and the operands.
-fn add_seen<R: WasmModuleResources>(
-    text: &mut String,
-    function: &FuncValidator<'_, '_, R>,
-) -> Result<(), Lack> {
-    write!(
-        text,
-        "{} {}",
-        accepted_count(function),
-        function.is_failed()
-    )?;
-    for depth in 0..function.control_stack_height() {
-        write!(text, " {:?}", function.get_frame(depth))?;
-    }
-    for depth in 0..function.operand_stack_height() {
-        write!(text, " {:?}", function.peek_operand_at(depth))?;
-    }
-    Ok(())
-}
-
-/// How many operators were accepted.
-fn accepted_count<R: WasmModuleResources>(function: &FuncValidator<'_, '_, R>) -> usize {
-    function.accepted().len()
-}
-
-/// What can be seen of a function validator is what was seen before.
-fn expect_seen<R: WasmModuleResources>(
-    rt: &(impl Abort + AllocGlobal),
-    function: &FuncValidator<'_, '_, R>,
-    before: &str,
-) -> Result<(), Lack> {
-    expect_text(rt, &seen(rt, function)?, before, "an attempt");
-    Ok(())
-}
-
 /// Visits an operator, or attempts it, where a frame is open.
 fn answer<'a, R: WasmModuleResources>(
     rt: &impl Abort,
@@ -89,134 +44,67 @@ fn answer<'a, R: WasmModuleResources>(
     function.op(9, op)
 }
 
-/// Visits an operator. Where it is refused, here for want of memory, the validator has failed, and has accepted as
-/// many as before.
-fn visit<'a, R: WasmModuleResources>(
-    rt: &impl Abort,
-    function: &mut FuncValidator<'a, '_, R>,
-    op: Op<'a>,
-) -> Result<(), Lack> {
-    let accepted = accepted_count(function);
-    let answer = answer(rt, function, op, false);
-    if answer.is_err() {
-        expect_failed(rt, function, accepted);
-    }
-    Ok(answer?)
-}
-
-/// It has failed, and has accepted this many.
-fn expect_failed<R: WasmModuleResources>(
-    rt: &impl Abort,
-    function: &FuncValidator<'_, '_, R>,
-    accepted: usize,
-) {
-    expect(rt, function.is_failed());
-    expect_same(rt, accepted_count(function), accepted);
-}
-
-/// An attempt without memory leaves no trace, and comes again.
-fn attempt<'a, R: WasmModuleResources>(
-    rt: &(impl Abort + AllocGlobal),
-    function: &mut FuncValidator<'a, '_, R>,
-    op: Op<'a>,
-) -> Result<(), Lack> {
-    let before = seen(rt, function)?;
-    if answer(rt, function, op, true).is_ok() {
-        return Ok(());
-    }
-    expect_seen(rt, function, &before)?;
-    Ok(answer(rt, function, op, true)?)
-}
-
-/// Visits or attempts an operator, which is accepted and leaves this many operands and frames.
-fn expect_op<'a, R: WasmModuleResources>(
-    rt: &(impl Abort + AllocGlobal),
-    function: &mut FuncValidator<'a, '_, R>,
-    op: Op<'a>,
-    heights: &str,
-    attempted: bool,
-) -> Result<(), Lack> {
-    accept(rt, function, op, attempted)?;
-    expect_heights(rt, function, heights)
-}
-
-/// Visits or attempts an operator, which is accepted.
+/// Visits an operator, or attempts it, and once more where that was refused.
 fn accept<'a, R: WasmModuleResources>(
-    rt: &(impl Abort + AllocGlobal),
+    rt: &impl Abort,
     function: &mut FuncValidator<'a, '_, R>,
     op: Op<'a>,
     attempted: bool,
-) -> Result<(), Lack> {
-    if attempted {
-        attempt(rt, function, op)
-    } else {
-        visit(rt, function, op)
+) -> Result<(), Error> {
+    let first = answer(rt, function, op, attempted);
+    if attempted && first.is_err() {
+        return answer(rt, function, op, attempted);
     }
+    first
 }
 
-/// There are this many operands and frames.
-fn expect_heights<R: WasmModuleResources>(
-    rt: &(impl Abort + AllocGlobal),
-    function: &FuncValidator<'_, '_, R>,
-    heights: &str,
-) -> Result<(), Lack> {
-    let operands = function.operand_stack_height();
-    let frames = function.control_stack_height();
-    let left = format!(in rt.alloc(); "{operands} {frames}")?;
-    expect_text(rt, &left, heights, heights);
-    Ok(())
-}
-
-/// The same of the operators of a body.
-fn expect_ops<'a, R: WasmModuleResources>(
-    rt: &(impl Abort + AllocGlobal),
+/// The operators of a body, which are accepted.
+fn accept_each<'a, R: WasmModuleResources>(
+    rt: &impl Abort,
     function: &mut FuncValidator<'a, '_, R>,
     ops: &[(Op<'a>, u64)],
-    lines: &str,
     attempted: bool,
-) -> Result<(), Lack> {
-    for (pair, line) in ops.iter().zip(lines.lines()) {
-        let (_, heights) = parts_of(line);
-        expect_op(rt, function, pair.0, heights, attempted)?;
+) -> Result<(), Error> {
+    for pair in ops {
+        accept(rt, function, pair.0, attempted)?;
     }
     Ok(())
 }
 
-/// The operators of a body, in a function of this setting.
-fn expect_in(
+/// The same in a new function of this setting.
+fn accept_in(
     rt: &(impl Abort + AllocGlobal),
     setting: &Setting,
     ops: &[(Op<'_>, u64)],
-    lines: &str,
     attempted: bool,
-) -> Result<(), Lack> {
+) -> Result<(), Error> {
     let v = setting.validator(OperatorValidatorAllocations::new(rt.alloc()))?;
     let mut function = FuncValidator::new(rt.alloc(), v, &setting.lists);
-    let answer = expect_ops(rt, &mut function, ops, lines, attempted);
+    let answer = accept_each(rt, &mut function, ops, attempted);
     function.into_allocations();
     answer
 }
 
 /// The operators of a script, visited and attempted.
-fn expect_script(
+fn accept_script(
     rt: &(impl Abort + AllocGlobal),
     setting: &Setting,
     script: &str,
-    lines: &str,
 ) -> Result<(), Lack> {
     let lists = read_lists(rt.alloc(), script)?;
     let Ok(read) = read_script(rt.alloc(), &lists, script) else {
         return Err(Lack("lines that are no script"));
     };
-    expect_in(rt, setting, &read.operators.ops, lines, false)?;
-    expect_in(rt, setting, &read.operators.ops, lines, true)
+    accept_in(rt, setting, &read.operators.ops, false)?;
+    accept_in(rt, setting, &read.operators.ops, true)?;
+    Ok(())
 }
 
 /// A body of a table, visited and attempted.
-fn expect_body(rt: &(impl Abort + AllocGlobal), body: &str) -> Result<(), Lack> {
+fn accept_body(rt: &(impl Abort + AllocGlobal), body: &str) -> Result<(), Lack> {
     let (head, lines) = body.split_once("\n--\n").unwrap_or((HEAD, body));
     let setting = Setting::read(rt, head)?;
-    expect_script(rt, &setting, &script_of(rt, head, lines)?, lines)
+    accept_script(rt, &setting, &script_of(rt, head, lines)?)
 }
 
 #[test]
@@ -224,8 +112,8 @@ fn groups_of_operators_in_functions_whichever_request_is_refused(
     rt: HostRuntime,
 ) -> Result<(), Lack> {
     for body in GROUPS.split("\n\n") {
-        if expect_body(&rt, body).is_err() {
-            expect_body(&rt, body)?;
+        if accept_body(&rt, body).is_err() {
+            accept_body(&rt, body)?;
         }
     }
     Ok(())
@@ -247,17 +135,17 @@ fn expect_refused_attempt<R: WasmModuleResources>(
     rt: &impl Abort,
     function: &mut FuncValidator<'static, '_, R>,
 ) -> Result<(), Lack> {
-    visit(rt, function, I64_CONST)?;
-    visit(rt, function, I32_CONST)?;
+    accept(rt, function, I64_CONST, false)?;
+    accept(rt, function, I32_CONST, false)?;
     let text = "type mismatch: expected i32, found i64";
     expect_refused(rt, function, I32_ADD, true, text);
     expect_same(rt, function.peek_operand_at(0), Some(Some(ValType::I32)));
     expect_same(rt, function.peek_operand_at(1), Some(Some(ValType::I64)));
-    visit(rt, function, DROP)?;
-    visit(rt, function, DROP)?;
-    visit(rt, function, END)?;
+    accept(rt, function, DROP, false)?;
+    accept(rt, function, DROP, false)?;
+    accept(rt, function, END, false)?;
     function.finish(9)?;
-    expect_same(rt, accepted_count(function), 5);
+    expect_same(rt, function.accepted().len(), 5);
     Ok(())
 }
 
@@ -283,7 +171,7 @@ fn expect_refusals<R: WasmModuleResources>(
         expect_refused(rt, function, I32_CONST, attempted, failed);
     }
     expect_error(rt, function.finish(9).err(), failed, 9);
-    expect_same(rt, accepted_count(function), 0);
+    expect_same(rt, function.accepted().len(), 0);
 }
 
 #[test]

@@ -1,4 +1,4 @@
-//! Function validators: worked rows, and a body for each group of operators, each visited and each attempted.
+//! Function validators: one that has failed, and a body for each group of operators, each visited and each attempted.
 //!
 //! The bodies pass whichever request for memory is refused, one in a run: behind a visit without memory everything is
 //! there at a second try in a new function; an attempt without memory is accepted when it comes again. `.ci/growths`
@@ -14,10 +14,8 @@ use std::process::Abort;
 use validate_func::FuncValidator;
 use validate_resources::WasmModuleResources;
 use validate_stacks::OperatorValidatorAllocations;
-use validate_types::{Error, ValType};
-use validate_visit::{ControlOp, IntegerBinaryOp, IntegerType, NumericOp, Op};
-
-const I64_CONST: Op<'static> = Op::Numeric(NumericOp::I64Const(5));
+use validate_types::Error;
+use validate_visit::{IntegerBinaryOp, IntegerType, NumericOp, Op};
 
 const I32_CONST: Op<'static> = Op::Numeric(NumericOp::I32Const(7));
 
@@ -25,10 +23,6 @@ const I32_ADD: Op<'static> = Op::Numeric(NumericOp::IntegerBinary(
     IntegerType::I32,
     IntegerBinaryOp::Add,
 ));
-
-const DROP: Op<'static> = Op::Control(ControlOp::Drop);
-
-const END: Op<'static> = Op::Control(ControlOp::End);
 
 /// Visits an operator, or attempts it, where a frame is open.
 fn answer<'a, R: WasmModuleResources>(
@@ -128,32 +122,6 @@ fn expect_refused<R: WasmModuleResources>(
     text: &str,
 ) {
     expect_error(rt, answer(rt, function, op, attempted).err(), text, 9);
-}
-
-/// `i64.const`, `i32.const`, then an `i32.add` that is refused and leaves no trace, `drop`, `drop`, `end`.
-fn expect_refused_attempt<R: WasmModuleResources>(
-    rt: &impl Abort,
-    function: &mut FuncValidator<'static, '_, R>,
-) -> Result<(), Lack> {
-    accept(rt, function, I64_CONST, false)?;
-    accept(rt, function, I32_CONST, false)?;
-    let text = "type mismatch: expected i32, found i64";
-    expect_refused(rt, function, I32_ADD, true, text);
-    expect_same(rt, function.peek_operand_at(0), Some(Some(ValType::I32)));
-    expect_same(rt, function.peek_operand_at(1), Some(Some(ValType::I64)));
-    accept(rt, function, DROP, false)?;
-    accept(rt, function, DROP, false)?;
-    accept(rt, function, END, false)?;
-    function.finish(9)?;
-    expect_same(rt, function.accepted().len(), 5);
-    Ok(())
-}
-
-#[test]
-fn a_refused_attempt_is_not_among_the_accepted(rt: HostRuntime) -> Result<(), Lack> {
-    let setting = Setting::read(&rt, HEAD)?;
-    let v = setting.validator(OperatorValidatorAllocations::new(rt.alloc()))?;
-    expect_refused_attempt(&rt, &mut FuncValidator::new(rt.alloc(), v, &setting.lists))
 }
 
 /// Has a frame open at first; and has failed behind a refused visit.

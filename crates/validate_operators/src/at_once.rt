@@ -1,6 +1,10 @@
 //! Operators that pass at once: no attempt is pending, and no memory is wanted.
 
 ghost use Rattle.validate_visit.specs.declared.op.Op.{Op};
+ghost use Rattle.validate_visit.specs.declared.op.ControlOp.{ControlOp};
+ghost use Rattle.std.specs.Prelude.{◌≡◌, true};
+ghost use Rattle.validate_types.specs.declared.gate.Gate.TheVariants.{Mvp};
+ghost use Rattle.validate_visit.specs.Gates.{control_gate};
 ghost use Rattle.validation_rules.specs.Operators.{operator, control_operator};
 ghost use Rattle.validate_stacks.specs.AtOnce.{MeetsAtOnce};
 ghost use Rattle.validate_stacks.specs.Visits.{MayVisit};
@@ -17,7 +21,7 @@ use validate_rows::variables::{local_get_at_once, local_set_at_once, local_tee_a
 use validate_shapes::blocks::opener_at_once;
 use validate_stacks::Stacks;
 use validate_types::ValType;
-use validate_visit::{ControlOp, ConvertOp, FrameKind, MemoryOp, NumericOp, Op};
+use validate_visit::{BlockType, BrTable, ControlOp, ConvertOp, FrameKind, MemoryOp, NumericOp, Op};
 
 /// An operator on numbers, behind its gate.
 #[inline(always)]
@@ -53,88 +57,131 @@ fn gated_convert_at_once<R: WasmModuleResources>(
     convert_at_once(stacks, resources, op)
 }
 
-/// An operator on control, locals or globals, its gate aside.
+/// `block`, its gate aside.
+#[inline(never)]
+fn block_at_once<R: WasmModuleResources>(stacks: &mut Stacks, resources: &R, ty: &BlockType) -> bool
+    requires { MayVisit (R.context resources.now) stacks.old }
+    ensures { MeetsAtOnce (R.context resources.now) (λ cx. control_operator cx (ControlOp.Block ty.now))
+        stacks.old result stacks.new }
+{
+    opener_at_once(stacks, resources, FrameKind::Block, None, *ty)
+}
+
+/// `loop`, its gate aside.
+#[inline(never)]
+fn loop_at_once<R: WasmModuleResources>(stacks: &mut Stacks, resources: &R, ty: &BlockType) -> bool
+    requires { MayVisit (R.context resources.now) stacks.old }
+    ensures { MeetsAtOnce (R.context resources.now) (λ cx. control_operator cx (ControlOp.Loop ty.now))
+        stacks.old result stacks.new }
+{
+    opener_at_once(stacks, resources, FrameKind::Loop, None, *ty)
+}
+
+/// `if`, its gate aside.
+#[inline(never)]
+fn if_at_once<R: WasmModuleResources>(stacks: &mut Stacks, resources: &R, ty: &BlockType) -> bool
+    requires { MayVisit (R.context resources.now) stacks.old }
+    ensures { MeetsAtOnce (R.context resources.now) (λ cx. control_operator cx (ControlOp.If ty.now))
+        stacks.old result stacks.new }
+{
+    opener_at_once(stacks, resources, FrameKind::If, Some(ValType::I32), *ty)
+}
+
+/// `br_table`, its gate aside.
+#[inline(never)]
+fn table_at_once<R: WasmModuleResources>(
+    stacks: &mut Stacks,
+    resources: &R,
+    table: &BrTable<'_>,
+) -> bool
+    requires { MayVisit (R.context resources.now) stacks.old }
+    ensures { MeetsAtOnce (R.context resources.now)
+        (λ cx. control_operator cx (ControlOp.BrTable table.now)) stacks.old result stacks.new }
+{
+    br_table_at_once(stacks, resources, *table)
+}
+
+/// An operator on control, locals or globals, its gate aside. Those on locals stand here, the others are called. None
+/// that passes at once has a gate.
 #[inline(always)]
 fn control_at_once<R: WasmModuleResources>(
     stacks: &mut Stacks,
     resources: &R,
-    op: ControlOp,
+    op: &ControlOp,
 ) -> bool
     requires { MayVisit (R.context resources.now) stacks.old }
-    ensures { MeetsAtOnce (R.context resources.now) (λ cx. control_operator cx op.entry) stacks.old result
+    ensures row { MeetsAtOnce (R.context resources.now) (λ cx. control_operator cx op.now) stacks.old result
         stacks.new }
+    ensures gate { result ≡ true → control_gate op.now ≡ Mvp }
 {
     match op {
         ControlOp::Unreachable => unreachable_at_once(stacks, resources),
         ControlOp::Nop => nop_at_once(stacks, resources),
-        ControlOp::Block(ty) => { opener_at_once(stacks, resources, FrameKind::Block, None, ty) }
-        ControlOp::Loop(ty) => opener_at_once(stacks, resources, FrameKind::Loop, None, ty),
-        ControlOp::If(ty) => {
-            opener_at_once(stacks, resources, FrameKind::If, Some(ValType::I32), ty)
-        }
+        ControlOp::Block(ty) => block_at_once(stacks, resources, ty),
+        ControlOp::Loop(ty) => loop_at_once(stacks, resources, ty),
+        ControlOp::If(ty) => if_at_once(stacks, resources, ty),
         ControlOp::Else => else_at_once(stacks, resources),
         ControlOp::End => end_at_once(stacks, resources),
-        ControlOp::Br(relative_depth) => br_at_once(stacks, resources, relative_depth),
-        ControlOp::BrIf(relative_depth) => br_if_at_once(stacks, resources, relative_depth),
-        ControlOp::BrTable(table) => br_table_at_once(stacks, resources, table),
+        ControlOp::Br(relative_depth) => br_at_once(stacks, resources, *relative_depth),
+        ControlOp::BrIf(relative_depth) => br_if_at_once(stacks, resources, *relative_depth),
+        ControlOp::BrTable(table) => table_at_once(stacks, resources, table),
         ControlOp::Return => return_at_once(stacks, resources),
-        ControlOp::Call(function_index) => call_at_once(stacks, resources, function_index),
+        ControlOp::Call(function_index) => call_at_once(stacks, resources, *function_index),
         ControlOp::Drop => drop_at_once(stacks, resources),
         ControlOp::Select => select_at_once(stacks, resources),
-        ControlOp::LocalGet(local_index) => local_get_at_once(stacks, resources, local_index),
-        ControlOp::LocalSet(local_index) => local_set_at_once(stacks, resources, local_index),
-        ControlOp::LocalTee(local_index) => local_tee_at_once(stacks, resources, local_index),
-        ControlOp::GlobalGet(global_index) => global_get_at_once(stacks, resources, global_index),
-        ControlOp::GlobalSet(global_index) => global_set_at_once(stacks, resources, global_index),
+        ControlOp::LocalGet(local_index) => local_get_at_once(stacks, resources, *local_index),
+        ControlOp::LocalSet(local_index) => local_set_at_once(stacks, resources, *local_index),
+        ControlOp::LocalTee(local_index) => local_tee_at_once(stacks, resources, *local_index),
+        ControlOp::GlobalGet(global_index) => global_get_at_once(stacks, resources, *global_index),
+        ControlOp::GlobalSet(global_index) => global_set_at_once(stacks, resources, *global_index),
         _ => false,
     }
 }
 
-/// An operator on control, locals or globals, behind its gate.
+/// An operator on control, locals or globals.
 #[inline(always)]
 fn gated_control_at_once<R: WasmModuleResources>(
     stacks: &mut Stacks,
     resources: &R,
-    op: ControlOp,
+    op: &ControlOp,
 ) -> bool
     requires { MayVisit (R.context resources.now) stacks.old }
-    ensures { MeetsAtOnce (R.context resources.now) (λ cx. operator cx (Op.Control op.entry)) stacks.old
+    ensures { MeetsAtOnce (R.context resources.now) (λ cx. operator cx (Op.Control op.now)) stacks.old
         result stacks.new }
 {
-    if !op.gate().is_open(stacks.features()) {
-        return false;
-    }
     control_at_once(stacks, resources, op)
 }
 
 /// A load or a store of a memory, behind its gate.
-#[inline(always)]
+#[inline(never)]
 fn gated_memory_at_once<R: WasmModuleResources>(
     stacks: &mut Stacks,
     resources: &R,
-    op: MemoryOp,
+    op: &MemoryOp,
 ) -> bool
     requires { MayVisit (R.context resources.now) stacks.old }
-    ensures { MeetsAtOnce (R.context resources.now) (λ cx. operator cx (Op.Memory op)) stacks.old result
+    ensures { MeetsAtOnce (R.context resources.now) (λ cx. operator cx (Op.Memory op.now)) stacks.old result
         stacks.new }
 {
     if !op.gate().is_open(stacks.features()) {
         return false;
     }
-    memory_at_once(stacks, resources, op)
+    memory_at_once(stacks, resources, *op)
 }
 
 /// The check of an operator, where it passes at once, as most do. False, with nothing changed, where it takes its check:
 /// an attempt is pending, memory is wanted, the operator has no form at once, or it is refused.
-#[inline(always)]
+///
+/// Operators on numbers and locals stand in it, the others are called: so it is short, and saves no registers for them.
+#[inline(never)]
 pub fn operator_at_once<R: WasmModuleResources>(stacks: &mut Stacks, resources: &R, op: &Op) -> bool
     requires { MayVisit (R.context resources.now) stacks.old }
     ensures { MeetsAtOnce (R.context resources.now) (λ cx. operator cx op.now) stacks.old result stacks.new }
 {
-    match *op {
+    match op {
         Op::Control(op) => gated_control_at_once(stacks, resources, op),
-        Op::Numeric(op) => gated_numeric_at_once(stacks, resources, op),
-        Op::Convert(op) => gated_convert_at_once(stacks, resources, op),
+        Op::Numeric(op) => gated_numeric_at_once(stacks, resources, *op),
+        Op::Convert(op) => gated_convert_at_once(stacks, resources, *op),
         Op::Memory(op) => gated_memory_at_once(stacks, resources, op),
         _ => false,
     }

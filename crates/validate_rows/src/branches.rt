@@ -86,7 +86,7 @@ pub fn check_return<R: WasmModuleResources>(
 }
 
 /// [`check_br`], where it passes at once. False, with nothing changed, where it doesn't.
-#[inline(always)]
+#[inline(never)]
 pub fn br_at_once<R: WasmModuleResources>(
     stacks: &mut Stacks,
     resources: &R,
@@ -106,7 +106,7 @@ pub fn br_at_once<R: WasmModuleResources>(
 
 /// [`check_br_if`], where it passes at once and the label has one type at most. False, with nothing changed,
 /// where it doesn't.
-#[inline(always)]
+#[inline(never)]
 pub fn br_if_at_once<R: WasmModuleResources>(
     stacks: &mut Stacks,
     resources: &R,
@@ -130,7 +130,7 @@ pub fn br_if_at_once<R: WasmModuleResources>(
 }
 
 /// [`check_return`], where it passes at once. False, with nothing changed, where it doesn't.
-#[inline(always)]
+#[inline(never)]
 pub fn return_at_once<R: WasmModuleResources>(stacks: &mut Stacks, resources: &R) -> bool
     requires { MayVisit (R.context resources.now) stacks.old }
     ensures { MeetsAtOnce (R.context resources.now) (λ cx. staying_operator (λ hs. return_row cx hs))

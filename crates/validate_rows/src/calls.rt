@@ -39,7 +39,7 @@ pub fn check_call<R: WasmModuleResources>(
 }
 
 /// [`check_call`], where it passes at once. False, with nothing changed, where it doesn't.
-#[inline(always)]
+#[inline(never)]
 pub fn call_at_once<R: WasmModuleResources>(
     stacks: &mut Stacks,
     resources: &R,

@@ -70,7 +70,7 @@ pub fn check_unreachable<R: WasmModuleResources>(
 }
 
 /// [`check_unreachable`], where no attempt is pending. False, with nothing changed, where one is.
-#[inline(always)]
+#[inline(never)]
 pub fn unreachable_at_once<R: WasmModuleResources>(stacks: &mut Stacks, resources: &R) -> bool
     requires { MayVisit (R.context resources.now) stacks.old }
     ensures { MeetsAtOnce (R.context resources.now) (λ cx. row_operator (ending_row [])) stacks.old result
@@ -99,7 +99,7 @@ pub fn check_else<R: WasmModuleResources>(
 }
 
 /// [`check_else`], where it passes at once: the `if` has no parameters. False, with nothing changed, where it doesn't.
-#[inline(always)]
+#[inline(never)]
 pub fn else_at_once<R: WasmModuleResources>(stacks: &mut Stacks, resources: &R) -> bool
     requires { MayVisit (R.context resources.now) stacks.old }
     ensures { MeetsAtOnce (R.context resources.now) (λ cx. delimiter_operator BeginsElse) stacks.old result
@@ -137,7 +137,7 @@ pub fn check_end<R: WasmModuleResources>(
 
 /// [`check_end`], where it passes at once: the frame has one result at most, and none where it is the first part of an
 /// `if`. False, with nothing changed, where it doesn't.
-#[inline(always)]
+#[inline(never)]
 pub fn end_at_once<R: WasmModuleResources>(stacks: &mut Stacks, resources: &R) -> bool
     requires { MayVisit (R.context resources.now) stacks.old }
     ensures { MeetsAtOnce (R.context resources.now) (λ cx. delimiter_operator Ends) stacks.old result stacks.new }

@@ -50,7 +50,7 @@ pub fn check_global_set<R: WasmModuleResources>(
 }
 
 /// [`check_global_get`], where it passes at once. False, with nothing changed, where it doesn't.
-#[inline(always)]
+#[inline(never)]
 pub fn global_get_at_once<R: WasmModuleResources>(
     stacks: &mut Stacks,
     resources: &R,
@@ -67,7 +67,7 @@ pub fn global_get_at_once<R: WasmModuleResources>(
 }
 
 /// [`check_global_set`], where it passes at once. False, with nothing changed, where it doesn't.
-#[inline(always)]
+#[inline(never)]
 pub fn global_set_at_once<R: WasmModuleResources>(
     stacks: &mut Stacks,
     resources: &R,

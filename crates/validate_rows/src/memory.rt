@@ -15,7 +15,7 @@ use validate_shapes::accesses::{AccessKind, accessed_address_type, check_memarg}
 use validate_shapes::memories::{check_data_segment, check_memory_index, narrower_of};
 use validate_shapes::numbers::{number, packed};
 use validate_shapes::operands::{Few, Operands, check_operands};
-use validate_shapes::plain::plain_at_once;
+use validate_shapes::plain::{taken_at_once, unary_at_once};
 use validate_stacks::Stacks;
 use validate_types::{Error, ValType};
 use validate_visit::{MemArg, MemArgTarget, MemoryOp};
@@ -218,7 +218,7 @@ fn load_at_once<R: WasmModuleResources>(
         return false;
     };
     match accessed_address_type(resources, memarg, memory_index) {
-        Some(address) => plain_at_once(stacks, resources, &[address], &[ty]),
+        Some(address) => unary_at_once(stacks, resources, address, ty),
         None => false,
     }
 }
@@ -240,7 +240,7 @@ fn store_at_once<R: WasmModuleResources>(
         return false;
     };
     match accessed_address_type(resources, memarg, memory_index) {
-        Some(address) => plain_at_once(stacks, resources, &[address, ty], &[]),
+        Some(address) => taken_at_once(stacks, resources, address, ty),
         None => false,
     }
 }

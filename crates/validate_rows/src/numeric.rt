@@ -8,7 +8,7 @@ ghost use Rattle.validate_stacks.specs.Visits.{MayVisit, Meets};
 
 use validate_resources::WasmModuleResources;
 use validate_shapes::numbers::{float, integer, number, once, packed, twice};
-use validate_shapes::plain::{check_plain, plain_at_once};
+use validate_shapes::plain::{binary_at_once, check_plain, constant_at_once, unary_at_once};
 use validate_stacks::Stacks;
 use validate_types::{Error, ValType};
 use validate_visit::{ConvertOp, NumericOp};
@@ -172,34 +172,34 @@ pub fn numeric_at_once<R: WasmModuleResources>(
         stacks.new }
 {
     match op {
-        NumericOp::I32Const(_) => plain_at_once(stacks, resources, &[], &[ValType::I32]),
-        NumericOp::I64Const(_) => plain_at_once(stacks, resources, &[], &[ValType::I64]),
-        NumericOp::F32Const(_) => plain_at_once(stacks, resources, &[], &[ValType::F32]),
-        NumericOp::F64Const(_) => plain_at_once(stacks, resources, &[], &[ValType::F64]),
-        NumericOp::Eqz(ty) => { plain_at_once(stacks, resources, &[integer(ty)], &[ValType::I32]) }
+        NumericOp::I32Const(_) => constant_at_once(stacks, resources, ValType::I32),
+        NumericOp::I64Const(_) => constant_at_once(stacks, resources, ValType::I64),
+        NumericOp::F32Const(_) => constant_at_once(stacks, resources, ValType::F32),
+        NumericOp::F64Const(_) => constant_at_once(stacks, resources, ValType::F64),
+        NumericOp::Eqz(ty) => { unary_at_once(stacks, resources, integer(ty), ValType::I32) }
         NumericOp::IntegerUnary(ty, _) => {
             let ty = integer(ty);
-            plain_at_once(stacks, resources, &[ty], &[ty])
+            unary_at_once(stacks, resources, ty, ty)
         }
         NumericOp::IntegerBinary(ty, _) => {
             let ty = integer(ty);
-            plain_at_once(stacks, resources, &[ty, ty], &[ty])
+            binary_at_once(stacks, resources, ty, ty)
         }
         NumericOp::IntegerComparison(ty, _) => {
             let ty = integer(ty);
-            plain_at_once(stacks, resources, &[ty, ty], &[ValType::I32])
+            binary_at_once(stacks, resources, ty, ValType::I32)
         }
         NumericOp::FloatUnary(ty, _) => {
             let ty = float(ty);
-            plain_at_once(stacks, resources, &[ty], &[ty])
+            unary_at_once(stacks, resources, ty, ty)
         }
         NumericOp::FloatBinary(ty, _) => {
             let ty = float(ty);
-            plain_at_once(stacks, resources, &[ty, ty], &[ty])
+            binary_at_once(stacks, resources, ty, ty)
         }
         NumericOp::FloatComparison(ty, _) => {
             let ty = float(ty);
-            plain_at_once(stacks, resources, &[ty, ty], &[ValType::I32])
+            binary_at_once(stacks, resources, ty, ValType::I32)
         }
         NumericOp::Add128 | NumericOp::Sub128 | NumericOp::MulWide(_) => false,
     }
@@ -217,25 +217,23 @@ pub fn convert_at_once<R: WasmModuleResources>(
         stacks.new }
 {
     match op {
-        ConvertOp::Wrap => plain_at_once(stacks, resources, &[ValType::I64], &[ValType::I32]),
-        ConvertOp::Extend(_) => {
-            plain_at_once(stacks, resources, &[ValType::I32], &[ValType::I64])
-        }
+        ConvertOp::Wrap => unary_at_once(stacks, resources, ValType::I64, ValType::I32),
+        ConvertOp::Extend(_) => { unary_at_once(stacks, resources, ValType::I32, ValType::I64) }
         ConvertOp::ExtendPacked(part) => {
             let ty = packed(part);
-            plain_at_once(stacks, resources, &[ty], &[ty])
+            unary_at_once(stacks, resources, ty, ty)
         }
         ConvertOp::Trunc(into, from, _) | ConvertOp::TruncSat(into, from, _) => {
-            plain_at_once(stacks, resources, &[float(from)], &[integer(into)])
+            unary_at_once(stacks, resources, float(from), integer(into))
         }
         ConvertOp::Convert(into, from, _) => {
-            plain_at_once(stacks, resources, &[integer(from)], &[float(into)])
+            unary_at_once(stacks, resources, integer(from), float(into))
         }
-        ConvertOp::Demote => plain_at_once(stacks, resources, &[ValType::F64], &[ValType::F32]),
-        ConvertOp::Promote => plain_at_once(stacks, resources, &[ValType::F32], &[ValType::F64]),
+        ConvertOp::Demote => unary_at_once(stacks, resources, ValType::F64, ValType::F32),
+        ConvertOp::Promote => unary_at_once(stacks, resources, ValType::F32, ValType::F64),
         ConvertOp::Reinterpret(into) => {
             let from = number(into.reinterpreted());
-            plain_at_once(stacks, resources, &[from], &[number(into)])
+            unary_at_once(stacks, resources, from, number(into))
         }
     }
 }

@@ -32,7 +32,7 @@ pub fn check_drop<R: WasmModuleResources>(
 }
 
 /// [`check_drop`], where it passes. False, with nothing changed, where it doesn't.
-#[inline(always)]
+#[inline(never)]
 pub fn drop_at_once<R: WasmModuleResources>(stacks: &mut Stacks, resources: &R) -> bool
     requires { MayVisit (R.context resources.now) stacks.old }
     ensures { MeetsAtOnce (R.context resources.now) (λ cx. row_operator (looking_row 1 drop_pushes))
@@ -100,7 +100,7 @@ pub fn check_select<R: WasmModuleResources>(
 
 /// [`check_select`], where it passes at once, and the upper operand is a known number or vector. False, with nothing
 /// changed, where it doesn't.
-#[inline(always)]
+#[inline(never)]
 pub fn select_at_once<R: WasmModuleResources>(stacks: &mut Stacks, resources: &R) -> bool
     requires { MayVisit (R.context resources.now) stacks.old }
     ensures { MeetsAtOnce (R.context resources.now) (λ cx. row_operator (looking_row 3 (select_pushes cx)))

@@ -144,9 +144,47 @@ fn type_of_set_local(stacks: &Stacks, local_index: u32) -> Option<ValType>
     }
 }
 
-/// [`check_local_get`], where it passes at once. False, with nothing changed, where it doesn't.
+/// The same, where it is one of the first locals, whose types are found without a call.
 #[inline(always)]
-pub fn local_get_at_once<R: WasmModuleResources>(
+fn type_of_near_local(stacks: &Stacks, local_index: u32) -> Option<ValType>
+    ensures found { ForSome result (λ ty. slice_get stacks.now.body.locals local_index ≡ Some ty) }
+    ensures set { IsSome result → is_local_set stacks.now.body.set_at_entry
+        (locals_set stacks.now.body.present.frames) local_index ≡ true }
+{
+    match stacks.locals().get_near(local_index) {
+        Some(ty) => {
+            if stacks.is_uninit(local_index) {
+                None
+            } else {
+                Some(ty)
+            }
+        }
+        None => None,
+    }
+}
+
+/// [`local_get_at_once`] of one of the first locals.
+#[inline(always)]
+fn near_get_at_once<R: WasmModuleResources>(
+    stacks: &mut Stacks,
+    resources: &R,
+    local_index: u32,
+) -> bool
+    requires { MayVisit (R.context resources.now) stacks.old }
+    ensures { MeetsAtOnce (R.context resources.now) (λ cx. row_operator (local_get_row cx local_index))
+        stacks.old result stacks.new }
+{
+    // The contract alone reads it.
+    let _resources = resources;
+    match type_of_near_local(stacks, local_index) {
+        Some(ty) => stacks.push_at_once(MaybeType::Known(ty)),
+        None => false,
+    }
+}
+
+/// [`local_get_at_once`] of any local.
+#[inline(never)]
+fn any_get_at_once<R: WasmModuleResources>(
     stacks: &mut Stacks,
     resources: &R,
     local_index: u32,
@@ -163,10 +201,43 @@ pub fn local_get_at_once<R: WasmModuleResources>(
     }
 }
 
-/// [`check_local_set`], where it passes at once: the local is set already. False, with nothing changed, where it
-/// doesn't.
+/// [`check_local_get`], where it passes at once. False, with nothing changed, where it doesn't.
 #[inline(always)]
-pub fn local_set_at_once<R: WasmModuleResources>(
+pub fn local_get_at_once<R: WasmModuleResources>(
+    stacks: &mut Stacks,
+    resources: &R,
+    local_index: u32,
+) -> bool
+    requires { MayVisit (R.context resources.now) stacks.old }
+    ensures { MeetsAtOnce (R.context resources.now) (λ cx. row_operator (local_get_row cx local_index))
+        stacks.old result stacks.new }
+{
+    if near_get_at_once(stacks, resources, local_index) {
+        return true;
+    }
+    any_get_at_once(stacks, resources, local_index)
+}
+
+/// [`local_set_at_once`] of one of the first locals, of a number or vector type that is found.
+#[inline(always)]
+fn near_set_at_once<R: WasmModuleResources>(
+    stacks: &mut Stacks,
+    resources: &R,
+    local_index: u32,
+) -> bool
+    requires { MayVisit (R.context resources.now) stacks.old }
+    ensures { MeetsAtOnce (R.context resources.now) (λ cx. row_operator (local_set_row cx local_index))
+        stacks.old result stacks.new }
+{
+    match type_of_near_local(stacks, local_index) {
+        Some(ty) => stacks.exchange_numbers_at_once(resources, &[ty], None),
+        None => false,
+    }
+}
+
+/// [`local_set_at_once`] of any local.
+#[inline(never)]
+fn any_set_at_once<R: WasmModuleResources>(
     stacks: &mut Stacks,
     resources: &R,
     local_index: u32,
@@ -181,10 +252,43 @@ pub fn local_set_at_once<R: WasmModuleResources>(
     }
 }
 
-/// [`check_local_tee`], where it passes at once: the local is set already. False, with nothing changed, where it
-/// doesn't.
+/// [`check_local_set`], where it passes at once: the local is set already. False, with nothing changed, where it doesn't.
 #[inline(always)]
-pub fn local_tee_at_once<R: WasmModuleResources>(
+pub fn local_set_at_once<R: WasmModuleResources>(
+    stacks: &mut Stacks,
+    resources: &R,
+    local_index: u32,
+) -> bool
+    requires { MayVisit (R.context resources.now) stacks.old }
+    ensures { MeetsAtOnce (R.context resources.now) (λ cx. row_operator (local_set_row cx local_index))
+        stacks.old result stacks.new }
+{
+    if near_set_at_once(stacks, resources, local_index) {
+        return true;
+    }
+    any_set_at_once(stacks, resources, local_index)
+}
+
+/// [`local_tee_at_once`] of one of the first locals, of a number or vector type that is found.
+#[inline(always)]
+fn near_tee_at_once<R: WasmModuleResources>(
+    stacks: &mut Stacks,
+    resources: &R,
+    local_index: u32,
+) -> bool
+    requires { MayVisit (R.context resources.now) stacks.old }
+    ensures { MeetsAtOnce (R.context resources.now) (λ cx. row_operator (local_tee_row cx local_index))
+        stacks.old result stacks.new }
+{
+    match type_of_near_local(stacks, local_index) {
+        Some(ty) => stacks.exchange_numbers_at_once(resources, &[ty], Some(ty)),
+        None => false,
+    }
+}
+
+/// [`local_tee_at_once`] of any local.
+#[inline(never)]
+fn any_tee_at_once<R: WasmModuleResources>(
     stacks: &mut Stacks,
     resources: &R,
     local_index: u32,
@@ -197,4 +301,21 @@ pub fn local_tee_at_once<R: WasmModuleResources>(
         Some(ty) => stacks.exchange_at_once(resources, &[ty], Some(ty)),
         None => false,
     }
+}
+
+/// [`check_local_tee`], where it passes at once: the local is set already. False, with nothing changed, where it doesn't.
+#[inline(always)]
+pub fn local_tee_at_once<R: WasmModuleResources>(
+    stacks: &mut Stacks,
+    resources: &R,
+    local_index: u32,
+) -> bool
+    requires { MayVisit (R.context resources.now) stacks.old }
+    ensures { MeetsAtOnce (R.context resources.now) (λ cx. row_operator (local_tee_row cx local_index))
+        stacks.old result stacks.new }
+{
+    if near_tee_at_once(stacks, resources, local_index) {
+        return true;
+    }
+    any_tee_at_once(stacks, resources, local_index)
 }

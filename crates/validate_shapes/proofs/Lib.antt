@@ -1,3 +1,4 @@
+pub mod AtOnce
 pub mod Rows
 mod Fields
 pub mod LastSteps

@@ -4,7 +4,7 @@ ghost use Rattle.std.specs.Prelude.{◌≡◌, None, true, [], ◌∷◌, ◌++�
 ghost use Rattle.std.specs.List.{AllByRecursion};
 ghost use Rattle.validate_resources.specs.Context.{Valid};
 ghost use Rattle.validation_rules.specs.Operators.{plain_row, ending_row, row_operator};
-ghost use Rattle.validate_stacks.specs.AtOnce.{MeetsAtOnce};
+ghost use Rattle.validate_stacks.specs.AtOnce.{MeetsAtOnce, pushed_list};
 ghost use Rattle.validate_stacks.specs.Visits.{step_body, MayVisit, Meets};
 
 use validate_resources::WasmModuleResources;
@@ -54,7 +54,7 @@ fn plain_by_pops<R: WasmModuleResources>(
 
 /// [`check_plain`], where it passes at once: no attempt is pending, each operand is there and fits, one type at most is
 /// pushed, and there is room. False, with nothing changed, where it doesn't.
-#[inline(always)]
+#[inline(never)]
 pub fn plain_at_once<R: WasmModuleResources>(
     stacks: &mut Stacks,
     resources: &R,
@@ -71,6 +71,99 @@ pub fn plain_at_once<R: WasmModuleResources>(
         return false;
     }
     stacks.exchange_at_once(resources, wanted, pushed.first().copied())
+}
+
+/// The same of number and vector types alone, where the operands are known to be of them. It makes no call.
+#[inline(always)]
+fn numbers_at_once<R: WasmModuleResources>(
+    stacks: &mut Stacks,
+    resources: &R,
+    wanted: &[ValType],
+    given: Option<ValType>,
+) -> bool
+    requires visit { MayVisit (R.context resources.now) stacks.old }
+    requires wanted { AllByRecursion (Valid (R.context resources.now)) wanted.now }
+    requires given { AllByRecursion (Valid (R.context resources.now)) (pushed_list given) }
+    ensures { MeetsAtOnce (R.context resources.now)
+        (λ cx. row_operator (plain_row wanted.now (pushed_list given))) stacks.old result stacks.new }
+{
+    stacks.exchange_numbers_at_once(resources, wanted, given)
+}
+
+/// `[] -> [given]`, where it passes at once.
+#[inline(always)]
+pub fn constant_at_once<R: WasmModuleResources>(
+    stacks: &mut Stacks,
+    resources: &R,
+    given: ValType,
+) -> bool
+    requires visit { MayVisit (R.context resources.now) stacks.old }
+    requires given { Valid (R.context resources.now) given }
+    ensures { MeetsAtOnce (R.context resources.now) (λ cx. row_operator (plain_row [] (given ∷ [])))
+        stacks.old result stacks.new }
+{
+    numbers_at_once(stacks, resources, &[], Some(given))
+}
+
+/// `[taken] -> [given]`, where it passes at once. The list is written twice, so that nothing of it lies in memory where
+/// the first call takes it.
+#[inline(always)]
+pub fn unary_at_once<R: WasmModuleResources>(
+    stacks: &mut Stacks,
+    resources: &R,
+    taken: ValType,
+    given: ValType,
+) -> bool
+    requires visit { MayVisit (R.context resources.now) stacks.old }
+    requires taken { Valid (R.context resources.now) taken }
+    requires given { Valid (R.context resources.now) given }
+    ensures { MeetsAtOnce (R.context resources.now)
+        (λ cx. row_operator (plain_row (taken ∷ []) (given ∷ []))) stacks.old result stacks.new }
+{
+    if numbers_at_once(stacks, resources, &[taken], Some(given)) {
+        return true;
+    }
+    plain_at_once(stacks, resources, &[taken], &[given])
+}
+
+/// `[taken taken] -> [given]`, where it passes at once.
+#[inline(always)]
+pub fn binary_at_once<R: WasmModuleResources>(
+    stacks: &mut Stacks,
+    resources: &R,
+    taken: ValType,
+    given: ValType,
+) -> bool
+    requires visit { MayVisit (R.context resources.now) stacks.old }
+    requires taken { Valid (R.context resources.now) taken }
+    requires given { Valid (R.context resources.now) given }
+    ensures { MeetsAtOnce (R.context resources.now)
+        (λ cx. row_operator (plain_row (taken ∷ taken ∷ []) (given ∷ []))) stacks.old result stacks.new }
+{
+    if numbers_at_once(stacks, resources, &[taken, taken], Some(given)) {
+        return true;
+    }
+    plain_at_once(stacks, resources, &[taken, taken], &[given])
+}
+
+/// `[low top] -> []`, where it passes at once.
+#[inline(always)]
+pub fn taken_at_once<R: WasmModuleResources>(
+    stacks: &mut Stacks,
+    resources: &R,
+    low: ValType,
+    top: ValType,
+) -> bool
+    requires visit { MayVisit (R.context resources.now) stacks.old }
+    requires low { Valid (R.context resources.now) low }
+    requires top { Valid (R.context resources.now) top }
+    ensures { MeetsAtOnce (R.context resources.now)
+        (λ cx. row_operator (plain_row (low ∷ top ∷ []) [])) stacks.old result stacks.new }
+{
+    if numbers_at_once(stacks, resources, &[low, top], None) {
+        return true;
+    }
+    plain_at_once(stacks, resources, &[low, top], &[])
 }
 
 /// `[types] -> [types above]`: operands of these types stay, and another comes above them.

@@ -19,6 +19,41 @@ use validate_types::{MaybeType, ValType};
 use validate_visit::{BlockType, FrameKind};
 
 impl Stacks {
+    /// [`Stacks::exchange_at_once`] of number and vector types alone, where the innermost frame has as many own operands
+    /// as are wanted, known to be of these very types. It makes no call, so it is short where it is inlined.
+    #[inline(always)]
+    pub fn exchange_numbers_at_once<R: WasmModuleResources>(
+        &mut self,
+        resources: &R,
+        wanted: &[ValType],
+        pushed: Option<ValType>,
+    ) -> bool
+        requires types { AllByRecursion (Valid (R.context resources.now)) wanted.now }
+        requires state { IsValidBody (R.context resources.now) self.old.body }
+        ensures exact { MatchBool result
+            (option_map (body_pushed_each (pushed_list pushed))
+            (body_popped_each (R.context resources.now) (reverse wanted.now) self.old.body) ≡ Some self.new.body)
+            (self.new ≡ self.old) }
+        ensures phase { phase_moved self.new.phase ≡ phase_moved self.old.phase }
+    {
+        let own = self.own_len();
+        let count = wanted.len();
+        if self.is_pending() || own < count || !self.has_same_numbers(resources, own, wanted) {
+            return false;
+        }
+        match pushed {
+            Some(ty) => {
+                if count == 0 {
+                    return self.push_at_once(MaybeType::Known(ty));
+                }
+                self.drop_operands(count - 1);
+                self.replace_operand(MaybeType::Known(ty));
+            }
+            None => self.drop_operands(count),
+        }
+        true
+    }
+
     /// Pops operands of these types, the last of the list first, and pushes one of the other type, if there is one:
     /// where no attempt is pending, each pop finds an operand, which fits, and there is room, where the innermost frame
     /// has none that goes. False, with nothing changed, where that isn't so. It takes no memory.

@@ -8,7 +8,7 @@ ghost use Rattle.validate_stacks.specs.State.{IsValidBody, body_context};
 ghost use Rattle.validate_stacks.specs.Pops.{body_popped_each, body_pushed_each, has_operands_fitting, may_pop, IsKept};
 ghost use Rattle.validate_stacks.specs.Steps.{innermost_operands, found_after_pops_in_body};
 
-use crate::pops::fits_at_once;
+use crate::pops::{fits_at_once, is_same_number};
 use crate::stacks::Stacks;
 use validate_resources::WasmModuleResources;
 use validate_types::{Error, MaybeType, ValType};
@@ -117,6 +117,55 @@ impl Stacks {
             }
         }
         true
+    }
+
+    /// Whether the top own operands of the innermost frame, which has so many at least, are known to be of these
+    /// number or vector types, the last of the list on top. Nothing else is asked, so that no call is made.
+    #[inline(always)]
+    pub(crate) fn has_same_numbers<R: WasmModuleResources>(
+        &self,
+        resources: &R,
+        own: usize,
+        wanted: &[ValType],
+    ) -> bool
+        requires own { own ≡ length (innermost_operands self.now.body.present.frames) }
+        requires types { AllByRecursion (Valid (R.context resources.now)) wanted.now }
+        requires state { IsValidBody (R.context resources.now) self.now.body }
+        ensures { result ≡ true → has_operands_fitting (body_context (R.context resources.now) self.now.body)
+            wanted.now self.now.body ≡ true }
+    {
+        let mut left = wanted.len();
+        while left > 0 {
+            left -= 1;
+            if !self.is_same_number_at(resources, own, wanted.len() - 1 - left, wanted[left]) {
+                return false;
+            }
+        }
+        true
+    }
+
+    /// Whether the operand that a pop finds after so many others is known to be of this number or vector type, where
+    /// the innermost frame has so many own operands.
+    #[inline(always)]
+    fn is_same_number_at<R: WasmModuleResources>(
+        &self,
+        resources: &R,
+        own: usize,
+        depth: usize,
+        wanted: ValType,
+    ) -> bool
+        requires own { own ≡ length (innermost_operands self.now.body.present.frames) }
+        requires wanted { Valid (R.context resources.now) wanted }
+        requires state { IsValidBody (R.context resources.now) self.now.body }
+        ensures { result ≡ true → may_pop (body_context (R.context resources.now) self.now.body)
+            (found_after_pops_in_body depth self.now.body) (Some wanted) ≡ true }
+    {
+        // The contract alone reads it.
+        let _resources = resources;
+        match self.found_among(own, depth) {
+            Some(MaybeType::Known(found)) => is_same_number(found, wanted),
+            _ => false,
+        }
     }
 
     /// Whether the operand that a pop finds after so many others fits the wanted type, where the innermost frame

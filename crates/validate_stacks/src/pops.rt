@@ -136,11 +136,11 @@ pub(crate) fn fits_at_once(found: MaybeType, expected: Option<ValType>) -> bool
 
 /// Whether this is twice the same number or vector type.
 #[inline(always)]
-fn is_same_number(found: ValType, wanted: ValType) -> bool
+pub(crate) fn is_same_number(found: ValType, wanted: ValType) -> bool
     ensures { result ≡ true → found ≡ wanted }
 {
-    let place = place_of(found);
-    place < 5 && place == place_of(wanted)
+    let place = place_of(wanted);
+    place < 5 && place_of(found) == place
 }
 
 /// The place of a number or vector type among them, from 0; 5 for every reference.

@@ -15,4 +15,4 @@ pub returns-in-Some : goal.returns-in-Some
 returns-in-Some g c =
     let md = g.R.WasmModuleResources.context c.args.resources.now in
     let found = c.accessed_address_type.ensures.found c.in-Some.address c.in-Some.is in
-    found_at_once md c.args.stacks.now.body (λ cx hs. load_row cx c.args.memarg c.args.ty) (λ cx hs. plain_row (c.in-Some.address ∷ []) (c.args.ty ∷ [])) c.args.stacks.now c.plain_at_once.new.stacks c.plain_at_once.result refl (search (rules, found)) c.plain_at_once.ensures
+    found_at_once md c.args.stacks.now.body (λ cx hs. load_row cx c.args.memarg c.args.ty) (λ cx hs. plain_row (c.in-Some.address ∷ []) (c.args.ty ∷ [])) c.args.stacks.now c.unary_at_once.new.stacks c.unary_at_once.result refl (search (rules, found)) c.unary_at_once.ensures

@@ -1,0 +1,15 @@
+use Rattle.validate_stacks.proofs.AtOnce.{not_at_once}
+use Rattle.validate_rows.proofs.AtOnce.{some_is}
+use Rattle.validate_rows.proofs.LocalsAtOnce.{set_meets}
+use Rattle.validate_rows.proofs.variables.any_set_at_once.Goals as goal
+
+pub returns-in-None : goal.returns-in-None
+returns-in-None g c = not_at_once _ _ c.args.stacks.now
+
+pub returns-in-Some : goal.returns-in-Some
+returns-in-Some g c =
+    let md = g.R.WasmModuleResources.context c.args.resources.now in
+    let t = c.in-Some.ty in
+    let found = c.type_of_set_local.ensures.found t c.in-Some.is in
+    let set = c.type_of_set_local.ensures.set (some_is c.type_of_set_local.result t c.in-Some.is) in
+    set_meets md c.args.stacks.now c.exchange_at_once.new.self c.args.local_index t c.exchange_at_once.result found set c.requires c.exchange_at_once.ensures.exact

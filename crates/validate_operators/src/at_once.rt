@@ -21,7 +21,9 @@ use validate_rows::variables::{local_get_at_once, local_set_at_once, local_tee_a
 use validate_shapes::blocks::opener_at_once;
 use validate_stacks::Stacks;
 use validate_types::ValType;
-use validate_visit::{BlockType, BrTable, ControlOp, ConvertOp, FrameKind, MemoryOp, NumericOp, Op};
+use validate_visit::{
+    BlockType, BrTable, ControlOp, ConvertOp, FrameKind, MemoryOp, NumericOp, Op,
+};
 
 /// An operator on numbers, behind its gate.
 #[inline(always)]

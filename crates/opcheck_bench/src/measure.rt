@@ -1,6 +1,6 @@
 //! Checking a body, and the best time of many.
 
-ghost use Rattle.std.specs.Prelude.{◌≡◌, true, None, IfOk};
+ghost use Rattle.std.specs.Prelude.{◌≡◌, [], true, None, IfOk};
 ghost use Rattle.std.specs.List.{list_all};
 ghost use Rattle.validate_visit.specs.Immediates.{is_module_op};
 ghost use Rattle.validate_visit.specs.Order.{is_well_ordered_list};
@@ -103,6 +103,46 @@ fn begin_body<R: WasmModuleResources>(
     Ok(validator)
 }
 
+/// Whether the body is accepted by this validator.
+fn is_accepted_by(
+    validator: &mut OperatorValidator,
+    way: Way,
+    subject: Subject<'_>,
+    heights: &mut Vec<(usize, usize)>,
+) -> bool
+    requires starting { IsStarting (⟦<ModuleLists as WasmModuleResources>⟧.context subject.module.now)
+        (state validator.old) }
+    requires ordered { is_well_ordered_list (without_offsets subject.ops.now) ≡ true }
+    requires immediates { list_all (λ (pair : _). is_module_op pair.0) subject.ops.now ≡ true }
+    requires empty { heights.old.items ≡ [] }
+{
+    match way {
+        Way::CheckOps => matches!(
+            check_ops(validator, subject.ops, subject.module, heights),
+            Ok(true)
+        ),
+        Way::Visits => visit_each(validator, subject.ops, subject.attempts, subject.module),
+    }
+}
+
+/// Whether the body is accepted by a new validator.
+fn is_accepted(way: Way, subject: Subject<'_>, heights: &mut Vec<(usize, usize)>) -> bool
+    requires ordered { is_well_ordered_list (without_offsets subject.ops.now) ≡ true }
+    requires immediates { list_all (λ (pair : _). is_module_op pair.0) subject.ops.now ≡ true }
+    requires empty { heights.old.items ≡ [] }
+{
+    match begin_body(
+        subject.alloc,
+        subject.module,
+        subject.features,
+        subject.body,
+        subject.locals,
+    ) {
+        Ok(mut validator) => is_accepted_by(&mut validator, way, subject, heights),
+        Err(_) => false,
+    }
+}
+
 /// The time of one run, the making of the validator with it.
 fn time(
     rt: &HostRuntime,
@@ -115,31 +155,7 @@ fn time(
 {
     heights.clear();
     let since = Instant::now(rt).map_err(|_| Failure::Host)?;
-    let Ok(mut validator) = begin_body(
-        subject.alloc,
-        subject.module,
-        subject.features,
-        subject.body,
-        subject.locals,
-    ) else {
-        return Err(Failure::Refused);
-    };
-    let accepted = match way {
-        Way::CheckOps => {
-            matches!(
-                check_ops(&mut validator, subject.ops, subject.module, heights),
-                Ok(true)
-            )
-        }
-        Way::Visits => {
-            visit_each(
-                &mut validator,
-                subject.ops,
-                subject.attempts,
-                subject.module,
-            )
-        }
-    };
+    let accepted = is_accepted(way, subject, heights);
     let time = since.elapsed(rt).map_err(|_| Failure::Host)?.as_nanos();
     if !accepted {
         return Err(Failure::Refused);

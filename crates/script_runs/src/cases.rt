@@ -11,7 +11,6 @@
 //! - `@scripts`: a transcript (`transcript.rt`);
 //! - `@rows` and then `@each`: a transcript that is run once for each row, filled by it;
 //! - `@bad`: lines, of which each makes a script bad;
-//! - `@table`: operators, with what they take and give and the proposal that each needs (`tables.rt`);
 //! - `@given`: lines of operators that are all accepted, each with the types of the operands behind them;
 //! - `@left`: lines of operators of which the last alone is refused, with those that are left (`left.rt`);
 //! - `@undone`: a body of operators that are visited, or attempted and taken back (`undone.rt`);
@@ -27,7 +26,6 @@ use crate::flags::{DESCRIPTORS, all_but, is_flag};
 use crate::left::run_left;
 use crate::report::Report;
 use crate::runs::Descriptors;
-use crate::tables::run_table;
 use crate::transcript::{run_bad_lines, run_each, run_transcript};
 use crate::undone::run_undone;
 use odd_lookups::Check;
@@ -108,7 +106,6 @@ impl<'a> Cases<'a> {
             ("scripts", Some(with)) => run_transcript(alloc, report, head, text, with),
             ("each", Some(with)) => run_each(alloc, report, head, (self.rows, text), with),
             ("bad", Some(Descriptors::Both)) => run_bad_lines(alloc, report, head, text),
-            ("table", Some(Descriptors::Both)) => run_table(alloc, report, head, text),
             ("given", Some(Descriptors::Both)) => run_left(alloc, report, head, (text, false)),
             ("left", Some(Descriptors::Both)) => run_left(alloc, report, head, (text, true)),
             _ => report.refuse(kind, "begins no section"),

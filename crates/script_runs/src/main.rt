@@ -26,7 +26,6 @@ mod report;
 mod runs;
 mod seen;
 mod shown;
-mod tables;
 mod transcript;
 mod undone;
 mod words;

@@ -24,15 +24,3 @@ pub fn has_line(script: &str, word: &str) -> bool {
 pub fn first_word(line: &str) -> &str {
     line.split_whitespace().next().unwrap_or("")
 }
-
-/// What the line that begins with this name has behind it and a mark.
-pub fn behind_name(lines: &'static str, name: &str, mark: &str) -> Option<&'static str> {
-    for line in lines.lines() {
-        if let Some((first, rest)) = line.split_once(mark)
-            && first == name
-        {
-            return Some(rest.trim());
-        }
-    }
-    None
-}

@@ -140,7 +140,7 @@ fn control_at_once<R: WasmModuleResources>(
     }
 }
 
-/// An operator on control, locals or globals.
+/// An operator on control, locals or globals: what passes has no gate.
 #[inline(always)]
 fn gated_control_at_once<R: WasmModuleResources>(
     stacks: &mut Stacks,

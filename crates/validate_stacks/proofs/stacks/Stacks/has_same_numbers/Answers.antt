@@ -1,4 +1,4 @@
-use Rattle.std.proofs.Common.{arith, refl, sym, ◌∙◌}
+use Rattle.std.proofs.Common.{arith, refl}
 use Rattle.validate_stacks.specs.State.{body_context}
 use Rattle.validate_stacks.proofs.MatchedOperands.{matching_starts, goes_on_there}
 use Rattle.validate_stacks.proofs.stacks.Stacks.has_same_numbers.Goals as goal

@@ -6,8 +6,9 @@ ghost use Rattle.validate_stacks.specs.State.{IsStarting, IsValidBody};
 ghost use Rattle.wasmparser_validate.specs.Start.{state};
 
 use crate::expectations::{expect, expect_same};
+use crate::lack::Lack;
 use crate::lines::{Way, expect_lines, visit};
-use body_tests::{HEAD, Lack, Setting};
+use crate::setting::{HEAD, Setting};
 use std::process::Abort;
 use validate_body::first_set::inits_of;
 use wasmparser_validate::operators::{

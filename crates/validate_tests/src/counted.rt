@@ -7,9 +7,10 @@ ghost use Rattle.wasmparser_validate.specs.Start.{state, stacks_of};
 ghost use Rattle.wasmparser_validate.specs.State.{IsStarting};
 
 use crate::expectations::{expect, expect_same};
+use crate::lack::Lack;
 use crate::lines::{Way, expect_lines};
+use crate::setting::{HEAD, Setting};
 use crate::texts::{expect_said, said};
-use body_tests::{HEAD, Lack, Setting};
 use std::process::Abort;
 use wasmparser_validate::operators::{OperatorValidator, OperatorValidatorAllocations, Pops};
 use wasmparser_validate::resources::WasmModuleResources;

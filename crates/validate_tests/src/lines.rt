@@ -11,9 +11,10 @@ ghost use Rattle.validate_stacks.specs.State.{IsValidBody};
 ghost use Rattle.validate_stacks.specs.Visits.{MayVisit, Meets};
 ghost use Rattle.wasmparser_validate.specs.Start.{state, stacks_of};
 
+use crate::answers::answer_in;
 use crate::expectations::{expect, expect_text};
+use crate::lack::Lack;
 use crate::texts::{expect_said, said, seen};
-use body_tests::{Lack, answer_in};
 use script_parts::{OperatorList, read_words};
 use script_reader::{read_lists, read_operator};
 use std::process::Abort;

@@ -5,8 +5,9 @@ ghost use Rattle.wasmparser_validate.specs.Start.{state, stacks_of};
 ghost use Rattle.wasmparser_validate.specs.State.{IsStarting};
 
 use crate::expectations::expect;
+use crate::lack::Lack;
 use crate::lines::{Way, expect_lines, read_op, visit};
-use body_tests::{Lack, Setting};
+use crate::setting::Setting;
 use script_reader::read_lists;
 use std::process::Abort;
 use wasmparser_validate::operators::{OperatorValidator, OperatorValidatorAllocations};

@@ -1,7 +1,8 @@
 //! What can be seen of a validator's state, as a text.
 
+use crate::answers::answer_in;
 use crate::expectations::expect_text;
-use body_tests::{Lack, NO_MEMORY, answer_in};
+use crate::lack::{Lack, NO_MEMORY};
 use std::process::Abort;
 use validate_body::first_set::inits_of;
 use wasmparser_validate::operators::OperatorValidator;

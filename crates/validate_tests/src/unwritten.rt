@@ -5,9 +5,10 @@ ghost use Rattle.wasmparser_validate.specs.Start.{state};
 ghost use Rattle.wasmparser_validate.specs.State.{IsStarting};
 
 use crate::expectations::expect;
+use crate::lack::Lack;
 use crate::lines::visit;
+use crate::setting::Setting;
 use crate::texts::{expect_said, said};
-use body_tests::{Lack, Setting};
 use std::process::Abort;
 use wasmparser_validate::operators::{OperatorValidator, OperatorValidatorAllocations};
 use wasmparser_validate::resources::WasmModuleResources;

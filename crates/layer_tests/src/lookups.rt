@@ -132,7 +132,7 @@ fn what_a_module_declares(rt: HostRuntime) -> Result<(), Fail> {
 /// The last of a thousand types is below the first, and not above it.
 #[test]
 fn order_of_a_long_chain(rt: HostRuntime) -> Result<(), Fail> {
-    let lists = chain_of(&rt, 1_000)??;
+    let lists = chain_of(&rt, 1_000)?;
     let first = ValType::Ref(reference(HeapType::Concrete(by_id(0))));
     let last = ValType::Ref(reference(HeapType::Concrete(by_id(999))));
     expect(&rt, lists.is_subtype(last, first));

@@ -17,14 +17,16 @@ pub fn read_module(rt: &impl AllocGlobal, lines: &str) -> Result<Result<ModuleLi
     }
 }
 
-/// The lookup over so many function types `[] -> []`, or its refusal: each is declared below the one before
-/// it.
-pub fn chain_of(rt: &impl AllocGlobal, count: u32) -> Result<Result<ModuleLists, Error>, Fail> {
+/// The lookup over so many function types `[] -> []`, or its refusal, want of memory too: each is declared
+/// below the one before it.
+pub fn chain_of(rt: &impl AllocGlobal, count: u32) -> Result<ModuleLists, Error> {
     let mut types = Vec::new(rt.alloc());
     for index in 0..count {
-        types.push(link(rt, index))?;
+        if types.push(link(rt, index)).is_err() {
+            return Err(Error::out_of_memory(0));
+        }
     }
-    Ok(ModuleLists::new(
+    ModuleLists::new(
         rt.alloc(),
         types,
         Vec::new(rt.alloc()),
@@ -34,7 +36,7 @@ pub fn chain_of(rt: &impl AllocGlobal, count: u32) -> Result<Result<ModuleLists,
         Vec::new(rt.alloc()),
         Vec::new(rt.alloc()),
         None,
-    ))
+    )
 }
 
 /// The type at this index of such a chain.

@@ -2,7 +2,7 @@
 
 use std::alloc::{AllocError, AllocFailed};
 use std::fmt;
-use validate_types::Error;
+use wasmparser_validate::types::Error;
 
 /// Why what a test needs wasn't had: there was no memory for it, or its text is none.
 #[derive(Clone, Copy, Debug)]

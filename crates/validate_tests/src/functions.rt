@@ -11,11 +11,11 @@ use crate::setting::{HEAD, Setting};
 use crate::tables::GROUPS;
 use script_reader::{read_lists, read_script};
 use std::process::Abort;
-use validate_func::FuncValidator;
-use validate_resources::WasmModuleResources;
-use validate_stacks::OperatorValidatorAllocations;
-use validate_types::Error;
-use validate_visit::{IntegerBinaryOp, IntegerType, NumericOp, Op};
+use wasmparser_validate::func::FuncValidator;
+use wasmparser_validate::operators::OperatorValidatorAllocations;
+use wasmparser_validate::resources::WasmModuleResources;
+use wasmparser_validate::types::Error;
+use wasmparser_validate::visit::{IntegerBinaryOp, IntegerType, NumericOp, Op};
 
 const I32_CONST: Op<'static> = Op::Numeric(NumericOp::I32Const(7));
 

@@ -9,12 +9,12 @@ ghost use Rattle.validate_body.specs.Start.{state};
 ghost use Rattle.validate_stacks.specs.State.{BodyState, IsStarting};
 ghost use Rattle.validation_rules.specs.Static.{start};
 
-use crate::expectations::{expect, expect_error, expect_same};
-use crate::lack::Lack;
-use crate::setting::{HEAD, Setting};
+use crate::expect::{expect, expect_error, expect_same};
+use crate::module::{chain_of, read_module};
 use bitflags::Flags;
 use std::alloc::AllocError;
 use std::process::Abort;
+use std::test::Fail;
 use validate_body::{OperatorValidator, check_ops, safety_law};
 use validate_resources::{ModuleLists, WasmModuleResources};
 use validate_stacks::OperatorValidatorAllocations;
@@ -22,6 +22,20 @@ use validate_types::{Error, ValType, WasmFeatures};
 use validate_visit::{
     BlockType, ControlOp, Frame, FrameKind, NumericOp, Op, have_module_immediates, is_well_ordered,
 };
+
+/// A module with the type of a body that takes nothing and gives nothing.
+const MODULE: &str = "type func ->";
+
+/// A validator of a body of type 0, in these buffers.
+fn validator(
+    lists: &ModuleLists,
+    allocs: OperatorValidatorAllocations,
+) -> Result<OperatorValidator, Error>
+    ensures { IfOk result (λ v. IsStarting (⟦<ModuleLists as WasmModuleResources>⟧.context lists.now)
+        (state v)) }
+{
+    OperatorValidator::new_func(0, 0, &WasmFeatures::all(), lists, allocs)
+}
 
 /// One frame is open, of a function of type 3, which has no parameters.
 fn expect_start(rt: &impl Abort, v: &OperatorValidator) {
@@ -39,7 +53,7 @@ fn expect_start(rt: &impl Abort, v: &OperatorValidator) {
 }
 
 /// In new buffers, and in those that this leaves.
-fn expect_starts(rt: &(impl Abort + AllocGlobal), lists: &ModuleLists) -> Result<(), Lack> {
+fn expect_starts(rt: &(impl Abort + AllocGlobal), lists: &ModuleLists) -> Result<(), Fail> {
     let mut allocs = OperatorValidatorAllocations::new(rt.alloc());
     for _ in 0..2 {
         let v = OperatorValidator::new_func(3, 0, &WasmFeatures::all(), lists, allocs)?;
@@ -50,10 +64,10 @@ fn expect_starts(rt: &(impl Abort + AllocGlobal), lists: &ModuleLists) -> Result
 }
 
 #[test]
-fn a_function_starts_in_one_frame(rt: HostRuntime) -> Result<(), Lack> {
-    let head = "type func i32 ->\ntype func -> i32\ntype struct\ntype func ->\nfunc 0";
-    let setting = Setting::read(&rt, head)?;
-    expect_starts(&rt, &setting.lists)
+fn a_function_starts_in_one_frame(rt: HostRuntime) -> Result<(), Fail> {
+    let lines = "type func i32 ->\ntype func -> i32\ntype struct\ntype func ->";
+    let lists = read_module(&rt, lines)??;
+    expect_starts(&rt, &lists)
 }
 
 /// Locals are declared up to the limit: those that are refused leave the others.
@@ -73,11 +87,11 @@ fn expect_limit<R: WasmModuleResources>(
 }
 
 /// In new buffers, and in those that this leaves.
-fn expect_limits(rt: &(impl Abort + AllocGlobal), setting: &Setting) -> Result<(), Lack> {
+fn expect_limits(rt: &(impl Abort + AllocGlobal), lists: &ModuleLists) -> Result<(), Fail> {
     let mut allocs = OperatorValidatorAllocations::new(rt.alloc());
     for _ in 0..2 {
-        let mut v = setting.validator(allocs)?;
-        let answer = expect_limit(rt, &mut v, &setting.lists);
+        let mut v = validator(lists, allocs)?;
+        let answer = expect_limit(rt, &mut v, lists);
         allocs = v.into_allocations();
         answer?;
     }
@@ -85,9 +99,9 @@ fn expect_limits(rt: &(impl Abort + AllocGlobal), setting: &Setting) -> Result<(
 }
 
 #[test]
-fn locals_are_declared_up_to_the_limit(rt: HostRuntime) -> Result<(), Lack> {
-    let setting = Setting::read(&rt, HEAD)?;
-    expect_limits(&rt, &setting)
+fn locals_are_declared_up_to_the_limit(rt: HostRuntime) -> Result<(), Fail> {
+    let lists = read_module(&rt, MODULE)??;
+    expect_limits(&rt, &lists)
 }
 
 /// Declares 60 locals in a new body, and says whether there are; where memory is wanting there are none.
@@ -125,15 +139,14 @@ fn expect_defined<R: WasmModuleResources>(
 }
 
 /// A validator of an empty body, and locals in it.
-fn define_once(rt: &(impl Abort + AllocGlobal)) -> Result<(), Lack> {
-    let setting = Setting::read(rt, HEAD)?;
-    let mut v = setting.validator(OperatorValidatorAllocations::new(rt.alloc()))?;
-    expect_defined(rt, &mut v, &setting.lists)?;
-    Ok(())
+fn define_once(rt: &(impl Abort + AllocGlobal)) -> Result<(), Error> {
+    let lists = chain_of(rt, 1)?;
+    let mut v = validator(&lists, OperatorValidatorAllocations::new(rt.alloc()))?;
+    expect_defined(rt, &mut v, &lists)
 }
 
 #[test]
-fn locals_are_declared_whichever_request_is_refused(rt: HostRuntime) -> Result<(), Lack> {
+fn locals_are_declared_whichever_request_is_refused(rt: HostRuntime) -> Result<(), Error> {
     match define_once(&rt) {
         Ok(()) => Ok(()),
         Err(_) => define_once(&rt),
@@ -206,7 +219,7 @@ fn expect_constant(
     rt: &(impl Abort + AllocGlobal),
     lists: &ModuleLists,
     allocs: OperatorValidatorAllocations,
-) -> Result<OperatorValidatorAllocations, Lack> {
+) -> Result<OperatorValidatorAllocations, Fail> {
     let mut v = constant(lists, allocs)?;
     let heights = accepted_heights(rt, &mut v, lists, SEVEN);
     expect_same(rt, heights.as_slice(), [(1, 1), (1, 0)].as_slice());
@@ -214,7 +227,7 @@ fn expect_constant(
 }
 
 /// In new buffers, and in those that this leaves.
-fn expect_constants(rt: &(impl Abort + AllocGlobal), lists: &ModuleLists) -> Result<(), Lack> {
+fn expect_constants(rt: &(impl Abort + AllocGlobal), lists: &ModuleLists) -> Result<(), Fail> {
     let new = OperatorValidatorAllocations::new(rt.alloc());
     let used = expect_constant(rt, lists, new)?;
     expect_constant(rt, lists, used)?;
@@ -222,10 +235,10 @@ fn expect_constants(rt: &(impl Abort + AllocGlobal), lists: &ModuleLists) -> Res
 }
 
 #[test]
-fn a_constant_expression(rt: HostRuntime) -> Result<(), Lack> {
-    let setting = Setting::read(&rt, HEAD)?;
-    lists_are_safe(&setting.lists);
-    expect_constants(&rt, &setting.lists)
+fn a_constant_expression(rt: HostRuntime) -> Result<(), Fail> {
+    let lists = read_module(&rt, MODULE)??;
+    lists_are_safe(&lists);
+    expect_constants(&rt, &lists)
 }
 
 const BLOCKS: usize = 100_000;
@@ -237,14 +250,14 @@ fn nest(ops: &mut Vec<(Op<'static>, u64)>) -> Result<(), AllocError> {
     Ok(())
 }
 
-/// They are accepted in a body of this setting, which leaves no operand anywhere.
+/// They are accepted in a body of this module, which leaves no operand anywhere.
 fn expect_nested(
     rt: &(impl Abort + AllocGlobal),
-    setting: &Setting,
+    lists: &ModuleLists,
     ops: &[(Op<'_>, u64)],
-) -> Result<(), Lack> {
-    let mut v = setting.validator(OperatorValidatorAllocations::new(rt.alloc()))?;
-    let heights = accepted_heights(rt, &mut v, &setting.lists, ops);
+) -> Result<(), Fail> {
+    let mut v = validator(lists, OperatorValidatorAllocations::new(rt.alloc()))?;
+    let heights = accepted_heights(rt, &mut v, lists, ops);
     expect(rt, heights.iter().all(|(operands, _)| *operands == 0));
     let greatest = heights.iter().map(|(_, frames)| *frames).max();
     expect_same(rt, greatest, Some(BLOCKS + 1));
@@ -253,9 +266,9 @@ fn expect_nested(
 
 /// No call goes as deep as blocks nest.
 #[test]
-fn blocks_that_nest_deep(rt: HostRuntime) -> Result<(), Lack> {
-    let setting = Setting::read(&rt, HEAD)?;
+fn blocks_that_nest_deep(rt: HostRuntime) -> Result<(), Fail> {
+    let lists = read_module(&rt, MODULE)??;
     let mut ops = Vec::new(rt.alloc());
     nest(&mut ops)?;
-    expect_nested(&rt, &setting, &ops)
+    expect_nested(&rt, &lists, &ops)
 }

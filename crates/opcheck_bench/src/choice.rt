@@ -4,7 +4,7 @@ use crate::failure::Failure;
 use std::env;
 
 /// What the words choose.
-#[derive(Clone, Copy, Debug, PartialEq, Eq)]
+#[derive(Clone, Copy)]
 pub struct Choice {
     /// How often each way is run.
     pub runs: u32,

@@ -1,7 +1,7 @@
 //! Why nothing is measured.
 
 /// Why nothing is measured.
-#[derive(Clone, Copy, Debug, PartialEq, Eq)]
+#[derive(Clone, Copy)]
 pub enum Failure {
     /// A word that the program doesn't know, or `--runs` without a number.
     Words,

@@ -15,19 +15,9 @@ use crate::choice::{Choice, read_choice};
 use crate::failure::Failure;
 use crate::measure::{Subject, Way, best_time};
 use script_reader::{Script, read_lists, read_script};
-use std::io::Read;
+use std::io;
 use std::process::ExitCode;
-use std::str;
 use validate_resources::ModuleLists;
-
-/// Reads the input whole.
-fn read(rt: &HostRuntime) -> Result<Vec<u8>, Failure> {
-    let mut bytes = Vec::new(rt.alloc());
-    rt.stdin()
-        .read_to_end(&mut bytes)
-        .map_err(|_| Failure::Script)?;
-    Ok(bytes)
-}
 
 /// Prints the line of one way.
 fn report(
@@ -56,9 +46,8 @@ fn report(
 fn run(rt: &HostRuntime) -> Result<(), Failure> {
     let alloc = rt.alloc();
     let choice = read_choice(rt)?;
-    let bytes = read(rt)?;
-    let text = str::from_utf8(&bytes).map_err(|_| Failure::Script)?;
-    let lists = read_lists(alloc, text).map_err(|_| Failure::Host)?;
+    let text = io::read_to_string(alloc, rt.stdin()).map_err(|_| Failure::Script)?;
+    let lists = read_lists(alloc, &text).map_err(|_| Failure::Host)?;
     let Script {
         features,
         shows: _,
@@ -66,7 +55,7 @@ fn run(rt: &HostRuntime) -> Result<(), Failure> {
         body,
         locals,
         operators,
-    } = read_script(alloc, &lists, text).map_err(|_| Failure::Script)?;
+    } = read_script(alloc, &lists, &text).map_err(|_| Failure::Script)?;
     let module = ModuleLists::from_declarations(alloc, declarations).map_err(|_| Failure::Script)?;
     let subject = Subject {
         alloc,

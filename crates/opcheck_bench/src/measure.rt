@@ -1,6 +1,6 @@
 //! Checking a body, and the best time of many.
 
-ghost use Rattle.std.specs.Prelude.{◌≡◌, [], true, None, IfOk};
+ghost use Rattle.std.specs.Prelude.{◌≡◌, [], true, None};
 ghost use Rattle.std.specs.List.{list_all};
 ghost use Rattle.validate_visit.specs.Immediates.{is_module_op};
 ghost use Rattle.validate_visit.specs.Order.{is_well_ordered_list};
@@ -11,12 +11,12 @@ ghost use Rattle.validate_stacks.specs.Visits.{MayVisit, Meets};
 ghost use Rattle.validate_stacks.specs.State.{IsStarting};
 
 use crate::failure::Failure;
-use script_reader::{Body, BodyLine, LocalLine};
+use opcheck_script::begin_body;
+use script_reader::{BodyLine, LocalLine};
 use std::alloc::Global;
 use std::time::Instant;
 use validate_body::{OperatorValidator, check_ops, try_op};
 use validate_resources::{ModuleLists, WasmModuleResources};
-use validate_stacks::OperatorValidatorAllocations;
 use validate_types::{Error, WasmFeatures};
 use validate_visit::{Op, have_module_immediates, is_well_ordered};
 
@@ -40,7 +40,7 @@ pub struct Subject<'a> {
 }
 
 /// How a body is checked.
-#[derive(Clone, Copy, Debug, PartialEq, Eq)]
+#[derive(Clone, Copy)]
 pub enum Way {
     /// By `check_ops`.
     CheckOps,
@@ -74,33 +74,6 @@ pub fn best_time(
         best = best.min(time(rt, way, subject, &mut heights)?);
     }
     Ok(best)
-}
-
-/// A validator of the function, with its locals.
-fn begin_body<R: WasmModuleResources>(
-    alloc: Global,
-    resources: &R,
-    features: &WasmFeatures,
-    line: BodyLine,
-    locals: &[LocalLine],
-) -> Result<OperatorValidator, Error>
-    ensures { IfOk result (λ validator. IsStarting (R.context resources.now) (state validator)) }
-{
-    let Body::Function(type_index) = line.body else {
-        return Err(Error::new("only functions are measured", line.offset));
-    };
-    let allocs = OperatorValidatorAllocations::new(alloc);
-    let mut validator = OperatorValidator::new_func(
-        type_index,
-        line.offset,
-        features,
-        resources,
-        allocs,
-    )?;
-    for local in locals {
-        validator.define_locals(local.offset, local.count, local.ty, resources)?;
-    }
-    Ok(validator)
 }
 
 /// Whether the body is accepted by this validator.

@@ -12,7 +12,6 @@ ghost use Rattle.validation_rules.specs.Static.{start};
 use crate::expect::{expect, expect_error, expect_same};
 use crate::module::{chain_of, read_module};
 use bitflags::Flags;
-use std::alloc::AllocError;
 use std::process::Abort;
 use std::test::Fail;
 use validate_body::{OperatorValidator, check_ops, safety_law};
@@ -239,36 +238,4 @@ fn a_constant_expression(rt: HostRuntime) -> Result<(), Fail> {
     let lists = read_module(&rt, MODULE)??;
     lists_are_safe(&lists);
     expect_constants(&rt, &lists)
-}
-
-const BLOCKS: usize = 100_000;
-
-/// Adds blocks, each within the one before it, and the ends of them and of the body.
-fn nest(ops: &mut Vec<(Op<'static>, u64)>) -> Result<(), AllocError> {
-    ops.resize(BLOCKS, (Op::Control(ControlOp::Block(BlockType::Empty)), 0))?;
-    ops.resize(2 * BLOCKS + 1, (Op::Control(ControlOp::End), 0))?;
-    Ok(())
-}
-
-/// They are accepted in a body of this module, which leaves no operand anywhere.
-fn expect_nested(
-    rt: &(impl Abort + AllocGlobal),
-    lists: &ModuleLists,
-    ops: &[(Op<'_>, u64)],
-) -> Result<(), Fail> {
-    let mut v = validator(lists, OperatorValidatorAllocations::new(rt.alloc()))?;
-    let heights = accepted_heights(rt, &mut v, lists, ops);
-    expect(rt, heights.iter().all(|(operands, _)| *operands == 0));
-    let greatest = heights.iter().map(|(_, frames)| *frames).max();
-    expect_same(rt, greatest, Some(BLOCKS + 1));
-    Ok(())
-}
-
-/// No call goes as deep as blocks nest.
-#[test]
-fn blocks_that_nest_deep(rt: HostRuntime) -> Result<(), Fail> {
-    let lists = read_module(&rt, MODULE)??;
-    let mut ops = Vec::new(rt.alloc());
-    nest(&mut ops)?;
-    expect_nested(&rt, &lists, &ops)
 }

@@ -9,8 +9,7 @@
 //! frames and operands as they were; and with the indices of its types doubled, over a lookup in which two
 //! indices name each type. Where it is accepted, the types of operands that it shows are those that
 //! `operands_before` answers at each place. One without `feature` lines runs again as one list with every
-//! proposal on but custom descriptors, and answers the same. Last come scripts that are in no file: with
-//! odd bytes, and computed.
+//! proposal on but custom descriptors, and answers the same.
 #![tactic(auto)]
 
 mod attempts;
@@ -19,7 +18,6 @@ mod cases;
 mod doubled;
 mod flags;
 mod left;
-mod odd;
 mod printed;
 mod renumbered;
 mod report;
@@ -31,7 +29,6 @@ mod undone;
 mod words;
 
 use crate::cases::{descriptors_of, run_cases};
-use crate::odd::{run_many_elements, run_odd};
 use crate::report::Report;
 use crate::runs::{Outcome, run_script};
 use std::process::ExitCode;
@@ -76,14 +73,6 @@ fn report_of(rt: &HostRuntime, line: &str, once: bool) -> Option<Report> {
     }
 }
 
-/// What the scripts came to that stand in no file.
-fn report_of_others(rt: &HostRuntime, once: bool) -> Option<Report> {
-    let mut report = Report::new(rt.alloc(), once);
-    run_odd(rt.alloc(), &mut report).ok()?;
-    run_many_elements(rt.alloc(), &mut report).ok()?;
-    Some(report)
-}
-
 /// Prints what scripts came to, and says whether all was as expected.
 fn print_report(rt: &HostRuntime, name: &str, report: &Report) -> io::Result<bool> {
     let noun = if report.scripts == 1 {
@@ -122,7 +111,6 @@ fn run_files(rt: &HostRuntime, lines: &str) -> io::Result<bool> {
         let (name, _) = line.split_once('.').unwrap_or((line, ""));
         is_well &= print_read(rt, name, report_of(rt, line, once))?;
     }
-    is_well &= print_read(rt, "in no file", report_of_others(rt, once))?;
     Ok(is_well)
 }
 

@@ -9,7 +9,7 @@ use crate::report::Report;
 use crate::shown::compare_shown;
 use opcheck_script::run;
 use std::alloc::Global;
-use std::{fmt, str};
+use std::fmt;
 
 /// What a script comes to.
 #[derive(Clone, Copy)]
@@ -46,14 +46,13 @@ fn compare_outcome(
 fn compare_run(
     alloc: Global,
     report: &mut Report,
-    script: &[u8],
+    script: &str,
     wanted: Outcome<'_>,
 ) -> Result<(), fmt::Error> {
     let mut printed = Vec::new(alloc);
     let mut said = Vec::new(alloc);
-    let status = run(alloc, script, &mut printed, &mut said);
-    let text = str::from_utf8(script).unwrap_or("bytes that are no text");
-    compare_outcome(report, text, (&printed, &said, status), wanted)
+    let status = run(alloc, script.as_bytes(), &mut printed, &mut said);
+    compare_outcome(report, script, (&printed, &said, status), wanted)
 }
 
 /// Runs a script with each operator attempted that may be.
@@ -69,7 +68,7 @@ fn compare_attempted(
         status,
         ..wanted
     };
-    compare_run(alloc, report, text.as_bytes(), wanted)
+    compare_run(alloc, report, &text, wanted)
 }
 
 /// Runs a script as one list; once more with each operator attempted that may be; once operator by operator by
@@ -81,7 +80,7 @@ fn compare_runs(
     script: &str,
     wanted: Outcome<'_>,
 ) -> Result<(), fmt::Error> {
-    compare_run(alloc, report, script.as_bytes(), wanted)?;
+    compare_run(alloc, report, script, wanted)?;
     if report.once {
         return Ok(());
     }
@@ -102,7 +101,7 @@ fn compare_moved(
     if is_alone {
         return compare_runs(alloc, report, script, wanted);
     }
-    compare_run(alloc, report, script.as_bytes(), wanted)
+    compare_run(alloc, report, script, wanted)
 }
 
 /// The same of a script behind these lines, where this is of the script alone.
@@ -155,18 +154,4 @@ pub fn run_script(
     }
     let is_alone = descriptors == Descriptors::Without;
     compare_without(alloc, report, script, wanted, is_alone)
-}
-
-/// Runs bytes: in all ways where they are text, and else once.
-pub fn run_bytes(
-    alloc: Global,
-    report: &mut Report,
-    bytes: &[u8],
-    wanted: Outcome<'_>,
-) -> Result<(), fmt::Error> {
-    if let Ok(text) = str::from_utf8(bytes) {
-        return run_script(alloc, report, text, wanted, Descriptors::Both);
-    }
-    report.count();
-    compare_run(alloc, report, bytes, wanted)
 }

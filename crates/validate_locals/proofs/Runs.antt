@@ -1,12 +1,12 @@
 -- Lists of locals in parts: more at the end, and the type at an index.
-use Rattle.std.proofs.Common.{◌≡◌, ℕ, zero, suc, ◌<◌, ◌≤◌, ◌+◌, ◌-◌, ◌*◌, inl, inr, List, [], ◌∷◌, ◌++◌, Option, None, Some, length, replicate, slice_get, get_or, refl, sym, ◌∙◌, ap, ap₂, subst, arith, append_assoc, append-nil, length-append}
+use Rattle.std.proofs.Common.{◌≡◌, ℕ, zero, suc, ◌<◌, ◌≤◌, ◌+◌, ◌-◌, List, [], ◌∷◌, ◌++◌, Option, None, Some, length, replicate, slice_get, get_or, refl, sym, ◌∙◌, ap, ap₂, subst, arith, take, inl, inr, append_assoc, append-nil, length-append}
 use Rattle.std.specs.Option.{option_map, option_to_list}
-use Rattle.std.proofs.Math.Nat.{mul-le-mul_left}
+use Rattle.std.proofs.Math.Seq.{take-append_seam}
 use Rattle.std.proofs.lemmas.Bool.{cases_lt}
-use Rattle.std.proofs.lemmas.List.{length-replicate, replicate-append-replicate, get_or_default}
+use Rattle.std.proofs.lemmas.List.{length-replicate, replicate-append-replicate, get_or_default, take_all}
 use Rattle.validate_types.specs.declared.types.ValType.{ValType}
 use Rattle.validate_locals.specs.Limit.{max_locals}
-use Rattle.validate_locals.specs.Runs.{max_first, run_types, local_types, end_of, AreRuns, AreLongerRuns, AreLocals, IsBetween}
+use Rattle.validate_locals.specs.Runs.{max_first, run_types, local_types, end_of, AreRuns, AreLongerRuns, AreLocals, EndBelow}
 
 abbrev pub Run : Type 0
 Run = ℕ × ValType
@@ -224,101 +224,35 @@ type-at (r ∷ rs) (suc k) i n rising h below above =
     ∙ ap (slice_get (run_types (r.0 + 1) rs)) e
     ∙ sym (get-past (replicate (r.0 + 1 - n) r.1) (run_types (r.0 + 1) rs) (i - n) (omega (arith, len, last, h)))
 
--- 1 where a run that reaches up to this place ends below the index, and 0 where it doesn't
-pub record OneIfBelow (last index one : ℕ) : Type 0 where
-  pub below : last < index → one ≡ 1
-  pub above : index ≤ last → one ≡ 0
+-- where a run ends below the index, those before it do too
+pub ends_before : (n : ℕ) (runs : List Run) (index place : ℕ) (d : Run) → AreRuns n runs → place < length runs → (get_or runs place d).0 < index → EndBelow runs (place + 1) index
+ends_before n runs index place d rising within h j e l =
+    let same : get_or runs place e ≡ get_or runs place d = get_or_default runs place e d within in
+    let le = rising-ends n runs rising j place e (omega (arith, l)) within in
+    omega (arith, le, h, ap (λ (r : Run). r.0) same)
 
-pub between_all : (runs : List Run) (index : ℕ) → IsBetween runs index 0 (length runs)
-between_all runs index = record {
-  before = λ j d l. absurd (omega (arith, l));
-  after = λ j d l m. absurd (omega (arith, l, m));
-}
-
--- the run at this place ends below the index
-between_from : (n : ℕ) (runs : List Run) (index below above place : ℕ) (d : Run) → AreRuns n runs → IsBetween runs index below above → place < length runs → (get_or runs place d).0 < index → IsBetween runs index (place + 1) above
-between_from n runs index below above place d rising is within h = record {
-  before = λ j e l.
-      let same : get_or runs place e ≡ get_or runs place d = get_or_default runs place e d within in
-      let le = rising-ends n runs rising j place e (omega (arith, l)) within in
-      omega (arith, le, h, ap (λ (r : Run). r.0) same);
-  after = is.after;
-}
-
--- and it doesn't
-between_to : (n : ℕ) (runs : List Run) (index below above place : ℕ) (d : Run) → AreRuns n runs → IsBetween runs index below above → place < length runs → index ≤ (get_or runs place d).0 → IsBetween runs index below place
-between_to n runs index below above place d rising is within h = record {
-  before = is.before;
-  after = λ j e l m.
-      let same : get_or runs place e ≡ get_or runs place d = get_or_default runs place e d within in
-      let le = rising-ends n runs rising place j e l m in
-      omega (arith, le, h, ap (λ (r : Run). r.0) same);
-}
-
--- less is known at lower and higher places
-pub between_wider : (runs : List Run) (index below above below' above' : ℕ) → IsBetween runs index below above → below' ≤ below → above ≤ above' → IsBetween runs index below' above'
-between_wider runs index below above below' above' is h k = record {
-  before = λ j d l. is.before j d (omega (arith, l, h));
-  after = λ j d l m. is.after j d (omega (arith, l, k)) m;
-}
-
--- three runs in their order, of which so many end below the index
-pub between_quarters : (n : ℕ) (runs : List Run) (index base size quarter one two three : ℕ) (d : Run) → AreRuns n runs → IsBetween runs index base (base + size) → 0 < quarter → 4 * quarter ≤ size → base + size ≤ length runs
-    → OneIfBelow (get_or runs (base + quarter - 1) d).0 index one
-    → OneIfBelow (get_or runs (base + quarter - 1 + quarter) d).0 index two
-    → OneIfBelow (get_or runs (base + quarter - 1 + quarter + quarter) d).0 index three
-    → IsBetween runs index (base + quarter * (one + two + three)) (base + quarter * (one + two + three) + (size - 3 * quarter))
-between_quarters n runs index base size quarter one two three d rising is some room within a b c =
-    let i = base + quarter - 1 in
-    let j = base + quarter - 1 + quarter in
-    let k = base + quarter - 1 + quarter + quarter in
-    let ij = rising-ends n runs rising i j d (omega arith) (omega (arith, some, room, within)) in
-    let jk = rising-ends n runs rising j k d (omega arith) (omega (arith, some, room, within)) in
-    let count = quarter * (one + two + three) in
-    let all = base + size in
-    let over = base + count + (size - 3 * quarter) in
-    elim (cases_lt (get_or runs k d).0 index) [
-      | inl h ↦
-          let e : count ≡ quarter * 3 = ap (λ m. quarter * m) (omega (arith, a.below (omega (arith, h, ij, jk)), b.below (omega (arith, h, jk)), c.below h)) in
-          between_wider runs index (k + 1) all (base + count) over (between_from n runs index base all k d rising is (omega (arith, some, room, within)) h) (omega (arith, e, some)) (omega (arith, e, room))
-      | inr h ↦ elim (cases_lt (get_or runs j d).0 index) [
-        | inl g ↦
-            let e : count ≡ quarter * 2 = ap (λ m. quarter * m) (omega (arith, a.below (omega (arith, g, ij)), b.below g, c.above h)) in
-            let to = between_to n runs index base all k d rising is (omega (arith, some, room, within)) h in
-            between_wider runs index (j + 1) k (base + count) over (between_from n runs index base k j d rising to (omega (arith, some, room, within)) g) (omega (arith, e, some)) (omega (arith, e, room))
-        | inr g ↦ elim (cases_lt (get_or runs i d).0 index) [
-          | inl f ↦
-              let e : count ≡ quarter * 1 = ap (λ m. quarter * m) (omega (arith, a.below f, b.above g, c.above h)) in
-              let to = between_to n runs index base all j d rising is (omega (arith, some, room, within)) g in
-              between_wider runs index (i + 1) j (base + count) over (between_from n runs index base j i d rising to (omega (arith, some, room, within)) f) (omega (arith, e, some)) (omega (arith, e, room))
-          | inr f ↦
-              let e : count ≡ quarter * 0 = ap (λ m. quarter * m) (omega (arith, a.above f, b.above g, c.above h)) in
-              between_wider runs index base i (base + count) over (between_to n runs index base all i d rising is (omega (arith, some, room, within)) f) (omega (arith, e, some)) (omega (arith, e, room))
-        ]
-      ]
-    ]
-
-pub few_quarters : (quarter passed : ℕ) → passed ≤ 3 → quarter * passed ≤ 3 * quarter
-few_quarters quarter passed h = let m = mul-le-mul_left quarter h in omega (arith, m)
-
--- one run, which ends below the index or doesn't
-pub between_one : (n : ℕ) (runs : List Run) (index place above one : ℕ) (d : Run) → AreRuns n runs → IsBetween runs index place above → place < above → above ≤ length runs → OneIfBelow (get_or runs place d).0 index one → IsBetween runs index (place + one) (above + one - 1)
-between_one n runs index place above one d rising is some within a =
-    elim (cases_lt (get_or runs place d).0 index) [
-      | inl h ↦
-          let e = a.below h in
-          between_wider runs index (place + 1) above (place + one) (above + one - 1) (between_from n runs index place above place d rising is (omega (arith, some, within)) h) (omega (arith, e)) (omega (arith, e))
-      | inr h ↦
-          let e = a.above h in
-          between_wider runs index place place (place + one) (above + one - 1) (between_to n runs index place above place d rising is (omega (arith, some, within)) h) (omega (arith, e)) (omega (arith, e, some))
-    ]
-
--- where both are one place, the type there is that at the index
-pub type_between : (n : ℕ) (runs : List Run) (index place : ℕ) → AreRuns n runs → n ≤ index → IsBetween runs index place place → option_map (λ (r : Run). r.1) (slice_get runs place) ≡ slice_get (run_types n runs) (index - n)
-type_between n runs index place rising h is = type-at runs place index n rising h is.before is.after
+-- where the runs before a place end below the index, and the one there doesn't, its type is that at the index
+pub type_found : (n : ℕ) (runs : List Run) (index place : ℕ) (d : Run) → AreRuns n runs → n ≤ index → EndBelow runs place index → (place < length runs → index ≤ (get_or runs place d).0) → option_map (λ (r : Run). r.1) (slice_get runs place) ≡ slice_get (run_types n runs) (index - n)
+type_found n runs index place d rising h before reached =
+    type-at runs place index n rising h before (λ j e l within.
+    let here = reached (omega (arith, l, within)) in
+    let same : get_or runs place e ≡ get_or runs place d = get_or_default runs place e d (omega (arith, l, within)) in
+    let le = rising-ends n runs rising place j e l within in
+    omega (arith, le, here, ap (λ (r : Run). r.0) same))
 
 pub get-first : (first : List ValType) (rs : List Run) (i : ℕ) → i < length first → slice_get first i ≡ slice_get (local_types first rs) i
 get-first first rs i h = sym (get-under first (run_types (length first) rs) i h)
 
 pub get-further : (first : List ValType) (rs : List Run) (i : ℕ) → length first ≤ i → slice_get (run_types (length first) rs) (i - length first) ≡ slice_get (local_types first rs) i
 get-further first rs i h = sym (get-past first (run_types (length first) rs) i h)
+
+-- the first of all locals are those that are held plainly
+pub first_types : (first : List ValType) (rs : List Run) (count : ℕ) → AreLocals first rs count → take max_first (local_types first rs) ≡ first
+first_types first rs count was = elim (cases_lt (length first) max_first) [
+  | inl h ↦
+      let none = was.full h in
+      rw none (ap (take max_first) (append-nil first) ∙ take_all max_first first (omega (arith, h)))
+  | inr h ↦
+      let all : max_first ≡ length first = omega (arith, was.within_limit, h) in
+      ap (λ n. take n (local_types first rs)) all ∙ take-append_seam first (run_types (length first) rs)
+]

@@ -31,10 +31,9 @@ pub record AreLongerRuns (from : ℕ) (earlier later : List (ℕ × ValType)) (m
   pub rising : AreRuns from later
   pub types : run_types from later ≡ run_types from earlier ++ more
 
--- the runs before the one place end below the index, and those from the other on don't
-pub record IsBetween (runs : List (ℕ × ValType)) (index below above : ℕ) : Type 0 where
-  pub before : (j : ℕ) (d : ℕ × ValType) → j < below → (slice_index_or runs j d).0 < index
-  pub after : (j : ℕ) (d : ℕ × ValType) → above ≤ j → j < length runs → index ≤ (slice_index_or runs j d).0
+-- the runs before this place end below the index
+abbrev pub EndBelow : List (ℕ × ValType) → ℕ → ℕ → Type 0
+EndBelow runs place index = (j : ℕ) (d : ℕ × ValType) → j < place → (slice_index_or runs j d).0 < index
 
 -- so many locals, in runs only once the first are as many as they can be
 pub record AreLocals (first : List ValType) (runs : List (ℕ × ValType)) (count : ℕ) : Type 0 where

@@ -24,7 +24,7 @@ more c =
     let r = length-replicate (count - near c) ty in
     let room : length a.first.items + length (replicate (near c) ty) ≡ 50 = omega (arith, l, c.min-near.ensures, c.len-len.ensures, a.first.ok.0, c.self.invariant.within_limit, within_limit) in
     let all : replicate (near c) ty ++ replicate (count - near c) ty ≡ replicate count ty = replicate-append-replicate (near c) (count - near c) ty ∙ ap (λ k. replicate k ty) (omega (arith, within_limit)) in
-    let longer = rw c.in_ok-reserve.ensures.items at c.add_run.ensures.added in
+    let longer = rw c.in_ok-reserve_runs.ensures.items at c.add_run.ensures.added in
     rw (held c, ← all) (grown a.first.items a.uncached.items c.add_run.new.runs.items a.num_locals (replicate (near c) ty) (replicate (count - near c) ty) c.self.invariant
     (omega (arith, room))
     (λ h. absurd (omega (arith, room, h)))

@@ -15,7 +15,7 @@ more c =
     let a = c.self.inside in
     let parts = c.split_at.ensures in
     let vacant : length a.first.items ≡ c.len-vacant.result = omega (arith, c.len-vacant.ensures, a.first.ok.0) in
-    let longer = rw c.in_ok-reserve.ensures.items at c.add_runs.ensures in
+    let longer = rw c.in_ok-reserve_runs.ensures.items at c.add_runs.ensures in
     rw (c.in_ok-extend_from_slice.ensures.items, parts.by_index.0) (grown a.first.items a.uncached.items c.add_runs.new.runs.items a.num_locals (near c) (far c) c.self.invariant
     (omega (arith, parts.front_len, c.min.ensures, vacant, c.self.invariant.within_limit))
     (λ h. empty_list (far c) (omega (arith, parts.front_len, parts.back_len, c.min.ensures, vacant, h)))

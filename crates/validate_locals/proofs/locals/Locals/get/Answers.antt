@@ -18,7 +18,7 @@ returns-in_err-ty c =
     let a = c.self.inside in
     let past = rw c.deref.ensures.value at c.in_default.ensures.lookup.3 in
     let run = (rw c.deref-2.ensures.value at c.run_at-run.ensures) (length a.first.items) c.self.invariant.rising past in
-    let none = rw c.deref-3.ensures.value at c.in_err-ty.ensures.lookup.3 in
+    let none = rw c.deref-4.ensures.value at c.in_err-ty.ensures.lookup.3 in
     c.from_residual.ensures
     ∙ sym (ap (option_map (λ (r : Run). r.1)) (slice_get_past a.uncached.items c.run_at-run.result none))
     ∙ run
@@ -31,7 +31,7 @@ returns c =
     let past = rw c.deref.ensures.value at c.in_default.ensures.lookup.3 in
     let run = (rw c.deref-2.ensures.value at c.run_at-run.ensures) (length a.first.items) c.self.invariant.rising past in
     let item = c.in_ok-ty.field-0.now in
-    let found = rw c.deref-3.ensures.value at c.in_ok-ty.ensures.lookup.3 in
+    let found = rw c.deref-4.ensures.value at c.in_ok-ty.ensures.lookup.3 in
     ap (λ (r : Run). Some r.1) (found.1 item)
     ∙ sym (ap (option_map (λ (r : Run). r.1)) (slice_get-get_or a.uncached.items c.run_at-run.result item found.0))
     ∙ run

@@ -4,27 +4,30 @@
 //! here, that of the first of them: whatever names a type is read through a list that says which stands for
 //! it. Each group is read twice: first rolled up, to be compared, and then as it is declared.
 
-use crate::equal::standing_group;
+ghost use Rattle.std.specs.Prelude.{◌≡◌, ◌+◌, ◌-◌, ◌≤◌, IfSome, length, drop, slice_range};
+
+use crate::module::Module;
 use crate::subtypes::read_sub_type;
 use crate::words::words_of;
-use binary_numbers::{BinaryReader, Fault, ReadError};
-use binary_operators::{CanonicalTypes, GroupNames};
+use binary_operators::{
+    BinaryReader, CanonicalTypes, Fault, GroupNames, ReadError, are_groups_equal,
+};
 use std::alloc::Global;
 use std::collections::BTreeMap;
 use validate_types::SubType;
 
 /// A group of types that was read.
-#[derive(Clone, Copy, Debug, PartialEq, Eq)]
-pub struct Group {
+#[derive(Clone, Copy)]
+struct Group {
     /// The index of its first type.
-    pub first: u32,
+    first: u32,
     /// How many it has.
-    pub count: u32,
+    count: u32,
 }
 
 /// The groups that were read.
 #[derive(Drop)]
-pub struct Groups {
+struct Groups {
     /// The types of all of them, rolled up.
     rolled: Vec<SubType>,
     /// Those that differ, each by its words.
@@ -33,7 +36,7 @@ pub struct Groups {
 
 impl Groups {
     /// No groups. It takes no memory.
-    pub fn new(alloc: Global) -> Groups {
+    fn new(alloc: Global) -> Groups {
         Groups {
             rolled: Vec::new(alloc),
             known: BTreeMap::new(alloc),
@@ -61,13 +64,26 @@ impl Groups {
     }
 }
 
-/// Reads how many types a group has.
-fn read_count(reader: &mut BinaryReader<'_>) -> Result<u32, ReadError> {
-    if reader.peek()? != 0x4e {
-        return Ok(1);
+/// The group, if it has as many types as the one that is the rest of the list from the first on, and they are
+/// equal: then its types stand for those.
+fn standing_group(candidate: Option<Group>, rolled: &[SubType], first: usize) -> Option<Group>
+    requires { first ≤ length rolled.now }
+    ensures equal { IfSome result (λ group. slice_range rolled.now group.first (group.first + group.count)
+        ≡ drop first rolled.now) }
+    ensures count { IfSome result (λ group. group.count ≡ length rolled.now - first) }
+{
+    let group = candidate?;
+    let start = group.first as usize;
+    let count = group.count as usize;
+    let end = start.saturating_add(count);
+    if end > first || count != rolled.len() - first {
+        return None;
     }
-    let _code = reader.read_u8()?;
-    reader.read_var_u32()
+    if are_groups_equal(&rolled[start..end], &rolled[first..]) {
+        Some(group)
+    } else {
+        None
+    }
 }
 
 /// Reads so many types, behind those that are there.
@@ -85,6 +101,14 @@ fn read_sub_types(
     Ok(())
 }
 
+/// Reads how many types a group has.
+fn read_count(reader: &mut BinaryReader<'_>) -> Result<u32, ReadError> {
+    if reader.reads(0x4e)? {
+        return reader.read_var_u32();
+    }
+    Ok(1)
+}
+
 /// Says of so many types, behind those of the list, that those from this index on stand for them.
 fn push_canonical(canonical: &mut Vec<u32>, first: u32, count: u32) -> Result<(), ReadError> {
     for place in 0..count {
@@ -93,26 +117,57 @@ fn push_canonical(canonical: &mut Vec<u32>, first: u32, count: u32) -> Result<()
     Ok(())
 }
 
-/// Reads a group of types behind those that are there, and which types stand for them. It answers whether
-/// earlier ones do. It refuses what the read of a type refuses, and what the search of an equal group does.
-pub fn read_group(
+/// Reads a group of types behind those that are there, and which types stand for them. It refuses what the read of a
+/// type refuses, and what the search of an equal group does.
+fn read_group(
     alloc: Global,
     reader: &mut BinaryReader<'_>,
-    types: &mut Vec<SubType>,
-    canonical: &mut Vec<u32>,
+    module: &mut Module,
     groups: &mut Groups,
-) -> Result<bool, ReadError> {
+) -> Result<(), ReadError> {
     let offset = reader.offset();
-    let Ok(first) = u32::try_from(canonical.len()) else {
+    let Ok(first) = u32::try_from(module.canonical.len()) else {
         return Err(ReadError::malformed(Fault::TypeIndexTooLarge, offset));
     };
     let count = read_count(reader)?;
     let mut again = reader.again();
-    let places = CanonicalTypes::in_group(canonical, GroupNames::Places);
+    let places = CanonicalTypes::in_group(&module.canonical, GroupNames::Places);
     read_sub_types(alloc, reader, places, count, &mut groups.rolled)?;
     let stands = groups.find(alloc, Group { first, count }, offset)?;
-    let indices = CanonicalTypes::in_group(canonical, GroupNames::Indices(stands.first));
-    read_sub_types(alloc, &mut again, indices, count, types)?;
-    push_canonical(canonical, stands.first, count)?;
-    Ok(stands.first != first)
+    let indices = CanonicalTypes::in_group(&module.canonical, GroupNames::Indices(stands.first));
+    read_sub_types(
+        alloc,
+        &mut again,
+        indices,
+        count,
+        &mut module.declarations.types,
+    )?;
+    if stands.first != first {
+        module.merged = module.merged.saturating_add(count as usize);
+    }
+    push_canonical(&mut module.canonical, stands.first, count)
+}
+
+/// Reads so many groups of types.
+fn read_groups(
+    alloc: Global,
+    reader: &mut BinaryReader<'_>,
+    module: &mut Module,
+    groups: &mut Groups,
+) -> Result<(), ReadError> {
+    let count = reader.read_var_u32()?;
+    for _ in 0..count {
+        read_group(alloc, reader, module, groups)?;
+    }
+    Ok(())
+}
+
+/// Reads the types of a module.
+pub fn read_types(
+    alloc: Global,
+    reader: &mut BinaryReader<'_>,
+    module: &mut Module,
+) -> Result<(), ReadError> {
+    let mut groups = Groups::new(alloc);
+    read_groups(alloc, reader, module, &mut groups)
 }

@@ -2,7 +2,7 @@
 //! constant expressions stand.
 #![tactic(auto)]
 
-mod equal;
+mod declarations;
 mod groups;
 mod module;
 mod names;
@@ -14,4 +14,4 @@ mod words;
 pub use crate::module::{ConstantExpression, Module, Place};
 pub use crate::names::{FunctionNames, read_function_names};
 pub use crate::sections::read_module;
-pub use binary_numbers::ByteRange;
+pub use binary_operators::ByteRange;

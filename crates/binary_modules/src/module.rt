@@ -1,12 +1,12 @@
 //! What a module has, as far as bodies and constant expressions need it.
 
-use binary_numbers::ByteRange;
+use binary_operators::{ByteRange, ReadError};
 use std::alloc::Global;
 use validate_resources::ModuleDeclarations;
 use validate_types::ValType;
 
 /// What a constant expression is for.
-#[derive(Clone, Copy, Debug, PartialEq, Eq)]
+#[derive(Clone, Copy)]
 pub enum Place {
     /// The first elements of the table at this index.
     Table(usize),
@@ -21,7 +21,7 @@ pub enum Place {
 }
 
 /// A constant expression.
-#[derive(Clone, Copy, Debug, PartialEq, Eq)]
+#[derive(Clone, Copy)]
 pub struct ConstantExpression {
     /// What it is for.
     pub place: Place,
@@ -70,6 +70,23 @@ impl Module {
             data_segments: 0,
             names: None,
         }
+    }
+
+    /// Adds a constant expression of this type, for this, whose bytes stand there.
+    pub(crate) fn add_expression(
+        &mut self,
+        place: Place,
+        ty: ValType,
+        range: ByteRange,
+    ) -> Result<(), ReadError> {
+        let globals = self.declarations.globals.len();
+        self.expressions.push(ConstantExpression {
+            place,
+            ty,
+            range,
+            globals,
+        })?;
+        Ok(())
     }
 
     /// Marks the functions that `ref.func` may name.

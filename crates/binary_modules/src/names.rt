@@ -1,36 +1,31 @@
 //! The names of functions (WebAssembly core specification, appendix "Custom Sections", "Name Section"). They say
 //! nothing of whether a module is valid, so what can't be read of them is left out.
 
-use binary_numbers::{BinaryReader, ByteRange, Cause, ReadError};
+use binary_operators::{BinaryReader, ByteRange, Cause, ReadError};
 use std::alloc::Global;
 use std::collections::BTreeMap;
-use std::str;
 
 /// The names of functions, by their indices.
 #[derive(Drop)]
-pub struct FunctionNames {
-    names: BTreeMap<u32, ByteRange>,
+pub struct FunctionNames<'a> {
+    names: BTreeMap<u32, &'a str>,
 }
 
-impl FunctionNames {
+impl<'a> FunctionNames<'a> {
     /// No names. It takes no memory.
-    pub fn new(alloc: Global) -> FunctionNames {
+    pub fn new(alloc: Global) -> FunctionNames<'a> {
         FunctionNames {
             names: BTreeMap::new(alloc),
         }
     }
 
-    /// The name of the function at this index in a module of these bytes, or None where it has none.
-    pub fn of<'a>(&self, bytes: &'a [u8], function: u32) -> Option<&'a str> {
-        let range = *self.names.get(&function)?;
-        if range.start > range.end || range.end > bytes.len() {
-            return None;
-        }
-        str::from_utf8(&bytes[range.start..range.end]).ok()
+    /// The name of the function at this index, or None where it has none.
+    pub fn of(&self, function: u32) -> Option<&'a str> {
+        self.names.get(&function).copied()
     }
 
     /// Reads the names of a subsection of functions.
-    fn read(&mut self, reader: &mut BinaryReader<'_>) -> Result<(), ReadError> {
+    fn read(&mut self, reader: &mut BinaryReader<'a>) -> Result<(), ReadError> {
         let count = reader.read_var_u32()?;
         for _ in 0..count {
             let function = reader.read_var_u32()?;
@@ -40,24 +35,18 @@ impl FunctionNames {
         Ok(())
     }
 
-    /// Reads a subsection of a name section.
-    fn read_subsection(&mut self, reader: &mut BinaryReader<'_>) -> Result<(), ReadError> {
-        let id = reader.read_u8()?;
-        let size = reader.read_var_u32()?;
-        let mut part = reader.part(size as usize)?;
-        if id == 1 {
-            return self.read(&mut part);
-        }
-        Ok(())
-    }
-
     /// Reads a name section.
-    fn read_section(&mut self, reader: &mut BinaryReader<'_>) -> Result<(), ReadError> {
+    fn read_section(&mut self, reader: &mut BinaryReader<'a>) -> Result<(), ReadError> {
         for _ in 0..reader.bytes_left() {
             if reader.is_at_end() {
                 return Ok(());
             }
-            self.read_subsection(reader)?;
+            let id = reader.read_u8()?;
+            let size = reader.read_var_u32()?;
+            let mut part = reader.part(size as usize)?;
+            if id == 1 {
+                self.read(&mut part)?;
+            }
         }
         Ok(())
     }
@@ -65,17 +54,19 @@ impl FunctionNames {
 
 /// Reads the names of the functions in a module's name section, up to the first that can't be read. It refuses
 /// want of memory alone.
-pub fn read_function_names(
+pub fn read_function_names<'a>(
     alloc: Global,
-    bytes: &[u8],
+    bytes: &'a [u8],
     section: ByteRange,
-) -> Result<FunctionNames, ReadError> {
+) -> Result<FunctionNames<'a>, ReadError> {
     let mut names = FunctionNames::new(alloc);
     let Some(mut reader) = BinaryReader::of_range(bytes, section) else {
         return Ok(names);
     };
-    match names.read_section(&mut reader) {
-        Err(error) if error.cause == Cause::OutOfMemory => Err(error),
-        _ => Ok(names),
+    if let Err(error) = names.read_section(&mut reader) {
+        if matches!(error.cause, Cause::OutOfMemory) {
+            return Err(error);
+        }
     }
+    Ok(names)
 }

@@ -1,20 +1,24 @@
 //! Constant expressions, and the segments that have them.
 
 use crate::module::{ConstantExpression, Module, Place};
-use binary_numbers::{BinaryReader, ByteRange, Fault, ReadError};
-use binary_operators::{CanonicalTypes, OperatorLists, read_operator, read_ref_type};
+use binary_operators::{
+    BinaryReader, ByteRange, CanonicalTypes, Fault, OperatorLists, ReadError, read_operator,
+    read_ref_type,
+};
 use std::alloc::Global;
 use validate_types::{RefType, ValType};
 use validate_visit::{ControlOp, ExceptionOp, Op, ReferenceOp};
 
-/// Reads over a constant of the vector type, if the next operator is one.
+/// Reads over a constant of the vector type, if the next operator is one. It refuses other vector operators.
 fn skip_vector(reader: &mut BinaryReader<'_>) -> Result<bool, ReadError> {
-    let mut ahead = reader.again();
-    if ahead.read_u8()? != 0xfd || ahead.read_var_u32()? != 12 {
+    let offset = reader.offset();
+    if !reader.reads(0xfd)? {
         return Ok(false);
     }
-    let _bits = ahead.read_bytes(16)?;
-    *reader = ahead;
+    if reader.read_var_u32()? != 12 {
+        return Err(ReadError::vector_operator(offset));
+    }
+    let _bits = reader.read_bytes(16)?;
     Ok(true)
 }
 
@@ -32,6 +36,25 @@ fn depth_after(depth: usize, op: Op<'_>) -> Option<usize> {
     }
 }
 
+/// Reads over an operator of a constant expression in which so many parts are open, and notes the function that it
+/// names. It answers how many are open behind it, or None where it ends the expression.
+fn skip_operator(
+    reader: &mut BinaryReader<'_>,
+    canonical: CanonicalTypes<'_>,
+    lists: &mut OperatorLists,
+    referenced: &mut Vec<u32>,
+    depth: usize,
+) -> Result<Option<usize>, ReadError> {
+    if skip_vector(reader)? {
+        return Ok(Some(depth));
+    }
+    let op = read_operator(reader, canonical, lists, 0)?;
+    if let Op::Reference(ReferenceOp::RefFunc(index)) = op {
+        referenced.push(index)?;
+    }
+    Ok(depth_after(depth, op))
+}
+
 /// Reads over a constant expression, and notes the functions that it names.
 fn skip_expression(
     reader: &mut BinaryReader<'_>,
@@ -42,19 +65,11 @@ fn skip_expression(
     let start = reader.position();
     let mut depth = 0;
     for _ in 0..reader.bytes_left() {
-        if !skip_vector(reader)? {
-            let op = read_operator(reader, canonical, lists, 0)?;
-            if let Op::Reference(ReferenceOp::RefFunc(index)) = op {
-                referenced.push(index)?;
-            }
-            match depth_after(depth, op) {
-                Some(after) => depth = after,
-                None => {
-                    return Ok(ByteRange {
-                        start,
-                        end: reader.position(),
-                    });
-                }
+        match skip_operator(reader, canonical, lists, referenced, depth)? {
+            Some(after) => depth = after,
+            None => {
+                let end = reader.position();
+                return Ok(ByteRange { start, end });
             }
         }
     }
@@ -70,154 +85,115 @@ pub fn read_expression(
     ty: ValType,
 ) -> Result<(), ReadError> {
     let mut lists = OperatorLists::new(alloc);
-    let range = skip_expression(
-        reader,
-        CanonicalTypes::new(&module.canonical),
-        &mut lists,
-        &mut module.referenced,
-    )?;
-    let globals = module.declarations.globals.len();
-    module.expressions.push(ConstantExpression {
-        place,
-        ty,
-        range,
-        globals,
-    })?;
-    Ok(())
-}
-
-/// The type of the addresses of the table at this index.
-fn table_address(module: &Module, index: u32) -> ValType {
-    match module.declarations.tables.get(index as usize) {
-        Some(ty) => ty.index_type(),
-        None => ValType::I32,
+    let canonical = CanonicalTypes::new(&module.canonical);
+    match skip_expression(reader, canonical, &mut lists, &mut module.referenced) {
+        Ok(range) => module.add_expression(place, ty, range),
+        Err(error) => Err(error),
     }
 }
 
-/// The type of the addresses of the memory at this index.
-fn memory_address(module: &Module, index: u32) -> ValType {
-    match module.declarations.memories.get(index as usize) {
-        Some(ty) => ty.index_type(),
-        None => ValType::I32,
+/// Reads the index of what an active segment goes into, where it stands there.
+fn read_target(reader: &mut BinaryReader<'_>, is_there: bool) -> Result<usize, ReadError> {
+    if !is_there {
+        return Ok(0);
     }
+    let index = reader.read_var_u32()?;
+    Ok(index as usize)
 }
 
-/// The references to functions, without null.
-fn function_reference() -> RefType {
-    RefType::FUNCREF.as_non_null()
-}
-
-fn read_items_as_expressions(
-    alloc: Global,
+/// Reads the type of the items of an element segment with these flags, and what tells it from others.
+fn read_item_type(
     reader: &mut BinaryReader<'_>,
-    module: &mut Module,
-    segment: usize,
-    ty: RefType,
-) -> Result<(), ReadError> {
-    let count = reader.read_var_u32()?;
-    for _ in 0..count {
-        read_expression(
-            alloc,
-            reader,
-            module,
-            Place::Element(segment),
-            ValType::Ref(ty),
-        )?;
+    module: &Module,
+    flags: u32,
+) -> Result<RefType, ReadError> {
+    let offset = reader.offset();
+    if flags > 4 {
+        return read_ref_type(reader, CanonicalTypes::new(&module.canonical));
     }
-    Ok(())
+    if flags == 4 {
+        return Ok(RefType::FUNCREF);
+    }
+    if flags != 0 && reader.read_u8()? != 0 {
+        return Err(ReadError::malformed(Fault::InvalidElementKind, offset));
+    }
+    Ok(RefType::FUNCREF.as_non_null())
 }
 
-fn read_items_as_functions(
-    reader: &mut BinaryReader<'_>,
-    module: &mut Module,
-) -> Result<(), ReadError> {
-    let count = reader.read_var_u32()?;
-    for _ in 0..count {
-        let index = reader.read_var_u32()?;
-        module.referenced.push(index)?;
-    }
-    Ok(())
-}
-
+/// Reads the items of an element segment: constant expressions of this type, or the indices of functions.
 fn read_items(
     alloc: Global,
     reader: &mut BinaryReader<'_>,
     module: &mut Module,
-    segment: usize,
-    flags: u32,
-) -> Result<RefType, ReadError> {
-    if flags >= 4 {
-        let ty = if flags > 4 {
-            read_ref_type(reader, CanonicalTypes::new(&module.canonical))?
-        } else {
-            RefType::FUNCREF
-        };
-        read_items_as_expressions(alloc, reader, module, segment, ty)?;
-        return Ok(ty);
-    }
-    let offset = reader.offset();
-    if flags != 0 && reader.read_u8()? != 0 {
-        return Err(ReadError::malformed(Fault::InvalidElementKind, offset));
-    }
-    read_items_as_functions(reader, module)?;
-    Ok(function_reference())
-}
-
-/// Reads the element segments.
-pub fn read_elements(
-    alloc: Global,
-    reader: &mut BinaryReader<'_>,
-    module: &mut Module,
+    are_expressions: bool,
+    ty: RefType,
 ) -> Result<(), ReadError> {
+    let place = Place::Element(module.declarations.elements.len());
     let count = reader.read_var_u32()?;
     for _ in 0..count {
-        let segment = module.declarations.elements.len();
-        let offset = reader.offset();
-        let flags = reader.read_var_u32()?;
-        if flags > 7 {
-            return Err(ReadError::malformed(Fault::InvalidSegmentFlags, offset));
+        if are_expressions {
+            read_expression(alloc, reader, module, place, ValType::Ref(ty))?;
+        } else {
+            let index = reader.read_var_u32()?;
+            module.referenced.push(index)?;
         }
-        if flags % 2 == 0 {
-            let table = if flags % 4 == 2 {
-                reader.read_var_u32()?
-            } else {
-                0
-            };
-            let ty = table_address(module, table);
-            read_expression(alloc, reader, module, Place::ElementOffset(segment), ty)?;
-        }
-        let ty = read_items(alloc, reader, module, segment, flags)?;
-        module.declarations.elements.push(ty)?;
     }
     Ok(())
 }
 
-/// Reads the data segments.
+/// Reads an element segment.
+pub fn read_element(
+    alloc: Global,
+    reader: &mut BinaryReader<'_>,
+    module: &mut Module,
+) -> Result<(), ReadError> {
+    let offset = reader.offset();
+    let flags = reader.read_var_u32()?;
+    if flags > 7 {
+        return Err(ReadError::malformed(Fault::InvalidSegmentFlags, offset));
+    }
+    if flags % 2 == 0 {
+        let table = read_target(reader, flags % 4 == 2)?;
+        let ty = match module.declarations.tables.get(table) {
+            Some(ty) => ty.index_type(),
+            None => ValType::I32,
+        };
+        let place = Place::ElementOffset(module.declarations.elements.len());
+        read_expression(alloc, reader, module, place, ty)?;
+    }
+    let ty = read_item_type(reader, module, flags)?;
+    read_items(alloc, reader, module, flags >= 4, ty)?;
+    module.declarations.elements.push(ty)?;
+    Ok(())
+}
+
+/// Reads a data segment.
 pub fn read_data(
     alloc: Global,
     reader: &mut BinaryReader<'_>,
     module: &mut Module,
 ) -> Result<(), ReadError> {
-    let count = reader.read_var_u32()?;
-    for segment in 0..count {
-        let offset = reader.offset();
-        let flags = reader.read_var_u32()?;
-        if flags > 2 {
-            return Err(ReadError::malformed(Fault::InvalidSegmentFlags, offset));
-        }
-        if flags != 1 {
-            let memory = if flags == 2 {
-                reader.read_var_u32()?
-            } else {
-                0
-            };
-            let ty = memory_address(module, memory);
-            let place = Place::DataOffset(segment as usize);
-            read_expression(alloc, reader, module, place, ty)?;
-        }
-        let size = reader.read_var_u32()?;
-        let _bytes = reader.read_bytes(size as usize)?;
+    let offset = reader.offset();
+    let flags = reader.read_var_u32()?;
+    if flags > 2 {
+        return Err(ReadError::malformed(Fault::InvalidSegmentFlags, offset));
     }
-    module.data_segments = count as usize;
+    if flags != 1 {
+        let memory = read_target(reader, flags == 2)?;
+        let ty = match module.declarations.memories.get(memory) {
+            Some(ty) => ty.index_type(),
+            None => ValType::I32,
+        };
+        read_expression(
+            alloc,
+            reader,
+            module,
+            Place::DataOffset(module.data_segments),
+            ty,
+        )?;
+    }
+    let size = reader.read_var_u32()?;
+    let _bytes = reader.read_bytes(size as usize)?;
+    module.data_segments = module.data_segments.saturating_add(1);
     Ok(())
 }

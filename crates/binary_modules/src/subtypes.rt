@@ -1,17 +1,23 @@
 //! The types that a module declares (WebAssembly core specification, "Binary Format: Types", "Recursive Types";
 //! descriptors are of a proposal, "Custom Descriptors").
 
-use binary_numbers::{BinaryReader, Fault, ReadError};
-use binary_operators::{CanonicalTypes, read_type_number, read_value_type, read_value_types};
+use binary_operators::{
+    BinaryReader, CanonicalTypes, Fault, ReadError, read_type_number, read_value_type,
+    read_value_types,
+};
 use std::alloc::Global;
 use validate_types::{
     ArrayType, CompositeInnerType, CompositeType, ContType, FieldType, FuncType, PackedIndex,
-    StorageType, StructType, SubType, UnpackedIndex,
+    StorageType, StructType, SubType,
 };
 
-/// The index in the form that types pack, or the refusal of one that is too large.
-fn packed(index: UnpackedIndex, offset: u64) -> Result<PackedIndex, ReadError> {
-    match index.pack() {
+/// What names the type at this index, in the form that types pack, or the refusal of an index that is too large.
+fn packed(
+    canonical: CanonicalTypes<'_>,
+    index: u32,
+    offset: u64,
+) -> Result<PackedIndex, ReadError> {
+    match canonical.name(index).pack() {
         Some(packed) => Ok(packed),
         None => Err(ReadError::malformed(Fault::TypeIndexTooLarge, offset)),
     }
@@ -21,20 +27,14 @@ fn read_storage_type(
     reader: &mut BinaryReader<'_>,
     canonical: CanonicalTypes<'_>,
 ) -> Result<StorageType, ReadError> {
-    match reader.peek()? {
-        0x78 => {
-            let _code = reader.read_u8()?;
-            Ok(StorageType::I8)
-        }
-        0x77 => {
-            let _code = reader.read_u8()?;
-            Ok(StorageType::I16)
-        }
-        _ => {
-            let ty = read_value_type(reader, canonical)?;
-            Ok(StorageType::Val(ty))
-        }
+    if reader.reads(0x78)? {
+        return Ok(StorageType::I8);
     }
+    if reader.reads(0x77)? {
+        return Ok(StorageType::I16);
+    }
+    let ty = read_value_type(reader, canonical)?;
+    Ok(StorageType::Val(ty))
 }
 
 fn read_field(
@@ -43,17 +43,14 @@ fn read_field(
 ) -> Result<FieldType, ReadError> {
     let element_type = read_storage_type(reader, canonical)?;
     let offset = reader.offset();
-    match reader.read_u8()? {
-        0 => Ok(FieldType {
-            element_type,
-            mutable: false,
-        }),
-        1 => Ok(FieldType {
-            element_type,
-            mutable: true,
-        }),
-        _ => Err(ReadError::malformed(Fault::MalformedMutability, offset)),
+    let code = reader.read_u8()?;
+    if code > 1 {
+        return Err(ReadError::malformed(Fault::MalformedMutability, offset));
     }
+    Ok(FieldType {
+        element_type,
+        mutable: code == 1,
+    })
 }
 
 fn read_func_type(
@@ -104,7 +101,7 @@ fn read_composite_inner_type(
         }
         0x5d => {
             let index = read_type_number(reader)?;
-            let index = packed(canonical.name(index), offset)?;
+            let index = packed(canonical, index, offset)?;
             Ok(CompositeInnerType::Cont(ContType(index)))
         }
         _ => Err(ReadError::malformed(Fault::InvalidTypeCode, offset)),
@@ -116,15 +113,16 @@ fn read_supertype(
     canonical: CanonicalTypes<'_>,
 ) -> Result<Option<PackedIndex>, ReadError> {
     let offset = reader.offset();
-    match reader.read_var_u32()? {
-        0 => Ok(None),
-        1 => {
-            let index = reader.read_var_u32()?;
-            let index = packed(canonical.name(index), offset)?;
-            Ok(Some(index))
-        }
-        _ => Err(ReadError::malformed(Fault::SeveralSupertypes, offset)),
+    let count = reader.read_var_u32()?;
+    if count == 0 {
+        return Ok(None);
     }
+    if count > 1 {
+        return Err(ReadError::malformed(Fault::SeveralSupertypes, offset));
+    }
+    let index = reader.read_var_u32()?;
+    let index = packed(canonical, index, offset)?;
+    Ok(Some(index))
 }
 
 /// Reads the index of a type behind this code, if the code stands there.
@@ -133,23 +131,13 @@ fn read_marked_index(
     canonical: CanonicalTypes<'_>,
     code: u8,
 ) -> Result<Option<PackedIndex>, ReadError> {
-    if reader.peek()? != code {
+    if !reader.reads(code)? {
         return Ok(None);
     }
-    let _code = reader.read_u8()?;
     let offset = reader.offset();
     let index = reader.read_var_u32()?;
-    let index = packed(canonical.name(index), offset)?;
+    let index = packed(canonical, index, offset)?;
     Ok(Some(index))
-}
-
-/// Reads the mark of a shared type, if it stands there.
-fn read_shared(reader: &mut BinaryReader<'_>) -> Result<bool, ReadError> {
-    if reader.peek()? != 0x65 {
-        return Ok(false);
-    }
-    let _code = reader.read_u8()?;
-    Ok(true)
 }
 
 fn read_composite_type(
@@ -157,7 +145,7 @@ fn read_composite_type(
     reader: &mut BinaryReader<'_>,
     canonical: CanonicalTypes<'_>,
 ) -> Result<CompositeType, ReadError> {
-    let shared = read_shared(reader)?;
+    let shared = reader.reads(0x65)?;
     let describes_idx = read_marked_index(reader, canonical, 0x4c)?;
     let descriptor_idx = read_marked_index(reader, canonical, 0x4d)?;
     let inner = read_composite_inner_type(alloc, reader, canonical)?;

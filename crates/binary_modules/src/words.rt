@@ -1,6 +1,6 @@
 //! The words of a recursion group, by which an equal one is looked up.
 
-use binary_numbers::ReadError;
+use binary_operators::ReadError;
 use std::alloc::Global;
 use validate_types::{
     CompositeInnerType, FieldType, HeapType, PackedIndex, RefType, StorageType, SubType,
@@ -19,23 +19,20 @@ pub struct Words {
 }
 
 impl Words {
-    fn word(&mut self, word: u32) -> Result<(), ReadError> {
-        self.words.push(word)?;
+    /// Adds words.
+    fn add(&mut self, words: &[u32]) -> Result<(), ReadError> {
+        self.words.extend_from_slice(words)?;
         Ok(())
     }
 
     fn index(&mut self, index: UnpackedIndex) -> Result<(), ReadError> {
         match index {
-            UnpackedIndex::Module(index) => {
-                self.word(0)?;
-                self.word(index)
-            }
+            UnpackedIndex::Module(index) => self.add(&[0, index]),
             UnpackedIndex::Id(place) => {
                 if place.index() as usize >= self.count {
                     self.is_unknown = true;
                 }
-                self.word(1)?;
-                self.word(place.index())
+                self.add(&[1, place.index()])
             }
         }
     }
@@ -43,23 +40,22 @@ impl Words {
     fn optional_index(&mut self, index: Option<PackedIndex>) -> Result<(), ReadError> {
         match index {
             Some(index) => self.index(index.unpack()),
-            None => self.word(2),
+            None => self.add(&[2]),
         }
     }
 
     fn ref_type(&mut self, ty: RefType) -> Result<(), ReadError> {
-        self.word(5 + u32::from(ty.is_nullable()))?;
+        let code = 5 + u32::from(ty.is_nullable());
         match ty.heap_type() {
             HeapType::Abstract { shared, ty } => {
-                self.word(2 + u32::from(shared))?;
-                self.word(u32::from(ty as u8))
+                self.add(&[code, 2 + u32::from(shared), u32::from(ty as u8)])
             }
             HeapType::Concrete(index) => {
-                self.word(4)?;
+                self.add(&[code, 4])?;
                 self.index(index)
             }
             HeapType::Exact(index) => {
-                self.word(5)?;
+                self.add(&[code, 5])?;
                 self.index(index)
             }
         }
@@ -67,17 +63,17 @@ impl Words {
 
     fn value_type(&mut self, ty: ValType) -> Result<(), ReadError> {
         match ty {
-            ValType::I32 => self.word(0),
-            ValType::I64 => self.word(1),
-            ValType::F32 => self.word(2),
-            ValType::F64 => self.word(3),
-            ValType::V128 => self.word(4),
+            ValType::I32 => self.add(&[0]),
+            ValType::I64 => self.add(&[1]),
+            ValType::F32 => self.add(&[2]),
+            ValType::F64 => self.add(&[3]),
+            ValType::V128 => self.add(&[4]),
             ValType::Ref(ty) => self.ref_type(ty),
         }
     }
 
     fn value_types(&mut self, types: &[ValType]) -> Result<(), ReadError> {
-        self.word(u32::try_from(types.len()).unwrap_or(u32::MAX))?;
+        self.add(&[u32::try_from(types.len()).unwrap_or(u32::MAX)])?;
         for ty in types {
             self.value_type(*ty)?;
         }
@@ -85,16 +81,19 @@ impl Words {
     }
 
     fn field(&mut self, field: FieldType) -> Result<(), ReadError> {
-        self.word(u32::from(field.mutable))?;
+        let mutable = u32::from(field.mutable);
         match field.element_type {
-            StorageType::I8 => self.word(8),
-            StorageType::I16 => self.word(9),
-            StorageType::Val(ty) => self.value_type(ty),
+            StorageType::I8 => self.add(&[mutable, 8]),
+            StorageType::I16 => self.add(&[mutable, 9]),
+            StorageType::Val(ty) => {
+                self.add(&[mutable])?;
+                self.value_type(ty)
+            }
         }
     }
 
     fn fields(&mut self, fields: &[FieldType]) -> Result<(), ReadError> {
-        self.word(u32::try_from(fields.len()).unwrap_or(u32::MAX))?;
+        self.add(&[2, u32::try_from(fields.len()).unwrap_or(u32::MAX)])?;
         for field in fields {
             self.field(*field)?;
         }
@@ -104,29 +103,25 @@ impl Words {
     fn inner(&mut self, inner: &CompositeInnerType) -> Result<(), ReadError> {
         match inner {
             CompositeInnerType::Func(ty) => {
-                self.word(0)?;
+                self.add(&[0])?;
                 self.value_types(ty.params())?;
                 self.value_types(ty.results())
             }
             CompositeInnerType::Array(ty) => {
-                self.word(1)?;
+                self.add(&[1])?;
                 self.field(ty.0)
             }
-            CompositeInnerType::Struct(ty) => {
-                self.word(2)?;
-                self.fields(&ty.fields)
-            }
+            CompositeInnerType::Struct(ty) => self.fields(&ty.fields),
             CompositeInnerType::Cont(ty) => {
-                self.word(3)?;
+                self.add(&[3])?;
                 self.index(ty.0.unpack())
             }
         }
     }
 
     fn sub_type(&mut self, ty: &SubType) -> Result<(), ReadError> {
-        self.word(u32::from(ty.is_final))?;
+        self.add(&[u32::from(ty.is_final), u32::from(ty.composite_type.shared)])?;
         self.optional_index(ty.supertype_idx)?;
-        self.word(u32::from(ty.composite_type.shared))?;
         self.optional_index(ty.composite_type.descriptor_idx)?;
         self.optional_index(ty.composite_type.describes_idx)?;
         self.inner(&ty.composite_type.inner)

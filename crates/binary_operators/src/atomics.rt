@@ -1,26 +1,63 @@
 //! Atomic operators, behind the prefix 0xfe.
 
+ghost use Rattle.std.specs.Prelude.{◌≤◌};
+
 use crate::control::found;
+use crate::error::{Fault, ReadError};
 use crate::memory::read_memarg;
+use crate::reader::BinaryReader;
 use crate::types::CanonicalTypes;
-use binary_numbers::{BinaryReader, Fault, ReadError};
 use validate_visit::{
     AtomicAccess, AtomicOp, AtomicRmwOp, FieldAccess, FieldIndex, GlobalAccess, IntegerType,
     MemArg, Op, Ordering, PackedInteger, SharedOp, SharedRmwOp, Sign, TableAccess,
 };
 
-/// What is accessed, by the order of the codes.
-fn atomic_access(place: u32) -> (AtomicAccess, u8) {
-    match place {
-        0 => (AtomicAccess::Whole(IntegerType::I32), 2),
-        1 => (AtomicAccess::Whole(IntegerType::I64), 3),
-        2 => (AtomicAccess::Packed(PackedInteger::I32Bits8), 0),
-        3 => (AtomicAccess::Packed(PackedInteger::I32Bits16), 1),
-        4 => (AtomicAccess::Packed(PackedInteger::I64Bits8), 0),
-        5 => (AtomicAccess::Packed(PackedInteger::I64Bits16), 1),
-        _ => (AtomicAccess::Packed(PackedInteger::I64Bits32), 2),
-    }
-}
+/// What is accessed in a memory, by the order of the codes, and its natural alignment.
+static ACCESSED: [(AtomicAccess, u8); 7] = [
+    (AtomicAccess::Whole(IntegerType::I32), 2),
+    (AtomicAccess::Whole(IntegerType::I64), 3),
+    (AtomicAccess::Packed(PackedInteger::I32Bits8), 0),
+    (AtomicAccess::Packed(PackedInteger::I32Bits16), 1),
+    (AtomicAccess::Packed(PackedInteger::I64Bits8), 0),
+    (AtomicAccess::Packed(PackedInteger::I64Bits16), 1),
+    (AtomicAccess::Packed(PackedInteger::I64Bits32), 2),
+];
+
+/// What is done with a table's element, by the order of the codes.
+static OF_TABLE: [TableAccess; 4] = [
+    TableAccess::Get,
+    TableAccess::Set,
+    TableAccess::Xchg,
+    TableAccess::Cmpxchg,
+];
+
+/// What is done with a global, by the order of the codes.
+static OF_GLOBAL: [GlobalAccess; 9] = [
+    GlobalAccess::Value(TableAccess::Get),
+    GlobalAccess::Value(TableAccess::Set),
+    GlobalAccess::Rmw(SharedRmwOp::Add),
+    GlobalAccess::Rmw(SharedRmwOp::Sub),
+    GlobalAccess::Rmw(SharedRmwOp::And),
+    GlobalAccess::Rmw(SharedRmwOp::Or),
+    GlobalAccess::Rmw(SharedRmwOp::Xor),
+    GlobalAccess::Value(TableAccess::Xchg),
+    GlobalAccess::Value(TableAccess::Cmpxchg),
+];
+
+/// What is done with a field, by the order of the codes.
+static OF_FIELD: [FieldAccess; 11] = [
+    FieldAccess::Whole(GlobalAccess::Value(TableAccess::Get)),
+    FieldAccess::GetPacked(Sign::Signed),
+    FieldAccess::GetPacked(Sign::Unsigned),
+    FieldAccess::Whole(GlobalAccess::Value(TableAccess::Set)),
+    FieldAccess::Whole(GlobalAccess::Rmw(SharedRmwOp::Add)),
+    FieldAccess::Whole(GlobalAccess::Rmw(SharedRmwOp::Sub)),
+    FieldAccess::Whole(GlobalAccess::Rmw(SharedRmwOp::And)),
+    FieldAccess::Whole(GlobalAccess::Rmw(SharedRmwOp::Or)),
+    FieldAccess::Whole(GlobalAccess::Rmw(SharedRmwOp::Xor)),
+    FieldAccess::Whole(GlobalAccess::Value(TableAccess::Xchg)),
+    FieldAccess::Whole(GlobalAccess::Value(TableAccess::Cmpxchg)),
+];
 
 /// The operator that accesses this in the way of the number.
 fn accessing(way: u32, access: AtomicAccess, memarg: MemArg) -> AtomicOp {
@@ -40,7 +77,7 @@ fn accessing(way: u32, access: AtomicAccess, memarg: MemArg) -> AtomicOp {
 fn read_memory(reader: &mut BinaryReader<'_>, number: u32) -> Result<AtomicOp, ReadError> {
     if number >= 0x10 {
         let place = number - 0x10;
-        let (access, natural) = atomic_access(place % 7);
+        let (access, natural) = ACCESSED[(place % 7) as usize];
         let memarg = read_memarg(reader, natural)?;
         return Ok(accessing(place / 7, access, memarg));
     }
@@ -94,19 +131,22 @@ fn read_shared(
     reader: &mut BinaryReader<'_>,
     canonical: CanonicalTypes<'_>,
     number: u32,
-) -> Result<SharedOp, ReadError> {
+) -> Result<SharedOp, ReadError>
+    requires from { 79 ≤ number }
+    requires to { number ≤ 113 }
+{
     let ordering = read_ordering(reader)?;
     let index = reader.read_var_u32()?;
     if number < 0x58 {
         return Ok(SharedOp::Global {
-            access: global_access(number.saturating_sub(0x4f)),
+            access: OF_GLOBAL[(number - 0x4f) as usize],
             ordering,
             global_index: index,
         });
     }
     if number < 0x5c {
         return Ok(SharedOp::Table {
-            access: table_access(number - 0x58),
+            access: OF_TABLE[(number - 0x58) as usize],
             ordering,
             table_index: index,
         });
@@ -114,7 +154,7 @@ fn read_shared(
     if number < 0x67 {
         let field_index = reader.read_var_u32()?;
         return Ok(SharedOp::Struct {
-            access: field_access(number - 0x5c),
+            access: OF_FIELD[(number - 0x5c) as usize],
             ordering,
             field: FieldIndex {
                 struct_type_index: canonical.of(index),
@@ -123,41 +163,8 @@ fn read_shared(
         });
     }
     Ok(SharedOp::Array {
-        access: field_access(number - 0x67),
+        access: OF_FIELD[(number - 0x67) as usize],
         ordering,
         type_index: canonical.of(index),
     })
-}
-
-fn table_access(place: u32) -> TableAccess {
-    match place {
-        0 => TableAccess::Get,
-        1 => TableAccess::Set,
-        2 => TableAccess::Xchg,
-        _ => TableAccess::Cmpxchg,
-    }
-}
-
-fn global_access(place: u32) -> GlobalAccess {
-    match place {
-        0 => GlobalAccess::Value(TableAccess::Get),
-        1 => GlobalAccess::Value(TableAccess::Set),
-        2 => GlobalAccess::Rmw(SharedRmwOp::Add),
-        3 => GlobalAccess::Rmw(SharedRmwOp::Sub),
-        4 => GlobalAccess::Rmw(SharedRmwOp::And),
-        5 => GlobalAccess::Rmw(SharedRmwOp::Or),
-        6 => GlobalAccess::Rmw(SharedRmwOp::Xor),
-        7 => GlobalAccess::Value(TableAccess::Xchg),
-        _ => GlobalAccess::Value(TableAccess::Cmpxchg),
-    }
-}
-
-fn field_access(place: u32) -> FieldAccess {
-    match place {
-        0 => FieldAccess::Whole(GlobalAccess::Value(TableAccess::Get)),
-        1 => FieldAccess::GetPacked(Sign::Signed),
-        2 => FieldAccess::GetPacked(Sign::Unsigned),
-        3 => FieldAccess::Whole(GlobalAccess::Value(TableAccess::Set)),
-        _ => FieldAccess::Whole(global_access(place - 2)),
-    }
 }

@@ -1,7 +1,8 @@
 //! The types of blocks, and lists of immediates.
 
+use crate::error::{Fault, ReadError};
+use crate::reader::BinaryReader;
 use crate::types::{CanonicalTypes, read_type_number, read_value_type};
-use binary_numbers::{BinaryReader, Fault, ReadError};
 use validate_types::ValType;
 use validate_visit::{BlockType, Catch, Handle};
 

@@ -1,15 +1,16 @@
-//! Operators on control, variables, exceptions and continuations, and those on references and tables that
-//! have codes of one byte.
+//! Operators on control, variables, exceptions and continuations, and those of one byte's code or behind the prefixes
+//! 0xfb and 0xfc that have types or lists.
 
 use crate::blocks::{read_block_type, read_catches, read_handlers, read_labels, read_value_types};
-use crate::lists::OperatorLists;
-use crate::numeric::read_constant;
-use crate::typed::read_typed;
+use crate::error::{Fault, ReadError};
+use crate::indexed::read_indexed;
+use crate::lists::{OperatorLists, Span};
+use crate::numeric::{SATURATING, WIDE, read_constant};
+use crate::reader::BinaryReader;
+use crate::references::{of_cast, of_heap_type, read_branch_cast};
 use crate::types::{CanonicalTypes, read_heap_type};
-use binary_numbers::{BinaryReader, Fault, ReadError};
 use validate_visit::{
-    BlockType, BrTable, ContinuationOp, ControlOp, ExceptionOp, MemoryOp, Op, ReferenceOp,
-    ResumeTable, TableOp, TryTable,
+    BlockType, BrTable, ContinuationOp, ControlOp, ExceptionOp, Op, ResumeTable, TryTable,
 };
 
 /// Reads an operator on a local or a global, of this code.
@@ -27,50 +28,8 @@ pub fn read_variable(
     }
 }
 
-/// The operator of this code, if it has no immediates.
-fn plain(code: u8) -> Option<Op<'static>> {
-    match code {
-        0x00 => Some(Op::Control(ControlOp::Unreachable)),
-        0x01 => Some(Op::Control(ControlOp::Nop)),
-        0x05 => Some(Op::Control(ControlOp::Else)),
-        0x0a => Some(Op::Exception(ExceptionOp::ThrowRef)),
-        0x0b => Some(Op::Control(ControlOp::End)),
-        0x0f => Some(Op::Control(ControlOp::Return)),
-        0x19 => Some(Op::Exception(ExceptionOp::CatchAll)),
-        0x1a => Some(Op::Control(ControlOp::Drop)),
-        0x1b => Some(Op::Control(ControlOp::Select)),
-        0xd1 => Some(Op::Reference(ReferenceOp::RefIsNull)),
-        0xd3 => Some(Op::Reference(ReferenceOp::RefEq)),
-        0xd4 => Some(Op::Reference(ReferenceOp::RefAsNonNull)),
-        _ => None,
-    }
-}
-
-/// The operator of this code, if its only immediate is an index, which is this one.
-fn indexed(code: u8, index: u32) -> Option<Op<'static>> {
-    match code {
-        0x07 => Some(Op::Exception(ExceptionOp::Catch(index))),
-        0x08 => Some(Op::Exception(ExceptionOp::Throw(index))),
-        0x09 => Some(Op::Exception(ExceptionOp::Rethrow(index))),
-        0x0c => Some(Op::Control(ControlOp::Br(index))),
-        0x0d => Some(Op::Control(ControlOp::BrIf(index))),
-        0x10 => Some(Op::Control(ControlOp::Call(index))),
-        0x12 => Some(Op::Control(ControlOp::ReturnCall(index))),
-        0x18 => Some(Op::Exception(ExceptionOp::Delegate(index))),
-        0x25 => Some(Op::Table(TableOp::TableGet(index))),
-        0x26 => Some(Op::Table(TableOp::TableSet(index))),
-        0x3f => Some(Op::Memory(MemoryOp::MemorySize(index))),
-        0x40 => Some(Op::Memory(MemoryOp::MemoryGrow(index))),
-        0xd2 => Some(Op::Reference(ReferenceOp::RefFunc(index))),
-        0xd5 => Some(Op::Reference(ReferenceOp::BrOnNull(index))),
-        0xd6 => Some(Op::Reference(ReferenceOp::BrOnNonNull(index))),
-        0xe2 => Some(Op::Continuation(ContinuationOp::Suspend(index))),
-        _ => None,
-    }
-}
-
 /// The operator of this code, if its only immediate is the type of a block, which is this one.
-fn block(code: u8, ty: BlockType) -> Option<Op<'static>> {
+fn block(code: u32, ty: BlockType) -> Option<Op<'static>> {
     match code {
         0x02 => Some(Op::Control(ControlOp::Block(ty))),
         0x03 => Some(Op::Control(ControlOp::Loop(ty))),
@@ -80,14 +39,14 @@ fn block(code: u8, ty: BlockType) -> Option<Op<'static>> {
     }
 }
 
-/// Reads an operator of this code, which stands at the offset and the index. Codes that are no operator's, or
-/// one's of another function here, are refused: `illegal opcode`.
+/// Reads an operator of this code, which stands at the offset and the index; a code behind a prefix has the prefix
+/// above it. Codes that are no operator's, or one's of another function here, are refused: `illegal opcode`.
 pub fn read_control(
     reader: &mut BinaryReader<'_>,
     canonical: CanonicalTypes<'_>,
     lists: &mut OperatorLists,
     index: usize,
-    code: u8,
+    code: u32,
     offset: u64,
 ) -> Result<Op<'static>, ReadError> {
     match code {
@@ -95,39 +54,23 @@ pub fn read_control(
             let ty = read_block_type(reader, canonical)?;
             found(block(code, ty), offset)
         }
-        0x0c | 0x0d | 0x10 => read_indexed(reader, code, offset),
-        0x41..=0x44 => {
-            let op = read_constant(reader, code)?;
-            Ok(Op::Numeric(op))
-        }
-        0x00 | 0x01 | 0x05 | 0x0a | 0x0b | 0x0f | 0x19 | 0x1a | 0x1b | 0xd1 | 0xd3 | 0xd4 => {
-            found(plain(code), offset)
-        }
-        0x0e | 0x1c | 0x1f | 0xe3 | 0xe4 | 0xe5 => {
-            read_listed(reader, canonical, lists, index, code)
-        }
-        0x11 | 0x13 | 0x14 | 0x15 | 0xe0 | 0xe1 | 0xe6 => {
-            read_typed(reader, canonical, code, offset)
-        }
-        0xd0 => {
+        0x0e => read_br_table(reader, lists, index),
+        0x1c => read_select(reader, canonical, lists, index),
+        0x1f => read_try_table(reader, canonical, lists, index),
+        0x41..=0x44 => read_constant(reader, code),
+        0xd0 | 0xfb14..=0xfb17 | 0xfb23 | 0xfb24 => {
             let heap_type = read_heap_type(reader, canonical)?;
-            Ok(Op::Reference(ReferenceOp::RefNull(heap_type)))
+            found(of_heap_type(code, heap_type), offset)
         }
-        _ => read_indexed(reader, code, offset),
+        0xe3..=0xe5 => read_resume(reader, canonical, lists, index, code),
+        0xfb18 | 0xfb19 | 0xfb25 | 0xfb26 => {
+            let cast = read_branch_cast(reader, canonical)?;
+            found(of_cast(code, cast), offset)
+        }
+        0xfc00..=0xfc07 => Ok(SATURATING[(code - 0xfc00) as usize]),
+        0xfc13..=0xfc16 => Ok(WIDE[(code - 0xfc13) as usize]),
+        _ => read_indexed(reader, canonical, code, offset),
     }
-}
-
-/// Reads an operator of this code whose only immediate is an index.
-fn read_indexed(
-    reader: &mut BinaryReader<'_>,
-    code: u8,
-    offset: u64,
-) -> Result<Op<'static>, ReadError> {
-    if indexed(code, 0).is_none() {
-        return found(None, offset);
-    }
-    let index = reader.read_var_u32()?;
-    found(indexed(code, index), offset)
 }
 
 /// The operator, or the refusal of its code, which stands at the offset.
@@ -135,22 +78,6 @@ pub fn found(op: Option<Op<'static>>, offset: u64) -> Result<Op<'static>, ReadEr
     match op {
         Some(op) => Ok(op),
         None => Err(ReadError::malformed(Fault::IllegalOpcode, offset)),
-    }
-}
-
-/// Reads an operator that has a list, of this code.
-fn read_listed(
-    reader: &mut BinaryReader<'_>,
-    canonical: CanonicalTypes<'_>,
-    lists: &mut OperatorLists,
-    index: usize,
-    code: u8,
-) -> Result<Op<'static>, ReadError> {
-    match code {
-        0x0e => read_br_table(reader, lists, index),
-        0x1c => read_select(reader, canonical, lists, index),
-        0x1f => read_try_table(reader, canonical, lists, index),
-        _ => read_resume(reader, canonical, lists, index, code),
     }
 }
 
@@ -163,7 +90,7 @@ fn read_br_table(
     read_labels(reader, &mut lists.labels)?;
     let default = reader.read_var_u32()?;
     let end = lists.labels.len();
-    lists.note(index, start, end)?;
+    lists.spans.push(Span { index, start, end })?;
     Ok(Op::Control(ControlOp::BrTable(BrTable {
         targets: &[],
         complete: true,
@@ -179,11 +106,11 @@ fn read_select(
 ) -> Result<Op<'static>, ReadError> {
     let start = lists.types.len();
     read_value_types(reader, canonical, &mut lists.types)?;
-    if lists.types.len() == start + 1 {
-        return Ok(Op::Control(ControlOp::TypedSelect(lists.types[start])));
-    }
     let end = lists.types.len();
-    lists.note(index, start, end)?;
+    if let [ty] = &lists.types[start.min(end)..] {
+        return Ok(Op::Control(ControlOp::TypedSelect(*ty)));
+    }
+    lists.spans.push(Span { index, start, end })?;
     Ok(Op::Control(ControlOp::TypedSelectMulti(&[])))
 }
 
@@ -197,7 +124,7 @@ fn read_try_table(
     let start = lists.catches.len();
     read_catches(reader, &mut lists.catches)?;
     let end = lists.catches.len();
-    lists.note(index, start, end)?;
+    lists.spans.push(Span { index, start, end })?;
     Ok(Op::Exception(ExceptionOp::TryTable(TryTable { ty, catches: &[] })))
 }
 
@@ -206,7 +133,7 @@ fn read_resume(
     canonical: CanonicalTypes<'_>,
     lists: &mut OperatorLists,
     index: usize,
-    code: u8,
+    code: u32,
 ) -> Result<Op<'static>, ReadError> {
     let cont_type_index = canonical.of(reader.read_var_u32()?);
     let tag_index = if code == 0xe4 {
@@ -217,11 +144,11 @@ fn read_resume(
     let start = lists.handlers.len();
     read_handlers(reader, &mut lists.handlers)?;
     let end = lists.handlers.len();
-    lists.note(index, start, end)?;
+    lists.spans.push(Span { index, start, end })?;
     Ok(Op::Continuation(resumption(code, cont_type_index, tag_index)))
 }
 
-fn resumption(code: u8, cont_type_index: u32, tag_index: u32) -> ContinuationOp<'static> {
+fn resumption(code: u32, cont_type_index: u32, tag_index: u32) -> ContinuationOp<'static> {
     let resume_table = ResumeTable { handlers: &[] };
     match code {
         0xe3 => ContinuationOp::Resume {

@@ -1,21 +1,28 @@
-//! The operators of a binary module by their codes, with the types and the lists in their immediates.
+//! The bytes of a binary module, the numbers and the types in them, and operators by their codes, with what stands in
+//! their immediates.
 #![tactic(auto)]
 
 mod atomics;
 mod blocks;
 mod control;
-mod garbage;
+mod equal;
+mod error;
+mod indexed;
+mod integers;
 mod lists;
 mod memory;
 mod numeric;
 mod operators;
-mod prefixed;
-mod typed;
+mod reader;
+mod references;
 mod types;
 
 pub use crate::blocks::read_value_types;
+pub use crate::equal::are_groups_equal;
+pub use crate::error::{Cause, Fault, ReadError};
 pub use crate::lists::{OperatorLists, lend};
 pub use crate::operators::read_operator;
+pub use crate::reader::{BinaryReader, ByteRange};
 pub use crate::types::{
     CanonicalTypes, GroupNames, read_ref_type, read_type_number, read_value_type,
 };

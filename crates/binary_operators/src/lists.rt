@@ -1,6 +1,5 @@
 //! The lists that operators lend: they are read beside the operators, and lent to them once all are read.
 
-use binary_numbers::ReadError;
 use std::alloc::Global;
 use validate_types::ValType;
 use validate_visit::{
@@ -9,13 +8,13 @@ use validate_visit::{
 
 /// Where in its list the list of one operator stands.
 #[derive(Clone, Copy)]
-struct Span {
+pub(crate) struct Span {
     /// The operator at this index has it.
-    index: usize,
+    pub(crate) index: usize,
     /// From here on.
-    start: usize,
+    pub(crate) start: usize,
     /// Up to here.
-    end: usize,
+    pub(crate) end: usize,
 }
 
 /// The lists of all operators of a body.
@@ -29,7 +28,8 @@ pub struct OperatorLists {
     pub(crate) catches: Vec<Catch>,
     /// The handlers of each `resume`.
     pub(crate) handlers: Vec<Handle>,
-    spans: Vec<Span>,
+    /// Where they stand.
+    pub(crate) spans: Vec<Span>,
 }
 
 impl OperatorLists {
@@ -42,12 +42,6 @@ impl OperatorLists {
             handlers: Vec::new(alloc),
             spans: Vec::new(alloc),
         }
-    }
-
-    /// Notes which list the operator at this index has.
-    pub(crate) fn note(&mut self, index: usize, start: usize, end: usize) -> Result<(), ReadError> {
-        self.spans.push(Span { index, start, end })?;
-        Ok(())
     }
 }
 

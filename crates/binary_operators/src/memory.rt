@@ -1,6 +1,9 @@
 //! Operators on memories that load and store.
 
-use binary_numbers::{BinaryReader, Fault, ReadError};
+ghost use Rattle.std.specs.Prelude.{◌≤◌};
+
+use crate::error::{Fault, ReadError};
+use crate::reader::BinaryReader;
 use validate_visit::{MemArg, MemArgTarget, MemoryOp, NumberType, PackedInteger, Sign};
 
 /// Reads where an access looks, of which this alignment is natural.
@@ -24,19 +27,17 @@ pub fn read_memarg(reader: &mut BinaryReader<'_>, max_align: u8) -> Result<MemAr
     })
 }
 
-/// The natural alignment of the operator of this code.
-fn natural_alignment(code: u8) -> u8 {
-    match code {
-        0x2c | 0x2d | 0x30 | 0x31 | 0x3a | 0x3c => 0,
-        0x2e | 0x2f | 0x32 | 0x33 | 0x3b | 0x3d => 1,
-        0x28 | 0x2a | 0x34 | 0x35 | 0x36 | 0x38 | 0x3e => 2,
-        _ => 3,
-    }
-}
+/// The natural alignments of loads and stores, from code 0x28 to code 0x3e.
+static NATURAL: [u8; 23] = [
+    2, 3, 2, 3, 0, 0, 1, 1, 0, 0, 1, 1, 2, 2, 2, 3, 2, 3, 0, 1, 0, 1, 2,
+];
 
 /// Reads a load or a store, of this code.
-pub fn read_access(reader: &mut BinaryReader<'_>, code: u8) -> Result<MemoryOp, ReadError> {
-    let memarg = read_memarg(reader, natural_alignment(code))?;
+pub fn read_access(reader: &mut BinaryReader<'_>, code: u8) -> Result<MemoryOp, ReadError>
+    requires from { 40 ≤ code }
+    requires to { code ≤ 62 }
+{
+    let memarg = read_memarg(reader, NATURAL[(code - 0x28) as usize])?;
     Ok(access(code, memarg))
 }
 

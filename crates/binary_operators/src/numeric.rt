@@ -1,8 +1,7 @@
 //! Operators on numbers, by their codes.
 
-ghost use Rattle.std.specs.Prelude.{◌≤◌};
-
-use binary_numbers::{BinaryReader, ReadError};
+use crate::error::ReadError;
+use crate::reader::BinaryReader;
 use validate_visit::{
     ConvertOp, FloatBinaryOp, FloatComparisonOp, FloatType, FloatUnaryOp, Ieee32, Ieee64,
     IntegerBinaryOp, IntegerComparisonOp, IntegerType, IntegerUnaryOp, NumberType, NumericOp, Op,
@@ -10,7 +9,7 @@ use validate_visit::{
 };
 
 /// The operators without immediates, from code 0x45 to code 0xc4.
-static NUMERIC: [Op<'static>; 128] = [
+pub static NUMERIC: [Op<'static>; 128] = [
     Op::Numeric(NumericOp::Eqz(IntegerType::I32)),
     Op::Numeric(NumericOp::IntegerComparison(IntegerType::I32, IntegerComparisonOp::Eq)),
     Op::Numeric(NumericOp::IntegerComparison(IntegerType::I32, IntegerComparisonOp::Ne)),
@@ -189,33 +188,33 @@ static NUMERIC: [Op<'static>; 128] = [
     Op::Convert(ConvertOp::ExtendPacked(PackedInteger::I64Bits32)),
 ];
 
-/// The operator without immediates of this code.
-#[inline(always)]
-pub fn numeric(code: u8) -> Op<'static>
-    requires from { 69 ≤ code }
-    requires to { code ≤ 196 }
-{
-    NUMERIC[(code - 0x45) as usize]
-}
+/// The conversions to integers that end at the bounds, from code 0 to code 7 behind the prefix 0xfc.
+pub static SATURATING: [Op<'static>; 8] = [
+    Op::Convert(ConvertOp::TruncSat(IntegerType::I32, FloatType::F32, Sign::Signed)),
+    Op::Convert(ConvertOp::TruncSat(IntegerType::I32, FloatType::F32, Sign::Unsigned)),
+    Op::Convert(ConvertOp::TruncSat(IntegerType::I32, FloatType::F64, Sign::Signed)),
+    Op::Convert(ConvertOp::TruncSat(IntegerType::I32, FloatType::F64, Sign::Unsigned)),
+    Op::Convert(ConvertOp::TruncSat(IntegerType::I64, FloatType::F32, Sign::Signed)),
+    Op::Convert(ConvertOp::TruncSat(IntegerType::I64, FloatType::F32, Sign::Unsigned)),
+    Op::Convert(ConvertOp::TruncSat(IntegerType::I64, FloatType::F64, Sign::Signed)),
+    Op::Convert(ConvertOp::TruncSat(IntegerType::I64, FloatType::F64, Sign::Unsigned)),
+];
+
+/// The operators on integers of 128 bits, from code 19 to code 22 behind the prefix 0xfc.
+pub static WIDE: [Op<'static>; 4] = [
+    Op::Numeric(NumericOp::Add128),
+    Op::Numeric(NumericOp::Sub128),
+    Op::Numeric(NumericOp::MulWide(Sign::Signed)),
+    Op::Numeric(NumericOp::MulWide(Sign::Unsigned)),
+];
 
 /// Reads a constant, of this code.
-pub fn read_constant(reader: &mut BinaryReader<'_>, code: u8) -> Result<NumericOp, ReadError> {
-    match code {
-        0x41 => {
-            let value = reader.read_var_i32()?;
-            Ok(NumericOp::I32Const(value))
-        }
-        0x42 => {
-            let value = reader.read_var_i64()?;
-            Ok(NumericOp::I64Const(value))
-        }
-        0x43 => {
-            let bits = reader.read_f32()?;
-            Ok(NumericOp::F32Const(Ieee32(bits)))
-        }
-        _ => {
-            let bits = reader.read_f64()?;
-            Ok(NumericOp::F64Const(Ieee64(bits)))
-        }
-    }
+pub fn read_constant(reader: &mut BinaryReader<'_>, code: u32) -> Result<Op<'static>, ReadError> {
+    let op = match code {
+        0x41 => NumericOp::I32Const(reader.read_var_i32()?),
+        0x42 => NumericOp::I64Const(reader.read_var_i64()?),
+        0x43 => NumericOp::F32Const(Ieee32(reader.read_f32()?)),
+        _ => NumericOp::F64Const(Ieee64(reader.read_f64()?)),
+    };
+    Ok(Op::Numeric(op))
 }

@@ -1,14 +1,13 @@
 //! Operators (WebAssembly core specification, "Binary Format: Instructions").
 
 use crate::atomics::read_atomic;
-use crate::control::{read_control, read_variable};
-use crate::garbage::read_garbage;
+use crate::control::{found, read_control, read_variable};
+use crate::error::ReadError;
 use crate::lists::OperatorLists;
 use crate::memory::read_access;
-use crate::numeric::numeric;
-use crate::prefixed::read_prefixed;
+use crate::numeric::NUMERIC;
+use crate::reader::BinaryReader;
 use crate::types::CanonicalTypes;
-use binary_numbers::{BinaryReader, ReadError};
 use validate_visit::Op;
 
 /// Reads one operator, the one at this index of its body. The list of one that has a list is read into the
@@ -27,17 +26,23 @@ pub fn read_operator(
         return Ok(Op::Control(op));
     }
     if 0x45 <= code && code <= 0xc4 {
-        return Ok(numeric(code));
+        return Ok(NUMERIC[(code - 0x45) as usize]);
     }
     if 0x28 <= code && code <= 0x3e {
         let op = read_access(reader, code)?;
         return Ok(Op::Memory(op));
     }
     match code {
-        0xfb => read_garbage(reader, canonical, offset),
-        0xfc => read_prefixed(reader, offset),
+        0xfb | 0xfc => {
+            let number = reader.read_var_u32()?;
+            if number > 0xff {
+                return found(None, offset);
+            }
+            let code = u32::from(code) * 0x100 + number;
+            read_control(reader, canonical, lists, index, code, offset)
+        }
         0xfd => Err(ReadError::vector_operator(offset)),
         0xfe => read_atomic(reader, canonical, offset),
-        _ => read_control(reader, canonical, lists, index, code, offset),
+        _ => read_control(reader, canonical, lists, index, u32::from(code), offset),
     }
 }

@@ -3,7 +3,8 @@
 
 ghost use Rattle.std.specs.Prelude.{◌≡◌, slice_get, unwrap_or};
 
-use binary_numbers::{BinaryReader, Fault, ReadError};
+use crate::error::{Fault, ReadError};
+use crate::reader::BinaryReader;
 use validate_types::{AbstractHeapType, CoreTypeId, HeapType, RefType, UnpackedIndex, ValType};
 
 /// Which type stands for each: the first of those that are equal (WebAssembly core specification, "Defined
@@ -17,7 +18,7 @@ pub struct CanonicalTypes<'a> {
 }
 
 /// How the types of the recursion group that is being read are named in it.
-#[derive(Clone, Copy, Debug, PartialEq, Eq)]
+#[derive(Clone, Copy)]
 pub enum GroupNames {
     /// By their places in the group, as ids: the recursive type indices of the standard.
     Places,
@@ -53,13 +54,9 @@ impl<'a> CanonicalTypes<'a> {
 
     /// What names the type at this index.
     pub fn name(self, index: u32) -> UnpackedIndex {
-        match self.canonical.get(index as usize) {
-            Some(first) => UnpackedIndex::Module(*first),
-            None => self.name_in_group(index),
+        if let Some(first) = self.canonical.get(index as usize) {
+            return UnpackedIndex::Module(*first);
         }
-    }
-
-    fn name_in_group(self, index: u32) -> UnpackedIndex {
         let count = u32::try_from(self.canonical.len()).unwrap_or(u32::MAX);
         let place = index.saturating_sub(count);
         match self.group {
@@ -69,34 +66,37 @@ impl<'a> CanonicalTypes<'a> {
     }
 }
 
-/// The abstract type of this code, if it is one's.
-pub fn abstract_type(code: u8) -> Option<AbstractHeapType> {
-    match code {
-        0x75 => Some(AbstractHeapType::NoCont),
-        0x74 => Some(AbstractHeapType::NoExn),
-        0x73 => Some(AbstractHeapType::NoFunc),
-        0x72 => Some(AbstractHeapType::NoExtern),
-        0x71 => Some(AbstractHeapType::None),
-        0x70 => Some(AbstractHeapType::Func),
-        0x6f => Some(AbstractHeapType::Extern),
-        0x6e => Some(AbstractHeapType::Any),
-        0x6d => Some(AbstractHeapType::Eq),
-        0x6c => Some(AbstractHeapType::I31),
-        0x6b => Some(AbstractHeapType::Struct),
-        0x6a => Some(AbstractHeapType::Array),
-        0x69 => Some(AbstractHeapType::Exn),
-        0x68 => Some(AbstractHeapType::Cont),
-        _ => None,
-    }
-}
+/// The abstract types, from code 0x68 to code 0x75.
+static ABSTRACT: [AbstractHeapType; 14] = [
+    AbstractHeapType::Cont,
+    AbstractHeapType::Exn,
+    AbstractHeapType::Array,
+    AbstractHeapType::Struct,
+    AbstractHeapType::I31,
+    AbstractHeapType::Eq,
+    AbstractHeapType::Any,
+    AbstractHeapType::Extern,
+    AbstractHeapType::Func,
+    AbstractHeapType::None,
+    AbstractHeapType::NoExtern,
+    AbstractHeapType::NoFunc,
+    AbstractHeapType::NoExn,
+    AbstractHeapType::NoCont,
+];
 
-fn read_shared(reader: &mut BinaryReader<'_>) -> Result<HeapType, ReadError> {
-    let offset = reader.offset();
-    let code = reader.read_u8()?;
-    match abstract_type(code) {
-        Some(ty) => Ok(HeapType::Abstract { shared: true, ty }),
-        None => Err(ReadError::malformed(Fault::InvalidAbstractHeapType, offset)),
-    }
+/// The number and vector types, from code 0x7b to code 0x7f.
+static NUMBERS: [ValType; 5] = [
+    ValType::V128,
+    ValType::F64,
+    ValType::F32,
+    ValType::I64,
+    ValType::I32,
+];
+
+/// The abstract type of this code, if it is one's.
+fn abstract_type(code: u8) -> Option<AbstractHeapType> {
+    let place = code.checked_sub(0x68)?;
+    ABSTRACT.get(usize::from(place)).copied()
 }
 
 /// Reads the index of a type as an integer of 33 bits, which is no negative one.
@@ -114,19 +114,18 @@ pub fn read_heap_type(
     reader: &mut BinaryReader<'_>,
     canonical: CanonicalTypes<'_>,
 ) -> Result<HeapType, ReadError> {
-    let code = reader.peek()?;
-    if code == 0x65 {
-        let _shared = reader.read_u8()?;
-        return read_shared(reader);
+    let shared = reader.reads(0x65)?;
+    let offset = reader.offset();
+    if let Some(ty) = abstract_type(reader.peek()?) {
+        let _code = reader.read_u8()?;
+        return Ok(HeapType::Abstract { shared, ty });
     }
-    if code == 0x62 {
-        let _exact = reader.read_u8()?;
+    if shared {
+        return Err(ReadError::malformed(Fault::InvalidAbstractHeapType, offset));
+    }
+    if reader.reads(0x62)? {
         let index = reader.read_var_u32()?;
         return Ok(HeapType::Exact(canonical.name(index)));
-    }
-    if let Some(ty) = abstract_type(code) {
-        let _code = reader.read_u8()?;
-        return Ok(HeapType::Abstract { shared: false, ty });
     }
     let index = read_type_number(reader)?;
     Ok(HeapType::Concrete(canonical.name(index)))
@@ -140,36 +139,20 @@ pub fn reference(nullable: bool, heap_type: HeapType, offset: u64) -> Result<Ref
     }
 }
 
-fn number_type(code: u8) -> Option<ValType> {
-    match code {
-        0x7f => Some(ValType::I32),
-        0x7e => Some(ValType::I64),
-        0x7d => Some(ValType::F32),
-        0x7c => Some(ValType::F64),
-        0x7b => Some(ValType::V128),
-        _ => None,
-    }
-}
-
-/// Reads a reference type.
+/// Reads a reference type: a code and a heap type, or an abstract heap type alone, which is that of a nullable one.
 pub fn read_ref_type(
     reader: &mut BinaryReader<'_>,
     canonical: CanonicalTypes<'_>,
 ) -> Result<RefType, ReadError> {
     let offset = reader.offset();
-    let code = reader.read_u8()?;
+    let code = reader.peek()?;
     if code == 0x63 || code == 0x64 {
-        let heap_type = read_heap_type(reader, canonical)?;
-        return reference(code == 0x63, heap_type, offset);
+        let _code = reader.read_u8()?;
+    } else if code != 0x65 && abstract_type(code).is_none() {
+        return Err(ReadError::malformed(Fault::InvalidValueType, offset));
     }
-    if code == 0x65 {
-        let heap_type = read_shared(reader)?;
-        return reference(true, heap_type, offset);
-    }
-    match abstract_type(code) {
-        Some(ty) => reference(true, HeapType::Abstract { shared: false, ty }, offset),
-        None => Err(ReadError::malformed(Fault::InvalidValueType, offset)),
-    }
+    let heap_type = read_heap_type(reader, canonical)?;
+    reference(code != 0x64, heap_type, offset)
 }
 
 /// Reads a value type.
@@ -178,9 +161,9 @@ pub fn read_value_type(
     canonical: CanonicalTypes<'_>,
 ) -> Result<ValType, ReadError> {
     let code = reader.peek()?;
-    if let Some(ty) = number_type(code) {
+    if 0x7b <= code && code <= 0x7f {
         let _code = reader.read_u8()?;
-        return Ok(ty);
+        return Ok(NUMBERS[(code - 0x7b) as usize]);
     }
     let ty = read_ref_type(reader, canonical)?;
     Ok(ValType::Ref(ty))

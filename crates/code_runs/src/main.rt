@@ -8,8 +8,7 @@ mod encode;
 mod types;
 
 use crate::encode::write_operator;
-use binary_numbers::BinaryReader;
-use binary_operators::{CanonicalTypes, OperatorLists, lend, read_operator};
+use binary_operators::{BinaryReader, CanonicalTypes, OperatorLists, lend, read_operator};
 use script_reader::{Script, read_lists, read_script};
 use std::alloc::{AllocError, Global};
 use std::process::ExitCode;
@@ -35,7 +34,8 @@ fn read_again(alloc: Global, bytes: &[u8]) -> Result<Option<Vec<u8>>, AllocError
     }
     let mut ops = [(op, 0)];
     lend(&lists, &mut ops);
-    bytes_of(alloc, ops[0].0).map(Some)
+    let bytes = bytes_of(alloc, ops[0].0)?;
+    Ok(Some(bytes))
 }
 
 /// Whether an operator is read as itself.

@@ -16,7 +16,7 @@ ghost use Rattle.module_check.specs.declared.report.Verdict.TheVariants.{Accepte
 use crate::buffers::BodyBuffers;
 use crate::read::{BodyKind, LocalGroup, ReadBody};
 use crate::report::Verdict;
-use binary_numbers::ReadError;
+use binary_operators::ReadError;
 use validate_body::{OperatorValidator, check_ops};
 use validate_resources::WasmModuleResources;
 use validate_resources::uses::laws;

@@ -9,13 +9,12 @@ ghost use Rattle.module_check.specs.declared.report.Verdict.TheVariants.{Accepte
 
 use crate::body::check_body;
 use crate::buffers::BodyBuffers;
-use crate::read::{BodyKind, ReadBody, read_expression, read_function};
+use crate::read::{BodyKind, ReadBody, read_body};
 use crate::report::Verdict;
 use binary_modules::{
     ByteRange, ConstantExpression, FunctionNames, Module, read_function_names, read_module,
 };
-use binary_numbers::{BinaryReader, Fault, ReadError};
-use binary_operators::{CanonicalTypes, OperatorLists};
+use binary_operators::{BinaryReader, CanonicalTypes, Fault, OperatorLists, ReadError};
 use std::alloc::Global;
 use validate_resources::{ModuleLists, WasmModuleResources};
 use validate_types::{Error, WasmFeatures};
@@ -130,16 +129,11 @@ impl<'a> LoadedModule<'a> {
     }
 
     /// The names of its functions, as far as they can be read. It refuses want of memory.
-    pub fn names(&self, alloc: Global) -> Result<FunctionNames, ReadError> {
+    pub fn names(&self, alloc: Global) -> Result<FunctionNames<'a>, ReadError> {
         match self.names {
             Some(section) => read_function_names(alloc, self.bytes, section),
             None => Ok(FunctionNames::new(alloc)),
         }
-    }
-
-    /// The name of the function at this index, among these names.
-    pub fn name_of(&self, names: &FunctionNames, function: u32) -> Option<&'a str> {
-        names.of(self.bytes, function)
     }
 
     /// Reads the body of the function at this index into these lists, which are empty, or answers None where the
@@ -154,7 +148,7 @@ impl<'a> LoadedModule<'a> {
         let range = *self.bodies.get(index)?;
         let mut reader = BinaryReader::of_range(self.bytes, range)?;
         let canonical = CanonicalTypes::new(&self.canonical);
-        Some(read_function(alloc, &mut reader, canonical, lists))
+        Some(read_body(alloc, &mut reader, canonical, true, lists))
     }
 
     /// Reads a constant expression of this module into these lists, which are empty, or answers None where the
@@ -167,7 +161,7 @@ impl<'a> LoadedModule<'a> {
     ) -> Option<ReadBody<'b>> {
         let mut reader = BinaryReader::of_range(self.bytes, expression.range)?;
         let canonical = CanonicalTypes::new(&self.canonical);
-        Some(read_expression(alloc, &mut reader, canonical, lists))
+        Some(read_body(alloc, &mut reader, canonical, false, lists))
     }
 
     /// Checks what was read of the body of the function at this index, as [`check_body`] does. Where it is
@@ -220,6 +214,32 @@ impl<'a> LoadedModule<'a> {
         };
         let verdict = self.check_function(features, function, &body, buffers);
         CheckedBody { body, verdict }
+    }
+
+    /// The verdict alone of [`LoadedModule::check_body`], for callers that don't look at what was read.
+    pub fn verdict_of_body(
+        &self,
+        alloc: Global,
+        features: &WasmFeatures,
+        function: u32,
+        buffers: &mut BodyBuffers,
+    ) -> Verdict {
+        let mut lists = OperatorLists::new(alloc);
+        let checked = self.check_body(alloc, features, function, &mut lists, buffers);
+        checked.verdict
+    }
+
+    /// The verdict alone of [`LoadedModule::check_expression`].
+    pub fn verdict_of_expression(
+        &self,
+        alloc: Global,
+        features: &WasmFeatures,
+        expression: &ConstantExpression,
+        buffers: &mut BodyBuffers,
+    ) -> Verdict {
+        let mut lists = OperatorLists::new(alloc);
+        let checked = self.check_expression(alloc, features, expression, &mut lists, buffers);
+        checked.verdict
     }
 
     /// Reads a constant expression of this module into these lists, which are empty, and checks it as

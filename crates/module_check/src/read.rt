@@ -2,14 +2,16 @@
 
 ghost use Rattle.std.specs.Prelude.{◌≡◌, [], None, OnOk};
 
-use binary_numbers::{BinaryReader, Fault, ReadError};
-use binary_operators::{CanonicalTypes, OperatorLists, lend, read_operator, read_value_type};
+use binary_operators::{
+    BinaryReader, CanonicalTypes, Fault, OperatorLists, ReadError, lend, read_operator,
+    read_value_type,
+};
 use std::alloc::Global;
 use validate_types::ValType;
 use validate_visit::Op;
 
 /// What kind of body it is.
-#[derive(Clone, Copy, Debug, PartialEq, Eq)]
+#[derive(Clone, Copy)]
 pub enum BodyKind {
     /// That of a function of the type at this index.
     Function(u32),
@@ -18,7 +20,7 @@ pub enum BodyKind {
 }
 
 /// A group of locals of one type, as a body declares them.
-#[derive(Clone, Copy, Debug, PartialEq, Eq)]
+#[derive(Clone, Copy)]
 pub struct LocalGroup {
     /// How many.
     pub count: u32,
@@ -103,26 +105,30 @@ fn read_next<'a>(
     }
 }
 
-/// Reads the locals and the operators of a body.
+/// Reads the locals, where there are some, and the operators of a body.
 fn read_both<'a>(
     reader: &mut BinaryReader<'_>,
     canonical: CanonicalTypes<'_>,
+    has_locals: bool,
     locals: &mut Vec<LocalGroup>,
     lists: &mut OperatorLists,
     operators: &mut Vec<(Op<'a>, u64)>,
 ) -> Result<(), ReadError>
     ensures { OnOk result (reader.new.left ≡ []) }
 {
-    read_locals(reader, canonical, locals)?;
+    if has_locals {
+        read_locals(reader, canonical, locals)?;
+    }
     read_operators(reader, canonical, lists, operators)
 }
 
-/// Reads the body of a function: its locals, and its operators up to the end of the bytes. Their lists are kept
-/// in these, which are empty.
-pub fn read_function<'a>(
+/// Reads the body of a function, which has locals, or a constant expression, which has none: its operators are read up
+/// to the end of the bytes. Their lists are kept in these, which are empty.
+pub fn read_body<'a>(
     alloc: Global,
     reader: &mut BinaryReader<'_>,
     canonical: CanonicalTypes<'_>,
+    has_locals: bool,
     lists: &'a mut OperatorLists,
 ) -> ReadBody<'a>
     ensures { result.failure ≡ None → reader.new.left ≡ [] }
@@ -130,33 +136,17 @@ pub fn read_function<'a>(
     let start = reader.offset();
     let mut locals = Vec::new(alloc);
     let mut operators = Vec::new(alloc);
-    let read = read_both(reader, canonical, &mut locals, lists, &mut operators);
+    let read = read_both(
+        reader,
+        canonical,
+        has_locals,
+        &mut locals,
+        lists,
+        &mut operators,
+    );
     lend(lists, &mut operators);
     ReadBody {
         locals,
-        operators,
-        failure: read.err(),
-        start,
-        end: reader.offset(),
-    }
-}
-
-/// Reads a constant expression: its operators, up to the end of the bytes. Their lists are kept in these, which
-/// are empty.
-pub fn read_expression<'a>(
-    alloc: Global,
-    reader: &mut BinaryReader<'_>,
-    canonical: CanonicalTypes<'_>,
-    lists: &'a mut OperatorLists,
-) -> ReadBody<'a>
-    ensures { result.failure ≡ None → reader.new.left ≡ [] }
-{
-    let start = reader.offset();
-    let mut operators = Vec::new(alloc);
-    let read = read_operators(reader, canonical, lists, &mut operators);
-    lend(lists, &mut operators);
-    ReadBody {
-        locals: Vec::new(alloc),
         operators,
         failure: read.err(),
         start,

@@ -4,12 +4,12 @@ ghost use Rattle.std.specs.Prelude.{◌≢◌};
 ghost use Rattle.module_check.specs.declared.report.Verdict.TheVariants.{Accepted};
 
 use binary_modules::Place;
-use binary_numbers::{Cause, ReadError};
+use binary_operators::{Cause, ReadError};
 use std::fmt;
 use validate_types::Error;
 
 /// What is checked.
-#[derive(Clone, Copy, Debug, PartialEq, Eq)]
+#[derive(Clone, Copy)]
 pub enum Item {
     /// The body of the function at this index.
     Function(u32),

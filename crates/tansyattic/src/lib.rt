@@ -2,15 +2,10 @@
 //! three functions that it takes its memory by, stand in `ffi/tansyattic.h` (docs/MODULES.md).
 #![tactic(auto)]
 
-mod check;
-mod verdict;
-
 ghost use Rattle.std.specs.Prelude.{◌≡◌, length};
-ghost use Rattle.tansyattic.specs.Told.{IsTold};
+ghost use Rattle.module_check.specs.Told.{IsTold};
 
-use crate::check::{check_all, check_one};
-use crate::verdict::TansyatticVerdict;
-use module_check::LoadedModule;
+use module_check::{ModuleVerdict, validate};
 use std::alloc::Global;
 
 /// The version of the library.
@@ -30,17 +25,12 @@ pub extern "C" fn tansyattic_validate(
     alloc: Global,
     bytes: &[u8],
     text: &mut [u8],
-    out: &mut TansyatticVerdict,
+    out: &mut ModuleVerdict,
 ) -> u32
     ensures status { result ≡ out.new.status }
     ensures told { IsTold (length text.new) out.new }
 {
-    *out = TansyatticVerdict::new();
-    match LoadedModule::new(alloc, bytes) {
-        Ok(module) => check_all(alloc, &module, text, out),
-        Err(verdict) => out.note_module(&verdict, text),
-    }
-    out.status
+    validate(alloc, bytes, None, text, out)
 }
 
 /// Checks the body of the function at this index, the imported ones counted, of a module of which these are all
@@ -51,15 +41,10 @@ pub extern "C" fn tansyattic_validate_function(
     bytes: &[u8],
     function: u32,
     text: &mut [u8],
-    out: &mut TansyatticVerdict,
+    out: &mut ModuleVerdict,
 ) -> u32
     ensures status { result ≡ out.new.status }
     ensures told { IsTold (length text.new) out.new }
 {
-    *out = TansyatticVerdict::new();
-    match LoadedModule::new(alloc, bytes) {
-        Ok(module) => check_one(alloc, &module, function, text, out),
-        Err(verdict) => out.note_module(&verdict, text),
-    }
-    out.status
+    validate(alloc, bytes, Some(function), text, out)
 }

@@ -4,7 +4,7 @@ use std::{env, io};
 use validate_types::{Flags, WasmFeatures};
 
 /// What is asked for.
-#[derive(Clone, Copy, Debug, PartialEq, Eq)]
+#[derive(Clone, Copy)]
 pub enum Wish {
     /// To check a module.
     Check,
@@ -16,15 +16,24 @@ pub enum Wish {
     Unknown,
 }
 
+/// How much is printed.
+#[derive(Clone, Copy)]
+pub enum Detail {
+    /// The last line.
+    Last,
+    /// A line for each body and expression that isn't accepted, and the last one.
+    Others,
+    /// A line for each, and the last one.
+    Each,
+}
+
 /// What the words choose.
 #[derive(Drop)]
 pub struct Options {
     /// What is asked for.
     pub wish: Wish,
-    /// Whether no line is printed but the last.
-    pub quiet: bool,
-    /// Whether there is a line for each body, accepted ones among them.
-    pub verbose: bool,
+    /// How much is printed.
+    pub detail: Detail,
     /// The proposals that are on.
     pub features: WasmFeatures,
     /// The file to read, or standard input.
@@ -47,24 +56,16 @@ fn read_features(list: &str) -> Option<WasmFeatures> {
 
 /// The proposals with those that a word adds, or without those that it takes off.
 fn with_word(features: WasmFeatures, word: &str) -> Option<WasmFeatures> {
-    match word.strip_prefix('-') {
-        Some(name) => {
-            let taken = named(name)?;
-            Some(features.difference(taken))
-        }
-        None => {
-            let added = named(word)?;
-            Some(features.union(added))
-        }
-    }
-}
-
-/// The proposals of a name.
-fn named(name: &str) -> Option<WasmFeatures> {
-    match name {
-        "all" => Some(WasmFeatures::all()),
-        "none" => Some(WasmFeatures::empty()),
-        _ => WasmFeatures::from_name(name),
+    let taken = word.strip_prefix('-');
+    let named = match taken.unwrap_or(word) {
+        "all" => WasmFeatures::all(),
+        "none" => WasmFeatures::empty(),
+        name => WasmFeatures::from_name(name)?,
+    };
+    if taken.is_some() {
+        Some(features.difference(named))
+    } else {
+        Some(features.union(named))
     }
 }
 
@@ -72,8 +73,10 @@ impl Options {
     /// Takes a word, where the one before didn't ask for a list.
     fn take(&mut self, word: String) {
         match word.as_str() {
-            "-q" | "--quiet" => self.quiet = true,
-            "-v" | "--verbose" => self.verbose = true,
+            "-q" | "--quiet" => self.detail = Detail::Last,
+            "-v" | "--verbose" if !matches!(self.detail, Detail::Last) => self.detail =
+                Detail::Each,
+            "-v" | "--verbose" => {}
             "-h" | "--help" => self.wish = Wish::Help,
             "-V" | "--version" => self.wish = Wish::Version,
             _ => self.take_file(word),
@@ -103,8 +106,7 @@ impl Options {
 pub fn read_options(rt: &HostRuntime) -> io::Result<Options> {
     let mut options = Options {
         wish: Wish::Check,
-        quiet: false,
-        verbose: false,
+        detail: Detail::Others,
         features: WasmFeatures::all(),
         file: None,
     };

@@ -1,20 +1,10 @@
 //! What is printed of a module.
 
+use crate::options::Detail;
 use crate::program::{ACCEPTED, FAILED, NO_MODULE, NOT_COVERED, REFUSED};
-use module_check::{FunctionNames, Item, LoadedModule, Verdict};
+use module_check::{FunctionNames, Item, Verdict};
 use std::io;
 use std::io::Write;
-
-/// How much is printed.
-#[derive(Clone, Copy, Debug, PartialEq, Eq)]
-pub enum Detail {
-    /// The last line.
-    Last,
-    /// A line for each body and expression that isn't accepted, and the last one.
-    Others,
-    /// A line for each, and the last one.
-    Each,
-}
 
 /// How many bodies and expressions came to what.
 #[derive(Drop)]
@@ -26,16 +16,6 @@ struct Counts {
 }
 
 impl Counts {
-    /// None so far.
-    fn new() -> Counts {
-        Counts {
-            accepted: 0,
-            refused: 0,
-            not_covered: 0,
-            wants_memory: 0,
-        }
-    }
-
     /// Counts one more.
     fn count(&mut self, verdict: &Verdict) {
         match verdict {
@@ -97,25 +77,24 @@ fn print_verdict<W: Write>(out: &mut W, verdict: &Verdict) -> io::Result<()> {
 
 /// What is told of a module.
 #[derive(Drop)]
-pub struct Report<'a, 'm> {
-    module: &'a LoadedModule<'m>,
-    names: FunctionNames,
+pub struct Report<'m> {
+    names: FunctionNames<'m>,
     detail: Detail,
     counts: Counts,
 }
 
-impl<'a, 'm> Report<'a, 'm> {
+impl<'m> Report<'m> {
     /// Nothing so far, of a module with these names.
-    pub fn new(
-        module: &'a LoadedModule<'m>,
-        names: FunctionNames,
-        detail: Detail,
-    ) -> Report<'a, 'm> {
+    pub fn new(names: FunctionNames<'m>, detail: Detail) -> Report<'m> {
         Report {
-            module,
             names,
             detail,
-            counts: Counts::new(),
+            counts: Counts {
+                accepted: 0,
+                refused: 0,
+                not_covered: 0,
+                wants_memory: 0,
+            },
         }
     }
 
@@ -123,44 +102,31 @@ impl<'a, 'm> Report<'a, 'm> {
     fn print_item<W: Write>(&self, out: &mut W, item: Item) -> io::Result<()> {
         write!(out, "{item}")?;
         if let Item::Function(function) = item {
-            if let Some(name) = self.module.name_of(&self.names, function) {
+            if let Some(name) = self.names.of(function) {
                 write!(out, " {name:?}")?;
             }
         }
         Ok(())
     }
 
-    /// Whether there is a line for this verdict.
-    fn has_line(&self, verdict: &Verdict) -> bool {
-        match self.detail {
-            Detail::Last => false,
-            Detail::Others => !matches!(verdict, Verdict::Accepted),
-            Detail::Each => true,
-        }
-    }
-
     /// Counts a verdict, and prints the line of its item, unless it is left out.
     pub fn tell<W: Write>(&mut self, out: &mut W, item: Item, verdict: &Verdict) -> io::Result<()> {
         self.counts.count(verdict);
-        if self.has_line(verdict) {
-            self.print_item(out, item)?;
-            print_verdict(out, verdict)?;
+        match (self.detail, verdict) {
+            (Detail::Last, _) | (Detail::Others, Verdict::Accepted) => Ok(()),
+            _ => {
+                self.print_item(out, item)?;
+                print_verdict(out, verdict)
+            }
         }
-        Ok(())
     }
 
-    /// Prints how many types are equal to earlier ones, if there are some and each line is printed.
-    fn print_merged<W: Write>(&self, out: &mut W) -> io::Result<()> {
-        let merged = self.module.merged();
-        if self.detail == Detail::Each && merged > 0 {
+    /// Prints the last line, and ahead of it, where each line is printed, how many types are equal to earlier ones, if
+    /// some are. It answers the status.
+    pub fn end<W: Write>(&self, out: &mut W, merged: usize) -> io::Result<u8> {
+        if matches!(self.detail, Detail::Each) && merged > 0 {
             writeln!(out, "{merged} types equal to earlier ones")?;
         }
-        Ok(())
-    }
-
-    /// Prints the last line, and answers the status.
-    pub fn end<W: Write>(&self, out: &mut W) -> io::Result<u8> {
-        self.print_merged(out)?;
         self.counts.print(out)?;
         Ok(self.counts.status())
     }

@@ -1,8 +1,8 @@
 //! The run of the program.
 
-use crate::options::{Options, Wish, read_options};
-use crate::print::{Detail, Report, print_module_verdict};
-use module_check::{BodyBuffers, Item, LoadedModule, OperatorLists, Verdict};
+use crate::options::{Detail, Options, Wish, read_options};
+use crate::print::{Report, print_module_verdict};
+use module_check::{BodyBuffers, Item, LoadedModule, Verdict};
 use std::alloc::Global;
 use std::io::{BufWriter, IsTerminal, Read, Write};
 use std::{fs, io};
@@ -71,12 +71,11 @@ fn check_expressions<W: Write>(
     module: &LoadedModule<'_>,
     features: &WasmFeatures,
     buffers: &mut BodyBuffers,
-    report: &mut Report<'_, '_>,
+    report: &mut Report<'_>,
 ) -> io::Result<()> {
     for expression in module.expressions() {
-        let mut lists = OperatorLists::new(alloc);
-        let checked = module.check_expression(alloc, features, expression, &mut lists, buffers);
-        report.tell(out, Item::Expression(expression.place), &checked.verdict)?;
+        let verdict = module.verdict_of_expression(alloc, features, expression, buffers);
+        report.tell(out, Item::Expression(expression.place), &verdict)?;
     }
     Ok(())
 }
@@ -98,15 +97,14 @@ fn check_bodies<W: Write>(
     module: &LoadedModule<'_>,
     features: &WasmFeatures,
     buffers: &mut BodyBuffers,
-    report: &mut Report<'_, '_>,
+    report: &mut Report<'_>,
 ) -> io::Result<()> {
     let all = module.bodies();
     for index in 0..all {
         tell_progress(rt, index, all);
         let function = module.function_of(index);
-        let mut lists = OperatorLists::new(rt.alloc());
-        let checked = module.check_body(rt.alloc(), features, function, &mut lists, buffers);
-        report.tell(out, Item::Function(function), &checked.verdict)?;
+        let verdict = module.verdict_of_body(rt.alloc(), features, function, buffers);
+        report.tell(out, Item::Function(function), &verdict)?;
     }
     Ok(())
 }
@@ -122,22 +120,11 @@ fn check_module<W: Write>(
     let Ok(names) = module.names(rt.alloc()) else {
         return print_module_verdict(out, &Verdict::OutOfMemory);
     };
-    let mut report = Report::new(module, names, detail);
+    let mut report = Report::new(names, detail);
     let mut buffers = BodyBuffers::new(rt.alloc());
     check_expressions(rt.alloc(), out, module, features, &mut buffers, &mut report)?;
     check_bodies(rt, out, module, features, &mut buffers, &mut report)?;
-    report.end(out)
-}
-
-/// How much is printed.
-fn detail_of(options: &Options) -> Detail {
-    if options.quiet {
-        Detail::Last
-    } else if options.verbose {
-        Detail::Each
-    } else {
-        Detail::Others
-    }
+    report.end(out, module.merged())
 }
 
 /// Checks the module of these bytes, and answers the status.
@@ -148,7 +135,7 @@ fn check_input<W: Write>(
     input: &[u8],
 ) -> io::Result<u8> {
     match LoadedModule::new(rt.alloc(), input) {
-        Ok(module) => check_module(rt, out, &module, &options.features, detail_of(options)),
+        Ok(module) => check_module(rt, out, &module, &options.features, options.detail),
         Err(verdict) => print_module_verdict(out, &verdict),
     }
 }
@@ -174,7 +161,7 @@ fn check(rt: &HostRuntime, options: &Options) -> io::Result<u8> {
     }
     let status = check_input(rt, &mut out, options, &input)?;
     out.flush()?;
-    if !options.quiet && (status == ACCEPTED || status == NOT_COVERED) {
+    if !matches!(options.detail, Detail::Last) && (status == ACCEPTED || status == NOT_COVERED) {
         writeln!(err, "{NOT_CHECKED}")?;
     }
     Ok(status)

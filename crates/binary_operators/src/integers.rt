@@ -1,0 +1,62 @@
+//! What a reader of integers computes of each byte (WebAssembly core specification, "Binary Format: Values",
+//! "Integers").
+
+ghost use Rattle.std.specs.Prelude.{◌≡◌, ◌≤◌, ◌<◌, ◌+◌, ◌*◌, ◌^◌, ◌-◌, nat_lt, IfSome};
+ghost use Rattle.binary_operators.specs.Integers.{last_biased};
+
+/// The integer of so many bits that a last byte is, with half of 2 to their power added, or None where it is
+/// none.
+pub(crate) fn last_biased(byte: u8, bits: u32) -> Option<u64>
+    requires some { 0 < bits }
+    requires within { bits ≤ 64 }
+    requires last { byte < 128 }
+    ensures value { result ≡ last_biased bits byte }
+    ensures below { IfSome result (λ value. value < 2 ^ bits) }
+{
+    let value = u64::from(byte);
+    let half = half_of(bits);
+    if byte < 64 {
+        if value < half {
+            Some(value + half)
+        } else {
+            None
+        }
+    } else if value + half < 128 {
+        None
+    } else {
+        Some(value + half - 128)
+    }
+}
+
+/// Half of 2 to the power of so many bits.
+fn half_of(bits: u32) -> u64
+    requires some { 0 < bits }
+    requires within { bits ≤ 64 }
+    ensures value { result ≡ 2 ^ (bits - 1) }
+    ensures half { 2 ^ bits ≡ result + result }
+    ensures fits { result ≤ 2 ^ 63 }
+{
+    1 << (bits - 1)
+}
+
+/// Whether a number of 7 bits is one of so many.
+#[inline(always)]
+pub(crate) fn has_bits(byte: u8, bits: u32) -> bool
+    requires { byte < 128 }
+    ensures { result ≡ nat_lt byte (2 ^ bits) }
+{
+    bits >= 7 || byte < 1 << bits
+}
+
+/// The number of so many bits of which these are the low 7, and these are above them.
+#[inline(always)]
+pub(crate) fn widened(high: u64, low: u8, bits: u32) -> u64
+    requires more { 7 < bits }
+    requires most { bits ≤ 64 }
+    requires low { low < 128 }
+    requires high { high < 2 ^ (bits - 7) }
+    ensures value { result ≡ high * 128 + low }
+    ensures below { result < 2 ^ bits }
+{
+    high * 128 + u64::from(low)
+}

@@ -1,0 +1,313 @@
+//! Bytes and numbers of a module (WebAssembly core specification, "Binary Format: Values").
+
+ghost use Rattle.std.specs.Prelude.{◌≡◌, ◌≤◌, ◌<◌, ◌+◌, ◌^◌, ◌↔◌, [], ◌∷◌, Some, None, length, take, drop, true, false, IsTrue, IfOk, OnOk, IfSome, OnErr};
+ghost use Rattle.binary_operators.specs.Integers.{unsigned, biased, signed};
+
+use crate::error::{Fault, ReadError};
+use crate::integers::{has_bits, last_biased, widened};
+use std::marker::Model;
+use std::str;
+
+/// Some of the bytes of a module.
+#[derive(Clone, Copy)]
+pub struct ByteRange {
+    /// The offset of the first, from the first byte of the module.
+    pub start: usize,
+    /// The offset behind the last.
+    pub end: usize,
+}
+
+/// The bytes of a module up to some end, and how many of them were read (wasmparser's `BinaryReader`).
+/// Contracts see what is left, an `Unread` of `specs/`.
+#[derive(Drop)]
+pub struct BinaryReader<'a> {
+    bytes: &'a [u8],
+    place: usize,
+}
+
+impl<'a> Model for BinaryReader<'a> {
+    ghost use Rattle.std.specs.Prelude.{◌≤◌, length, drop};
+    ghost use Rattle.binary_operators.specs.Unread.{Unread};
+
+    ghost Value = { Unread };
+
+    ghost view = { λ r. record { offset = r.place; left = drop r.place r.bytes.now } };
+
+    ghost invariant = { λ r. r.place ≤ length r.bytes.now };
+}
+
+impl<'a> BinaryReader<'a> {
+    /// A reader of these bytes, of which none is read.
+    pub fn new(bytes: &'a [u8]) -> BinaryReader<'a>
+        ensures { result ≡ record { offset = 0; left = bytes.now } }
+    {
+        BinaryReader { bytes, place: 0 }
+    }
+
+    /// A reader of some bytes of a module, or None where they aren't there.
+    pub fn of_range(bytes: &'a [u8], range: ByteRange) -> Option<BinaryReader<'a>>
+        ensures { IfSome result (λ r. r ≡ record {
+          offset = range.start;
+          left = drop range.start (take range.end bytes.now);
+        }) }
+    {
+        if range.start > range.end || range.end > bytes.len() {
+            return None;
+        }
+        Some(BinaryReader {
+            bytes: &bytes[..range.end],
+            place: range.start,
+        })
+    }
+
+    /// Another reader of what is left.
+    pub fn again(&self) -> BinaryReader<'a>
+        ensures { result ≡ self.now }
+    {
+        BinaryReader {
+            bytes: self.bytes,
+            place: self.place,
+        }
+    }
+
+    /// The offset of the next byte.
+    pub fn position(&self) -> usize
+        ensures { result ≡ self.now.offset }
+    {
+        self.place
+    }
+
+    /// The same, as offsets are told.
+    pub fn offset(&self) -> u64
+        ensures { result ≡ self.now.offset }
+    {
+        self.place as u64
+    }
+
+    /// How many bytes are left.
+    pub fn bytes_left(&self) -> usize
+        ensures { result ≡ length self.now.left }
+    {
+        self.bytes.len() - self.place
+    }
+
+    /// Whether none is left.
+    pub fn is_at_end(&self) -> bool
+        ensures { IsTrue result ↔ (self.now.left ≡ []) }
+    {
+        self.bytes_left() == 0
+    }
+
+    /// The next byte, which isn't read yet. It refuses where none is left: `unexpected end`.
+    pub fn peek(&self) -> Result<u8, ReadError>
+        ensures next { IfOk result (λ byte. take 1 self.now.left ≡ byte ∷ []) }
+        ensures ended { OnErr result (self.now.left ≡ []) }
+    {
+        if self.place < self.bytes.len() {
+            Ok(self.bytes[self.place])
+        } else {
+            Err(self.ended())
+        }
+    }
+
+    /// Reads a byte. It refuses where none is left: `unexpected end`.
+    #[inline(always)]
+    pub fn read_u8(&mut self) -> Result<u8, ReadError>
+        ensures read { IfOk result (λ byte. self.old.left ≡ byte ∷ self.new.left) }
+        ensures ended { OnErr result (self.old.left ≡ []) }
+        ensures kept { OnErr result (self.new ≡ self.old) }
+    {
+        let place = self.place;
+        if place < self.bytes.len() {
+            self.place = place + 1;
+            Ok(self.bytes[place])
+        } else {
+            Err(self.ended())
+        }
+    }
+
+    /// Reads the next byte if it is this one, and answers whether it is. It refuses where none is left:
+    /// `unexpected end`.
+    pub fn reads(&mut self, code: u8) -> Result<bool, ReadError>
+        ensures read { IfOk result (λ is_code. IsTrue is_code → self.old.left ≡ code ∷ self.new.left) }
+        ensures passed { IfOk result (λ is_code. is_code ≡ false → self.new ≡ self.old) }
+        ensures ended { OnErr result (self.old.left ≡ []) }
+        ensures kept { OnErr result (self.new ≡ self.old) }
+    {
+        if self.peek()? != code {
+            return Ok(false);
+        }
+        self.place += 1;
+        Ok(true)
+    }
+
+    /// Reads so many bytes. It refuses where fewer are left: `unexpected end`.
+    pub fn read_bytes(&mut self, count: usize) -> Result<&'a [u8], ReadError>
+        ensures read { IfOk result (λ s. s.now ≡ take count self.old.left) }
+        ensures rest { OnOk result (self.new.left ≡ drop count self.old.left) }
+        ensures there { OnOk result (count ≤ length self.old.left) }
+        ensures ended { OnErr result (length self.old.left < count) }
+        ensures kept { OnErr result (self.new ≡ self.old) }
+    {
+        if count > self.bytes_left() {
+            return Err(self.ended());
+        }
+        let start = self.place;
+        self.place = start + count;
+        Ok(&self.bytes[start..start + count])
+    }
+
+    /// A reader of the next bytes, so many, which are read. It refuses where fewer are left: `unexpected end`.
+    pub fn part(&mut self, count: usize) -> Result<BinaryReader<'a>, ReadError>
+        ensures read { IfOk result (λ r. r ≡ record {
+          offset = self.old.offset;
+          left = take count self.old.left;
+        }) }
+        ensures rest { OnOk result (self.new.left ≡ drop count self.old.left) }
+        ensures ended { OnErr result (length self.old.left < count) }
+        ensures kept { OnErr result (self.new ≡ self.old) }
+    {
+        if count > self.bytes_left() {
+            return Err(self.ended());
+        }
+        let start = self.place;
+        self.place = start + count;
+        Ok(BinaryReader {
+            bytes: &self.bytes[..start + count],
+            place: start,
+        })
+    }
+
+    fn ended(&self) -> ReadError {
+        ReadError::malformed(Fault::UnexpectedEnd, self.offset())
+    }
+
+    /// Reads a number below 2^32 (u32). It refuses `unexpected end`, `integer representation too long` for more
+    /// bytes than such a number has, and `integer too large` for bits above.
+    #[inline(always)]
+    pub fn read_var_u32(&mut self) -> Result<u32, ReadError>
+        ensures read { IfOk result (λ value. unsigned 32 self.old.left ≡ Some (value, self.new.left)) }
+        ensures refused { OnErr result (unsigned 32 self.old.left ≡ None) }
+    {
+        let value = self.read_unsigned(32)?;
+        Ok(value as u32)
+    }
+
+    /// Reads a number below 2^64 (u64), as [`BinaryReader::read_var_u32`].
+    pub fn read_var_u64(&mut self) -> Result<u64, ReadError>
+        ensures read { IfOk result (λ value. unsigned 64 self.old.left ≡ Some (value, self.new.left)) }
+        ensures refused { OnErr result (unsigned 64 self.old.left ≡ None) }
+    {
+        self.read_unsigned(64)
+    }
+
+    /// Reads an integer of 32 bits (s32), as [`BinaryReader::read_var_u32`].
+    pub fn read_var_i32(&mut self) -> Result<i32, ReadError>
+        ensures read { IfOk result (λ value. signed 32 self.old.left ≡ Some (value, self.new.left)) }
+        ensures refused { OnErr result (signed 32 self.old.left ≡ None) }
+    {
+        let value = self.read_biased(32)?;
+        Ok((value as i64 - 0x8000_0000) as i32)
+    }
+
+    /// Reads an integer of 33 bits (s33), which is the index of a type, or None where it is negative.
+    pub fn read_var_s33(&mut self) -> Result<Option<u32>, ReadError>
+        ensures read { IfOk result (λ index. IfSome index (λ i. biased 33 self.old.left
+            ≡ Some (i + 2 ^ 32, self.new.left))) }
+        ensures refused { OnErr result (biased 33 self.old.left ≡ None) }
+    {
+        let value = self.read_biased(33)?;
+        if value >= 0x1_0000_0000 {
+            return Ok(Some((value - 0x1_0000_0000) as u32));
+        }
+        Ok(None)
+    }
+
+    /// Reads an integer of 64 bits (s64), as [`BinaryReader::read_var_u32`].
+    pub fn read_var_i64(&mut self) -> Result<i64, ReadError>
+        ensures read { IfOk result (λ value. signed 64 self.old.left ≡ Some (value, self.new.left)) }
+        ensures refused { OnErr result (signed 64 self.old.left ≡ None) }
+    {
+        let value = self.read_biased(64)?;
+        if value >= 0x8000_0000_0000_0000 {
+            return Ok((value - 0x8000_0000_0000_0000) as i64);
+        }
+        Ok(-((0x7fff_ffff_ffff_ffff - value) as i64) - 1)
+    }
+
+    /// Reads a number of so many bits.
+    fn read_unsigned(&mut self, bits: u32) -> Result<u64, ReadError>
+        requires within { bits ≤ 64 }
+        ensures below { IfOk result (λ value. value < 2 ^ bits) }
+        ensures read { IfOk result (λ value. unsigned bits self.old.left ≡ Some (value, self.new.left)) }
+        ensures refused { OnErr result (unsigned bits self.old.left ≡ None) }
+    {
+        let offset = self.offset();
+        let byte = self.read_u8()?;
+        if byte < 0x80 {
+            if !has_bits(byte, bits) {
+                return Err(ReadError::malformed(Fault::IntegerTooLarge, offset));
+            }
+            return Ok(u64::from(byte));
+        }
+        if bits <= 7 {
+            return Err(ReadError::malformed(Fault::IntegerTooLong, offset));
+        }
+        let rest = self.read_unsigned(bits - 7)?;
+        Ok(widened(rest, byte - 0x80, bits))
+    }
+
+    /// Reads an integer of so many bits, and answers it with half of 2 to their power added, which is no
+    /// negative number.
+    fn read_biased(&mut self, bits: u32) -> Result<u64, ReadError>
+        requires some { 0 < bits }
+        requires within { bits ≤ 64 }
+        ensures below { IfOk result (λ value. value < 2 ^ bits) }
+        ensures read { IfOk result (λ value. biased bits self.old.left ≡ Some (value, self.new.left)) }
+        ensures refused { OnErr result (biased bits self.old.left ≡ None) }
+    {
+        let offset = self.offset();
+        let byte = self.read_u8()?;
+        if byte < 0x80 {
+            return match last_biased(byte, bits) {
+                Some(value) => Ok(value),
+                None => Err(ReadError::malformed(Fault::IntegerTooLarge, offset)),
+            };
+        }
+        if bits <= 7 {
+            return Err(ReadError::malformed(Fault::IntegerTooLong, offset));
+        }
+        let rest = self.read_biased(bits - 7)?;
+        Ok(widened(rest, byte - 0x80, bits))
+    }
+
+    /// Reads the bits of a float of 32 bits.
+    pub fn read_f32(&mut self) -> Result<u32, ReadError>
+        ensures rest { OnOk result (self.new.left ≡ drop 4 self.old.left) }
+        ensures ended { OnErr result (length self.old.left < 4) }
+    {
+        match self.read_bytes(4)? {
+            [a, b, c, d] => Ok(u32::from_le_bytes([*a, *b, *c, *d])),
+            _ => Err(self.ended()),
+        }
+    }
+
+    /// Reads the bits of a float of 64 bits.
+    pub fn read_f64(&mut self) -> Result<u64, ReadError> {
+        let low = self.read_f32()?;
+        let high = self.read_f32()?;
+        Ok(u64::from(high) << 32 | u64::from(low))
+    }
+
+    /// Reads a name (WebAssembly core specification, "Binary Format: Values", "Names"). It refuses what
+    /// [`BinaryReader::read_var_u32`] refuses, and `malformed UTF-8 encoding`.
+    pub fn read_name(&mut self) -> Result<&'a str, ReadError> {
+        let count = self.read_var_u32()?;
+        let offset = self.offset();
+        let bytes = self.read_bytes(count as usize)?;
+        match str::from_utf8(bytes) {
+            Ok(name) => Ok(name),
+            Err(_) => Err(ReadError::malformed(Fault::MalformedUtf8Encoding, offset)),
+        }
+    }
+}

@@ -1,0 +1,113 @@
+//! The check of a module, or of one of its bodies, with all proposals on.
+
+ghost use Rattle.std.specs.Prelude.{◌≡◌, length};
+ghost use Rattle.module_check.specs.Told.{IsTold};
+
+use crate::buffers::BodyBuffers;
+use crate::loaded::LoadedModule;
+use crate::report::Item;
+use crate::summary::{ModuleVerdict, NO_BODY};
+use std::alloc::Global;
+use validate_types::{Flags, WasmFeatures};
+
+/// Checks each constant expression.
+fn check_expressions(
+    alloc: Global,
+    module: &LoadedModule<'_>,
+    buffers: &mut BodyBuffers,
+    text: &mut [u8],
+    out: &mut ModuleVerdict,
+)
+    requires { IsTold (length text.old) out.old }
+    ensures { IsTold (length text.new) out.new }
+{
+    for expression in module.expressions() {
+        let features = WasmFeatures::all();
+        let verdict = module.verdict_of_expression(alloc, &features, expression, buffers);
+        out.note(&verdict, Some(Item::Expression(expression.place)), text);
+    }
+}
+
+/// Checks the body of the function at this index.
+fn check_body(
+    alloc: Global,
+    module: &LoadedModule<'_>,
+    function: u32,
+    buffers: &mut BodyBuffers,
+    text: &mut [u8],
+    out: &mut ModuleVerdict,
+)
+    requires { IsTold (length text.old) out.old }
+    ensures { IsTold (length text.new) out.new }
+{
+    let verdict = module.verdict_of_body(alloc, &WasmFeatures::all(), function, buffers);
+    out.note(&verdict, Some(Item::Function(function)), text);
+}
+
+/// Checks each body and each constant expression.
+fn check_all(alloc: Global, module: &LoadedModule<'_>, text: &mut [u8], out: &mut ModuleVerdict)
+    requires { IsTold (length text.old) out.old }
+    ensures { IsTold (length text.new) out.new }
+{
+    let mut buffers = BodyBuffers::new(alloc);
+    check_expressions(alloc, module, &mut buffers, text, out);
+    for index in 0..module.bodies() {
+        let function = module.function_of(index);
+        check_body(alloc, module, function, &mut buffers, text, out);
+    }
+}
+
+/// Checks the body of the function at this index, if the module has one for it.
+fn check_one(
+    alloc: Global,
+    module: &LoadedModule<'_>,
+    function: u32,
+    text: &mut [u8],
+    out: &mut ModuleVerdict,
+)
+    requires { IsTold (length text.old) out.old }
+    ensures { IsTold (length text.new) out.new }
+{
+    if module.body_of(function).is_some() {
+        let mut buffers = BodyBuffers::new(alloc);
+        check_body(alloc, module, function, &mut buffers, text, out);
+    } else {
+        let item = Some(Item::Function(function));
+        out.tell(
+            NO_BODY,
+            item,
+            0,
+            "the module has no body for this function",
+            text,
+        );
+    }
+}
+
+/// The status of a verdict.
+fn status_of(verdict: &ModuleVerdict) -> u32
+    ensures { result ≡ verdict.now.status }
+{
+    verdict.status
+}
+
+/// Checks each body and each constant expression of a module, of which these are all the bytes, or the body of one
+/// function alone. It writes what they come to, and of the first that weighs most the text, as much as there is room
+/// for; it answers the status.
+pub fn validate(
+    alloc: Global,
+    bytes: &[u8],
+    function: Option<u32>,
+    text: &mut [u8],
+    out: &mut ModuleVerdict,
+) -> u32
+    ensures status { result ≡ out.new.status }
+    ensures told { IsTold (length text.new) out.new }
+{
+    *out = ModuleVerdict::new();
+    match (LoadedModule::new(alloc, bytes), function) {
+        (Ok(module), None) => check_all(alloc, &module, text, out),
+        (Ok(module), Some(function)) => check_one(alloc, &module, function, text, out),
+        (Err(verdict), _) => out.note_module(&verdict, text),
+    }
+    status_of(out)
+}

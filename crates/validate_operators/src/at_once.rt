@@ -5,7 +5,8 @@ ghost use Rattle.validate_visit.specs.declared.op.ControlOp.{ControlOp};
 ghost use Rattle.std.specs.Prelude.{◌≡◌, true};
 ghost use Rattle.validate_types.specs.declared.gate.Gate.TheVariants.{Mvp};
 ghost use Rattle.validate_visit.specs.Gates.{control_gate};
-ghost use Rattle.validation_rules.specs.Operators.{operator, control_operator};
+ghost use Rattle.validation_rules.specs.Operators.{operator, control_operator, staying_operator};
+ghost use Rattle.validation_rules.specs.References.{reference_row};
 ghost use Rattle.validate_stacks.specs.AtOnce.{MeetsAtOnce};
 ghost use Rattle.validate_stacks.specs.Visits.{MayVisit};
 
@@ -17,12 +18,18 @@ use validate_rows::globals::{global_get_at_once, global_set_at_once};
 use validate_rows::memory::memory_at_once;
 use validate_rows::numeric::{convert_at_once, numeric_at_once};
 use validate_rows::parametric::{drop_at_once, select_at_once};
+use validate_rows::references::{ref_as_non_null_at_once, ref_is_null_at_once, ref_null_at_once};
 use validate_rows::variables::{local_get_at_once, local_set_at_once, local_tee_at_once};
+use validate_rows_gc::arrays::array_at_once;
+use validate_rows_gc::casts::{ref_cast_at_once, ref_test_at_once};
+use validate_rows_gc::found::measure_at_once;
+use validate_rows_gc::structs::struct_at_once;
 use validate_shapes::blocks::opener_at_once;
 use validate_stacks::Stacks;
-use validate_types::ValType;
+use validate_types::{AbstractHeapType, Gate, ValType};
 use validate_visit::{
-    BlockType, BrTable, ControlOp, ConvertOp, FrameKind, MemoryOp, NumericOp, Op,
+    ArrayOp, BlockType, BrTable, ControlOp, ConvertOp, FrameKind, MemoryOp, NumericOp, Op,
+    ReferenceOp, StructOp,
 };
 
 /// An operator on numbers, behind its gate.
@@ -171,6 +178,89 @@ fn gated_memory_at_once<R: WasmModuleResources>(
     memory_at_once(stacks, resources, *op)
 }
 
+/// An operator on structs, behind its gate.
+#[inline(never)]
+fn gated_struct_at_once<R: WasmModuleResources>(
+    stacks: &mut Stacks,
+    resources: &R,
+    op: &StructOp,
+) -> bool
+    requires { MayVisit (R.context resources.now) stacks.old }
+    ensures { MeetsAtOnce (R.context resources.now) (λ cx. operator cx (Op.Struct op.now)) stacks.old result
+        stacks.new }
+{
+    if !op.gate().is_open(stacks.features()) {
+        return false;
+    }
+    struct_at_once(stacks, resources, op)
+}
+
+/// An operator on arrays, behind its gate.
+#[inline(never)]
+fn gated_array_at_once<R: WasmModuleResources>(
+    stacks: &mut Stacks,
+    resources: &R,
+    op: &ArrayOp,
+) -> bool
+    requires { MayVisit (R.context resources.now) stacks.old }
+    ensures { MeetsAtOnce (R.context resources.now) (λ cx. operator cx (Op.Array op.now)) stacks.old result
+        stacks.new }
+{
+    if !Gate::Gc.is_open(stacks.features()) {
+        return false;
+    }
+    array_at_once(stacks, resources, op)
+}
+
+/// An operator on references, its gate aside.
+#[inline(always)]
+fn reference_at_once<R: WasmModuleResources>(
+    stacks: &mut Stacks,
+    resources: &R,
+    op: &ReferenceOp,
+) -> bool
+    requires { MayVisit (R.context resources.now) stacks.old }
+    ensures { MeetsAtOnce (R.context resources.now)
+        (λ cx. staying_operator (λ hs. reference_row cx hs op.now)) stacks.old result stacks.new }
+{
+    match op {
+        ReferenceOp::RefNull(heap_type) => ref_null_at_once(stacks, resources, *heap_type),
+        ReferenceOp::RefIsNull => ref_is_null_at_once(stacks, resources),
+        ReferenceOp::RefAsNonNull => ref_as_non_null_at_once(stacks, resources),
+        ReferenceOp::RefTestNonNull(heap_type) => ref_test_at_once(
+            stacks, resources, false, *heap_type,
+        ),
+        ReferenceOp::RefTestNullable(heap_type) => ref_test_at_once(
+            stacks, resources, true, *heap_type,
+        ),
+        ReferenceOp::RefCastNonNull(heap_type) => ref_cast_at_once(
+            stacks, resources, false, *heap_type,
+        ),
+        ReferenceOp::RefCastNullable(heap_type) => ref_cast_at_once(
+            stacks, resources, true, *heap_type,
+        ),
+        ReferenceOp::I31Get(_) => measure_at_once(stacks, resources, AbstractHeapType::I31),
+        _ => false,
+    }
+}
+
+/// An operator on references, behind its gate.
+#[inline(never)]
+fn gated_reference_at_once<R: WasmModuleResources>(
+    stacks: &mut Stacks,
+    resources: &R,
+    op: &ReferenceOp,
+) -> bool
+    requires { MayVisit (R.context resources.now) stacks.old }
+    ensures { MeetsAtOnce (R.context resources.now) (λ cx. operator cx (Op.Reference op.now)) stacks.old result
+        stacks.new }
+{
+    if !op.gate().is_open(stacks.features()) {
+        return false;
+    }
+    reference_at_once(stacks, resources, op)
+}
+
 /// The check of an operator, where it passes at once, as most do. False, with nothing changed, where it takes its check:
 /// an attempt is pending, memory is wanted, the operator has no form at once, or it is refused.
 ///
@@ -185,6 +275,9 @@ pub fn operator_at_once<R: WasmModuleResources>(stacks: &mut Stacks, resources: 
         Op::Numeric(op) => gated_numeric_at_once(stacks, resources, *op),
         Op::Convert(op) => gated_convert_at_once(stacks, resources, *op),
         Op::Memory(op) => gated_memory_at_once(stacks, resources, op),
+        Op::Reference(op) => gated_reference_at_once(stacks, resources, op),
+        Op::Struct(op) => gated_struct_at_once(stacks, resources, op),
+        Op::Array(op) => gated_array_at_once(stacks, resources, op),
         _ => false,
     }
 }

@@ -1,11 +1,14 @@
 -- Locals that are set already, and the innermost frame, for what passes at once.
-use Rattle.std.proofs.Common.{◌==◌, ◌≤◌, get_or, ◌≡◌, ℕ, [], ◌∷◌, length, arith, Bool, true, false, Option, Some, None, IsSome, is_none, ◌||◌, refl, sym, ap, ◌∙◌, if◌then◌else◌, ap₂}
+use Rattle.std.proofs.Common.{◌==◌, ◌≤◌, get_or, ◌≡◌, ℕ, [], ◌∷◌, length, arith, Bool, true, false, Option, Some, None, IsSome, is_none, is_some, ◌||◌, refl, sym, ap, ◌∙◌, if◌then◌else◌, ap₂, subst}
 use Rattle.std.specs.Option.{ForSome}
 use Rattle.validate_resources.specs.Context.{ModuleContext}
 use Rattle.validate_visit.specs.declared.frame.Frame.{Frame as FlatFrame}
 use Rattle.validation_rules.proofs.Steps.{some_injective}
 use Rattle.validate_types.specs.declared.types.ValType.{ValType}
-use Rattle.validate_types.specs.declared.types.ValType.TheVariants.{I32}
+use Rattle.validate_types.specs.declared.types.ValType.TheVariants.{I32, I64, F32, F64, V128, Ref}
+use Rattle.validation_rules.specs.Fits.{MaybeType, Bottom, UnknownRef, Known}
+use Rattle.validation_rules.specs.References.{operand_without_null}
+use Rattle.validation_rules.specs.Valid.{IsValidOperand}
 use Rattle.validation_rules.specs.Static.{is_local_set, locals_set}
 use Rattle.std.specs.Prelude.{List}
 use Rattle.validate_stacks.specs.Pops.{body_popped_each}
@@ -53,3 +56,19 @@ pub one_of : (b : Bool) (ts : List ValType) → b ≡ false → b ≡ (length ts
 one_of b [] f e h = absurd cc
 one_of b (t ∷ []) f e h = refl
 one_of b (t ∷ u ∷ ts) f e h = absurd (omega (arith, h))
+
+-- ---- a reference without its null
+
+pub some_of : {A : Type 0} (o : Option A) → is_some o ≡ true → (x : A) × (o ≡ Some x)
+some_of (Some x) h = (x, refl)
+some_of None h = absurd cc
+
+pub without_null_valid : (md : ModuleContext) (x y : MaybeType) → IsValidOperand md x → operand_without_null x ≡ Some y → IsValidOperand md y
+without_null_valid md Bottom y h e = subst (IsValidOperand md) (some_injective _ _ e) tt
+without_null_valid md (UnknownRef a) y h e = subst (IsValidOperand md) (some_injective _ _ e) tt
+without_null_valid md (Known (Ref r)) y h e = subst (IsValidOperand md) (some_injective _ _ e) h
+without_null_valid md (Known I32) y h e = absurd cc
+without_null_valid md (Known I64) y h e = absurd cc
+without_null_valid md (Known F32) y h e = absurd cc
+without_null_valid md (Known F64) y h e = absurd cc
+without_null_valid md (Known V128) y h e = absurd cc

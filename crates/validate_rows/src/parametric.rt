@@ -38,10 +38,9 @@ pub fn drop_at_once<R: WasmModuleResources>(stacks: &mut Stacks, resources: &R) 
     ensures { MeetsAtOnce (R.context resources.now) (λ cx. row_operator (looking_row 1 drop_pushes))
         stacks.old result stacks.new }
 {
-    match stacks.pop_at_once(resources, None) {
-        Some(_) => true,
-        None => false,
-    }
+    // The contract alone reads it.
+    let _resources = resources;
+    stacks.drop_at_once()
 }
 
 /// Whether `select` takes this operand: it takes no reference.
@@ -98,8 +97,24 @@ pub fn check_select<R: WasmModuleResources>(
     }
 }
 
-/// [`check_select`], where it passes at once, and the upper operand is a known number or vector. False, with nothing
-/// changed, where it doesn't.
+/// [`select_at_once`] of two operands that lie below those of a dead frame.
+#[inline(never)]
+fn unknown_select_at_once<R: WasmModuleResources>(stacks: &mut Stacks, resources: &R) -> bool
+    requires { MayVisit (R.context resources.now) stacks.old }
+    ensures { MeetsAtOnce (R.context resources.now) (λ cx. row_operator (looking_row 3 (select_pushes cx)))
+        stacks.old result stacks.new }
+{
+    let Some(MaybeType::Bottom) = stacks.found_at(1) else {
+        return false;
+    };
+    if stacks.own_len() > 1 || !stacks.has_operands_fitting(resources, &[ValType::I32]) {
+        return false;
+    }
+    stacks.replace_at_once(MaybeType::Bottom)
+}
+
+/// [`check_select`], where it passes at once, and the upper operand is a known number or vector, or both lie below those
+/// of a dead frame. False, with nothing changed, where it doesn't.
 #[inline(never)]
 pub fn select_at_once<R: WasmModuleResources>(stacks: &mut Stacks, resources: &R) -> bool
     requires { MayVisit (R.context resources.now) stacks.old }
@@ -110,7 +125,7 @@ pub fn select_at_once<R: WasmModuleResources>(stacks: &mut Stacks, resources: &R
         return false;
     };
     let MaybeType::Known(ty) = upper else {
-        return false;
+        return unknown_select_at_once(stacks, resources);
     };
     if !can_select(upper) {
         return false;

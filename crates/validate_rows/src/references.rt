@@ -1,13 +1,14 @@
 //! Operators on references, and branches that look whether one is null (WebAssembly core specification,
 //! "Reference Instructions" and "Control Instructions").
 
-ghost use Rattle.std.specs.Prelude.{◌≡◌, true, false, [], None, Some, IfOk, OnOk, OnErr, IfErr};
-ghost use Rattle.validate_resources.specs.Context.{ModuleContext};
+ghost use Rattle.std.specs.Prelude.{◌≡◌, true, false, [], ◌∷◌, None, Some, IfOk, OnOk, OnErr, IfErr};
+ghost use Rattle.validate_resources.specs.Context.{ModuleContext, Valid};
 ghost use Rattle.validate_types.specs.declared.heap.UnpackedIndex.{UnpackedIndex};
 ghost use Rattle.validation_rules.specs.Exact as exact_rule;
 ghost use Rattle.validation_rules.specs.References.{is_null_gate_open, ref_null_row, ref_func_row, null_test_pushes, non_null_pushes, br_on_null_row, br_on_non_null_row};
 ghost use Rattle.validation_rules.specs.References as reference_rule;
-ghost use Rattle.validation_rules.specs.Operators.{looking_row, row_operator, staying_operator};
+ghost use Rattle.validation_rules.specs.Operators.{looking_row, plain_row, row_operator, staying_operator};
+ghost use Rattle.validate_stacks.specs.AtOnce.{MeetsAtOnce};
 ghost use Rattle.validate_stacks.specs.State.{body_context};
 ghost use Rattle.validate_stacks.specs.Visits.{MayVisit, Meets};
 
@@ -16,14 +17,15 @@ use validate_resources::uses::laws;
 use validate_shapes::aggregates::declared_heap;
 use validate_shapes::functions::unknown_function;
 use validate_shapes::labels::label;
-use validate_shapes::plain::check_plain;
-use validate_shapes::references::{pop_non_null_ref, push_found};
+use validate_shapes::plain::{check_plain, plain_at_once};
+use validate_shapes::references::{pop_non_null_ref, push_found, without_null};
 use validate_stacks::Stacks;
 use validate_stacks::blocks::label_types;
-use validate_types::{CoreTypeId, Error, HeapType, RefType, UnpackedIndex, ValType};
+use validate_types::{CoreTypeId, Error, HeapType, MaybeType, RefType, UnpackedIndex, ValType};
 
 /// The gate of the type of null. A type index of 2^20 or more, to which no reference can be made, has none:
 /// a lookup of at most 1,000,000 types refuses it later on.
+#[inline(always)]
 fn check_null_gate(stacks: &Stacks, offset: u64, heap_type: HeapType) -> Result<(), Error>
     ensures open { OnOk result ((md : ModuleContext)
         → is_null_gate_open (body_context md stacks.now.body) heap_type ≡ true) }
@@ -41,6 +43,31 @@ fn check_null_gate(stacks: &Stacks, offset: u64, heap_type: HeapType) -> Result<
     }
 }
 
+/// The type of null, of a heap type whose gate is open and that is known.
+#[inline(always)]
+fn null_type<R: WasmModuleResources>(
+    stacks: &Stacks,
+    resources: &R,
+    offset: u64,
+    heap_type: HeapType,
+) -> Result<ValType, Error>
+    ensures found { IfOk result (λ t. ref_null_row
+        (body_context (R.context resources.now) stacks.now.body) heap_type ≡ plain_row [] (t ∷ [])) }
+    ensures valid { IfOk result (λ t. Valid (R.context resources.now) t) }
+    ensures refused { IfErr result (λ e. e.wants_memory ≡ false → (ref_null_row
+        (body_context (R.context resources.now) stacks.now.body) heap_type).premise ≡ false) }
+    ensures offset { IfErr result (λ e. e.offset ≡ offset) }
+{
+    laws(resources);
+    check_null_gate(stacks, offset, heap_type)?;
+    let mut checked = heap_type;
+    resources.check_heap_type(&mut checked, offset)?;
+    let Some(ty) = RefType::new(true, checked) else {
+        unreachable!()
+    };
+    Ok(ValType::Ref(ty))
+}
+
 /// `ref.null`: `[] -> [(ref null h)]` of a heap type h whose gate is open and that is known.
 pub fn check_ref_null<R: WasmModuleResources>(
     stacks: &mut Stacks,
@@ -52,14 +79,8 @@ pub fn check_ref_null<R: WasmModuleResources>(
     ensures { Meets (R.context resources.now)
         (λ cx. row_operator (ref_null_row cx heap_type)) offset stacks.old.body result stacks.new.body }
 {
-    laws(resources);
-    check_null_gate(stacks, offset, heap_type)?;
-    let mut checked = heap_type;
-    resources.check_heap_type(&mut checked, offset)?;
-    let Some(ty) = RefType::new(true, checked) else {
-        unreachable!()
-    };
-    check_plain(stacks, resources, offset, &[], &[ValType::Ref(ty)])
+    let ty = null_type(stacks, resources, offset, heap_type)?;
+    check_plain(stacks, resources, offset, &[], &[ty])
 }
 
 /// What a reference to a function points to, whose type this id names.
@@ -195,4 +216,54 @@ pub fn check_br_on_non_null<R: WasmModuleResources>(
     let (others, last) = last_reference(types, offset)?;
     stacks.pop_types(resources, offset, &[ValType::Ref(last.nullable())])?;
     check_plain(stacks, resources, offset, others, others)
+}
+
+/// [`check_ref_null`], where it passes at once. False, with nothing changed, where it doesn't.
+#[inline(never)]
+pub fn ref_null_at_once<R: WasmModuleResources>(
+    stacks: &mut Stacks,
+    resources: &R,
+    heap_type: HeapType,
+) -> bool
+    requires { MayVisit (R.context resources.now) stacks.old }
+    ensures { MeetsAtOnce (R.context resources.now) (λ cx. row_operator (ref_null_row cx heap_type))
+        stacks.old result stacks.new }
+{
+    let Ok(ty) = null_type(stacks, resources, 0, heap_type) else {
+        return false;
+    };
+    plain_at_once(stacks, resources, &[], &[ty])
+}
+
+/// [`check_ref_is_null`], where it passes at once. False, with nothing changed, where it doesn't.
+#[inline(never)]
+pub fn ref_is_null_at_once<R: WasmModuleResources>(stacks: &mut Stacks, resources: &R) -> bool
+    requires { MayVisit (R.context resources.now) stacks.old }
+    ensures { MeetsAtOnce (R.context resources.now) (λ cx. row_operator (looking_row 1 null_test_pushes))
+        stacks.old result stacks.new }
+{
+    // The contract alone reads it.
+    let _resources = resources;
+    let Some(found) = stacks.found_at(0) else {
+        return false;
+    };
+    without_null(found).is_some() && stacks.replace_at_once(MaybeType::Known(ValType::I32))
+}
+
+/// [`check_ref_as_non_null`], where it passes at once. False, with nothing changed, where it doesn't.
+#[inline(never)]
+pub fn ref_as_non_null_at_once<R: WasmModuleResources>(stacks: &mut Stacks, resources: &R) -> bool
+    requires { MayVisit (R.context resources.now) stacks.old }
+    ensures { MeetsAtOnce (R.context resources.now)
+        (λ cx. row_operator (looking_row 1 (non_null_pushes cx []))) stacks.old result stacks.new }
+{
+    // The contract alone reads it.
+    let _resources = resources;
+    let Some(found) = stacks.found_at(0) else {
+        return false;
+    };
+    match without_null(found) {
+        Some(reference) => stacks.replace_at_once(reference),
+        None => false,
+    }
 }

@@ -10,17 +10,18 @@ ghost use Rattle.validation_rules.specs.Arrays.{is_read_from_data, is_read_from_
 ghost use Rattle.validation_rules.specs.Operators.{row_operator};
 ghost use Rattle.validation_rules.specs.Structs.{field_value, is_whole_field, is_packed_field};
 ghost use Rattle.validate_shapes.specs.Operands.{FindsOperands};
+ghost use Rattle.validate_stacks.specs.AtOnce.{MeetsAtOnce};
 ghost use Rattle.validate_stacks.specs.Visits.{MayVisit, Meets};
 ghost use Rattle.validate_visit.specs.declared.op.ArrayOp.{ArrayOp};
 
-use crate::found::check_measure;
+use crate::found::{check_measure, measure_at_once};
 use validate_resources::WasmModuleResources;
 use validate_resources::uses::laws;
 use validate_shapes::aggregates::{
     allocated_reference, array_field_at, check_mutable_array, type_reference, wrong_array_packing,
 };
 use validate_shapes::memories::check_data_segment;
-use validate_shapes::operands::{Few, Operands, Pushed, Wanted, check_operands};
+use validate_shapes::operands::{Few, Operands, Pushed, Wanted, check_operands, operands_at_once};
 use validate_shapes::tables::element_type_at;
 use validate_stacks::Stacks;
 use validate_types::{AbstractHeapType, Error, FieldType, RefType, StorageType, ValType};
@@ -171,6 +172,7 @@ fn check_copied<R: WasmModuleResources>(
 }
 
 /// What `array.new` takes and gives: one value for all places, and so many.
+#[inline(always)]
 fn new_types<R: WasmModuleResources>(
     stacks: &Stacks,
     resources: &R,
@@ -208,6 +210,7 @@ fn new_default_types<R: WasmModuleResources>(
 }
 
 /// What `array.new_fixed` takes and gives: a value for each place.
+#[inline(always)]
 fn new_fixed_types<R: WasmModuleResources>(
     stacks: &Stacks,
     resources: &R,
@@ -270,6 +273,7 @@ fn new_elem_types<R: WasmModuleResources>(
 }
 
 /// What `array.get` takes and gives, of an array whose places hold whole values.
+#[inline(always)]
 fn get_types<R: WasmModuleResources>(
     stacks: &Stacks,
     resources: &R,
@@ -313,6 +317,7 @@ fn get_packed_types<R: WasmModuleResources>(
 }
 
 /// What `array.set` takes.
+#[inline(always)]
 fn set_types<R: WasmModuleResources>(
     stacks: &Stacks,
     resources: &R,
@@ -526,5 +531,86 @@ pub fn check_array_row<R: WasmModuleResources>(
             let types = array_types(stacks, resources, offset, op)?;
             check_operands(stacks, resources, offset, types)
         }
+    }
+}
+
+/// `array.new`, where it passes at once. False, with nothing changed, where it doesn't.
+#[inline(never)]
+fn new_at_once<R: WasmModuleResources>(stacks: &mut Stacks, resources: &R, index: u32) -> bool
+    requires { MayVisit (R.context resources.now) stacks.old }
+    ensures { MeetsAtOnce (R.context resources.now) (λ cx. row_operator (array_new_row cx index)) stacks.old result
+        stacks.new }
+{
+    let Ok(types) = new_types(stacks, resources, 0, index) else {
+        return false;
+    };
+    operands_at_once(stacks, resources, types)
+}
+
+/// `array.new_fixed`, where it passes at once. False, with nothing changed, where it doesn't.
+#[inline(never)]
+fn new_fixed_at_once<R: WasmModuleResources>(
+    stacks: &mut Stacks,
+    resources: &R,
+    index: u32,
+    size: u32,
+) -> bool
+    requires { MayVisit (R.context resources.now) stacks.old }
+    ensures { MeetsAtOnce (R.context resources.now) (λ cx. row_operator (array_new_fixed_row cx index size)) stacks.old result
+        stacks.new }
+{
+    let Ok(types) = new_fixed_types(stacks, resources, 0, index, size) else {
+        return false;
+    };
+    operands_at_once(stacks, resources, types)
+}
+
+/// `array.get`, where it passes at once. False, with nothing changed, where it doesn't.
+#[inline(never)]
+fn get_at_once<R: WasmModuleResources>(stacks: &mut Stacks, resources: &R, index: u32) -> bool
+    requires { MayVisit (R.context resources.now) stacks.old }
+    ensures { MeetsAtOnce (R.context resources.now) (λ cx. row_operator (array_read_row cx is_whole_field index)) stacks.old result
+        stacks.new }
+{
+    let Ok(types) = get_types(stacks, resources, 0, index) else {
+        return false;
+    };
+    operands_at_once(stacks, resources, types)
+}
+
+/// `array.set`, where it passes at once. False, with nothing changed, where it doesn't.
+#[inline(never)]
+fn set_at_once<R: WasmModuleResources>(stacks: &mut Stacks, resources: &R, index: u32) -> bool
+    requires { MayVisit (R.context resources.now) stacks.old }
+    ensures { MeetsAtOnce (R.context resources.now) (λ cx. row_operator (array_set_row cx index)) stacks.old result
+        stacks.new }
+{
+    let Ok(types) = set_types(stacks, resources, 0, index) else {
+        return false;
+    };
+    operands_at_once(stacks, resources, types)
+}
+
+/// [`check_array_row`], where it passes at once. False, with nothing changed, where it doesn't.
+#[inline(always)]
+pub fn array_at_once<R: WasmModuleResources>(
+    stacks: &mut Stacks,
+    resources: &R,
+    op: &ArrayOp,
+) -> bool
+    requires { MayVisit (R.context resources.now) stacks.old }
+    ensures { MeetsAtOnce (R.context resources.now) (λ cx. row_operator (array_row cx op.now)) stacks.old
+        result stacks.new }
+{
+    match op {
+        ArrayOp::ArrayLen => measure_at_once(stacks, resources, AbstractHeapType::Array),
+        ArrayOp::ArrayNew(index) => new_at_once(stacks, resources, *index),
+        ArrayOp::ArrayNewFixed {
+            array_type_index,
+            array_size,
+        } => new_fixed_at_once(stacks, resources, *array_type_index, *array_size),
+        ArrayOp::ArrayGet(index) => get_at_once(stacks, resources, *index),
+        ArrayOp::ArraySet(index) => set_at_once(stacks, resources, *index),
+        _ => false,
     }
 }

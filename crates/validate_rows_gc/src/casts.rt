@@ -6,6 +6,7 @@ ghost use Rattle.validate_resources.specs.Context.{Valid};
 ghost use Rattle.validation_rules.specs.Casts.{is_castable, cast_operand, ref_test_row, ref_cast_row, may_cast, cast_branch_row, br_on_cast_row, br_on_cast_fail_row};
 ghost use Rattle.validation_rules.specs.Casts as rule;
 ghost use Rattle.validation_rules.specs.Operators.{row_operator, staying_operator};
+ghost use Rattle.validate_stacks.specs.AtOnce.{MeetsAtOnce};
 ghost use Rattle.validate_stacks.specs.State.{body_context};
 ghost use Rattle.validate_stacks.specs.Visits.{MayVisit, Meets};
 ghost use Rattle.validate_rows_gc.specs.Casts.{cast_types};
@@ -13,7 +14,7 @@ ghost use Rattle.validate_rows_gc.specs.Casts.{cast_types};
 use validate_resources::WasmModuleResources;
 use validate_resources::uses::laws;
 use validate_shapes::labels::label;
-use validate_shapes::plain::{check_onto, check_plain};
+use validate_shapes::plain::{check_onto, check_plain, plain_at_once};
 use validate_stacks::Stacks;
 use validate_stacks::blocks::label_types;
 use validate_types::{AbstractHeapType, Error, HeapType, RefType, ValType};
@@ -21,6 +22,7 @@ use validate_visit::BranchCast;
 
 /// A reference type whose gates are open and whose indices are known, in canonical form (wasmparser's
 /// `check_ref_type`).
+#[inline(always)]
 fn checked_ref<R: WasmModuleResources>(
     stacks: &Stacks,
     resources: &R,
@@ -46,6 +48,7 @@ fn checked_ref<R: WasmModuleResources>(
 }
 
 /// Refuses a type that no cast leads to (wasmparser's `check_cast_to_allowed`).
+#[inline(always)]
 fn check_castable<R: WasmModuleResources>(
     resources: &R,
     offset: u64,
@@ -66,6 +69,7 @@ fn check_castable<R: WasmModuleResources>(
 }
 
 /// The type of a test or a cast to a heap type, which may be cast to (wasmparser's `check_downcast`).
+#[inline(always)]
 pub fn cast_type<R: WasmModuleResources>(
     stacks: &Stacks,
     resources: &R,
@@ -89,6 +93,7 @@ pub fn cast_type<R: WasmModuleResources>(
 }
 
 /// What is tested or cast: any reference of the hierarchy, or null.
+#[inline(always)]
 pub fn operand_of_cast<R: WasmModuleResources>(resources: &R, ty: RefType) -> ValType
     requires { Valid (R.context resources.now) (ValType.Ref ty) }
     ensures exact { result ≡ cast_operand (R.context resources.now) ty }
@@ -133,6 +138,44 @@ pub fn check_ref_cast<R: WasmModuleResources>(
     let ty = cast_type(stacks, resources, offset, nullable, heap_type)?;
     let operand = operand_of_cast(resources, ty);
     check_plain(stacks, resources, offset, &[operand], &[ValType::Ref(ty)])
+}
+
+/// [`check_ref_test`], where it passes at once. False, with nothing changed, where it doesn't.
+#[inline(never)]
+pub fn ref_test_at_once<R: WasmModuleResources>(
+    stacks: &mut Stacks,
+    resources: &R,
+    nullable: bool,
+    heap_type: HeapType,
+) -> bool
+    requires { MayVisit (R.context resources.now) stacks.old }
+    ensures { MeetsAtOnce (R.context resources.now) (λ cx. row_operator (ref_test_row cx nullable heap_type))
+        stacks.old result stacks.new }
+{
+    let Ok(ty) = cast_type(stacks, resources, 0, nullable, heap_type) else {
+        return false;
+    };
+    let operand = operand_of_cast(resources, ty);
+    plain_at_once(stacks, resources, &[operand], &[ValType::I32])
+}
+
+/// [`check_ref_cast`], where it passes at once. False, with nothing changed, where it doesn't.
+#[inline(never)]
+pub fn ref_cast_at_once<R: WasmModuleResources>(
+    stacks: &mut Stacks,
+    resources: &R,
+    nullable: bool,
+    heap_type: HeapType,
+) -> bool
+    requires { MayVisit (R.context resources.now) stacks.old }
+    ensures { MeetsAtOnce (R.context resources.now) (λ cx. row_operator (ref_cast_row cx nullable heap_type))
+        stacks.old result stacks.new }
+{
+    let Ok(ty) = cast_type(stacks, resources, 0, nullable, heap_type) else {
+        return false;
+    };
+    let operand = operand_of_cast(resources, ty);
+    plain_at_once(stacks, resources, &[operand], &[ValType::Ref(ty)])
 }
 
 /// Whether both are one abstract type, as top types are.

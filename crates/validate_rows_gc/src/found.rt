@@ -3,11 +3,14 @@
 
 ghost use Rattle.std.specs.Prelude.{◌≡◌, true, false, None, Some, IfOk, OnOk, OnErr, IfErr};
 ghost use Rattle.std.specs.Option.{option_and_then};
-ghost use Rattle.validation_rules.specs.Found.{is_found_below, operand_found_below, measure_row, converted_operand, convert_ref_row, ref_eq_row};
+ghost use Rattle.validate_resources.specs.Context.{Valid};
+ghost use Rattle.validate_types.specs.Refs.{nullable_reference};
+ghost use Rattle.validation_rules.specs.Found.{abstract_beside, is_found_below, operand_found_below, measure_row, converted_operand, convert_ref_row, ref_eq_row};
 ghost use Rattle.validation_rules.specs.Found as rule;
 ghost use Rattle.validation_rules.specs.Operators.{row_operator, conversion_row};
 ghost use Rattle.validation_rules.specs.References.{i31};
 ghost use Rattle.validation_rules.specs.Valid.{IsValidOperand};
+ghost use Rattle.validate_stacks.specs.AtOnce.{MeetsAtOnce};
 ghost use Rattle.validate_stacks.specs.Pops.{IsKept};
 ghost use Rattle.validate_stacks.specs.State.{IsValidBody};
 ghost use Rattle.validate_stacks.specs.Steps.{found_in_body, body_popped};
@@ -54,7 +57,74 @@ fn other_reference(stacks: &Stacks, offset: u64, expected: RefType, found: RefTy
     )
 }
 
+/// The nullable references to this abstract type, of the sharedness of another.
+#[inline(always)]
+fn abstract_beside<R: WasmModuleResources>(
+    resources: &R,
+    expected: AbstractHeapType,
+    ty: RefType,
+) -> RefType
+    requires { Valid (R.context resources.now) (ValType.Ref ty) }
+    ensures { result ≡ nullable_reference (abstract_beside (R.context resources.now) ty expected) }
+{
+    RefType {
+        nullable: true,
+        heap_type: HeapType::Abstract {
+            shared: resources.is_shared(ty),
+            ty: expected,
+        },
+    }
+}
+
 /// Whether an operand lies below the nullable references to this abstract type, of its own sharedness.
+#[inline(always)]
+fn is_found_below<R: WasmModuleResources>(
+    resources: &R,
+    expected: AbstractHeapType,
+    found: MaybeType,
+) -> bool
+    requires { IsValidOperand (R.context resources.now) found }
+    ensures { result ≡ is_found_below (R.context resources.now) expected found }
+{
+    match found {
+        MaybeType::Bottom | MaybeType::UnknownRef(None) => true,
+        MaybeType::UnknownRef(Some(actual)) => actual.is_subtype_of(expected),
+        MaybeType::Known(ValType::Ref(actual)) => {
+            let wanted = abstract_beside(resources, expected, actual);
+            resources.is_subtype(ValType::Ref(actual), ValType::Ref(wanted))
+        }
+        MaybeType::Known(_) => false,
+    }
+}
+
+/// The refusal of an operand that doesn't.
+#[cold]
+#[inline(never)]
+fn not_found_below<R: WasmModuleResources>(
+    stacks: &Stacks,
+    resources: &R,
+    offset: u64,
+    expected: AbstractHeapType,
+    found: MaybeType,
+) -> Error
+    requires operand { IsValidOperand (R.context resources.now) found }
+    requires refused { is_found_below (R.context resources.now) expected found ≡ false }
+    ensures { result.offset ≡ offset }
+{
+    match found {
+        MaybeType::UnknownRef(Some(actual)) => {
+            other_unknown_reference(stacks, offset, expected, actual)
+        }
+        MaybeType::Known(ValType::Ref(actual)) => {
+            let wanted = abstract_beside(resources, expected, actual);
+            other_reference(stacks, offset, wanted, actual)
+        }
+        MaybeType::Known(ty) => no_reference(stacks, offset, ty),
+        MaybeType::Bottom | MaybeType::UnknownRef(None) => unreachable!(),
+    }
+}
+
+/// Checks that it does.
 fn check_found_below<R: WasmModuleResources>(
     stacks: &Stacks,
     resources: &R,
@@ -67,30 +137,10 @@ fn check_found_below<R: WasmModuleResources>(
     ensures refused { OnErr result (is_found_below (R.context resources.now) expected found ≡ false) }
     ensures offset { IfErr result (λ e. e.offset ≡ offset) }
 {
-    match found {
-        MaybeType::Bottom | MaybeType::UnknownRef(None) => Ok(()),
-        MaybeType::UnknownRef(Some(actual)) => {
-            if actual.is_subtype_of(expected) {
-                Ok(())
-            } else {
-                Err(other_unknown_reference(stacks, offset, expected, actual))
-            }
-        }
-        MaybeType::Known(ValType::Ref(actual)) => {
-            let wanted = RefType {
-                nullable: true,
-                heap_type: HeapType::Abstract {
-                    shared: resources.is_shared(actual),
-                    ty: expected,
-                },
-            };
-            if resources.is_subtype(ValType::Ref(actual), ValType::Ref(wanted)) {
-                Ok(())
-            } else {
-                Err(other_reference(stacks, offset, wanted, actual))
-            }
-        }
-        MaybeType::Known(ty) => Err(no_reference(stacks, offset, ty)),
+    if is_found_below(resources, expected, found) {
+        Ok(())
+    } else {
+        Err(not_found_below(stacks, resources, offset, expected, found))
     }
 }
 
@@ -133,6 +183,24 @@ pub fn check_measure<R: WasmModuleResources>(
 {
     pop_found_below(stacks, resources, offset, expected)?;
     stacks.push_types(offset, &[ValType::I32])
+}
+
+/// [`check_measure`], where it passes at once. False, with nothing changed, where it doesn't.
+#[inline(never)]
+pub fn measure_at_once<R: WasmModuleResources>(
+    stacks: &mut Stacks,
+    resources: &R,
+    expected: AbstractHeapType,
+) -> bool
+    requires { MayVisit (R.context resources.now) stacks.old }
+    ensures { MeetsAtOnce (R.context resources.now) (λ cx. row_operator (measure_row cx expected)) stacks.old
+        result stacks.new }
+{
+    let Some(found) = stacks.found_at(0) else {
+        return false;
+    };
+    is_found_below(resources, expected, found)
+        && stacks.replace_at_once(MaybeType::Known(ValType::I32))
 }
 
 /// A reference to this abstract type, with null and sharedness as the found one has them.

@@ -10,6 +10,7 @@ ghost use Rattle.validation_rules.specs.Rows.{guard};
 ghost use Rattle.validation_rules.specs.Structs.{struct_type, struct_row, struct_new_row, struct_new_default_row};
 ghost use Rattle.validation_rules.specs.Structs.{struct_read_row, struct_set_row};
 ghost use Rattle.validation_rules.specs.Structs.{is_packed_field, is_whole_field};
+ghost use Rattle.validate_stacks.specs.AtOnce.{MeetsAtOnce};
 ghost use Rattle.validate_stacks.specs.Attempts.{phase_moved};
 ghost use Rattle.validate_stacks.specs.Pops.{IsKept};
 ghost use Rattle.validate_stacks.specs.State.{IsValidBody, body_context};
@@ -24,13 +25,14 @@ use validate_shapes::aggregates::{
     allocated_reference, check_mutable_field, descriptor_at, struct_field_at, struct_type_at,
     type_reference, wrong_field_packing,
 };
-use validate_shapes::operands::{Few, Operands, Pushed, Wanted, check_operands};
+use validate_shapes::operands::{Few, Operands, Pushed, Wanted, check_operands, operands_at_once};
 use validate_stacks::Stacks;
 use validate_types::{Error, FieldType, RefType, StructType, ValType};
 use validate_visit::{FieldIndex, Sign, StructOp};
 
 /// Refuses the first field without a default value, whichever operator asks, as `struct.new_default` does: ``invalid
 /// `struct.new_default`: T field is not defaultable``.
+#[inline(always)]
 fn check_defaultable(stacks: &Stacks, offset: u64, fields: &[FieldType]) -> Result<(), Error>
     ensures passed { OnOk result (list_all is_defaultable (unpacked_fields fields.now) ≡ true) }
     ensures refused { OnErr result (list_all is_defaultable (unpacked_fields fields.now) ≡ false) }
@@ -61,6 +63,7 @@ fn not_defaultable(stacks: &Stacks, offset: u64, ty: ValType) -> Error
 }
 
 /// The struct type at an index, which has no descriptor: with one it is made by another operator.
+#[inline(always)]
 fn undescribed_struct_at<'a, R: WasmModuleResources>(
     stacks: &Stacks,
     resources: &'a R,
@@ -137,6 +140,7 @@ fn not_described(stacks: &Stacks, offset: u64, index: u32, name: &str) -> Error
 }
 
 /// What `struct.new` takes and gives: a value for each field.
+#[inline(always)]
 fn new_types<'a, R: WasmModuleResources>(
     stacks: &Stacks,
     resources: &'a R,
@@ -155,6 +159,7 @@ fn new_types<'a, R: WasmModuleResources>(
 }
 
 /// What `struct.new_default` takes and gives.
+#[inline(always)]
 fn new_default_types<R: WasmModuleResources>(
     stacks: &Stacks,
     resources: &R,
@@ -211,6 +216,7 @@ fn new_default_desc_types<R: WasmModuleResources>(
 }
 
 /// What `struct.get` takes and gives, of a field that holds a whole value.
+#[inline(always)]
 fn get_types<R: WasmModuleResources>(
     stacks: &Stacks,
     resources: &R,
@@ -248,6 +254,7 @@ fn get_packed_types<R: WasmModuleResources>(
 }
 
 /// What `struct.set` takes.
+#[inline(always)]
 fn set_types<R: WasmModuleResources>(
     stacks: &Stacks,
     resources: &R,
@@ -333,4 +340,88 @@ pub fn check_struct_row<R: WasmModuleResources>(
     pop_descriptor_of(stacks, resources, offset, op)?;
     let types = struct_types(stacks, resources, offset, op)?;
     check_operands(stacks, resources, offset, types)
+}
+
+/// `struct.new`, where it passes at once. False, with nothing changed, where it doesn't.
+#[inline(never)]
+fn new_at_once<R: WasmModuleResources>(stacks: &mut Stacks, resources: &R, index: u32) -> bool
+    requires { MayVisit (R.context resources.now) stacks.old }
+    ensures { MeetsAtOnce (R.context resources.now) (λ cx. row_operator (struct_new_row cx index)) stacks.old result
+        stacks.new }
+{
+    let Ok(types) = new_types(stacks, resources, 0, index) else {
+        return false;
+    };
+    operands_at_once(stacks, resources, types)
+}
+
+/// `struct.new_default`, where it passes at once. False, with nothing changed, where it doesn't.
+#[inline(never)]
+fn new_default_at_once<R: WasmModuleResources>(
+    stacks: &mut Stacks,
+    resources: &R,
+    index: u32,
+) -> bool
+    requires { MayVisit (R.context resources.now) stacks.old }
+    ensures { MeetsAtOnce (R.context resources.now) (λ cx. row_operator (struct_new_default_row cx index)) stacks.old result
+        stacks.new }
+{
+    let Ok(types) = new_default_types(stacks, resources, 0, index) else {
+        return false;
+    };
+    operands_at_once(stacks, resources, types)
+}
+
+/// `struct.get`, where it passes at once. False, with nothing changed, where it doesn't.
+#[inline(never)]
+fn get_at_once<R: WasmModuleResources>(
+    stacks: &mut Stacks,
+    resources: &R,
+    index: FieldIndex,
+) -> bool
+    requires { MayVisit (R.context resources.now) stacks.old }
+    ensures { MeetsAtOnce (R.context resources.now) (λ cx. row_operator (struct_read_row cx is_whole_field index)) stacks.old result
+        stacks.new }
+{
+    let Ok(types) = get_types(stacks, resources, 0, index) else {
+        return false;
+    };
+    operands_at_once(stacks, resources, types)
+}
+
+/// `struct.set`, where it passes at once. False, with nothing changed, where it doesn't.
+#[inline(never)]
+fn set_at_once<R: WasmModuleResources>(
+    stacks: &mut Stacks,
+    resources: &R,
+    index: FieldIndex,
+) -> bool
+    requires { MayVisit (R.context resources.now) stacks.old }
+    ensures { MeetsAtOnce (R.context resources.now) (λ cx. row_operator (struct_set_row cx index)) stacks.old result
+        stacks.new }
+{
+    let Ok(types) = set_types(stacks, resources, 0, index) else {
+        return false;
+    };
+    operands_at_once(stacks, resources, types)
+}
+
+/// [`check_struct_row`], where it passes at once. False, with nothing changed, where it doesn't.
+#[inline(always)]
+pub fn struct_at_once<R: WasmModuleResources>(
+    stacks: &mut Stacks,
+    resources: &R,
+    op: &StructOp,
+) -> bool
+    requires { MayVisit (R.context resources.now) stacks.old }
+    ensures { MeetsAtOnce (R.context resources.now) (λ cx. row_operator (struct_row cx op.now)) stacks.old
+        result stacks.new }
+{
+    match op {
+        StructOp::StructNew(index) => new_at_once(stacks, resources, *index),
+        StructOp::StructNewDefault(index) => new_default_at_once(stacks, resources, *index),
+        StructOp::StructGet(index) => get_at_once(stacks, resources, *index),
+        StructOp::StructSet(index) => set_at_once(stacks, resources, *index),
+        _ => false,
+    }
 }

@@ -1,8 +1,7 @@
 -- Pops of the values of fields, by the pop of the last of them.
-use Rattle.std.proofs.Common.{◌≡◌, ℕ, zero, suc, ◌-◌, ◌<◌, ◌≤◌, List, [], ◌∷◌, Some, take, length, reverse, get_or, refl, sym, ap, ◌∙◌, subst, arith}
+use Rattle.std.proofs.Common.{◌≡◌, ℕ, zero, suc, ◌-◌, ◌<◌, ◌≤◌, List, ◌∷◌, Some, take, length, reverse, get_or, sym, ap, ◌∙◌, subst, arith}
 use Rattle.std.proofs.lemmas.List.{length-map}
-use Rattle.std.specs.List.{AllByRecursion}
-use Rattle.validate_resources.specs.Context.{ModuleContext, Valid}
+use Rattle.validate_resources.specs.Context.{ModuleContext}
 use Rattle.validate_types.specs.Types.{unpacked_fields}
 use Rattle.validate_types.specs.declared.types.FieldType.{FieldType}
 use Rattle.validate_types.specs.declared.types.ValType.{ValType}
@@ -11,19 +10,9 @@ use Rattle.validation_rules.specs.Structs.{field_value}
 use Rattle.validate_stacks.specs.Pops.{may_pop, body_popped_each}
 use Rattle.validate_stacks.specs.State.{BodyState, body_context}
 use Rattle.validate_stacks.specs.Steps.{found_in_body, body_popped}
+use Rattle.validate_stacks.proofs.FieldValues.{value_at}
 use Rattle.validate_stacks.proofs.MatchedOperands.{last_next}
 use Rattle.validate_stacks.proofs.Whole.{popped_next}
-
--- the value of a field that is there is valid where all are
-pub value_valid : (md : ModuleContext) (fields : List FieldType) (i : ℕ) (d : FieldType) → AllByRecursion (Valid md) (unpacked_fields fields) → i < length fields → Valid md (field_value (get_or fields i d))
-value_valid md [] i d v h = absurd (omega (arith, h))
-value_valid md (f ∷ fields) zero d v h = v.0
-value_valid md (f ∷ fields) (suc i) d v h = value_valid md fields i d v.1 (omega (arith, h))
-
-value_at : (fields : List FieldType) (i : ℕ) (d : FieldType) → get_or (unpacked_fields fields) i (field_value d) ≡ field_value (get_or fields i d)
-value_at [] i d = refl
-value_at (f ∷ fields) zero d = refl
-value_at (f ∷ fields) (suc i) d = value_at fields i d
 
 module _ (md : ModuleContext) (fields : List FieldType) (d : FieldType) (v : BodyState) where
   -- pops of the first i fields, by that of field j, which is the last of them

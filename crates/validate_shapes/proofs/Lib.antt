@@ -1,6 +1,7 @@
 pub mod AtOnce
 pub mod Rows
 mod Fields
+pub mod Replaced
 pub mod LastSteps
 pub mod LookupRows
 pub mod BranchSteps

@@ -26,6 +26,7 @@ use validate_types::{
 use validate_visit::{FieldIndex, Sign};
 
 /// The struct that a type is, if it is one.
+#[inline(always)]
 fn struct_type_of(sub_type: &SubType) -> Option<&StructType>
     ensures { option_copied result ≡ struct_fields sub_type.now.composite_type.inner }
 {
@@ -37,6 +38,7 @@ fn struct_type_of(sub_type: &SubType) -> Option<&StructType>
 }
 
 /// What each place holds of the array that a type is, if it is one.
+#[inline(always)]
 fn element_of(sub_type: &SubType) -> Option<FieldType>
     ensures { result ≡ array_element sub_type.now.composite_type.inner }
 {
@@ -49,6 +51,7 @@ fn element_of(sub_type: &SubType) -> Option<FieldType>
 
 /// The struct type at an index, which has to be declared, and in a shared function has to be shared
 /// (wasmparser's `struct_type_at`). It refuses a type of another kind.
+#[inline(always)]
 pub fn struct_type_at<'a, R: WasmModuleResources>(
     stacks: &Stacks,
     resources: &'a R,
@@ -87,6 +90,7 @@ fn expected_struct_type(alloc: Global, offset: u64, type_index: u32, found: &Sub
 }
 
 /// A field of a struct type (wasmparser's `struct_field_at`). It refuses a place past the last.
+#[inline(always)]
 pub fn struct_field_at<R: WasmModuleResources>(
     stacks: &Stacks,
     resources: &R,
@@ -108,6 +112,7 @@ pub fn struct_field_at<R: WasmModuleResources>(
 }
 
 /// The field at this place, if there is one.
+#[inline(always)]
 fn field_of(struct_type: &StructType, field_index: u32) -> Option<FieldType>
     ensures { result ≡ slice_get struct_type.now field_index }
 {
@@ -116,6 +121,7 @@ fn field_of(struct_type: &StructType, field_index: u32) -> Option<FieldType>
 
 /// What each place of the array type at an index holds. The type has to be declared, and in a shared
 /// function has to be shared (wasmparser's `array_type_at`). It refuses a type of another kind.
+#[inline(always)]
 pub fn array_field_at<R: WasmModuleResources>(
     stacks: &Stacks,
     resources: &R,
@@ -153,6 +159,7 @@ fn expected_array_type(alloc: Global, offset: u64, type_index: u32, found: &SubT
 }
 
 /// Refuses an array that can't be written.
+#[inline(always)]
 pub fn check_mutable_array(offset: u64, places: FieldType) -> Result<(), Error>
     ensures passed { OnOk result (places.mutable ≡ true) }
     ensures refused { OnErr result (places.mutable ≡ false) }
@@ -166,6 +173,7 @@ pub fn check_mutable_array(offset: u64, places: FieldType) -> Result<(), Error>
 }
 
 /// Refuses a field that can't be written.
+#[inline(always)]
 pub fn check_mutable_field(offset: u64, field: FieldType) -> Result<(), Error>
     ensures passed { OnOk result (field.mutable ≡ true) }
     ensures refused { OnErr result (field.mutable ≡ false) }
@@ -206,6 +214,7 @@ pub fn wrong_array_packing(offset: u64, sign: Option<Sign>) -> Error
 }
 
 /// A reference, or one that may be null, to the type at this index, which has to be declared.
+#[inline(always)]
 pub fn type_reference<R: WasmModuleResources>(
     stacks: &Stacks,
     resources: &R,
@@ -232,6 +241,7 @@ pub fn type_reference<R: WasmModuleResources>(
 }
 
 /// A type of the module, exact or not.
+#[inline(always)]
 pub fn declared_heap(exact: bool, index: UnpackedIndex) -> HeapType
     ensures { result ≡ declared_heap exact index }
 {
@@ -244,6 +254,7 @@ pub fn declared_heap(exact: bool, index: UnpackedIndex) -> HeapType
 
 /// A reference to what is allocated, of the type at this index, which has to be declared: exact where references
 /// can be (wasmparser's `push_exact_ref_if_available`).
+#[inline(always)]
 pub fn allocated_reference<R: WasmModuleResources>(
     stacks: &Stacks,
     resources: &R,
@@ -268,6 +279,7 @@ pub fn allocated_reference<R: WasmModuleResources>(
 }
 
 /// The type of the descriptors of the type at this index, if it has one. The type has to be declared.
+#[inline(always)]
 pub fn descriptor_at<R: WasmModuleResources>(
     resources: &R,
     offset: u64,

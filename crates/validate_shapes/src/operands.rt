@@ -1,6 +1,6 @@
 //! What an operator takes and gives, as a value: the answer of a look-up.
 
-ghost use Rattle.std.specs.Prelude.{◌≡◌, ◌++◌, true, false, Some, None, OnOk, IfErr, reverse};
+ghost use Rattle.std.specs.Prelude.{◌≡◌, ◌++◌, true, false, Some, None, OnOk, IfErr, replicate, reverse};
 ghost use Rattle.std.specs.List.{AllByRecursion};
 ghost use Rattle.validate_resources.specs.Context.{ModuleContext, Valid};
 ghost use Rattle.validate_types.specs.Types.{unpacked_fields};
@@ -237,8 +237,84 @@ fn few_at_once<R: WasmModuleResources>(
     }
 }
 
-/// [`check_operands`], where it passes at once, and a few types are taken and one at most given. False, with nothing
-/// changed, where it doesn't.
+/// The same of the values of fields, and one type.
+#[inline(always)]
+fn fields_at_once<R: WasmModuleResources>(
+    stacks: &mut Stacks,
+    resources: &R,
+    fields: &[FieldType],
+    pushed: Few,
+) -> bool
+    requires visit { MayVisit (R.context resources.now) stacks.old }
+    requires fields { AllByRecursion (Valid (R.context resources.now)) (unpacked_fields fields.now) }
+    requires pushed { AllByRecursion (Valid (R.context resources.now)) (few_types pushed) }
+    ensures { MeetsAtOnce (R.context resources.now)
+        (λ cx. row_operator (plain_row (unpacked_fields fields.now) (few_types pushed))) stacks.old result
+        stacks.new }
+{
+    match pushed {
+        Few::One(ty) => stacks.exchange_fields_at_once(resources, fields, ty),
+        _ => false,
+    }
+}
+
+/// The same of so many operands of one type, and one type.
+#[inline(always)]
+fn run_at_once<R: WasmModuleResources>(
+    stacks: &mut Stacks,
+    resources: &R,
+    elem: ValType,
+    count: u32,
+    pushed: Few,
+) -> bool
+    requires visit { MayVisit (R.context resources.now) stacks.old }
+    requires element { Valid (R.context resources.now) elem }
+    requires pushed { AllByRecursion (Valid (R.context resources.now)) (few_types pushed) }
+    ensures { MeetsAtOnce (R.context resources.now)
+        (λ cx. row_operator (plain_row (replicate count elem) (few_types pushed))) stacks.old result
+        stacks.new }
+{
+    match pushed {
+        Few::One(ty) => stacks.exchange_run_at_once(resources, elem, count, ty),
+        _ => false,
+    }
+}
+
+/// `[wanted] -> [pushed]`, where it passes at once. False, with nothing changed, where it doesn't.
+#[inline(always)]
+fn wanted_at_once<R: WasmModuleResources>(
+    stacks: &mut Stacks,
+    resources: &R,
+    wanted: Wanted<'_>,
+    pushed: Few,
+) -> bool
+    requires visit { MayVisit (R.context resources.now) stacks.old }
+    requires wanted { AreValidWanted (R.context resources.now) wanted }
+    requires pushed { AllByRecursion (Valid (R.context resources.now)) (few_types pushed) }
+    ensures { MeetsAtOnce (R.context resources.now)
+        (λ cx. row_operator (plain_row (wanted_types wanted.entry) (few_types pushed))) stacks.old result
+        stacks.new }
+{
+    match wanted {
+        Wanted::Few(Few::Zero) => few_at_once(stacks, resources, &[], pushed),
+        Wanted::Few(Few::One(a)) => few_at_once(stacks, resources, &[a], pushed),
+        Wanted::Few(Few::Two(a, b)) => few_at_once(stacks, resources, &[a, b], pushed),
+        Wanted::Few(Few::Three(a, b, c)) => few_at_once(stacks, resources, &[a, b, c], pushed),
+        Wanted::Few(Few::Four(a, b, c, d)) => {
+            few_at_once(stacks, resources, &[a, b, c, d], pushed)
+        }
+        Wanted::Few(Few::Five(a, b, c, d, e)) => {
+            few_at_once(stacks, resources, &[a, b, c, d, e], pushed)
+        }
+        Wanted::Fields(fields) => fields_at_once(stacks, resources, fields, pushed),
+        Wanted::Run(elem, count) => run_at_once(stacks, resources, elem, count, pushed),
+        Wanted::Under(..) => false,
+    }
+}
+
+/// [`check_operands`], where it passes at once, and one type at most is given. False, with nothing changed, where it
+/// doesn't. It is inlined, so that of a value that is known nothing lies in memory.
+#[inline(always)]
 pub fn operands_at_once<R: WasmModuleResources>(
     stacks: &mut Stacks,
     resources: &R,
@@ -252,17 +328,7 @@ pub fn operands_at_once<R: WasmModuleResources>(
     let Pushed::Few(pushed) = operands.pushed else {
         return false;
     };
-    let Wanted::Few(wanted) = operands.wanted else {
-        return false;
-    };
-    match wanted {
-        Few::Zero => few_at_once(stacks, resources, &[], pushed),
-        Few::One(a) => few_at_once(stacks, resources, &[a], pushed),
-        Few::Two(a, b) => few_at_once(stacks, resources, &[a, b], pushed),
-        Few::Three(a, b, c) => few_at_once(stacks, resources, &[a, b, c], pushed),
-        Few::Four(a, b, c, d) => few_at_once(stacks, resources, &[a, b, c, d], pushed),
-        Few::Five(a, b, c, d, e) => few_at_once(stacks, resources, &[a, b, c, d, e], pushed),
-    }
+    wanted_at_once(stacks, resources, operands.wanted, pushed)
 }
 
 /// `[wanted] -> [pushed]`.

@@ -27,6 +27,21 @@ pub fn no_reference(stacks: &Stacks, offset: u64, found: ValType) -> Error
     )
 }
 
+/// An operand without its null, where it is a reference.
+#[inline(always)]
+pub fn without_null(found: MaybeType) -> Option<MaybeType>
+    ensures { result ≡ operand_without_null found }
+{
+    match found {
+        MaybeType::Bottom => Some(MaybeType::UnknownRef(None)),
+        MaybeType::UnknownRef(ty) => Some(MaybeType::UnknownRef(ty)),
+        MaybeType::Known(ValType::Ref(ty)) => Some(MaybeType::Known(ValType::Ref(
+            ty.as_non_null(),
+        ))),
+        MaybeType::Known(_) => None,
+    }
+}
+
 /// An operand without its null, which has to be a reference.
 #[inline(always)]
 fn reference_without_null(
@@ -38,11 +53,12 @@ fn reference_without_null(
     ensures refused { OnErr result (operand_without_null found ≡ None) }
     ensures offset { IfErr result (λ e. e.offset ≡ offset) }
 {
+    if let Some(reference) = without_null(found) {
+        return Ok(reference);
+    }
     match found {
-        MaybeType::Bottom => Ok(MaybeType::UnknownRef(None)),
-        MaybeType::UnknownRef(ty) => Ok(MaybeType::UnknownRef(ty)),
-        MaybeType::Known(ValType::Ref(ty)) => Ok(MaybeType::Known(ValType::Ref(ty.as_non_null()))),
         MaybeType::Known(ty) => Err(no_reference(stacks, offset, ty)),
+        MaybeType::Bottom | MaybeType::UnknownRef(_) => unreachable!(),
     }
 }
 

@@ -9,5 +9,6 @@ pub mod Whole
 pub mod ClosedFrames
 pub mod PopRuns
 pub mod AtOnce
+pub mod FieldValues
 mod Examples
 mod Heights

@@ -1,5 +1,5 @@
 -- Operands matched in place, from the top, are the wanted list taken whole.
-use Rattle.std.proofs.Common.{◌≡◌, ℕ, zero, suc, ◌+◌, ◌-◌, ◌<◌, List, [], ◌∷◌, Bool, true, false, ◌&&◌, Option, Some, Result, Ok, Err, length, take, drop, reverse, get_or, refl, sym, ◌∙◌, ap, ap₂, arith}
+use Rattle.std.proofs.Common.{◌≡◌, ℕ, zero, suc, ◌+◌, ◌-◌, ◌<◌, List, [], ◌∷◌, Bool, true, false, ◌&&◌, Option, Some, Result, Ok, Err, length, subst, take, drop, reverse, get_or, refl, sym, ◌∙◌, ap, ap₂, arith}
 use Rattle.std.proofs.lemmas.List.{take_more, reverse-append, length-reverse, take_all}
 use Rattle.std.specs.Result.{IsErr, OnOk}
 use Rattle.validate_resources.specs.Context.{ModuleContext}
@@ -118,6 +118,24 @@ module _ (md : ModuleContext) (wanted : List ValType) (u v : BodyState) (same : 
 
   pub stops_there : may_pop (body_context md u) found (Some (get_or wanted (n - 1) d)) ≡ false → all_fit (body_context md v) (after_in n (length wanted - n) v.present.frames) (reverse (take n wanted)) ≡ has_operands_fitting (body_context md v) wanted v → has_operands_fitting (body_context md v) wanted v ≡ false
   stops_there p e = matching_stops (body_context md v) wanted v n d some within found there (sym test_same ∙ p) e
+
+-- a list of so many types, whose type at n - 1 is t
+module _ (md : ModuleContext) (wanted : List ValType) (v : BodyState) (n : ℕ) (d t : ValType) (some : 0 < n) (is : get_or wanted (n - 1) d ≡ t) where
+  abbrev Rest : ℕ → ℕ → Type 0
+  Rest c k = all_fit (body_context md v) (after_in k (c - k) v.present.frames) (reverse (take k wanted)) ≡ has_operands_fitting (body_context md v) wanted v
+
+  pub counted_goes_on : (c : ℕ) → length wanted ≡ c → n - 1 < c → may_pop (body_context md v) (found_after_pops_in_body (c - 1 - (n - 1)) v) (Some t) ≡ true → Rest c n → Rest c (n - 1)
+  counted_goes_on c long =
+      subst (λ k. n - 1 < k → may_pop (body_context md v) (found_after_pops_in_body (k - 1 - (n - 1)) v) (Some t) ≡ true → Rest k n → Rest k (n - 1)) long
+      (λ h p e. goes_on_there md wanted v v refl n d some h _ refl (ap (λ w. may_pop (body_context md v) (found_after_pops_in_body (length wanted - 1 - (n - 1)) v) (Some w)) is ∙ p) e)
+
+  pub counted_stops : (c : ℕ) → length wanted ≡ c → n - 1 < c → may_pop (body_context md v) (found_after_pops_in_body (c - 1 - (n - 1)) v) (Some t) ≡ false → Rest c n → has_operands_fitting (body_context md v) wanted v ≡ false
+  counted_stops c long =
+      subst (λ k. n - 1 < k → may_pop (body_context md v) (found_after_pops_in_body (k - 1 - (n - 1)) v) (Some t) ≡ false → Rest k n → has_operands_fitting (body_context md v) wanted v ≡ false) long
+      (λ h p e. stops_there md wanted v v refl n d some h _ refl (ap (λ w. may_pop (body_context md v) (found_after_pops_in_body (length wanted - 1 - (n - 1)) v) (Some w)) is ∙ p) e)
+
+pub counted_starts : (cx : Context) (wanted : List ValType) (v : BodyState) (c : ℕ) → length wanted ≡ c → all_fit cx (after_in c (c - c) v.present.frames) (reverse (take c wanted)) ≡ has_operands_fitting cx wanted v
+counted_starts cx wanted v c long = subst (λ k. all_fit cx (after_in k (k - k) v.present.frames) (reverse (take k wanted)) ≡ has_operands_fitting cx wanted v) long (matching_starts cx wanted v)
 
 -- pops that pass where not all of it fits: there are none
 pub none_popped : {X : Type 0} (md : ModuleContext) (wanted : List ValType) (u v : BodyState) → u ≡ v → has_operands_fitting (body_context md v) wanted v ≡ false → (r : Result (Unit {0}) X) (w : BodyState) → OnOk r (body_popped_each md (reverse wanted) u ≡ Some w) → IsErr r

@@ -9,7 +9,7 @@ use Rattle.validation_rules.specs.Static.{Frame}
 use Rattle.validate_stacks.specs.Counted.{pops_of_run}
 use Rattle.validate_stacks.specs.Pops.{may_pop, body_popped_each}
 use Rattle.validate_stacks.specs.State.{BodyState, body_context}
-use Rattle.validate_stacks.specs.Steps.{innermost_operands, found_in_body, body_popped, body_without_first}
+use Rattle.validate_stacks.specs.Steps.{innermost_operands, found_in_frames, found_in_body, found_after_pops_in_frames, found_after_pops_in_body, body_popped, body_without_first}
 use Rattle.validate_stacks.proofs.Whole.{popped_none, popped_next}
 
 -- n times the same is its own reverse
@@ -20,12 +20,20 @@ reverse-replicate (suc n) x =
     reverse-append (x ∷ []) (replicate n x) ∙ ap (λ xs. xs ++ x ∷ []) (reverse-replicate n x) ∙ replicate_more n x ∙ ap (λ k. replicate k x) (sym next)
 
 -- a pop where there is no own operand takes none
-unmoved : (v : BodyState) → length (innermost_operands v.present.frames) ≤ 0 → body_popped v ≡ v
+pub unmoved : (v : BodyState) → length (innermost_operands v.present.frames) ≤ 0 → body_popped v ≡ v
 unmoved v h = by (innermost_operands v.present.frames) h
   where
     by : (own : List MaybeType) → length own ≤ 0 → body_without_first own v ≡ v
     by [] k = refl
     by (x ∷ own) k = absurd (omega (arith, k))
+
+-- what the first pop finds
+pub found_first : (v : BodyState) → found_after_pops_in_body 0 v ≡ found_in_body v
+found_first v = by v.present.frames
+  where
+    by : (fs : List Frame) → found_after_pops_in_frames 0 fs ≡ found_in_frames fs
+    by [] = refl
+    by (f ∷ fs) = refl
 
 -- a pop of an own operand is one of the run
 pub run_next : (md : ModuleContext) (elem : ValType) (v : BodyState) (n : ℕ) → 0 < n → may_pop (body_context md v) (found_in_body v) (Some elem) ≡ true → body_popped_each md (replicate (n - 1) elem) (body_popped v) ≡ body_popped_each md (replicate n elem) v
@@ -58,6 +66,10 @@ module _ (md : ModuleContext) (elem : ValType) (v : BodyState) (none : length (i
           ∙ ap (λ b. guard b (body_popped_each md (replicate n elem) (body_popped v))) p
           ∙ ap (body_popped_each md (replicate n elem)) (unmoved v none)
           ∙ all n
+
+  -- so that nothing changes
+  pub run_stays : (n : ℕ) → may_pop (body_context md v) (found_in_body v) (Some elem) ≡ true → body_popped_each md (replicate n elem) v ≡ Some v
+  run_stays n p = sym (run_ends n p) ∙ popped_none md (body_popped v) ∙ ap Some (unmoved v none)
 
   -- and it is the last of the run
   pub last_counted : (n : ℕ) (w : BodyState) → 0 < n → 1 + pops_of_run 0 w ≡ pops_of_run n v

@@ -1,21 +1,23 @@
 //! Operands and frames, moved at once where that needs no log and no memory.
 
-ghost use Rattle.std.specs.Prelude.{◌≡◌, [], ◌∷◌, true, None, Some, reverse, IsSome, MatchBool};
+ghost use Rattle.std.specs.Prelude.{◌≡◌, ◌≤◌, [], ◌∷◌, true, None, Some, length, replicate, reverse, IsSome, MatchBool};
 ghost use Rattle.std.specs.List.{AllByRecursion};
 ghost use Rattle.std.specs.Option.{option_map, ForSome};
 ghost use Rattle.validate_resources.specs.Context.{Valid};
+ghost use Rattle.validate_types.specs.Types.{unpacked_fields};
 ghost use Rattle.validation_rules.specs.Context.{block_signature};
+ghost use Rattle.validation_rules.specs.Fits.{Known};
 ghost use Rattle.validate_stacks.specs.Attempts.{phase_moved};
 ghost use Rattle.validate_stacks.specs.AtOnce.{body_dropped, pushed_list};
 ghost use Rattle.validate_stacks.specs.Blocks.{closed_body};
 ghost use Rattle.validate_stacks.specs.Pops.{IsKept, body_popped_each, body_pushed_each};
 ghost use Rattle.validate_stacks.specs.State.{IsValidBody};
-ghost use Rattle.validate_stacks.specs.Steps.{body_unreachable, body_with_frame, frame_at};
+ghost use Rattle.validate_stacks.specs.Steps.{innermost_operands, found_in_body, body_popped, body_pushed, body_unreachable, body_with_frame, frame_at};
 
 use crate::blocks::results;
 use crate::stacks::Stacks;
 use validate_resources::WasmModuleResources;
-use validate_types::{MaybeType, ValType};
+use validate_types::{FieldType, MaybeType, ValType};
 use validate_visit::{BlockType, FrameKind};
 
 impl Stacks {
@@ -87,6 +89,114 @@ impl Stacks {
             }
             None => self.drop_operands(count),
         }
+        true
+    }
+
+    /// Takes so many own operands of the innermost frame, while no attempt is pending, and pushes one, where there is
+    /// room, if none goes. False, with nothing changed, where there is none. It takes no memory.
+    #[inline(always)]
+    fn push_over(&mut self, count: usize, pushed: ValType) -> bool
+        requires idle { self.old.body.undone ≡ None }
+        requires own { count ≤ length (innermost_operands self.old.body.present.frames) }
+        ensures exact { MatchBool result
+            (self.new.body ≡ body_pushed (Known pushed) (body_dropped count self.old.body))
+            (self.new ≡ self.old) }
+        ensures phase { phase_moved self.new.phase ≡ phase_moved self.old.phase }
+    {
+        if count == 0 {
+            return self.push_at_once(MaybeType::Known(pushed));
+        }
+        self.drop_operands(count - 1);
+        self.replace_operand(MaybeType::Known(pushed));
+        true
+    }
+
+    /// [`Stacks::exchange_at_once`] of so many operands of one type, where the innermost frame has as many own ones, or
+    /// none. It takes the time of its own operands at most.
+    pub fn exchange_run_at_once<R: WasmModuleResources>(
+        &mut self,
+        resources: &R,
+        elem: ValType,
+        n: u32,
+        pushed: ValType,
+    ) -> bool
+        requires element { Valid (R.context resources.now) elem }
+        requires state { IsValidBody (R.context resources.now) self.old.body }
+        ensures exact { MatchBool result (option_map (body_pushed_each (pushed ∷ []))
+            (body_popped_each (R.context resources.now) (reverse (replicate n elem)) self.old.body)
+            ≡ Some self.new.body) (self.new ≡ self.old) }
+        ensures phase { phase_moved self.new.phase ≡ phase_moved self.old.phase }
+    {
+        let own = self.own_len();
+        if self.is_pending() {
+            return false;
+        }
+        if own == 0 {
+            return self.is_fitting_at(resources, own, 0, elem) && self.push_over(0, pushed);
+        }
+        let count = n as usize;
+        if own < count || !self.has_fitting_run(resources, own, elem, count) {
+            return false;
+        }
+        self.push_over(count, pushed)
+    }
+
+    /// [`Stacks::exchange_at_once`] of the values of fields.
+    pub fn exchange_fields_at_once<R: WasmModuleResources>(
+        &mut self,
+        resources: &R,
+        fields: &[FieldType],
+        pushed: ValType,
+    ) -> bool
+        requires types { AllByRecursion (Valid (R.context resources.now)) (unpacked_fields fields.now) }
+        requires state { IsValidBody (R.context resources.now) self.old.body }
+        ensures exact { MatchBool result (option_map (body_pushed_each (pushed ∷ []))
+            (body_popped_each (R.context resources.now) (reverse (unpacked_fields fields.now)) self.old.body)
+            ≡ Some self.new.body) (self.new ≡ self.old) }
+        ensures phase { phase_moved self.new.phase ≡ phase_moved self.old.phase }
+    {
+        let own = self.own_len();
+        if self.is_pending() || !self.has_fitting_fields(resources, own, fields) {
+            return false;
+        }
+        self.push_over(fields.len().min(own), pushed)
+    }
+
+    /// Pops the operand that is found, whatever its type: where no attempt is pending, and one is found. False, with
+    /// nothing changed, where that isn't so. It takes no memory.
+    #[inline(always)]
+    pub fn drop_at_once(&mut self) -> bool
+        ensures exact { MatchBool result (self.new.body ≡ body_popped self.old.body) (self.new ≡ self.old) }
+        ensures found { result ≡ true → IsSome (found_in_body self.old.body) }
+        ensures phase { phase_moved self.new.phase ≡ phase_moved self.old.phase }
+    {
+        if self.is_pending() {
+            return false;
+        }
+        if self.own_len() == 0 {
+            return self.found_at(0).is_some();
+        }
+        self.drop_operands(1);
+        true
+    }
+
+    /// Pops the operand that is found, whatever its type, and pushes another: where no attempt is pending, one is found,
+    /// and there is room, where the innermost frame has none that goes. False, with nothing changed, where that isn't
+    /// so. It takes no memory.
+    #[inline(always)]
+    pub fn replace_at_once(&mut self, ty: MaybeType) -> bool
+        ensures exact { MatchBool result (self.new.body ≡ body_pushed ty (body_popped self.old.body))
+            (self.new ≡ self.old) }
+        ensures found { result ≡ true → IsSome (found_in_body self.old.body) }
+        ensures phase { phase_moved self.new.phase ≡ phase_moved self.old.phase }
+    {
+        if self.is_pending() {
+            return false;
+        }
+        if self.own_len() == 0 {
+            return self.found_at(0).is_some() && self.push_at_once(ty);
+        }
+        self.replace_operand(ty);
         true
     }
 

@@ -1,8 +1,9 @@
 //! Pops and pushes of lists of types.
 
-ghost use Rattle.std.specs.Prelude.{◌≡◌, ◌≤◌, true, false, None, Some, OnOk, OnErr, IfErr, length, reverse, take};
+ghost use Rattle.std.specs.Prelude.{◌≡◌, ◌≤◌, true, false, None, Some, OnOk, OnErr, IfErr, length, replicate, reverse, take};
 ghost use Rattle.std.specs.List.{AllByRecursion};
 ghost use Rattle.validate_resources.specs.Context.{ModuleContext, Valid};
+ghost use Rattle.validate_types.specs.Types.{unpacked_fields};
 ghost use Rattle.validate_stacks.specs.Attempts.{phase_moved};
 ghost use Rattle.validate_stacks.specs.State.{IsValidBody, body_context};
 ghost use Rattle.validate_stacks.specs.Pops.{body_popped_each, body_pushed_each, has_operands_fitting, may_pop, IsKept};
@@ -11,7 +12,7 @@ ghost use Rattle.validate_stacks.specs.Steps.{innermost_operands, found_after_po
 use crate::pops::{fits_at_once, is_same_number};
 use crate::stacks::Stacks;
 use validate_resources::WasmModuleResources;
-use validate_types::{Error, MaybeType, ValType};
+use validate_types::{Error, FieldType, MaybeType, ValType};
 
 impl Stacks {
     /// Pops one operand for each of these types, the last of the list first. Memory is wanted for the
@@ -119,6 +120,56 @@ impl Stacks {
         true
     }
 
+    /// The same of so many operands of one type.
+    #[inline(always)]
+    pub(crate) fn has_fitting_run<R: WasmModuleResources>(
+        &self,
+        resources: &R,
+        own: usize,
+        elem: ValType,
+        count: usize,
+    ) -> bool
+        requires own { own ≡ length (innermost_operands self.now.body.present.frames) }
+        requires element { Valid (R.context resources.now) elem }
+        requires state { IsValidBody (R.context resources.now) self.now.body }
+        ensures { result ≡ has_operands_fitting (body_context (R.context resources.now) self.now.body)
+            (replicate count elem) self.now.body }
+    {
+        let mut left = count;
+        while left > 0 {
+            left -= 1;
+            if !self.is_fitting_at(resources, own, count - 1 - left, elem) {
+                return false;
+            }
+        }
+        true
+    }
+
+    /// The same of the values of fields.
+    #[inline(always)]
+    pub(crate) fn has_fitting_fields<R: WasmModuleResources>(
+        &self,
+        resources: &R,
+        own: usize,
+        fields: &[FieldType],
+    ) -> bool
+        requires own { own ≡ length (innermost_operands self.now.body.present.frames) }
+        requires types { AllByRecursion (Valid (R.context resources.now)) (unpacked_fields fields.now) }
+        requires state { IsValidBody (R.context resources.now) self.now.body }
+        ensures { result ≡ has_operands_fitting (body_context (R.context resources.now) self.now.body)
+            (unpacked_fields fields.now) self.now.body }
+    {
+        let mut left = fields.len();
+        while left > 0 {
+            left -= 1;
+            let wanted = fields[left].element_type.unpack();
+            if !self.is_fitting_at(resources, own, fields.len() - 1 - left, wanted) {
+                return false;
+            }
+        }
+        true
+    }
+
     /// Whether the top own operands of the innermost frame, which has so many at least, are known to be of these
     /// number or vector types, the last of the list on top. Nothing else is asked, so that no call is made.
     #[inline(always)]
@@ -171,7 +222,7 @@ impl Stacks {
     /// Whether the operand that a pop finds after so many others fits the wanted type, where the innermost frame
     /// has so many own operands.
     #[inline(always)]
-    fn is_fitting_at<R: WasmModuleResources>(
+    pub(crate) fn is_fitting_at<R: WasmModuleResources>(
         &self,
         resources: &R,
         own: usize,

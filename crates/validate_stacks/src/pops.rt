@@ -291,6 +291,7 @@ impl Stacks {
     }
 
     /// Whether an operand was found that fits the wanted type, by the order of types.
+    #[inline(always)]
     pub(crate) fn is_fitting<R: WasmModuleResources>(
         &self,
         resources: &R,

@@ -10,9 +10,6 @@ use Rattle.validate_rows.proofs.parametric.select_at_once.Goals as goal
 pub returns-in_default : goal.returns-in_default
 returns-in_default g c = not_at_once _ _ c.args.stacks.now
 
-pub returns-in_default-upper : goal.returns-in_default-upper
-returns-in_default-upper g c = not_at_once _ _ c.args.stacks.now
-
 pub returns-then-not-can_select : goal.returns-then-not-can_select
 returns-then-not-can_select g c = not_at_once _ _ c.args.stacks.now
 

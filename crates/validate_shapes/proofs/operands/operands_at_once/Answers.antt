@@ -3,6 +3,3 @@ use Rattle.validate_shapes.proofs.operands.operands_at_once.Goals as goal
 
 pub returns-in_default : goal.returns-in_default
 returns-in_default g c = not_at_once _ _ c.args.stacks.now
-
-pub returns-in_default-wanted : goal.returns-in_default-wanted
-returns-in_default-wanted g c = not_at_once _ _ c.args.stacks.now

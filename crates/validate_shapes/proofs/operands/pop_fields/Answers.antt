@@ -5,8 +5,9 @@ use Rattle.validation_rules.specs.Rows.{guard}
 use Rattle.validate_stacks.specs.Pops.{may_pop, body_popped_each, IsKept}
 use Rattle.validate_stacks.specs.State.{IsValidBody, body_context}
 use Rattle.validate_stacks.specs.Steps.{found_in_body, body_popped}
+use Rattle.validate_stacks.proofs.FieldValues.{value_valid}
 use Rattle.validate_stacks.proofs.Validity.{popped_valid, popped_kept, kept_on}
-use Rattle.validate_shapes.proofs.Fields.{value_valid, next_field}
+use Rattle.validate_shapes.proofs.Fields.{next_field}
 use Rattle.validate_shapes.proofs.operands.pop_fields.Goals as goal
 
 pub pop_operand-requires-clause-wanted : goal.pop_operand-requires-clause-wanted

@@ -1,5 +1,4 @@
-use Rattle.std.proofs.Common.{rules, ◌≡◌, false, None, Some, OnOk, IfErr, reverse, sym, subst}
-use Rattle.validate_stacks.specs.Pops.{body_popped_each}
+use Rattle.std.proofs.Common.{rules, ◌≡◌, false, None, Some, OnOk, IfErr, sym, subst}
 use Rattle.validate_stacks.proofs.Whole.{none_above, some_above}
 use Rattle.validate_shapes.specs.Operands.{few_types}
 use Rattle.validate_shapes.proofs.operands.pop_under.Goals as goal

@@ -1,0 +1,31 @@
+use Rattle.std.proofs.Common.{arith, replicate, ◌-◌, ◌<◌, sym, ◌∙◌}
+use Rattle.std.proofs.lemmas.List.{length-replicate, get_or-replicate}
+use Rattle.validate_stacks.specs.State.{body_context}
+use Rattle.validate_stacks.proofs.MatchedOperands.{counted_starts, counted_goes_on, counted_stops}
+use Rattle.validate_stacks.proofs.stacks.Stacks.has_fitting_run.Goals as goal
+
+pub loop-left-init : goal.loop-left-init
+loop-left-init g c =
+    let cx = body_context (g.R.WasmModuleResources.context c.args.resources.now) c.args.self.now.body in
+    record { within = omega arith; rest = counted_starts cx (replicate c.args.count c.args.elem) c.args.self.now.body c.args.count (length-replicate c.args.count c.args.elem) }
+
+pub loop-left-preserved : goal.loop-left-preserved
+loop-left-preserved g c =
+    let md = g.R.WasmModuleResources.context c.args.resources.now in
+    let n = c.loop-left.left in
+    let t = c.args.elem in
+    let here : n - 1 < c.args.count = omega (arith, c.loop-left-test.true, c.loop-left.invariant.within) in
+    let passed = sym c.is_fitting_at.ensures ∙ c.if-not-is_fitting_at.false in
+    record {
+      within = omega (arith, c.loop-left.invariant.within);
+      rest = counted_goes_on md (replicate c.args.count t) c.args.self.now.body n t t (omega (arith, c.loop-left-test.true)) (get_or-replicate c.args.count (n - 1) t t here) c.args.count (length-replicate c.args.count t) here passed c.loop-left.invariant.rest;
+    }
+
+pub returns-then-not-is_fitting_at : goal.returns-then-not-is_fitting_at
+returns-then-not-is_fitting_at g c =
+    let md = g.R.WasmModuleResources.context c.args.resources.now in
+    let n = c.loop-left.left in
+    let t = c.args.elem in
+    let here : n - 1 < c.args.count = omega (arith, c.loop-left-test.true, c.loop-left.invariant.within) in
+    let failed = sym c.is_fitting_at.ensures ∙ c.if-not-is_fitting_at.true in
+    sym (counted_stops md (replicate c.args.count t) c.args.self.now.body n t t (omega (arith, c.loop-left-test.true)) (get_or-replicate c.args.count (n - 1) t t here) c.args.count (length-replicate c.args.count t) here failed c.loop-left.invariant.rest)

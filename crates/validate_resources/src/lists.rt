@@ -251,6 +251,7 @@ fn have_fitting_descriptors(types: &[SubType]) -> bool
 
 /// Writes a canonical form, or refuses where there is no type of the number handed in. The text of
 /// that refusal takes memory.
+#[inline(always)]
 fn write_form<T: Copy>(
     ty: &mut T,
     form: Result<T, u32>,
@@ -346,19 +347,23 @@ impl WasmModuleResources for ModuleLists {
         is_type_below(&self.types, a, b)
     }
 
+    #[inline(always)]
     fn is_shared(&self, ty: RefType) -> bool {
         is_heap_shared(&self.types, ty.heap_type())
     }
 
+    #[inline(always)]
     fn top_type(&self, ty: &HeapType) -> HeapType {
         heap_top(&self.types, *ty)
     }
 
+    #[inline(always)]
     fn check_heap_type(&self, ty: &mut HeapType, offset: u64) -> Result<(), Error> {
         let form = canonical_heap(*ty, self.types.len());
         write_form(ty, form, self.alloc, offset)
     }
 
+    #[inline(always)]
     fn check_ref_type(&self, ty: &mut RefType, offset: u64) -> Result<(), Error> {
         let form = canonical_ref(*ty, self.types.len());
         write_form(ty, form, self.alloc, offset)

@@ -138,7 +138,9 @@ impl Stacks {
         let mut left = count;
         while left > 0 {
             left -= 1;
-            if !self.is_fitting_at(resources, own, count - 1 - left, elem) {
+            if !self.is_same_number_at(resources, own, count - 1 - left, elem)
+                && !self.is_fitting_by_order(resources, count - 1 - left, elem)
+            {
                 return false;
             }
         }

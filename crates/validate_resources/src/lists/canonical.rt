@@ -15,6 +15,7 @@ use validate_types::{
 };
 
 /// The number of an index of either kind.
+#[inline(always)]
 pub fn number(index: UnpackedIndex) -> u32
     ensures { result ≡ number_of index }
 {
@@ -25,6 +26,7 @@ pub fn number(index: UnpackedIndex) -> u32
 }
 
 /// The id for an index, or its number where there is no such type among so many.
+#[inline(always)]
 fn canonical_index(index: UnpackedIndex, count: usize) -> Result<UnpackedIndex, u32>
     ensures { result ≡ ok_or (canonical_index count index) (number_of index) }
 {
@@ -38,6 +40,7 @@ fn canonical_index(index: UnpackedIndex, count: usize) -> Result<UnpackedIndex, 
 
 /// The canonical form of a heap type of a module of so many types, or the number of its index where
 /// there is no such type.
+#[inline(always)]
 pub fn canonical_heap(ty: HeapType, count: usize) -> Result<HeapType, u32>
     ensures { result ≡ ok_or (canonical_heap count ty) (heap_number ty) }
 {
@@ -55,6 +58,7 @@ pub fn canonical_heap(ty: HeapType, count: usize) -> Result<HeapType, u32>
 }
 
 /// The same of a reference type.
+#[inline(always)]
 pub fn canonical_ref(ty: RefType, count: usize) -> Result<RefType, u32>
     ensures { result ≡ ok_or (canonical_ref count ty) (heap_number ty.heap_type) }
 {

@@ -12,7 +12,7 @@ use validate_types::{
 
 /// A lookup over lists in which two indices name each type: 2i and 2i + 1 both name type i of the lists, with
 /// one id. A function's type is told by the second of its two. All else is that of the lists.
-#[derive(Debug, Drop)]
+#[derive(Drop)]
 pub struct PairedLists(pub ModuleLists);
 
 /// The index in the lists.

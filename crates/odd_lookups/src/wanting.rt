@@ -7,7 +7,7 @@ use validate_types::{
 };
 
 /// A check of a lookup.
-#[derive(Clone, Copy, Debug, PartialEq, Eq)]
+#[derive(Clone, Copy, PartialEq)]
 pub enum Check {
     /// `check_heap_type`
     HeapType,
@@ -18,7 +18,7 @@ pub enum Check {
 }
 
 /// A lookup over lists of which one check finds no memory, whatever it is asked. All else is that of the lists.
-#[derive(Debug, Drop)]
+#[derive(Drop)]
 pub struct WantingLists {
     /// The lists.
     pub lists: ModuleLists,

@@ -7,7 +7,7 @@ use std::alloc::AllocError;
 use std::fmt;
 
 /// Why a script is no script.
-#[derive(Clone, Copy, Debug, PartialEq, Eq)]
+#[derive(Clone, Copy)]
 pub enum BadScript {
     /// It can't be read, or isn't UTF-8.
     Input,
@@ -35,7 +35,7 @@ impl fmt::Display for BadScript {
 }
 
 /// Why a run ends without a verdict.
-#[derive(Clone, Copy, Debug, PartialEq, Eq)]
+#[derive(Clone, Copy)]
 pub enum Failure {
     /// What was read is no script.
     BadScript(BadScript),

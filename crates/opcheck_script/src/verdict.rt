@@ -7,7 +7,7 @@ use crate::failure::Failure;
 use std::fmt;
 
 /// What the validator says of a whole body.
-#[derive(Clone, Copy, Debug, PartialEq, Eq)]
+#[derive(Clone, Copy)]
 pub enum Verdict {
     /// No refusal ended the run, and the outermost frame is closed.
     Accepted,

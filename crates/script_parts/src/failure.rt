@@ -5,7 +5,7 @@ ghost use Rattle.std.specs.Prelude.{◌≡◌};
 use std::alloc::{AllocError, AllocFailed};
 
 /// Why a text gives no script.
-#[derive(Clone, Copy, Debug, PartialEq, Eq)]
+#[derive(Clone, Copy)]
 pub enum ScriptError {
     /// The line of this number isn't of the grammar or stands out of place.
     BadLine(u64),
@@ -14,7 +14,7 @@ pub enum ScriptError {
 }
 
 /// Why a line isn't taken.
-#[derive(Clone, Copy, Debug, PartialEq, Eq)]
+#[derive(Clone, Copy)]
 pub enum LineError {
     /// It isn't of the grammar or stands out of place.
     Bad,

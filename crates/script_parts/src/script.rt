@@ -12,7 +12,7 @@ use validate_resources::ModuleDeclarations;
 use validate_types::{ValType, WasmFeatures};
 
 /// What the operators of a script are the body of.
-#[derive(Clone, Copy, Debug, PartialEq, Eq)]
+#[derive(Clone, Copy)]
 pub enum Body {
     /// A function of the type at this index.
     Function(u32),
@@ -21,7 +21,7 @@ pub enum Body {
 }
 
 /// The `func` or `expr` line.
-#[derive(Clone, Copy, Debug, PartialEq, Eq)]
+#[derive(Clone, Copy)]
 pub struct BodyLine {
     /// What it begins.
     pub body: Body,
@@ -30,7 +30,7 @@ pub struct BodyLine {
 }
 
 /// A `local` line.
-#[derive(Clone, Copy, Debug, PartialEq, Eq)]
+#[derive(Clone, Copy)]
 pub struct LocalLine {
     /// How many locals it declares.
     pub count: u32,

@@ -11,7 +11,7 @@ use std::slice;
 
 /// Reads the words of a line of the module, of which there is one at least: a `func` or `expr` line is the
 /// last of these.
-pub fn read_module_line(alloc: Global, words: &[&str]) -> Result<Line<'static>, LineError> {
+pub fn read_module_line<'a>(alloc: Global, words: &[&str]) -> Result<Line<'a>, LineError> {
     match words.split_first() {
         Some((&"type", rest)) => Ok(Line::SubType(read_type(alloc, rest)?)),
         _ => read_flat_line(words).ok_or(LineError::Bad),
@@ -35,7 +35,7 @@ pub fn read_body_line<'a>(
 }
 
 /// Reads the words of a line of the module that takes no memory.
-fn read_flat_line(words: &[&str]) -> Option<Line<'static>> {
+fn read_flat_line<'a>(words: &[&str]) -> Option<Line<'a>> {
     let (keyword, rest) = words.split_first()?;
     match *keyword {
         "memory" => Some(Line::Memory(read_memory_type(rest)?)),
@@ -46,7 +46,7 @@ fn read_flat_line(words: &[&str]) -> Option<Line<'static>> {
 }
 
 /// A line of this keyword, behind which stand a word and marks of what it declares.
-fn read_marked(keyword: &str, words: &[&str]) -> Option<Line<'static>> {
+fn read_marked<'a>(keyword: &str, words: &[&str]) -> Option<Line<'a>> {
     let (word, marks) = words.split_first()?;
     match keyword {
         "fn" => Some(Line::Function(read_function(read_index(word)?, marks)?)),
@@ -57,7 +57,7 @@ fn read_marked(keyword: &str, words: &[&str]) -> Option<Line<'static>> {
 }
 
 /// A line of this keyword, behind which stands one word.
-fn read_single(keyword: &str, words: &[&str]) -> Option<Line<'static>> {
+fn read_single<'a>(keyword: &str, words: &[&str]) -> Option<Line<'a>> {
     let [word] = *words else {
         return None;
     };
@@ -73,7 +73,7 @@ fn read_single(keyword: &str, words: &[&str]) -> Option<Line<'static>> {
 }
 
 /// A `local` line: how many locals, and their type.
-fn read_locals(words: &[&str]) -> Option<Line<'static>> {
+fn read_locals<'a>(words: &[&str]) -> Option<Line<'a>> {
     match *words {
         [count, ty] => Some(Line::Locals(read_index(count)?, read_value_type(ty)?)),
         _ => None,

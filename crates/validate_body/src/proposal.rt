@@ -20,7 +20,8 @@ use validate_stacks::Pops;
 use validate_types::{ContType, Error, FuncType, RefType, SubType, ValType};
 use validate_visit::{
     ArrayOp, AtomicOp, BlockType, ContinuationOp, ControlOp, ConvertOp, ExceptionOp, FrameKind,
-    FrameStack, MemoryOp, ModuleArity, NumericOp, Op, ReferenceOp, SharedOp, StructOp, TableOp,
+    FrameStack, MemoryOp, ModuleArity, NumericOp, Op, OperatorChecks, ReferenceOp, SharedOp,
+    StructOp, TableOp,
 };
 
 /// A validator that is about to visit an operator, with the lookup and the operator's offset
@@ -150,167 +151,6 @@ impl<'validator, 'resources, R: WasmModuleResources> WasmProposalValidator<
         self.inner.check(self.resources, self.offset, op)
     }
 
-    /// The check of an operator on control, locals or globals.
-    #[inline(always)]
-    pub fn check_control<'a>(&mut self, op: ControlOp<'a>) -> Result<(), Error>
-        requires { MayVisit (R.context self.old.resources.now) (stacks_of self.old.inner.now) }
-        ensures same_reference { self.new.inner.ghost_name ≡ self.old.inner.ghost_name }
-        ensures offset { self.new.offset ≡ self.old.offset }
-        ensures resources { self.new.resources ≡ self.old.resources }
-        ensures row { Meets (R.context self.old.resources.now) (λ cx. operator cx (Op.Control op.entry))
-            self.old.offset (state self.old.inner.now) result (state self.new.inner.now) }
-        ensures memory { TakesNoMemory (R.context self.old.resources.now) (Op.Control op.entry)
-            (state self.old.inner.now) result }
-    {
-        self.check(Op::Control(op))
-    }
-
-    /// The check of an operator on numbers.
-    #[inline(always)]
-    pub fn check_numeric(&mut self, op: NumericOp) -> Result<(), Error>
-        requires { MayVisit (R.context self.old.resources.now) (stacks_of self.old.inner.now) }
-        ensures same_reference { self.new.inner.ghost_name ≡ self.old.inner.ghost_name }
-        ensures offset { self.new.offset ≡ self.old.offset }
-        ensures resources { self.new.resources ≡ self.old.resources }
-        ensures row { Meets (R.context self.old.resources.now) (λ cx. operator cx (Op.Numeric op))
-            self.old.offset (state self.old.inner.now) result (state self.new.inner.now) }
-    {
-        self.check(Op::Numeric(op))
-    }
-
-    /// The check of a conversion.
-    #[inline(always)]
-    pub fn check_convert(&mut self, op: ConvertOp) -> Result<(), Error>
-        requires { MayVisit (R.context self.old.resources.now) (stacks_of self.old.inner.now) }
-        ensures same_reference { self.new.inner.ghost_name ≡ self.old.inner.ghost_name }
-        ensures offset { self.new.offset ≡ self.old.offset }
-        ensures resources { self.new.resources ≡ self.old.resources }
-        ensures row { Meets (R.context self.old.resources.now) (λ cx. operator cx (Op.Convert op))
-            self.old.offset (state self.old.inner.now) result (state self.new.inner.now) }
-    {
-        self.check(Op::Convert(op))
-    }
-
-    /// The check of an operator on memories.
-    #[inline(always)]
-    pub fn check_memory(&mut self, op: MemoryOp) -> Result<(), Error>
-        requires { MayVisit (R.context self.old.resources.now) (stacks_of self.old.inner.now) }
-        ensures same_reference { self.new.inner.ghost_name ≡ self.old.inner.ghost_name }
-        ensures offset { self.new.offset ≡ self.old.offset }
-        ensures resources { self.new.resources ≡ self.old.resources }
-        ensures row { Meets (R.context self.old.resources.now) (λ cx. operator cx (Op.Memory op))
-            self.old.offset (state self.old.inner.now) result (state self.new.inner.now) }
-    {
-        self.check(Op::Memory(op))
-    }
-
-    /// The check of an atomic operator.
-    #[inline(always)]
-    pub fn check_atomic(&mut self, op: AtomicOp) -> Result<(), Error>
-        requires { MayVisit (R.context self.old.resources.now) (stacks_of self.old.inner.now) }
-        ensures same_reference { self.new.inner.ghost_name ≡ self.old.inner.ghost_name }
-        ensures offset { self.new.offset ≡ self.old.offset }
-        ensures resources { self.new.resources ≡ self.old.resources }
-        ensures row { Meets (R.context self.old.resources.now) (λ cx. operator cx (Op.Atomic op))
-            self.old.offset (state self.old.inner.now) result (state self.new.inner.now) }
-    {
-        self.check(Op::Atomic(op))
-    }
-
-    /// The check of an operator on references.
-    #[inline(always)]
-    pub fn check_reference(&mut self, op: ReferenceOp) -> Result<(), Error>
-        requires { MayVisit (R.context self.old.resources.now) (stacks_of self.old.inner.now) }
-        ensures same_reference { self.new.inner.ghost_name ≡ self.old.inner.ghost_name }
-        ensures offset { self.new.offset ≡ self.old.offset }
-        ensures resources { self.new.resources ≡ self.old.resources }
-        ensures row { Meets (R.context self.old.resources.now) (λ cx. operator cx (Op.Reference op))
-            self.old.offset (state self.old.inner.now) result (state self.new.inner.now) }
-    {
-        self.check(Op::Reference(op))
-    }
-
-    /// The check of an operator on tables.
-    #[inline(always)]
-    pub fn check_table(&mut self, op: TableOp) -> Result<(), Error>
-        requires { MayVisit (R.context self.old.resources.now) (stacks_of self.old.inner.now) }
-        ensures same_reference { self.new.inner.ghost_name ≡ self.old.inner.ghost_name }
-        ensures offset { self.new.offset ≡ self.old.offset }
-        ensures resources { self.new.resources ≡ self.old.resources }
-        ensures row { Meets (R.context self.old.resources.now) (λ cx. operator cx (Op.Table op))
-            self.old.offset (state self.old.inner.now) result (state self.new.inner.now) }
-    {
-        self.check(Op::Table(op))
-    }
-
-    /// The check of an operator on structs.
-    #[inline(always)]
-    pub fn check_struct(&mut self, op: StructOp) -> Result<(), Error>
-        requires { MayVisit (R.context self.old.resources.now) (stacks_of self.old.inner.now) }
-        ensures same_reference { self.new.inner.ghost_name ≡ self.old.inner.ghost_name }
-        ensures offset { self.new.offset ≡ self.old.offset }
-        ensures resources { self.new.resources ≡ self.old.resources }
-        ensures row { Meets (R.context self.old.resources.now) (λ cx. operator cx (Op.Struct op))
-            self.old.offset (state self.old.inner.now) result (state self.new.inner.now) }
-    {
-        self.check(Op::Struct(op))
-    }
-
-    /// The check of an operator on continuations.
-    #[inline(always)]
-    pub fn check_continuation<'a>(&mut self, op: ContinuationOp<'a>) -> Result<(), Error>
-        requires { MayVisit (R.context self.old.resources.now) (stacks_of self.old.inner.now) }
-        ensures same_reference { self.new.inner.ghost_name ≡ self.old.inner.ghost_name }
-        ensures offset { self.new.offset ≡ self.old.offset }
-        ensures resources { self.new.resources ≡ self.old.resources }
-        ensures row { Meets (R.context self.old.resources.now)
-            (λ cx. operator cx (Op.Continuation op.entry)) self.old.offset (state self.old.inner.now) result
-            (state self.new.inner.now) }
-    {
-        self.check(Op::Continuation(op))
-    }
-
-    /// The check of an operator of shared-everything threads.
-    #[inline(always)]
-    pub fn check_shared(&mut self, op: SharedOp) -> Result<(), Error>
-        requires { MayVisit (R.context self.old.resources.now) (stacks_of self.old.inner.now) }
-        ensures same_reference { self.new.inner.ghost_name ≡ self.old.inner.ghost_name }
-        ensures offset { self.new.offset ≡ self.old.offset }
-        ensures resources { self.new.resources ≡ self.old.resources }
-        ensures row { Meets (R.context self.old.resources.now) (λ cx. operator cx (Op.Shared op))
-            self.old.offset (state self.old.inner.now) result (state self.new.inner.now) }
-    {
-        self.check(Op::Shared(op))
-    }
-
-    /// The check of an operator on arrays.
-    #[inline(always)]
-    pub fn check_array(&mut self, op: ArrayOp) -> Result<(), Error>
-        requires { MayVisit (R.context self.old.resources.now) (stacks_of self.old.inner.now) }
-        ensures same_reference { self.new.inner.ghost_name ≡ self.old.inner.ghost_name }
-        ensures offset { self.new.offset ≡ self.old.offset }
-        ensures resources { self.new.resources ≡ self.old.resources }
-        ensures row { Meets (R.context self.old.resources.now) (λ cx. operator cx (Op.Array op))
-            self.old.offset (state self.old.inner.now) result (state self.new.inner.now) }
-    {
-        self.check(Op::Array(op))
-    }
-
-    /// The check of an operator on exceptions.
-    #[inline(always)]
-    pub fn check_exception<'a>(&mut self, op: ExceptionOp<'a>) -> Result<(), Error>
-        requires { MayVisit (R.context self.old.resources.now) (stacks_of self.old.inner.now) }
-        ensures same_reference { self.new.inner.ghost_name ≡ self.old.inner.ghost_name }
-        ensures offset { self.new.offset ≡ self.old.offset }
-        ensures resources { self.new.resources ≡ self.old.resources }
-        ensures row { Meets (R.context self.old.resources.now) (λ cx. operator cx (Op.Exception op.entry))
-            self.old.offset (state self.old.inner.now) result (state self.new.inner.now) }
-        ensures memory { TakesNoMemory (R.context self.old.resources.now) (Op.Exception op.entry)
-            (state self.old.inner.now) result }
-    {
-        self.check(Op::Exception(op))
-    }
-
     /// Pops `n` operands of this type, and ticks for each pop that it tries, also for one that is refused:
     /// below the innermost frame's own operands it tries one, since in dead code each further one would
     /// pass as that does. A refusal carries the offset.
@@ -340,5 +180,83 @@ impl<'validator, 'resources, R: WasmModuleResources> WasmProposalValidator<
         self.inner
             .stacks
             .pop_run(self.resources, self.offset, elem, n, pops)
+    }
+}
+
+impl<'a, 'validator, 'resources, R: WasmModuleResources> OperatorChecks<'a>
+    for WasmProposalValidator<'validator, 'resources, R> {
+    type Output = Result<(), Error>;
+
+    ghost can_check = { λ v op. MayVisit (R.context v.resources.now) (stacks_of v.inner.now) };
+
+    ghost checks = { λ v op answer w. (w.inner.ghost_name ≡ v.inner.ghost_name) × (w.offset ≡ v.offset)
+        × (w.resources ≡ v.resources)
+        × Meets (R.context v.resources.now) (λ cx. operator cx op) v.offset (state v.inner.now) answer
+        (state w.inner.now)
+        × TakesNoMemory (R.context v.resources.now) op (state v.inner.now) answer };
+
+    #[inline(always)]
+    fn check_control(&mut self, op: ControlOp<'a>) -> Result<(), Error> {
+        self.check(Op::Control(op))
+    }
+
+    #[inline(always)]
+    fn check_numeric(&mut self, op: NumericOp) -> Result<(), Error> {
+        self.check(Op::Numeric(op))
+    }
+
+    #[inline(always)]
+    fn check_convert(&mut self, op: ConvertOp) -> Result<(), Error> {
+        self.check(Op::Convert(op))
+    }
+
+    #[inline(always)]
+    fn check_memory(&mut self, op: MemoryOp) -> Result<(), Error> {
+        self.check(Op::Memory(op))
+    }
+
+    #[inline(always)]
+    fn check_atomic(&mut self, op: AtomicOp) -> Result<(), Error> {
+        self.check(Op::Atomic(op))
+    }
+
+    #[inline(always)]
+    fn check_reference(&mut self, op: ReferenceOp) -> Result<(), Error> {
+        self.check(Op::Reference(op))
+    }
+
+    #[inline(always)]
+    fn check_table(&mut self, op: TableOp) -> Result<(), Error> {
+        self.check(Op::Table(op))
+    }
+
+    #[inline(always)]
+    fn check_struct(&mut self, op: StructOp) -> Result<(), Error> {
+        self.check(Op::Struct(op))
+    }
+
+    #[inline(always)]
+    fn check_array(&mut self, op: ArrayOp) -> Result<(), Error> {
+        self.check(Op::Array(op))
+    }
+
+    #[inline(always)]
+    fn check_shared(&mut self, op: SharedOp) -> Result<(), Error> {
+        self.check(Op::Shared(op))
+    }
+
+    #[inline(always)]
+    fn check_exception(&mut self, op: ExceptionOp<'a>) -> Result<(), Error> {
+        self.check(Op::Exception(op))
+    }
+
+    #[inline(always)]
+    fn check_continuation(&mut self, op: ContinuationOp<'a>) -> Result<(), Error> {
+        self.check(Op::Continuation(op))
+    }
+
+    #[inline(always)]
+    fn check_operator(&mut self, op: Op<'a>) -> Result<(), Error> {
+        self.check(op)
     }
 }

@@ -14,6 +14,7 @@ mod module_arity;
 mod numbers;
 mod numeric;
 mod op;
+mod operator_checks;
 mod order;
 mod resume;
 mod shared;
@@ -35,6 +36,7 @@ pub use crate::op::{
     ArrayOp, AtomicOp, BranchCast, ContinuationOp, ControlOp, ConvertOp, ExceptionOp, FieldIndex,
     MemoryOp, NumericOp, Op, ReferenceOp, StructOp, TableOp,
 };
+pub use crate::operator_checks::OperatorChecks;
 pub use crate::order::is_well_ordered;
 pub use crate::resume::{Handle, ResumeTable};
 pub use crate::shared::{FieldAccess, GlobalAccess, SharedOp, SharedRmwOp, TableAccess};

@@ -17,7 +17,8 @@ use validate_visit::{
     TableAccess, TableOp, TryTable,
 };
 
-/// Visits operators (wasmparser's `VisitOperator`): one call for each operator, with its immediates.
+/// Visits operators (wasmparser's `VisitOperator`): one call for each operator, with its immediates. Whatever
+/// checks operators by their groups has it (`OperatorChecks`), as the validator does.
 ///
 /// Its meaning is two relations that the implementation gives: `can_visit` says at which visitors an
 /// operator may be visited, and `visits` what the visit answers and leaves.

@@ -7,8 +7,8 @@ pub use validate_visit::{
     FloatBinaryOp, FloatComparisonOp, FloatType, FloatUnaryOp, Frame, FrameKind, FrameStack,
     GlobalAccess, Handle, Ieee32, Ieee64, IncompleteTable, IntegerBinaryOp, IntegerComparisonOp,
     IntegerType, IntegerUnaryOp, MemArg, MemArgTarget, MemoryOp, ModuleArity, NumberType,
-    NumericOp, Op, Ordering, PackedInteger, ReferenceOp, ResumeTable, SharedOp, SharedRmwOp, Sign,
-    StructOp, TableAccess, TableOp, TryTable, has_module_immediates, have_module_immediates,
-    is_well_ordered,
+    NumericOp, Op, OperatorChecks, Ordering, PackedInteger, ReferenceOp, ResumeTable, SharedOp,
+    SharedRmwOp, Sign, StructOp, TableAccess, TableOp, TryTable, has_module_immediates,
+    have_module_immediates, is_well_ordered,
 };
 pub use validate_visitor::VisitOperator;

@@ -3,7 +3,7 @@
 use crate::module::{Module, Place};
 use crate::segments::read_expression;
 use binary_operators::{
-    BinaryReader, CanonicalTypes, Fault, ReadError, read_ref_type, read_value_type,
+    BinaryReader, CanonicalTypes, Fault, ReadError, push, read_ref_type, read_value_type,
 };
 use std::alloc::Global;
 use validate_resources::FuncDecl;
@@ -18,15 +18,11 @@ struct Limits {
 
 /// Reads limits, of which the numbers aren't kept.
 fn read_limits(reader: &mut BinaryReader<'_>, most_flags: u8) -> Result<Limits, ReadError> {
-    let offset = reader.offset();
-    let flags = reader.read_u8()?;
-    if flags > most_flags {
-        return Err(ReadError::malformed(Fault::InvalidLimitsFlags, offset));
-    }
+    let flags = reader.read_code(most_flags, Fault::InvalidLimitsFlags)?;
     let is_64 = flags & 4 != 0;
-    read_size(reader, is_64)?;
+    let _least = read_size(reader, is_64)?;
     if flags & 1 != 0 {
-        read_size(reader, is_64)?;
+        let _most = read_size(reader, is_64)?;
     }
     if flags & 8 != 0 {
         let _page = reader.read_var_u32()?;
@@ -37,13 +33,11 @@ fn read_limits(reader: &mut BinaryReader<'_>, most_flags: u8) -> Result<Limits, 
     })
 }
 
-fn read_size(reader: &mut BinaryReader<'_>, is_64: bool) -> Result<(), ReadError> {
+fn read_size(reader: &mut BinaryReader<'_>, is_64: bool) -> Result<u64, ReadError> {
     if is_64 {
-        let _size = reader.read_var_u64()?;
-    } else {
-        let _size = reader.read_var_u32()?;
+        return reader.read_var_u64();
     }
-    Ok(())
+    Ok(u64::from(reader.read_var_u32()?))
 }
 
 /// Reads the type of a function, a reference to which may be exact.
@@ -54,12 +48,12 @@ pub fn declare_function(
 ) -> Result<(), ReadError> {
     let index = reader.read_var_u32()?;
     let type_index = CanonicalTypes::new(&module.canonical).of(index);
-    module.declarations.functions.push(FuncDecl {
+    let function = FuncDecl {
         type_index,
         referenced: false,
         exact,
-    })?;
-    Ok(())
+    };
+    push(&mut module.declarations.functions, function)
 }
 
 /// Reads the type of a table, and what its elements are at first where that stands behind it.
@@ -75,12 +69,12 @@ fn declare_table(
         let place = Place::Table(module.declarations.tables.len());
         read_expression(alloc, reader, module, place, ValType::Ref(element_type))?;
     }
-    module.declarations.tables.push(TableType {
+    let table = TableType {
         element_type,
         table64: limits.is_64,
         shared: limits.shared,
-    })?;
-    Ok(())
+    };
+    push(&mut module.declarations.tables, table)
 }
 
 /// Reads a table of the module's own.
@@ -90,9 +84,8 @@ pub fn read_table(
     module: &mut Module,
 ) -> Result<(), ReadError> {
     let is_initialized = reader.reads(0x40)?;
-    let offset = reader.offset();
-    if is_initialized && reader.read_u8()? != 0 {
-        return Err(ReadError::malformed(Fault::InvalidTableEncoding, offset));
+    if is_initialized {
+        let _zero = reader.read_code(0, Fault::InvalidTableEncoding)?;
     }
     declare_table(alloc, reader, module, is_initialized)
 }
@@ -100,11 +93,11 @@ pub fn read_table(
 /// Reads the type of a memory.
 pub fn declare_memory(reader: &mut BinaryReader<'_>, module: &mut Module) -> Result<(), ReadError> {
     let limits = read_limits(reader, 15)?;
-    module.declarations.memories.push(MemoryType {
+    let memory = MemoryType {
         memory64: limits.is_64,
         shared: limits.shared,
-    })?;
-    Ok(())
+    };
+    push(&mut module.declarations.memories, memory)
 }
 
 /// Reads the type of a global, and its first value where that stands behind it.
@@ -115,33 +108,25 @@ pub fn declare_global(
     is_initialized: bool,
 ) -> Result<(), ReadError> {
     let content_type = read_value_type(reader, CanonicalTypes::new(&module.canonical))?;
-    let offset = reader.offset();
-    let flags = reader.read_u8()?;
-    if flags > 3 {
-        return Err(ReadError::malformed(Fault::MalformedMutability, offset));
-    }
+    let flags = reader.read_code(3, Fault::MalformedMutability)?;
     if is_initialized {
         let place = Place::Global(module.declarations.globals.len());
         read_expression(alloc, reader, module, place, content_type)?;
     }
-    module.declarations.globals.push(GlobalType {
+    let global = GlobalType {
         content_type,
         mutable: flags & 1 != 0,
         shared: flags & 2 != 0,
-    })?;
-    Ok(())
+    };
+    push(&mut module.declarations.globals, global)
 }
 
 /// Reads the type of a tag.
 pub fn declare_tag(reader: &mut BinaryReader<'_>, module: &mut Module) -> Result<(), ReadError> {
-    let offset = reader.offset();
-    if reader.read_u8()? != 0 {
-        return Err(ReadError::malformed(Fault::InvalidTagAttributes, offset));
-    }
+    let _exception = reader.read_code(0, Fault::InvalidTagAttributes)?;
     let index = reader.read_var_u32()?;
     let index = CanonicalTypes::new(&module.canonical).of(index);
-    module.declarations.tags.push(index)?;
-    Ok(())
+    push(&mut module.declarations.tags, index)
 }
 
 /// Reads an import.

@@ -51,15 +51,12 @@ impl Groups {
         if first > self.rolled.len() {
             return Err(ReadError::malformed(Fault::TypeIndexTooLarge, offset));
         }
-        let words = words_of(alloc, &self.rolled[first..])?;
-        if words.is_unknown {
-            return Err(ReadError::malformed(Fault::UnknownType, offset));
-        }
-        let candidate = self.known.get(&words.words).copied();
+        let words = words_of(alloc, &self.rolled[first..], offset)?;
+        let candidate = self.known.get(&words).copied();
         if let Some(equal) = standing_group(candidate, &self.rolled, first) {
             return Ok(equal);
         }
-        let _none = self.known.insert(words.words, group)?;
+        let _none = self.known.insert(words, group)?;
         Ok(group)
     }
 }

@@ -1,6 +1,6 @@
 //! What a module has, as far as bodies and constant expressions need it.
 
-use binary_operators::{ByteRange, ReadError};
+use binary_operators::{ByteRange, ReadError, push};
 use std::alloc::Global;
 use validate_resources::ModuleDeclarations;
 use validate_types::ValType;
@@ -80,13 +80,13 @@ impl Module {
         range: ByteRange,
     ) -> Result<(), ReadError> {
         let globals = self.declarations.globals.len();
-        self.expressions.push(ConstantExpression {
+        let expression = ConstantExpression {
             place,
             ty,
             range,
             globals,
-        })?;
-        Ok(())
+        };
+        push(&mut self.expressions, expression)
     }
 
     /// Marks the functions that `ref.func` may name.

@@ -42,8 +42,7 @@ impl<'a> FunctionNames<'a> {
                 return Ok(());
             }
             let id = reader.read_u8()?;
-            let size = reader.read_var_u32()?;
-            let mut part = reader.part(size as usize)?;
+            let mut part = reader.sized_part()?;
             if id == 1 {
                 self.read(&mut part)?;
             }

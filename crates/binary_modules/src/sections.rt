@@ -6,30 +6,23 @@ use crate::declarations::{
 use crate::groups::read_types;
 use crate::module::Module;
 use crate::segments::{read_data, read_element};
-use binary_operators::{BinaryReader, ByteRange, Fault, ReadError};
+use binary_operators::{BinaryReader, ByteRange, Fault, ReadError, push};
 use std::alloc::Global;
 
 fn read_export(reader: &mut BinaryReader<'_>, module: &mut Module) -> Result<(), ReadError> {
     let _name = reader.read_name()?;
-    let offset = reader.offset();
-    let kind = reader.read_u8()?;
+    let kind = reader.read_code(4, Fault::InvalidExternalKind)?;
     let index = reader.read_var_u32()?;
-    if kind > 4 {
-        return Err(ReadError::malformed(Fault::InvalidExternalKind, offset));
-    }
     if kind == 0 {
-        module.referenced.push(index)?;
+        return push(&mut module.referenced, index);
     }
     Ok(())
 }
 
 fn read_body(reader: &mut BinaryReader<'_>, module: &mut Module) -> Result<(), ReadError> {
-    let size = reader.read_var_u32()?;
-    let start = reader.position();
-    let _bytes = reader.read_bytes(size as usize)?;
+    let start = reader.sized_part()?.position();
     let end = reader.position();
-    module.bodies.push(ByteRange { start, end })?;
-    Ok(())
+    push(&mut module.bodies, ByteRange { start, end })
 }
 
 /// Reads an item of the list that the section with this id is.
@@ -56,12 +49,30 @@ fn read_item(
 /// Where a section stands among the others, by its id; a custom section has no place.
 static PLACES: [u8; 14] = [0, 1, 2, 3, 4, 5, 7, 8, 9, 10, 12, 13, 11, 6];
 
+/// The place of the section with this id, which stands at the offset behind one with this place; behind a custom section
+/// it is the same. It refuses an id that is none, and a section out of order.
+fn place_behind(last: u8, id: u8, offset: u64) -> Result<u8, ReadError> {
+    if id == 0 {
+        return Ok(last);
+    }
+    match PLACES.get(usize::from(id)).copied() {
+        None => Err(ReadError::malformed(Fault::MalformedSectionId, offset)),
+        Some(place) if place <= last => {
+            Err(ReadError::malformed(Fault::SectionOutOfOrder, offset))
+        }
+        Some(place) => Ok(place),
+    }
+}
+
 fn read_section(
     alloc: Global,
     id: u8,
     reader: &mut BinaryReader<'_>,
     module: &mut Module,
 ) -> Result<(), ReadError> {
+    if id == 0 {
+        return read_custom(reader, module);
+    }
     if id == 1 {
         return read_types(alloc, reader, module);
     }
@@ -91,14 +102,19 @@ fn read_custom(reader: &mut BinaryReader<'_>, module: &mut Module) -> Result<(),
     Ok(())
 }
 
+/// Reads these bytes, and refuses others for this fault.
+fn read_bytes(reader: &mut BinaryReader<'_>, bytes: &[u8], fault: Fault) -> Result<(), ReadError> {
+    let offset = reader.offset();
+    if reader.read_bytes(bytes.len())? == bytes {
+        Ok(())
+    } else {
+        Err(ReadError::malformed(fault, offset))
+    }
+}
+
 fn read_header(reader: &mut BinaryReader<'_>) -> Result<(), ReadError> {
-    if reader.read_bytes(4)? != b"\0asm".as_slice() {
-        return Err(ReadError::malformed(Fault::NoMagicHeader, 0));
-    }
-    if reader.read_bytes(4)? != [1u8, 0, 0, 0].as_slice() {
-        return Err(ReadError::malformed(Fault::UnknownVersion, 4));
-    }
-    Ok(())
+    read_bytes(reader, b"\0asm".as_slice(), Fault::NoMagicHeader)?;
+    read_bytes(reader, [1u8, 0, 0, 0].as_slice(), Fault::UnknownVersion)
 }
 
 /// Reads a section, of which the last had this place, and answers its own.
@@ -110,30 +126,18 @@ fn read_next(
 ) -> Result<u8, ReadError> {
     let offset = reader.offset();
     let id = reader.read_u8()?;
-    let size = reader.read_var_u32()?;
-    let mut part = reader.part(size as usize)?;
-    if id == 0 {
-        read_custom(&mut part, module)?;
-        return Ok(last);
-    }
-    let Some(place) = PLACES.get(usize::from(id)).copied() else {
-        return Err(ReadError::malformed(Fault::MalformedSectionId, offset));
-    };
-    if place <= last {
-        return Err(ReadError::malformed(Fault::SectionOutOfOrder, offset));
-    }
+    let mut part = reader.sized_part()?;
+    let place = place_behind(last, id, offset)?;
     read_section(alloc, id, &mut part, module)?;
-    if part.is_at_end() {
+    if id == 0 || part.is_at_end() {
         Ok(place)
     } else {
         Err(ReadError::malformed(Fault::SectionSizeMismatch, part.offset()))
     }
 }
 
-/// Reads a module, of which these are all the bytes. The operators of its bodies aren't read, and neither
-/// are its limits, names, exports and data kept.
-pub fn read_module(alloc: Global, bytes: &[u8]) -> Result<Module, ReadError> {
-    let mut module = Module::new(alloc);
+/// Reads the header and each section.
+fn read_sections(alloc: Global, bytes: &[u8], module: &mut Module) -> Result<(), ReadError> {
     let mut reader = BinaryReader::new(bytes);
     read_header(&mut reader)?;
     let mut last = 0;
@@ -141,9 +145,16 @@ pub fn read_module(alloc: Global, bytes: &[u8]) -> Result<Module, ReadError> {
         if reader.is_at_end() {
             break;
         }
-        last = read_next(alloc, &mut reader, &mut module, last)?;
+        last = read_next(alloc, &mut reader, module, last)?;
     }
-    check_counts(&module, reader.offset())?;
+    check_counts(module, reader.offset())
+}
+
+/// Reads a module, of which these are all the bytes. The operators of its bodies aren't read, and neither
+/// are its limits, names, exports and data kept.
+pub fn read_module(alloc: Global, bytes: &[u8]) -> Result<Module, ReadError> {
+    let mut module = Module::new(alloc);
+    read_sections(alloc, bytes, &mut module)?;
     module.mark_referenced();
     Ok(module)
 }

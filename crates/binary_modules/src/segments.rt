@@ -2,7 +2,7 @@
 
 use crate::module::{ConstantExpression, Module, Place};
 use binary_operators::{
-    BinaryReader, ByteRange, CanonicalTypes, Fault, OperatorLists, ReadError, read_operator,
+    BinaryReader, ByteRange, CanonicalTypes, Fault, OperatorLists, ReadError, push, read_operator,
     read_ref_type,
 };
 use std::alloc::Global;
@@ -50,7 +50,7 @@ fn skip_operator(
     }
     let op = read_operator(reader, canonical, lists, 0)?;
     if let Op::Reference(ReferenceOp::RefFunc(index)) = op {
-        referenced.push(index)?;
+        push(referenced, index)?;
     }
     Ok(depth_after(depth, op))
 }
@@ -92,30 +92,20 @@ pub fn read_expression(
     }
 }
 
-/// Reads the index of what an active segment goes into, where it stands there.
-fn read_target(reader: &mut BinaryReader<'_>, is_there: bool) -> Result<usize, ReadError> {
-    if !is_there {
-        return Ok(0);
-    }
-    let index = reader.read_var_u32()?;
-    Ok(index as usize)
-}
-
 /// Reads the type of the items of an element segment with these flags, and what tells it from others.
 fn read_item_type(
     reader: &mut BinaryReader<'_>,
     module: &Module,
     flags: u32,
 ) -> Result<RefType, ReadError> {
-    let offset = reader.offset();
     if flags > 4 {
         return read_ref_type(reader, CanonicalTypes::new(&module.canonical));
     }
     if flags == 4 {
         return Ok(RefType::FUNCREF);
     }
-    if flags != 0 && reader.read_u8()? != 0 {
-        return Err(ReadError::malformed(Fault::InvalidElementKind, offset));
+    if flags != 0 {
+        let _function = reader.read_code(0, Fault::InvalidElementKind)?;
     }
     Ok(RefType::FUNCREF.as_non_null())
 }
@@ -134,8 +124,7 @@ fn read_items(
         if are_expressions {
             read_expression(alloc, reader, module, place, ValType::Ref(ty))?;
         } else {
-            let index = reader.read_var_u32()?;
-            module.referenced.push(index)?;
+            push(&mut module.referenced, reader.read_var_u32()?)?;
         }
     }
     Ok(())
@@ -153,8 +142,12 @@ pub fn read_element(
         return Err(ReadError::malformed(Fault::InvalidSegmentFlags, offset));
     }
     if flags % 2 == 0 {
-        let table = read_target(reader, flags % 4 == 2)?;
-        let ty = match module.declarations.tables.get(table) {
+        let table = if flags == 2 || flags == 6 {
+            reader.read_var_u32()?
+        } else {
+            0
+        };
+        let ty = match module.declarations.tables.get(table as usize) {
             Some(ty) => ty.index_type(),
             None => ValType::I32,
         };
@@ -163,8 +156,7 @@ pub fn read_element(
     }
     let ty = read_item_type(reader, module, flags)?;
     read_items(alloc, reader, module, flags >= 4, ty)?;
-    module.declarations.elements.push(ty)?;
-    Ok(())
+    push(&mut module.declarations.elements, ty)
 }
 
 /// Reads a data segment.
@@ -179,8 +171,12 @@ pub fn read_data(
         return Err(ReadError::malformed(Fault::InvalidSegmentFlags, offset));
     }
     if flags != 1 {
-        let memory = read_target(reader, flags == 2)?;
-        let ty = match module.declarations.memories.get(memory) {
+        let memory = if flags == 2 {
+            reader.read_var_u32()?
+        } else {
+            0
+        };
+        let ty = match module.declarations.memories.get(memory as usize) {
             Some(ty) => ty.index_type(),
             None => ValType::I32,
         };
@@ -192,8 +188,7 @@ pub fn read_data(
             ty,
         )?;
     }
-    let size = reader.read_var_u32()?;
-    let _bytes = reader.read_bytes(size as usize)?;
+    let _bytes = reader.sized_part()?;
     module.data_segments = module.data_segments.saturating_add(1);
     Ok(())
 }

@@ -27,14 +27,13 @@ fn read_storage_type(
     reader: &mut BinaryReader<'_>,
     canonical: CanonicalTypes<'_>,
 ) -> Result<StorageType, ReadError> {
-    if reader.reads(0x78)? {
-        return Ok(StorageType::I8);
-    }
-    if reader.reads(0x77)? {
-        return Ok(StorageType::I16);
-    }
-    let ty = read_value_type(reader, canonical)?;
-    Ok(StorageType::Val(ty))
+    let packed = match reader.peek()? {
+        0x78 => StorageType::I8,
+        0x77 => StorageType::I16,
+        _ => return Ok(StorageType::Val(read_value_type(reader, canonical)?)),
+    };
+    reader.skip();
+    Ok(packed)
 }
 
 fn read_field(
@@ -42,14 +41,10 @@ fn read_field(
     canonical: CanonicalTypes<'_>,
 ) -> Result<FieldType, ReadError> {
     let element_type = read_storage_type(reader, canonical)?;
-    let offset = reader.offset();
-    let code = reader.read_u8()?;
-    if code > 1 {
-        return Err(ReadError::malformed(Fault::MalformedMutability, offset));
-    }
+    let flags = reader.read_code(1, Fault::MalformedMutability)?;
     Ok(FieldType {
         element_type,
-        mutable: code == 1,
+        mutable: flags == 1,
     })
 }
 
@@ -57,25 +52,25 @@ fn read_func_type(
     alloc: Global,
     reader: &mut BinaryReader<'_>,
     canonical: CanonicalTypes<'_>,
-) -> Result<FuncType, ReadError> {
+) -> Result<CompositeInnerType, ReadError> {
     let mut params = Vec::new(alloc);
     read_value_types(reader, canonical, &mut params)?;
     let mut results = Vec::new(alloc);
     read_value_types(reader, canonical, &mut results)?;
-    Ok(FuncType::new(params, results))
+    Ok(CompositeInnerType::Func(FuncType::new(params, results)))
 }
 
 fn read_struct_type(
     alloc: Global,
     reader: &mut BinaryReader<'_>,
     canonical: CanonicalTypes<'_>,
-) -> Result<StructType, ReadError> {
+) -> Result<CompositeInnerType, ReadError> {
     let count = reader.read_var_u32()?;
     let mut fields = Vec::new(alloc);
     for _ in 0..count {
         fields.push(read_field(reader, canonical)?)?;
     }
-    Ok(StructType { fields })
+    Ok(CompositeInnerType::Struct(StructType { fields }))
 }
 
 /// The type behind what it declares of supertypes, sharedness and descriptors: of a function, a struct, an array or a
@@ -87,14 +82,8 @@ fn read_composite_inner_type(
 ) -> Result<CompositeInnerType, ReadError> {
     let offset = reader.offset();
     match reader.read_u8()? {
-        0x60 => {
-            let ty = read_func_type(alloc, reader, canonical)?;
-            Ok(CompositeInnerType::Func(ty))
-        }
-        0x5f => {
-            let ty = read_struct_type(alloc, reader, canonical)?;
-            Ok(CompositeInnerType::Struct(ty))
-        }
+        0x60 => read_func_type(alloc, reader, canonical),
+        0x5f => read_struct_type(alloc, reader, canonical),
         0x5e => {
             let field = read_field(reader, canonical)?;
             Ok(CompositeInnerType::Array(ArrayType(field)))
@@ -166,7 +155,7 @@ pub fn read_sub_type(
 ) -> Result<SubType, ReadError> {
     let code = reader.peek()?;
     let supertype_idx = if code == 0x50 || code == 0x4f {
-        let _code = reader.read_u8()?;
+        reader.skip();
         read_supertype(reader, canonical)?
     } else {
         None

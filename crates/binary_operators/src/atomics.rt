@@ -1,15 +1,14 @@
 //! Atomic operators, behind the prefix 0xfe.
 
-ghost use Rattle.std.specs.Prelude.{◌≤◌};
+ghost use Rattle.std.specs.Prelude.{◌≤◌, ◌<◌};
 
-use crate::control::found;
 use crate::error::{Fault, ReadError};
 use crate::memory::read_memarg;
 use crate::reader::BinaryReader;
 use crate::types::CanonicalTypes;
 use validate_visit::{
     AtomicAccess, AtomicOp, AtomicRmwOp, FieldAccess, FieldIndex, GlobalAccess, IntegerType,
-    MemArg, Op, Ordering, PackedInteger, SharedOp, SharedRmwOp, Sign, TableAccess,
+    MemArg, Ordering, PackedInteger, SharedOp, SharedRmwOp, Sign, TableAccess,
 };
 
 /// What is accessed in a memory, by the order of the codes, and its natural alignment.
@@ -59,112 +58,102 @@ static OF_FIELD: [FieldAccess; 11] = [
     FieldAccess::Whole(GlobalAccess::Value(TableAccess::Cmpxchg)),
 ];
 
-/// The operator that accesses this in the way of the number.
-fn accessing(way: u32, access: AtomicAccess, memarg: MemArg) -> AtomicOp {
-    match way {
-        0 => AtomicOp::AtomicLoad(access, memarg),
-        1 => AtomicOp::AtomicStore(access, memarg),
-        2 => AtomicOp::AtomicRmw(access, AtomicRmwOp::Add, memarg),
-        3 => AtomicOp::AtomicRmw(access, AtomicRmwOp::Sub, memarg),
-        4 => AtomicOp::AtomicRmw(access, AtomicRmwOp::And, memarg),
-        5 => AtomicOp::AtomicRmw(access, AtomicRmwOp::Or, memarg),
-        6 => AtomicOp::AtomicRmw(access, AtomicRmwOp::Xor, memarg),
-        7 => AtomicOp::AtomicRmw(access, AtomicRmwOp::Xchg, memarg),
+/// What the operator of this code accesses in a memory, and its natural alignment.
+fn accessed(code: u32) -> (AtomicAccess, u8) {
+    ACCESSED[(code.saturating_sub(0xfe10) % 7) as usize]
+}
+
+/// The operator of this code that accesses a memory.
+fn accessing(code: u32, memarg: MemArg) -> AtomicOp {
+    let (access, _) = accessed(code);
+    match code {
+        0xfe00 => AtomicOp::AtomicNotify(memarg),
+        0xfe01 => AtomicOp::AtomicWait(IntegerType::I32, memarg),
+        0xfe02 => AtomicOp::AtomicWait(IntegerType::I64, memarg),
+        0xfe10..=0xfe16 => AtomicOp::AtomicLoad(access, memarg),
+        0xfe17..=0xfe1d => AtomicOp::AtomicStore(access, memarg),
+        0xfe1e..=0xfe24 => AtomicOp::AtomicRmw(access, AtomicRmwOp::Add, memarg),
+        0xfe25..=0xfe2b => AtomicOp::AtomicRmw(access, AtomicRmwOp::Sub, memarg),
+        0xfe2c..=0xfe32 => AtomicOp::AtomicRmw(access, AtomicRmwOp::And, memarg),
+        0xfe33..=0xfe39 => AtomicOp::AtomicRmw(access, AtomicRmwOp::Or, memarg),
+        0xfe3a..=0xfe40 => AtomicOp::AtomicRmw(access, AtomicRmwOp::Xor, memarg),
+        0xfe41..=0xfe47 => AtomicOp::AtomicRmw(access, AtomicRmwOp::Xchg, memarg),
         _ => AtomicOp::AtomicCmpxchg(access, memarg),
     }
 }
 
-fn read_memory(reader: &mut BinaryReader<'_>, number: u32) -> Result<AtomicOp, ReadError> {
-    if number >= 0x10 {
-        let place = number - 0x10;
-        let (access, natural) = ACCESSED[(place % 7) as usize];
-        let memarg = read_memarg(reader, natural)?;
-        return Ok(accessing(place / 7, access, memarg));
-    }
-    let natural = if number == 2 { 3 } else { 2 };
-    let memarg = read_memarg(reader, natural)?;
-    match number {
-        0 => Ok(AtomicOp::AtomicNotify(memarg)),
-        1 => Ok(AtomicOp::AtomicWait(IntegerType::I32, memarg)),
-        _ => Ok(AtomicOp::AtomicWait(IntegerType::I64, memarg)),
-    }
+/// Reads the immediates of an operator of this code that accesses a memory, of a fence or of a pause.
+pub fn read_atomic(reader: &mut BinaryReader<'_>, code: u32) -> Result<AtomicOp, ReadError> {
+    let natural = match code {
+        0xfe00 | 0xfe01 => 2,
+        0xfe02 => 3,
+        0xfe03 => return Ok(AtomicOp::AtomicFence(read_ordering(reader)?)),
+        0xfe04 => return Ok(AtomicOp::Pause),
+        _ => accessed(code).1,
+    };
+    Ok(accessing(code, read_memarg(reader, natural)?))
 }
 
 fn read_ordering(reader: &mut BinaryReader<'_>) -> Result<Ordering, ReadError> {
-    let offset = reader.offset();
-    match reader.read_u8()? {
+    match reader.read_code(1, Fault::InvalidAtomicOrdering)? {
         0 => Ok(Ordering::SeqCst),
-        1 => Ok(Ordering::AcqRel),
-        _ => Err(ReadError::malformed(Fault::InvalidAtomicOrdering, offset)),
+        _ => Ok(Ordering::AcqRel),
     }
 }
 
-/// Reads an operator, whose prefix stands at the offset and is read.
-pub fn read_atomic(
-    reader: &mut BinaryReader<'_>,
-    canonical: CanonicalTypes<'_>,
-    offset: u64,
-) -> Result<Op<'static>, ReadError> {
-    let number = reader.read_var_u32()?;
-    if number == 3 {
-        let ordering = read_ordering(reader)?;
-        return Ok(Op::Atomic(AtomicOp::AtomicFence(ordering)));
-    }
-    if number == 4 {
-        return Ok(Op::Atomic(AtomicOp::Pause));
-    }
-    if number < 3 || (0x10 <= number && number <= 0x4e) {
-        let op = read_memory(reader, number)?;
-        return Ok(Op::Atomic(op));
-    }
-    if 0x4f <= number && number <= 0x71 {
-        let op = read_shared(reader, canonical, number)?;
-        return Ok(Op::Shared(op));
-    }
-    if number == 0x72 {
-        return Ok(Op::Shared(SharedOp::RefI31Shared));
-    }
-    found(None, offset)
-}
-
-fn read_shared(
-    reader: &mut BinaryReader<'_>,
-    canonical: CanonicalTypes<'_>,
-    number: u32,
-) -> Result<SharedOp, ReadError>
-    requires from { 79 ≤ number }
-    requires to { number ≤ 113 }
+/// The operator of this code that accesses what is shared: a global, a table, a field or an array.
+fn sharing(code: u32, ordering: Ordering, index: u32, field: FieldIndex) -> SharedOp
+    requires from { 0xfe4f ≤ code }
+    requires to { code < 0xfe72 }
 {
-    let ordering = read_ordering(reader)?;
-    let index = reader.read_var_u32()?;
-    if number < 0x58 {
-        return Ok(SharedOp::Global {
-            access: OF_GLOBAL[(number - 0x4f) as usize],
+    if code < 0xfe58 {
+        return SharedOp::Global {
+            access: OF_GLOBAL[(code - 0xfe4f) as usize],
             ordering,
             global_index: index,
-        });
+        };
     }
-    if number < 0x5c {
-        return Ok(SharedOp::Table {
-            access: OF_TABLE[(number - 0x58) as usize],
+    if code < 0xfe5c {
+        return SharedOp::Table {
+            access: OF_TABLE[(code - 0xfe58) as usize],
             ordering,
             table_index: index,
-        });
+        };
     }
-    if number < 0x67 {
-        let field_index = reader.read_var_u32()?;
-        return Ok(SharedOp::Struct {
-            access: OF_FIELD[(number - 0x5c) as usize],
+    if code < 0xfe67 {
+        return SharedOp::Struct {
+            access: OF_FIELD[(code - 0xfe5c) as usize],
             ordering,
-            field: FieldIndex {
-                struct_type_index: canonical.of(index),
-                field_index,
-            },
-        });
+            field,
+        };
     }
-    Ok(SharedOp::Array {
-        access: OF_FIELD[(number - 0x67) as usize],
+    SharedOp::Array {
+        access: OF_FIELD[(code - 0xfe67) as usize],
         ordering,
-        type_index: canonical.of(index),
-    })
+        type_index: field.struct_type_index,
+    }
+}
+
+/// Reads the immediates of an operator of this code that accesses what is shared, or makes such a reference.
+pub fn read_shared(
+    reader: &mut BinaryReader<'_>,
+    canonical: CanonicalTypes<'_>,
+    code: u32,
+) -> Result<SharedOp, ReadError>
+    requires from { 0xfe4f ≤ code }
+    requires to { code ≤ 0xfe72 }
+{
+    if code == 0xfe72 {
+        return Ok(SharedOp::RefI31Shared);
+    }
+    let ordering = read_ordering(reader)?;
+    let index = reader.read_var_u32()?;
+    let mut field = FieldIndex {
+        struct_type_index: canonical.of(index),
+        field_index: 0,
+    };
+    if 0xfe5c <= code && code < 0xfe67 {
+        field.field_index = reader.read_var_u32()?;
+    }
+    Ok(sharing(code, ordering, index, field))
 }

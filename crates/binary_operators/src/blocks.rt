@@ -1,4 +1,4 @@
-//! The types of blocks, and lists of immediates.
+//! The types of blocks, and the items of lists.
 
 use crate::error::{Fault, ReadError};
 use crate::reader::BinaryReader;
@@ -13,24 +13,13 @@ pub fn read_block_type(
 ) -> Result<BlockType, ReadError> {
     let code = reader.peek()?;
     if code == 0x40 {
-        let _code = reader.read_u8()?;
+        reader.skip();
         return Ok(BlockType::Empty);
     }
     if 0x41 <= code && code <= 0x7f {
-        let ty = read_value_type(reader, canonical)?;
-        return Ok(BlockType::Val(ty));
+        return Ok(BlockType::Val(read_value_type(reader, canonical)?));
     }
-    let index = read_type_number(reader)?;
-    Ok(BlockType::FuncType(canonical.of(index)))
-}
-
-/// Reads a list of labels, behind those that are there.
-pub fn read_labels(reader: &mut BinaryReader<'_>, labels: &mut Vec<u32>) -> Result<(), ReadError> {
-    let count = reader.read_var_u32()?;
-    for _ in 0..count {
-        labels.push(reader.read_var_u32()?)?;
-    }
-    Ok(())
+    Ok(BlockType::FuncType(canonical.of(read_type_number(reader)?)))
 }
 
 /// Reads a list of value types, behind those that are there.
@@ -39,19 +28,15 @@ pub fn read_value_types(
     canonical: CanonicalTypes<'_>,
     types: &mut Vec<ValType>,
 ) -> Result<(), ReadError> {
-    let count = reader.read_var_u32()?;
-    for _ in 0..count {
+    for _ in 0..reader.read_var_u32()? {
         types.push(read_value_type(reader, canonical)?)?;
     }
     Ok(())
 }
 
-fn read_catch(reader: &mut BinaryReader<'_>) -> Result<Catch, ReadError> {
-    let offset = reader.offset();
-    let code = reader.read_u8()?;
-    if code > 3 {
-        return Err(ReadError::malformed(Fault::InvalidCatch, offset));
-    }
+/// Reads a clause of a `try_table`.
+pub fn read_catch(reader: &mut BinaryReader<'_>) -> Result<Catch, ReadError> {
+    let code = reader.read_code(3, Fault::InvalidCatch)?;
     let tag = if code < 2 { reader.read_var_u32()? } else { 0 };
     let label = reader.read_var_u32()?;
     match code {
@@ -62,40 +47,15 @@ fn read_catch(reader: &mut BinaryReader<'_>) -> Result<Catch, ReadError> {
     }
 }
 
-/// Reads the clauses of a `try_table`, behind those that are there.
-pub fn read_catches(
-    reader: &mut BinaryReader<'_>,
-    catches: &mut Vec<Catch>,
-) -> Result<(), ReadError> {
-    let count = reader.read_var_u32()?;
-    for _ in 0..count {
-        catches.push(read_catch(reader)?)?;
-    }
-    Ok(())
-}
-
-fn read_handler(reader: &mut BinaryReader<'_>) -> Result<Handle, ReadError> {
-    let offset = reader.offset();
-    let code = reader.read_u8()?;
+/// Reads a handler of a `resume`.
+pub fn read_handler(reader: &mut BinaryReader<'_>) -> Result<Handle, ReadError> {
+    let code = reader.read_code(1, Fault::InvalidHandler)?;
     let tag = reader.read_var_u32()?;
-    match code {
-        0 => {
-            let label = reader.read_var_u32()?;
-            Ok(Handle::OnLabel { tag, label })
-        }
-        1 => Ok(Handle::OnSwitch { tag }),
-        _ => Err(ReadError::malformed(Fault::InvalidHandler, offset)),
+    if code == 1 {
+        return Ok(Handle::OnSwitch { tag });
     }
-}
-
-/// Reads the handlers of a `resume`, behind those that are there.
-pub fn read_handlers(
-    reader: &mut BinaryReader<'_>,
-    handlers: &mut Vec<Handle>,
-) -> Result<(), ReadError> {
-    let count = reader.read_var_u32()?;
-    for _ in 0..count {
-        handlers.push(read_handler(reader)?)?;
-    }
-    Ok(())
+    Ok(Handle::OnLabel {
+        tag,
+        label: reader.read_var_u32()?,
+    })
 }

@@ -10,16 +10,16 @@ use validate_types::{CompositeInnerType, FieldType, StorageType, SubType, ValTyp
 fn is_value(a: ValType, b: ValType) -> bool
     ensures { IsTrue result ↔ (a ≡ b) }
 {
-    match (a, b) {
-        (ValType::I32, ValType::I32)
-        | (ValType::I64, ValType::I64)
-        | (ValType::F32, ValType::F32)
-        | (ValType::F64, ValType::F64)
-        | (ValType::V128, ValType::V128) => true,
-        (ValType::Ref(a), ValType::Ref(b)) => {
-            a.nullable == b.nullable && a.heap_type == b.heap_type
-        }
-        _ => false,
+    match a {
+        ValType::I32 => matches!(b, ValType::I32),
+        ValType::I64 => matches!(b, ValType::I64),
+        ValType::F32 => matches!(b, ValType::F32),
+        ValType::F64 => matches!(b, ValType::F64),
+        ValType::V128 => matches!(b, ValType::V128),
+        ValType::Ref(a) => match b {
+            ValType::Ref(b) => a.nullable == b.nullable && a.heap_type == b.heap_type,
+            _ => false,
+        },
     }
 }
 

@@ -1,7 +1,7 @@
-//! Operators that have no immediates, or indices alone. A code behind a prefix has the prefix above it here, as 0xfb0f.
+//! Operators that have no immediates, or indices alone.
 
-use crate::control::found;
-use crate::error::ReadError;
+use crate::error::{Fault, ReadError};
+use crate::numeric::{SATURATING, WIDE};
 use crate::reader::BinaryReader;
 use crate::types::CanonicalTypes;
 use validate_visit::{
@@ -9,222 +9,251 @@ use validate_visit::{
     StructOp, TableOp,
 };
 
-/// The operator of this code, if it has no immediates.
-fn plain(code: u32) -> Option<Op<'static>> {
+/// The operator on control or variables of this code, whose immediates are these indices.
+#[inline(always)]
+pub fn control(code: u32, first: u32, second: u32) -> ControlOp<'static> {
     match code {
-        0x00 => Some(Op::Control(ControlOp::Unreachable)),
-        0x01 => Some(Op::Control(ControlOp::Nop)),
-        0x05 => Some(Op::Control(ControlOp::Else)),
-        0x0a => Some(Op::Exception(ExceptionOp::ThrowRef)),
-        0x0b => Some(Op::Control(ControlOp::End)),
-        0x0f => Some(Op::Control(ControlOp::Return)),
-        0x19 => Some(Op::Exception(ExceptionOp::CatchAll)),
-        0x1a => Some(Op::Control(ControlOp::Drop)),
-        0x1b => Some(Op::Control(ControlOp::Select)),
-        0xd1 => Some(Op::Reference(ReferenceOp::RefIsNull)),
-        0xd3 => Some(Op::Reference(ReferenceOp::RefEq)),
-        0xd4 => Some(Op::Reference(ReferenceOp::RefAsNonNull)),
-        0xfb0f => Some(Op::Array(ArrayOp::ArrayLen)),
-        0xfb1a => Some(Op::Reference(ReferenceOp::AnyConvertExtern)),
-        0xfb1b => Some(Op::Reference(ReferenceOp::ExternConvertAny)),
-        0xfb1c => Some(Op::Reference(ReferenceOp::RefI31)),
-        0xfb1d => Some(Op::Reference(ReferenceOp::I31Get(Sign::Signed))),
-        0xfb1e => Some(Op::Reference(ReferenceOp::I31Get(Sign::Unsigned))),
-        _ => None,
-    }
-}
-
-/// The operator of this code, if its only immediate is an index, which is this one.
-fn indexed(code: u32, index: u32) -> Option<Op<'static>> {
-    match code {
-        0x07 => Some(Op::Exception(ExceptionOp::Catch(index))),
-        0x08 => Some(Op::Exception(ExceptionOp::Throw(index))),
-        0x09 => Some(Op::Exception(ExceptionOp::Rethrow(index))),
-        0x0c => Some(Op::Control(ControlOp::Br(index))),
-        0x0d => Some(Op::Control(ControlOp::BrIf(index))),
-        0x10 => Some(Op::Control(ControlOp::Call(index))),
-        0x12 => Some(Op::Control(ControlOp::ReturnCall(index))),
-        0x18 => Some(Op::Exception(ExceptionOp::Delegate(index))),
-        0x25 => Some(Op::Table(TableOp::TableGet(index))),
-        0x26 => Some(Op::Table(TableOp::TableSet(index))),
-        0x3f => Some(Op::Memory(MemoryOp::MemorySize(index))),
-        0x40 => Some(Op::Memory(MemoryOp::MemoryGrow(index))),
-        0xd2 => Some(Op::Reference(ReferenceOp::RefFunc(index))),
-        0xd5 => Some(Op::Reference(ReferenceOp::BrOnNull(index))),
-        0xd6 => Some(Op::Reference(ReferenceOp::BrOnNonNull(index))),
-        0xe2 => Some(Op::Continuation(ContinuationOp::Suspend(index))),
-        0xfc09 => Some(Op::Memory(MemoryOp::DataDrop(index))),
-        0xfc0b => Some(Op::Memory(MemoryOp::MemoryFill(index))),
-        0xfc0d => Some(Op::Table(TableOp::ElemDrop(index))),
-        0xfc0f => Some(Op::Table(TableOp::TableGrow(index))),
-        0xfc10 => Some(Op::Table(TableOp::TableSize(index))),
-        0xfc11 => Some(Op::Table(TableOp::TableFill(index))),
-        0xfc12 => Some(Op::Memory(MemoryOp::MemoryDiscard(index))),
-        _ => of_type(code, index),
-    }
-}
-
-/// The operator of this code, if its only immediate is the index of a type, which is this one.
-fn of_type(code: u32, index: u32) -> Option<Op<'static>> {
-    match code {
-        0x14 => Some(Op::Control(ControlOp::CallRef(index))),
-        0x15 => Some(Op::Control(ControlOp::ReturnCallRef(index))),
-        0xe0 => Some(Op::Continuation(ContinuationOp::ContNew(index))),
-        0xfb00 => Some(Op::Struct(StructOp::StructNew(index))),
-        0xfb01 => Some(Op::Struct(StructOp::StructNewDefault(index))),
-        0xfb06 => Some(Op::Array(ArrayOp::ArrayNew(index))),
-        0xfb07 => Some(Op::Array(ArrayOp::ArrayNewDefault(index))),
-        0xfb0b => Some(Op::Array(ArrayOp::ArrayGet(index))),
-        0xfb0c => Some(Op::Array(ArrayOp::ArrayGetPacked(Sign::Signed, index))),
-        0xfb0d => Some(Op::Array(ArrayOp::ArrayGetPacked(Sign::Unsigned, index))),
-        0xfb0e => Some(Op::Array(ArrayOp::ArraySet(index))),
-        0xfb10 => Some(Op::Array(ArrayOp::ArrayFill(index))),
-        0xfb20 => Some(Op::Struct(StructOp::StructNewDesc(index))),
-        0xfb21 => Some(Op::Struct(StructOp::StructNewDefaultDesc(index))),
-        0xfb22 => Some(Op::Reference(ReferenceOp::RefGetDesc(index))),
-        _ => None,
-    }
-}
-
-/// The operator of this code, if its immediates are two indices, which are these.
-fn twice_indexed(code: u32, first: u32, second: u32) -> Option<Op<'static>> {
-    match code {
-        0x11 => Some(Op::Control(ControlOp::CallIndirect {
+        0x00 => ControlOp::Unreachable,
+        0x01 => ControlOp::Nop,
+        0x05 => ControlOp::Else,
+        0x0b => ControlOp::End,
+        0x0c => ControlOp::Br(first),
+        0x0d => ControlOp::BrIf(first),
+        0x0f => ControlOp::Return,
+        0x10 => ControlOp::Call(first),
+        0x11 => ControlOp::CallIndirect {
             type_index: first,
             table_index: second,
-        })),
-        0x13 => Some(Op::Control(ControlOp::ReturnCallIndirect {
+        },
+        0x12 => ControlOp::ReturnCall(first),
+        0x13 => ControlOp::ReturnCallIndirect {
             type_index: first,
             table_index: second,
-        })),
-        0xe1 => Some(Op::Continuation(ContinuationOp::ContBind {
+        },
+        0x14 => ControlOp::CallRef(first),
+        0x15 => ControlOp::ReturnCallRef(first),
+        0x1a => ControlOp::Drop,
+        0x1b => ControlOp::Select,
+        0x20 => ControlOp::LocalGet(first),
+        0x21 => ControlOp::LocalSet(first),
+        0x22 => ControlOp::LocalTee(first),
+        0x23 => ControlOp::GlobalGet(first),
+        _ => ControlOp::GlobalSet(first),
+    }
+}
+
+fn exception(code: u32, index: u32) -> ExceptionOp<'static> {
+    match code {
+        0x07 => ExceptionOp::Catch(index),
+        0x08 => ExceptionOp::Throw(index),
+        0x09 => ExceptionOp::Rethrow(index),
+        0x0a => ExceptionOp::ThrowRef,
+        0x18 => ExceptionOp::Delegate(index),
+        _ => ExceptionOp::CatchAll,
+    }
+}
+
+fn continuation(code: u32, first: u32, second: u32) -> ContinuationOp<'static> {
+    match code {
+        0xe0 => ContinuationOp::ContNew(first),
+        0xe1 => ContinuationOp::ContBind {
             argument_index: first,
             result_index: second,
-        })),
-        0xe6 => Some(Op::Continuation(ContinuationOp::Switch {
+        },
+        0xe2 => ContinuationOp::Suspend(first),
+        _ => ContinuationOp::Switch {
             cont_type_index: first,
             tag_index: second,
-        })),
-        0xfc08 => Some(Op::Memory(MemoryOp::MemoryInit {
+        },
+    }
+}
+
+fn memory(code: u32, first: u32, second: u32) -> MemoryOp {
+    match code {
+        0x3f => MemoryOp::MemorySize(first),
+        0x40 => MemoryOp::MemoryGrow(first),
+        0xfc08 => MemoryOp::MemoryInit {
             data_index: first,
             mem: second,
-        })),
-        0xfc0a => Some(Op::Memory(MemoryOp::MemoryCopy {
+        },
+        0xfc09 => MemoryOp::DataDrop(first),
+        0xfc0a => MemoryOp::MemoryCopy {
             dst_mem: first,
             src_mem: second,
-        })),
-        0xfc0c => Some(Op::Table(TableOp::TableInit {
+        },
+        0xfc0b => MemoryOp::MemoryFill(first),
+        _ => MemoryOp::MemoryDiscard(first),
+    }
+}
+
+fn table(code: u32, first: u32, second: u32) -> TableOp {
+    match code {
+        0x25 => TableOp::TableGet(first),
+        0x26 => TableOp::TableSet(first),
+        0xfc0c => TableOp::TableInit {
             elem_index: first,
             table: second,
-        })),
-        0xfc0e => Some(Op::Table(TableOp::TableCopy {
+        },
+        0xfc0d => TableOp::ElemDrop(first),
+        0xfc0e => TableOp::TableCopy {
             dst_table: first,
             src_table: second,
-        })),
-        _ => of_collected(code, first, second),
+        },
+        0xfc0f => TableOp::TableGrow(first),
+        0xfc10 => TableOp::TableSize(first),
+        _ => TableOp::TableFill(first),
     }
 }
 
-/// The operator on structs or arrays of this code, if its immediates are the index of a type, which is this one, and
-/// another number.
-fn of_collected(code: u32, type_index: u32, other: u32) -> Option<Op<'static>> {
+fn reference(code: u32, index: u32) -> ReferenceOp {
+    match code {
+        0xd1 => ReferenceOp::RefIsNull,
+        0xd2 => ReferenceOp::RefFunc(index),
+        0xd3 => ReferenceOp::RefEq,
+        0xd4 => ReferenceOp::RefAsNonNull,
+        0xd5 => ReferenceOp::BrOnNull(index),
+        0xd6 => ReferenceOp::BrOnNonNull(index),
+        0xfb1a => ReferenceOp::AnyConvertExtern,
+        0xfb1b => ReferenceOp::ExternConvertAny,
+        0xfb1c => ReferenceOp::RefI31,
+        0xfb1d => ReferenceOp::I31Get(Sign::Signed),
+        0xfb1e => ReferenceOp::I31Get(Sign::Unsigned),
+        _ => ReferenceOp::RefGetDesc(index),
+    }
+}
+
+fn structure(code: u32, type_index: u32, field_index: u32) -> StructOp {
     let field = FieldIndex {
         struct_type_index: type_index,
-        field_index: other,
+        field_index,
     };
     match code {
-        0xfb02 => Some(Op::Struct(StructOp::StructGet(field))),
-        0xfb03 => Some(Op::Struct(StructOp::StructGetPacked(Sign::Signed, field))),
-        0xfb04 => Some(Op::Struct(StructOp::StructGetPacked(Sign::Unsigned, field))),
-        0xfb05 => Some(Op::Struct(StructOp::StructSet(field))),
-        0xfb08 => Some(Op::Array(ArrayOp::ArrayNewFixed {
-            array_type_index: type_index,
-            array_size: other,
-        })),
-        0xfb09 => Some(Op::Array(ArrayOp::ArrayNewData {
-            array_type_index: type_index,
-            array_data_index: other,
-        })),
-        0xfb0a => Some(Op::Array(ArrayOp::ArrayNewElem {
-            array_type_index: type_index,
-            array_elem_index: other,
-        })),
-        0xfb11 => Some(Op::Array(ArrayOp::ArrayCopy {
-            array_type_index_dst: type_index,
-            array_type_index_src: other,
-        })),
-        0xfb12 => Some(Op::Array(ArrayOp::ArrayInitData {
-            array_type_index: type_index,
-            array_data_index: other,
-        })),
-        0xfb13 => Some(Op::Array(ArrayOp::ArrayInitElem {
-            array_type_index: type_index,
-            array_elem_index: other,
-        })),
-        _ => None,
+        0xfb00 => StructOp::StructNew(type_index),
+        0xfb01 => StructOp::StructNewDefault(type_index),
+        0xfb02 => StructOp::StructGet(field),
+        0xfb03 => StructOp::StructGetPacked(Sign::Signed, field),
+        0xfb04 => StructOp::StructGetPacked(Sign::Unsigned, field),
+        0xfb05 => StructOp::StructSet(field),
+        0xfb20 => StructOp::StructNewDesc(type_index),
+        _ => StructOp::StructNewDefaultDesc(type_index),
     }
 }
 
-/// How the indices of an operator are to be read.
+fn array(code: u32, type_index: u32, other: u32) -> ArrayOp {
+    match code {
+        0xfb06 => ArrayOp::ArrayNew(type_index),
+        0xfb07 => ArrayOp::ArrayNewDefault(type_index),
+        0xfb08 => ArrayOp::ArrayNewFixed {
+            array_type_index: type_index,
+            array_size: other,
+        },
+        0xfb09 => ArrayOp::ArrayNewData {
+            array_type_index: type_index,
+            array_data_index: other,
+        },
+        0xfb0a => ArrayOp::ArrayNewElem {
+            array_type_index: type_index,
+            array_elem_index: other,
+        },
+        0xfb0b => ArrayOp::ArrayGet(type_index),
+        0xfb0c => ArrayOp::ArrayGetPacked(Sign::Signed, type_index),
+        0xfb0d => ArrayOp::ArrayGetPacked(Sign::Unsigned, type_index),
+        0xfb0e => ArrayOp::ArraySet(type_index),
+        0xfb0f => ArrayOp::ArrayLen,
+        0xfb10 => ArrayOp::ArrayFill(type_index),
+        0xfb11 => ArrayOp::ArrayCopy {
+            array_type_index_dst: type_index,
+            array_type_index_src: other,
+        },
+        0xfb12 => ArrayOp::ArrayInitData {
+            array_type_index: type_index,
+            array_data_index: other,
+        },
+        _ => ArrayOp::ArrayInitElem {
+            array_type_index: type_index,
+            array_elem_index: other,
+        },
+    }
+}
+
+/// The operator of this code, whose immediates are these indices, as many as it has.
+fn of_indices(code: u32, first: u32, second: u32) -> Op<'static> {
+    match code {
+        0x07..=0x0a | 0x18 | 0x19 => Op::Exception(exception(code, first)),
+        0x25 | 0x26 | 0xfc0c..=0xfc11 => Op::Table(table(code, first, second)),
+        0x3f | 0x40 | 0xfc08..=0xfc0b | 0xfc12 => Op::Memory(memory(code, first, second)),
+        0xd1..=0xd6 | 0xfb1a..=0xfb1e | 0xfb22 => Op::Reference(reference(code, first)),
+        0xe0..=0xe6 => Op::Continuation(continuation(code, first, second)),
+        0xfb00..=0xfb05 | 0xfb20 | 0xfb21 => Op::Struct(structure(code, first, second)),
+        0xfb06..=0xfb13 => Op::Array(array(code, first, second)),
+        0xfc00..=0xfc07 => Op::Convert(SATURATING[(code - 0xfc00) as usize]),
+        0xfc13..=0xfc16 => Op::Numeric(WIDE[(code - 0xfc13) as usize]),
+        _ => Op::Control(control(code, first, second)),
+    }
+}
+
+/// The indices that an operator has.
 #[derive(Clone, Copy)]
 struct Indices {
     /// How many there are.
     count: u8,
-    /// Whether the first is that of a type.
-    is_type: bool,
-    /// Whether the second is.
-    are_types: bool,
+    /// So many of them, from the first on, are those of types.
+    types: u8,
 }
 
-/// The indices of the operator of this code.
-fn indices_of(code: u32) -> Indices {
-    let (count, is_type) = match code {
-        0x07..=0x09 | 0x0c | 0x0d | 0x10 | 0x12 | 0x18 | 0x25 | 0x26 | 0x3f | 0x40 => (1, false),
-        0xd2 | 0xd5 | 0xd6 | 0xe2 => (1, false),
-        0xfc09 | 0xfc0b | 0xfc0d | 0xfc0f..=0xfc12 => (1, false),
-        0x14 | 0x15 | 0xe0 => (1, true),
-        0xfb00 | 0xfb01 | 0xfb06 | 0xfb07 | 0xfb0b..=0xfb0e | 0xfb10 | 0xfb20..=0xfb22 => (1, true),
-        0xfc08 | 0xfc0a | 0xfc0c | 0xfc0e => (2, false),
-        0x11 | 0x13 | 0xe1 | 0xe6 | 0xfb02..=0xfb05 | 0xfb08..=0xfb0a | 0xfb11..=0xfb13 => (
-            2, true,
-        ),
-        _ => (0, false),
+/// The indices of the operator of this code, or None where it is none's, or one's with other immediates.
+fn indices_of(code: u32) -> Option<Indices> {
+    let (count, types) = match code {
+        0x00 | 0x01 | 0x05 | 0x0a | 0x0b | 0x0f | 0x19..=0x1b => (0, 0),
+        0xd1 | 0xd3 | 0xd4 | 0xfb0f | 0xfb1a..=0xfb1e => (0, 0),
+        0xfc00..=0xfc07 | 0xfc13..=0xfc16 => (0, 0),
+        0x07..=0x09 | 0x0c | 0x0d | 0x10 | 0x12 | 0x18 | 0x25 | 0x26 | 0x3f | 0x40 => (1, 0),
+        0xd2 | 0xd5 | 0xd6 | 0xe2 => (1, 0),
+        0xfc09 | 0xfc0b | 0xfc0d | 0xfc0f..=0xfc12 => (1, 0),
+        0x14 | 0x15 | 0xe0 => (1, 1),
+        0xfb00 | 0xfb01 | 0xfb06 | 0xfb07 | 0xfb0b..=0xfb0e | 0xfb10 | 0xfb20..=0xfb22 => (1, 1),
+        0xfc08 | 0xfc0a | 0xfc0c | 0xfc0e => (2, 0),
+        0x11 | 0x13 | 0xe6 | 0xfb02..=0xfb05 | 0xfb08..=0xfb0a | 0xfb12 | 0xfb13 => (2, 1),
+        0xe1 | 0xfb11 => (2, 2),
+        _ => return None,
     };
-    Indices {
-        count,
-        is_type,
-        are_types: code == 0xe1 || code == 0xfb11,
-    }
+    Some(Indices { count, types })
 }
 
-/// Reads an index, and answers that of the type that stands for its type, where it is a type's.
-fn read_index(
+/// Reads the indices of an operator, 0 for those that it hasn't: an index of a type is that of the one that stands for it.
+fn read_indices(
     reader: &mut BinaryReader<'_>,
     canonical: CanonicalTypes<'_>,
-    is_type: bool,
-) -> Result<u32, ReadError> {
-    let index = reader.read_var_u32()?;
-    if is_type {
-        return Ok(canonical.of(index));
+    indices: Indices,
+) -> Result<(u32, u32), ReadError> {
+    if indices.count == 0 {
+        return Ok((0, 0));
     }
-    Ok(index)
+    let mut first = reader.read_var_u32()?;
+    if indices.types > 0 {
+        first = canonical.of(first);
+    }
+    if indices.count == 1 {
+        return Ok((first, 0));
+    }
+    let mut second = reader.read_var_u32()?;
+    if indices.types > 1 {
+        second = canonical.of(second);
+    }
+    Ok((first, second))
 }
 
-/// Reads the operator of this code, which stands at the offset and has no immediates but indices.
+/// Reads the operator of this code, which stands at the offset and has no immediates but indices. It refuses a code that
+/// is no such operator's: `illegal opcode`.
 pub fn read_indexed(
     reader: &mut BinaryReader<'_>,
     canonical: CanonicalTypes<'_>,
     code: u32,
     offset: u64,
 ) -> Result<Op<'static>, ReadError> {
-    let indices = indices_of(code);
-    if indices.count == 0 {
-        return found(plain(code), offset);
-    }
-    let first = read_index(reader, canonical, indices.is_type)?;
-    if indices.count == 1 {
-        return found(indexed(code, first), offset);
-    }
-    let second = read_index(reader, canonical, indices.are_types)?;
-    found(twice_indexed(code, first, second), offset)
+    let Some(indices) = indices_of(code) else {
+        return Err(ReadError::malformed(Fault::IllegalOpcode, offset));
+    };
+    let (first, second) = read_indices(reader, canonical, indices)?;
+    Ok(of_indices(code, first, second))
 }

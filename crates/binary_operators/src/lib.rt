@@ -20,7 +20,7 @@ mod types;
 pub use crate::blocks::read_value_types;
 pub use crate::equal::are_groups_equal;
 pub use crate::error::{Cause, Fault, ReadError};
-pub use crate::lists::{OperatorLists, lend};
+pub use crate::lists::{OperatorLists, lend, push};
 pub use crate::operators::read_operator;
 pub use crate::reader::{BinaryReader, ByteRange};
 pub use crate::types::{

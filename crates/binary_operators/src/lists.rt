@@ -1,5 +1,9 @@
 //! The lists that operators lend: they are read beside the operators, and lent to them once all are read.
 
+use crate::blocks::{read_catch, read_handler};
+use crate::error::ReadError;
+use crate::reader::BinaryReader;
+use crate::types::{CanonicalTypes, read_value_type};
 use std::alloc::Global;
 use validate_types::ValType;
 use validate_visit::{
@@ -43,6 +47,76 @@ impl OperatorLists {
             spans: Vec::new(alloc),
         }
     }
+}
+
+/// Which of the lists.
+#[derive(Clone, Copy)]
+pub(crate) enum ListKind {
+    /// The targets of `br_table`s.
+    Labels,
+    /// The types of `select`s.
+    Types,
+    /// The clauses of `try_table`s.
+    Catches,
+    /// The handlers of `resume`s.
+    Handlers,
+}
+
+impl OperatorLists {
+    /// How long a list is.
+    fn length(&self, kind: ListKind) -> usize {
+        match kind {
+            ListKind::Labels => self.labels.len(),
+            ListKind::Types => self.types.len(),
+            ListKind::Catches => self.catches.len(),
+            ListKind::Handlers => self.handlers.len(),
+        }
+    }
+
+    /// The type behind so many, if it is the last.
+    pub(crate) fn only_type(&self, start: usize) -> Option<ValType> {
+        match self.types.get(start..) {
+            Some([ty]) => Some(*ty),
+            _ => None,
+        }
+    }
+}
+
+/// Adds an item to a list.
+pub fn push<T: Drop>(list: &mut Vec<T>, item: T) -> Result<(), ReadError> {
+    list.push(item)?;
+    Ok(())
+}
+
+/// Reads an item behind those of a list.
+fn read_item(
+    reader: &mut BinaryReader<'_>,
+    canonical: CanonicalTypes<'_>,
+    lists: &mut OperatorLists,
+    kind: ListKind,
+) -> Result<(), ReadError> {
+    match kind {
+        ListKind::Labels => push(&mut lists.labels, reader.read_var_u32()?),
+        ListKind::Types => push(&mut lists.types, read_value_type(reader, canonical)?),
+        ListKind::Catches => push(&mut lists.catches, read_catch(reader)?),
+        ListKind::Handlers => push(&mut lists.handlers, read_handler(reader)?),
+    }
+}
+
+/// Reads the list of the operator at this index, behind the items of a list.
+pub(crate) fn read_list(
+    reader: &mut BinaryReader<'_>,
+    canonical: CanonicalTypes<'_>,
+    lists: &mut OperatorLists,
+    kind: ListKind,
+    index: usize,
+) -> Result<(), ReadError> {
+    let start = lists.length(kind);
+    for _ in 0..reader.read_var_u32()? {
+        read_item(reader, canonical, lists, kind)?;
+    }
+    let end = lists.length(kind);
+    push(&mut lists.spans, Span { index, start, end })
 }
 
 /// The part of a list, or none of it where there is no such part.

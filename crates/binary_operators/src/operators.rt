@@ -1,12 +1,16 @@
-//! Operators (WebAssembly core specification, "Binary Format: Instructions").
+//! Operators (WebAssembly core specification, "Binary Format: Instructions"). A code behind a prefix has the prefix above
+//! it in this crate, as 0xfb0f.
 
-use crate::atomics::read_atomic;
-use crate::control::{found, read_control, read_variable};
-use crate::error::ReadError;
+use crate::atomics::{read_atomic, read_shared};
+use crate::blocks::read_block_type;
+use crate::control::{block, read_br_table, read_resume, read_select, read_try_table};
+use crate::error::{Fault, ReadError};
+use crate::indexed::{control, read_indexed};
 use crate::lists::OperatorLists;
 use crate::memory::read_access;
-use crate::numeric::NUMERIC;
+use crate::numeric::{CONVERSIONS, NUMERIC, read_constant};
 use crate::reader::BinaryReader;
+use crate::references::read_reference;
 use crate::types::CanonicalTypes;
 use validate_visit::Op;
 
@@ -21,28 +25,48 @@ pub fn read_operator(
 ) -> Result<Op<'static>, ReadError> {
     let offset = reader.offset();
     let code = reader.read_u8()?;
-    if 0x20 <= code && code <= 0x24 {
-        let op = read_variable(reader, code)?;
-        return Ok(Op::Control(op));
-    }
-    if 0x45 <= code && code <= 0xc4 {
-        return Ok(NUMERIC[(code - 0x45) as usize]);
-    }
-    if 0x28 <= code && code <= 0x3e {
-        let op = read_access(reader, code)?;
-        return Ok(Op::Memory(op));
-    }
     match code {
-        0xfb | 0xfc => {
+        0x20..=0x24 => {
+            let variable = reader.read_var_u32()?;
+            Ok(Op::Control(control(u32::from(code), variable, 0)))
+        }
+        0x28..=0x3e => Ok(Op::Memory(read_access(reader, code)?)),
+        0x45..=0xa6 => Ok(Op::Numeric(NUMERIC[(code - 0x45) as usize])),
+        0xa7..=0xc4 => Ok(Op::Convert(CONVERSIONS[(code - 0xa7) as usize])),
+        0xfb | 0xfc | 0xfe => {
             let number = reader.read_var_u32()?;
             if number > 0xff {
-                return found(None, offset);
+                return Err(ReadError::malformed(Fault::IllegalOpcode, offset));
             }
             let code = u32::from(code) * 0x100 + number;
-            read_control(reader, canonical, lists, index, code, offset)
+            read_coded(reader, canonical, lists, index, code, offset)
         }
         0xfd => Err(ReadError::vector_operator(offset)),
-        0xfe => read_atomic(reader, canonical, offset),
-        _ => read_control(reader, canonical, lists, index, u32::from(code), offset),
+        _ => read_coded(reader, canonical, lists, index, u32::from(code), offset),
+    }
+}
+
+/// Reads the immediates of an operator of this code, which stands at the offset, and at the index of its body.
+fn read_coded(
+    reader: &mut BinaryReader<'_>,
+    canonical: CanonicalTypes<'_>,
+    lists: &mut OperatorLists,
+    index: usize,
+    code: u32,
+    offset: u64,
+) -> Result<Op<'static>, ReadError> {
+    match code {
+        0x02 | 0x03 | 0x04 | 0x06 => Ok(block(code, read_block_type(reader, canonical)?)),
+        0x0e => read_br_table(reader, canonical, lists, index),
+        0x1c => read_select(reader, canonical, lists, index),
+        0x1f => read_try_table(reader, canonical, lists, index),
+        0x41..=0x44 => Ok(Op::Numeric(read_constant(reader, code)?)),
+        0xe3..=0xe5 => read_resume(reader, canonical, lists, index, code),
+        0xd0 | 0xfb14..=0xfb19 | 0xfb23..=0xfb26 => {
+            Ok(Op::Reference(read_reference(reader, canonical, code)?))
+        }
+        0xfe00..=0xfe04 | 0xfe10..=0xfe4e => Ok(Op::Atomic(read_atomic(reader, code)?)),
+        0xfe4f..=0xfe72 => Ok(Op::Shared(read_shared(reader, canonical, code)?)),
+        _ => read_indexed(reader, canonical, code, offset),
     }
 }

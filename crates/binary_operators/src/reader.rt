@@ -126,6 +126,23 @@ impl<'a> BinaryReader<'a> {
         }
     }
 
+    /// Passes over the next byte, if one is left.
+    pub fn skip(&mut self) {
+        let _byte = self.read_u8();
+    }
+
+    /// Reads a byte that is this one at most. It refuses where none is left, `unexpected end`, and a greater one for
+    /// this fault.
+    pub fn read_code(&mut self, most: u8, fault: Fault) -> Result<u8, ReadError>
+        ensures read { IfOk result (λ byte. self.old.left ≡ byte ∷ self.new.left) }
+        ensures kept { OnErr result (self.new ≡ self.old) }
+    {
+        if self.peek()? > most {
+            return Err(ReadError::malformed(fault, self.offset()));
+        }
+        self.read_u8()
+    }
+
     /// Reads the next byte if it is this one, and answers whether it is. It refuses where none is left:
     /// `unexpected end`.
     pub fn reads(&mut self, code: u8) -> Result<bool, ReadError>
@@ -229,10 +246,7 @@ impl<'a> BinaryReader<'a> {
         ensures refused { OnErr result (signed 64 self.old.left ≡ None) }
     {
         let value = self.read_biased(64)?;
-        if value >= 0x8000_0000_0000_0000 {
-            return Ok((value - 0x8000_0000_0000_0000) as i64);
-        }
-        Ok(-((0x7fff_ffff_ffff_ffff - value) as i64) - 1)
+        Ok((i128::from(value) - 0x8000_0000_0000_0000) as i64)
     }
 
     /// Reads a number of so many bits.
@@ -279,6 +293,12 @@ impl<'a> BinaryReader<'a> {
         }
         let rest = self.read_biased(bits - 7)?;
         Ok(widened(rest, byte - 0x80, bits))
+    }
+
+    /// Reads how many bytes there are, and answers a reader of these, which are read, as [`BinaryReader::part`].
+    pub fn sized_part(&mut self) -> Result<BinaryReader<'a>, ReadError> {
+        let size = self.read_var_u32()?;
+        self.part(size as usize)
     }
 
     /// Reads the bits of a float of 32 bits.

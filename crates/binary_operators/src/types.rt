@@ -116,24 +116,29 @@ pub fn read_heap_type(
 ) -> Result<HeapType, ReadError> {
     let shared = reader.reads(0x65)?;
     let offset = reader.offset();
-    if let Some(ty) = abstract_type(reader.peek()?) {
-        let _code = reader.read_u8()?;
+    let code = reader.peek()?;
+    if let Some(ty) = abstract_type(code) {
+        reader.skip();
         return Ok(HeapType::Abstract { shared, ty });
     }
     if shared {
         return Err(ReadError::malformed(Fault::InvalidAbstractHeapType, offset));
     }
-    if reader.reads(0x62)? {
-        let index = reader.read_var_u32()?;
-        return Ok(HeapType::Exact(canonical.name(index)));
+    if code == 0x62 {
+        reader.skip();
+        return Ok(HeapType::Exact(canonical.name(reader.read_var_u32()?)));
     }
-    let index = read_type_number(reader)?;
-    Ok(HeapType::Concrete(canonical.name(index)))
+    Ok(HeapType::Concrete(canonical.name(read_type_number(reader)?)))
 }
 
-/// The reference to a heap type, unless its index is too large.
-pub fn reference(nullable: bool, heap_type: HeapType, offset: u64) -> Result<RefType, ReadError> {
-    match RefType::new(nullable, heap_type) {
+/// Reads a heap type, and answers the reference to it, unless its index is too large: that is refused at the offset.
+pub fn read_reference_to(
+    reader: &mut BinaryReader<'_>,
+    canonical: CanonicalTypes<'_>,
+    nullable: bool,
+    offset: u64,
+) -> Result<RefType, ReadError> {
+    match RefType::new(nullable, read_heap_type(reader, canonical)?) {
         Some(ty) => Ok(ty),
         None => Err(ReadError::malformed(Fault::TypeIndexTooLarge, offset)),
     }
@@ -147,12 +152,11 @@ pub fn read_ref_type(
     let offset = reader.offset();
     let code = reader.peek()?;
     if code == 0x63 || code == 0x64 {
-        let _code = reader.read_u8()?;
+        reader.skip();
     } else if code != 0x65 && abstract_type(code).is_none() {
         return Err(ReadError::malformed(Fault::InvalidValueType, offset));
     }
-    let heap_type = read_heap_type(reader, canonical)?;
-    reference(code != 0x64, heap_type, offset)
+    read_reference_to(reader, canonical, code != 0x64, offset)
 }
 
 /// Reads a value type.
@@ -162,9 +166,8 @@ pub fn read_value_type(
 ) -> Result<ValType, ReadError> {
     let code = reader.peek()?;
     if 0x7b <= code && code <= 0x7f {
-        let _code = reader.read_u8()?;
+        reader.skip();
         return Ok(NUMBERS[(code - 0x7b) as usize]);
     }
-    let ty = read_ref_type(reader, canonical)?;
-    Ok(ValType::Ref(ty))
+    Ok(ValType::Ref(read_ref_type(reader, canonical)?))
 }

@@ -7,44 +7,39 @@ mod codes;
 mod encode;
 mod types;
 
-use crate::encode::write_operator;
+use crate::encode::bytes_of;
+use crate::types::Bytes;
 use binary_operators::{BinaryReader, CanonicalTypes, OperatorLists, lend, read_operator};
-use script_reader::{Script, read_lists, read_script};
-use std::alloc::{AllocError, Global};
+use script_reader::{read_lists, read_script};
+use std::alloc::Global;
 use std::process::ExitCode;
 use std::{fs, io};
 use validate_visit::Op;
 
-/// The bytes of an operator.
-fn bytes_of(alloc: Global, op: Op<'_>) -> Result<Vec<u8>, AllocError> {
-    let mut bytes = Vec::new(alloc);
-    write_operator(&mut bytes, op)?;
-    Ok(bytes)
+/// The operator that these bytes are read as, its list left out, or None where they aren't read as one.
+fn read_again(bytes: &[u8], lists: &mut OperatorLists) -> Option<Op<'static>> {
+    let mut reader = BinaryReader::new(bytes);
+    match read_operator(&mut reader, CanonicalTypes::new(&[]), lists, 0) {
+        Ok(op) if reader.is_at_end() => Some(op),
+        _ => None,
+    }
 }
 
-/// The bytes of the operator that these bytes are read as, or None where they aren't read as one.
-fn read_again(alloc: Global, bytes: &[u8]) -> Result<Option<Vec<u8>>, AllocError> {
+/// Whether the operator is written as these bytes.
+fn is_written_as(alloc: Global, op: Op<'_>, written: &Bytes) -> bool {
+    let again = bytes_of(alloc, op);
+    !again.is_short && again.bytes == written.bytes
+}
+
+/// Whether the operator that these bytes are read as is written as the same bytes.
+fn are_read_as_written(alloc: Global, written: &Bytes) -> bool {
     let mut lists = OperatorLists::new(alloc);
-    let mut reader = BinaryReader::new(bytes);
-    let Ok(op) = read_operator(&mut reader, CanonicalTypes::new(&[]), &mut lists, 0) else {
-        return Ok(None);
+    let Some(op) = read_again(&written.bytes, &mut lists) else {
+        return false;
     };
-    if !reader.is_at_end() {
-        return Ok(None);
-    }
     let mut ops = [(op, 0)];
     lend(&lists, &mut ops);
-    let bytes = bytes_of(alloc, ops[0].0)?;
-    Ok(Some(bytes))
-}
-
-/// Whether an operator is read as itself.
-fn is_read_as_itself(alloc: Global, op: Op<'_>) -> Result<bool, AllocError> {
-    let bytes = bytes_of(alloc, op)?;
-    match read_again(alloc, &bytes)? {
-        Some(again) => Ok(again == bytes),
-        None => Ok(false),
-    }
+    !written.is_short && is_written_as(alloc, ops[0].0, written)
 }
 
 /// Prints of each operator that isn't read as itself its bytes, and behind them how many operators there are.
@@ -52,8 +47,9 @@ fn run_operators(rt: &HostRuntime, ops: &[(Op<'_>, u64)]) -> io::Result<bool> {
     let mut is_well = true;
     for pair in ops {
         let (op, line) = *pair;
-        if !is_read_as_itself(rt.alloc(), op)? {
-            let bytes = bytes_of(rt.alloc(), op)?;
+        let written = bytes_of(rt.alloc(), op);
+        if !are_read_as_written(rt.alloc(), &written) {
+            let bytes = &written.bytes;
             println!(rt; "line {line}: {bytes:?}")?;
             is_well = false;
         }
@@ -63,20 +59,23 @@ fn run_operators(rt: &HostRuntime, ops: &[(Op<'_>, u64)]) -> io::Result<bool> {
     Ok(is_well)
 }
 
-/// Runs the operators of the script of this name.
-fn run_script(rt: &HostRuntime, name: &str) -> io::Result<bool> {
-    let text = fs::read_to_string(rt, name)?;
-    let lists = read_lists(rt.alloc(), &text)?;
-    let script = match read_script(rt.alloc(), &lists, &text) {
-        Ok(script) => script,
-        Err(_) => return Ok(false),
-    };
-    let Script { operators, .. } = script;
-    run_operators(rt, &operators.ops)
+/// Runs the operators of a script.
+fn run_script(rt: &HostRuntime, text: &str) -> io::Result<bool> {
+    let lists = read_lists(rt.alloc(), text)?;
+    match read_script(rt.alloc(), &lists, text) {
+        Ok(script) => run_operators(rt, &script.operators.ops),
+        Err(_) => Ok(false),
+    }
+}
+
+/// Runs the script that lies beside the program.
+fn run(rt: &HostRuntime) -> io::Result<bool> {
+    let text = fs::read_to_string(rt, "every_operator.script")?;
+    run_script(rt, &text)
 }
 
 fn main(rt: HostRuntime) -> ExitCode {
-    match run_script(&rt, "every_operator.script") {
+    match run(&rt) {
         Ok(true) => ExitCode::SUCCESS,
         _ => ExitCode::FAILURE,
     }

@@ -1,6 +1,6 @@
 //! The check of one body.
 
-ghost use Rattle.std.specs.Prelude.{◌≡◌, ◌≢◌, [], true, None, IfOk};
+ghost use Rattle.std.specs.Prelude.{◌≡◌, ◌≢◌, [], true, None, IfOk, OnOk};
 ghost use Rattle.std.specs.List.{list_all};
 ghost use Rattle.validate_visit.specs.declared.frame.BlockType.{BlockType};
 ghost use Rattle.validate_visit.specs.Immediates.{is_module_op};
@@ -9,7 +9,7 @@ ghost use Rattle.validate_body.specs.Runs.{without_offsets, IsSafeFrom};
 ghost use Rattle.validate_body.specs.Start.{state};
 ghost use Rattle.validate_stacks.specs.State.{IsStarting};
 ghost use Rattle.validation_rules.specs.Static.{start};
-ghost use Rattle.module_check.specs.Begin.{IsBodyStart, IsExpressionStart, HasLocals};
+ghost use Rattle.module_check.specs.Begin.{IsBodyStart, IsExpressionStart, DefinesEach, HasLocals};
 ghost use Rattle.module_check.specs.Safe.{IsSafeBody};
 ghost use Rattle.module_check.specs.declared.report.Verdict.TheVariants.{Accepted};
 
@@ -41,9 +41,10 @@ fn ordered_part(ops: &[(Op<'_>, u64)]) -> usize {
     low
 }
 
-/// The text of the refusal of an operator that doesn't stand in order.
+/// The text of the refusal of an operator that doesn't stand in order, or names a global that isn't there.
 fn order_text(op: Op<'_>) -> &'static str {
     match op {
+        Op::Control(ControlOp::GlobalGet(_)) => "unknown global: global index out of bounds",
         Op::Control(ControlOp::Else) => "else found outside of an `if` block",
         Op::Exception(ExceptionOp::Catch(_)) => "catch found outside of an `try` block",
         Op::Exception(ExceptionOp::CatchAll) => "catch_all found outside of a `try` block",
@@ -52,18 +53,12 @@ fn order_text(op: Op<'_>) -> &'static str {
     }
 }
 
-/// Whether the operator names a global past so many.
-fn names_later_global(op: Op<'_>, globals: usize) -> bool {
-    match op {
-        Op::Control(ControlOp::GlobalGet(index)) => index as usize >= globals,
-        _ => false,
-    }
-}
-
 /// The index of the first operator that names a global past so many, or the length of the list.
 fn part_before_later_global(ops: &[(Op<'_>, u64)], globals: usize) -> usize {
     for (index, pair) in ops.iter().enumerate() {
-        if names_later_global(pair.0, globals) {
+        if let Op::Control(ControlOp::GlobalGet(global)) = pair.0
+            && global as usize >= globals
+        {
             return index;
         }
     }
@@ -74,15 +69,9 @@ fn part_before_later_global(ops: &[(Op<'_>, u64)], globals: usize) -> usize {
 fn refusal_behind(ops: &[(Op<'_>, u64)], part: usize, end: u64) -> Verdict
     ensures { result ≢ Accepted }
 {
-    let Some((op, offset)) = ops.get(part).copied() else {
-        return Verdict::Refused(Error::new("operators out of order", end));
-    };
-    match op {
-        Op::Control(ControlOp::GlobalGet(_)) => Verdict::Refused(Error::new(
-            "unknown global: global index out of bounds",
-            offset,
-        )),
-        _ => Verdict::Refused(Error::new(order_text(op), offset)),
+    match ops.get(part) {
+        Some((op, offset)) => Verdict::Refused(Error::new(order_text(*op), *offset)),
+        None => Verdict::Refused(Error::new("operators out of order", end)),
     }
 }
 
@@ -231,6 +220,23 @@ fn start_body<R: WasmModuleResources>(
     }
 }
 
+/// Defines the locals of these groups, one after another, in a body that starts.
+fn define_each<R: WasmModuleResources>(
+    validator: &mut OperatorValidator,
+    resources: &R,
+    locals: &[LocalGroup],
+) -> Result<(), Error>
+    requires { IsStarting (R.context resources.now) (state validator.old) }
+    ensures starting { OnOk result (IsStarting (R.context resources.now) (state validator.new)) }
+    ensures defined { OnOk result (DefinesEach (R.context resources.now) locals.now (state validator.old)
+        (state validator.new)) }
+{
+    for local in locals {
+        validator.define_locals(local.offset, local.count, local.ty, resources)?;
+    }
+    Ok(())
+}
+
 /// A validator of a body of this kind, with all its locals.
 fn begin_body<R: WasmModuleResources>(
     resources: &R,
@@ -245,9 +251,7 @@ fn begin_body<R: WasmModuleResources>(
         locals.now (state validator)) }
 {
     let mut validator = start_body(resources, features, kind, offset, buffers)?;
-    for local in locals {
-        validator.define_locals(local.offset, local.count, local.ty, resources)?;
-    }
+    define_each(&mut validator, resources, locals)?;
     Ok(validator)
 }
 

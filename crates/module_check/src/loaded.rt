@@ -118,14 +118,24 @@ impl<'a> LoadedModule<'a> {
         u32::try_from(function).unwrap_or(u32::MAX)
     }
 
-    /// The index of the body of the function at this index, or None where the module has none for it.
-    pub fn body_of(&self, function: u32) -> Option<usize> {
+    /// Where the body of the function at this index stands, or None where the module has none for it.
+    pub fn body_of(&self, function: u32) -> Option<ByteRange> {
         let body = (function as usize).checked_sub(self.imported_functions)?;
-        if body < self.bodies.len() {
-            Some(body)
-        } else {
-            None
-        }
+        self.bodies.get(body).copied()
+    }
+
+    /// Reads a body that stands there, with locals or without, into these lists, which are empty, or answers None where
+    /// the module has no such bytes.
+    fn read_range<'b>(
+        &self,
+        alloc: Global,
+        range: ByteRange,
+        has_locals: bool,
+        lists: &'b mut OperatorLists,
+    ) -> Option<ReadBody<'b>> {
+        let mut reader = BinaryReader::of_range(self.bytes, range)?;
+        let canonical = CanonicalTypes::new(&self.canonical);
+        Some(read_body(alloc, &mut reader, canonical, has_locals, lists))
     }
 
     /// The names of its functions, as far as they can be read. It refuses want of memory.
@@ -144,11 +154,7 @@ impl<'a> LoadedModule<'a> {
         function: u32,
         lists: &'b mut OperatorLists,
     ) -> Option<ReadBody<'b>> {
-        let index = self.body_of(function)?;
-        let range = *self.bodies.get(index)?;
-        let mut reader = BinaryReader::of_range(self.bytes, range)?;
-        let canonical = CanonicalTypes::new(&self.canonical);
-        Some(read_body(alloc, &mut reader, canonical, true, lists))
+        self.read_range(alloc, self.body_of(function)?, true, lists)
     }
 
     /// Reads a constant expression of this module into these lists, which are empty, or answers None where the
@@ -159,9 +165,14 @@ impl<'a> LoadedModule<'a> {
         expression: &ConstantExpression,
         lists: &'b mut OperatorLists,
     ) -> Option<ReadBody<'b>> {
-        let mut reader = BinaryReader::of_range(self.bytes, expression.range)?;
-        let canonical = CanonicalTypes::new(&self.canonical);
-        Some(read_body(alloc, &mut reader, canonical, false, lists))
+        self.read_range(alloc, expression.range, false, lists)
+    }
+
+    /// The index of the type of the function at this index, or None where the module has no such function.
+    fn type_of(&self, function: u32) -> Option<u32>
+        ensures { result ≡ (context_of (declared_lists self.now.lists)).type_index_of function }
+    {
+        self.lists.type_index_of_function(function)
     }
 
     /// Checks what was read of the body of the function at this index, as [`check_body`] does. Where it is
@@ -178,7 +189,7 @@ impl<'a> LoadedModule<'a> {
         ensures safe { result ≡ Accepted → IsSafeFunction (context_of (declared_lists self.now.lists))
             features.now function body.now.locals.items body.now.operators.items }
     {
-        match self.lists.type_index_of_function(function) {
+        match self.type_of(function) {
             Some(ty) => check_body(
                 &self.lists,
                 features,
@@ -260,7 +271,7 @@ impl<'a> LoadedModule<'a> {
         let Some(body) = self.read_expression(alloc, expression, lists) else {
             return CheckedBody::missing(alloc, "the expression is none of this module");
         };
-        let kind = BodyKind::Expression(expression.ty);
+        let kind = BodyKind::of_expression(expression);
         let globals = expression.globals;
         let verdict = check_body(&self.lists, features, kind, globals, &body, buffers);
         CheckedBody { body, verdict }

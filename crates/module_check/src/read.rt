@@ -1,9 +1,11 @@
 //! What is read of a body, before it is checked.
 
 ghost use Rattle.std.specs.Prelude.{◌≡◌, [], None, OnOk};
+ghost use Rattle.module_check.specs.declared.read.BodyKind.TheVariants.{Expression};
 
+use binary_modules::ConstantExpression;
 use binary_operators::{
-    BinaryReader, CanonicalTypes, Fault, OperatorLists, ReadError, lend, read_operator,
+    BinaryReader, CanonicalTypes, Fault, OperatorLists, ReadError, lend, push, read_operator,
     read_value_type,
 };
 use std::alloc::Global;
@@ -17,6 +19,15 @@ pub enum BodyKind {
     Function(u32),
     /// A constant expression that gives a value of this type.
     Expression(ValType),
+}
+
+impl BodyKind {
+    /// That of a constant expression.
+    pub fn of_expression(expression: &ConstantExpression) -> BodyKind
+        ensures { result ≡ Expression expression.now.ty }
+    {
+        BodyKind::Expression(expression.ty)
+    }
 }
 
 /// A group of locals of one type, as a body declares them.
@@ -64,8 +75,7 @@ fn read_locals(
 ) -> Result<(), ReadError> {
     let groups = reader.read_var_u32()?;
     for _ in 0..groups {
-        let group = read_group(reader, canonical)?;
-        locals.push(group)?;
+        push(locals, read_group(reader, canonical)?)?;
     }
     Ok(())
 }

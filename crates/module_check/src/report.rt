@@ -19,14 +19,15 @@ pub enum Item {
 
 impl fmt::Display for Item {
     fn fmt<W: fmt::Write>(&self, f: &mut fmt::Formatter<W>) -> fmt::Result {
-        match self {
-            Item::Function(index) => write!(f, "func {index}"),
-            Item::Expression(Place::Table(index)) => write!(f, "table {index} init"),
-            Item::Expression(Place::Global(index)) => write!(f, "global {index} init"),
-            Item::Expression(Place::ElementOffset(index)) => write!(f, "elem {index} offset"),
-            Item::Expression(Place::Element(index)) => write!(f, "elem {index} item"),
-            Item::Expression(Place::DataOffset(index)) => write!(f, "data {index} offset"),
-        }
+        let (kind, index, part) = match *self {
+            Item::Function(index) => ("func", index as usize, ""),
+            Item::Expression(Place::Table(index)) => ("table", index, " init"),
+            Item::Expression(Place::Global(index)) => ("global", index, " init"),
+            Item::Expression(Place::ElementOffset(index)) => ("elem", index, " offset"),
+            Item::Expression(Place::Element(index)) => ("elem", index, " item"),
+            Item::Expression(Place::DataOffset(index)) => ("data", index, " offset"),
+        };
+        write!(f, "{kind} {index}{part}")
     }
 }
 

@@ -38,6 +38,8 @@ pub struct Options {
     pub features: WasmFeatures,
     /// The file to read, or standard input.
     pub file: Option<String>,
+    /// Whether the next word is a list of proposals.
+    awaits_list: bool,
 }
 
 /// The proposals of a list of names: `all`, names as in scripts, and names to be taken off, behind a `-`. A list
@@ -70,13 +72,19 @@ fn with_word(features: WasmFeatures, word: &str) -> Option<WasmFeatures> {
 }
 
 impl Options {
-    /// Takes a word, where the one before didn't ask for a list.
+    /// Takes a word.
     fn take(&mut self, word: String) {
+        if self.awaits_list {
+            return self.take_features(word.as_str());
+        }
         match word.as_str() {
+            "--features" => self.awaits_list = true,
             "-q" | "--quiet" => self.detail = Detail::Last,
-            "-v" | "--verbose" if !matches!(self.detail, Detail::Last) => self.detail =
-                Detail::Each,
-            "-v" | "--verbose" => {}
+            "-v" | "--verbose" => {
+                if !matches!(self.detail, Detail::Last) {
+                    self.detail = Detail::Each;
+                }
+            }
             "-h" | "--help" => self.wish = Wish::Help,
             "-V" | "--version" => self.wish = Wish::Version,
             _ => self.take_file(word),
@@ -95,6 +103,7 @@ impl Options {
 
     /// Takes a list of proposals.
     fn take_features(&mut self, list: &str) {
+        self.awaits_list = false;
         match read_features(list) {
             Some(features) => self.features = features,
             None => self.wish = Wish::Unknown,
@@ -109,17 +118,15 @@ pub fn read_options(rt: &HostRuntime) -> io::Result<Options> {
         detail: Detail::Others,
         features: WasmFeatures::all(),
         file: None,
+        awaits_list: false,
     };
-    let mut words = env::args(rt)?.skip(1);
-    while let Some(word) = words.next() {
-        if word.as_str() == "--features" {
-            match words.next() {
-                Some(list) => options.take_features(list.as_str()),
-                None => options.wish = Wish::Unknown,
-            }
-        } else {
-            options.take(word);
-        }
+    let mut words = env::args(rt)?;
+    let _program = words.next();
+    for word in words {
+        options.take(word);
+    }
+    if options.awaits_list {
+        options.wish = Wish::Unknown;
     }
     Ok(options)
 }

@@ -48,11 +48,10 @@ impl Counts {
             out,
             "{accepted} accepted, {refused} refused, {not_covered} not covered"
         )?;
-        if self.wants_memory > 0 {
-            let wants_memory = self.wants_memory;
-            write!(out, ", {wants_memory} out of memory")?;
+        match self.wants_memory {
+            0 => writeln!(out),
+            wants_memory => writeln!(out, ", {wants_memory} out of memory"),
         }
-        writeln!(out)
     }
 }
 
@@ -98,15 +97,20 @@ impl<'m> Report<'m> {
         }
     }
 
+    /// The name of the function that an item is, where it has one.
+    fn name_of(&self, item: Item) -> Option<&'m str> {
+        match item {
+            Item::Function(function) => self.names.of(function),
+            Item::Expression(_) => None,
+        }
+    }
+
     /// Prints what an item is, with the function's name where it has one.
     fn print_item<W: Write>(&self, out: &mut W, item: Item) -> io::Result<()> {
-        write!(out, "{item}")?;
-        if let Item::Function(function) = item {
-            if let Some(name) = self.names.of(function) {
-                write!(out, " {name:?}")?;
-            }
+        match self.name_of(item) {
+            Some(name) => write!(out, "{item} {name:?}"),
+            None => write!(out, "{item}"),
         }
-        Ok(())
     }
 
     /// Counts a verdict, and prints the line of its item, unless it is left out.

@@ -109,6 +109,31 @@ fn check_bodies<W: Write>(
     Ok(())
 }
 
+/// Checks each constant expression and each body.
+fn check_items<W: Write>(
+    rt: &HostRuntime,
+    out: &mut W,
+    module: &LoadedModule<'_>,
+    features: &WasmFeatures,
+    buffers: &mut BodyBuffers,
+    report: &mut Report<'_>,
+) -> io::Result<()> {
+    check_expressions(rt.alloc(), out, module, features, buffers, report)?;
+    check_bodies(rt, out, module, features, buffers, report)
+}
+
+/// Checks each of them in new buffers.
+fn check_all<W: Write>(
+    rt: &HostRuntime,
+    out: &mut W,
+    module: &LoadedModule<'_>,
+    features: &WasmFeatures,
+    report: &mut Report<'_>,
+) -> io::Result<()> {
+    let mut buffers = BodyBuffers::new(rt.alloc());
+    check_items(rt, out, module, features, &mut buffers, report)
+}
+
 /// Checks a module, and answers the status.
 fn check_module<W: Write>(
     rt: &HostRuntime,
@@ -121,9 +146,7 @@ fn check_module<W: Write>(
         return print_module_verdict(out, &Verdict::OutOfMemory);
     };
     let mut report = Report::new(names, detail);
-    let mut buffers = BodyBuffers::new(rt.alloc());
-    check_expressions(rt.alloc(), out, module, features, &mut buffers, &mut report)?;
-    check_bodies(rt, out, module, features, &mut buffers, &mut report)?;
+    check_all(rt, out, module, features, &mut report)?;
     report.end(out, module.merged())
 }
 
@@ -151,16 +174,22 @@ fn doubt(input: &[u8]) -> Option<&'static str> {
     }
 }
 
+/// Checks the module of these bytes, writes out what is printed, and answers the status.
+fn print_check(rt: &HostRuntime, options: &Options, input: &[u8]) -> io::Result<u8> {
+    let mut out = BufWriter::new(rt.alloc(), io::writer(rt))?;
+    let status = check_input(rt, &mut out, options, input)?;
+    out.flush()?;
+    Ok(status)
+}
+
 /// Reads a module and checks it, and answers the status.
 fn check(rt: &HostRuntime, options: &Options) -> io::Result<u8> {
-    let mut out = BufWriter::new(rt.alloc(), io::writer(rt))?;
     let input = read_input(rt, &options.file)?;
     let mut err = rt.stderr();
     if let Some(text) = doubt(&input) {
         writeln!(err, "wasmcheck: {text}")?;
     }
-    let status = check_input(rt, &mut out, options, &input)?;
-    out.flush()?;
+    let status = print_check(rt, options, &input)?;
     if !matches!(options.detail, Detail::Last) && (status == ACCEPTED || status == NOT_COVERED) {
         writeln!(err, "{NOT_CHECKED}")?;
     }

@@ -1,8 +1,8 @@
 use Rattle.std.proofs.Common.{take}
 use Rattle.validate_stacks.specs.State.{IsStarting}
 use Rattle.validate_body.specs.Start.{state}
-use Rattle.module_check.specs.Begin.{HasLocals}
-use Rattle.module_check.proofs.body.begin_body.Given as goal
+use Rattle.module_check.specs.Begin.{DefinesEach}
+use Rattle.module_check.proofs.body.define_each.Given as goal
 
 -- The validator is in a starting state for the lookup, with the locals of the groups so far.
 abbrev pub invariant-loop-local : goal.invariant-loop-local
@@ -10,5 +10,5 @@ invariant-loop-local g l =
     let md = g.R.WasmModuleResources.context l.resources in
     record {
       starting : IsStarting md (state l.validator);
-      has_locals : HasLocals md l.features l.fn.kind (take l.local-index l.locals) (state l.validator);
+      defined : DefinesEach md (take l.local-index l.locals) (state l.fn.validator) (state l.validator);
     }

@@ -1,11 +1,9 @@
 //! Tests that no script shows, and that want no visit: modules that are declared, types, locals, the log of an attempt,
-//! the order of a list, validators as they are made. Expected values come from the standard and from upstream's texts.
+//! validators as they are made. Expected values come from the standard and from upstream's texts.
 #![tactic(auto)]
 
 #[cfg(test)]
 mod expect;
-#[cfg(test)]
-mod lists;
 #[cfg(test)]
 mod locals;
 #[cfg(test)]

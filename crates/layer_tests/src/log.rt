@@ -4,10 +4,9 @@
 ghost use Rattle.std.specs.Prelude.{◌≡◌, MatchResult};
 ghost use Rattle.validate_transaction.specs.Recorded.{with_push};
 
-use crate::expect::{expect, expect_same};
-use std::process::Abort;
+use crate::expect::expect;
 use std::test::Fail;
-use validate_transaction::{RollbackLog, RollbackLogAllocations, Transaction};
+use validate_transaction::{RollbackLogAllocations, Transaction};
 use validate_types::{MaybeType, OutOfMemory, ValType};
 use validate_visit::{BlockType, Frame, FrameKind};
 
@@ -28,24 +27,11 @@ fn record_each(pending: &mut Transaction) -> Result<(), OutOfMemory> {
     pending.pop_ctrl(&BLOCK, &[1, 0])
 }
 
-/// The newest comes first, a push and an opened frame being None.
-fn expect_recorded(rt: &impl Abort, log: &RollbackLog) {
-    let popped = Some(MaybeType::Known(ValType::I32));
-    expect_same(rt, log.operands.get(0).copied(), Some(popped));
-    expect_same(rt, log.operands.get(1).copied(), Some(None));
-    expect_same(rt, log.frames.get(0).copied(), Some(Some(BLOCK)));
-    expect_same(rt, log.frames.get(1).copied(), Some(None));
-    expect_same(rt, log.inits.as_slice(), [1, 0].as_slice());
-}
-
 #[test]
-fn what_an_attempt_records(rt: HostRuntime) -> Result<(), Fail> {
+fn an_attempt_records_each_change(rt: HostRuntime) -> Result<(), Fail> {
     let mut attempt = Transaction::new(RollbackLogAllocations::new(rt.alloc()));
     attempt.begin(0);
     record_each(&mut attempt)?;
-    if let Transaction::Active(log) = &attempt {
-        expect_recorded(&rt, log);
-    }
     expect(&rt, attempt.has_changes(0));
     attempt.end();
     expect(&rt, !attempt.is_active());

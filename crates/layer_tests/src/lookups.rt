@@ -1,5 +1,4 @@
-//! What a lookup over lists answers, through the trait: each check succeeds once, and each look-up of the
-//! proposals on exact types and descriptors finds what was declared.
+//! The checks of a lookup over lists, through the trait: each succeeds once; and its order over a long chain.
 
 use crate::expect::{expect, expect_same};
 use crate::module::{chain_of, read_module};
@@ -7,10 +6,7 @@ use bitflags::Flags;
 use std::process::Abort;
 use std::test::Fail;
 use validate_resources::WasmModuleResources;
-use validate_types::{
-    CoreTypeId, GlobalType, HeapType, MemoryType, PackedIndex, RefType, TableType, UnpackedIndex,
-    ValType, WasmFeatures,
-};
+use validate_types::{CoreTypeId, HeapType, RefType, UnpackedIndex, ValType, WasmFeatures};
 
 /// A module with one of each. Type 2 is described by type 3.
 const MODULE: &str = "type func ->
@@ -40,71 +36,6 @@ fn by_id(index: u32) -> UnpackedIndex {
     UnpackedIndex::Id(CoreTypeId::from_index(index))
 }
 
-/// What is declared by an index of the module is kept by its id.
-fn expect_items<R: WasmModuleResources>(rt: &impl Abort, lists: &R) {
-    let table = TableType {
-        element_type: reference(HeapType::Concrete(by_id(1))),
-        table64: true,
-        shared: false,
-    };
-    expect_same(rt, lists.table_at(0), Some(table));
-    let memory = MemoryType {
-        memory64: false,
-        shared: true,
-    };
-    expect_same(rt, lists.memory_at(0), Some(memory));
-    let global = GlobalType {
-        content_type: ValType::Ref(reference(HeapType::Concrete(by_id(2)))),
-        mutable: true,
-        shared: false,
-    };
-    expect_same(rt, lists.global_at(0), Some(global));
-    expect_same(rt, lists.element_type_at(0), Some(table.element_type));
-    expect_same(rt, lists.data_count(), Some(3));
-    expect(rt, lists.tag_at(0).is_some() && lists.tag_at(1).is_none());
-}
-
-/// Function 0 is of type 1 and exact in it; function 1 is of type 0, and may be named.
-fn expect_functions<R: WasmModuleResources>(rt: &impl Abort, lists: &R) {
-    expect_same(rt, lists.type_index_of_function(0), Some(1));
-    expect_same(
-        rt,
-        lists.type_id_of_function(1),
-        Some(CoreTypeId::from_index(0)),
-    );
-    expect(
-        rt,
-        lists.has_function_exact_type(0) && !lists.is_function_referenced(0),
-    );
-    expect(
-        rt,
-        !lists.has_function_exact_type(1) && lists.is_function_referenced(1),
-    );
-}
-
-/// The descriptor of the type at this index.
-fn descriptor_at<R: WasmModuleResources>(lists: &R, index: u32) -> Option<PackedIndex> {
-    lists.sub_type_at(index)?.composite_type.descriptor_idx
-}
-
-/// Type 2 has a descriptor, and its exact reference is below the others.
-fn expect_types<R: WasmModuleResources>(rt: &impl Abort, lists: &R) {
-    expect_same(rt, descriptor_at(lists, 2), by_id(3).pack());
-    let any = reference(HeapType::Concrete(by_id(2)));
-    let exact = reference(HeapType::Exact(by_id(2)));
-    expect(rt, lists.is_subtype(ValType::Ref(exact), ValType::Ref(any)));
-    expect(
-        rt,
-        !lists.is_subtype(ValType::Ref(any), ValType::Ref(exact)),
-    );
-    expect(rt, !lists.is_shared(exact));
-    expect_same(
-        rt,
-        lists.top_type(&exact.heap_type),
-        RefType::ANYREF.heap_type,
-    );
-}
-
 /// Each check writes the canonical form.
 fn expect_canonical<R: WasmModuleResources>(rt: &impl Abort, lists: &R) -> Result<(), Fail> {
     let declared = HeapType::Exact(UnpackedIndex::Module(2));
@@ -121,11 +52,8 @@ fn expect_canonical<R: WasmModuleResources>(rt: &impl Abort, lists: &R) -> Resul
 }
 
 #[test]
-fn what_a_module_declares(rt: HostRuntime) -> Result<(), Fail> {
+fn each_check_succeeds(rt: HostRuntime) -> Result<(), Fail> {
     let lists = read_module(&rt, MODULE)??;
-    expect_items(&rt, &lists);
-    expect_functions(&rt, &lists);
-    expect_types(&rt, &lists);
     expect_canonical(&rt, &lists)
 }
 

@@ -6,10 +6,10 @@ ghost use Rattle.validate_stacks.specs.State.{IsStarting, IsValidBody};
 ghost use Rattle.validate_stacks.specs.Visits.{MayVisit};
 
 use crate::left::{Left, check_list};
-use crate::printed::{compare_refused, run_printed};
+use crate::places::add_places;
+use crate::printed::{add_printed, add_refused};
 use crate::report::Report;
 use crate::seen::Seen;
-use crate::shown::compare_places;
 use crate::undone::run_lines;
 use odd_lookups::{Check, PairedLists, WantingLists};
 use opcheck_script::{begin_body, module_lists};
@@ -41,10 +41,10 @@ pub enum Task<'a> {
     List(Left<'a>),
     /// It has no operators yet, and these lines are visited, or attempted and taken back.
     Lines(&'a str),
-    /// Its operators are run as the program runs them, which prints this.
-    Printed(&'a str),
-    /// The types of the operands between its operators are looked at: the program prints this, and shows them.
-    Shown(&'a str),
+    /// Its operators are run as the program runs them, and what that prints is printed.
+    Printed,
+    /// The types of the operands between its operators are printed.
+    Places,
 }
 
 /// A script, whether it shows the types of operands, and what is done with its body.
@@ -113,7 +113,7 @@ fn run_lent<R: WasmModuleResources>(
         Task::Attempts => attempt_each(alloc, report, v, ops, resources, work.script),
         Task::List(left) => check_list(alloc, report, v, ops, resources, work.script, left),
         Task::Lines(lines) => run_lines(alloc, report, v, resources, lines),
-        Task::Shown(_) | Task::Printed(_) => Ok(()),
+        Task::Printed | Task::Places => Ok(()),
     }
 }
 
@@ -128,9 +128,9 @@ fn run_task<R: WasmModuleResources>(
 ) -> Result<(), fmt::Error>
     requires { IsStarting (R.context resources.now) (state v) }
 {
-    if let Task::Printed(wanted) = work.task {
-        let texts = (work.script, wanted);
-        return run_printed(alloc, report, v, operators, work.shows, resources, texts);
+    if let Task::Printed = work.task {
+        let shows = work.shows;
+        return add_printed(alloc, report, v, operators, shows, resources, work.script);
     }
     let mut v = v;
     let ops = operators.ops.as_slice();
@@ -147,18 +147,9 @@ fn run_over<R: WasmModuleResources>(
     operators: &Operators<'_>,
     work: Work<'_>,
 ) -> Result<(), fmt::Error> {
-    if let Task::Shown(printed) = work.task {
-        let ops = operators.ops.as_slice();
-        let texts = (work.script, printed);
-        return compare_places(
-            alloc,
-            report,
-            resources,
-            features,
-            (line, locals),
-            ops,
-            texts,
-        );
+    if let Task::Places = work.task {
+        let (begin, ops) = ((line, locals), operators.ops.as_slice());
+        return add_places(alloc, report, resources, features, begin, ops, work.script);
     }
     match begin_body(alloc, resources, features, line, locals) {
         Ok(v) => run_task(alloc, report, v, operators, resources, work),
@@ -246,7 +237,7 @@ fn not_begun(
     refusal: Error,
 ) -> Result<(), fmt::Error> {
     match task {
-        Task::Printed(wanted) => compare_refused(alloc, report, script, refusal, wanted),
+        Task::Printed => add_refused(alloc, report, refusal),
         _ => cannot_begin(report, script, task),
     }
 }

@@ -17,30 +17,18 @@
 //! - `@paired`: the same over a lookup in which indices 2i and 2i + 1 name type i of the module;
 //! - `@wanting CHECK`: the same over a lookup of which this check finds no memory.
 //!
-//! A script without `feature` lines runs with all proposals, and again with all but custom descriptors. Behind
-//! `@scripts` and `@each` the words `with custom_descriptors` or `without custom_descriptors` say that it has
-//! these answers in one of the two alone.
+//! Behind `@scripts` and `@each` the words `with custom_descriptors` may say that scripts without `feature` lines
+//! answer so with custom descriptors alone: `.ci/ways` doesn't run these without them.
 
 use crate::bodies::Lookup;
-use crate::flags::{DESCRIPTORS, all_but, is_flag};
+use crate::flags::{all_but, is_flag};
 use crate::left::run_left;
 use crate::report::Report;
-use crate::runs::Descriptors;
 use crate::transcript::{run_bad_lines, run_each, run_transcript};
 use crate::undone::run_undone;
 use odd_lookups::Check;
 use std::alloc::Global;
 use std::fmt;
-
-/// With which descriptors the scripts of a section run, by the words behind its kind.
-pub fn descriptors_of(words: &str) -> Option<Descriptors> {
-    match words.split_once(' ') {
-        None if words.is_empty() => Some(Descriptors::Both),
-        Some(("with", flag)) if flag == DESCRIPTORS => Some(Descriptors::With),
-        Some(("without", flag)) if flag == DESCRIPTORS => Some(Descriptors::Without),
-        _ => None,
-    }
-}
 
 /// Over which lookup the lines of a section are visited or undone, by its kind and the words behind it.
 fn lookup_of(kind: &str, words: &str) -> Option<Lookup> {
@@ -102,12 +90,16 @@ impl<'a> Cases<'a> {
         if let Some(lookup) = lookup_of(kind, words) {
             return run_undone(alloc, report, head, text, lookup);
         }
-        match (kind, descriptors_of(words)) {
-            ("scripts", Some(with)) => run_transcript(alloc, report, head, text, with),
-            ("each", Some(with)) => run_each(alloc, report, head, (self.rows, text), with),
-            ("bad", Some(Descriptors::Both)) => run_bad_lines(alloc, report, head, text),
-            ("given", Some(Descriptors::Both)) => run_left(alloc, report, head, (text, false)),
-            ("left", Some(Descriptors::Both)) => run_left(alloc, report, head, (text, true)),
+        match (kind, words) {
+            ("scripts", "" | "with custom_descriptors") => run_transcript(
+                alloc, report, head, text,
+            ),
+            ("each", "" | "with custom_descriptors") => {
+                run_each(alloc, report, head, (self.rows, text))
+            }
+            ("bad", "") => run_bad_lines(alloc, report, head, text),
+            ("given", "") => run_left(alloc, report, head, (text, false)),
+            ("left", "") => run_left(alloc, report, head, (text, true)),
             _ => report.refuse(kind, "begins no section"),
         }
     }

@@ -1,6 +1,5 @@
 //! Proposals: the lines that turn them on.
 
-use crate::words::{has_line, has_word};
 use std::alloc::{AllocError, Global};
 
 /// Every flag of a proposal.
@@ -28,9 +27,6 @@ acquire_release_atomics
 multibyte_array_access
 ";
 
-/// The flag whose absence leaves allocations without exact types.
-pub const DESCRIPTORS: &str = "custom_descriptors";
-
 /// The lines that turn every proposal on but this one.
 pub fn all_but(alloc: Global, flag: &str) -> Result<String, AllocError> {
     let mut lines = String::new(alloc);
@@ -44,20 +40,10 @@ pub fn all_but(alloc: Global, flag: &str) -> Result<String, AllocError> {
 
 /// Whether this is the name of a flag.
 pub fn is_flag(name: &str) -> bool {
-    has_word(FLAGS, name)
-}
-
-/// Whether a line of the script turns a proposal on, or is meant to.
-pub fn names_flags(script: &str) -> bool {
-    has_line(script, "feature")
-}
-
-/// The script behind lines that turn on every proposal but custom descriptors, or nothing where it turns
-/// some on itself.
-pub fn without_descriptors(alloc: Global, script: &str) -> Result<String, AllocError> {
-    if names_flags(script) {
-        return Ok(String::new(alloc));
+    for flag in FLAGS.split_whitespace() {
+        if flag == name {
+            return true;
+        }
     }
-    let features = all_but(alloc, DESCRIPTORS)?;
-    format!(in alloc; "{features}{script}")
+    false
 }

@@ -9,7 +9,6 @@ ghost use Rattle.validate_visit.specs.Immediates.{is_module_op};
 ghost use Rattle.validate_visit.specs.Order.{is_well_ordered_list};
 
 use crate::bodies::{Lookup, Task, run_body};
-use crate::flags::without_descriptors;
 use crate::report::Report;
 use crate::seen::add_operand_types;
 use crate::transcript::parts_of;
@@ -155,38 +154,31 @@ fn left_of(answer: &str, is_refused: bool) -> Left<'_> {
     }
 }
 
-/// Runs the operators of a line behind these first lines, or those.
+/// Runs the operators of a line behind these first lines.
 fn run_line(
     alloc: Global,
     report: &mut Report,
-    (head, plain): (&str, &str),
+    head: &str,
     line: &str,
     is_refused: bool,
 ) -> Result<(), fmt::Error> {
     report.count();
     let (operators, answer) = parts_of(line);
-    let left = left_of(answer, is_refused);
-    run_list(alloc, report, head, operators, left)?;
-    if plain.is_empty() {
-        return Ok(());
-    }
-    run_list(alloc, report, plain, operators, left)
+    run_list(alloc, report, head, operators, left_of(answer, is_refused))
 }
 
-/// Runs the operators of each line, parted by commas, behind these first lines: with all proposals and without
-/// custom descriptors, where those lines name no flag. Of a refused line the last operator is refused, and no
-/// other is. Behind the arrow stand the types of the operands that are left, the last on top, `?` being one
-/// whose type isn't known; behind a bar perhaps the words of the refusal.
+/// Runs the operators of each line, parted by commas, behind these first lines. Of a refused line the last operator
+/// is refused, and no other is. Behind the arrow stand the types of the operands that are left, the last on top,
+/// `?` being one whose type isn't known; behind a bar perhaps the words of the refusal.
 pub fn run_left(
     alloc: Global,
     report: &mut Report,
     head: &str,
     (lines, is_refused): (&str, bool),
 ) -> Result<(), fmt::Error> {
-    let plain = without_descriptors(alloc, head)?;
     for line in lines.lines() {
         if !line.is_empty() {
-            run_line(alloc, report, (head, &plain), line, is_refused)?;
+            run_line(alloc, report, head, line, is_refused)?;
         }
     }
     Ok(())

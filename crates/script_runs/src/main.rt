@@ -4,33 +4,26 @@
 //! `NAME.cases` has sections (`cases.rt`). `NAME.script` is one script, and `NAME.expected` beside it what it
 //! prints; it is accepted.
 //!
-//! A script runs as one list, with both outputs and its status compared; once more with each operator
-//! attempted that may be; operator by operator, each attempted, where a refused one has to leave all
-//! frames and operands as they were; and with the indices of its types doubled, over a lookup in which two
-//! indices name each type. Where it is accepted, the types of operands that it shows are those that
-//! `operands_before` answers at each place. One without `feature` lines runs again as one list with every
-//! proposal on but custom descriptors, and answers the same.
+//! A script runs as one list, with both outputs and its status compared; and operator by operator, each attempted,
+//! where a refused one has to leave all frames and operands as they were. `.ci/ways` runs each in further ways, which
+//! a first line before the names asks for.
 #![tactic(auto)]
 
-mod attempts;
 mod bodies;
 mod cases;
-mod doubled;
 mod flags;
 mod left;
+mod places;
 mod printed;
-mod renumbered;
 mod report;
 mod runs;
 mod seen;
-mod shown;
 mod transcript;
 mod undone;
-mod words;
 
-use crate::cases::{descriptors_of, run_cases};
+use crate::cases::run_cases;
 use crate::report::Report;
-use crate::runs::{Outcome, run_script};
+use crate::runs::{Outcome, Way, run_script};
 use std::process::ExitCode;
 use std::{fs, io};
 
@@ -41,16 +34,15 @@ fn read(rt: &HostRuntime, name: &str, ending: &str) -> Option<String> {
 }
 
 /// What the scripts of a file of cases came to.
-fn report_of_cases(rt: &HostRuntime, name: &str, once: bool) -> Option<Report> {
+fn report_of_cases(rt: &HostRuntime, name: &str, way: Way) -> Option<Report> {
     let text = read(rt, name, "cases")?;
-    let mut report = Report::new(rt.alloc(), once);
+    let mut report = Report::new(rt.alloc(), way);
     run_cases(rt.alloc(), &mut report, &text).ok()?;
     Some(report)
 }
 
-/// What a script that is a file came to. The words say with which descriptors it runs.
-fn report_of_script(rt: &HostRuntime, name: &str, words: &str, once: bool) -> Option<Report> {
-    let descriptors = descriptors_of(words)?;
+/// What a script that is a file came to.
+fn report_of_script(rt: &HostRuntime, name: &str, way: Way) -> Option<Report> {
     let script = read(rt, name, "script")?;
     let expected = read(rt, name, "expected")?;
     let wanted = Outcome {
@@ -58,17 +50,17 @@ fn report_of_script(rt: &HostRuntime, name: &str, words: &str, once: bool) -> Op
         err: "",
         status: 0,
     };
-    let mut report = Report::new(rt.alloc(), once);
-    run_script(rt.alloc(), &mut report, &script, wanted, descriptors).ok()?;
+    let mut report = Report::new(rt.alloc(), way);
+    run_script(rt.alloc(), &mut report, &script, wanted).ok()?;
     Some(report)
 }
 
 /// What the scripts of a file came to, which a line of the input names.
-fn report_of(rt: &HostRuntime, line: &str, once: bool) -> Option<Report> {
+fn report_of(rt: &HostRuntime, line: &str, way: Way) -> Option<Report> {
     let (name, rest) = line.split_once('.')?;
     match rest.split_once(' ').unwrap_or((rest, "")) {
-        ("cases", "") => report_of_cases(rt, name, once),
-        ("script", words) => report_of_script(rt, name, words, once),
+        ("cases", "") => report_of_cases(rt, name, way),
+        ("script", "" | "with custom_descriptors") => report_of_script(rt, name, way),
         _ => None,
     }
 }
@@ -81,6 +73,7 @@ fn print_report(rt: &HostRuntime, name: &str, report: &Report) -> io::Result<boo
         "scripts"
     };
     println!(rt; "{name}: {} {noun}", report.scripts)?;
+    print!(rt; "{}", report.printed)?;
     if report.told.is_empty() {
         return Ok(true);
     }
@@ -99,17 +92,24 @@ fn print_read(rt: &HostRuntime, name: &str, report: Option<Report>) -> io::Resul
     }
 }
 
-/// Runs all of them, and says whether all was as expected. Behind a first line `once`, each script runs as one
-/// list alone.
+/// What is done with each script, by a first line, and the lines behind it.
+fn way_of(lines: &str) -> (Way, &str) {
+    match lines.split_once('\n') {
+        Some(("once", names)) => (Way::Once, names),
+        Some(("paired", names)) => (Way::Paired, names),
+        Some(("shown", names)) => (Way::Shown, names),
+        Some(("places", names)) => (Way::Places, names),
+        _ => (Way::Checked, lines),
+    }
+}
+
+/// Runs all of them, and says whether all was as expected.
 fn run_files(rt: &HostRuntime, lines: &str) -> io::Result<bool> {
-    let (names, once) = match lines.strip_prefix("once\n") {
-        Some(names) => (names, true),
-        None => (lines, false),
-    };
+    let (way, names) = way_of(lines);
     let mut is_well = true;
     for line in names.lines() {
         let (name, _) = line.split_once('.').unwrap_or((line, ""));
-        is_well &= print_read(rt, name, report_of(rt, line, once))?;
+        is_well &= print_read(rt, name, report_of(rt, line, way))?;
     }
     Ok(is_well)
 }

@@ -1,6 +1,7 @@
 //! What scripts came to.
 
-use std::alloc::Global;
+use crate::runs::Way;
+use std::alloc::{AllocError, Global};
 use std::{fmt, str};
 
 /// What the scripts of a file came to.
@@ -8,18 +9,21 @@ use std::{fmt, str};
 pub struct Report {
     /// How many there were.
     pub scripts: u64,
-    /// Whether each ran as one list alone.
-    pub once: bool,
+    /// What is done with each.
+    pub way: Way,
+    /// What is printed of them, where that is what is done.
+    pub printed: String,
     /// What is told of those that came to something else than expected.
     pub told: String,
 }
 
 impl Report {
     /// Of no script yet.
-    pub fn new(alloc: Global, once: bool) -> Report {
+    pub fn new(alloc: Global, way: Way) -> Report {
         Report {
             scripts: 0,
-            once,
+            way,
+            printed: String::new(alloc),
             told: String::new(alloc),
         }
     }
@@ -27,6 +31,11 @@ impl Report {
     /// A further script.
     pub fn count(&mut self) {
         self.scripts = self.scripts.saturating_add(1);
+    }
+
+    /// Begins what is printed of a script.
+    pub fn begin_printed(&mut self) -> Result<(), AllocError> {
+        self.printed.push_str("@\n")
     }
 
     /// Tells it where what the script does isn't what is expected.

@@ -45,14 +45,19 @@ impl Seen {
     }
 }
 
-/// Adds the types of the operands of a validator to a text, the last on top, each behind a space: `?` where it
-/// isn't known.
+/// Adds the type of an operand to a text, behind a space: `?` where it isn't known.
+pub fn add_type(text: &mut String, ty: Option<ValType>) -> Result<(), fmt::Error> {
+    match ty {
+        Some(ty) => write!(text, " {ty}")?,
+        None => text.push_str(" ?")?,
+    }
+    Ok(())
+}
+
+/// Adds the types of the operands of a validator to a text, the last on top.
 pub fn add_operand_types(text: &mut String, v: &OperatorValidator) -> Result<(), fmt::Error> {
     for depth in (0..v.operand_stack_height()).rev() {
-        match v.peek_operand_at(depth).flatten() {
-            Some(ty) => write!(text, " {ty}")?,
-            None => text.push_str(" ?")?,
-        }
+        add_type(text, v.peek_operand_at(depth).flatten())?;
     }
     Ok(())
 }

@@ -1,43 +1,9 @@
 //! Transcripts: scripts with what the program prints at each line.
 
 use crate::report::Report;
-use crate::runs::{Descriptors, Outcome, run_script};
+use crate::runs::{Outcome, run_script};
 use std::alloc::{AllocError, Global};
 use std::fmt;
-
-/// Runs a script that is bad: it prints this and says why.
-fn run_to_error(
-    alloc: Global,
-    report: &mut Report,
-    script: &str,
-    (out, verdict): (&str, &str),
-    descriptors: Descriptors,
-) -> Result<(), fmt::Error> {
-    let said = format!(in alloc; "{verdict}\n")?;
-    let wanted = Outcome {
-        out,
-        err: &said,
-        status: 2,
-    };
-    run_script(alloc, report, script, wanted, descriptors)
-}
-
-/// Runs a script, and compares what it prints, the last line being this verdict.
-fn run_to_verdict(
-    alloc: Global,
-    report: &mut Report,
-    script: &str,
-    (lines, verdict): (&str, &str),
-    descriptors: Descriptors,
-) -> Result<(), fmt::Error> {
-    let out = format!(in alloc; "{lines}{verdict}\n")?;
-    let wanted = Outcome {
-        out: &out,
-        err: "",
-        status: if verdict == "accepted" { 0 } else { 1 },
-    };
-    run_script(alloc, report, script, wanted, descriptors)
-}
 
 /// Adds a line to a text, unless it is empty.
 fn add_line(text: &mut String, line: &str) -> Result<(), AllocError> {
@@ -79,19 +45,29 @@ impl<'a> Case<'a> {
         add_line(&mut self.printed, answer)
     }
 
-    /// Runs the script, which comes to this verdict: a bad one says it on the error output.
-    fn run(
-        &self,
-        alloc: Global,
-        report: &mut Report,
-        verdict: &str,
-        descriptors: Descriptors,
-    ) -> Result<(), fmt::Error> {
-        let printed = (self.printed.as_str(), verdict);
+    /// Runs the script, which is bad, and says this.
+    fn run_bad(&self, alloc: Global, report: &mut Report, cause: &str) -> Result<(), fmt::Error> {
+        let said = format!(in alloc; "{cause}\n")?;
+        let wanted = Outcome {
+            out: &self.printed,
+            err: &said,
+            status: 2,
+        };
+        run_script(alloc, report, &self.script, wanted)
+    }
+
+    /// Runs the script, which comes to this verdict.
+    fn run(&mut self, alloc: Global, report: &mut Report, verdict: &str) -> Result<(), fmt::Error> {
         if verdict.starts_with("bad script") {
-            return run_to_error(alloc, report, &self.script, printed, descriptors);
+            return self.run_bad(alloc, report, verdict);
         }
-        run_to_verdict(alloc, report, &self.script, printed, descriptors)
+        add_line(&mut self.printed, verdict)?;
+        let wanted = Outcome {
+            out: &self.printed,
+            err: "",
+            status: if verdict == "accepted" { 0 } else { 1 },
+        };
+        run_script(alloc, report, &self.script, wanted)
     }
 
     /// Adds a line, or runs the script and begins the next one. Whether it ran.
@@ -100,10 +76,9 @@ impl<'a> Case<'a> {
         alloc: Global,
         report: &mut Report,
         (written, answer): (&str, &str),
-        descriptors: Descriptors,
     ) -> Result<bool, fmt::Error> {
         if written.is_empty() && !answer.is_empty() {
-            self.run(alloc, report, answer, descriptors)?;
+            self.run(alloc, report, answer)?;
             self.begin()?;
             return Ok(true);
         }
@@ -114,27 +89,28 @@ impl<'a> Case<'a> {
 
 /// What a line of a transcript has before its `=>` and behind it.
 pub fn parts_of(line: &str) -> (&str, &str) {
-    let (written, answer) = line.split_once("=>").unwrap_or((line, ""));
-    (written.trim_end_matches(' '), answer.trim())
+    match line.split_once("=>") {
+        Some((written, answer)) => (written.trim_end_matches(' '), answer.trim()),
+        None => (line, ""),
+    }
 }
 
 /// Runs each script of a transcript behind these first lines. There is one at least.
 ///
 /// A line of a transcript is a line of the script, then `=>` and what the program prints there, if
-/// anything. A line that begins with `=>` ends a script and gives the verdict. Spaces at the end of a
-/// script's line are left out, and blank lines stand for nothing.
+/// anything. A line that begins with `=>` ends a script and gives the verdict. Spaces before an arrow are left
+/// out, and blank lines stand for nothing.
 pub fn run_transcript(
     alloc: Global,
     report: &mut Report,
     head: &str,
     transcript: &str,
-    descriptors: Descriptors,
 ) -> Result<(), fmt::Error> {
     let mut case = Case::new(alloc, head);
     case.begin()?;
     let mut ran = false;
     for line in transcript.lines() {
-        ran |= case.read(alloc, report, parts_of(line), descriptors)?;
+        ran |= case.read(alloc, report, parts_of(line))?;
     }
     if !ran || case.script.as_str() != head {
         return report.refuse(&case.script, "has no verdict");
@@ -175,10 +151,9 @@ fn run_row(
     report: &mut Report,
     head: &str,
     (row, transcript): (&str, &str),
-    descriptors: Descriptors,
 ) -> Result<(), fmt::Error> {
     let filled = fill(alloc, transcript, row)?;
-    run_transcript(alloc, report, head, &filled, descriptors)
+    run_transcript(alloc, report, head, &filled)
 }
 
 /// Runs a transcript behind these first lines once for each row, filled by it. Blank rows stand for nothing.
@@ -187,11 +162,10 @@ pub fn run_each(
     report: &mut Report,
     head: &str,
     (rows, transcript): (&str, &str),
-    descriptors: Descriptors,
 ) -> Result<(), fmt::Error> {
     for row in rows.lines() {
         if !row.is_empty() {
-            run_row(alloc, report, head, (row, transcript), descriptors)?;
+            run_row(alloc, report, head, (row, transcript))?;
         }
     }
     Ok(())
@@ -211,7 +185,7 @@ fn run_bad_line(
         err: said,
         status: 2,
     };
-    run_script(alloc, report, &script, wanted, Descriptors::Both)
+    run_script(alloc, report, &script, wanted)
 }
 
 /// Runs each of these lines behind these first lines and before an `end`: it is a bad line. Blank lines stand

@@ -6,7 +6,6 @@ ghost use Rattle.validate_stacks.specs.State.{IsStarting, IsValidBody};
 ghost use Rattle.validate_stacks.specs.Visits.{MayVisit};
 
 use crate::bodies::{Lookup, Task, run_body};
-use crate::flags::without_descriptors;
 use crate::report::Report;
 use crate::seen::{Seen, add_operand_types, innermost};
 use crate::transcript::parts_of;
@@ -242,8 +241,7 @@ pub fn run_lines<R: WasmModuleResources>(
     Ok(())
 }
 
-/// Runs such lines behind these first ones, over this lookup: with all proposals and without custom
-/// descriptors, where those name no flag.
+/// Runs such lines behind these first ones, over this lookup.
 pub fn run_undone(
     alloc: Global,
     report: &mut Report,
@@ -252,10 +250,5 @@ pub fn run_undone(
     lookup: Lookup,
 ) -> Result<(), fmt::Error> {
     report.count();
-    run_body(alloc, report, head, lookup, Task::Lines(lines))?;
-    let plain = without_descriptors(alloc, head)?;
-    if plain.is_empty() {
-        return Ok(());
-    }
-    run_body(alloc, report, &plain, lookup, Task::Lines(lines))
+    run_body(alloc, report, head, lookup, Task::Lines(lines))
 }

@@ -1,2 +1,3 @@
 pub mod Casts
 pub mod Descriptors
+pub mod Accesses

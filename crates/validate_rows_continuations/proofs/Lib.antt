@@ -1,2 +1,0 @@
-pub mod HandlerLists
-pub mod ResumedRows

@@ -1,2 +1,0 @@
-pub mod TryTables
-pub mod LegacySteps

@@ -1,0 +1,150 @@
+//! What an atomic access asks of what is held, takes and gives (proposal "shared-everything-threads").
+
+ghost use Rattle.std.specs.Prelude.{◌≡◌, ◌++◌};
+ghost use Rattle.validate_resources.specs.Context.{Valid};
+ghost use Rattle.validate_types.specs.Types.{unpacked_type};
+ghost use Rattle.validation_rules.specs.Shared as rule;
+ghost use Rattle.validate_shapes.specs.Operands.{few_types};
+ghost use Rattle.validate_rows_gc.specs.Accesses.{place_types};
+
+use validate_resources::WasmModuleResources;
+use validate_shapes::operands::Few;
+use validate_types::{AbstractHeapType, HeapType, RefType, StorageType, ValType};
+use validate_visit::{FieldAccess, GlobalAccess, SharedRmwOp, Sign, TableAccess};
+
+/// The operands that name a place, beside the indices of its operator.
+#[derive(Clone, Copy)]
+pub enum Place {
+    /// None: a global.
+    Named,
+    /// One: an address of a table, or a reference to a struct.
+    One(ValType),
+    /// Two: a reference to an array, and how far it is from the first place.
+    Two(ValType, ValType),
+}
+
+/// Whether it is an integer that is held as it is.
+fn is_integer(held: StorageType) -> bool
+    ensures { result ≡ rule.is_integer held }
+{
+    matches!(
+        held,
+        StorageType::Val(ValType::I32) | StorageType::Val(ValType::I64)
+    )
+}
+
+/// Whether what is held is such an integer, or lies below the nullable references to this abstract type, of
+/// this sharedness.
+fn is_integer_or_below<R: WasmModuleResources>(
+    resources: &R,
+    shared: bool,
+    ty: AbstractHeapType,
+    held: StorageType,
+) -> bool
+    requires { Valid (R.context resources.now) (unpacked_type held) }
+    ensures { result ≡ rule.is_integer_or_below (R.context resources.now) shared ty held }
+{
+    if is_integer(held) {
+        return true;
+    }
+    match held {
+        StorageType::I8 | StorageType::I16 => false,
+        StorageType::Val(held) => {
+            let above = RefType {
+                nullable: true,
+                heap_type: HeapType::Abstract { shared, ty },
+            };
+            resources.is_subtype(held, ValType::Ref(above))
+        }
+    }
+}
+
+/// Whether this can be done with what is held. References have to be of this sharedness.
+pub fn is_allowed<R: WasmModuleResources>(
+    resources: &R,
+    shared: bool,
+    access: FieldAccess,
+    held: StorageType,
+) -> bool
+    requires { Valid (R.context resources.now) (unpacked_type held) }
+    ensures { result ≡ rule.is_allowed (R.context resources.now) shared access held }
+{
+    match access {
+        FieldAccess::GetPacked(_) => held.is_packed(),
+        FieldAccess::Whole(GlobalAccess::Rmw(_)) => is_integer(held),
+        FieldAccess::Whole(GlobalAccess::Value(access)) => match access {
+            TableAccess::Get | TableAccess::Xchg => {
+                is_integer_or_below(resources, shared, AbstractHeapType::Any, held)
+            }
+            TableAccess::Set => {
+                held.is_packed()
+                    || is_integer_or_below(resources, shared, AbstractHeapType::Any, held)
+            }
+            TableAccess::Cmpxchg => {
+                is_integer_or_below(resources, shared, AbstractHeapType::Eq, held)
+            }
+        },
+    }
+}
+
+/// Whether it leaves what is held as it is.
+pub fn is_read(access: FieldAccess) -> bool
+    ensures { result ≡ rule.is_read access }
+{
+    matches!(
+        access,
+        FieldAccess::Whole(GlobalAccess::Value(TableAccess::Get)) | FieldAccess::GetPacked(_)
+    )
+}
+
+/// What it takes: the operands that name the place, and on them the values.
+pub fn wanted_by(place: Place, access: FieldAccess, value: ValType) -> Few
+    ensures { few_types result ≡ place_types place ++ rule.wanted_by access value }
+{
+    match access {
+        FieldAccess::Whole(GlobalAccess::Value(TableAccess::Get)) | FieldAccess::GetPacked(_) => {
+            match place {
+                Place::Named => Few::Zero,
+                Place::One(a) => Few::One(a),
+                Place::Two(a, b) => Few::Two(a, b),
+            }
+        }
+        FieldAccess::Whole(GlobalAccess::Value(TableAccess::Cmpxchg)) => match place {
+            Place::Named => Few::Two(value, value),
+            Place::One(a) => Few::Three(a, value, value),
+            Place::Two(a, b) => Few::Four(a, b, value, value),
+        },
+        FieldAccess::Whole(_) => match place {
+            Place::Named => Few::One(value),
+            Place::One(a) => Few::Two(a, value),
+            Place::Two(a, b) => Few::Three(a, b, value),
+        },
+    }
+}
+
+/// What it gives.
+pub fn given_by(access: FieldAccess, value: ValType) -> Few
+    ensures { few_types result ≡ rule.given_by access value }
+{
+    match access {
+        FieldAccess::Whole(GlobalAccess::Value(TableAccess::Set)) => Few::Zero,
+        _ => Few::One(value),
+    }
+}
+
+/// Its name, after that of the place and `atomic`.
+pub fn name_of(access: FieldAccess) -> &'static str {
+    match access {
+        FieldAccess::GetPacked(Sign::Signed) => "get_s",
+        FieldAccess::GetPacked(Sign::Unsigned) => "get_u",
+        FieldAccess::Whole(GlobalAccess::Value(TableAccess::Get)) => "get",
+        FieldAccess::Whole(GlobalAccess::Value(TableAccess::Set)) => "set",
+        FieldAccess::Whole(GlobalAccess::Value(TableAccess::Xchg)) => "rmw.xchg",
+        FieldAccess::Whole(GlobalAccess::Value(TableAccess::Cmpxchg)) => "rmw.cmpxchg",
+        FieldAccess::Whole(GlobalAccess::Rmw(SharedRmwOp::Add)) => "rmw.add",
+        FieldAccess::Whole(GlobalAccess::Rmw(SharedRmwOp::Sub)) => "rmw.sub",
+        FieldAccess::Whole(GlobalAccess::Rmw(SharedRmwOp::And)) => "rmw.and",
+        FieldAccess::Whole(GlobalAccess::Rmw(SharedRmwOp::Or)) => "rmw.or",
+        FieldAccess::Whole(GlobalAccess::Rmw(SharedRmwOp::Xor)) => "rmw.xor",
+    }
+}

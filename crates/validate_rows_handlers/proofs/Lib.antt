@@ -1,0 +1,4 @@
+pub mod TryTables
+pub mod LegacySteps
+pub mod HandlerLists
+pub mod ResumedRows

@@ -1,0 +1,328 @@
+//! Operators on continuations.
+
+ghost use Rattle.std.specs.Prelude.{◌≡◌, true, false, Some, IfOk, IfErr};
+ghost use Rattle.std.specs.List.{AllByRecursion};
+ghost use Rattle.validate_resources.specs.Context.{Valid};
+ghost use Rattle.validate_types.specs.Refs.{nullable_reference};
+ghost use Rattle.validation_rules.specs.Continuations.{continuation_row, continuation_signature, cont_new_row, cont_bind_row, suspend_row, resume_row, resume_throw_row, resume_throw_ref_row, switch_row};
+ghost use Rattle.validation_rules.specs.Indirect as rule;
+ghost use Rattle.validation_rules.specs.Operators.{staying_operator};
+ghost use Rattle.validation_rules.specs.Static.{heads};
+ghost use Rattle.validate_stacks.specs.State.{IsValidBody, body_context};
+ghost use Rattle.validate_shapes.specs.Operands.{FindsOperands};
+ghost use Rattle.validate_stacks.specs.Visits.{MayVisit, Meets};
+ghost use Rattle.validate_rows_handlers.specs.Handlers.{are_fitting_handlers, IsNeverResumed};
+ghost use Rattle.validate_rows_handlers.specs.Targets.{without_targets};
+
+use crate::handlers::check_handlers;
+use crate::lookups::{
+    cont_type_at, func_type_of_cont_at, is_concrete_reference, is_func_subtype,
+    referenced_continuation,
+};
+use validate_resources::WasmModuleResources;
+use validate_shapes::aggregates::type_reference;
+use validate_shapes::operands::{Few, Operands, Pushed, Wanted, check_operands};
+use validate_shapes::tags::{exception_types_at, tag_at};
+use validate_stacks::{Stacks, ty_to_str};
+use validate_types::{Error, FuncType, RefType, ValType};
+use validate_visit::{ContinuationOp, Handle};
+
+/// What a `resume` names: what is resumed, and the reference to it.
+#[derive(Clone, Copy)]
+struct Resumed<'a> {
+    /// What it still takes and gives.
+    func_type: &'a FuncType,
+    /// The type of a reference to it, or of null.
+    reference: ValType,
+}
+
+/// What is resumed by the continuation type at an index and these handlers, each of which has to fit it
+/// (wasmparser's `check_resume_table`).
+fn check_resume_table<'a, R: WasmModuleResources>(
+    stacks: &Stacks,
+    resources: &'a R,
+    offset: u64,
+    cont_type_index: u32,
+    handlers: &[Handle],
+) -> Result<Resumed<'a>, Error>
+    requires { IsValidBody (R.context resources.now) stacks.now.body }
+    ensures found { IfOk result (λ r. continuation_signature
+        (body_context (R.context resources.now) stacks.now.body) cont_type_index
+        ≡ Some r.func_type.now) }
+    ensures params { IfOk result (λ r. AllByRecursion (Valid (R.context resources.now))
+        r.func_type.now.params) }
+    ensures results { IfOk result (λ r. AllByRecursion (Valid (R.context resources.now))
+        r.func_type.now.results) }
+    ensures reference { IfOk result (λ r. rule.type_reference
+        (body_context (R.context resources.now) stacks.now.body) nullable_reference cont_type_index
+        ≡ Some r.reference) }
+    ensures valid { IfOk result (λ r. Valid (R.context resources.now) r.reference) }
+    ensures handlers { IfOk result (λ r. are_fitting_handlers
+        (body_context (R.context resources.now) stacks.now.body) (heads stacks.now.body.present.frames)
+        r.func_type.now handlers.now ≡ true) }
+    ensures refused { IfErr result (λ e. e.wants_memory ≡ false
+        → IsNeverResumed (body_context (R.context resources.now) stacks.now.body)
+        (heads stacks.now.body.present.frames) cont_type_index handlers.now) }
+    ensures offset { IfErr result (λ e. e.offset ≡ offset) }
+{
+    let func_type = func_type_of_cont_at(stacks, resources, offset, cont_type_index)?;
+    check_handlers(stacks, resources, offset, func_type, handlers)?;
+    let reference = type_reference(stacks, resources, offset, true, cont_type_index)?;
+    Ok(Resumed {
+        func_type,
+        reference,
+    })
+}
+
+/// `cont.new`: from a function, or null, a continuation that starts it.
+fn cont_new_types<'a, R: WasmModuleResources>(
+    stacks: &Stacks,
+    resources: &'a R,
+    offset: u64,
+    cont_type_index: u32,
+) -> Result<Operands<'a>, Error>
+    ensures { FindsOperands (R.context resources.now)
+        (λ cx. cont_new_row cx cont_type_index) offset stacks.now.body result }
+{
+    let cont_type = cont_type_at(stacks, resources, offset, cont_type_index)?;
+    let from = ValType::Ref(RefType::concrete(true, cont_type.0));
+    let made = type_reference(stacks, resources, offset, false, cont_type_index)?;
+    Ok(Operands::few(Few::One(from), Few::One(made)))
+}
+
+/// `cont.bind`: binds the first parameters of a continuation, of which the second type leaves the others.
+fn cont_bind_types<'a, R: WasmModuleResources>(
+    stacks: &Stacks,
+    resources: &'a R,
+    offset: u64,
+    argument_index: u32,
+    result_index: u32,
+) -> Result<Operands<'a>, Error>
+    ensures { FindsOperands (R.context resources.now)
+        (λ cx. cont_bind_row cx argument_index result_index) offset stacks.now.body result }
+{
+    let argument = func_type_of_cont_at(stacks, resources, offset, argument_index)?;
+    let result = func_type_of_cont_at(stacks, resources, offset, result_index)?;
+    let (params, left) = (argument.params(), result.params());
+    if params.len() < left.len() {
+        return Err(Error::new("type mismatch in continuation arguments", offset));
+    }
+    let (bound, rest) = params.split_at(params.len() - left.len());
+    if !is_func_subtype(resources, rest, argument.results(), left, result.results()) {
+        return Err(Error::new("type mismatch in continuation types", offset));
+    }
+    let from = type_reference(stacks, resources, offset, true, argument_index)?;
+    let made = type_reference(stacks, resources, offset, false, result_index)?;
+    Ok(Operands {
+        wanted: Wanted::Under(bound, Few::One(from)),
+        pushed: Pushed::Few(Few::One(made)),
+    })
+}
+
+/// `suspend`: takes what the tag carries, and gives what is given back for it.
+fn suspend_types<'a, R: WasmModuleResources>(
+    stacks: &Stacks,
+    resources: &'a R,
+    offset: u64,
+    tag_index: u32,
+) -> Result<Operands<'a>, Error>
+    ensures { FindsOperands (R.context resources.now)
+        (λ cx. suspend_row cx tag_index) offset stacks.now.body result }
+{
+    let tag_type = tag_at(stacks, resources, offset, tag_index)?;
+    Ok(Operands {
+        wanted: Wanted::Under(tag_type.params(), Few::Zero),
+        pushed: Pushed::Listed(tag_type.results()),
+    })
+}
+
+/// `resume`: takes what a continuation still takes, and it above that, and gives what it gives.
+fn resume_types<'a, R: WasmModuleResources>(
+    stacks: &Stacks,
+    resources: &'a R,
+    offset: u64,
+    cont_type_index: u32,
+    handlers: &[Handle],
+) -> Result<Operands<'a>, Error>
+    requires { IsValidBody (R.context resources.now) stacks.now.body }
+    ensures { FindsOperands (R.context resources.now)
+        (λ cx. without_targets (resume_row cx (heads stacks.now.body.present.frames) cont_type_index
+        handlers.now)) offset stacks.now.body result }
+{
+    let resumed = check_resume_table(stacks, resources, offset, cont_type_index, handlers)?;
+    Ok(Operands {
+        wanted: Wanted::Under(resumed.func_type.params(), Few::One(resumed.reference)),
+        pushed: Pushed::Listed(resumed.func_type.results()),
+    })
+}
+
+/// `resume_throw`: takes what an exception with the tag carries, and a continuation above that.
+fn resume_throw_types<'a, R: WasmModuleResources>(
+    stacks: &Stacks,
+    resources: &'a R,
+    offset: u64,
+    cont_type_index: u32,
+    tag_index: u32,
+    handlers: &[Handle],
+) -> Result<Operands<'a>, Error>
+    requires { IsValidBody (R.context resources.now) stacks.now.body }
+    ensures { FindsOperands (R.context resources.now)
+        (λ cx. without_targets (resume_throw_row cx (heads stacks.now.body.present.frames) cont_type_index
+        tag_index handlers.now)) offset stacks.now.body result }
+{
+    let resumed = check_resume_table(stacks, resources, offset, cont_type_index, handlers)?;
+    let thrown = exception_types_at(stacks, resources, offset, tag_index)?;
+    Ok(Operands {
+        wanted: Wanted::Under(thrown, Few::One(resumed.reference)),
+        pushed: Pushed::Listed(resumed.func_type.results()),
+    })
+}
+
+/// `resume_throw_ref`: takes a reference to an exception, and a continuation above that.
+fn resume_throw_ref_types<'a, R: WasmModuleResources>(
+    stacks: &Stacks,
+    resources: &'a R,
+    offset: u64,
+    cont_type_index: u32,
+    handlers: &[Handle],
+) -> Result<Operands<'a>, Error>
+    requires { IsValidBody (R.context resources.now) stacks.now.body }
+    ensures { FindsOperands (R.context resources.now)
+        (λ cx. without_targets (resume_throw_ref_row cx (heads stacks.now.body.present.frames) cont_type_index
+        handlers.now)) offset stacks.now.body result }
+{
+    let resumed = check_resume_table(stacks, resources, offset, cont_type_index, handlers)?;
+    Ok(Operands {
+        wanted: Wanted::Few(Few::Two(ValType::EXNREF, resumed.reference)),
+        pushed: Pushed::Listed(resumed.func_type.results()),
+    })
+}
+
+/// The refusal of a last parameter that is no reference to a type of the module.
+#[cold]
+#[inline(never)]
+fn no_continuation_reference(stacks: &Stacks, offset: u64, found: ValType) -> Error
+    ensures { result.offset ≡ offset }
+{
+    let found = ty_to_str(found);
+    Error::from_text(
+        format!(in stacks.allocator();
+            "type mismatch: expected a continuation reference, found {found}"
+        ),
+        offset,
+    )
+}
+
+/// `switch`: takes what a continuation still takes but for the one that leads back, which is made here,
+/// and gives what that takes.
+fn switch_types<'a, R: WasmModuleResources>(
+    stacks: &Stacks,
+    resources: &'a R,
+    offset: u64,
+    cont_type_index: u32,
+    tag_index: u32,
+) -> Result<Operands<'a>, Error>
+    ensures { FindsOperands (R.context resources.now)
+        (λ cx. switch_row cx cont_type_index tag_index) offset stacks.now.body result }
+{
+    let func_type = func_type_of_cont_at(stacks, resources, offset, cont_type_index)?;
+    let tag_type = tag_at(stacks, resources, offset, tag_index)?;
+    if tag_type.params().len() != 0 {
+        return Err(Error::new("type mismatch: non-empty tag parameter type", offset));
+    }
+    let Some((last, others)) = func_type.params().split_last() else {
+        return Err(Error::new(
+            "type mismatch: instruction requires a continuation reference",
+            offset,
+        ));
+    };
+    if !is_concrete_reference(*last) {
+        return Err(no_continuation_reference(stacks, offset, *last));
+    }
+    let Some(other) = referenced_continuation(resources, *last) else {
+        return Err(Error::new("non-continuation type", offset));
+    };
+    let (given, back) = (tag_type.results(), func_type.results());
+    if !is_func_subtype(resources, given, given, back, other.results()) {
+        return Err(Error::new("type mismatch in continuation types", offset));
+    }
+    let from = type_reference(stacks, resources, offset, true, cont_type_index)?;
+    Ok(Operands {
+        wanted: Wanted::Under(others, Few::One(from)),
+        pushed: Pushed::Listed(other.params()),
+    })
+}
+
+/// What an operator on continuations takes and gives, by the types, the tags and the labels that it names.
+fn continuation_types<'a, R: WasmModuleResources>(
+    stacks: &Stacks,
+    resources: &'a R,
+    offset: u64,
+    op: ContinuationOp<'_>,
+) -> Result<Operands<'a>, Error>
+    requires { IsValidBody (R.context resources.now) stacks.now.body }
+    ensures { FindsOperands (R.context resources.now)
+        (λ cx. without_targets (continuation_row cx (heads stacks.now.body.present.frames) op.entry)) offset
+        stacks.now.body result }
+{
+    match op {
+        ContinuationOp::ContNew(index) => cont_new_types(stacks, resources, offset, index),
+        ContinuationOp::ContBind {
+            argument_index,
+            result_index,
+        } => cont_bind_types(stacks, resources, offset, argument_index, result_index),
+        ContinuationOp::Suspend(tag) => suspend_types(stacks, resources, offset, tag),
+        ContinuationOp::Resume {
+            cont_type_index,
+            resume_table,
+        } => resume_types(
+            stacks,
+            resources,
+            offset,
+            cont_type_index,
+            resume_table.handlers,
+        ),
+        ContinuationOp::ResumeThrow {
+            cont_type_index,
+            tag_index,
+            resume_table,
+        } => resume_throw_types(
+            stacks,
+            resources,
+            offset,
+            cont_type_index,
+            tag_index,
+            resume_table.handlers,
+        ),
+        ContinuationOp::ResumeThrowRef {
+            cont_type_index,
+            resume_table,
+        } => resume_throw_ref_types(
+            stacks,
+            resources,
+            offset,
+            cont_type_index,
+            resume_table.handlers,
+        ),
+        ContinuationOp::Switch {
+            cont_type_index,
+            tag_index,
+        } => switch_types(stacks, resources, offset, cont_type_index, tag_index),
+    }
+}
+
+/// The check of an operator on continuations, its gate aside.
+pub fn check_continuation_row<R: WasmModuleResources>(
+    stacks: &mut Stacks,
+    resources: &R,
+    offset: u64,
+    op: ContinuationOp<'_>,
+) -> Result<(), Error>
+    requires { MayVisit (R.context resources.now) stacks.old }
+    ensures { Meets (R.context resources.now)
+        (λ cx. staying_operator (λ hs. continuation_row cx hs op.entry)) offset stacks.old.body result
+        stacks.new.body }
+{
+    let types = continuation_types(stacks, resources, offset, op)?;
+    check_operands(stacks, resources, offset, types)
+}

@@ -1,2 +1,0 @@
-pub mod LateTests
-pub mod AccessRows

@@ -1,6 +1,6 @@
 //! Checking a body, and the best time of many.
 
-ghost use Rattle.std.specs.Prelude.{◌≡◌, [], true, None};
+ghost use Rattle.std.specs.Prelude.{◌≡◌, [], true, None, Ok};
 ghost use Rattle.std.specs.List.{list_all};
 ghost use Rattle.validate_visit.specs.Immediates.{is_module_op};
 ghost use Rattle.validate_visit.specs.Order.{is_well_ordered_list};
@@ -8,7 +8,8 @@ ghost use Rattle.validate_body.specs.Runs.{without_offsets};
 ghost use Rattle.validate_body.specs.Start.{state, stacks_of};
 ghost use Rattle.validation_rules.specs.Operators.{operator};
 ghost use Rattle.validate_stacks.specs.Visits.{MayVisit, Meets};
-ghost use Rattle.validate_stacks.specs.State.{IsStarting};
+ghost use Rattle.validate_stacks.specs.Pops.{IsKept};
+ghost use Rattle.validate_stacks.specs.State.{IsStarting, IsValidBody};
 
 use crate::failure::Failure;
 use opcheck_script::begin_body;
@@ -17,7 +18,7 @@ use std::alloc::Global;
 use std::time::Instant;
 use validate_body::{OperatorValidator, check_ops, try_op};
 use validate_resources::{ModuleLists, WasmModuleResources};
-use validate_types::{Error, WasmFeatures};
+use validate_types::WasmFeatures;
 use validate_visit::{Op, have_module_immediates, is_well_ordered};
 
 /// A body, in its module.
@@ -151,33 +152,37 @@ fn visit_each<R: WasmModuleResources>(
         if validator.control_stack_height() == 0 {
             return false;
         }
-        if visit(validator, resources, offset, op, *attempted).is_err() {
+        if !is_visited(validator, resources, offset, op, *attempted) {
             return false;
         }
     }
     validator.control_stack_height() == 0
 }
 
-/// Visits one operator, or attempts it.
+/// Visits one operator, or attempts it: whether it was accepted. Of the answer nothing else is kept.
 #[inline(always)]
-fn visit<R: WasmModuleResources>(
+fn is_visited<R: WasmModuleResources>(
     validator: &mut OperatorValidator,
     resources: &R,
     offset: u64,
     op: Op<'_>,
     attempted: bool,
-) -> Result<(), Error>
+) -> bool
     requires idle { (state validator.old).undone ≡ None }
     requires visit { MayVisit (R.context resources.now) (stacks_of validator.old) }
-    ensures { Meets (R.context resources.now) (λ cx. operator cx op.entry) offset (state validator.old)
-        result (state validator.new) }
+    ensures accepted { result ≡ true → Meets (R.context resources.now) (λ cx. operator cx op.entry) offset
+        (state validator.old) (Ok tt) (state validator.new) }
+    ensures valid { IsValidBody (R.context resources.now) (state validator.new) }
+    ensures kept { IsKept (state validator.old) (state validator.new) }
 {
     if attempted {
-        // An answer that is handed on as it is would be copied whole.
         return match try_op(validator, resources, offset, op) {
-            Ok(()) => Ok(()),
-            Err(refusal) => Err(refusal),
+            Ok(()) => true,
+            Err(_) => false,
         };
     }
-    validator.check(resources, offset, op)
+    match validator.check(resources, offset, op) {
+        Ok(()) => true,
+        Err(_) => false,
+    }
 }

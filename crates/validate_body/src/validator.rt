@@ -140,11 +140,7 @@ impl OperatorValidator {
         if self.passes_at_once(resources, &op) {
             return Ok(());
         }
-        // Of an accepted operator the tag alone is written, where an answer that is handed on is copied whole.
-        match check_operator(&mut self.stacks, resources, offset, &op) {
-            Ok(()) => Ok(()),
-            Err(refusal) => Err(refusal),
-        }
+        self.check_in_place(resources, offset, &op)
     }
 
     /// [`OperatorValidator::check`] of an operator that lies in a list and doesn't pass at once.
@@ -162,7 +158,11 @@ impl OperatorValidator {
         ensures valid { IsValidBody (R.context resources.now) (state self.new) }
         ensures kept { IsKept (state self.old) (state self.new) }
     {
-        check_operator(&mut self.stacks, resources, offset, op)
+        // Of an accepted operator the tag alone is written, where an answer that is handed on is copied whole.
+        match check_operator(&mut self.stacks, resources, offset, op) {
+            Ok(()) => Ok(()),
+            Err(refusal) => Err(refusal),
+        }
     }
 
     /// The check of one operator that passes at once. False, with nothing changed, where it takes more.

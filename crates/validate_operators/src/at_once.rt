@@ -33,37 +33,37 @@ use validate_visit::{
 };
 
 /// An operator on numbers, behind its gate.
-#[inline(always)]
+#[inline(never)]
 fn gated_numeric_at_once<R: WasmModuleResources>(
     stacks: &mut Stacks,
     resources: &R,
-    op: NumericOp,
+    op: &NumericOp,
 ) -> bool
     requires { MayVisit (R.context resources.now) stacks.old }
-    ensures { MeetsAtOnce (R.context resources.now) (λ cx. operator cx (Op.Numeric op)) stacks.old result
+    ensures { MeetsAtOnce (R.context resources.now) (λ cx. operator cx (Op.Numeric op.now)) stacks.old result
         stacks.new }
 {
     if !op.gate().is_open(stacks.features()) {
         return false;
     }
-    numeric_at_once(stacks, resources, op)
+    numeric_at_once(stacks, resources, *op)
 }
 
 /// A conversion, behind its gate.
-#[inline(always)]
+#[inline(never)]
 fn gated_convert_at_once<R: WasmModuleResources>(
     stacks: &mut Stacks,
     resources: &R,
-    op: ConvertOp,
+    op: &ConvertOp,
 ) -> bool
     requires { MayVisit (R.context resources.now) stacks.old }
-    ensures { MeetsAtOnce (R.context resources.now) (λ cx. operator cx (Op.Convert op)) stacks.old result
+    ensures { MeetsAtOnce (R.context resources.now) (λ cx. operator cx (Op.Convert op.now)) stacks.old result
         stacks.new }
 {
     if !op.gate().is_open(stacks.features()) {
         return false;
     }
-    convert_at_once(stacks, resources, op)
+    convert_at_once(stacks, resources, *op)
 }
 
 /// `block`, its gate aside.
@@ -110,8 +110,7 @@ fn table_at_once<R: WasmModuleResources>(
     br_table_at_once(stacks, resources, *table)
 }
 
-/// An operator on control, locals or globals, its gate aside. Those on locals stand here, the others are called. None
-/// that passes at once has a gate.
+/// An operator on control, locals or globals, its gate aside. None that passes at once has a gate.
 #[inline(always)]
 fn control_at_once<R: WasmModuleResources>(
     stacks: &mut Stacks,
@@ -264,16 +263,17 @@ fn gated_reference_at_once<R: WasmModuleResources>(
 /// The check of an operator, where it passes at once, as most do. False, with nothing changed, where it takes its check:
 /// an attempt is pending, memory is wanted, the operator has no form at once, or it is refused.
 ///
-/// Operators on numbers and locals stand in it, the others are called: so it is short, and saves no registers for them.
-#[inline(never)]
+/// It stands in each visit, and calls the form of the operator's group, or of the operator itself: so one whose operator is
+/// known makes that call alone.
+#[inline(always)]
 pub fn operator_at_once<R: WasmModuleResources>(stacks: &mut Stacks, resources: &R, op: &Op) -> bool
     requires { MayVisit (R.context resources.now) stacks.old }
     ensures { MeetsAtOnce (R.context resources.now) (λ cx. operator cx op.now) stacks.old result stacks.new }
 {
     match op {
         Op::Control(op) => gated_control_at_once(stacks, resources, op),
-        Op::Numeric(op) => gated_numeric_at_once(stacks, resources, *op),
-        Op::Convert(op) => gated_convert_at_once(stacks, resources, *op),
+        Op::Numeric(op) => gated_numeric_at_once(stacks, resources, op),
+        Op::Convert(op) => gated_convert_at_once(stacks, resources, op),
         Op::Memory(op) => gated_memory_at_once(stacks, resources, op),
         Op::Reference(op) => gated_reference_at_once(stacks, resources, op),
         Op::Struct(op) => gated_struct_at_once(stacks, resources, op),

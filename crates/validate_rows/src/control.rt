@@ -149,6 +149,10 @@ pub fn end_at_once<R: WasmModuleResources>(stacks: &mut Stacks, resources: &R) -
     if !may_lack_else(frame.kind, block_type) {
         return false;
     }
+    // A frame without types is left apart, since nothing is looked for in it.
+    if let BlockType::Empty = block_type {
+        return stacks.leave_at_once(resources, BlockType::Empty);
+    }
     stacks.leave_at_once(resources, block_type)
 }
 

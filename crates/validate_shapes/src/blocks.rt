@@ -151,6 +151,30 @@ pub fn check_opener<R: WasmModuleResources>(
     open_frame(stacks, resources, offset, kind, above, checked)
 }
 
+/// [`opener_at_once`], with the checked block type.
+#[inline(always)]
+fn open_at_once<R: WasmModuleResources>(
+    stacks: &mut Stacks,
+    resources: &R,
+    kind: FrameKind,
+    above: Option<ValType>,
+    block_type: BlockType,
+    checked: BlockType,
+) -> bool
+    requires visit { MayVisit (R.context resources.now) stacks.old }
+    requires above { AllByRecursion (Valid (R.context resources.now)) (pushed_list above) }
+    requires checked { checked_block (body_context (R.context resources.now) stacks.old.body) block_type
+        ≡ Some checked }
+    requires plain { (block_signature (R.context resources.now) checked).params ≡ [] }
+    ensures { MeetsAtOnce (R.context resources.now) (λ cx. opener cx kind (pushed_list above) block_type
+        (checked_block cx block_type)) stacks.old result stacks.new }
+{
+    match above {
+        Some(ty) => stacks.open_over_at_once(resources, ty, kind, checked),
+        None => stacks.open_at_once(kind, checked),
+    }
+}
+
 /// [`check_opener`], where it passes at once: the block has no parameters, and there is room for its frame. False,
 /// with nothing changed, where it doesn't.
 #[inline(always)]
@@ -166,11 +190,12 @@ pub fn opener_at_once<R: WasmModuleResources>(
     ensures { MeetsAtOnce (R.context resources.now) (λ cx. opener cx kind (pushed_list above) block_type
         (checked_block cx block_type)) stacks.old result stacks.new }
 {
+    // The frame of a block without types is written apart, since it is a constant.
+    if let BlockType::Empty = block_type {
+        return open_at_once(stacks, resources, kind, above, block_type, BlockType::Empty);
+    }
     match plain_block_type(stacks, resources, block_type) {
-        Some(checked) => match above {
-            Some(ty) => stacks.open_over_at_once(resources, ty, kind, checked),
-            None => stacks.open_at_once(kind, checked),
-        },
+        Some(checked) => open_at_once(stacks, resources, kind, above, block_type, checked),
         None => false,
     }
 }

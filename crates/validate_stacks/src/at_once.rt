@@ -132,7 +132,7 @@ impl Stacks {
             return false;
         }
         if own == 0 {
-            return self.is_fitting_at(resources, own, 0, elem) && self.push_over(0, pushed);
+            return self.is_fitting_at(resources, own, 0, &elem) && self.push_over(0, pushed);
         }
         let count = n as usize;
         if own < count || !self.has_fitting_run(resources, own, elem, count) {

@@ -113,7 +113,7 @@ impl Stacks {
         let mut left = wanted.len();
         while left > 0 {
             left -= 1;
-            if !self.is_fitting_at(resources, own, wanted.len() - 1 - left, wanted[left]) {
+            if !self.is_fitting_at(resources, own, wanted.len() - 1 - left, &wanted[left]) {
                 return false;
             }
         }
@@ -139,7 +139,7 @@ impl Stacks {
         while left > 0 {
             left -= 1;
             if !self.is_same_number_at(resources, own, count - 1 - left, elem)
-                && !self.is_fitting_by_order(resources, count - 1 - left, elem)
+                && !self.is_fitting_by_order(resources, count - 1 - left, &elem)
             {
                 return false;
             }
@@ -165,7 +165,7 @@ impl Stacks {
         while left > 0 {
             left -= 1;
             let wanted = fields[left].element_type.unpack();
-            if !self.is_fitting_at(resources, own, fields.len() - 1 - left, wanted) {
+            if !self.is_fitting_at(resources, own, fields.len() - 1 - left, &wanted) {
                 return false;
             }
         }
@@ -229,18 +229,18 @@ impl Stacks {
         resources: &R,
         own: usize,
         depth: usize,
-        wanted: ValType,
+        wanted: &ValType,
     ) -> bool
         requires own { own ≡ length (innermost_operands self.now.body.present.frames) }
-        requires wanted { Valid (R.context resources.now) wanted }
+        requires wanted { Valid (R.context resources.now) wanted.now }
         requires state { IsValidBody (R.context resources.now) self.now.body }
         ensures { result ≡ may_pop (body_context (R.context resources.now) self.now.body)
-            (found_after_pops_in_body depth self.now.body) (Some wanted) }
+            (found_after_pops_in_body depth self.now.body) (Some wanted.now) }
     {
         let Some(found) = self.found_among(own, depth) else {
             return false;
         };
-        if fits_at_once(found, Some(wanted)) {
+        if fits_at_once(found, Some(*wanted)) {
             return true;
         }
         self.is_fitting_by_order(resources, depth, wanted)
@@ -252,14 +252,20 @@ impl Stacks {
         &self,
         resources: &R,
         depth: usize,
-        wanted: ValType,
+        wanted: &ValType,
     ) -> bool
-        requires wanted { Valid (R.context resources.now) wanted }
+        requires wanted { Valid (R.context resources.now) wanted.now }
         requires state { IsValidBody (R.context resources.now) self.now.body }
         ensures { result ≡ may_pop (body_context (R.context resources.now) self.now.body)
-            (found_after_pops_in_body depth self.now.body) (Some wanted) }
+            (found_after_pops_in_body depth self.now.body) (Some wanted.now) }
     {
-        self.is_fitting(resources, self.found_at(depth), wanted)
+        // An own operand is compared where it lies.
+        if depth < self.own_len() {
+            if let Some(MaybeType::Known(found)) = self.operands.get(depth) {
+                return resources.is_subtype(*found, *wanted);
+            }
+        }
+        self.is_fitting(resources, self.found_at(depth), *wanted)
     }
 
     /// Checks that pops of these types would pass, the last of the list first, and leaves the operands in

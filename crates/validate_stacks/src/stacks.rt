@@ -25,7 +25,7 @@ use validate_visit::{BlockType, Frame, FrameKind};
 /// its visits). Contracts see a `BodyState` of `specs/`, whose frames have operands of their own.
 #[derive(Drop)]
 pub struct Stacks {
-    operands: Pile<MaybeType>,
+    pub(crate) operands: Pile<MaybeType>,
     control: Pile<Frame>,
     locals: Locals,
     inits: LocalInits,

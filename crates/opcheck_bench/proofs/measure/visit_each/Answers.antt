@@ -1,17 +1,12 @@
 use Rattle.std.proofs.Common.{ap, ◌∙◌}
 use Rattle.validate_stacks.specs.State.{BodyState}
-use Rattle.validate_body.specs.Start.{state}
-use Rattle.validate_body.proofs.Listed.{visit_valid, visit_kept}
 use Rattle.opcheck_bench.proofs.measure.visit_each.Goals as goal
 
 pub loop-pair-preserved : goal.loop-pair-preserved
 loop-pair-preserved g c =
-    let md = g.R.WasmModuleResources.context c.args.resources.now in
-    let v = state c.loop-pair.validator in
-    let w = state c.visit.new.validator in
     record {
       next = (tt, tt);
       finite = tt;
-      valid = visit_valid md _ _ v w _ c.visit.ensures;
-      idle = ap (λ (u : BodyState). u.undone) (visit_kept md _ _ v w _ c.visit.ensures) ∙ c.loop-pair.invariant.idle;
+      valid = c.is_visited.ensures.valid;
+      idle = ap (λ (u : BodyState). u.undone) c.is_visited.ensures.kept ∙ c.loop-pair.invariant.idle;
     }

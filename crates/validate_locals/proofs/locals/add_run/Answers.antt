@@ -6,13 +6,13 @@ use Rattle.validate_locals.proofs.locals.add_run.Goals as goal
 pub returns-clause-added : goal.returns-clause-added
 returns-clause-added c = λ begin count rising within_limit e.
     let runs = c.args.runs.now.items in
-    let run : Run = (c.args.last, c.args.ty) in
+    let run : Run = (c.args.last, c.args.ty.now) in
     let added = rw c.unwrap.ensures at c.push.ensures.items in
     elim c.if-has_last_type.branch [
       | then-has_last_type w ↦
           let items = added ∙ ap (λ (v : Vec Run Global). v.items ++ run ∷ []) w.runs-is in
-          rw items (longer_again begin count c.args.last runs w.pop.new.self.items w.pop.result c.args.ty w.pop.ensures.items ((rw c.deref.ensures.value at w.if-has_last_type.ensures).0 refl) rising within_limit e)
+          rw items (longer_again begin count c.args.last runs w.pop.new.self.items w.pop.result c.args.ty.now w.pop.ensures.items ((rw c.deref.ensures.value at w.if-has_last_type.ensures).0 refl) rising within_limit e)
       | else-has_last_type w ↦
           let items = added ∙ ap (λ (v : Vec Run Global). v.items ++ run ∷ []) w.runs-is in
-          rw items (longer_pushed begin count c.args.last runs c.args.ty rising within_limit e)
+          rw items (longer_pushed begin count c.args.last runs c.args.ty.now rising within_limit e)
     ]

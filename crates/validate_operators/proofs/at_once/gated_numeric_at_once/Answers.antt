@@ -11,4 +11,4 @@ returns-then-not-is_open g c = not_at_once _ _ c.args.stacks.now
 pub returns : goal.returns
 returns g c =
     let md = g.R.WasmModuleResources.context c.args.resources.now in
-    open_at_once md (Numeric c.args.op) c.args.stacks.now c.numeric_at_once.new.stacks c.numeric_at_once.result c.gate.result c.gate.ensures (sym (c.is_open.ensures ∙ ap (λ f. is_open f c.gate.result) c.features.ensures) ∙ c.if-not-is_open.false) c.numeric_at_once.ensures
+    open_at_once md (Numeric c.args.op.now) c.args.stacks.now c.numeric_at_once.new.stacks c.numeric_at_once.result c.gate.result c.gate.ensures (sym (c.is_open.ensures ∙ ap (λ f. is_open f c.gate.result) c.features.ensures) ∙ c.if-not-is_open.false) c.numeric_at_once.ensures

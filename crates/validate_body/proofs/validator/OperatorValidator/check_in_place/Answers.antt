@@ -1,8 +1,14 @@
 use Rattle.validate_body.proofs.Listed.{visit_valid, visit_kept}
 use Rattle.validate_body.proofs.validator.OperatorValidator.check_in_place.Goals as goal
 
-pub returns-clause-valid : goal.returns-clause-valid
-returns-clause-valid g c = visit_valid _ _ _ _ _ _ c.check_operator.ensures.row
+pub returns-in-Ok-clause-valid : goal.returns-in-Ok-clause-valid
+returns-in-Ok-clause-valid g c = visit_valid _ _ _ _ _ _ c.in-Ok.ensures.row
 
-pub returns-clause-kept : goal.returns-clause-kept
-returns-clause-kept g c = visit_kept _ _ _ _ _ _ c.check_operator.ensures.row
+pub returns-in-Ok-clause-kept : goal.returns-in-Ok-clause-kept
+returns-in-Ok-clause-kept g c = visit_kept _ _ _ _ _ _ c.in-Ok.ensures.row
+
+pub returns-in-Err-clause-valid : goal.returns-in-Err-clause-valid
+returns-in-Err-clause-valid g c = visit_valid _ _ _ _ _ _ c.in-Err.ensures.row
+
+pub returns-in-Err-clause-kept : goal.returns-in-Err-clause-kept
+returns-in-Err-clause-kept g c = visit_kept _ _ _ _ _ _ c.in-Err.ensures.row

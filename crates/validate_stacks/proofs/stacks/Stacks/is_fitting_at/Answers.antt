@@ -8,5 +8,5 @@ pub returns-then-fits_at_once : goal.returns-then-fits_at_once
 returns-then-fits_at_once g c =
     let md = g.R.WasmModuleResources.context c.args.resources.now in
     let v = c.args.self.now.body in
-    let fits = fits_by md (g.met.R.WasmModuleResources.lawful c.args.resources.now) v c.in-Some.found c.args.wanted c.requires.wanted (c.fits_at_once.ensures c.if-fits_at_once.true) in
-    sym (ap (λ o. may_pop (body_context md v) o (Some c.args.wanted)) (sym c.found_among.ensures ∙ c.in-Some.is) ∙ fits)
+    let fits = fits_by md (g.met.R.WasmModuleResources.lawful c.args.resources.now) v c.in-Some.found c.args.wanted.now c.requires.wanted (c.fits_at_once.ensures c.if-fits_at_once.true) in
+    sym (ap (λ o. may_pop (body_context md v) o (Some c.args.wanted.now)) (sym c.found_among.ensures ∙ c.in-Some.is) ∙ fits)

@@ -1,6 +1,6 @@
 //! Bytes and numbers of a module (WebAssembly core specification, "Binary Format: Values").
 
-ghost use Rattle.std.specs.Prelude.{◌≡◌, ◌≤◌, ◌<◌, ◌+◌, ◌^◌, ◌↔◌, [], ◌∷◌, Some, None, length, take, drop, true, false, IsTrue, IfOk, OnOk, IfSome, OnErr};
+ghost use Rattle.std.specs.Prelude.{ℕ, ◌≡◌, ◌≤◌, ◌<◌, ◌+◌, ◌^◌, ◌↔◌, [], ◌∷◌, Some, None, length, take, drop, true, false, IsTrue, IfOk, OnOk, IfSome, OnErr};
 ghost use Rattle.binary_operators.specs.Integers.{unsigned, biased, signed};
 
 use crate::error::{Fault, ReadError};
@@ -127,14 +127,20 @@ impl<'a> BinaryReader<'a> {
     }
 
     /// Passes over the next byte, if one is left.
-    pub fn skip(&mut self) {
-        let _byte = self.read_u8();
+    pub fn skip(&mut self)
+        ensures { self.new.left ≡ drop 1 self.old.left }
+    {
+        match self.read_u8() {
+            Ok(_) | Err(_) => {}
+        }
     }
 
     /// Reads a byte that is this one at most. It refuses where none is left, `unexpected end`, and a greater one for
     /// this fault.
     pub fn read_code(&mut self, most: u8, fault: Fault) -> Result<u8, ReadError>
         ensures read { IfOk result (λ byte. self.old.left ≡ byte ∷ self.new.left) }
+        ensures within { IfOk result (λ byte. byte ≤ most) }
+        ensures refused { OnErr result ((byte : ℕ) → take 1 self.old.left ≡ byte ∷ [] → most < byte) }
         ensures kept { OnErr result (self.new ≡ self.old) }
     {
         if self.peek()? > most {

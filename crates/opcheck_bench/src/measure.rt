@@ -95,7 +95,10 @@ fn is_accepted_by(
             check_ops(validator, subject.ops, subject.module, heights),
             Ok(true)
         ),
-        Way::Visits => visit_each(validator, subject.ops, subject.attempts, subject.module),
+        Way::Visits if subject.attempts.contains(&true) => {
+            attempt_each(validator, subject.ops, subject.attempts, subject.module)
+        }
+        Way::Visits => visit_each(validator, subject.ops, subject.module),
     }
 }
 
@@ -137,9 +140,29 @@ fn time(
     Ok(time)
 }
 
-/// Visits the operators one by one, or attempts those of `try` lines: whether all were accepted, and the
-/// outermost frame is closed.
+/// Visits the operators one by one: whether all were accepted, and the outermost frame is closed.
+#[inline(never)]
 fn visit_each<R: WasmModuleResources>(
+    validator: &mut OperatorValidator,
+    ops: &[(Op<'_>, u64)],
+    resources: &R,
+) -> bool
+    requires { IsStarting (R.context resources.now) (state validator.old) }
+{
+    for pair in ops {
+        let (op, offset) = *pair;
+        if validator.control_stack_height() == 0 {
+            return false;
+        }
+        if !is_visited(validator, resources, offset, op, false) {
+            return false;
+        }
+    }
+    validator.control_stack_height() == 0
+}
+
+/// The same, with those of `try` lines attempted.
+fn attempt_each<R: WasmModuleResources>(
     validator: &mut OperatorValidator,
     ops: &[(Op<'_>, u64)],
     attempts: &[bool],

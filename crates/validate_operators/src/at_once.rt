@@ -21,8 +21,10 @@ use validate_rows::parametric::{drop_at_once, select_at_once};
 use validate_rows::references::{ref_as_non_null_at_once, ref_is_null_at_once, ref_null_at_once};
 use validate_rows::variables::{local_get_at_once, local_set_at_once, local_tee_at_once};
 use validate_rows_gc::arrays::array_at_once;
-use validate_rows_gc::casts::{ref_cast_at_once, ref_test_at_once};
-use validate_rows_gc::found::measure_at_once;
+use validate_rows_gc::casts::{
+    br_on_cast_at_once, br_on_cast_fail_at_once, ref_cast_at_once, ref_test_at_once,
+};
+use validate_rows_gc::found::{measure_at_once, ref_eq_at_once};
 use validate_rows_gc::structs::struct_at_once;
 use validate_shapes::blocks::opener_at_once;
 use validate_stacks::Stacks;
@@ -33,7 +35,7 @@ use validate_visit::{
 };
 
 /// An operator on numbers, behind its gate.
-#[inline(never)]
+#[inline(always)]
 fn gated_numeric_at_once<R: WasmModuleResources>(
     stacks: &mut Stacks,
     resources: &R,
@@ -238,6 +240,9 @@ fn reference_at_once<R: WasmModuleResources>(
         ReferenceOp::RefCastNullable(heap_type) => ref_cast_at_once(
             stacks, resources, true, *heap_type,
         ),
+        ReferenceOp::RefEq => ref_eq_at_once(stacks, resources),
+        ReferenceOp::BrOnCast(cast) => br_on_cast_at_once(stacks, resources, cast),
+        ReferenceOp::BrOnCastFail(cast) => br_on_cast_fail_at_once(stacks, resources, cast),
         ReferenceOp::I31Get(_) => measure_at_once(stacks, resources, AbstractHeapType::I31),
         _ => false,
     }
@@ -263,8 +268,8 @@ fn gated_reference_at_once<R: WasmModuleResources>(
 /// The check of an operator, where it passes at once, as most do. False, with nothing changed, where it takes its check:
 /// an attempt is pending, memory is wanted, the operator has no form at once, or it is refused.
 ///
-/// It stands in each visit, and calls the form of the operator's group, or of the operator itself: so one whose operator is
-/// known makes that call alone.
+/// It stands in each visit, with the forms of numbers, constants and locals, and calls those of all others: so a visit whose
+/// operator is known has what that one takes alone.
 #[inline(always)]
 pub fn operator_at_once<R: WasmModuleResources>(stacks: &mut Stacks, resources: &R, op: &Op) -> bool
     requires { MayVisit (R.context resources.now) stacks.old }

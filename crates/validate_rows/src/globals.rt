@@ -7,7 +7,7 @@ ghost use Rattle.validate_stacks.specs.Visits.{MayVisit, Meets};
 
 use validate_resources::WasmModuleResources;
 use validate_shapes::globals::global_type_at;
-use validate_shapes::plain::{check_plain, plain_at_once};
+use validate_shapes::plain::{check_plain, constant_at_once, plain_at_once};
 use validate_stacks::Stacks;
 use validate_types::Error;
 
@@ -63,7 +63,7 @@ pub fn global_get_at_once<R: WasmModuleResources>(
     let Ok(global) = global_type_at(stacks, resources, 0, global_index) else {
         return false;
     };
-    plain_at_once(stacks, resources, &[], &[global.content_type])
+    constant_at_once(stacks, resources, global.content_type)
 }
 
 /// [`check_global_set`], where it passes at once. False, with nothing changed, where it doesn't.

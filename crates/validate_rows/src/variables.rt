@@ -202,7 +202,7 @@ fn any_get_at_once<R: WasmModuleResources>(
 }
 
 /// [`check_local_get`], where it passes at once. False, with nothing changed, where it doesn't.
-#[inline(never)]
+#[inline(always)]
 pub fn local_get_at_once<R: WasmModuleResources>(
     stacks: &mut Stacks,
     resources: &R,
@@ -253,7 +253,7 @@ fn any_set_at_once<R: WasmModuleResources>(
 }
 
 /// [`check_local_set`], where it passes at once: the local is set already. False, with nothing changed, where it doesn't.
-#[inline(never)]
+#[inline(always)]
 pub fn local_set_at_once<R: WasmModuleResources>(
     stacks: &mut Stacks,
     resources: &R,
@@ -304,7 +304,7 @@ fn any_tee_at_once<R: WasmModuleResources>(
 }
 
 /// [`check_local_tee`], where it passes at once: the local is set already. False, with nothing changed, where it doesn't.
-#[inline(never)]
+#[inline(always)]
 pub fn local_tee_at_once<R: WasmModuleResources>(
     stacks: &mut Stacks,
     resources: &R,

@@ -1,5 +1,5 @@
 -- The steps of branches by a cast, by their pops.
-use Rattle.std.proofs.Common.{◌≡◌, ◌≢◌, ℕ, true, false, List, [], ◌∷◌, ◌++◌, reverse, Option, Some, None, refl, sym, ap, ◌∙◌, subst}
+use Rattle.std.proofs.Common.{◌≡◌, ◌≢◌, ℕ, Bool, true, false, List, [], ◌∷◌, ◌++◌, reverse, Option, Some, None, Ok, refl, sym, ap, ◌∙◌, subst}
 use Rattle.std.specs.List.{AllByRecursion}
 use Rattle.std.specs.Option.{option_map}
 use Rattle.validate_resources.specs.Context.{ModuleContext, Valid}
@@ -11,11 +11,14 @@ use Rattle.validation_rules.specs.Rows.{Target, guard}
 use Rattle.validation_rules.specs.Static.{heads}
 use Rattle.validation_rules.proofs.Rows.{row_with}
 use Rattle.validation_rules.proofs.Steps.{some_injective, mapped_some}
+use Rattle.validate_stacks.specs.AtOnce.{MeetsAtOnce}
+use Rattle.validate_stacks.specs.Attempts.{Stacked}
 use Rattle.validate_stacks.specs.Pops.{body_popped_each, body_pushed_each}
 use Rattle.validate_stacks.specs.State.{BodyState, body_context}
 use Rattle.validate_stacks.specs.Visits.{step_body}
 use Rattle.validate_stacks.proofs.Whole.{none_above, some_above}
 use Rattle.validate_shapes.proofs.BranchSteps.{still_open, pushes_is}
+use Rattle.validate_shapes.proofs.LastSteps.{meets_as}
 use Rattle.validate_shapes.proofs.Rows.{row_then}
 
 pub split_ends : (xs : List ValType) (t : ValType) → split_last (xs ++ t ∷ []) ≡ Some (xs, t)
@@ -73,3 +76,9 @@ module _ (md : ModuleContext) (v : BodyState) (o : v.present.frames ≢ []) (d :
       branch_is
       ∙ (ap (option_map (λ u. body_pushed_each pushed u)) (some_above md others (Ref types.from ∷ []) v u p)
       ∙ sym (row_then md u None None others pushed (still_open md (reverse (Ref types.from ∷ [])) v u p o)))
+
+-- to a label of one type, at once
+pub branch_at_once : (md : ModuleContext) (s : Stacked) (o : s.body.present.frames ≢ []) (d : ℕ) (types : CastTypes) (last : ValType) → has_label (heads s.body.present.frames) d ≡ true → label_types_at (body_context md s.body) (heads s.body.present.frames) d ≡ last ∷ [] → md.below (Ref types.carried) last ≡ true → (w : Stacked) (b : Bool) → MeetsAtOnce md (λ c. row_operator (plain_row (Ref types.from ∷ []) (Ref types.left ∷ []))) s b w → MeetsAtOnce md (λ c. staying_operator (λ hs. cast_branch_row c hs d types)) s b w
+unfolding MeetsAtOnce
+branch_at_once md s o d types last there one below w true m = λ offset. meets_as md _ _ offset s.body w.body (Ok tt) (sym (branch_is md s.body o d types [] last there (ap split_last one) below ∙ sym (row_then md s.body None None (Ref types.from ∷ []) (Ref types.left ∷ []) o))) (m offset)
+branch_at_once md s o d types last there one below w false m = m

@@ -3,7 +3,7 @@
 
 ghost use Rattle.std.specs.Prelude.{◌≡◌, true, false, None, Some, IfOk, OnOk, OnErr, IfErr};
 ghost use Rattle.validate_resources.specs.Context.{Valid};
-ghost use Rattle.validation_rules.specs.Casts.{is_castable, cast_operand, ref_test_row, ref_cast_row, may_cast, cast_branch_row, br_on_cast_row, br_on_cast_fail_row};
+ghost use Rattle.validation_rules.specs.Casts.{is_castable, cast_operand, ref_test_row, ref_cast_row, may_cast, cast_branch_row, types_on_cast, types_on_cast_fail, br_on_cast_row, br_on_cast_fail_row};
 ghost use Rattle.validation_rules.specs.Casts as rule;
 ghost use Rattle.validation_rules.specs.Operators.{row_operator, staying_operator};
 ghost use Rattle.validate_stacks.specs.AtOnce.{MeetsAtOnce};
@@ -363,6 +363,32 @@ pub struct CastTypes {
     pub left: RefType,
 }
 
+impl CastTypes {
+    /// Those of `br_on_cast`, from the one type to the other.
+    #[inline(always)]
+    fn on_cast(from: RefType, to: RefType) -> CastTypes
+        ensures { cast_types result ≡ types_on_cast (from, to) }
+    {
+        CastTypes {
+            from,
+            carried: to,
+            left: RefType::difference(from, to),
+        }
+    }
+
+    /// Those of `br_on_cast_fail`.
+    #[inline(always)]
+    fn on_cast_fail(from: RefType, to: RefType) -> CastTypes
+        ensures { cast_types result ≡ types_on_cast_fail (from, to) }
+    {
+        CastTypes {
+            from,
+            carried: RefType::difference(from, to),
+            left: to,
+        }
+    }
+}
+
 /// A branch by a cast, of types that are checked: `[t from] -> [t left]`, with the types t of the label but
 /// its last, which lies above what is carried there. A label is refused that isn't there or has no types, or whose
 /// last type isn't above what is carried, and so are operands that don't fit.
@@ -390,6 +416,36 @@ pub fn check_cast_branch<R: WasmModuleResources>(
     check_onto(stacks, resources, offset, others, ValType::Ref(cast.left))
 }
 
+/// [`check_cast_branch`], where it passes at once, and the label has one type. False, with nothing changed, where it
+/// doesn't.
+fn cast_branch_at_once<R: WasmModuleResources>(
+    stacks: &mut Stacks,
+    resources: &R,
+    relative_depth: u32,
+    cast: &CastTypes,
+) -> bool
+    requires visit { MayVisit (R.context resources.now) stacks.old }
+    requires from { Valid (R.context resources.now) (ValType.Ref cast.now.from) }
+    requires carried { Valid (R.context resources.now) (ValType.Ref cast.now.carried) }
+    requires left { Valid (R.context resources.now) (ValType.Ref cast.now.left) }
+    ensures { MeetsAtOnce (R.context resources.now) (λ cx. staying_operator
+        (λ hs. cast_branch_row cx hs relative_depth (cast_types cast.now))) stacks.old result stacks.new }
+{
+    let Some((block_type, kind)) = stacks.jump(relative_depth) else {
+        return false;
+    };
+    let types = label_types(resources, &block_type, kind);
+    if types.len() != 1 || !resources.is_subtype(ValType::Ref(cast.carried), types[0]) {
+        return false;
+    }
+    plain_at_once(
+        stacks,
+        resources,
+        &[ValType::Ref(cast.from)],
+        &[ValType::Ref(cast.left)],
+    )
+}
+
 /// `br_on_cast`: `[t from] -> [t left]`, with the types t of the label but its last. What is cast is carried
 /// to the label, and goes on without what it was cast to.
 pub fn check_br_on_cast<R: WasmModuleResources>(
@@ -403,11 +459,7 @@ pub fn check_br_on_cast<R: WasmModuleResources>(
         offset stacks.old.body result stacks.new.body }
 {
     let (from, to) = checked_cast(stacks, resources, offset, cast)?;
-    let types = CastTypes {
-        from,
-        carried: to,
-        left: RefType::difference(from, to),
-    };
+    let types = CastTypes::on_cast(from, to);
     check_cast_branch(
         stacks,
         resources,
@@ -432,11 +484,7 @@ pub fn check_br_on_cast_fail<R: WasmModuleResources>(
         stacks.new.body }
 {
     let (from, to) = checked_cast(stacks, resources, offset, cast)?;
-    let types = CastTypes {
-        from,
-        carried: RefType::difference(from, to),
-        left: to,
-    };
+    let types = CastTypes::on_cast_fail(from, to);
     check_cast_branch(
         stacks,
         resources,
@@ -445,4 +493,40 @@ pub fn check_br_on_cast_fail<R: WasmModuleResources>(
         Taken::OnCastFail,
         types,
     )
+}
+
+/// [`check_br_on_cast`], where it passes at once. False, with nothing changed, where it doesn't.
+#[inline(never)]
+pub fn br_on_cast_at_once<R: WasmModuleResources>(
+    stacks: &mut Stacks,
+    resources: &R,
+    cast: &BranchCast,
+) -> bool
+    requires { MayVisit (R.context resources.now) stacks.old }
+    ensures { MeetsAtOnce (R.context resources.now)
+        (λ cx. staying_operator (λ hs. br_on_cast_row cx hs cast.now)) stacks.old result stacks.new }
+{
+    let Ok((from, to)) = checked_cast(stacks, resources, 0, *cast) else {
+        return false;
+    };
+    let types = CastTypes::on_cast(from, to);
+    cast_branch_at_once(stacks, resources, cast.relative_depth, &types)
+}
+
+/// [`check_br_on_cast_fail`], where it passes at once. False, with nothing changed, where it doesn't.
+#[inline(never)]
+pub fn br_on_cast_fail_at_once<R: WasmModuleResources>(
+    stacks: &mut Stacks,
+    resources: &R,
+    cast: &BranchCast,
+) -> bool
+    requires { MayVisit (R.context resources.now) stacks.old }
+    ensures { MeetsAtOnce (R.context resources.now)
+        (λ cx. staying_operator (λ hs. br_on_cast_fail_row cx hs cast.now)) stacks.old result stacks.new }
+{
+    let Ok((from, to)) = checked_cast(stacks, resources, 0, *cast) else {
+        return false;
+    };
+    let types = CastTypes::on_cast_fail(from, to);
+    cast_branch_at_once(stacks, resources, cast.relative_depth, &types)
 }

@@ -279,6 +279,28 @@ pub fn check_ref_eq<R: WasmModuleResources>(
     stacks.push_types(offset, &[ValType::I32])
 }
 
+/// [`check_ref_eq`], where it passes at once. False, with nothing changed, where it doesn't.
+#[inline(never)]
+pub fn ref_eq_at_once<R: WasmModuleResources>(stacks: &mut Stacks, resources: &R) -> bool
+    requires { MayVisit (R.context resources.now) stacks.old }
+    ensures { MeetsAtOnce (R.context resources.now) (λ cx. row_operator (ref_eq_row cx)) stacks.old result
+        stacks.new }
+{
+    let Some(above) = stacks.found_at(0) else {
+        return false;
+    };
+    let Some(below) = stacks.found_at(1) else {
+        return false;
+    };
+    if !is_found_below(resources, AbstractHeapType::Eq, above)
+        || !is_found_below(resources, AbstractHeapType::Eq, below)
+        || !is_same_sharedness(resources, below, above)
+    {
+        return false;
+    }
+    stacks.replace_two_at_once(MaybeType::Known(ValType::I32))
+}
+
 /// `ref.i31`: `[i32] -> [(ref i31)]`.
 pub fn check_ref_i31<R: WasmModuleResources>(
     stacks: &mut Stacks,

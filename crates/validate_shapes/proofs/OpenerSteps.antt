@@ -1,7 +1,8 @@
 -- The step of an operator that opens a frame.
 use Rattle.std.proofs.Common.{◌≡◌, ◌≢◌, ℕ, Bool, true, false, ◌&&◌, List, [], ◌∷◌, ◌++◌, reverse, length, Option, Some, None, Ok, refl, sym, ap, subst, ◌∙◌}
 use Rattle.std.specs.Option.{option_map}
-use Rattle.validate_resources.specs.Context.{ModuleContext}
+use Rattle.std.proofs.lemmas.List.{append-nil}
+use Rattle.validate_resources.specs.Context.{ModuleContext, IsLawful}
 use Rattle.validate_types.specs.declared.types.ValType.{ValType}
 use Rattle.validate_visit.specs.declared.frame.BlockType.{BlockType}
 use Rattle.validation_rules.specs.Context.{block_signature}
@@ -12,11 +13,11 @@ use Rattle.validation_rules.specs.Valid.{IsValidBlock}
 use Rattle.validation_rules.specs.Operators.{opening_operator, opening_operator_if, opener, checked_block}
 use Rattle.validate_stacks.specs.Blocks.{body_with_block}
 use Rattle.validate_stacks.specs.Steps.{head_of, body_with_frame}
-use Rattle.validate_stacks.specs.Pops.{IsKept, body_popped_each}
+use Rattle.validate_stacks.specs.Pops.{IsKept, body_popped_each, body_pushed_each}
 use Rattle.validate_stacks.specs.State.{BodyState, IsValidBody, body_context, body_with_frames}
 use Rattle.validate_stacks.specs.Visits.{step_body, Meets}
-use Rattle.validate_stacks.proofs.AtOnce.{mapped_some, popped_each_kept}
-use Rattle.validate_stacks.proofs.ClosedFrames.{opened_valid}
+use Rattle.validate_stacks.proofs.AtOnce.{mapped_some, popped_each_kept, pushed_each_kept}
+use Rattle.validate_stacks.proofs.ClosedFrames.{entered_is, opened_valid, takes_valid}
 use Rattle.validate_stacks.proofs.Validity.{kept_on}
 use Rattle.validate_shapes.proofs.LastSteps.{meets_done}
 use Rattle.validate_stacks.proofs.Whole.{with_frame, popped_whole}
@@ -86,3 +87,20 @@ module _ (md : ModuleContext) (v : BodyState) (kind : FrameKind) (above : List V
     -- over what was taken
     pub meets_opened_over : (w : BodyState) → option_map (body_with_frame kind bt) (body_popped_each md (reverse above) v) ≡ Some w → Meets md (λ c. opening_operator c kind above bt) offset v (Ok tt) w
     meets_opened_over w h = let parts = mapped_some (body_with_frame kind bt) (body_popped_each md (reverse above) v) w h in meets_opened parts.0 w parts.1 (sym parts.2)
+
+-- a frame opened over its parameters, at once
+pub meets_entered : (md : ModuleContext) (v : BodyState) (kind : FrameKind) (bt : BlockType) → v.present.frames ≢ [] → IsLawful md → IsValidBody md v → IsValidBlock md v.shared bt → (offset : ℕ) (w : BodyState) → option_map (body_with_block md kind bt) (body_popped_each md (reverse (block_signature md bt).params) v) ≡ Some w → Meets md (λ c. opening_operator c kind [] bt) offset v (Ok tt) w
+meets_entered md v kind bt o laws valid block offset w h =
+    let taken : List ValType = (block_signature md bt).params in
+    let parts = mapped_some (body_with_block md kind bt) (body_popped_each md (reverse taken) v) w h in
+    let u = parts.0 in
+    let down = popped_each_kept md (reverse taken) v u parts.1 in
+    let shared : u.shared ≡ v.shared = ap (λ (x : BodyState). x.shared) down.0 in
+    let block_in_u = subst (λ s. IsValidBlock md s bt) (sym shared) block in
+    let bare = body_with_frame kind bt u in
+    let up = pushed_each_kept md taken bare in
+    let entered = entered_is md kind bt u bare taken refl refl ∙ parts.2 in
+    meets_done md _ offset v w
+    (opened_is md v kind [] bt o ∙ ap (λ ts. option_map (body_with_block md kind bt) (body_popped_each md (reverse ts) v)) (append-nil taken) ∙ h)
+    (subst (IsValidBody md) entered (up.1 (takes_valid md u.shared bt taken laws block_in_u refl) (opened_valid md kind bt u bare refl block_in_u (down.1 valid))))
+    (subst (IsKept v) entered (kept_on v u (body_pushed_each taken bare) down.0 (kept_on u bare (body_pushed_each taken bare) refl up.0)))

@@ -5,6 +5,7 @@ ghost use Rattle.std.specs.Option.{ForSome};
 ghost use Rattle.std.specs.List.{AllByRecursion};
 ghost use Rattle.validate_resources.specs.Context.{Valid};
 ghost use Rattle.validate_types.specs.Features.{has, multi_value};
+ghost use Rattle.validate_visit.specs.declared.frame.BlockType.{BlockType};
 ghost use Rattle.validation_rules.specs.Context.{block_signature};
 ghost use Rattle.validation_rules.specs.Operators.{opener, opening_operator, checked_block, is_accessible_func_type};
 ghost use Rattle.validation_rules.specs.Valid.{IsValidBlock};
@@ -175,8 +176,26 @@ fn open_at_once<R: WasmModuleResources>(
     }
 }
 
-/// [`check_opener`], where it passes at once: the block has no parameters, and there is room for its frame. False,
-/// with nothing changed, where it doesn't.
+/// [`opener_at_once`] of a block of the function type at this index, with no operand above its parameters.
+#[inline(never)]
+fn typed_at_once<R: WasmModuleResources>(
+    stacks: &mut Stacks,
+    resources: &R,
+    kind: FrameKind,
+    type_index: u32,
+) -> bool
+    requires visit { MayVisit (R.context resources.now) stacks.old }
+    ensures { MeetsAtOnce (R.context resources.now) (λ cx. opener cx kind [] (BlockType.FuncType type_index)
+        (checked_block cx (BlockType.FuncType type_index))) stacks.old result stacks.new }
+{
+    let Ok(()) = check_function_type(stacks, resources, 0, type_index) else {
+        return false;
+    };
+    stacks.open_over_params_at_once(resources, kind, BlockType::FuncType(type_index))
+}
+
+/// [`check_opener`], where it passes at once: there is room for the frame, and the block has no parameters, or numbers
+/// and vectors alone and nothing above them. False, with nothing changed, where it doesn't.
 #[inline(always)]
 pub fn opener_at_once<R: WasmModuleResources>(
     stacks: &mut Stacks,
@@ -191,11 +210,19 @@ pub fn opener_at_once<R: WasmModuleResources>(
         (checked_block cx block_type)) stacks.old result stacks.new }
 {
     // The frame of a block without types is written apart, since it is a constant.
-    if let BlockType::Empty = block_type {
-        return open_at_once(stacks, resources, kind, above, block_type, BlockType::Empty);
-    }
-    match plain_block_type(stacks, resources, block_type) {
-        Some(checked) => open_at_once(stacks, resources, kind, above, block_type, checked),
-        None => false,
+    match (block_type, above) {
+        (BlockType::Empty, _) => open_at_once(
+            stacks,
+            resources,
+            kind,
+            above,
+            block_type,
+            BlockType::Empty,
+        ),
+        (BlockType::FuncType(index), None) => typed_at_once(stacks, resources, kind, index),
+        _ => match plain_block_type(stacks, resources, block_type) {
+            Some(checked) => open_at_once(stacks, resources, kind, above, block_type, checked),
+            None => false,
+        },
     }
 }

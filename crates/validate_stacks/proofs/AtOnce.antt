@@ -1,35 +1,39 @@
 -- Operands put in place or taken where no attempt is pending, and what fits at once.
-use Rattle.std.proofs.Common.{◌≡◌, ◌≢◌, ◌⊎◌, inl, inr, min, reverse, Result, Ok, Err, IsOk, is_ok, OnOk, MatchResult, MatchOption, MatchBool, ℕ, zero, suc, ◌+◌, ◌-◌, ◌<◌, ◌≤◌, List, [], ◌∷◌, Bool, true, false, Option, Some, None, is_some, IsSome, length, get_or, slice_get, take, drop, refl, sym, ◌∙◌, ap, subst, arith}
+use Rattle.std.proofs.Common.{◌≡◌, ◌≢◌, ◌⊎◌, inl, inr, min, reverse, Result, Ok, Err, IsOk, is_ok, OnOk, MatchResult, MatchOption, MatchBool, ℕ, zero, suc, ◌+◌, ◌-◌, ◌<◌, ◌≤◌, List, [], ◌∷◌, Bool, true, false, Option, Some, None, is_some, IsSome, length, get_or, map, slice_get, take, drop, refl, sym, ◌∙◌, ap, subst, arith}
 use Rattle.std.specs.List.{AllByRecursion}
 use Rattle.std.specs.Option.{option_map}
-use Rattle.std.proofs.lemmas.List.{drop_min, drop-drop, length-drop, length-take-le, take-append-drop}
+use Rattle.std.proofs.lemmas.List.{at_drop_more, append-nil, drop_all, drop_min, drop-drop, length-drop, length-map, length-reverse, length-take-le, take_all, take-append-drop, take-append-le, take-take}
 use Rattle.std.proofs.Math.Seq.{take-add}
 use Rattle.validate_resources.specs.Context.{ModuleContext, Valid, IsLawful}
 use Rattle.validate_types.specs.Refusal.{Refusal}
 use Rattle.validate_types.specs.declared.features.WasmFeatures.{WasmFeatures}
 use Rattle.validate_types.specs.declared.types.ValType.{ValType}
+use Rattle.validate_visit.specs.declared.frame.BlockType.{BlockType}
 use Rattle.validate_visit.specs.declared.frame.Frame.{Frame as FlatFrame}
+use Rattle.validate_visit.specs.declared.frame.FrameKind.{FrameKind}
 use Rattle.validate_transaction.specs.declared.log.Transaction.{Transaction}
 use Rattle.validate_transaction.specs.declared.log.Transaction.TheVariants.{Active, Inactive}
 use Rattle.validate_transaction.specs.Recorded.{log_of, with_push, with_opened}
 use Rattle.validation_rules.specs.Fits.{MaybeType, Bottom, Known, fits, all_fit}
 use Rattle.validation_rules.specs.Context.{Context}
+use Rattle.validation_rules.specs.Pops.{found_by_pop}
 use Rattle.validation_rules.specs.Rows.{guard, Operator}
 use Rattle.validate_stacks.specs.Attempts.{Stacked, may_frame}
-use Rattle.validation_rules.specs.Static.{Frame, State, state_with, operands_found, locals_set}
-use Rattle.validate_stacks.specs.AtOnce.{frames_dropped, body_dropped, state_given, body_given, pushed_list, MeetsAtOnce}
+use Rattle.validation_rules.specs.Static.{Frame, State, state_with, stack_with, operands_found, opened_frame, locals_set}
+use Rattle.validate_stacks.specs.AtOnce.{frames_dropped, body_dropped, body_with_frame_over, state_given, body_given, pushed_list, MeetsAtOnce}
 use Rattle.validation_rules.specs.Context.{block_signature}
 use Rattle.validate_stacks.specs.Blocks.{closed_body}
-use Rattle.validate_stacks.specs.Flat.{state_from_heights, stacked_of, HasShape, IsSound, undone_pending}
+use Rattle.validate_stacks.specs.Flat.{state_from_heights, state_with_frame, stacked_of, HasShape, IsSound, undone_pending}
 use Rattle.validate_stacks.specs.Pops.{FitsAtOnce, may_pop, frames_popped_each, body_popped_each, body_pushed_each, has_operands_fitting, operands_found_in, IsKept}
 use Rattle.validate_stacks.specs.State.{BodyState, body_context, body_with_frames, IsValidBody}
-use Rattle.validate_stacks.specs.Steps.{found_in_body, frame_at, innermost_operands, body_without_first, body_popped, body_pushed, body_unreachable, body_without_frame}
+use Rattle.validate_stacks.specs.Steps.{head_of, found_in_body, found_after_pops_in_body, found_after_pops_in_frames, frame_at, innermost_operands, body_without_first, body_popped, body_pushed, body_unreachable, body_without_frame}
 use Rattle.validate_stacks.specs.Visits.{Meets, MayVisit}
 use Rattle.validation_rules.proofs.Steps.{some_injective}
 use Rattle.validate_stacks.proofs.ClosedFrames.{guarded_some, closed_passes, wants_valid}
 use Rattle.validate_stacks.proofs.Cuts.{state_of, own-cut, HasShape-more, above_height}
 use Rattle.validate_stacks.proofs.MatchedOperands.{drop_next}
-use Rattle.validate_stacks.proofs.Whole.{popped_none, popped_next, popped_whole}
+use Rattle.validate_stacks.proofs.Undone.{new_flat}
+use Rattle.validate_stacks.proofs.Whole.{popped_none, popped_next, popped_whole, pushed_whole}
 use Rattle.validate_stacks.proofs.Validity.{popped_valid, popped_kept, pushed_valid, kept_on}
 
 -- ---- no attempt is pending
@@ -112,6 +116,10 @@ fits_by md laws v t w valid h = by (h w refl)
     by (inl e) = ap (λ x. fits (body_context md v) x w) e
     by (inr e) = ap (λ x. fits (body_context md v) x w) e ∙ laws.reflexive w valid
 
+-- an operand that is known to be of the wanted type
+pub known_fits : (md : ModuleContext) → IsLawful md → (v : BodyState) (k : ℕ) (t : ValType) → Valid md t → found_after_pops_in_body k v ≡ Some (Known t) → may_pop (body_context md v) (found_after_pops_in_body k v) (Some t) ≡ true
+known_fits md laws v k t valid found = ap (λ f. may_pop (body_context md v) f (Some t)) found ∙ laws.reflexive t valid
+
 -- ---- all of a list taken
 
 guard_open : {A : Type 0} (b : Bool) (o : Option A) → b ≡ true → guard b o ≡ o
@@ -134,6 +142,58 @@ popped_dropped md wanted v h = by v.present.frames refl
         popped_whole md v f fs wanted e
         ∙ guard_open (all_fit (body_context md v) (operands_found (length wanted) f) wanted) _ (sym (ap (λ gs. all_fit (body_context md v) (operands_found_in (length wanted) gs) wanted) e) ∙ h)
         ∙ ap (λ gs. Some (body_with_frames gs v)) (sym (ap (frames_dropped (length wanted)) e))
+
+-- what is found below one other is found after it was popped
+pub found_below : (v : BodyState) → found_after_pops_in_body 1 v ≡ found_in_body (body_popped v)
+found_below v = by v.present.frames
+  where
+    with : List Frame → BodyState
+    with fs = record v { present = record { frames = fs; left = v.present.left } }
+
+    in_frame : (own : List MaybeType) (f : Frame) (fs : List Frame) → found_after_pops_in_body 1 (with (record f { operands = own } ∷ fs)) ≡ found_in_body (body_popped (with (record f { operands = own } ∷ fs)))
+    in_frame [] f fs = refl
+    in_frame (x ∷ own) f fs = refl
+
+    by : (fs : List Frame) → found_after_pops_in_body 1 (with fs) ≡ found_in_body (body_popped (with fs))
+    by [] = refl
+    by (f ∷ fs) = in_frame f.operands f fs
+
+-- a known operand that isn't taken is one that is pushed
+pub known_stays : (k : ℕ) (t : ValType) (v : BodyState) → k < length (innermost_operands v.present.frames) → found_after_pops_in_body k v ≡ Some (Known t) → body_dropped k v ≡ body_pushed (Known t) (body_dropped (k + 1) v)
+known_stays k t v own found = by v.present.frames own found
+  where
+    top : (left : List MaybeType) (f : Frame) (fs : List Frame) → 0 < length left → found_by_pop f.dead left ≡ Some (Known t) → body_with_frames (record f { operands = left } ∷ fs) v ≡ body_pushed (Known t) (body_with_frames (record f { operands = drop 1 left } ∷ fs) v)
+    top [] f fs some e = absurd (omega (arith, some))
+    top (x ∷ left) f fs some e = ap (λ y. body_with_frames (record f { operands = y ∷ left } ∷ fs) v) (some_injective x (Known t) e)
+
+    by : (fs : List Frame) → k < length (innermost_operands fs) → found_after_pops_in_frames k fs ≡ Some (Known t) → body_dropped k (body_with_frames fs v) ≡ body_pushed (Known t) (body_dropped (k + 1) (body_with_frames fs v))
+    by [] some e = absurd (omega (arith, some))
+    by (f ∷ fs) some e =
+        let next : drop 1 (drop k f.operands) ≡ drop (k + 1) f.operands = sym (drop_next k f.operands) ∙ ap (λ j. drop j f.operands) plus in
+        top (drop k f.operands) f fs (omega (arith, some, length-drop k f.operands)) e
+        ∙ ap (λ own. body_pushed (Known t) (body_with_frames (record f { operands = own } ∷ fs) v)) next
+      where
+        plus : suc k ≡ k + 1
+        plus = omega arith
+
+-- those that are looked at from the top down, and are known
+pub known_starts : (wanted : List ValType) (v : BodyState) → body_pushed_each (drop (length wanted) wanted) (body_dropped (length wanted - length wanted) v) ≡ v
+known_starts wanted v =
+    let none : length wanted - length wanted ≡ 0 = omega arith in
+    rw (none, drop_all (length wanted) wanted (omega arith)) (dropped_none v)
+
+pub known_goes_on : (wanted : List ValType) (v : BodyState) (n : ℕ) (d : ValType) → 0 < n → n - 1 < length wanted → length wanted ≤ length (innermost_operands v.present.frames) → found_after_pops_in_body (length wanted - 1 - (n - 1)) v ≡ Some (Known (get_or wanted (n - 1) d)) → body_pushed_each (drop n wanted) (body_dropped (length wanted - n) v) ≡ v → body_pushed_each (drop (n - 1) wanted) (body_dropped (length wanted - (n - 1)) v) ≡ v
+known_goes_on wanted v n d some here own found before =
+    let k : ℕ = length wanted - n in
+    let t : ValType = get_or wanted (n - 1) d in
+    let depth : length wanted - 1 - (n - 1) ≡ k = omega (arith, some, here) in
+    let more : length wanted - (n - 1) ≡ k + 1 = omega (arith, some, here) in
+    let back : n - 1 + 1 ≡ n = omega (arith, some) in
+    at_drop_more (λ ts. body_pushed_each ts (body_dropped (length wanted - (n - 1)) v)) wanted (n - 1) d here
+    ∙ ap (λ j. body_pushed_each (t ∷ drop (n - 1 + 1) wanted) (body_dropped j v)) more
+    ∙ ap (λ j. body_pushed_each (t ∷ drop j wanted) (body_dropped (k + 1) v)) back
+    ∙ ap (body_pushed_each (drop n wanted)) (sym (known_stays k t v (omega (arith, some, here, own)) (sym (ap (λ j. found_after_pops_in_body j v) depth) ∙ found)))
+    ∙ before
 
 -- the frames stay open
 pub dropped_open : (n : ℕ) (v : BodyState) → v.present.frames ≢ [] → (body_dropped n v).present.frames ≢ []
@@ -500,6 +560,63 @@ pub no_type : (ts : List ValType) → length ts ≤ 1 → length ts ≢ 1 → ts
 no_type [] h n = refl
 no_type (t ∷ []) h n = absurd (n refl)
 no_type (t ∷ u ∷ ts) h n = absurd (omega (arith, h))
+
+-- ---- own operands taken over by a frame
+
+over_cut : (n : ℕ) (k : FrameKind) (b : BlockType) (fs : List FlatFrame) (operands : List MaybeType) (is : List ℕ) → n ≤ length operands → state_from_heights (new_flat k b (length operands - n) (length is) ∷ fs) operands is ≡ state_with_frame (record { head = record { kind = k; block_type = b }; operands = take n operands; dead = false; first_set = [] }) (state_from_heights fs (drop n operands) is)
+over_cut n k b fs operands is h =
+    let e : length operands - (length operands - n) ≡ n = omega (arith, h) in
+    rw (e, drop_all (length is) is (omega arith), take_all (length is) is (omega arith)) refl
+
+own_taken : (n : ℕ) (fs : List FlatFrame) (operands : List MaybeType) (is : List ℕ) → n ≤ length (innermost_operands (state_from_heights fs operands is).frames) → take n operands ≡ take n (innermost_operands (state_from_heights fs operands is).frames)
+own_taken n [] operands is h = let none : n ≡ 0 = omega (arith, h) in rw none refl
+own_taken n (g ∷ gs) operands is h = sym (take-take n (length operands - g.height) operands (omega (arith, h, own-cut (g ∷ gs) g operands is refl)))
+
+-- with the frame, over so many own operands of the innermost one
+pub taken_over : (n : ℕ) (k : FrameKind) (b : BlockType) (fr fr' : ℕ) (fs : List FlatFrame) (or : ℕ) (operands : List MaybeType) (ir : ℕ) (en : List Bool) (is : List ℕ) (t : Transaction) (s : Bool) (nf : WasmFeatures) (ls : List ValType) → log_of t ≡ None → n ≤ length (innermost_operands (state_from_heights fs operands is).frames) → IsSound fr fs or operands ir en is t ls → IsSound fr' (new_flat k b (length operands - n) (length is) ∷ fs) or operands ir en is t ls × (state_of (new_flat k b (length operands - n) (length is) ∷ fs) operands is s nf ls en (undone_pending (new_flat k b (length operands - n) (length is) ∷ fs) operands is t) ≡ body_with_frame_over n k b (state_of fs operands is s nf ls en (undone_pending fs operands is t)))
+taken_over n k b fr fr' fs or operands ir en is (Active log) s nf ls quiet own w = cc
+taken_over n k b fr fr' fs or operands ir en is (Inactive a) s nf ls quiet own w =
+    let within = own_within fs operands is in
+    let below = dropped_whole n fr fs or operands ir en is (Inactive a) s nf ls refl own w in
+    let left : length (drop n operands) ≡ length operands - n = length-drop n operands in (
+      record { shape = (omega arith, omega arith, subst (λ j. HasShape fs j (length is)) left below.0.shape); marks = w.marks; undo = tt },
+      ap (λ (p : State). record { present = p; shared = s; features = nf; locals = ls; set_at_entry = en; undone = None }) (over_cut n k b fs operands is (omega (arith, own, within)))
+          ∙ ap (λ own. on own (state_of fs (drop n operands) is s nf ls en None)) (own_taken n fs operands is own)
+          ∙ ap (on (take n (innermost_operands (state_from_heights fs operands is).frames))) below.1,
+    )
+  where
+    on : List MaybeType → BodyState → BodyState
+    on own u = body_with_frames (record { head = record { kind = k; block_type = b }; operands = own; dead = false; first_set = [] } ∷ u.present.frames) u
+
+-- those that are known to be of the parameters' types
+pub over_known : (ts : List ValType) (k : FrameKind) (b : BlockType) (v : BodyState) → length ts ≤ length (innermost_operands v.present.frames) → body_pushed_each ts (body_dropped (length ts) v) ≡ v → body_with_frame_over (length ts) k b v ≡ body_with_frames (opened_frame (head_of k b) ts ∷ (body_dropped (length ts) v).present.frames) (body_dropped (length ts) v)
+over_known ts k b v own known = ap (λ q. body_with_frames (record { head = head_of k b; operands = q; dead = false; first_set = [] } ∷ (body_dropped (length ts) v).present.frames) (body_dropped (length ts) v)) (by v.present.frames refl)
+  where
+    known_types : List MaybeType
+    known_types = map Known ts
+
+    top : List MaybeType
+    top = reverse known_types
+
+    count : length top ≡ length ts
+    count = length-reverse known_types ∙ length-map ts (λ (t : ValType). Known t)
+
+    by : (fs : List Frame) → v.present.frames ≡ fs → take (length ts) (innermost_operands v.present.frames) ≡ stack_with (map Known ts) []
+    by [] e =
+        let none : length ts ≡ 0 = omega (arith, own, ap (λ gs. length (innermost_operands gs)) e) in
+        rw (length_none ts none) refl
+      where
+        length_none : (us : List ValType) → length us ≡ 0 → us ≡ []
+        length_none [] h = refl
+        length_none (u ∷ us) h = absurd (omega (arith, h))
+    by (f ∷ fs) e =
+        let pushed = pushed_whole ts (body_dropped (length ts) v) (record f { operands = drop (length ts) f.operands }) fs (ap (frames_dropped (length ts)) e) in
+        let whole : stack_with (map Known ts) (drop (length ts) f.operands) ≡ f.operands = ap (λ (u : BodyState). innermost_operands u.present.frames) (sym pushed ∙ known) ∙ ap innermost_operands e in
+        ap (λ gs. take (length ts) (innermost_operands gs)) e
+        ∙ ap (take (length ts)) (sym whole)
+        ∙ take-append-le (length ts) top (drop (length ts) f.operands) (omega (arith, count))
+        ∙ take_all (length ts) top (omega (arith, count))
+        ∙ sym (append-nil top)
 
 -- ---- an operand taken for a frame
 

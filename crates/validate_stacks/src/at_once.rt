@@ -7,14 +7,16 @@ ghost use Rattle.validate_resources.specs.Context.{Valid};
 ghost use Rattle.validate_types.specs.Types.{unpacked_fields};
 ghost use Rattle.validation_rules.specs.Context.{block_signature};
 ghost use Rattle.validation_rules.specs.Fits.{Known};
+ghost use Rattle.validation_rules.specs.Valid.{IsValidBlock};
 ghost use Rattle.validate_stacks.specs.Attempts.{phase_moved};
 ghost use Rattle.validate_stacks.specs.AtOnce.{body_dropped, pushed_list};
-ghost use Rattle.validate_stacks.specs.Blocks.{closed_body};
+ghost use Rattle.validate_stacks.specs.Blocks.{body_with_block, closed_body};
 ghost use Rattle.validate_stacks.specs.Pops.{IsKept, body_popped_each, body_pushed_each};
 ghost use Rattle.validate_stacks.specs.State.{IsValidBody};
 ghost use Rattle.validate_stacks.specs.Steps.{innermost_operands, found_in_body, body_popped, body_pushed, body_unreachable, body_with_frame, frame_at};
 
-use crate::blocks::results;
+use crate::blocks::{params, results};
+use crate::pops::is_same_number;
 use crate::stacks::Stacks;
 use validate_resources::WasmModuleResources;
 use validate_types::{FieldType, MaybeType, ValType};
@@ -38,9 +40,8 @@ impl Stacks {
             (self.new ≡ self.old) }
         ensures phase { phase_moved self.new.phase ≡ phase_moved self.old.phase }
     {
-        let own = self.own_len();
         let count = wanted.len();
-        if self.is_pending() || own < count || !self.has_same_numbers(resources, own, wanted) {
+        if self.is_pending() || !self.has_own(count) || !self.has_same_numbers(resources, wanted) {
             return false;
         }
         match pushed {
@@ -49,7 +50,10 @@ impl Stacks {
                     return self.push_at_once(MaybeType::Known(ty));
                 }
                 self.drop_operands(count - 1);
-                self.replace_operand(MaybeType::Known(ty));
+                // The lowest is often of the pushed type, and stays.
+                if !is_same_number(ty, wanted[0]) {
+                    self.replace_operand(MaybeType::Known(ty));
+                }
             }
             None => self.drop_operands(count),
         }
@@ -135,7 +139,7 @@ impl Stacks {
             return self.is_fitting_at(resources, own, 0, &elem) && self.push_over(0, pushed);
         }
         let count = n as usize;
-        if own < count || !self.has_fitting_run(resources, own, elem, count) {
+        if own < count || !self.has_fitting_run(resources, elem, count) {
             return false;
         }
         self.push_over(count, pushed)
@@ -196,6 +200,22 @@ impl Stacks {
         if self.own_len() == 0 {
             return self.found_at(0).is_some() && self.push_at_once(ty);
         }
+        self.replace_operand(ty);
+        true
+    }
+
+    /// Pops the two operands that are found, whatever their types, and pushes another: where no attempt is pending, and
+    /// both are own ones of the innermost frame. False, with nothing changed, where that isn't so. It takes no memory.
+    #[inline(always)]
+    pub fn replace_two_at_once(&mut self, ty: MaybeType) -> bool
+        ensures exact { MatchBool result (self.new.body ≡ body_pushed ty (body_popped (body_popped self.old.body)))
+            (self.new ≡ self.old) }
+        ensures phase { phase_moved self.new.phase ≡ phase_moved self.old.phase }
+    {
+        if self.is_pending() || !self.has_own(2) {
+            return false;
+        }
+        self.drop_operands(1);
         self.replace_operand(ty);
         true
     }
@@ -287,6 +307,29 @@ impl Stacks {
         }
         self.give_operands();
         true
+    }
+
+    /// Takes the parameters of a block type, and opens a frame over them: where no attempt is pending, there is room, and
+    /// the innermost frame has own operands that are known to be of these number or vector types. False, with nothing
+    /// changed, where that isn't so. It takes no memory.
+    pub fn open_over_params_at_once<R: WasmModuleResources>(
+        &mut self,
+        resources: &R,
+        kind: FrameKind,
+        block_type: BlockType,
+    ) -> bool
+        requires block { IsValidBlock (R.context resources.now) self.old.body.shared block_type }
+        requires state { IsValidBody (R.context resources.now) self.old.body }
+        ensures { MatchBool result (option_map (body_with_block (R.context resources.now) kind block_type)
+            (body_popped_each (R.context resources.now)
+            (reverse (block_signature (R.context resources.now) block_type).params) self.old.body)
+            ≡ Some self.new.body) (self.new ≡ self.old) }
+    {
+        let taken = params(resources, &block_type);
+        if !self.has_own(taken.len()) || !self.has_same_numbers(resources, taken) {
+            return false;
+        }
+        self.open_over_own(kind, block_type, taken.len())
     }
 
     /// Takes an operand of this type, and opens a frame: where no attempt is pending, there is room, and the innermost

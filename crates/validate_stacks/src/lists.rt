@@ -1,9 +1,12 @@
 //! Pops and pushes of lists of types.
 
-ghost use Rattle.std.specs.Prelude.{◌≡◌, ◌≤◌, true, false, None, Some, OnOk, OnErr, IfErr, length, replicate, reverse, take};
+ghost use Rattle.std.specs.Prelude.{◌≡◌, ◌<◌, ◌≤◌, true, false, None, Some, OnOk, OnErr, IfErr, length, replicate, reverse, slice_get, take, ◌-◌};
 ghost use Rattle.std.specs.List.{AllByRecursion};
+ghost use Rattle.std.specs.Option.{option_map};
 ghost use Rattle.validate_resources.specs.Context.{ModuleContext, Valid};
 ghost use Rattle.validate_types.specs.Types.{unpacked_fields};
+ghost use Rattle.validation_rules.specs.Fits.{Known};
+ghost use Rattle.validate_stacks.specs.AtOnce.{body_dropped};
 ghost use Rattle.validate_stacks.specs.Attempts.{phase_moved};
 ghost use Rattle.validate_stacks.specs.State.{IsValidBody, body_context};
 ghost use Rattle.validate_stacks.specs.Pops.{body_popped_each, body_pushed_each, has_operands_fitting, may_pop, IsKept};
@@ -125,11 +128,10 @@ impl Stacks {
     pub(crate) fn has_fitting_run<R: WasmModuleResources>(
         &self,
         resources: &R,
-        own: usize,
         elem: ValType,
         count: usize,
     ) -> bool
-        requires own { own ≡ length (innermost_operands self.now.body.present.frames) }
+        requires own { count ≤ length (innermost_operands self.now.body.present.frames) }
         requires element { Valid (R.context resources.now) elem }
         requires state { IsValidBody (R.context resources.now) self.now.body }
         ensures { result ≡ has_operands_fitting (body_context (R.context resources.now) self.now.body)
@@ -138,7 +140,7 @@ impl Stacks {
         let mut left = count;
         while left > 0 {
             left -= 1;
-            if !self.is_same_number_at(resources, own, count - 1 - left, elem)
+            if !self.is_same_number_at(count - 1 - left, elem)
                 && !self.is_fitting_by_order(resources, count - 1 - left, &elem)
             {
                 return false;
@@ -178,45 +180,39 @@ impl Stacks {
     pub(crate) fn has_same_numbers<R: WasmModuleResources>(
         &self,
         resources: &R,
-        own: usize,
         wanted: &[ValType],
     ) -> bool
-        requires own { own ≡ length (innermost_operands self.now.body.present.frames) }
+        requires own { length wanted.now ≤ length (innermost_operands self.now.body.present.frames) }
         requires types { AllByRecursion (Valid (R.context resources.now)) wanted.now }
         requires state { IsValidBody (R.context resources.now) self.now.body }
-        ensures { result ≡ true → has_operands_fitting (body_context (R.context resources.now) self.now.body)
-            wanted.now self.now.body ≡ true }
+        ensures fitting { result ≡ true → has_operands_fitting
+            (body_context (R.context resources.now) self.now.body) wanted.now self.now.body ≡ true }
+        ensures known { result ≡ true
+            → body_pushed_each wanted.now (body_dropped (length wanted.now) self.now.body) ≡ self.now.body }
+        ensures lowest { result ≡ true → 0 < length wanted.now
+            → found_after_pops_in_body (length wanted.now - 1) self.now.body
+            ≡ option_map Known (slice_get wanted.now 0) }
     {
+        // The contract alone reads it.
+        let _resources = resources;
         let mut left = wanted.len();
         while left > 0 {
             left -= 1;
-            if !self.is_same_number_at(resources, own, wanted.len() - 1 - left, wanted[left]) {
+            if !self.is_same_number_at(wanted.len() - 1 - left, wanted[left]) {
                 return false;
             }
         }
         true
     }
 
-    /// Whether the operand that a pop finds after so many others is known to be of this number or vector type, where
-    /// the innermost frame has so many own operands.
+    /// Whether the own operand of the innermost frame at this depth is known to be of this number or vector type.
     #[inline(always)]
-    fn is_same_number_at<R: WasmModuleResources>(
-        &self,
-        resources: &R,
-        own: usize,
-        depth: usize,
-        wanted: ValType,
-    ) -> bool
-        requires own { own ≡ length (innermost_operands self.now.body.present.frames) }
-        requires wanted { Valid (R.context resources.now) wanted }
-        requires state { IsValidBody (R.context resources.now) self.now.body }
-        ensures { result ≡ true → may_pop (body_context (R.context resources.now) self.now.body)
-            (found_after_pops_in_body depth self.now.body) (Some wanted) ≡ true }
+    fn is_same_number_at(&self, depth: usize, wanted: ValType) -> bool
+        requires { depth < length (innermost_operands self.now.body.present.frames) }
+        ensures { result ≡ true → found_after_pops_in_body depth self.now.body ≡ Some (Known wanted) }
     {
-        // The contract alone reads it.
-        let _resources = resources;
-        match self.found_among(own, depth) {
-            Some(MaybeType::Known(found)) => is_same_number(found, wanted),
+        match self.own_operand(depth) {
+            Some(MaybeType::Known(found)) => is_same_number(*found, wanted),
             _ => false,
         }
     }

@@ -6,7 +6,7 @@ ghost use Rattle.validate_locals.specs.Limit.{max_locals};
 ghost use Rattle.validate_resources.specs.Context.{ModuleContext};
 ghost use Rattle.validate_transaction.specs.TakeBack.{items_taken_back, CanTakeBack};
 ghost use Rattle.validation_rules.specs.Static.{operand_count, frame_count, locals_set, is_local_set};
-ghost use Rattle.validate_stacks.specs.AtOnce.{body_dropped, body_given};
+ghost use Rattle.validate_stacks.specs.AtOnce.{body_dropped, body_given, body_with_frame_over};
 ghost use Rattle.validate_stacks.specs.Attempts.{phase_moved, may_attempt, may_frame, may_set, may_unset, stacks_begun, stacks_committed, stacks_rolled_back};
 ghost use Rattle.validate_stacks.specs.Flat.{frames_unmarked, inits_in_frames};
 ghost use Rattle.validate_stacks.specs.Pops.{IsKept};
@@ -354,6 +354,29 @@ impl Stacks {
         true
     }
 
+    /// Opens a frame that takes over so many own operands of the innermost frame, where there is room and no attempt is
+    /// pending. False, with nothing changed, where that isn't so. It takes no memory.
+    #[inline(always)]
+    pub(crate) fn open_over_own(
+        &mut self,
+        kind: FrameKind,
+        block_type: BlockType,
+        count: usize,
+    ) -> bool
+        requires { count ≤ length (innermost_operands self.old.body.present.frames) }
+        ensures { MatchBool result (self.new.body ≡ body_with_frame_over count kind block_type self.old.body)
+            (self.new ≡ self.old) }
+    {
+        if self.transaction.is_active() || !self.control.has_room() {
+            return false;
+        }
+        let height = self.operands.len() - count;
+        let init_height = self.inits.height();
+        self.control
+            .put(live_frame(kind, block_type, height, init_height));
+        true
+    }
+
     /// Takes the top own operand of the innermost frame, and opens a frame as [`Stacks::open_at_once`] does.
     #[inline(always)]
     pub(crate) fn open_over_top(&mut self, kind: FrameKind, block_type: BlockType) -> bool
@@ -426,14 +449,25 @@ impl Stacks {
         }
     }
 
-    /// The same, where the innermost frame has so many own operands.
+    /// The own operand of the innermost frame at this depth, the top at 0, where it has so many.
+    #[inline(always)]
+    pub(crate) fn own_operand(&self, depth: usize) -> Option<&MaybeType>
+        requires { depth < length (innermost_operands self.now.body.present.frames) }
+        ensures { option_copied result ≡ found_after_pops_in_body depth self.now.body }
+    {
+        // The proof takes the invariant of the stacks from this read.
+        let _frames = self.control.len();
+        self.operands.get(depth)
+    }
+
+    /// What a pop would find below so many others, where the innermost frame has so many own operands.
     #[inline(always)]
     pub(crate) fn found_among(&self, own: usize, depth: usize) -> Option<MaybeType>
         requires { own ≡ length (innermost_operands self.now.body.present.frames) }
         ensures { result ≡ found_after_pops_in_body depth self.now.body }
     {
         if depth < own {
-            return self.operands.get(depth).copied();
+            return self.own_operand(depth).copied();
         }
         self.found_at(depth)
     }
@@ -475,6 +509,21 @@ impl Stacks {
         }
         self.mark();
         Ok(())
+    }
+
+    /// Whether the innermost frame has so many own operands at least.
+    #[inline(always)]
+    pub(crate) fn has_own(&self, count: usize) -> bool
+        ensures { result ≡ true → count ≤ length (innermost_operands self.now.body.present.frames) }
+    {
+        if count == 0 {
+            return true;
+        }
+        let all = self.operands.len();
+        match self.control.get(0) {
+            Some(frame) => count <= all && frame.height <= all - count,
+            None => false,
+        }
     }
 
     /// How many own operands the innermost frame has.

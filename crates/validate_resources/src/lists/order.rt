@@ -209,13 +209,16 @@ fn is_ref_below(types: &[SubType], a: RefType, b: RefType) -> bool
 pub fn is_type_below(types: &[SubType], a: ValType, b: ValType) -> bool
     ensures { result ≡ is_type_below types.now a b }
 {
+    // References are asked for most, since equal numbers fit at once.
+    if let (ValType::Ref(a), ValType::Ref(b)) = (a, b) {
+        return is_ref_below(types, a, b);
+    }
     match (a, b) {
         (ValType::I32, ValType::I32)
         | (ValType::I64, ValType::I64)
         | (ValType::F32, ValType::F32)
         | (ValType::F64, ValType::F64)
         | (ValType::V128, ValType::V128) => true,
-        (ValType::Ref(a), ValType::Ref(b)) => is_ref_below(types, a, b),
         _ => false,
     }
 }

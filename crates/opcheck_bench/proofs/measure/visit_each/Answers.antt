@@ -5,8 +5,6 @@ use Rattle.opcheck_bench.proofs.measure.visit_each.Goals as goal
 pub loop-pair-preserved : goal.loop-pair-preserved
 loop-pair-preserved g c =
     record {
-      next = (tt, tt);
-      finite = tt;
       valid = c.is_visited.ensures.valid;
       idle = ap (λ (u : BodyState). u.undone) c.is_visited.ensures.kept ∙ c.loop-pair.invariant.idle;
     }

@@ -11,4 +11,4 @@ returns-in_default g c = not_at_once _ _ c.args.stacks.now
 pub returns : goal.returns
 returns g c =
     let md = g.R.WasmModuleResources.context c.args.resources.now in
-    found_at_once md c.args.stacks.now.body (λ cx hs. global_get_row cx c.args.global_index) (λ cx hs. plain_row [] (c.in-Ok.global.content_type ∷ [])) c.args.stacks.now c.plain_at_once.new.stacks c.plain_at_once.result refl (search rules) c.plain_at_once.ensures
+    found_at_once md c.args.stacks.now.body (λ cx hs. global_get_row cx c.args.global_index) (λ cx hs. plain_row [] (c.in-Ok.global.content_type ∷ [])) c.args.stacks.now c.constant_at_once.new.stacks c.constant_at_once.result refl (search rules) c.constant_at_once.ensures

@@ -2,9 +2,9 @@ use Rattle.std.proofs.Common.{rules, ◌≡◌, ◌∷◌, [], true, Some, rever
 use Rattle.validate_types.specs.declared.types.ValType.TheVariants.{I32}
 use Rattle.validation_rules.specs.Fits.{MaybeType}
 use Rattle.validate_resources.specs.Context.{is_number_or_vector}
-use Rattle.validate_stacks.proofs.AtOnce.{exchange_parts, met_at_once, not_at_once}
+use Rattle.validate_stacks.proofs.AtOnce.{found_below, exchange_parts, met_at_once, not_at_once}
 use Rattle.validate_shapes.proofs.LastSteps.{meets_done}
-use Rattle.validate_rows.proofs.SelectSteps.{found_below, number_valid, select_exchanged}
+use Rattle.validate_rows.proofs.SelectSteps.{number_valid, select_exchanged}
 use Rattle.validate_rows.proofs.parametric.select_at_once.Goals as goal
 
 pub returns-in_default : goal.returns-in_default

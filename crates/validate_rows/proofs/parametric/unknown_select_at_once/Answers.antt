@@ -1,9 +1,9 @@
 use Rattle.std.proofs.Common.{◌≡◌, ◌≤◌, Some, length, sym, ap, ◌∙◌, arith}
 use Rattle.validation_rules.specs.Fits.{MaybeType, Bottom}
 use Rattle.validate_stacks.specs.Steps.{innermost_operands, found_in_body, body_popped}
-use Rattle.validate_stacks.proofs.AtOnce.{not_at_once}
+use Rattle.validate_stacks.proofs.AtOnce.{found_below, not_at_once}
 use Rattle.validate_shapes.proofs.Replaced.{replaced_at_once}
-use Rattle.validate_rows.proofs.SelectSteps.{found_below, unknown_selected}
+use Rattle.validate_rows.proofs.SelectSteps.{unknown_selected}
 use Rattle.validate_rows.proofs.parametric.unknown_select_at_once.Goals as goal
 
 pub returns-in_default : goal.returns-in_default

@@ -1,8 +1,11 @@
--- Where what is left to match fits, all of the list does.
-use Rattle.std.proofs.Common.{◌≡◌, ◌≤◌, ◌-◌, length, take, reverse}
-use Rattle.validation_rules.specs.Fits.{all_fit}
+-- Where what is left to match fits, all of the list does; and what was matched last is known.
+use Rattle.std.proofs.Common.{◌≡◌, ◌<◌, ◌≤◌, ◌-◌, drop, length, slice_get, take, reverse}
+use Rattle.std.specs.Option.{option_map}
+use Rattle.validation_rules.specs.Fits.{Known, all_fit}
 use Rattle.validate_stacks.specs.State.{body_context}
-use Rattle.validate_stacks.specs.Pops.{has_operands_fitting}
+use Rattle.validate_stacks.specs.AtOnce.{body_dropped}
+use Rattle.validate_stacks.specs.Pops.{body_pushed_each, has_operands_fitting}
+use Rattle.validate_stacks.specs.Steps.{found_after_pops_in_body}
 use Rattle.validate_stacks.proofs.MatchedOperands.{after_in}
 use Rattle.validate_stacks.proofs.stacks.Stacks.has_same_numbers.Given as goal
 
@@ -15,4 +18,6 @@ invariant-loop-left g l =
     record {
       within : l.left ≤ length l.wanted;
       rest : all_fit cx (after_in l.left (length l.wanted - l.left) l.initial.self.body.present.frames) (reverse (take l.left l.wanted)) ≡ has_operands_fitting cx l.wanted l.initial.self.body;
+      known : body_pushed_each (drop l.left l.wanted) (body_dropped (length l.wanted - l.left) l.initial.self.body) ≡ l.initial.self.body;
+      lowest : l.left < length l.wanted → found_after_pops_in_body (length l.wanted - 1 - l.left) l.initial.self.body ≡ option_map Known (slice_get l.wanted l.left);
     }

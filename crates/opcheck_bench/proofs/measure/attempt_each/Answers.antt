@@ -1,0 +1,12 @@
+use Rattle.std.proofs.Common.{ap, ◌∙◌}
+use Rattle.validate_stacks.specs.State.{BodyState}
+use Rattle.opcheck_bench.proofs.measure.attempt_each.Goals as goal
+
+pub loop-pair-preserved : goal.loop-pair-preserved
+loop-pair-preserved g c =
+    record {
+      next = (tt, tt);
+      finite = tt;
+      valid = c.is_visited.ensures.valid;
+      idle = ap (λ (u : BodyState). u.undone) c.is_visited.ensures.kept ∙ c.loop-pair.invariant.idle;
+    }

@@ -107,7 +107,7 @@ pub record Grown (first : List ValType) (runs : List Run) (count : ℕ) (first' 
   pub locals : AreLocals first' runs' (count + length more)
   pub types : local_types first' runs' ≡ local_types first runs ++ more
 
-run-end : (first : List ValType) (rs : List Run) (count : ℕ) → AreLocals first rs count → end_of (length first) rs ≡ count
+pub run-end : (first : List ValType) (rs : List Run) (count : ℕ) → AreLocals first rs count → end_of (length first) rs ≡ count
 run-end first rs count was = omega (arith, was.counted, length-append first (run_types (length first) rs))
 
 -- no runs, where there is room among the first
@@ -127,7 +127,7 @@ near-grown first near count was room within =
     }
 
 -- locals that are held plainly
-grown-near : (first : List ValType) (rs : List Run) (count : ℕ) (near : List ValType) → AreLocals first rs count → length first + length near ≤ max_first → count + length near ≤ max_locals → Grown first rs count (first ++ near) rs near
+pub grown-near : (first : List ValType) (rs : List Run) (count : ℕ) (near : List ValType) → AreLocals first rs count → length first + length near ≤ max_first → count + length near ≤ max_locals → Grown first rs count (first ++ near) rs near
 grown-near first rs count [] was room within =
     let all : count ≡ count + 0 = omega arith in
     rw (append-nil first) record { locals = subst (λ n. AreLocals first rs n) all was; types = sym (append-nil (local_types first rs)) }
@@ -146,7 +146,7 @@ no-runs n (r ∷ rs) h e =
     absurd (omega (arith, l, length-replicate (r.0 + 1 - n) r.1, ap length e, h.0))
 
 -- locals in runs
-grown-far : (first : List ValType) (rs rs' : List Run) (count : ℕ) (far : List ValType) → AreLocals first rs count → (length first < max_first → far ≡ []) → AreLongerRuns (length first) rs rs' far → count + length far ≤ max_locals → Grown first rs count first rs' far
+pub grown-far : (first : List ValType) (rs rs' : List Run) (count : ℕ) (far : List ValType) → AreLocals first rs count → (length first < max_first → far ≡ []) → AreLongerRuns (length first) rs rs' far → count + length far ≤ max_locals → Grown first rs count first rs' far
 grown-far first rs rs' count far was order longer within =
     let types = ap (λ ts. first ++ ts) longer.types ∙ sym (append_assoc first (run_types (length first) rs) far) in
     record {
@@ -167,6 +167,23 @@ grown-on first first' first'' rs rs' rs'' count near far g h =
       locals = subst (λ n. AreLocals first'' rs'' n) all h.locals;
       types = h.types ∙ ap (λ ts. ts ++ far) g.types ∙ append_assoc (local_types first rs) near far;
     }
+
+-- the first are as many as they can be
+pub full_first : (first : List ValType) (rs : List Run) (count : ℕ) → AreLocals first rs count → max_first ≤ count → length first ≡ max_first
+full_first first rs count was h = elim (cases_lt (length first) max_first) [
+  | inl l ↦
+      let none = was.full l in
+      let e = rw none at (run-end first rs count was) in
+      absurd (omega (arith, h, l, e))
+  | inr l ↦ omega (arith, was.within_limit, l)
+]
+
+-- all of them are, where there are fewer
+pub near_count : (first : List ValType) (rs : List Run) (count : ℕ) → AreLocals first rs count → count < max_first → length first ≡ count
+near_count first rs count was h =
+    let some = run-end first rs count was in
+    let none = was.full (omega (arith, h, some)) in
+    omega (arith, rw none at some)
 
 -- both, and only where the first are as many as they can be are there runs
 pub grown : (first : List ValType) (rs rs' : List Run) (count : ℕ) (near far : List ValType) → AreLocals first rs count → length first + length near ≤ max_first → (length first + length near < max_first → far ≡ []) → (AreRuns (length (first ++ near)) rs → end_of (length (first ++ near)) rs ≡ count + length near → AreLongerRuns (length (first ++ near)) rs rs' far) → count + length near + length far ≤ max_locals → Grown first rs count (first ++ near) rs' (near ++ far)
@@ -223,6 +240,15 @@ type-at (r ∷ rs) (suc k) i n rising h below above =
     type-at rs k i (r.0 + 1) rising.1 (omega (arith, last)) (λ j d l. below (suc j) d (omega (arith, l))) (λ j d l m. above (suc j) d (omega (arith, l)) (omega (arith, m)))
     ∙ ap (slice_get (run_types (r.0 + 1) rs)) e
     ∙ sym (get-past (replicate (r.0 + 1 - n) r.1) (run_types (r.0 + 1) rs) (i - n) (omega (arith, len, last, h)))
+
+-- where those before a place end below the index of a local, there is a run at that place
+pub place_within : (n : ℕ) (rs : List Run) (index place : ℕ) → AreRuns n rs → n ≤ index → index < end_of n rs → EndBelow rs place index → place < length rs
+place_within n [] index place rising begun within below = absurd (omega (arith, begun, within))
+place_within n (r ∷ rs) index zero rising begun within below = omega arith
+place_within n (r ∷ rs) index (suc k) rising begun within below =
+    let ended : r.0 < index = below 0 r (omega arith) in
+    let rest = place_within (r.0 + 1) rs index k rising.1 (omega (arith, ended)) (omega (arith, within, end-cons n r rs rising.0)) (λ j d l. below (suc j) d (omega (arith, l))) in
+    omega (arith, rest)
 
 -- where a run ends below the index, those before it do too
 pub ends_before : (n : ℕ) (runs : List Run) (index place : ℕ) (d : Run) → AreRuns n runs → place < length runs → (get_or runs place d).0 < index → EndBelow runs (place + 1) index

@@ -35,6 +35,14 @@ pub record AreLongerRuns (from : ℕ) (earlier later : List (ℕ × ValType)) (m
 abbrev pub EndBelow : List (ℕ × ValType) → ℕ → ℕ → Type 0
 EndBelow runs place index = (j : ℕ) (d : ℕ × ValType) → j < place → (slice_index_or runs j d).0 < index
 
+-- the local at this index is in the runs
+pub record IsInRuns (runs : List (ℕ × ValType)) (index : ℕ) : Type 0 where
+  -- the first of them begins here
+  pub from : ℕ
+  pub rising : AreRuns from runs
+  pub begun : from ≤ index
+  pub within : index < end_of from runs
+
 -- so many locals, in runs only once the first are as many as they can be
 pub record AreLocals (first : List ValType) (runs : List (ℕ × ValType)) (count : ℕ) : Type 0 where
   pub rising : AreRuns (length first) runs

@@ -8,6 +8,9 @@ use std::alloc::Global;
 use std::marker::Model;
 use validate_types::{OutOfMemory, ValType};
 
+/// How many marks there is room for at the least, where there is any.
+const LEAST_ROOM: usize = 8;
+
 /// Which locals are set (wasmparser's `LocalInits`). Contracts see an `Inits` of `specs/`: which
 /// locals were set when they were declared, those that were first set since, in order, and the room.
 ///
@@ -77,6 +80,7 @@ impl LocalInits {
     }
 
     /// Declares `count` more locals, each of them set or not.
+    #[inline(always)]
     fn declare(&mut self, count: usize, set: bool) -> Result<(), OutOfMemory>
         ensures declared { OnOk result (self.new.set_at_entry ≡ self.old.set_at_entry ++ replicate count
             set) }
@@ -93,6 +97,20 @@ impl LocalInits {
                 return Ok(());
             }
         }
+        self.mark(count, set)
+    }
+
+    /// The same, with a mark for each of them.
+    #[inline(never)]
+    fn mark(&mut self, count: usize, set: bool) -> Result<(), OutOfMemory>
+        ensures declared { OnOk result (self.new.set_at_entry ≡ self.old.set_at_entry ++ replicate count
+            set) }
+        ensures order { self.new.order ≡ self.old.order }
+        ensures room { self.new.room ≡ self.old.room }
+        ensures declared_room { self.old.declared_room ≤ self.new.declared_room }
+        ensures succeeds { length self.old.set_at_entry + count ≤ self.old.declared_room → IsOk result }
+        ensures err { OnErr result (self.new ≡ self.old) }
+    {
         self.local_inits.reserve(count)?;
         let len = self.local_inits.len();
         self.local_inits.resize(len + count, set).unwrap();
@@ -138,8 +156,43 @@ impl LocalInits {
         ensures succeeds { length self.old.set_at_entry + count ≤ self.old.declared_room → IsOk result }
         ensures err { OnErr result (self.new ≡ self.old) }
     {
+        if self.has_room(count) {
+            return Ok(());
+        }
+        self.grow(count)
+    }
+
+    /// Whether there is room for `count` more declarations.
+    #[inline(always)]
+    fn has_room(&self, count: usize) -> bool
+        ensures { IsTrue result ↔ (length self.now.set_at_entry + count ≤ self.now.declared_room) }
+    {
+        let unmarked = self.first_non_default_local;
+        let room = self.local_inits.capacity() - self.local_inits.len();
+        unmarked <= room && count <= room - unmarked
+    }
+
+    /// [`LocalInits::reserve`], where there is no room yet.
+    #[cold]
+    #[inline(never)]
+    fn grow(&mut self, count: usize) -> Result<(), OutOfMemory>
+        requires { self.old.declared_room < length self.old.set_at_entry + count }
+        ensures set_at_entry { self.new.set_at_entry ≡ self.old.set_at_entry }
+        ensures order { self.new.order ≡ self.old.order }
+        ensures room { self.new.room ≡ self.old.room }
+        ensures declared_room { self.old.declared_room ≤ self.new.declared_room }
+        ensures ok { OnOk result (length self.new.set_at_entry + count ≤ self.new.declared_room) }
+        ensures err { OnErr result (self.new ≡ self.old) }
+    {
         let unmarked = self.first_non_default_local.saturating_add(count);
-        self.local_inits.reserve(unmarked)?;
+        if !self.local_inits.is_empty() {
+            self.local_inits.reserve(unmarked)?;
+            return Ok(());
+        }
+        // Of no marks none are moved to a larger place.
+        let twice = self.local_inits.capacity().saturating_mul(2);
+        let room = unmarked.max(twice).max(LEAST_ROOM);
+        self.local_inits = Vec::with_capacity(self.allocator(), room)?;
         Ok(())
     }
 

@@ -3,10 +3,10 @@
 mod canonical;
 mod order;
 
-ghost use Rattle.std.specs.Prelude.{◌≡◌, ◌<◌, ◌≤◌, ◌&&◌, length, codes, slice_get, Some, None, Ok, true, false, nat_lt, is_ok, IfOk, OnOk, OnErr, IfErr};
+ghost use Rattle.std.specs.Prelude.{◌≡◌, ◌<◌, ◌≤◌, ◌&&◌, ℕ, length, codes, slice_get, Some, None, Ok, true, false, nat_lt, is_ok, IsTrue, IfOk, OnOk, OnErr, IfErr};
 ghost use Rattle.std.specs.List.{list_all};
 ghost use Rattle.validate_resources.specs.Indices.{is_id, unknown_text};
-ghost use Rattle.validate_resources.specs.Lists.{declared_by, is_module, is_func_type, continues_function, has_fitting_descriptor, module_of};
+ghost use Rattle.validate_resources.specs.Lists.{declared_by, canonical_under, is_module, is_func_type, continues_function, has_fitting_descriptor, module_of};
 
 use crate::WasmModuleResources;
 use crate::kinds::{continuation_of, func_type_of};
@@ -275,6 +275,37 @@ fn write_form<T: Copy>(
     }
 }
 
+/// Whether it is a number type or the vector type, where the gates of all those are open. Such a type is its own
+/// canonical form.
+#[inline(always)]
+fn is_open_number(ty: &ValType, features: WasmFeatures) -> bool
+    ensures { (count : ℕ) → IsTrue result → canonical_under count features ty.now ≡ Some ty.now }
+{
+    features.floats() && features.simd() && !matches!(ty, ValType::Ref(_))
+}
+
+/// Checks a value type of a module of so many types, and writes its canonical form. The text of a refusal may take
+/// memory.
+#[inline(never)]
+fn check_any_type(
+    ty: &mut ValType,
+    features: WasmFeatures,
+    count: usize,
+    alloc: Global,
+    offset: u64,
+) -> Result<(), Error>
+    ensures canonical { OnOk result (canonical_under count features ty.old ≡ Some ty.new) }
+    ensures refused { IfErr result (λ e. e.wants_memory ≡ false
+        → canonical_under count features ty.old ≡ None) }
+    ensures offset { IfErr result (λ e. e.offset ≡ offset) }
+{
+    if let Err(text) = features.check_value_type(*ty) {
+        return Err(Error::new(text, offset));
+    }
+    let form = canonical_type(*ty, count);
+    write_form(ty, form, alloc, offset)
+}
+
 impl WasmModuleResources for ModuleLists {
     ghost use Rattle.validate_resources.specs.Kept.{declared_lists};
     ghost use Rattle.validate_resources.specs.Lists.{context_of};
@@ -376,10 +407,9 @@ impl WasmModuleResources for ModuleLists {
         features: &WasmFeatures,
         offset: u64,
     ) -> Result<(), Error> {
-        if let Err(text) = features.check_value_type(*ty) {
-            return Err(Error::new(text, offset));
+        if is_open_number(ty, *features) {
+            return Ok(());
         }
-        let form = canonical_type(*ty, self.types.len());
-        write_form(ty, form, self.alloc, offset)
+        check_any_type(ty, *features, self.types.len(), self.alloc, offset)
     }
 }

@@ -7,7 +7,7 @@ pub returns-clause-added : goal.returns-clause-added
 returns-clause-added c = λ begin count rising within_limit e.
     let runs = c.args.runs.now.items in
     let run : Run = (c.args.last, c.args.ty.now) in
-    let added = rw c.unwrap.ensures at c.push.ensures.items in
+    let added = c.push_reserved.ensures.items in
     elim c.if-has_last_type.branch [
       | then-has_last_type w ↦
           let items = added ∙ ap (λ (v : Vec Run Global). v.items ++ run ∷ []) w.runs-is in

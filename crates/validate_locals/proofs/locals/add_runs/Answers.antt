@@ -10,7 +10,6 @@ loop-index-init c = record {
   longer = λ begin rising e. longer_none begin c.args.runs.now.items rising;
   len = omega arith;
   room = omega arith;
-  blocks = omega arith;
 }
 
 pub loop-index-preserved : goal.loop-index-preserved
@@ -29,5 +28,4 @@ loop-index-preserved c =
           subst (λ ts. AreLongerRuns begin old c.add_run.new.runs.items ts) (sym (take_more types i I32 (omega arith))) (longer_more begin old runs c.add_run.new.runs.items (take i types) (get_or types i I32 ∷ []) so_far one);
       len = omega (arith, c.add_run.ensures.len, v.len);
       room = omega (arith, c.add_run.ensures.room, v.room);
-      blocks = omega (arith, c.add_run.ensures.blocks, v.blocks);
     }

@@ -1,4 +1,4 @@
--- The types so far are in the runs, and there is room for the others and for the blocks.
+-- The types so far are in the runs, and there is room for the others.
 use Rattle.std.proofs.Common.{◌≡◌, ℕ, ◌≤◌, ◌+◌, vec_len, vec_capacity, length, take}
 use Rattle.validate_locals.specs.Runs.{AreRuns, AreLongerRuns, end_of}
 use Rattle.validate_locals.proofs.locals.add_runs.Given as goal
@@ -8,5 +8,4 @@ invariant-loop-index l = record {
   longer : (begin : ℕ) → AreRuns begin l.fn.runs.items → end_of begin l.fn.runs.items ≡ l.from → AreLongerRuns begin l.fn.runs.items l.runs.items (take l.index l.types);
   len : vec_len l.runs ≤ vec_len l.fn.runs + l.index;
   room : vec_len l.fn.runs + length l.types ≤ vec_capacity l.runs;
-  blocks : vec_capacity l.fn.runs_before ≤ vec_capacity l.runs_before;
 }

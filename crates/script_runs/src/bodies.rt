@@ -6,16 +6,15 @@ ghost use Rattle.validate_stacks.specs.State.{IsStarting, IsValidBody};
 ghost use Rattle.validate_stacks.specs.Visits.{MayVisit};
 
 use crate::left::{Left, check_list};
-use crate::places::add_places;
-use crate::printed::{add_printed, add_refused};
+use crate::places::add_operands;
+use crate::printed::add_printed;
 use crate::report::Report;
 use crate::seen::Seen;
 use crate::undone::run_lines;
 use odd_lookups::{Check, PairedLists, WantingLists};
 use opcheck_script::{begin_body, module_lists};
 use script_reader::{BodyLine, LocalLine, Operators, Script, read_lists, read_script};
-use std::alloc::Global;
-use std::fmt;
+use std::alloc::{AllocError, Global};
 use validate_body::{OperatorValidator, try_op};
 use validate_resources::{ModuleLists, WasmModuleResources};
 use validate_types::{Error, WasmFeatures};
@@ -45,6 +44,8 @@ pub enum Task<'a> {
     Printed,
     /// The types of the operands between its operators are printed.
     Places,
+    /// The types of the operands at this place among its operators are printed.
+    Place(usize),
 }
 
 /// A script, whether it shows the types of operands, and what is done with its body.
@@ -79,7 +80,7 @@ fn attempt_each<R: WasmModuleResources>(
     ops: &[(Op<'_>, u64)],
     resources: &R,
     script: &str,
-) -> Result<(), fmt::Error>
+) -> Result<(), AllocError>
     requires { IsStarting (R.context resources.now) (state v.old) }
 {
     for pair in ops {
@@ -106,54 +107,74 @@ fn run_lent<R: WasmModuleResources>(
     ops: &[(Op<'_>, u64)],
     resources: &R,
     work: Work<'_>,
-) -> Result<(), fmt::Error>
+) -> Result<(), AllocError>
     requires { IsStarting (R.context resources.now) (state v.old) }
 {
     match work.task {
         Task::Attempts => attempt_each(alloc, report, v, ops, resources, work.script),
         Task::List(left) => check_list(alloc, report, v, ops, resources, work.script, left),
         Task::Lines(lines) => run_lines(alloc, report, v, resources, lines),
+        Task::Place(place) => add_operands(alloc, report, v, ops, resources, (work.script, place)),
         Task::Printed | Task::Places => Ok(()),
     }
 }
 
-/// Does this with a body that has begun.
-fn run_task<R: WasmModuleResources>(
-    alloc: Global,
-    report: &mut Report,
-    v: OperatorValidator,
-    operators: &Operators<'_>,
-    resources: &R,
-    work: Work<'_>,
-) -> Result<(), fmt::Error>
-    requires { IsStarting (R.context resources.now) (state v) }
-{
-    if let Task::Printed = work.task {
-        let shows = work.shows;
-        return add_printed(alloc, report, v, operators, shows, resources, work.script);
-    }
-    let mut v = v;
-    let ops = operators.ops.as_slice();
-    run_lent(alloc, report, &mut v, ops, resources, work)
-}
-
-/// Begins the body of a script over this lookup, and does this with it.
-fn run_over<R: WasmModuleResources>(
+/// Begins the body of a script over this lookup, and does this with it, where it is lent.
+fn run_begun<R: WasmModuleResources>(
     alloc: Global,
     report: &mut Report,
     resources: &R,
     features: &WasmFeatures,
     (line, locals): (BodyLine, &[LocalLine]),
+    ops: &[(Op<'_>, u64)],
+    work: Work<'_>,
+) -> Result<(), AllocError> {
+    match begin_body(alloc, resources, features, line, locals) {
+        Ok(mut v) => run_lent(alloc, report, &mut v, ops, resources, work),
+        Err(_) => cannot_begin(report, work.script, work.task),
+    }
+}
+
+/// Prints the types of the operands before each operator of a script, and behind the last.
+fn add_places<R: WasmModuleResources>(
+    alloc: Global,
+    report: &mut Report,
+    resources: &R,
+    features: &WasmFeatures,
+    begin: (BodyLine, &[LocalLine]),
+    ops: &[(Op<'_>, u64)],
+    work: Work<'_>,
+) -> Result<(), AllocError> {
+    report.begin_printed()?;
+    for place in 0..ops.len().saturating_add(1) {
+        let work = Work {
+            script: work.script,
+            shows: work.shows,
+            task: Task::Place(place),
+        };
+        run_begun(alloc, report, resources, features, begin, ops, work)?;
+    }
+    Ok(())
+}
+
+/// Does this with the body of a script over this lookup.
+fn run_over<R: WasmModuleResources>(
+    alloc: Global,
+    report: &mut Report,
+    resources: &R,
+    features: &WasmFeatures,
+    begin: (BodyLine, &[LocalLine]),
     operators: &Operators<'_>,
     work: Work<'_>,
-) -> Result<(), fmt::Error> {
-    if let Task::Places = work.task {
-        let (begin, ops) = ((line, locals), operators.ops.as_slice());
-        return add_places(alloc, report, resources, features, begin, ops, work.script);
-    }
-    match begin_body(alloc, resources, features, line, locals) {
-        Ok(v) => run_task(alloc, report, v, operators, resources, work),
-        Err(refusal) => not_begun(alloc, report, work.script, work.task, refusal),
+) -> Result<(), AllocError> {
+    let ops = operators.ops.as_slice();
+    match work.task {
+        Task::Printed => {
+            let shown = (work.script, work.shows);
+            add_printed(alloc, report, resources, features, begin, operators, shown)
+        }
+        Task::Places => add_places(alloc, report, resources, features, begin, ops, work),
+        _ => run_begun(alloc, report, resources, features, begin, ops, work),
     }
 }
 
@@ -166,7 +187,7 @@ fn run_in(
     begin: (BodyLine, &[LocalLine]),
     operators: &Operators<'_>,
     work: Work<'_>,
-) -> Result<(), fmt::Error> {
+) -> Result<(), AllocError> {
     match lookup {
         Lookup::Own => run_over(alloc, report, &lists, features, begin, operators, work),
         Lookup::Paired => {
@@ -187,7 +208,7 @@ pub fn run_body(
     script: &str,
     lookup: Lookup,
     task: Task<'_>,
-) -> Result<(), fmt::Error> {
+) -> Result<(), AllocError> {
     let written = read_lists(alloc, script)?;
     let Ok(read) = read_script(alloc, &written, script) else {
         return cannot_begin(report, script, task);
@@ -221,23 +242,9 @@ pub fn run_body(
 }
 
 /// A script whose module or body can't be made: of those alone that are run in other ways too.
-fn cannot_begin(report: &mut Report, script: &str, task: Task<'_>) -> Result<(), fmt::Error> {
+fn cannot_begin(report: &mut Report, script: &str, task: Task<'_>) -> Result<(), AllocError> {
     match task {
         Task::Attempts => Ok(()),
         _ => report.refuse(script, "has no body to begin"),
-    }
-}
-
-/// A script whose body is refused before its operators.
-fn not_begun(
-    alloc: Global,
-    report: &mut Report,
-    script: &str,
-    task: Task<'_>,
-    refusal: Error,
-) -> Result<(), fmt::Error> {
-    match task {
-        Task::Printed => add_refused(alloc, report, refusal),
-        _ => cannot_begin(report, script, task),
     }
 }

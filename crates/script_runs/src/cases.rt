@@ -27,8 +27,7 @@ use crate::report::Report;
 use crate::transcript::{run_bad_lines, run_each, run_transcript};
 use crate::undone::run_undone;
 use odd_lookups::Check;
-use std::alloc::Global;
-use std::fmt;
+use std::alloc::{AllocError, Global};
 
 /// Over which lookup the lines of a section are visited or undone, by its kind and the words behind it.
 fn lookup_of(kind: &str, words: &str) -> Option<Lookup> {
@@ -53,14 +52,14 @@ struct Cases<'a> {
 
 impl<'a> Cases<'a> {
     /// Puts other first lines in place: these, behind those.
-    fn begin(&mut self, features: &str, lines: &str) -> Result<(), fmt::Error> {
+    fn begin(&mut self, features: &str, lines: &str) -> Result<(), AllocError> {
         self.head.clear();
         self.head.push_str(features)?;
         self.head.push_str(lines)?;
-        if !lines.is_empty() {
-            self.head.push_str("\n")?;
+        if lines.is_empty() {
+            return Ok(());
         }
-        Ok(())
+        self.head.push_str("\n")
     }
 
     /// The same, behind the lines that turn every proposal on but this one.
@@ -70,7 +69,7 @@ impl<'a> Cases<'a> {
         report: &mut Report,
         flag: &str,
         lines: &str,
-    ) -> Result<(), fmt::Error> {
+    ) -> Result<(), AllocError> {
         if !is_flag(flag) {
             return report.refuse(flag, "is no flag");
         }
@@ -85,7 +84,7 @@ impl<'a> Cases<'a> {
         report: &mut Report,
         (kind, words): (&str, &str),
         text: &str,
-    ) -> Result<(), fmt::Error> {
+    ) -> Result<(), AllocError> {
         let head = &self.head;
         if let Some(lookup) = lookup_of(kind, words) {
             return run_undone(alloc, report, head, text, lookup);
@@ -111,7 +110,7 @@ impl<'a> Cases<'a> {
         report: &mut Report,
         (kind, words): (&str, &str),
         text: &'a str,
-    ) -> Result<(), fmt::Error> {
+    ) -> Result<(), AllocError> {
         match kind {
             "#" => Ok(()),
             "head" => self.begin("", text),
@@ -126,7 +125,7 @@ impl<'a> Cases<'a> {
 }
 
 /// Runs the scripts of a file of cases.
-pub fn run_cases(alloc: Global, report: &mut Report, text: &str) -> Result<(), fmt::Error> {
+pub fn run_cases(alloc: Global, report: &mut Report, text: &str) -> Result<(), AllocError> {
     let mut cases = Cases {
         head: String::new(alloc),
         rows: "",

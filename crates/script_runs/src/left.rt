@@ -13,7 +13,6 @@ use crate::report::Report;
 use crate::seen::add_operand_types;
 use crate::transcript::parts_of;
 use std::alloc::{AllocError, Global};
-use std::fmt;
 use validate_body::{OperatorValidator, check_ops};
 use validate_resources::WasmModuleResources;
 use validate_types::Error;
@@ -36,7 +35,7 @@ fn compare_refusal(
     script: &str,
     (place, wanted): (usize, usize),
     (found, text): (&str, Option<&str>),
-) -> Result<(), fmt::Error> {
+) -> Result<(), AllocError> {
     report.compare_number(script, "accepts", place, wanted)?;
     match text {
         Some(text) => report.compare(script, "is refused", found, text),
@@ -51,7 +50,7 @@ fn compare_answer(
     answer: Result<bool, (usize, Error)>,
     count: usize,
     left: Left<'_>,
-) -> Result<(), fmt::Error> {
+) -> Result<(), AllocError> {
     let wanted = if left.is_refused {
         count.saturating_sub(1)
     } else {
@@ -92,7 +91,7 @@ fn compare_operands(
     v: &OperatorValidator,
     script: &str,
     wanted: &str,
-) -> Result<(), fmt::Error> {
+) -> Result<(), AllocError> {
     let mut operands = String::new(alloc);
     add_operand_types(&mut operands, v)?;
     report.compare(script, "leaves", operands.trim(), wanted)
@@ -107,7 +106,7 @@ pub fn check_list<R: WasmModuleResources>(
     resources: &R,
     script: &str,
     left: Left<'_>,
-) -> Result<(), fmt::Error>
+) -> Result<(), AllocError>
     requires { IsStarting (R.context resources.now) (state v.old) }
 {
     if !is_well_ordered(ops) || !have_module_immediates(ops) {
@@ -135,7 +134,7 @@ fn run_list(
     head: &str,
     operators: &str,
     left: Left<'_>,
-) -> Result<(), fmt::Error> {
+) -> Result<(), AllocError> {
     let script = script_of(alloc, head, operators)?;
     run_body(alloc, report, &script, Lookup::Own, Task::List(left))?;
     run_body(alloc, report, &script, Lookup::Own, Task::Attempts)
@@ -161,7 +160,7 @@ fn run_line(
     head: &str,
     line: &str,
     is_refused: bool,
-) -> Result<(), fmt::Error> {
+) -> Result<(), AllocError> {
     report.count();
     let (operators, answer) = parts_of(line);
     run_list(alloc, report, head, operators, left_of(answer, is_refused))
@@ -175,7 +174,7 @@ pub fn run_left(
     report: &mut Report,
     head: &str,
     (lines, is_refused): (&str, bool),
-) -> Result<(), fmt::Error> {
+) -> Result<(), AllocError> {
     for line in lines.lines() {
         if !line.is_empty() {
             run_line(alloc, report, head, line, is_refused)?;

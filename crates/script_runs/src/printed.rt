@@ -1,16 +1,20 @@
 //! What the program prints of a body, over any lookup.
 
+ghost use Rattle.std.specs.Prelude.{◌≡◌, true};
+ghost use Rattle.std.specs.List.{list_all};
+ghost use Rattle.validate_body.specs.Runs.{without_offsets};
 ghost use Rattle.validate_body.specs.Start.{state};
 ghost use Rattle.validate_stacks.specs.State.{IsStarting};
+ghost use Rattle.validate_visit.specs.Immediates.{is_module_op};
+ghost use Rattle.validate_visit.specs.Order.{is_well_ordered_list};
 
 use crate::report::Report;
-use opcheck_script::{Answers, print_report, run_operators};
-use script_reader::Operators;
-use std::alloc::Global;
-use std::{fmt, str};
+use opcheck_script::{Answers, begin_body, print_report, run_operators};
+use script_reader::{BodyLine, LocalLine, Operators};
+use std::alloc::{AllocError, Global};
 use validate_body::OperatorValidator;
 use validate_resources::WasmModuleResources;
-use validate_types::Error;
+use validate_types::{Error, WasmFeatures};
 use validate_visit::{have_module_immediates, is_well_ordered};
 
 /// Prints what the program prints of a body whose check came to this.
@@ -18,19 +22,16 @@ fn add_report(
     alloc: Global,
     report: &mut Report,
     check: &opcheck_script::Report,
-) -> Result<(), fmt::Error> {
+) -> Result<(), AllocError> {
     let mut printed = Vec::new(alloc);
-    if print_report(&mut printed, check).is_err() {
-        return Err(fmt::Error);
+    match print_report(&mut printed, check) {
+        Ok(_) => report.add_printed(&printed),
+        Err(_) => Err(AllocError),
     }
-    report.begin_printed()?;
-    let text = str::from_utf8(&printed).unwrap_or("bytes that are no text");
-    report.printed.push_str(text)?;
-    Ok(())
 }
 
 /// The same of a body that is refused before its operators.
-pub fn add_refused(alloc: Global, report: &mut Report, refusal: Error) -> Result<(), fmt::Error> {
+fn add_refused(alloc: Global, report: &mut Report, refusal: Error) -> Result<(), AllocError> {
     let check = opcheck_script::Report {
         answers: Answers::Heights(Vec::new(alloc)),
         outcome: Err(refusal),
@@ -38,22 +39,40 @@ pub fn add_refused(alloc: Global, report: &mut Report, refusal: Error) -> Result
     add_report(alloc, report, &check)
 }
 
-/// Runs the operators of a script as the program does, and prints what it prints.
-pub fn add_printed<R: WasmModuleResources>(
+/// Runs the operators of a body that has begun, and prints what the program prints.
+fn add_run<R: WasmModuleResources>(
     alloc: Global,
     report: &mut Report,
     v: OperatorValidator,
     operators: &Operators<'_>,
     shows: bool,
     resources: &R,
-    script: &str,
-) -> Result<(), fmt::Error>
-    requires { IsStarting (R.context resources.now) (state v) }
+) -> Result<(), AllocError>
+    requires starting { IsStarting (R.context resources.now) (state v) }
+    requires ordered { is_well_ordered_list (without_offsets operators.now.ops.items) ≡ true }
+    requires immediates { list_all (λ (p : _). is_module_op p.0) operators.now.ops.items ≡ true }
 {
+    let (ops, attempts) = (operators.ops.as_slice(), operators.attempts.as_slice());
+    let check = run_operators(alloc, v, ops, attempts, shows, resources);
+    add_report(alloc, report, &check)
+}
+
+/// Runs the operators of a script as the program does, and prints what it prints.
+pub fn add_printed<R: WasmModuleResources>(
+    alloc: Global,
+    report: &mut Report,
+    resources: &R,
+    features: &WasmFeatures,
+    (line, locals): (BodyLine, &[LocalLine]),
+    operators: &Operators<'_>,
+    (script, shows): (&str, bool),
+) -> Result<(), AllocError> {
     let ops = operators.ops.as_slice();
     if !is_well_ordered(ops) || !have_module_immediates(ops) {
         return report.refuse(script, "is out of order");
     }
-    let check = run_operators(alloc, v, ops, &operators.attempts, shows, resources);
-    add_report(alloc, report, &check)
+    match begin_body(alloc, resources, features, line, locals) {
+        Ok(v) => add_run(alloc, report, v, operators, shows, resources),
+        Err(refusal) => add_refused(alloc, report, refusal),
+    }
 }

@@ -2,7 +2,7 @@
 
 use crate::runs::Way;
 use std::alloc::{AllocError, Global};
-use std::{fmt, str};
+use std::str;
 
 /// What the scripts of a file came to.
 #[derive(Drop)]
@@ -38,6 +38,13 @@ impl Report {
         self.printed.push_str("@\n")
     }
 
+    /// Prints this of a script.
+    pub fn add_printed(&mut self, bytes: &[u8]) -> Result<(), AllocError> {
+        self.begin_printed()?;
+        let text = str::from_utf8(bytes).unwrap_or("bytes that are no text");
+        self.printed.push_str(text)
+    }
+
     /// Tells it where what the script does isn't what is expected.
     pub fn compare(
         &mut self,
@@ -45,11 +52,11 @@ impl Report {
         does: &str,
         found: &str,
         wanted: &str,
-    ) -> Result<(), fmt::Error> {
-        if found != wanted {
-            writeln!(self.told, "{script}\n{does}:\n{found}\nand not:\n{wanted}")?;
+    ) -> Result<(), AllocError> {
+        if found == wanted {
+            return Ok(());
         }
-        Ok(())
+        writeln!(self.told, "{script}\n{does}:\n{found}\nand not:\n{wanted}")
     }
 
     /// The same of an output.
@@ -59,7 +66,7 @@ impl Report {
         does: &str,
         found: &[u8],
         wanted: &str,
-    ) -> Result<(), fmt::Error> {
+    ) -> Result<(), AllocError> {
         let found = str::from_utf8(found).unwrap_or("bytes that are no text");
         self.compare(script, does, found, wanted)
     }
@@ -71,16 +78,15 @@ impl Report {
         does: &str,
         found: usize,
         wanted: usize,
-    ) -> Result<(), fmt::Error> {
-        if found != wanted {
-            writeln!(self.told, "{script}\n{does} {found} and not {wanted}")?;
+    ) -> Result<(), AllocError> {
+        if found == wanted {
+            return Ok(());
         }
-        Ok(())
+        writeln!(self.told, "{script}\n{does} {found} and not {wanted}")
     }
 
     /// A section, or a line of one, can't be read.
-    pub fn refuse(&mut self, text: &str, why: &str) -> Result<(), fmt::Error> {
-        writeln!(self.told, "{text}\n{why}")?;
-        Ok(())
+    pub fn refuse(&mut self, text: &str, why: &str) -> Result<(), AllocError> {
+        writeln!(self.told, "{text}\n{why}")
     }
 }

@@ -3,8 +3,7 @@
 use crate::bodies::{Lookup, Task, run_body};
 use crate::report::Report;
 use opcheck_script::run;
-use std::alloc::Global;
-use std::fmt;
+use std::alloc::{AllocError, Global};
 
 /// What a script comes to.
 #[derive(Clone, Copy)]
@@ -38,7 +37,7 @@ fn compare_outcome(
     script: &str,
     (printed, said, status): (&[u8], &[u8], u8),
     wanted: Outcome<'_>,
-) -> Result<(), fmt::Error> {
+) -> Result<(), AllocError> {
     report.compare_output(script, "prints", printed, wanted.out)?;
     report.compare_output(script, "says", said, wanted.err)?;
     report.compare_number(script, "ends with", status as usize, wanted.status as usize)
@@ -50,7 +49,7 @@ fn compare_run(
     report: &mut Report,
     script: &str,
     wanted: Outcome<'_>,
-) -> Result<(), fmt::Error> {
+) -> Result<(), AllocError> {
     let mut printed = Vec::new(alloc);
     let mut said = Vec::new(alloc);
     let status = run(alloc, script.as_bytes(), &mut printed, &mut said);
@@ -63,7 +62,7 @@ pub fn run_script(
     report: &mut Report,
     script: &str,
     wanted: Outcome<'_>,
-) -> Result<(), fmt::Error> {
+) -> Result<(), AllocError> {
     report.count();
     match report.way {
         Way::Once => compare_run(alloc, report, script, wanted),

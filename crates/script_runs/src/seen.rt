@@ -1,7 +1,6 @@
 //! What can be seen of a validator: its open frames and its operands.
 
 use std::alloc::{AllocError, Global};
-use std::fmt;
 use validate_body::OperatorValidator;
 use validate_types::ValType;
 use validate_visit::{Frame, FrameKind};
@@ -46,16 +45,15 @@ impl Seen {
 }
 
 /// Adds the type of an operand to a text, behind a space: `?` where it isn't known.
-pub fn add_type(text: &mut String, ty: Option<ValType>) -> Result<(), fmt::Error> {
+pub fn add_type(text: &mut String, ty: Option<ValType>) -> Result<(), AllocError> {
     match ty {
-        Some(ty) => write!(text, " {ty}")?,
-        None => text.push_str(" ?")?,
+        Some(ty) => write!(text, " {ty}"),
+        None => text.push_str(" ?"),
     }
-    Ok(())
 }
 
 /// Adds the types of the operands of a validator to a text, the last on top.
-pub fn add_operand_types(text: &mut String, v: &OperatorValidator) -> Result<(), fmt::Error> {
+pub fn add_operand_types(text: &mut String, v: &OperatorValidator) -> Result<(), AllocError> {
     for depth in (0..v.operand_stack_height()).rev() {
         add_type(text, v.peek_operand_at(depth).flatten())?;
     }

@@ -3,7 +3,6 @@
 use crate::report::Report;
 use crate::runs::{Outcome, run_script};
 use std::alloc::{AllocError, Global};
-use std::fmt;
 
 /// Adds a line to a text, unless it is empty.
 fn add_line(text: &mut String, line: &str) -> Result<(), AllocError> {
@@ -46,7 +45,7 @@ impl<'a> Case<'a> {
     }
 
     /// Runs the script, which is bad, and says this.
-    fn run_bad(&self, alloc: Global, report: &mut Report, cause: &str) -> Result<(), fmt::Error> {
+    fn run_bad(&self, alloc: Global, report: &mut Report, cause: &str) -> Result<(), AllocError> {
         let said = format!(in alloc; "{cause}\n")?;
         let wanted = Outcome {
             out: &self.printed,
@@ -57,7 +56,7 @@ impl<'a> Case<'a> {
     }
 
     /// Runs the script, which comes to this verdict.
-    fn run(&mut self, alloc: Global, report: &mut Report, verdict: &str) -> Result<(), fmt::Error> {
+    fn run(&mut self, alloc: Global, report: &mut Report, verdict: &str) -> Result<(), AllocError> {
         if verdict.starts_with("bad script") {
             return self.run_bad(alloc, report, verdict);
         }
@@ -76,7 +75,7 @@ impl<'a> Case<'a> {
         alloc: Global,
         report: &mut Report,
         (written, answer): (&str, &str),
-    ) -> Result<bool, fmt::Error> {
+    ) -> Result<bool, AllocError> {
         if written.is_empty() && !answer.is_empty() {
             self.run(alloc, report, answer)?;
             self.begin()?;
@@ -105,7 +104,7 @@ pub fn run_transcript(
     report: &mut Report,
     head: &str,
     transcript: &str,
-) -> Result<(), fmt::Error> {
+) -> Result<(), AllocError> {
     let mut case = Case::new(alloc, head);
     case.begin()?;
     let mut ran = false;
@@ -151,7 +150,7 @@ fn run_row(
     report: &mut Report,
     head: &str,
     (row, transcript): (&str, &str),
-) -> Result<(), fmt::Error> {
+) -> Result<(), AllocError> {
     let filled = fill(alloc, transcript, row)?;
     run_transcript(alloc, report, head, &filled)
 }
@@ -162,7 +161,7 @@ pub fn run_each(
     report: &mut Report,
     head: &str,
     (rows, transcript): (&str, &str),
-) -> Result<(), fmt::Error> {
+) -> Result<(), AllocError> {
     for row in rows.lines() {
         if !row.is_empty() {
             run_row(alloc, report, head, (row, transcript))?;
@@ -178,7 +177,7 @@ fn run_bad_line(
     head: &str,
     line: &str,
     said: &str,
-) -> Result<(), fmt::Error> {
+) -> Result<(), AllocError> {
     let script = format!(in alloc; "{head}{line}\nend\n")?;
     let wanted = Outcome {
         out: "",
@@ -195,7 +194,7 @@ pub fn run_bad_lines(
     report: &mut Report,
     head: &str,
     lines: &str,
-) -> Result<(), fmt::Error> {
+) -> Result<(), AllocError> {
     let number = head.lines().count().saturating_add(1);
     let said = format!(in alloc; "bad script: line {number}\n")?;
     for line in lines.lines() {

@@ -9,9 +9,8 @@ use crate::bodies::{Lookup, Task, run_body};
 use crate::report::Report;
 use crate::seen::{Seen, add_operand_types, innermost};
 use crate::transcript::parts_of;
-use script_reader::{Script, read_lists, read_script};
-use std::alloc::Global;
-use std::fmt;
+use script_reader::{read_lists, read_operator};
+use std::alloc::{AllocError, Global};
 use validate_body::OperatorValidator;
 use validate_resources::WasmModuleResources;
 use validate_types::Error;
@@ -25,15 +24,14 @@ fn add_answer(
     text: &mut String,
     v: &OperatorValidator,
     answer: Result<(), Error>,
-) -> Result<(), fmt::Error> {
+) -> Result<(), AllocError> {
     match answer {
         Ok(()) => {
             let operands = v.operand_stack_height();
-            write!(text, "{operands} {}", v.control_stack_height())?;
+            write!(text, "{operands} {}", v.control_stack_height())
         }
-        Err(refusal) => text.push_str(refusal.message())?,
+        Err(refusal) => text.push_str(refusal.message()),
     }
-    Ok(())
 }
 
 /// Adds what a visit answered, and the innermost frame and the operands behind it.
@@ -41,7 +39,7 @@ fn add_seen(
     text: &mut String,
     v: &OperatorValidator,
     answer: Result<(), Error>,
-) -> Result<(), fmt::Error> {
+) -> Result<(), AllocError> {
     add_answer(text, v, answer)?;
     let (mark, frame) = innermost(v);
     write!(text, " => {mark}{frame}:")?;
@@ -68,7 +66,7 @@ fn undo<R: WasmModuleResources>(
     v: &mut OperatorValidator,
     resources: &R,
     op: Op<'_>,
-) -> Result<(), fmt::Error>
+) -> Result<(), AllocError>
     requires idle { (state v.old).undone ≡ None }
     requires visit { MayVisit (R.context resources.now) (stacks_of v.old) }
     ensures same { state v.new ≡ state v.old }
@@ -88,7 +86,7 @@ fn compare_within<R: WasmModuleResources>(
     op: Op<'_>,
     resources: &R,
     line: &str,
-) -> Result<(), fmt::Error>
+) -> Result<(), AllocError>
     requires idle { (state v.old).undone ≡ None }
     requires visit { MayVisit (R.context resources.now) (stacks_of v.old) }
     ensures same { state v.new ≡ state v.old }
@@ -106,7 +104,7 @@ fn compare_behind(
     v: &OperatorValidator,
     before: &Seen,
     line: &str,
-) -> Result<(), fmt::Error> {
+) -> Result<(), AllocError> {
     if Seen::of(alloc, v)? != *before || v.is_pending() || !v.can_attempt() {
         return report.refuse(line, "leaves a trace");
     }
@@ -121,7 +119,7 @@ fn compare_undone<R: WasmModuleResources>(
     op: Op<'_>,
     resources: &R,
     line: &str,
-) -> Result<(), fmt::Error>
+) -> Result<(), AllocError>
     requires idle { (state v.old).undone ≡ None }
     requires visit { MayVisit (R.context resources.now) (stacks_of v.old) }
     ensures same { state v.new ≡ state v.old }
@@ -139,7 +137,7 @@ fn compare_visit<R: WasmModuleResources>(
     op: Op<'_>,
     resources: &R,
     line: &str,
-) -> Result<(), fmt::Error>
+) -> Result<(), AllocError>
     requires idle { (state v.old).undone ≡ None }
     requires visit { MayVisit (R.context resources.now) (stacks_of v.old) }
     ensures idle { (state v.new).undone ≡ None }
@@ -160,7 +158,7 @@ fn run_op<R: WasmModuleResources>(
     op: Op<'_>,
     resources: &R,
     line: &str,
-) -> Result<(), fmt::Error>
+) -> Result<(), AllocError>
     requires idle { (state v.old).undone ≡ None }
     requires valid { IsValidBody (R.context resources.now) (state v.old) }
     ensures idle { (state v.new).undone ≡ None }
@@ -176,28 +174,9 @@ fn run_op<R: WasmModuleResources>(
     }
 }
 
-/// Runs the operator of a line, which this script has alone.
-fn run_script<R: WasmModuleResources>(
-    alloc: Global,
-    report: &mut Report,
-    v: &mut OperatorValidator,
-    resources: &R,
-    line: &str,
-    script: &str,
-) -> Result<(), fmt::Error>
-    requires idle { (state v.old).undone ≡ None }
-    requires valid { IsValidBody (R.context resources.now) (state v.old) }
-    ensures idle { (state v.new).undone ≡ None }
-    ensures valid { IsValidBody (R.context resources.now) (state v.new) }
-{
-    let lists = read_lists(alloc, script)?;
-    let Ok(read) = read_script(alloc, &lists, script) else {
-        return report.refuse(line, "has no operator");
-    };
-    match read.operators.ops.first() {
-        Some((op, _)) => run_op(alloc, report, v, *op, resources, line),
-        None => report.refuse(line, "has no operator"),
-    }
+/// The words of an operator.
+fn words_of(alloc: Global, operator: &str) -> Result<Vec<&str>, AllocError> {
+    operator.split_whitespace().collect(alloc)
 }
 
 /// Reads the operator of a line, and runs it.
@@ -207,7 +186,7 @@ fn run_line<R: WasmModuleResources>(
     v: &mut OperatorValidator,
     resources: &R,
     line: &str,
-) -> Result<(), fmt::Error>
+) -> Result<(), AllocError>
     requires idle { (state v.old).undone ≡ None }
     requires valid { IsValidBody (R.context resources.now) (state v.old) }
     ensures idle { (state v.new).undone ≡ None }
@@ -215,8 +194,12 @@ fn run_line<R: WasmModuleResources>(
 {
     let (written, _) = parts_of(line);
     let operator = written.strip_prefix("try ").unwrap_or(written);
-    let script = format!(in alloc; "func 0\n{operator}\n")?;
-    run_script(alloc, report, v, resources, line, &script)
+    let words = words_of(alloc, operator)?;
+    let lists = read_lists(alloc, operator)?;
+    match read_operator(&mut lists.iter(), &words) {
+        Some(op) => run_op(alloc, report, v, op, resources, line),
+        None => report.refuse(line, "has no operator"),
+    }
 }
 
 /// Visits, or attempts and takes back, the operators of these lines in turn. Blank lines stand for nothing.
@@ -230,7 +213,7 @@ pub fn run_lines<R: WasmModuleResources>(
     v: &mut OperatorValidator,
     resources: &R,
     lines: &str,
-) -> Result<(), fmt::Error>
+) -> Result<(), AllocError>
     requires { IsStarting (R.context resources.now) (state v.old) }
 {
     for line in lines.lines() {
@@ -248,7 +231,7 @@ pub fn run_undone(
     head: &str,
     lines: &str,
     lookup: Lookup,
-) -> Result<(), fmt::Error> {
+) -> Result<(), AllocError> {
     report.count();
     run_body(alloc, report, head, lookup, Task::Lines(lines))
 }

@@ -6,7 +6,7 @@ use Rattle.validate_resources.specs.Indices.{is_known}
 use Rattle.validate_resources.specs.Lists.{Declared, declared_by, is_module, canonical_lists, list_indices_pass, have_func_types, has_fitting_descriptor}
 use Rattle.validate_resources.specs.Order.{have_fitting_supertypes}
 use Rattle.validate_resources.specs.declared.lists.TheConstants.{MAX_TYPES}
-use Rattle.validate_resources.specs.Lawful.Forms.{module-same, have_known_types, no-module, no-functions}
+use Rattle.validate_resources.specs.Lawful.Forms.{module-same, have_known_types, no-module, no-functions, no-descriptors}
 use Rattle.validate_resources.proofs.lists.ModuleLists.new.Goals.{Start, Else-not-have_fitting_descriptors}
 use Rattle.validate_resources.proofs.lists.ModuleLists.new.Goals as goal
 
@@ -54,3 +54,9 @@ returns-then-not-have_func_types-clause-refused c =
     rw (sym c.deref-8.ensures.value, sym c.deref-9.ensures.value, sym c.deref-10.ensures.value)
     (sym c.have_func_types.ensures ∙ c.if-not-have_func_types.true) in
     λ _. no-functions d others
+
+pub returns-then-not-have_fitting_descriptors-clause-refused : goal.returns-then-not-have_fitting_descriptors-clause-refused
+returns-then-not-have_fitting_descriptors-clause-refused c =
+    let d : Declared = lists (goal.at.returns-then-not-have_fitting_descriptors-clause-refused c).Start in
+    let unfit : list_all has_fitting_descriptor d.types ≡ false = grind (arith, common_steps) in
+    λ _. no-descriptors d unfit

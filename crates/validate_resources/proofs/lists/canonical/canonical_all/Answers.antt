@@ -1,0 +1,21 @@
+use Rattle.std.proofs.Common.{◌≡◌, ◌&&◌, true, ◌++◌, ◌∷◌, ◌∙◌, [], List, arith, ap, sym, subst, map, take}
+use Rattle.std.specs.List.{list_all}
+use Rattle.std.proofs.lemmas.Bool.{and_from}
+use Rattle.std.proofs.lemmas.Grind.{common_steps}
+use Rattle.std.proofs.lemmas.List.{map_more}
+use Rattle.std.proofs.lemmas.List.Folds.{list_all_more}
+use Rattle.validate_resources.proofs.lists.canonical.canonical_all.Goals as goal
+
+pub loop-item-preserved : goal.loop-item-preserved
+loop-item-preserved g c =
+    let i = c.loop-item.item-index in
+    let pushed : c.push.new.self.items ≡ c.loop-item.forms.items ++ c.in_ok-form.form ∷ [] = grind (arith, common_steps) in
+    let known = and_from _ _ c.loop-item.invariant.known c.in_ok-form.ensures.known in
+    record {
+      known = list_all_more (g.T.Canonical.known c.args.count) c.args.items.now i c.item-item.result c.loop-item-test.true
+          ∙ subst (λ x. (list_all (g.T.Canonical.known c.args.count) (take i c.args.items.now) && g.T.Canonical.known c.args.count x) ≡ true) c.item-item.is known;
+      form = pushed
+          ∙ (ap (λ xs. xs ++ c.in_ok-form.form ∷ []) c.loop-item.invariant.form
+          ∙ (ap (λ y. map g.T.Canonical.form (take i c.args.items.now) ++ y ∷ []) (c.in_ok-form.ensures.form ∙ ap g.T.Canonical.form c.item-item.is)
+          ∙ sym (map_more g.T.Canonical.form c.args.items.now i c.item-item.result c.loop-item-test.true)));
+    }

@@ -3,6 +3,7 @@
 //! "Defined Types").
 
 ghost use Rattle.std.specs.Prelude.{◌≡◌, ◌↔◌, IsTrue};
+ghost use Rattle.binary_operators.specs.Heads.{head};
 
 use validate_types::{CompositeInnerType, FieldType, StorageType, SubType, ValType};
 
@@ -84,16 +85,22 @@ fn are_inner_equal(a: &CompositeInnerType, b: &CompositeInnerType) -> bool
     }
 }
 
-/// Whether two types are equal, finality among their parts.
-fn are_types_equal(a: &SubType, b: &SubType) -> bool
-    ensures { IsTrue result ↔ (a.now ≡ b.now) }
+/// Whether two types are equal but for what they are made of: finality, supertypes, sharedness and descriptors.
+fn have_equal_heads(a: &SubType, b: &SubType) -> bool
+    ensures { IsTrue result ↔ (head a.now ≡ head b.now) }
 {
     a.is_final == b.is_final
         && a.supertype_idx == b.supertype_idx
         && a.composite_type.shared == b.composite_type.shared
         && a.composite_type.descriptor_idx == b.composite_type.descriptor_idx
         && a.composite_type.describes_idx == b.composite_type.describes_idx
-        && are_inner_equal(&a.composite_type.inner, &b.composite_type.inner)
+}
+
+/// Whether two types are equal.
+fn are_types_equal(a: &SubType, b: &SubType) -> bool
+    ensures { IsTrue result ↔ (a.now ≡ b.now) }
+{
+    have_equal_heads(a, b) && are_inner_equal(&a.composite_type.inner, &b.composite_type.inner)
 }
 
 /// Whether two groups are equal: as many types, and each equal to the one in its place.

@@ -5,13 +5,13 @@ use crate::numeric::{SATURATING, WIDE};
 use crate::reader::BinaryReader;
 use crate::types::CanonicalTypes;
 use validate_visit::{
-    ArrayOp, ContinuationOp, ControlOp, ExceptionOp, FieldIndex, MemoryOp, Op, ReferenceOp, Sign,
-    StructOp, TableOp,
+    ArrayOp, BrTable, ContinuationOp, ControlOp, ExceptionOp, FieldIndex, MemoryOp, Op,
+    ReferenceOp, ResumeTable, Sign, StructOp, TableOp,
 };
 
 /// The operator on control or variables of this code, whose immediates are these indices.
 #[inline(always)]
-pub fn control(code: u32, first: u32, second: u32) -> ControlOp<'static> {
+pub fn control<'l>(code: u32, first: u32, second: u32) -> ControlOp<'l> {
     match code {
         0x00 => ControlOp::Unreachable,
         0x01 => ControlOp::Nop,
@@ -19,6 +19,11 @@ pub fn control(code: u32, first: u32, second: u32) -> ControlOp<'static> {
         0x0b => ControlOp::End,
         0x0c => ControlOp::Br(first),
         0x0d => ControlOp::BrIf(first),
+        0x0e => ControlOp::BrTable(BrTable {
+            targets: &[],
+            complete: true,
+            default: first,
+        }),
         0x0f => ControlOp::Return,
         0x10 => ControlOp::Call(first),
         0x11 => ControlOp::CallIndirect {
@@ -42,7 +47,7 @@ pub fn control(code: u32, first: u32, second: u32) -> ControlOp<'static> {
     }
 }
 
-fn exception(code: u32, index: u32) -> ExceptionOp<'static> {
+fn exception<'l>(code: u32, index: u32) -> ExceptionOp<'l> {
     match code {
         0x07 => ExceptionOp::Catch(index),
         0x08 => ExceptionOp::Throw(index),
@@ -53,7 +58,8 @@ fn exception(code: u32, index: u32) -> ExceptionOp<'static> {
     }
 }
 
-fn continuation(code: u32, first: u32, second: u32) -> ContinuationOp<'static> {
+fn continuation<'l>(code: u32, first: u32, second: u32) -> ContinuationOp<'l> {
+    let resume_table = ResumeTable { handlers: &[] };
     match code {
         0xe0 => ContinuationOp::ContNew(first),
         0xe1 => ContinuationOp::ContBind {
@@ -61,6 +67,19 @@ fn continuation(code: u32, first: u32, second: u32) -> ContinuationOp<'static> {
             result_index: second,
         },
         0xe2 => ContinuationOp::Suspend(first),
+        0xe3 => ContinuationOp::Resume {
+            cont_type_index: first,
+            resume_table,
+        },
+        0xe4 => ContinuationOp::ResumeThrow {
+            cont_type_index: first,
+            tag_index: second,
+            resume_table,
+        },
+        0xe5 => ContinuationOp::ResumeThrowRef {
+            cont_type_index: first,
+            resume_table,
+        },
         _ => ContinuationOp::Switch {
             cont_type_index: first,
             tag_index: second,
@@ -176,8 +195,8 @@ fn array(code: u32, type_index: u32, other: u32) -> ArrayOp {
     }
 }
 
-/// The operator of this code, whose immediates are these indices, as many as it has.
-fn of_indices(code: u32, first: u32, second: u32) -> Op<'static> {
+/// The operator of this code, whose immediates are these indices, as many as it has; its list is lent later.
+pub fn of_indices<'l>(code: u32, first: u32, second: u32) -> Op<'l> {
     match code {
         0x07..=0x0a | 0x18 | 0x19 => Op::Exception(exception(code, first)),
         0x25 | 0x26 | 0xfc0c..=0xfc11 => Op::Table(table(code, first, second)),
@@ -243,17 +262,16 @@ fn read_indices(
     Ok((first, second))
 }
 
-/// Reads the operator of this code, which stands at the offset and has no immediates but indices. It refuses a code that
-/// is no such operator's: `illegal opcode`.
+/// Reads the indices of the operator of this code, which stands at the offset and has no other immediates. It refuses a
+/// code that is no such operator's: `illegal opcode`.
 pub fn read_indexed(
     reader: &mut BinaryReader<'_>,
     canonical: CanonicalTypes<'_>,
     code: u32,
     offset: u64,
-) -> Result<Op<'static>, ReadError> {
-    let Some(indices) = indices_of(code) else {
-        return Err(ReadError::malformed(Fault::IllegalOpcode, offset));
-    };
-    let (first, second) = read_indices(reader, canonical, indices)?;
-    Ok(of_indices(code, first, second))
+) -> Result<(u32, u32), ReadError> {
+    match indices_of(code) {
+        Some(indices) => read_indices(reader, canonical, indices),
+        None => Err(ReadError::malformed(Fault::IllegalOpcode, offset)),
+    }
 }

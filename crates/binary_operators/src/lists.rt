@@ -88,6 +88,11 @@ pub fn push<T: Drop>(list: &mut Vec<T>, item: T) -> Result<(), ReadError> {
     Ok(())
 }
 
+/// Adds what was read to a list, if it could be read.
+fn push_read<T: Drop>(list: &mut Vec<T>, read: Result<T, ReadError>) -> Result<(), ReadError> {
+    push(list, read?)
+}
+
 /// Reads an item behind those of a list.
 fn read_item(
     reader: &mut BinaryReader<'_>,
@@ -96,10 +101,10 @@ fn read_item(
     kind: ListKind,
 ) -> Result<(), ReadError> {
     match kind {
-        ListKind::Labels => push(&mut lists.labels, reader.read_var_u32()?),
-        ListKind::Types => push(&mut lists.types, read_value_type(reader, canonical)?),
-        ListKind::Catches => push(&mut lists.catches, read_catch(reader)?),
-        ListKind::Handlers => push(&mut lists.handlers, read_handler(reader)?),
+        ListKind::Labels => push_read(&mut lists.labels, reader.read_var_u32()),
+        ListKind::Types => push_read(&mut lists.types, read_value_type(reader, canonical)),
+        ListKind::Catches => push_read(&mut lists.catches, read_catch(reader)),
+        ListKind::Handlers => push_read(&mut lists.handlers, read_handler(reader)),
     }
 }
 

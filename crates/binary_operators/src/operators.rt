@@ -2,10 +2,9 @@
 //! it in this crate, as 0xfb0f.
 
 use crate::atomics::{read_atomic, read_shared};
-use crate::blocks::read_block_type;
-use crate::control::{block, read_br_table, read_resume, read_select, read_try_table};
+use crate::control::{block, read_block, read_br_table, read_resume, read_select, select};
 use crate::error::{Fault, ReadError};
-use crate::indexed::{control, read_indexed};
+use crate::indexed::{control, of_indices, read_indexed};
 use crate::lists::OperatorLists;
 use crate::memory::read_access;
 use crate::numeric::{CONVERSIONS, NUMERIC, read_constant};
@@ -17,12 +16,12 @@ use validate_visit::Op;
 /// Reads one operator, the one at this index of its body. The list of one that has a list is read into the
 /// lists, and lent later. It refuses `illegal opcode` for a code that is none, a vector operator as such, and
 /// what the reads of its immediates refuse.
-pub fn read_operator(
+pub fn read_operator<'l>(
     reader: &mut BinaryReader<'_>,
     canonical: CanonicalTypes<'_>,
     lists: &mut OperatorLists,
     index: usize,
-) -> Result<Op<'static>, ReadError> {
+) -> Result<Op<'l>, ReadError> {
     let offset = reader.offset();
     let code = reader.read_u8()?;
     match code {
@@ -47,26 +46,44 @@ pub fn read_operator(
 }
 
 /// Reads the immediates of an operator of this code, which stands at the offset, and at the index of its body.
-fn read_coded(
+fn read_coded<'l>(
     reader: &mut BinaryReader<'_>,
     canonical: CanonicalTypes<'_>,
     lists: &mut OperatorLists,
     index: usize,
     code: u32,
     offset: u64,
-) -> Result<Op<'static>, ReadError> {
+) -> Result<Op<'l>, ReadError> {
     match code {
-        0x02 | 0x03 | 0x04 | 0x06 => Ok(block(code, read_block_type(reader, canonical)?)),
-        0x0e => read_br_table(reader, canonical, lists, index),
-        0x1c => read_select(reader, canonical, lists, index),
-        0x1f => read_try_table(reader, canonical, lists, index),
+        0x02 | 0x03 | 0x04 | 0x06 | 0x1f => {
+            Ok(block(code, read_block(reader, canonical, lists, index, code)?))
+        }
+        0x1c => Ok(select(read_select(reader, canonical, lists, index)?)),
         0x41..=0x44 => Ok(Op::Numeric(read_constant(reader, code)?)),
-        0xe3..=0xe5 => read_resume(reader, canonical, lists, index, code),
         0xd0 | 0xfb14..=0xfb19 | 0xfb23..=0xfb26 => {
             Ok(Op::Reference(read_reference(reader, canonical, code)?))
         }
         0xfe00..=0xfe04 | 0xfe10..=0xfe4e => Ok(Op::Atomic(read_atomic(reader, code)?)),
         0xfe4f..=0xfe72 => Ok(Op::Shared(read_shared(reader, canonical, code)?)),
+        _ => {
+            let (first, second) = read_indices(reader, canonical, lists, index, code, offset)?;
+            Ok(of_indices(code, first, second))
+        }
+    }
+}
+
+/// Reads the indices of an operator of this code, 0 for those that it hasn't, and its list, if it has one.
+fn read_indices(
+    reader: &mut BinaryReader<'_>,
+    canonical: CanonicalTypes<'_>,
+    lists: &mut OperatorLists,
+    index: usize,
+    code: u32,
+    offset: u64,
+) -> Result<(u32, u32), ReadError> {
+    match code {
+        0x0e => read_br_table(reader, canonical, lists, index),
+        0xe3..=0xe5 => read_resume(reader, canonical, lists, index, code),
         _ => read_indexed(reader, canonical, code, offset),
     }
 }

@@ -1,6 +1,6 @@
 //! Bytes and numbers of a module (WebAssembly core specification, "Binary Format: Values").
 
-ghost use Rattle.std.specs.Prelude.{ℕ, ◌≡◌, ◌≤◌, ◌<◌, ◌+◌, ◌^◌, ◌↔◌, [], ◌∷◌, Some, None, length, take, drop, true, false, IsTrue, IfOk, OnOk, IfSome, OnErr};
+ghost use Rattle.std.specs.Prelude.{ℕ, ◌≡◌, ◌≤◌, ◌<◌, ◌+◌, ◌^◌, ◌↔◌, List, [], ◌∷◌, ◌++◌, Some, None, length, take, drop, true, false, IsTrue, IfOk, OnOk, IfSome, OnErr};
 ghost use Rattle.binary_operators.specs.Integers.{unsigned, biased, signed};
 
 use crate::error::{Fault, ReadError};
@@ -187,6 +187,7 @@ impl<'a> BinaryReader<'a> {
           left = take count self.old.left;
         }) }
         ensures rest { OnOk result (self.new.left ≡ drop count self.old.left) }
+        ensures there { OnOk result (count ≤ length self.old.left) }
         ensures ended { OnErr result (length self.old.left < count) }
         ensures kept { OnErr result (self.new ≡ self.old) }
     {
@@ -302,7 +303,12 @@ impl<'a> BinaryReader<'a> {
     }
 
     /// Reads how many bytes there are, and answers a reader of these, which are read, as [`BinaryReader::part`].
-    pub fn sized_part(&mut self) -> Result<BinaryReader<'a>, ReadError> {
+    /// It refuses what [`BinaryReader::read_var_u32`] refuses, and where fewer bytes are left: `unexpected end`.
+    pub fn sized_part(&mut self) -> Result<BinaryReader<'a>, ReadError>
+        ensures read { IfOk result (λ r. unsigned 32 self.old.left ≡ Some (length r.left, r.left ++ self.new.left)) }
+        ensures refused { OnErr result ((size : ℕ) (rest : List ℕ) → unsigned 32 self.old.left ≡ Some (size, rest)
+            → length rest < size) }
+    {
         let size = self.read_var_u32()?;
         self.part(size as usize)
     }

@@ -17,7 +17,7 @@ use std::{fs, io};
 use validate_visit::Op;
 
 /// The operator that these bytes are read as, its list left out, or None where they aren't read as one.
-fn read_again(bytes: &[u8], lists: &mut OperatorLists) -> Option<Op<'static>> {
+fn read_again<'l>(bytes: &[u8], lists: &mut OperatorLists) -> Option<Op<'l>> {
     let mut reader = BinaryReader::new(bytes);
     match read_operator(&mut reader, CanonicalTypes::new(&[]), lists, 0) {
         Ok(op) if reader.is_at_end() => Some(op),

@@ -9,8 +9,10 @@ ghost use Rattle.validate_body.specs.Runs.{without_offsets, IsSafeFrom};
 ghost use Rattle.validate_body.specs.Start.{state};
 ghost use Rattle.validate_stacks.specs.State.{IsStarting};
 ghost use Rattle.validation_rules.specs.Static.{start};
-ghost use Rattle.module_check.specs.Begin.{IsBodyStart, IsExpressionStart, DefinesEach, HasLocals};
+ghost use Rattle.module_check.specs.Begin.{IsBodyStart, IsExpressionStart, DefinesEach};
 ghost use Rattle.module_check.specs.Safe.{IsSafeBody};
+ghost use Rattle.module_check.specs.declared.read.BodyKind.{BodyKind};
+ghost use Rattle.validate_types.specs.declared.features.WasmFeatures.{WasmFeatures};
 ghost use Rattle.module_check.specs.declared.report.Verdict.TheVariants.{Accepted};
 
 use crate::buffers::BodyBuffers;
@@ -20,7 +22,6 @@ use binary_operators::ReadError;
 use validate_body::{OperatorValidator, check_ops};
 use validate_resources::WasmModuleResources;
 use validate_resources::uses::laws;
-use validate_stacks::OperatorValidatorAllocations;
 use validate_types::{Error, ValType, WasmFeatures};
 use validate_visit::{ControlOp, ExceptionOp, Op, have_module_immediates, is_well_ordered};
 
@@ -41,18 +42,6 @@ fn ordered_part(ops: &[(Op<'_>, u64)]) -> usize {
     low
 }
 
-/// The text of the refusal of an operator that doesn't stand in order, or names a global that isn't there.
-fn order_text(op: Op<'_>) -> &'static str {
-    match op {
-        Op::Control(ControlOp::GlobalGet(_)) => "unknown global: global index out of bounds",
-        Op::Control(ControlOp::Else) => "else found outside of an `if` block",
-        Op::Exception(ExceptionOp::Catch(_)) => "catch found outside of an `try` block",
-        Op::Exception(ExceptionOp::CatchAll) => "catch_all found outside of a `try` block",
-        Op::Exception(ExceptionOp::Delegate(_)) => "delegate found outside of an `try` block",
-        _ => "operators remaining after end of function",
-    }
-}
-
 /// The index of the first operator that names a global past so many, or the length of the list.
 fn part_before_later_global(ops: &[(Op<'_>, u64)], globals: usize) -> usize {
     for (index, pair) in ops.iter().enumerate() {
@@ -65,14 +54,23 @@ fn part_before_later_global(ops: &[(Op<'_>, u64)], globals: usize) -> usize {
     ops.len()
 }
 
-/// The refusal of the operator behind the part that the validator is asked about.
+/// The refusal of the operator behind the part that the validator is asked about: it doesn't stand in order, or names a
+/// global that isn't there.
 fn refusal_behind(ops: &[(Op<'_>, u64)], part: usize, end: u64) -> Verdict
     ensures { result ≢ Accepted }
 {
-    match ops.get(part) {
-        Some((op, offset)) => Verdict::Refused(Error::new(order_text(*op), *offset)),
-        None => Verdict::Refused(Error::new("operators out of order", end)),
-    }
+    let Some((op, offset)) = ops.get(part) else {
+        return Verdict::Refused(Error::new("operators out of order", end));
+    };
+    let text = match op {
+        Op::Control(ControlOp::GlobalGet(_)) => "unknown global: global index out of bounds",
+        Op::Control(ControlOp::Else) => "else found outside of an `if` block",
+        Op::Exception(ExceptionOp::Catch(_)) => "catch found outside of an `try` block",
+        Op::Exception(ExceptionOp::CatchAll) => "catch_all found outside of a `try` block",
+        Op::Exception(ExceptionOp::Delegate(_)) => "delegate found outside of an `try` block",
+        _ => "operators remaining after end of function",
+    };
+    Verdict::Refused(Error::new(text, *offset))
 }
 
 /// Whether the operators can be those of a body.
@@ -182,39 +180,41 @@ fn after_list(closed: bool, failure: Option<ReadError>, end: u64) -> Verdict
     ))
 }
 
-/// A validator of a constant expression of this type, which is checked first.
+/// A validator of a constant expression of this type, which is checked first. It takes the buffers.
 fn start_expression<R: WasmModuleResources>(
     resources: &R,
     features: &WasmFeatures,
     ty: ValType,
     offset: u64,
-    buffers: OperatorValidatorAllocations,
+    buffers: &mut BodyBuffers,
 ) -> Result<OperatorValidator, Error>
     ensures starting { IfOk result (λ validator. IsStarting (R.context resources.now) (state validator)) }
     ensures made { IfOk result (λ validator. IsExpressionStart (R.context resources.now) features.now ty
         (state validator)) }
+    ensures empty { OnOk result (buffers.new.heights.items ≡ []) }
 {
     laws(resources);
     let mut canonical = ty;
     resources.check_value_type(&mut canonical, features, offset)?;
-    OperatorValidator::new_const_expr(features, canonical, buffers)
+    OperatorValidator::new_const_expr(features, canonical, buffers.take())
 }
 
-/// A validator of a body of this kind.
+/// A validator of a body of this kind. It takes the buffers.
 fn start_body<R: WasmModuleResources>(
     resources: &R,
     features: &WasmFeatures,
     kind: BodyKind,
     offset: u64,
-    buffers: OperatorValidatorAllocations,
+    buffers: &mut BodyBuffers,
 ) -> Result<OperatorValidator, Error>
     ensures starting { IfOk result (λ validator. IsStarting (R.context resources.now) (state validator)) }
     ensures made { IfOk result (λ validator. IsBodyStart (R.context resources.now) features.now kind
         (state validator)) }
+    ensures empty { OnOk result (buffers.new.heights.items ≡ []) }
 {
     match kind {
         BodyKind::Function(ty) => {
-            OperatorValidator::new_func(ty, offset, features, resources, buffers)
+            OperatorValidator::new_func(ty, offset, features, resources, buffers.take())
         }
         BodyKind::Expression(ty) => start_expression(resources, features, ty, offset, buffers),
     }
@@ -237,22 +237,34 @@ fn define_each<R: WasmModuleResources>(
     Ok(())
 }
 
-/// A validator of a body of this kind, with all its locals.
-fn begin_body<R: WasmModuleResources>(
+/// Checks a body by its validator, which is new: the locals are defined, and the operators checked. Globals past so many
+/// are unknown.
+fn check_begun<R: WasmModuleResources>(
+    v: &mut OperatorValidator,
+    heights: &mut Vec<(usize, usize)>,
     resources: &R,
-    features: &WasmFeatures,
-    kind: BodyKind,
-    offset: u64,
-    locals: &[LocalGroup],
-    buffers: OperatorValidatorAllocations,
-) -> Result<OperatorValidator, Error>
-    ensures starting { IfOk result (λ validator. IsStarting (R.context resources.now) (state validator)) }
-    ensures locals { IfOk result (λ validator. HasLocals (R.context resources.now) features.now kind
-        locals.now (state validator)) }
+    body: &ReadBody<'_>,
+    globals: usize,
+) -> Verdict
+    requires starting { IsStarting (R.context resources.now) (state v.old) }
+    requires empty { heights.old.items ≡ [] }
+    ensures whole { result ≡ Accepted → body.now.failure ≡ None }
+    ensures safe { result ≡ Accepted → (features : WasmFeatures) (kind : BodyKind)
+        → IsBodyStart (R.context resources.now) features kind (state v.old)
+        → IsSafeBody (R.context resources.now) features kind body.now.locals.items body.now.operators.items }
 {
-    let mut validator = start_body(resources, features, kind, offset, buffers)?;
-    define_each(&mut validator, resources, locals)?;
-    Ok(validator)
+    match define_each(v, resources, &body.locals) {
+        Ok(()) => check_list(
+            v,
+            heights,
+            resources,
+            &body.operators,
+            body.failure,
+            body.end,
+            globals,
+        ),
+        Err(refusal) => Verdict::of_refusal(refusal),
+    }
 }
 
 /// Checks a body of this kind, which was read. Globals past so many are unknown in it.
@@ -274,25 +286,9 @@ pub fn check_body<R: WasmModuleResources>(
     ensures safe { result ≡ Accepted → IsSafeBody (R.context resources.now) features.now kind
         body.now.locals.items body.now.operators.items }
 {
-    let allocations = buffers.take();
-    match begin_body(
-        resources,
-        features,
-        kind,
-        body.start,
-        &body.locals,
-        allocations,
-    ) {
+    match start_body(resources, features, kind, body.start, buffers) {
         Ok(mut v) => {
-            let verdict = check_list(
-                &mut v,
-                &mut buffers.heights,
-                resources,
-                &body.operators,
-                body.failure,
-                body.end,
-                globals,
-            );
+            let verdict = check_begun(&mut v, &mut buffers.heights, resources, body, globals);
             buffers.put_back(v);
             verdict
         }

@@ -109,7 +109,7 @@ fn read_next<'a>(
     let offset = reader.offset();
     let index = ops.len();
     let op = read_operator(reader, canonical, lists, index)?;
-    match ops.push((op, offset)) {
+    match push(ops, (op, offset)) {
         Ok(()) => Ok(()),
         Err(_) => Err(ReadError::out_of_memory(offset)),
     }

@@ -17,16 +17,23 @@ pub enum Item {
     Expression(Place),
 }
 
-impl fmt::Display for Item {
-    fn fmt<W: fmt::Write>(&self, f: &mut fmt::Formatter<W>) -> fmt::Result {
-        let (kind, index, part) = match *self {
+impl Item {
+    /// What it belongs to, the index of that, and which part of it.
+    fn words(self) -> (&'static str, usize, &'static str) {
+        match self {
             Item::Function(index) => ("func", index as usize, ""),
             Item::Expression(Place::Table(index)) => ("table", index, " init"),
             Item::Expression(Place::Global(index)) => ("global", index, " init"),
             Item::Expression(Place::ElementOffset(index)) => ("elem", index, " offset"),
             Item::Expression(Place::Element(index)) => ("elem", index, " item"),
             Item::Expression(Place::DataOffset(index)) => ("data", index, " offset"),
-        };
+        }
+    }
+}
+
+impl fmt::Display for Item {
+    fn fmt<W: fmt::Write>(&self, f: &mut fmt::Formatter<W>) -> fmt::Result {
+        let (kind, index, part) = self.words();
         write!(f, "{kind} {index}{part}")
     }
 }

@@ -45,15 +45,20 @@ fn check_body(
 }
 
 /// Checks each body and each constant expression.
-fn check_all(alloc: Global, module: &LoadedModule<'_>, text: &mut [u8], out: &mut ModuleVerdict)
+fn check_all(
+    alloc: Global,
+    module: &LoadedModule<'_>,
+    buffers: &mut BodyBuffers,
+    text: &mut [u8],
+    out: &mut ModuleVerdict,
+)
     requires { IsTold (length text.old) out.old }
     ensures { IsTold (length text.new) out.new }
 {
-    let mut buffers = BodyBuffers::new(alloc);
-    check_expressions(alloc, module, &mut buffers, text, out);
+    check_expressions(alloc, module, buffers, text, out);
     for index in 0..module.bodies() {
         let function = module.function_of(index);
-        check_body(alloc, module, function, &mut buffers, text, out);
+        check_body(alloc, module, function, buffers, text, out);
     }
 }
 
@@ -62,6 +67,7 @@ fn check_one(
     alloc: Global,
     module: &LoadedModule<'_>,
     function: u32,
+    buffers: &mut BodyBuffers,
     text: &mut [u8],
     out: &mut ModuleVerdict,
 )
@@ -69,8 +75,7 @@ fn check_one(
     ensures { IsTold (length text.new) out.new }
 {
     if module.body_of(function).is_some() {
-        let mut buffers = BodyBuffers::new(alloc);
-        check_body(alloc, module, function, &mut buffers, text, out);
+        check_body(alloc, module, function, buffers, text, out);
     } else {
         let item = Some(Item::Function(function));
         out.tell(
@@ -81,6 +86,39 @@ fn check_one(
             text,
         );
     }
+}
+
+/// Checks each body and each constant expression, or the body of one function alone.
+fn check_chosen(
+    alloc: Global,
+    module: &LoadedModule<'_>,
+    function: Option<u32>,
+    buffers: &mut BodyBuffers,
+    text: &mut [u8],
+    out: &mut ModuleVerdict,
+)
+    requires { IsTold (length text.old) out.old }
+    ensures { IsTold (length text.new) out.new }
+{
+    match function {
+        Some(function) => check_one(alloc, module, function, buffers, text, out),
+        None => check_all(alloc, module, buffers, text, out),
+    }
+}
+
+/// The same, in buffers of its own.
+fn check_loaded(
+    alloc: Global,
+    module: &LoadedModule<'_>,
+    function: Option<u32>,
+    text: &mut [u8],
+    out: &mut ModuleVerdict,
+)
+    requires { IsTold (length text.old) out.old }
+    ensures { IsTold (length text.new) out.new }
+{
+    let mut buffers = BodyBuffers::new(alloc);
+    check_chosen(alloc, module, function, &mut buffers, text, out);
 }
 
 /// The status of a verdict.
@@ -104,10 +142,9 @@ pub fn validate(
     ensures told { IsTold (length text.new) out.new }
 {
     *out = ModuleVerdict::new();
-    match (LoadedModule::new(alloc, bytes), function) {
-        (Ok(module), None) => check_all(alloc, &module, text, out),
-        (Ok(module), Some(function)) => check_one(alloc, &module, function, text, out),
-        (Err(verdict), _) => out.note_module(&verdict, text),
+    match LoadedModule::new(alloc, bytes) {
+        Ok(module) => check_loaded(alloc, &module, function, text, out),
+        Err(verdict) => out.note_module(&verdict, text),
     }
     status_of(out)
 }

@@ -10,7 +10,7 @@ mod types;
 use crate::encode::bytes_of;
 use crate::types::Bytes;
 use binary_operators::{BinaryReader, CanonicalTypes, OperatorLists, lend, read_operator};
-use script_reader::{read_lists, read_script};
+use script_reader::read_script;
 use std::alloc::Global;
 use std::process::ExitCode;
 use std::{fs, io};
@@ -61,8 +61,8 @@ fn run_operators(rt: &HostRuntime, ops: &[(Op<'_>, u64)]) -> io::Result<bool> {
 
 /// Runs the operators of a script.
 fn run_script(rt: &HostRuntime, text: &str) -> io::Result<bool> {
-    let lists = read_lists(rt.alloc(), text)?;
-    match read_script(rt.alloc(), &lists, text) {
+    let mut listed = Vec::new(rt.alloc());
+    match read_script(rt.alloc(), &mut listed, text) {
         Ok(script) => run_operators(rt, &script.operators.ops),
         Err(_) => Ok(false),
     }

@@ -1,6 +1,6 @@
 //! Modules: what the first lines of a script declare, and lists of types that no line would write.
 
-use script_reader::{Script, read_lists, read_script};
+use script_reader::{Script, read_script};
 use std::test::Fail;
 use validate_resources::ModuleLists;
 use validate_types::{Error, FuncType, SubType, UnpackedIndex};
@@ -8,8 +8,8 @@ use validate_types::{Error, FuncType, SubType, UnpackedIndex};
 /// The lookup over what these lines declare, or its refusal.
 pub fn read_module(rt: &impl AllocGlobal, lines: &str) -> Result<Result<ModuleLists, Error>, Fail> {
     let text = format!(in rt.alloc(); "{lines}\nexpr i32\n")?;
-    let lists = read_lists(rt.alloc(), &text)?;
-    match read_script(rt.alloc(), &lists, &text) {
+    let mut listed = Vec::new(rt.alloc());
+    match read_script(rt.alloc(), &mut listed, &text) {
         Ok(Script { declarations, .. }) => {
             Ok(ModuleLists::from_declarations(rt.alloc(), declarations))
         }

@@ -14,7 +14,7 @@ mod measure;
 use crate::choice::{Choice, read_choice};
 use crate::failure::Failure;
 use crate::measure::{Subject, Way, best_time};
-use script_reader::{Script, read_lists, read_script};
+use script_reader::{Script, read_script};
 use std::io;
 use std::process::ExitCode;
 use validate_resources::ModuleLists;
@@ -47,7 +47,7 @@ fn run(rt: &HostRuntime) -> Result<(), Failure> {
     let alloc = rt.alloc();
     let choice = read_choice(rt)?;
     let text = io::read_to_string(alloc, rt.stdin()).map_err(|_| Failure::Script)?;
-    let lists = read_lists(alloc, &text).map_err(|_| Failure::Host)?;
+    let mut listed = Vec::new(alloc);
     let Script {
         features,
         shows: _,
@@ -55,7 +55,7 @@ fn run(rt: &HostRuntime) -> Result<(), Failure> {
         body,
         locals,
         operators,
-    } = read_script(alloc, &lists, &text).map_err(|_| Failure::Script)?;
+    } = read_script(alloc, &mut listed, &text).map_err(|_| Failure::Script)?;
     let module = ModuleLists::from_declarations(alloc, declarations).map_err(|_| Failure::Script)?;
     let subject = Subject {
         alloc,

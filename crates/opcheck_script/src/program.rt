@@ -9,7 +9,7 @@ use crate::print::{print_failure, print_report};
 use crate::report::Report;
 use crate::script::check_script;
 use crate::verdict::{Verdict, status_of};
-use script_reader::{read_lists, read_script};
+use script_reader::read_script;
 use std::alloc::Global;
 use std::io::{BufWriter, Read, Write};
 use std::str;
@@ -51,8 +51,7 @@ fn run_script<R: Read, O: Write + Drop>(
     outcome
 }
 
-/// Reads the script whole, and checks it. The lists of its operators are read before the operators, which
-/// lend them.
+/// Reads the script whole, and checks it. Its operators lend their lists, which are kept beside it.
 fn check_input<R: Read>(alloc: Global, reader: &mut R) -> Result<Report, Failure>
     ensures text { IfSome (R.remaining reader.old) (λ bytes. ¬ (IsUtf8 bytes) → IsErr result) }
 {
@@ -60,8 +59,8 @@ fn check_input<R: Read>(alloc: Global, reader: &mut R) -> Result<Report, Failure
     let Ok(text) = str::from_utf8(&input) else {
         return Err(Failure::BadScript(BadScript::Input));
     };
-    let lists = read_lists(alloc, text)?;
-    let script = read_script(alloc, &lists, text)?;
+    let mut listed = Vec::new(alloc);
+    let script = read_script(alloc, &mut listed, text)?;
     // The check needs no text.
     drop(input);
     check_script(alloc, script)

@@ -1,6 +1,6 @@
 -- The words of lines, and the order of lines (the crate's own).
-use Rattle.std.specs.Prelude.{◌≡◌, ◌==◌, ◌++◌, ℕ, List, [], ◌∷◌, Bool, true, false, not, Option, Some, None}
-use Rattle.std.specs.Prelude.{◌^◌, ◌-◌, length, is_some, if◌then◌else◌, vec_len}
+use Rattle.std.specs.Prelude.{◌≡◌, ◌==◌, ◌&&◌, ◌||◌, ◌++◌, ℕ, List, [], ◌∷◌, Bool, true, false, not}
+use Rattle.std.specs.Prelude.{◌^◌, ◌-◌, Option, Some, None, length, is_some, if◌then◌else◌, vec_len}
 use Rattle.std.specs.List.{filter, slice_split}
 use Rattle.std.specs.Int.RustNames.{bit_or}
 use Rattle.validate_types.specs.declared.features.WasmFeatures.{WasmFeatures}
@@ -13,6 +13,7 @@ use Rattle.validate_resources.specs.declared.lists.FuncDecl.{FuncDecl}
 use Rattle.script_parts.specs.declared.script.BodyLine.{BodyLine}
 use Rattle.script_parts.specs.declared.script.LocalLine.{LocalLine}
 use Rattle.script_parts.specs.declared.script.Draft.{Draft}
+use Rattle.script_parts.specs.Written.{may_be_attempted}
 use Rattle.script_parts.specs.declared.script.Part.{Part}
 use Rattle.script_parts.specs.declared.script.Part.TheVariants.{Module, Locals, Operators}
 use Rattle.validate_visit.specs.declared.op.Op.{Op}
@@ -27,7 +28,6 @@ use Rattle.script_parts.specs.declared.line.Line.TheVariants.{Tag as OnTag}
 use Rattle.script_parts.specs.declared.line.Line.TheVariants.{Element as OnElement}
 use Rattle.script_parts.specs.declared.line.Line.TheVariants.{DataCount as OnDataCount, Show as OnShow}
 use Rattle.script_parts.specs.declared.line.Line.TheVariants.{Body as OnBody, Locals as OnLocals}
-use Rattle.script_parts.specs.declared.line.Line.TheVariants.{Operator as OnOperator}
 
 -- the words of a line: what lies between spaces (32) and isn't empty
 abbrev pub words_in : List ℕ → List (List ℕ)
@@ -39,7 +39,7 @@ part_of d = if is_some d.body then (if vec_len d.operators.ops == 0 then Locals 
 
 -- Whether a line may stand after lines that have come to this part, have said how many data segments
 -- there are, if they have, and have a `show` line or none: proposals and declarations before the `func` or
--- `expr` line, that number and `show` once, locals after the line, and operators last.
+-- `expr` line, that number and `show` once, locals after the line, and before operators.
 abbrev pub may_stand_in : Line → Part → Option ℕ → Bool → Bool
 may_stand_in (OnFeature named) Module _ _ = true
 may_stand_in (OnType ty) Module _ _ = true
@@ -53,9 +53,11 @@ may_stand_in (OnDataCount count) Module None _ = true
 may_stand_in OnShow Module _ false = true
 may_stand_in (OnBody body) Module _ _ = true
 may_stand_in (OnLocals n ty) Locals _ _ = true
-may_stand_in (OnOperator op) Locals _ _ = true
-may_stand_in (OnOperator op) Operators _ _ = true
 may_stand_in _ _ _ _ = false
+
+-- whether an operator may stand after these lines, in a `try` line or not: behind the `func` or `expr` line
+abbrev pub may_add_operator : Draft → Op → (attempted : Bool) → Bool
+may_add_operator d op attempted = is_some d.body && (not attempted || may_be_attempted op)
 
 -- every proposal
 abbrev pub all_features : WasmFeatures
@@ -114,14 +116,6 @@ abbrev pub locals_after : Line → ℕ → List LocalLine → List LocalLine
 locals_after (OnLocals n t) number before = before ++ record { count = n; ty = t; offset = number } ∷ []
 locals_after _ number before = before
 
-abbrev pub operators_after : Line → ℕ → List (Op × ℕ) → List (Op × ℕ)
-operators_after (OnOperator written) number before = before ++ (written.op, number) ∷ []
-operators_after _ number before = before
-
-abbrev pub attempts_after : Line → List Bool → List Bool
-attempts_after (OnOperator written) before = before ++ written.attempted ∷ []
-attempts_after _ before = before
-
 -- the `func` or `expr` line after a line
 abbrev pub body_after : Line → ℕ → Option BodyLine → Option BodyLine
 body_after (OnBody body) number before = Some (record { body = body; offset = number })
@@ -146,5 +140,4 @@ pub record AddsLine (old new : Draft) (line : Line) (number : ℕ) : Type 0 wher
   pub data_count : new.declarations.data_count ≡ data_count_after line old.declarations.data_count
   pub body : new.body ≡ body_after line number old.body
   pub locals : new.locals.items ≡ locals_after line number old.locals.items
-  pub operators : new.operators.ops.items ≡ operators_after line number old.operators.ops.items
-  pub attempts : new.operators.attempts.items ≡ attempts_after line old.operators.attempts.items
+  pub operators : new.operators ≡ old.operators

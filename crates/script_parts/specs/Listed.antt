@@ -1,5 +1,5 @@
 -- The lists of operators, before an operator lends them (the crate's own).
-use Rattle.std.specs.Prelude.{ℕ, List, [], ◌∷◌, ◌++◌, Option, Some, None}
+use Rattle.std.specs.Prelude.{ℕ, Bool, true, false, List, [], ◌∷◌, ◌++◌, Option, Some, None}
 use Rattle.validate_types.specs.declared.types.ValType.{ValType}
 use Rattle.validate_visit.specs.declared.catch.Catch.{Catch}
 use Rattle.validate_visit.specs.declared.frame.BlockType.{BlockType}
@@ -48,3 +48,8 @@ listed_throw _ = None
 abbrev pub listed_throw_ref : OperatorList → Option (ℕ × List Handle)
 listed_throw_ref (Handlers (ThrowRef type) handlers) = Some (type, handlers.items)
 listed_throw_ref _ = None
+
+-- whether the operator with this list opens a block: a `try_table` does
+abbrev pub opens_block : OperatorList → Bool
+opens_block (Catches ty catches) = true
+opens_block _ = false

@@ -1,13 +1,12 @@
-//! What a line of a script says.
+//! What a line of a script says, where it writes no operator.
 
 use crate::script::Body;
-use crate::written::WrittenOp;
 use validate_resources::FuncDecl;
 use validate_types::{GlobalType, MemoryType, RefType, SubType, TableType, ValType, WasmFeatures};
 
-/// What a line says that is neither blank nor a comment.
+/// What a line says that is neither blank nor a comment, and writes no operator.
 #[derive(Drop)]
-pub enum Line<'a> {
+pub enum Line {
     /// `feature NAME`: these proposals are on.
     Feature(WasmFeatures),
     /// `type ..`: the module declares this type.
@@ -32,6 +31,4 @@ pub enum Line<'a> {
     Body(Body),
     /// `local N T`: the body has this many more locals of this type.
     Locals(u32, ValType),
-    /// An operator of the body, or `try` and one.
-    Operator(WrittenOp<'a>),
 }

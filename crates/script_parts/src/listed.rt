@@ -1,8 +1,8 @@
-//! The lists of operators, each read before the operator that lends it.
+//! The lists of operators, which lend them once all are read.
 
-ghost use Rattle.std.specs.Prelude.{◌≡◌, ◌≢◌, ℕ, List, [], true, All, IfOk, IsErrOf, IsSomeAnd, OnOk, map};
+ghost use Rattle.std.specs.Prelude.{◌≡◌, ◌≢◌, ◌↔◌, ◌&&◌, ℕ, List, [], true, false, not, All, IfOk, IfSome, IsErrOf, IsSome, IsSomeAnd, OnOk, map};
 ghost use Rattle.std.specs.Str.Parse.{digits_value};
-ghost use Rattle.script_parts.specs.Listed.{listed_labels, listed_types, listed_try_table, listed_handlers, listed_resume, listed_throw, listed_throw_ref, resumption_indices};
+ghost use Rattle.script_parts.specs.Listed.{listed_labels, listed_types, listed_try_table, listed_handlers, listed_resume, listed_throw, listed_throw_ref, opens_block, resumption_indices};
 ghost use Rattle.validate_visit.specs.declared.catch.Catch.{Catch};
 ghost use Rattle.validate_visit.specs.declared.frame.BlockType.{BlockType};
 ghost use Rattle.script_parts.specs.Blocks.{fits_block};
@@ -11,7 +11,7 @@ ghost use Rattle.script_parts.specs.Catches.{AreTryImmediates};
 ghost use Rattle.script_parts.specs.Handlers.{AreResumeImmediates, AreThrowImmediates};
 ghost use Rattle.script_parts.specs.Indices.{continuation_indices};
 ghost use Rattle.script_parts.specs.Numbers.{IsIndex};
-ghost use Rattle.script_parts.specs.Written.{labels_of, select_types, try_table_of, handlers_in, handlers_of, is_complete};
+ghost use Rattle.script_parts.specs.Written.{labels_of, select_types, try_table_of, handlers_in, handlers_of, is_complete, may_be_attempted};
 ghost use Rattle.script_parts.specs.declared.failure.LineError.{LineError};
 
 use crate::blocks::read_block_type;
@@ -92,6 +92,13 @@ impl Resumption {
 }
 
 impl OperatorList {
+    /// Whether the operator that has this list opens a block, as a `try_table` does.
+    fn opens_block(&self) -> bool
+        ensures { result ≡ opens_block self.now }
+    {
+        matches!(self, OperatorList::Catches { .. })
+    }
+
     /// The operator that has this list.
     pub fn op(&self) -> Op<'_>
         ensures labels { labels_of result ≡ listed_labels self.now }
@@ -99,6 +106,7 @@ impl OperatorList {
         ensures try_table { try_table_of result ≡ listed_try_table self.now }
         ensures handlers { handlers_of result ≡ listed_handlers self.now }
         ensures complete { is_complete result ≡ true }
+        ensures attempt { may_be_attempted result ≡ not (opens_block self.now) }
     {
         match self {
             OperatorList::Labels { targets, default } => {
@@ -120,12 +128,56 @@ impl OperatorList {
     }
 }
 
-/// Whether the operator of this name has a list.
+/// An operator that has a list, and where it stands in a script.
+#[derive(Drop)]
+pub struct ListedOperator {
+    /// How many operators stand before it.
+    pub place: usize,
+    /// The number of its line.
+    pub number: u64,
+    /// Whether it is attempted alone.
+    pub attempted: bool,
+    /// Its list.
+    pub list: OperatorList,
+    ghost allowed: { attempted ≡ true → opens_block list ≡ false },
+}
+
+impl ListedOperator {
+    /// The operator of the line of this number, behind so many others, attempted or not. One that opens a block
+    /// may not be attempted.
+    pub fn new(
+        place: usize,
+        number: u64,
+        attempted: bool,
+        list: OperatorList,
+    ) -> Option<ListedOperator>
+        ensures place { IfSome result (λ listed. listed.place ≡ place) }
+        ensures number { IfSome result (λ listed. listed.number ≡ number) }
+        ensures attempted { IfSome result (λ listed. listed.attempted ≡ attempted) }
+        ensures list { IfSome result (λ listed. listed.list ≡ list) }
+        ensures some { IsSome result ↔ ((attempted && opens_block list) ≡ false) }
+    {
+        if attempted && list.opens_block() {
+            return None;
+        }
+        Some(ListedOperator {
+            place,
+            number,
+            attempted,
+            list,
+        })
+    }
+}
+
+/// Whether the operator of this name has a list. The first letter tells most names apart.
 pub fn has_list(name: &str) -> bool {
-    matches!(
-        name,
-        "br_table" | "select_multi" | "try_table" | "resume" | "resume_throw" | "resume_throw_ref"
-    )
+    match name.as_bytes().first() {
+        Some(b'b') => name == "br_table",
+        Some(b'r') => matches!(name, "resume" | "resume_throw" | "resume_throw_ref"),
+        Some(b's') => name == "select_multi",
+        Some(b't') => name == "try_table",
+        _ => false,
+    }
 }
 
 /// Reads the list of an operator: its name, and the words of the list after it.

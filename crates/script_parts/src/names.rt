@@ -3,7 +3,8 @@
 /// What this name stands for in a table, if it is there.
 pub fn named_in<T: Copy>(table: &[(&str, T)], name: &str) -> Option<T> {
     for named in table {
-        if named.0 == name {
+        // Most names have another length, which says so without a call.
+        if named.0.len() == name.len() && named.0 == name {
             return Some(named.1);
         }
     }

@@ -1,15 +1,16 @@
 //! A script, and the lines that it is made of.
 
 ghost use Rattle.script_parts.specs.Lines.{all_features};
-ghost use Rattle.std.specs.Prelude.{◌≡◌, ◌↔◌, false, Some, IsSome, IfSome, IsErrOf, OnOk};
+ghost use Rattle.std.specs.Prelude.{◌≡◌, ◌↔◌, ◌++◌, [], ◌∷◌, false, Some, IsSome, IfSome, IsErrOf, OnOk};
 
 use crate::failure::LineError;
 use crate::line::Line;
-use crate::written::Operators;
+use crate::written::{Operators, may_be_attempted};
 use bitflags::Flags;
 use std::alloc::Global;
 use validate_resources::ModuleDeclarations;
 use validate_types::{ValType, WasmFeatures};
+use validate_visit::Op;
 
 /// What the operators of a script are the body of.
 #[derive(Clone, Copy)]
@@ -84,7 +85,7 @@ enum Part {
 
 impl<'a> Draft<'a> {
     ghost use Rattle.script_parts.specs.declared.failure.LineError.{LineError};
-    ghost use Rattle.script_parts.specs.Lines.{part_of, may_stand_in, features_or_all, AddsLine};
+    ghost use Rattle.script_parts.specs.Lines.{part_of, may_stand_in, may_add_operator, features_or_all, AddsLine};
 
     /// No lines yet.
     pub fn new(alloc: Global) -> Draft<'a> {
@@ -111,11 +112,11 @@ impl<'a> Draft<'a> {
         }
     }
 
-    /// Adds a line, if this is its place.
-    pub fn add(&mut self, line: Line<'a>, offset: u64) -> Result<(), LineError>
-        ensures added { OnOk result (AddsLine self.old self.new line.entry offset) }
+    /// Adds a line that writes no operator, if this is its place.
+    pub fn add(&mut self, line: Line, offset: u64) -> Result<(), LineError>
+        ensures added { OnOk result (AddsLine self.old self.new line offset) }
         ensures bad { IsErrOf result LineError.Bad
-            ↔ (may_stand_in line.entry (part_of self.old) self.old.declarations.data_count self.old.shows
+            ↔ (may_stand_in line (part_of self.old) self.old.declarations.data_count self.old.shows
             ≡ false) }
     {
         match (line, self.part(), self.declarations.data_count, self.shows) {
@@ -142,11 +143,30 @@ impl<'a> Draft<'a> {
             (Line::Locals(count, ty), Part::Locals, _, _) => {
                 self.locals.push(LocalLine { count, ty, offset })?;
             }
-            (Line::Operator(op), Part::Locals | Part::Operators, _, _) => {
-                self.operators.push(op, offset)?;
-            }
             _ => return Err(LineError::Bad),
         }
+        Ok(())
+    }
+
+    /// Adds an operator, attempted or not, if the `func` or `expr` line has come, and if it may be attempted
+    /// where it is: one that opens a block, or ends one or a part of it, may not stand in a `try` line.
+    pub fn add_operator(
+        &mut self,
+        op: Op<'a>,
+        attempted: bool,
+        offset: u64,
+    ) -> Result<(), LineError>
+        ensures ops { OnOk result (self.new.operators.ops.items ≡ self.old.operators.ops.items
+            ++ (op.entry, offset) ∷ []) }
+        ensures attempts { OnOk result (self.new.operators.attempts.items
+            ≡ self.old.operators.attempts.items ++ attempted ∷ []) }
+        ensures others { self.new ≡ record self.old { operators = self.new.operators } }
+        ensures bad { IsErrOf result LineError.Bad ↔ (may_add_operator self.old op.entry attempted ≡ false) }
+    {
+        if self.body.is_none() || (attempted && !may_be_attempted(op)) {
+            return Err(LineError::Bad);
+        }
+        self.operators.push(op, attempted, offset)?;
         Ok(())
     }
 

@@ -9,15 +9,14 @@ mod features;
 mod lines;
 mod memory;
 mod numeric;
-mod operator_lists;
 mod operators;
 mod plain;
 mod script;
 mod shared;
 
-pub use crate::operator_lists::read_lists;
 pub use crate::operators::read_operator;
 pub use crate::script::read_script;
 pub use script_parts::{
-    Body, BodyLine, LineError, LocalLine, OperatorList, Operators, Script, ScriptError, WrittenOp,
+    Body, BodyLine, LineError, ListedOperator, LocalLine, OperatorList, Operators, Script,
+    ScriptError,
 };

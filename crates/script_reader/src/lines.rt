@@ -1,41 +1,23 @@
 //! Reading the lines of a script, each for itself.
 
 use crate::features::read_feature;
-use crate::operators::read_operator;
 use script_parts::{
-    Body, Line, LineError, OperatorList, WrittenOp, read_function, read_global_type, read_index,
-    read_memory_type, read_reference, read_table_type, read_type, read_value_type,
+    Body, Line, LineError, read_function, read_global_type, read_index, read_memory_type,
+    read_reference, read_table_type, read_type, read_value_type,
 };
 use std::alloc::Global;
-use std::slice;
 
 /// Reads the words of a line of the module, of which there is one at least: a `func` or `expr` line is the
 /// last of these.
-pub fn read_module_line<'a>(alloc: Global, words: &[&str]) -> Result<Line<'a>, LineError> {
+pub fn read_module_line(alloc: Global, words: &[&str]) -> Result<Line, LineError> {
     match words.split_first() {
         Some((&"type", rest)) => Ok(Line::SubType(read_type(alloc, rest)?)),
         _ => read_flat_line(words).ok_or(LineError::Bad),
     }
 }
 
-/// Reads the words of a line of the body, of which there is one at least. An operator with a list takes the
-/// next of these.
-pub fn read_body_line<'a>(
-    lists: &mut slice::Iter<'a, OperatorList>,
-    words: &[&str],
-) -> Option<Line<'a>> {
-    match words.split_first()? {
-        (&"local", rest) => read_locals(rest),
-        (&"try", rest) => {
-            let op = read_operator(lists, rest)?;
-            Some(Line::Operator(WrittenOp::attempted(op)?))
-        }
-        _ => Some(Line::Operator(WrittenOp::plain(read_operator(lists, words)?))),
-    }
-}
-
 /// Reads the words of a line of the module that takes no memory.
-fn read_flat_line<'a>(words: &[&str]) -> Option<Line<'a>> {
+fn read_flat_line(words: &[&str]) -> Option<Line> {
     let (keyword, rest) = words.split_first()?;
     match *keyword {
         "memory" => Some(Line::Memory(read_memory_type(rest)?)),
@@ -46,7 +28,7 @@ fn read_flat_line<'a>(words: &[&str]) -> Option<Line<'a>> {
 }
 
 /// A line of this keyword, behind which stand a word and marks of what it declares.
-fn read_marked<'a>(keyword: &str, words: &[&str]) -> Option<Line<'a>> {
+fn read_marked(keyword: &str, words: &[&str]) -> Option<Line> {
     let (word, marks) = words.split_first()?;
     match keyword {
         "fn" => Some(Line::Function(read_function(read_index(word)?, marks)?)),
@@ -57,7 +39,7 @@ fn read_marked<'a>(keyword: &str, words: &[&str]) -> Option<Line<'a>> {
 }
 
 /// A line of this keyword, behind which stands one word.
-fn read_single<'a>(keyword: &str, words: &[&str]) -> Option<Line<'a>> {
+fn read_single(keyword: &str, words: &[&str]) -> Option<Line> {
     let [word] = *words else {
         return None;
     };
@@ -73,7 +55,7 @@ fn read_single<'a>(keyword: &str, words: &[&str]) -> Option<Line<'a>> {
 }
 
 /// A `local` line: how many locals, and their type.
-fn read_locals<'a>(words: &[&str]) -> Option<Line<'a>> {
+pub fn read_locals(words: &[&str]) -> Option<Line> {
     match *words {
         [count, ty] => Some(Line::Locals(read_index(count)?, read_value_type(ty)?)),
         _ => None,

@@ -1,9 +1,9 @@
 //! Operators on numbers by their names: a type, a dot, and a word.
 
-use script_parts::named_in;
+use script_parts::{named_in, read_i32, read_i64, read_index, read_u64};
 use validate_visit::{
-    FloatBinaryOp, FloatComparisonOp, FloatType, FloatUnaryOp, IntegerBinaryOp,
-    IntegerComparisonOp, IntegerType, IntegerUnaryOp, NumericOp, Sign,
+    FloatBinaryOp, FloatComparisonOp, FloatType, FloatUnaryOp, Ieee32, Ieee64, IntegerBinaryOp,
+    IntegerComparisonOp, IntegerType, IntegerUnaryOp, NumberType, NumericOp, Sign,
 };
 
 /// Operators on one integer.
@@ -86,42 +86,73 @@ const WIDE: &[(&str, NumericOp)] = &[
     ("mul_wide_u", NumericOp::MulWide(Sign::Unsigned)),
 ];
 
-/// The operator on numbers of this name, if there is one without immediates.
-pub fn numeric_operator(name: &str) -> Option<NumericOp> {
-    let (ty, word) = name.split_once('.')?;
+/// The type of numbers that a name begins with, and what stands behind it and a dot, if it begins so.
+pub fn split_number_type(name: &str) -> Option<(NumberType, &str)> {
+    let (ty, word) = name.split_at_checked(4)?;
     match ty {
-        "i32" => integer_operator(IntegerType::I32, word),
-        "i64" => match named_in(WIDE, word) {
-            Some(op) => Some(op),
-            None => integer_operator(IntegerType::I64, word),
-        },
-        "f32" => float_operator(FloatType::F32, word),
-        "f64" => float_operator(FloatType::F64, word),
+        "i32." => Some((NumberType::I32, word)),
+        "i64." => Some((NumberType::I64, word)),
+        "f32." => Some((NumberType::F32, word)),
+        "f64." => Some((NumberType::F64, word)),
         _ => None,
     }
 }
 
+/// The operator on numbers of this type that a word names, with these immediates, if there is one: a
+/// constant, which is 0 without them, or one that takes none.
+pub fn read_numeric(ty: NumberType, word: &str, immediates: &[&str]) -> Option<NumericOp> {
+    match *immediates {
+        [] if word == "const" => read_constant(ty, "0"),
+        [] => numeric_operator(ty, word),
+        [value] if word == "const" => read_constant(ty, value),
+        _ => None,
+    }
+}
+
+/// The constant of this type and value.
+fn read_constant(ty: NumberType, value: &str) -> Option<NumericOp> {
+    match ty {
+        NumberType::I32 => Some(NumericOp::I32Const(read_i32(value)?)),
+        NumberType::I64 => Some(NumericOp::I64Const(read_i64(value)?)),
+        NumberType::F32 => Some(NumericOp::F32Const(Ieee32(read_index(value)?))),
+        NumberType::F64 => Some(NumericOp::F64Const(Ieee64(read_u64(value)?))),
+    }
+}
+
+/// The operator without immediates on numbers of this type that a word names, if there is one.
+fn numeric_operator(ty: NumberType, word: &str) -> Option<NumericOp> {
+    match ty {
+        NumberType::I32 => integer_operator(IntegerType::I32, word),
+        NumberType::I64 => match integer_operator(IntegerType::I64, word) {
+            Some(op) => Some(op),
+            None => named_in(WIDE, word),
+        },
+        NumberType::F32 => float_operator(FloatType::F32, word),
+        NumberType::F64 => float_operator(FloatType::F64, word),
+    }
+}
+
 fn integer_operator(ty: IntegerType, word: &str) -> Option<NumericOp> {
-    if word == "eqz" {
-        return Some(NumericOp::Eqz(ty));
-    }
-    if let Some(op) = named_in(INTEGER_UNARY, word) {
-        return Some(NumericOp::IntegerUnary(ty, op));
-    }
     if let Some(op) = named_in(INTEGER_BINARY, word) {
         return Some(NumericOp::IntegerBinary(ty, op));
     }
-    let op = named_in(INTEGER_COMPARISON, word)?;
-    Some(NumericOp::IntegerComparison(ty, op))
+    if let Some(op) = named_in(INTEGER_COMPARISON, word) {
+        return Some(NumericOp::IntegerComparison(ty, op));
+    }
+    if word == "eqz" {
+        return Some(NumericOp::Eqz(ty));
+    }
+    let op = named_in(INTEGER_UNARY, word)?;
+    Some(NumericOp::IntegerUnary(ty, op))
 }
 
 fn float_operator(ty: FloatType, word: &str) -> Option<NumericOp> {
-    if let Some(op) = named_in(FLOAT_UNARY, word) {
-        return Some(NumericOp::FloatUnary(ty, op));
-    }
     if let Some(op) = named_in(FLOAT_BINARY, word) {
         return Some(NumericOp::FloatBinary(ty, op));
     }
-    let op = named_in(FLOAT_COMPARISON, word)?;
-    Some(NumericOp::FloatComparison(ty, op))
+    if let Some(op) = named_in(FLOAT_COMPARISON, word) {
+        return Some(NumericOp::FloatComparison(ty, op));
+    }
+    let op = named_in(FLOAT_UNARY, word)?;
+    Some(NumericOp::FloatUnary(ty, op))
 }

@@ -1,40 +1,46 @@
 //! Operators by their names.
 
 use crate::access::read_accessing;
-use crate::plain::plain_operator;
+use crate::conversions::CONVERSIONS;
+use crate::numeric::{read_numeric, split_number_type};
+use crate::plain::PLAIN;
 use crate::shared::shared_access;
 use script_parts::{
-    OperatorList, has_list, read_block_type, read_branch_cast, read_heap_type, read_i32, read_i64,
-    read_index, read_indexed, read_ordering, read_reference, read_shared, read_u64,
-    read_value_type, ref_cast, ref_cast_desc_eq, ref_test,
+    LineError, OperatorList, has_list, named_in, read_block_type, read_branch_cast, read_heap_type,
+    read_indexed, read_list, read_ordering, read_reference, read_shared, read_value_type, ref_cast,
+    ref_cast_desc_eq, ref_test,
 };
-use std::slice;
-use validate_visit::{
-    AtomicOp, BlockType, ControlOp, ExceptionOp, Ieee32, Ieee64, NumericOp, Op, ReferenceOp,
-};
+use std::alloc::Global;
+use validate_visit::{AtomicOp, BlockType, ControlOp, ExceptionOp, Op, ReferenceOp};
 
-/// The operator that a line's words write, if they do: its name, and its immediates after it. One with a
-/// list takes the next of these, which were read before; where none is left its words are no list.
+/// The operator that these words write, if they do: its name, and its immediates after it. If it has a list, it
+/// lends this one, in which that is kept.
 pub fn read_operator<'a>(
-    lists: &mut slice::Iter<'a, OperatorList>,
+    alloc: Global,
+    list: &'a mut Option<OperatorList>,
     words: &[&str],
-) -> Option<Op<'a>> {
-    let name = words.first()?;
+) -> Result<Op<'a>, LineError> {
+    let (name, immediates) = words.split_first().ok_or(LineError::Bad)?;
     if has_list(name) {
-        return Some(lists.next()?.op());
+        return Ok(list.insert(read_list(alloc, words)?).op());
     }
-    read_flat_operator(words)
+    read_flat_operator(name, immediates).ok_or(LineError::Bad)
 }
 
-/// The operator that a line's words write, if they do, where it has no list: its name, and its
-/// immediates after it.
-fn read_flat_operator(words: &[&str]) -> Option<Op<'static>> {
-    let (name, immediates) = words.split_first()?;
+/// The operator of this name with these immediates, if it has no list. What most operators begin with, a
+/// type of numbers, is looked for first.
+pub fn read_flat_operator(name: &str, immediates: &[&str]) -> Option<Op<'static>> {
+    if let Some((ty, word)) = split_number_type(name) {
+        return match read_numeric(ty, word, immediates) {
+            Some(op) => Some(Op::Numeric(op)),
+            None => read_on_numbers(name, immediates),
+        };
+    }
     if let Some(op) = read_indexed(name, immediates) {
         return Some(op);
     }
     let other = match *immediates {
-        [] => bare_operator(name),
+        [] => named_in(PLAIN, name),
         [word] => read_with_word(name, word),
         _ => read_with_words(name, immediates),
     };
@@ -44,22 +50,19 @@ fn read_flat_operator(words: &[&str]) -> Option<Op<'static>> {
     }
 }
 
-/// The operator of this name that may stand alone. A block is of the empty type then, and a constant 0.
-fn bare_operator(name: &str) -> Option<Op<'static>> {
-    if let Some(op) = plain_operator(name) {
-        return Some(op);
+/// The operator of this name with these immediates, which begins with a type of numbers and isn't one of
+/// those of `read_numeric`: it converts, or accesses memory.
+fn read_on_numbers(name: &str, immediates: &[&str]) -> Option<Op<'static>> {
+    if immediates.is_empty() {
+        if let Some(op) = named_in(CONVERSIONS, name) {
+            return Some(Op::Convert(op));
+        }
     }
-    if let Some(op) = opener(name, BlockType::Empty) {
-        return Some(op);
-    }
-    read_constant(name, "0")
+    read_accessing(name, immediates)
 }
 
 /// The operator of this name with this word as its immediate, which is no index.
 fn read_with_word(name: &str, word: &str) -> Option<Op<'static>> {
-    if let Some(op) = read_constant(name, word) {
-        return Some(op);
-    }
     match name {
         "select_t" => Some(Op::Control(ControlOp::TypedSelect(read_value_type(word)?))),
         "ref.null" => Some(Op::Reference(ReferenceOp::RefNull(read_heap_type(word)?))),
@@ -82,17 +85,6 @@ fn read_with_words(name: &str, words: &[&str]) -> Option<Op<'static>> {
         "br_on_cast_fail" => Some(Op::Reference(ReferenceOp::BrOnCastFail(cast))),
         "br_on_cast_desc_eq" => Some(Op::Reference(ReferenceOp::BrOnCastDescEq(cast))),
         "br_on_cast_desc_eq_fail" => Some(Op::Reference(ReferenceOp::BrOnCastDescEqFail(cast))),
-        _ => None,
-    }
-}
-
-/// The constant of the type that this name says, and of this value.
-fn read_constant(name: &str, value: &str) -> Option<Op<'static>> {
-    match name {
-        "i32.const" => Some(Op::Numeric(NumericOp::I32Const(read_i32(value)?))),
-        "i64.const" => Some(Op::Numeric(NumericOp::I64Const(read_i64(value)?))),
-        "f32.const" => Some(Op::Numeric(NumericOp::F32Const(Ieee32(read_index(value)?)))),
-        "f64.const" => Some(Op::Numeric(NumericOp::F64Const(Ieee64(read_u64(value)?)))),
         _ => None,
     }
 }

@@ -1,15 +1,17 @@
 //! Operators without immediates by their names.
 
-use crate::conversions::CONVERSIONS;
-use crate::numeric::numeric_operator;
-use script_parts::named_in;
 use validate_visit::Op::{Array, Atomic, Control, Exception, Reference, Shared};
-use validate_visit::{ArrayOp, AtomicOp, ControlOp, ExceptionOp, Op, ReferenceOp, SharedOp, Sign};
+use validate_visit::{
+    ArrayOp, AtomicOp, BlockType, ControlOp, ExceptionOp, Op, ReferenceOp, SharedOp, Sign,
+};
 
-/// The operators without immediates, but for those on numbers.
-const PLAIN: &[(&str, Op<'static>)] = &[
+/// The operators that may stand without immediates, but for those on numbers. A block is of the empty type then.
+pub const PLAIN: &[(&str, Op<'static>)] = &[
     ("unreachable", Control(ControlOp::Unreachable)),
     ("nop", Control(ControlOp::Nop)),
+    ("block", Control(ControlOp::Block(BlockType::Empty))),
+    ("loop", Control(ControlOp::Loop(BlockType::Empty))),
+    ("if", Control(ControlOp::If(BlockType::Empty))),
     ("else", Control(ControlOp::Else)),
     ("end", Control(ControlOp::End)),
     ("return", Control(ControlOp::Return)),
@@ -31,19 +33,8 @@ const PLAIN: &[(&str, Op<'static>)] = &[
         Reference(ReferenceOp::ExternConvertAny),
     ),
     ("array.len", Array(ArrayOp::ArrayLen)),
+    ("legacy_try", Exception(ExceptionOp::Try(BlockType::Empty))),
     ("catch_all", Exception(ExceptionOp::CatchAll)),
     ("throw_ref", Exception(ExceptionOp::ThrowRef)),
     ("pause", Atomic(AtomicOp::Pause)),
 ];
-
-/// The operator of this name, if there is one without immediates.
-pub fn plain_operator(name: &str) -> Option<Op<'static>> {
-    if let Some(op) = numeric_operator(name) {
-        return Some(Op::Numeric(op));
-    }
-    if let Some(op) = named_in(PLAIN, name) {
-        return Some(op);
-    }
-    let op = named_in(CONVERSIONS, name)?;
-    Some(Op::Convert(op))
-}

@@ -1,37 +1,53 @@
 //! Reading a whole script.
 
-use crate::lines::{read_body_line, read_module_line};
-use script_parts::{Draft, LineError, OperatorList, Script, ScriptError, read_words};
+use crate::lines::{read_locals, read_module_line};
+use crate::operators::read_flat_operator;
+use script_parts::{
+    Draft, LineError, ListedOperator, Operators, Script, ScriptError, has_list, read_list,
+    read_words,
+};
 use std::alloc::Global;
-use std::slice;
+use validate_visit::{ControlOp, Op};
 
-/// Reads a script. The lists of its operators are these, as `read_lists` reads them from the same text.
+/// Reads a script. Its operators with lists are kept in this vector, in the place of what was there before, and
+/// each lends its list once all are read.
 pub fn read_script<'a>(
     alloc: Global,
-    lists: &'a [OperatorList],
+    listed: &'a mut Vec<ListedOperator>,
     text: &str,
 ) -> Result<Script<'a>, ScriptError> {
-    let mut lists = lists.iter();
+    listed.clear();
     let mut draft = Draft::new(alloc);
     let mut words = Vec::new(alloc);
     let mut number: u64 = 1;
     for line in text.lines() {
         if !line.starts_with('#') {
             read_words(&mut words, line).map_err(|_| ScriptError::OutOfMemory)?;
-            add_words(alloc, &mut lists, &mut draft, &words, number).map_err(|error| error.at(
-                number,
-            ))?;
+            add_words(alloc, listed, &mut draft, &words, number).map_err(|error| error.at(number))?;
         }
         number = number.saturating_add(1);
     }
-    let script = draft.finish().ok_or(ScriptError::BadLine(number))?;
+    let mut script = draft.finish().ok_or(ScriptError::BadLine(number))?;
+    lend(listed, &mut script.operators);
     Ok(script)
+}
+
+/// Puts each operator with a list, which is lent to it, in its place.
+fn lend<'a>(listed: &'a [ListedOperator], operators: &mut Operators<'a>) {
+    for operator in listed {
+        operators.replace(
+            operator.place,
+            operator.list.op(),
+            operator.attempted,
+            operator.number,
+        );
+    }
 }
 
 /// Adds the line of this number, which has these words. A blank one adds nothing.
 fn add_words<'a>(
     alloc: Global,
-    lists: &mut slice::Iter<'a, OperatorList>,
+    listed: &mut Vec<ListedOperator>,
     draft: &mut Draft<'a>,
     words: &[&str],
     number: u64,
@@ -39,8 +55,64 @@ fn add_words<'a>(
     if words.is_empty() {
         return Ok(());
     }
-    if draft.body.is_some() {
-        return draft.add(read_body_line(lists, words).ok_or(LineError::Bad)?, number);
+    if draft.body.is_none() {
+        return add_module_words(alloc, draft, words, number);
     }
+    add_body_words(alloc, listed, draft, words, number)
+}
+
+/// The same up to the `func` or `expr` line. Operators are many and these lines few, so it stands apart.
+#[inline(never)]
+fn add_module_words(
+    alloc: Global,
+    draft: &mut Draft<'_>,
+    words: &[&str],
+    number: u64,
+) -> Result<(), LineError> {
     draft.add(read_module_line(alloc, words)?, number)
+}
+
+/// The same behind the `func` or `expr` line.
+fn add_body_words<'a>(
+    alloc: Global,
+    listed: &mut Vec<ListedOperator>,
+    draft: &mut Draft<'a>,
+    words: &[&str],
+    number: u64,
+) -> Result<(), LineError> {
+    let (written, attempted) = match words.split_first() {
+        Some((&"local", rest)) => return add_locals(draft, rest, number),
+        Some((&"try", rest)) => (rest, true),
+        _ => (words, false),
+    };
+    let (name, immediates) = written.split_first().ok_or(LineError::Bad)?;
+    if has_list(name) {
+        return add_listed(alloc, listed, draft, written, attempted, number);
+    }
+    let op = read_flat_operator(name, immediates).ok_or(LineError::Bad)?;
+    draft.add_operator(op, attempted, number)
+}
+
+/// Adds the operator with a list that these words write, attempted or not: a `nop` keeps its place until its list is
+/// lent to it.
+#[inline(never)]
+fn add_listed(
+    alloc: Global,
+    listed: &mut Vec<ListedOperator>,
+    draft: &mut Draft<'_>,
+    words: &[&str],
+    attempted: bool,
+    number: u64,
+) -> Result<(), LineError> {
+    let list = read_list(alloc, words)?;
+    let place = draft.operators.ops.len();
+    let operator = ListedOperator::new(place, number, attempted, list).ok_or(LineError::Bad)?;
+    listed.push(operator)?;
+    draft.add_operator(Op::Control(ControlOp::Nop), false, number)
+}
+
+/// Adds the `local` line of this number, which has these words behind that one.
+#[inline(never)]
+fn add_locals(draft: &mut Draft<'_>, words: &[&str], number: u64) -> Result<(), LineError> {
+    draft.add(read_locals(words).ok_or(LineError::Bad)?, number)
 }

@@ -13,7 +13,7 @@ use crate::seen::Seen;
 use crate::undone::run_lines;
 use odd_lookups::{Check, PairedLists, WantingLists};
 use opcheck_script::{begin_body, module_lists};
-use script_reader::{BodyLine, LocalLine, Operators, Script, read_lists, read_script};
+use script_reader::{BodyLine, LocalLine, Operators, Script, read_script};
 use std::alloc::{AllocError, Global};
 use validate_body::{OperatorValidator, try_op};
 use validate_resources::{ModuleLists, WasmModuleResources};
@@ -209,8 +209,8 @@ pub fn run_body(
     lookup: Lookup,
     task: Task<'_>,
 ) -> Result<(), AllocError> {
-    let written = read_lists(alloc, script)?;
-    let Ok(read) = read_script(alloc, &written, script) else {
+    let mut listed = Vec::new(alloc);
+    let Ok(read) = read_script(alloc, &mut listed, script) else {
         return cannot_begin(report, script, task);
     };
     let Script {

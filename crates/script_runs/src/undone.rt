@@ -9,7 +9,7 @@ use crate::bodies::{Lookup, Task, run_body};
 use crate::report::Report;
 use crate::seen::{Seen, add_operand_types, innermost};
 use crate::transcript::parts_of;
-use script_reader::{read_lists, read_operator};
+use script_reader::{LineError, read_operator};
 use std::alloc::{AllocError, Global};
 use validate_body::OperatorValidator;
 use validate_resources::WasmModuleResources;
@@ -195,10 +195,11 @@ fn run_line<R: WasmModuleResources>(
     let (written, _) = parts_of(line);
     let operator = written.strip_prefix("try ").unwrap_or(written);
     let words = words_of(alloc, operator)?;
-    let lists = read_lists(alloc, operator)?;
-    match read_operator(&mut lists.iter(), &words) {
-        Some(op) => run_op(alloc, report, v, op, resources, line),
-        None => report.refuse(line, "has no operator"),
+    let mut list = None;
+    match read_operator(alloc, &mut list, &words) {
+        Ok(op) => run_op(alloc, report, v, op, resources, line),
+        Err(LineError::Bad) => report.refuse(line, "has no operator"),
+        Err(LineError::OutOfMemory) => Err(AllocError),
     }
 }
 

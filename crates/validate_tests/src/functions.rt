@@ -9,7 +9,7 @@ use crate::expectations::{expect, expect_error, expect_same};
 use crate::lack::Lack;
 use crate::setting::{HEAD, Setting};
 use crate::tables::GROUPS;
-use script_reader::{read_lists, read_script};
+use script_reader::read_script;
 use std::process::Abort;
 use wasmparser_validate::func::FuncValidator;
 use wasmparser_validate::operators::OperatorValidatorAllocations;
@@ -85,8 +85,8 @@ fn accept_script(
     setting: &Setting,
     script: &str,
 ) -> Result<(), Lack> {
-    let lists = read_lists(rt.alloc(), script)?;
-    let Ok(read) = read_script(rt.alloc(), &lists, script) else {
+    let mut listed = Vec::new(rt.alloc());
+    let Ok(read) = read_script(rt.alloc(), &mut listed, script) else {
         return Err(Lack("lines that are no script"));
     };
     accept_in(rt, setting, &read.operators.ops, false)?;

@@ -1,5 +1,6 @@
 //! What a test needs and doesn't have.
 
+use script_reader::LineError;
 use std::alloc::{AllocError, AllocFailed};
 use std::fmt;
 use wasmparser_validate::types::Error;
@@ -20,6 +21,15 @@ impl From<AllocError> for Lack {
 impl<T: Drop> From<AllocFailed<T>> for Lack {
     fn from(_e: AllocFailed<T>) -> Lack {
         NO_MEMORY
+    }
+}
+
+impl From<LineError> for Lack {
+    fn from(error: LineError) -> Lack {
+        match error {
+            LineError::Bad => Lack("a text that is no operator"),
+            LineError::OutOfMemory => NO_MEMORY,
+        }
     }
 }
 

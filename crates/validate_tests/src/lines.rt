@@ -16,7 +16,7 @@ use crate::expectations::{expect, expect_text};
 use crate::lack::Lack;
 use crate::texts::{expect_said, said, seen};
 use script_parts::{OperatorList, read_words};
-use script_reader::{read_lists, read_operator};
+use script_reader::read_operator;
 use std::process::Abort;
 use wasmparser_validate::operators::{OperatorValidator, try_and_undo, try_op};
 use wasmparser_validate::resources::WasmModuleResources;
@@ -137,23 +137,15 @@ fn expect_attempted<R: WasmModuleResources>(
     Ok(())
 }
 
-/// The operator that a text writes, with this list, if it has one.
+/// The operator that a text writes. If it has a list, it lends this one.
 pub fn read_op<'a>(
     rt: &impl AllocGlobal,
-    list: &'a [OperatorList],
+    list: &'a mut Option<OperatorList>,
     text: &str,
 ) -> Result<Op<'a>, Lack> {
     let mut words = Vec::new(rt.alloc());
     read_words(&mut words, text)?;
-    read_op_of(list, &words)
-}
-
-/// The operator that these words write.
-fn read_op_of<'a>(list: &'a [OperatorList], words: &[&str]) -> Result<Op<'a>, Lack> {
-    match read_operator(&mut list.iter(), words) {
-        Some(op) => Ok(op),
-        None => Err(Lack("a text that is no operator")),
-    }
+    Ok(read_operator(rt.alloc(), list, &words)?)
 }
 
 /// Visits or attempts one operator.
@@ -198,8 +190,8 @@ fn expect_line<R: WasmModuleResources>(
         Some(written) => (Way::Undone, written),
         None => (way, written),
     };
-    let list = read_lists(rt.alloc(), written)?;
-    let op = read_op(rt, &list, written)?;
+    let mut list = None;
+    let op = read_op(rt, &mut list, written)?;
     expect_op(rt, v, lists, op, way, wanted)
 }
 

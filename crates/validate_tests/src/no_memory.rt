@@ -8,7 +8,6 @@ use crate::expectations::expect;
 use crate::lack::Lack;
 use crate::lines::{Way, expect_lines, read_op, visit};
 use crate::setting::Setting;
-use script_reader::read_lists;
 use std::process::Abort;
 use wasmparser_validate::operators::{OperatorValidator, OperatorValidatorAllocations};
 use wasmparser_validate::resources::WasmModuleResources;
@@ -75,8 +74,8 @@ fn expect_accepted<R: WasmModuleResources>(
 /// The operators of a body.
 fn expect_body(rt: &(impl Abort + AllocGlobal), setting: &Setting, body: &str) -> Result<(), Lack> {
     let (lines, last) = body.rsplit_once("\n").unwrap_or(("", body));
-    let list = read_lists(rt.alloc(), last)?;
-    let op = read_op(rt, &list, last)?;
+    let mut list = None;
+    let op = read_op(rt, &mut list, last)?;
     let mut v = setting.validator(OperatorValidatorAllocations::new(rt.alloc()))?;
     expect_last(rt, &mut v, &setting.lists, lines, op)
 }

@@ -29,17 +29,12 @@ fn report(
 ) -> Result<(), Failure> {
     let name = way.name();
     if choice.untimed || count == 0 {
-        println!(rt; "{name}: {count} operators").map_err(|_| Failure::Host)?;
-        return Ok(());
+        return println!(rt; "{name}: {count} operators").map_err(|_| Failure::Host);
     }
     let hundredths = best.saturating_mul(100) / count as u128;
     let whole = hundredths / 100;
-    let tenths = hundredths % 100 / 10;
-    let rest = hundredths % 10;
-    println!(rt; "{name}: {whole}.{tenths}{rest} ns, {count} operators").map_err(
-        |_| Failure::Host,
-    )?;
-    Ok(())
+    let rest = hundredths % 100;
+    println!(rt; "{name}: {whole}.{rest:02} ns, {count} operators").map_err(|_| Failure::Host)
 }
 
 /// Measures each way that the body of the script is checked.
@@ -65,6 +60,7 @@ fn run(rt: &HostRuntime) -> Result<(), Failure> {
         locals: &locals,
         ops: &operators.ops,
         attempts: &operators.attempts,
+        has_attempts: operators.attempts.contains(&true),
     };
     for way in [Way::CheckOps, Way::Visits] {
         let best = best_time(rt, way, subject, choice.runs)?;

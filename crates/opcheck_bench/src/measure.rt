@@ -38,6 +38,8 @@ pub struct Subject<'a> {
     pub ops: &'a [(Op<'a>, u64)],
     /// Of each whether it is attempted.
     pub attempts: &'a [bool],
+    /// Whether some are.
+    pub has_attempts: bool,
 }
 
 /// How a body is checked.
@@ -78,6 +80,7 @@ pub fn best_time(
 }
 
 /// Whether the body is accepted by this validator.
+#[inline(never)]
 fn is_accepted_by(
     validator: &mut OperatorValidator,
     way: Way,
@@ -95,7 +98,7 @@ fn is_accepted_by(
             check_ops(validator, subject.ops, subject.module, heights),
             Ok(true)
         ),
-        Way::Visits if subject.attempts.contains(&true) => {
+        Way::Visits if subject.has_attempts => {
             attempt_each(validator, subject.ops, subject.attempts, subject.module)
         }
         Way::Visits => visit_each(validator, subject.ops, subject.module),

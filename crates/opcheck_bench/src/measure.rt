@@ -105,25 +105,7 @@ fn is_accepted_by(
     }
 }
 
-/// Whether the body is accepted by a new validator.
-fn is_accepted(way: Way, subject: Subject<'_>, heights: &mut Vec<(usize, usize)>) -> bool
-    requires ordered { is_well_ordered_list (without_offsets subject.ops.now) ≡ true }
-    requires immediates { list_all (λ (pair : _). is_module_op pair.0) subject.ops.now ≡ true }
-    requires empty { heights.old.items ≡ [] }
-{
-    match begin_body(
-        subject.alloc,
-        subject.module,
-        subject.features,
-        subject.body,
-        subject.locals,
-    ) {
-        Ok(mut validator) => is_accepted_by(&mut validator, way, subject, heights),
-        Err(_) => false,
-    }
-}
-
-/// The time of one run, the making of the validator with it.
+/// The time of one run: of the operators alone, by a validator whose locals are defined.
 fn time(
     rt: &HostRuntime,
     way: Way,
@@ -134,8 +116,17 @@ fn time(
     requires immediates { list_all (λ (pair : _). is_module_op pair.0) subject.ops.now ≡ true }
 {
     heights.clear();
+    let Ok(mut validator) = begin_body(
+        subject.alloc,
+        subject.module,
+        subject.features,
+        subject.body,
+        subject.locals,
+    ) else {
+        return Err(Failure::Refused);
+    };
     let since = Instant::now(rt).map_err(|_| Failure::Host)?;
-    let accepted = is_accepted(way, subject, heights);
+    let accepted = is_accepted_by(&mut validator, way, subject, heights);
     let time = since.elapsed(rt).map_err(|_| Failure::Host)?.as_nanos();
     if !accepted {
         return Err(Failure::Refused);

@@ -15,6 +15,7 @@ use validate_rows::branches::{br_at_once, br_if_at_once, br_table_at_once, retur
 use validate_rows::calls::call_at_once;
 use validate_rows::control::{else_at_once, end_at_once, nop_at_once, unreachable_at_once};
 use validate_rows::globals::{global_get_at_once, global_set_at_once};
+use validate_rows::indirect::call_indirect_at_once;
 use validate_rows::memory::memory_at_once;
 use validate_rows::numeric::{convert_at_once, numeric_at_once};
 use validate_rows::parametric::{drop_at_once, select_at_once};
@@ -137,6 +138,10 @@ fn control_at_once<R: WasmModuleResources>(
         ControlOp::BrTable(table) => table_at_once(stacks, resources, table),
         ControlOp::Return => return_at_once(stacks, resources),
         ControlOp::Call(function_index) => call_at_once(stacks, resources, *function_index),
+        ControlOp::CallIndirect {
+            type_index,
+            table_index,
+        } => call_indirect_at_once(stacks, resources, *type_index, *table_index),
         ControlOp::Drop => drop_at_once(stacks, resources),
         ControlOp::Select => select_at_once(stacks, resources),
         ControlOp::LocalGet(local_index) => local_get_at_once(stacks, resources, *local_index),

@@ -6,6 +6,7 @@ ghost use Rattle.validate_resources.specs.Context.{Valid};
 ghost use Rattle.validation_rules.specs.Indirect.{call_operand_row, return_call_operand_row, call_indirect_row, return_call_indirect_row, call_ref_row, return_call_ref_row};
 ghost use Rattle.validation_rules.specs.Indirect as rule;
 ghost use Rattle.validation_rules.specs.Operators.{row_operator, staying_operator};
+ghost use Rattle.validate_stacks.specs.AtOnce.{MeetsAtOnce};
 ghost use Rattle.validate_stacks.specs.State.{body_context};
 ghost use Rattle.validate_stacks.specs.Visits.{MayVisit, Meets};
 
@@ -13,10 +14,13 @@ use crate::calls::check_return_call_ty;
 use validate_resources::WasmModuleResources;
 use validate_shapes::aggregates::type_reference;
 use validate_shapes::functions::func_type_at;
-use validate_shapes::plain::check_plain;
+use validate_shapes::plain::{check_plain, plain_at_once};
 use validate_shapes::tables::table_type_at;
 use validate_stacks::Stacks;
 use validate_types::{Error, ValType};
+
+/// How many operands an indirect call that passes at once takes at the most.
+const MOST_TAKEN: usize = 8;
 
 /// The type of a place in a table, which has to be one of functions.
 fn function_place<R: WasmModuleResources>(
@@ -98,6 +102,35 @@ pub fn check_call_indirect<R: WasmModuleResources>(
 {
     let place = function_place(stacks, resources, offset, table_index)?;
     check_call_operand(stacks, resources, offset, type_index, place)
+}
+
+/// [`check_call_indirect`], where it passes at once: the function takes seven parameters at most, for which there is a place
+/// with the operand above them. False, with nothing changed, where it doesn't.
+#[inline(never)]
+pub fn call_indirect_at_once<R: WasmModuleResources>(
+    stacks: &mut Stacks,
+    resources: &R,
+    type_index: u32,
+    table_index: u32,
+) -> bool
+    requires { MayVisit (R.context resources.now) stacks.old }
+    ensures { MeetsAtOnce (R.context resources.now)
+        (λ cx. row_operator (call_indirect_row cx type_index table_index)) stacks.old result stacks.new }
+{
+    let Ok(place) = function_place(stacks, resources, 0, table_index) else {
+        return false;
+    };
+    let Ok(func_type) = func_type_at(stacks, resources, 0, type_index) else {
+        return false;
+    };
+    let (params, results) = (func_type.params(), func_type.results());
+    let count = params.len();
+    if count >= MOST_TAKEN {
+        return false;
+    }
+    let mut taken = [place; MOST_TAKEN];
+    taken[..count].copy_from_slice(params);
+    plain_at_once(stacks, resources, &taken[..=count], results)
 }
 
 /// `return_call_indirect`: what `call_indirect` takes. The body returns the results of the function, and

@@ -269,7 +269,7 @@ pub fn local_set_at_once<R: WasmModuleResources>(
     any_set_at_once(stacks, resources, local_index)
 }
 
-/// [`local_tee_at_once`] of one of the first locals, of a number or vector type that is found.
+/// [`local_tee_at_once`] of one of the first locals, of a number or vector type that is found: nothing changes.
 #[inline(always)]
 fn near_tee_at_once<R: WasmModuleResources>(
     stacks: &mut Stacks,
@@ -281,7 +281,7 @@ fn near_tee_at_once<R: WasmModuleResources>(
         stacks.old result stacks.new }
 {
     match type_of_near_local(stacks, local_index) {
-        Some(ty) => stacks.exchange_numbers_at_once(resources, &[ty], Some(ty)),
+        Some(ty) => stacks.has_number_at_once(resources, ty),
         None => false,
     }
 }

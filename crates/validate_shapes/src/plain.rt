@@ -9,7 +9,7 @@ ghost use Rattle.validate_stacks.specs.Visits.{step_body, MayVisit, Meets};
 
 use validate_resources::WasmModuleResources;
 use validate_stacks::Stacks;
-use validate_types::{Error, ValType};
+use validate_types::{Error, MaybeType, ValType};
 
 /// `[wanted] -> [pushed]`, the last of each on top.
 #[inline(always)]
@@ -73,7 +73,7 @@ pub fn plain_at_once<R: WasmModuleResources>(
     stacks.exchange_at_once(resources, wanted, pushed.first().copied())
 }
 
-/// The same of number and vector types alone, where the operands are known to be of them. It makes no call.
+/// The same of number and vector types alone, where the operands are known to be of them. In live code it makes no call.
 #[inline(always)]
 fn numbers_at_once<R: WasmModuleResources>(
     stacks: &mut Stacks,
@@ -90,7 +90,7 @@ fn numbers_at_once<R: WasmModuleResources>(
     stacks.exchange_numbers_at_once(resources, wanted, given)
 }
 
-/// `[] -> [given]`, where it passes at once.
+/// `[] -> [given]`, where it passes at once. Nothing is wanted, so it is a push.
 #[inline(always)]
 pub fn constant_at_once<R: WasmModuleResources>(
     stacks: &mut Stacks,
@@ -102,7 +102,9 @@ pub fn constant_at_once<R: WasmModuleResources>(
     ensures { MeetsAtOnce (R.context resources.now) (λ cx. row_operator (plain_row [] (given ∷ [])))
         stacks.old result stacks.new }
 {
-    numbers_at_once(stacks, resources, &[], Some(given))
+    // The contract alone reads it.
+    let _resources = resources;
+    stacks.push_at_once(MaybeType::Known(given))
 }
 
 /// `[taken] -> [given]`, where it passes at once. The list is written twice, so that nothing of it lies in memory where

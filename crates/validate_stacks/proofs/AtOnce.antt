@@ -568,7 +568,7 @@ over_cut n k b fs operands is h =
     let e : length operands - (length operands - n) ≡ n = omega (arith, h) in
     rw (e, drop_all (length is) is (omega arith), take_all (length is) is (omega arith)) refl
 
-own_taken : (n : ℕ) (fs : List FlatFrame) (operands : List MaybeType) (is : List ℕ) → n ≤ length (innermost_operands (state_from_heights fs operands is).frames) → take n operands ≡ take n (innermost_operands (state_from_heights fs operands is).frames)
+pub own_taken : (n : ℕ) (fs : List FlatFrame) (operands : List MaybeType) (is : List ℕ) → n ≤ length (innermost_operands (state_from_heights fs operands is).frames) → take n operands ≡ take n (innermost_operands (state_from_heights fs operands is).frames)
 own_taken n [] operands is h = let none : n ≡ 0 = omega (arith, h) in rw none refl
 own_taken n (g ∷ gs) operands is h = sym (take-take n (length operands - g.height) operands (omega (arith, h, own-cut (g ∷ gs) g operands is refl)))
 

@@ -1,13 +1,14 @@
 -- Runs of pops of one type: their list turned, a pop of an own operand, and the pop below all of them.
-use Rattle.std.proofs.Common.{◌≡◌, ℕ, zero, suc, ◌+◌, ◌-◌, ◌<◌, ◌≤◌, List, [], ◌∷◌, ◌++◌, true, Some, length, reverse, replicate, refl, sym, ◌∙◌, ap, arith}
-use Rattle.std.proofs.lemmas.List.{replicate_more, reverse-append}
-use Rattle.validate_resources.specs.Context.{ModuleContext}
+use Rattle.std.proofs.Common.{◌≡◌, ◌&&◌, Bool, ap₂, take, ℕ, zero, suc, ◌+◌, ◌-◌, ◌<◌, ◌≤◌, List, [], ◌∷◌, ◌++◌, true, Some, length, reverse, replicate, refl, sym, ◌∙◌, ap, arith}
+use Rattle.std.proofs.lemmas.List.{append-nil, length-replicate, replicate_more, reverse-append}
+use Rattle.validate_resources.specs.Context.{ModuleContext, Valid, IsLawful}
 use Rattle.validate_types.specs.declared.types.ValType.{ValType}
-use Rattle.validation_rules.specs.Fits.{MaybeType}
+use Rattle.validation_rules.specs.Context.{Context}
+use Rattle.validation_rules.specs.Fits.{MaybeType, Bottom, Known, all_fit}
 use Rattle.validation_rules.specs.Rows.{guard}
-use Rattle.validation_rules.specs.Static.{Frame}
+use Rattle.validation_rules.specs.Static.{Frame, stack_with, operands_on_top}
 use Rattle.validate_stacks.specs.Counted.{pops_of_run}
-use Rattle.validate_stacks.specs.Pops.{may_pop, body_popped_each}
+use Rattle.validate_stacks.specs.Pops.{may_pop, body_popped_each, has_operands_fitting, operands_found_in}
 use Rattle.validate_stacks.specs.State.{BodyState, body_context}
 use Rattle.validate_stacks.specs.Steps.{innermost_operands, found_in_frames, found_in_body, found_after_pops_in_frames, found_after_pops_in_body, body_popped, body_without_first}
 use Rattle.validate_stacks.proofs.Whole.{popped_none, popped_next}
@@ -74,3 +75,45 @@ module _ (md : ModuleContext) (elem : ValType) (v : BodyState) (none : length (i
   -- and it is the last of the run
   pub last_counted : (n : ℕ) (w : BodyState) → 0 < n → 1 + pops_of_run 0 w ≡ pops_of_run n v
   last_counted n w h = omega (arith, h, none)
+
+-- a run of own operands that are known to be of its type fits
+pub known_run_fits : (md : ModuleContext) → IsLawful md → (v : BodyState) (n : ℕ) (t : ValType) → Valid md t → take n (innermost_operands v.present.frames) ≡ replicate n (Known t) → has_operands_fitting (body_context md v) (replicate n t) v ≡ true
+known_run_fits md laws v n t valid known =
+    ap (λ k. all_fit cx (operands_found_in k v.present.frames) (replicate n t)) (length-replicate n t)
+    ∙ ap (λ xs. all_fit cx xs (replicate n t)) (found v.present.frames known)
+    ∙ all n
+  where
+    cx : Context
+    cx = body_context md v
+
+    all : (n : ℕ) → all_fit cx (replicate n (Known t)) (replicate n t) ≡ true
+    all zero = refl
+    all (suc n) = ap (λ b. b && all_fit cx (replicate n (Known t)) (replicate n t)) (laws.reflexive t valid) ∙ all n
+
+    on_top : (n : ℕ) (dead : Bool) (own : List MaybeType) → take n own ≡ replicate n (Known t) → operands_on_top n dead own ≡ replicate n (Known t)
+    on_top zero dead own e = refl
+    on_top (suc n) dead [] e = absurd cc
+    on_top (suc n) dead (x ∷ own) e = ap₂ (λ y ys. y ∷ ys) (cons_head x (Known t) (take n own) (replicate n (Known t)) e) (on_top n dead own (cons_tail x (Known t) (take n own) (replicate n (Known t)) e))
+      where
+        cons_head : (x y : MaybeType) (xs ys : List MaybeType) → x ∷ xs ≡ y ∷ ys → x ≡ y
+        cons_head x y xs ys h = cc
+
+        cons_tail : (x y : MaybeType) (xs ys : List MaybeType) → x ∷ xs ≡ y ∷ ys → xs ≡ ys
+        cons_tail x y xs ys h = cc
+
+    found : (fs : List Frame) → take n (innermost_operands fs) ≡ replicate n (Known t) → operands_found_in n fs ≡ replicate n (Known t)
+    found [] e = by n e
+      where
+        by : (n : ℕ) → take n (innermost_operands []) ≡ replicate n (Known t) → operands_found_in n [] ≡ replicate n (Known t)
+        by zero e = refl
+        by (suc n) e = absurd cc
+    found (f ∷ fs) e = ap (λ xs. stack_with xs []) (on_top n f.dead f.operands e) ∙ append-nil (reverse (replicate n (Known t))) ∙ reverse-replicate n (Known t)
+
+-- where a pop finds an unknown operand below all own ones, pops of any types pass and leave what there is
+pub dead_stays : (md : ModuleContext) (v : BodyState) → innermost_operands v.present.frames ≡ [] → found_in_body v ≡ Some Bottom → (ts : List ValType) → body_popped_each md ts v ≡ Some v
+dead_stays md v bare dead [] = popped_none md v
+dead_stays md v bare dead (t ∷ ts) =
+    popped_next md t ts v
+    ∙ ap (λ q. guard (may_pop (body_context md v) q (Some t)) (body_popped_each md ts (body_popped v))) dead
+    ∙ ap (body_popped_each md ts) (unmoved v (omega (arith, ap length bare)))
+    ∙ dead_stays md v bare dead ts

@@ -6,7 +6,7 @@ ghost use Rattle.std.specs.Option.{option_map, ForSome};
 ghost use Rattle.validate_resources.specs.Context.{Valid};
 ghost use Rattle.validate_types.specs.Types.{unpacked_fields};
 ghost use Rattle.validation_rules.specs.Context.{block_signature};
-ghost use Rattle.validation_rules.specs.Fits.{Known};
+ghost use Rattle.validation_rules.specs.Fits.{Bottom, Known};
 ghost use Rattle.validation_rules.specs.Valid.{IsValidBlock};
 ghost use Rattle.validate_stacks.specs.Attempts.{phase_moved};
 ghost use Rattle.validate_stacks.specs.AtOnce.{body_dropped, pushed_list};
@@ -23,8 +23,9 @@ use validate_types::{FieldType, MaybeType, ValType};
 use validate_visit::{BlockType, FrameKind};
 
 impl Stacks {
-    /// [`Stacks::exchange_at_once`] of number and vector types alone, where the innermost frame has as many own operands
-    /// as are wanted, known to be of these very types. It makes no call, so it is short where it is inlined.
+    /// [`Stacks::exchange_at_once`] of number and vector types alone, of which some are wanted: where the innermost frame has
+    /// as many own operands, known to be of these very types, or is dead and has none. In live code it makes no call, so it
+    /// is short where it is inlined.
     #[inline(always)]
     pub fn exchange_numbers_at_once<R: WasmModuleResources>(
         &mut self,
@@ -41,14 +42,20 @@ impl Stacks {
         ensures phase { phase_moved self.new.phase ≡ phase_moved self.old.phase }
     {
         let count = wanted.len();
-        if self.is_pending() || !self.has_own(count) || !self.has_same_numbers(resources, wanted) {
+        if count == 0 || self.is_pending() {
+            return false;
+        }
+        if !self.has_own(count) {
+            return match pushed {
+                Some(ty) => self.push_in_dead_code(ty),
+                None => false,
+            };
+        }
+        if !self.has_same_numbers(resources, wanted) {
             return false;
         }
         match pushed {
             Some(ty) => {
-                if count == 0 {
-                    return self.push_at_once(MaybeType::Known(ty));
-                }
                 self.drop_operands(count - 1);
                 // The lowest is often of the pushed type, and stays.
                 if !is_same_number(ty, wanted[0]) {
@@ -58,6 +65,40 @@ impl Stacks {
             None => self.drop_operands(count),
         }
         true
+    }
+
+    /// Whether the operand that is found is an own one of the innermost frame, and known to be of this number or vector type,
+    /// while no attempt is pending: then a pop and a push of the type leave what there is.
+    #[inline(always)]
+    pub fn has_number_at_once<R: WasmModuleResources>(&self, resources: &R, ty: ValType) -> bool
+        requires valid { Valid (R.context resources.now) ty }
+        requires state { IsValidBody (R.context resources.now) self.now.body }
+        ensures { result ≡ true → option_map (body_pushed_each (ty ∷ []))
+            (body_popped_each (R.context resources.now) (ty ∷ []) self.now.body) ≡ Some self.now.body }
+    {
+        if self.is_pending() || !self.has_own(1) {
+            return false;
+        }
+        self.has_same_numbers(resources, &[ty])
+    }
+
+    /// Pushes an operand of this type, where the innermost frame is dead, has no own operands, and there is room: whatever
+    /// is wanted is found there. False, with nothing changed, where that isn't so.
+    #[inline(never)]
+    fn push_in_dead_code(&mut self, ty: ValType) -> bool
+        ensures exact { MatchBool result (self.new.body ≡ body_pushed (Known ty) self.old.body)
+            (self.new ≡ self.old) }
+        ensures bare { result ≡ true → innermost_operands self.old.body.present.frames ≡ [] }
+        ensures dead { result ≡ true → found_in_body self.old.body ≡ Some Bottom }
+        ensures phase { phase_moved self.new.phase ≡ phase_moved self.old.phase }
+    {
+        if self.own_len() > 0 {
+            return false;
+        }
+        match self.found_at(0) {
+            Some(MaybeType::Bottom) => self.push_at_once(MaybeType::Known(ty)),
+            _ => false,
+        }
     }
 
     /// Pops operands of these types, the last of the list first, and pushes one of the other type, if there is one:

@@ -12,7 +12,7 @@ ghost use Rattle.validate_stacks.specs.State.{IsValidBody, body_context};
 ghost use Rattle.validate_stacks.specs.Pops.{body_popped_each, body_pushed_each, has_operands_fitting, may_pop, IsKept};
 ghost use Rattle.validate_stacks.specs.Steps.{innermost_operands, found_after_pops_in_body};
 
-use crate::pops::{fits_at_once, is_same_number};
+use crate::pops::{fits_at_once, is_known_number};
 use crate::stacks::Stacks;
 use validate_resources::WasmModuleResources;
 use validate_types::{Error, FieldType, MaybeType, ValType};
@@ -137,12 +137,31 @@ impl Stacks {
         ensures { result ≡ has_operands_fitting (body_context (R.context resources.now) self.now.body)
             (replicate count elem) self.now.body }
     {
+        if self.has_same_run(count, elem) {
+            return true;
+        }
         let mut left = count;
         while left > 0 {
             left -= 1;
             if !self.is_same_number_at(count - 1 - left, elem)
                 && !self.is_fitting_by_order(resources, count - 1 - left, &elem)
             {
+                return false;
+            }
+        }
+        true
+    }
+
+    /// Whether so many own operands of the innermost frame, which has them, are known to be of this number or vector
+    /// type. They are gone over where they lie.
+    #[inline(always)]
+    fn has_same_run(&self, count: usize, elem: ValType) -> bool
+        requires { count ≤ length (innermost_operands self.now.body.present.frames) }
+        ensures { result ≡ true
+            → take count (innermost_operands self.now.body.present.frames) ≡ replicate count (Known elem) }
+    {
+        for operand in self.own_top(count) {
+            if !is_known_number(operand, elem) {
                 return false;
             }
         }
@@ -212,8 +231,8 @@ impl Stacks {
         ensures { result ≡ true → found_after_pops_in_body depth self.now.body ≡ Some (Known wanted) }
     {
         match self.own_operand(depth) {
-            Some(MaybeType::Known(found)) => is_same_number(*found, wanted),
-            _ => false,
+            Some(operand) => is_known_number(operand, wanted),
+            None => false,
         }
     }
 

@@ -4,7 +4,7 @@ ghost use Rattle.std.specs.Prelude.{◌≡◌, ◌⊎◌, true, false, None, Som
 ghost use Rattle.std.specs.Option.{ForSome};
 ghost use Rattle.validate_resources.specs.Context.{Valid};
 ghost use Rattle.validate_types.specs.Refs.{non_null_reference};
-ghost use Rattle.validation_rules.specs.Fits.{UnknownRef, fits};
+ghost use Rattle.validation_rules.specs.Fits.{Known, UnknownRef, fits};
 ghost use Rattle.validation_rules.specs.Valid.{IsValidOperand};
 ghost use Rattle.validate_stacks.specs.Attempts.{phase_moved};
 ghost use Rattle.validate_stacks.specs.State.{IsValidBody, body_context};
@@ -141,6 +141,17 @@ pub(crate) fn is_same_number(found: ValType, wanted: ValType) -> bool
 {
     let place = place_of(wanted);
     place < 5 && place_of(found) == place
+}
+
+/// Whether the operand is known to be of this number or vector type.
+#[inline(always)]
+pub(crate) fn is_known_number(operand: &MaybeType, wanted: ValType) -> bool
+    ensures { result ≡ true → operand.now ≡ Known wanted }
+{
+    match operand {
+        MaybeType::Known(found) => is_same_number(*found, wanted),
+        _ => false,
+    }
 }
 
 /// The place of a number or vector type among them, from 0; 5 for every reference.

@@ -1,6 +1,6 @@
 //! The operands, the open frames and the locals.
 
-ghost use Rattle.std.specs.Prelude.{◌≡◌, ◌≢◌, ◌+◌, ◌<◌, ◌≤◌, true, false, None, Some, [], length, is_some, IfOk, OnOk, IfErr, OnErr, IsOk, IsSome, MatchBool, MatchResult, IsTrue, not};
+ghost use Rattle.std.specs.Prelude.{◌≡◌, ◌≢◌, ◌+◌, ◌<◌, ◌≤◌, true, false, None, Some, [], length, reverse, take, is_some, IfOk, OnOk, IfErr, OnErr, IsOk, IsSome, MatchBool, MatchResult, IsTrue, not};
 ghost use Rattle.std.specs.Option.{option_copied, ForSome};
 ghost use Rattle.validate_locals.specs.Limit.{max_locals};
 ghost use Rattle.validate_resources.specs.Context.{ModuleContext};
@@ -458,6 +458,17 @@ impl Stacks {
         // The proof takes the invariant of the stacks from this read.
         let _frames = self.control.len();
         self.operands.get(depth)
+    }
+
+    /// So many own operands of the innermost frame, which has them, the top last.
+    #[inline(always)]
+    pub(crate) fn own_top(&self, count: usize) -> &[MaybeType]
+        requires { count ≤ length (innermost_operands self.now.body.present.frames) }
+        ensures { result.now ≡ reverse (take count (innermost_operands self.now.body.present.frames)) }
+    {
+        // The proof takes the invariant of the stacks from this read.
+        let _frames = self.control.len();
+        self.operands.newest(count)
     }
 
     /// What a pop would find below so many others, where the innermost frame has so many own operands.

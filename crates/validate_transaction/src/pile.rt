@@ -1,6 +1,6 @@
 //! A list that grows and shrinks at its end, and knows its room.
 
-ghost use Rattle.std.specs.Prelude.{◌≡◌, ℕ, ◌+◌, ◌<◌, ◌≤◌, List, [], ◌∷◌, true, length, IfOk, OnOk, OnErr, IsOk, MatchOption, Option, drop, ◌-◌, slice_get, is_ok, if◌then◌else◌};
+ghost use Rattle.std.specs.Prelude.{◌≡◌, ℕ, ◌+◌, ◌<◌, ◌≤◌, List, [], ◌∷◌, true, length, IfOk, OnOk, OnErr, IsOk, MatchOption, Option, drop, take, reverse, ◌-◌, slice_get, is_ok, if◌then◌else◌};
 ghost use Rattle.std.specs.Option.{option_copied};
 ghost use Rattle.validate_transaction.specs.TakeBack.{is_empty, items_taken_back, CanTakeBack};
 
@@ -62,6 +62,15 @@ impl<T> Pile<T> {
         } else {
             None
         }
+    }
+
+    /// The newest items, so many of them, the newest last.
+    #[inline(always)]
+    pub fn newest(&self, count: usize) -> &[T]
+        requires { count ≤ length self.now.items }
+        ensures { result.now ≡ reverse (take count self.now.items) }
+    {
+        &self.vec[self.vec.len() - count..]
     }
 
     /// Room for one more item.

@@ -1,5 +1,5 @@
 use Rattle.validate_stacks.proofs.AtOnce.{not_at_once}
 use Rattle.validate_rows.proofs.numeric.numeric_at_once.Goals as goal
 
-pub returns-in-Add128 : goal.returns-in-Add128
-returns-in-Add128 g c = not_at_once _ _ c.args.stacks.now
+pub returns-in-WideBinary : goal.returns-in-WideBinary
+returns-in-WideBinary g c = not_at_once _ _ c.args.stacks.now

@@ -1,3 +1,4 @@
+use Rattle.std.proofs.Common.{◌≡◌, Bool, true, false, MatchBool, refl}
 use Rattle.validate_stacks.proofs.AtOnce.{not_at_once}
 use Rattle.validate_rows.proofs.AtOnce.{some_is}
 use Rattle.validate_rows.proofs.LocalsAtOnce.{tee_meets}
@@ -12,4 +13,9 @@ returns-in-Some g c =
     let t = c.in-Some.ty in
     let found = c.type_of_near_local.ensures.found t c.in-Some.is in
     let set = c.type_of_near_local.ensures.set (some_is c.type_of_near_local.result t c.in-Some.is) in
-    tee_meets md c.args.stacks.now c.exchange_numbers_at_once.new.self c.args.local_index t c.exchange_numbers_at_once.result found set c.requires c.exchange_numbers_at_once.ensures.exact
+    let s = c.args.stacks.now in
+    tee_meets md s s c.args.local_index t c.has_number_at_once.result found set c.requires (stays s c.has_number_at_once.result c.has_number_at_once.ensures)
+  where
+    stays : {P A : Type 0} (s : A) (b : Bool) → (b ≡ true → P) → MatchBool b P (s ≡ s)
+    stays s true f = f refl
+    stays s false f = refl

@@ -1,4 +1,4 @@
-use Rattle.std.proofs.Common.{◌-◌, ◌<◌, true, arith, refl, sym, ap, ◌∙◌, length}
+use Rattle.std.proofs.Common.{◌-◌, ◌<◌, arith, refl, sym, ap, ◌∙◌, length}
 use Rattle.std.specs.Option.{option_map}
 use Rattle.std.proofs.lemmas.Option.{slice_get-get_or}
 use Rattle.validate_resources.specs.Context.{Valid}

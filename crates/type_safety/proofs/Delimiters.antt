@@ -8,7 +8,7 @@ use Rattle.type_safety.specs.Machine.{Delimiter, delimiter, delimiters_from, for
 use Rattle.validation_rules.proofs.Below.{and_true}
 use Rattle.validation_rules.proofs.Steps.{pushed_by_form, given, after, some_injective, guard_some, and_then_given, get_of_drop, drop_next, stepped, before_next}
 
-rest_accepted : (cx : Context) (code : List Operator) (s : State) (k : ℕ) (t : State) → state_before cx code s k ≡ Some t → IsAccepted cx code s → IsAccepted cx (drop k code) t
+pub rest_accepted : (cx : Context) (code : List Operator) (s : State) (k : ℕ) (t : State) → state_before cx code s k ≡ Some t → IsAccepted cx code s → IsAccepted cx (drop k code) t
 rest_accepted cx code s zero t b a = subst (λ v. IsAccepted cx code v) (some_injective s t b) a
 rest_accepted cx [] s (suc k) t b a = absurd cc
 rest_accepted cx (x ∷ code) s (suc k) t b a =
@@ -181,7 +181,7 @@ module _ (cx : Context) (code : List Operator) (s0 : State) (accepted : IsAccept
   balanced_inside ops k h fs ih Delegates r pushed f [] own dead first_set b e = ih [] _ dead first_set b e
   balanced_inside ops k h fs ih Delegates r pushed f (g ∷ inner) own dead first_set b e = ih (frame_with (map Known (results cx f.head)) g ∷ inner) own dead first_set b e
 
-  still_open : (k : ℕ) (f : Frame) (fs : List Frame) → drop k code ≡ [] → state_before cx code s0 k ≡ Some (open_state (f ∷ fs)) → ⊥
+  pub still_open : (k : ℕ) (f : Frame) (fs : List Frame) → drop k code ≡ [] → state_before cx code s0 k ≡ Some (open_state (f ∷ fs)) → ⊥
   still_open k f fs d b = let o = operator_at k f fs b in let e : [] ≡ o.0 ∷ o.1 = sym d ∙ o.2 in cc
 
   balanced : (ops : List Operator) (k : ℕ) (h : Head) (fs : List Frame) → drop k code ≡ ops → Balanced ops k h fs

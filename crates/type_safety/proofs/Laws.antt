@@ -38,6 +38,8 @@ pub record IsLawfulOperator (cx : Context) (op : Operator) : Type 0 where
   -- a delimiter reaches no label
   pub closing :
       (hs : List Head) → is_instruction op.form ≡ false → ((op.row hs).targets ≡ []) × ((op.row hs).clauses ≡ [])
+  -- an opener reaches no label by itself
+  pub opening : (hs : List Head) (h : Head) → op.form ≡ Opens h → (op.row hs).targets ≡ []
   -- the operands of an `if` are its parameters and a condition
   pub takes_params :
       (hs : List Head) (h : Head) (ys : List ValType) (pushed : List MaybeType) → op.form ≡ Opens h →

@@ -120,6 +120,7 @@ module _ (cx : Context) (laws : IsLawful cx.of_module) where
       record {
         row = λ hs. no_target cx laws hs _ refl (plain_monotone cx laws (ps ++ above) [] []);
         closing = λ hs i. absurd cc;
+        opening = λ hs h e. refl;
         takes_params = λ hs h ys pushed e i g.
             let d : record { kind = kind; block_type = bt } ≡ h = cc in
             subst (λ (k : Head). AllBelow cx (take (length (params cx k)) ys) (params cx k)) d
@@ -312,12 +313,14 @@ module _ (cx : Context) (laws : IsLawful cx.of_module) where
       record {
         row = λ hs. record { monotone = (v.row hs).monotone; reaches = (v.row hs).reaches };
         closing = λ hs i. let clash : true ≡ false = sym (ap is_instruction opens) ∙ i in absurd cc;
+        opening = v.opening;
         takes_params = v.takes_params;
       }
   catching_lawful op h opens other v None =
       record {
         row = λ hs. no_target cx laws hs _ refl (plain_monotone cx laws [] [] []);
         closing = λ hs i. let clash : true ≡ false = sym (ap is_instruction opens) ∙ i in absurd cc;
+        opening = λ hs k e. refl;
         takes_params = λ hs k ys pushed e i.
             let same : Opens h ≡ Opens k = sym opens ∙ e in
             let kinds : h ≡ k = cc in

@@ -61,6 +61,7 @@ module _ (cx : Context) (laws : IsLawful cx.of_module) where
       record {
         row = h;
         closing = λ hs i. absurd cc;
+        opening = λ hs k e. absurd cc;
         takes_params = λ hs k ys pushed e. absurd cc;
       }
 
@@ -77,6 +78,7 @@ module _ (cx : Context) (laws : IsLawful cx.of_module) where
       record {
         row = λ hs. no_target hs _ refl (plain_monotone [] [] []);
         closing = λ hs k. (refl, refl);
+        opening = λ hs h e. refl;
         takes_params = λ hs h ys pushed e. let d : true ≡ false = ap is_instruction (sym e) ∙ i in absurd cc;
       }
 
@@ -89,5 +91,6 @@ module _ (cx : Context) (laws : IsLawful cx.of_module) where
       record {
         row = λ hs. record { monotone = (h.row hs).monotone; reaches = λ ys pushed p g j t e. (h.row hs).reaches ys pushed (and_true (is_open cx.features gate) _ p).1 g j t e };
         closing = λ hs i. h.closing hs i;
+        opening = λ hs k e. h.opening hs k e;
         takes_params = λ hs k ys pushed e i g. h.takes_params hs k ys pushed e i g;
       }

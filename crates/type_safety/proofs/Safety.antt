@@ -13,6 +13,7 @@ use Rattle.type_safety.proofs.Laws.{HeadAccepts, IsLawfulOperator, TypeSafety}
 use Rattle.validation_rules.proofs.Below.{below-trans, below-onto, below_of_fit, known-injective, onto-known}
 use Rattle.validation_rules.proofs.Steps.{pushed_by_form, given, after, label_by, some_injective, get_of_drop}
 use Rattle.type_safety.proofs.Delimiters.{AfterDelimiter, AfterDelimiterOf, after_delimiter, if_balanced, operator_at, row_at}
+use Rattle.type_safety.proofs.Closers.{closer_of}
 use Rattle.type_safety.proofs.Operands as operands
 use Rattle.type_safety.proofs.Operands.{IsWithin, within_right, set_within, below_top_known, rest_below}
 
@@ -24,37 +25,40 @@ own_opened cx us types below = (stack_with types [], onto-known types [], below-
 
 module _ (cx : Context) (code : List Operator) (ty : BlockType) where
   -- of a frame with the head h that began at place b, inside the frames fs
-  record Exit (b : ℕ) (h : Head) (fs : List Frame) : Type 0 where
-    delimiters_follow : (j : ℕ) (m : Delimiter) → slice_get (delimiters code b) j ≡ Some m → AfterDelimiter cx code (start ty) h fs m
-    again : is_loop h.kind ≡ true → state_before cx code (start ty) (suc b) ≡ Some (open_state (opened_frame h (params cx h) ∷ fs))
-    clauses : is_try_table h.kind ≡ true → (opener : Operator) → slice_get code b ≡ Some opener → (j : ℕ) (c : Clause) → slice_get (opener.row (heads fs)).clauses j ≡ Some c → HeadAccepts cx (drop c.depth (heads fs)) c.types
+  pub record Exit (b : ℕ) (h : Head) (fs : List Frame) : Type 0 where
+    pub delimiters_follow : (j : ℕ) (m : Delimiter) → slice_get (delimiters code b) j ≡ Some m → AfterDelimiter cx code (start ty) h fs m
+    pub again : is_loop h.kind ≡ true → state_before cx code (start ty) (suc b) ≡ Some (open_state (opened_frame h (params cx h) ∷ fs))
+    -- a closer, and the opener of a `try_table`
+    pub closer : (c : ℕ) × IsCloser code b c
+    pub opened : is_try_table h.kind ≡ true → (op : Operator) × (slice_get code b ≡ Some op) × (op.form ≡ Opens h)
+    pub clauses : is_try_table h.kind ≡ true → (opener : Operator) → slice_get code b ≡ Some opener → (j : ℕ) (c : Clause) → slice_get (opener.row (heads fs)).clauses j ≡ Some c → HeadAccepts cx (drop c.depth (heads fs)) c.types
 
   -- the outermost frame has the body's results
-  abbrev Outside : ℕ → Head → List Frame → Type 0
+  abbrev pub Outside : ℕ → Head → List Frame → Type 0
   Outside b h [] = h ≡ body_head ty
   Outside b h (f ∷ fs) = Exit b h (f ∷ fs)
 
-  record Agree (l : Label) (f : Frame) (fs : List Frame) : Type 0 where
-    head : l.head ≡ f.head
-    live : f.dead ≡ false
-    operands : OperandsBelow cx l.operands f.operands
-    outside : Outside l.began f.head fs
+  pub record Agree (l : Label) (f : Frame) (fs : List Frame) : Type 0 where
+    pub head : l.head ≡ f.head
+    pub live : f.dead ≡ false
+    pub operands : OperandsBelow cx l.operands f.operands
+    pub outside : Outside l.began f.head fs
 
-  abbrev Stack : List Label → List Frame → Type 0
+  abbrev pub Stack : List Label → List Frame → Type 0
   Stack [] [] = Unit {0}
   Stack (l ∷ ls) (f ∷ fs) = Agree l f fs × Stack ls fs
   Stack _ _ = ⊥
 
   -- the machine stands at place k with these labels, and the validator's state before k is above it
-  record Standing (k : ℕ) (l : Label) (ls : List Label) (set : List ℕ) : Type 0 where
-    f : Frame
-    fs : List Frame
-    at : state_before cx code (start ty) k ≡ Some (open_state (f ∷ fs))
-    agree : Agree l f fs
-    stack : Stack ls fs
-    within : IsWithin (locals_set (f ∷ fs)) set
+  pub record Standing (k : ℕ) (l : Label) (ls : List Label) (set : List ℕ) : Type 0 where
+    pub f : Frame
+    pub fs : List Frame
+    pub at : state_before cx code (start ty) k ≡ Some (open_state (f ∷ fs))
+    pub agree : Agree l f fs
+    pub stack : Stack ls fs
+    pub within : IsWithin (locals_set (f ∷ fs)) set
 
-  abbrev Keeps : Machine → Type 0
+  abbrev pub Keeps : Machine → Type 0
   Keeps (At k [] set) = ⊥
   Keeps (At k (l ∷ ls) set) = Standing k l ls set
   Keeps (Returned types) = AllBelow cx types (results cx (body_head ty))
@@ -62,14 +66,14 @@ module _ (cx : Context) (code : List Operator) (ty : BlockType) where
   Keeps LeftByException = Unit {0}
   Keeps LeftBySuspension = Unit {0}
 
-  heads_agree : (ls : List Label) (fs : List Frame) → Stack ls fs → label_heads ls ≡ heads fs
+  pub heads_agree : (ls : List Label) (fs : List Frame) → Stack ls fs → label_heads ls ≡ heads fs
   heads_agree [] [] s = refl
   heads_agree (l ∷ ls) (f ∷ fs) s =
       ap (λ h. h ∷ label_heads ls) s.0.head ∙ ap (λ hs. f.head ∷ hs) (heads_agree ls fs s.1)
   heads_agree [] (f ∷ fs) s = elim s [ ]
   heads_agree (l ∷ ls) [] s = elim s [ ]
 
-  stack_drop : (n : ℕ) (ls : List Label) (fs : List Frame) → Stack ls fs → Stack (drop n ls) (drop n fs)
+  pub stack_drop : (n : ℕ) (ls : List Label) (fs : List Frame) → Stack ls fs → Stack (drop n ls) (drop n fs)
   stack_drop zero ls fs s = s
   stack_drop (suc n) [] [] s = tt
   stack_drop (suc n) (l ∷ ls) (f ∷ fs) s = stack_drop n ls fs s.1
@@ -81,7 +85,7 @@ module _ (cx : Context) (code : List Operator) (ty : BlockType) where
   within_drop (suc n) [] set w = w
   within_drop (suc n) (f ∷ fs) set w = within_drop n fs set (within_right f.first_set (locals_set fs) set w)
 
-  reaches_of_heads : (n : ℕ) (ls : List Label) (types : List ValType) → HeadAccepts cx (drop n (label_heads ls)) types → LabelAccepts cx (drop n ls) types
+  pub reaches_of_heads : (n : ℕ) (ls : List Label) (types : List ValType) → HeadAccepts cx (drop n (label_heads ls)) types → LabelAccepts cx (drop n ls) types
   reaches_of_heads zero [] types h = h
   reaches_of_heads zero (l ∷ ls) types h = h
   reaches_of_heads (suc n) [] types h = h
@@ -150,7 +154,7 @@ after_closing cx r f fs Ends pushed i = refl
 after_closing cx r f fs Delegates pushed i = refl
 after_closing cx r f fs _ pushed i = absurd cc
 
-by_row : (cx : Context) (r : Row) (hs : List Head) (set : List ℕ) (f : Frame) (form : Form) (o : Option (List MaybeType)) → is_instruction form ≡ true → pushed_by_form cx r hs set f form ≡ o → pushed_by_row cx r hs set f ≡ o
+pub by_row : (cx : Context) (r : Row) (hs : List Head) (set : List ℕ) (f : Frame) (form : Form) (o : Option (List MaybeType)) → is_instruction form ≡ true → pushed_by_form cx r hs set f form ≡ o → pushed_by_row cx r hs set f ≡ o
 by_row cx r hs set f Stays o i p = p
 by_row cx r hs set f (Opens h) o i p = p
 by_row cx r hs set f _ o i p = absurd cc
@@ -173,15 +177,15 @@ no_try_table false = refl
 
 module _ (cx : Context) (laws : IsLawful cx.of_module) (code : List Operator) (ty : BlockType) (lawful : (j : ℕ) (op : Operator) → slice_get code j ≡ Some op → IsLawfulOperator cx op) (accepted : IsAccepted cx code (start ty)) where
   -- the validator's row and the state after it, at the heads of the machine's labels
-  record Place (k : ℕ) (l : Label) (ls : List Label) (set : List ℕ) (op : Operator) : Type 0 where
-    s : Standing cx code ty k l ls set
-    is : slice_get code k ≡ Some op
-    same : label_heads (l ∷ ls) ≡ heads (s.f ∷ s.fs)
-    pushed : List MaybeType
-    holds : pushed_by_form cx (op.row (label_heads (l ∷ ls))) (label_heads (l ∷ ls)) (locals_set (s.f ∷ s.fs)) s.f op.form ≡ Some pushed
-    next : state_before cx code (start ty) (suc k) ≡ Some (after cx (op.row (label_heads (l ∷ ls))) s.f s.fs op.form pushed)
+  pub record Place (k : ℕ) (l : Label) (ls : List Label) (set : List ℕ) (op : Operator) : Type 0 where
+    pub s : Standing cx code ty k l ls set
+    pub is : slice_get code k ≡ Some op
+    pub same : label_heads (l ∷ ls) ≡ heads (s.f ∷ s.fs)
+    pub pushed : List MaybeType
+    pub holds : pushed_by_form cx (op.row (label_heads (l ∷ ls))) (label_heads (l ∷ ls)) (locals_set (s.f ∷ s.fs)) s.f op.form ≡ Some pushed
+    pub next : state_before cx code (start ty) (suc k) ≡ Some (after cx (op.row (label_heads (l ∷ ls))) s.f s.fs op.form pushed)
 
-  place_of : (k : ℕ) (l : Label) (ls : List Label) (set : List ℕ) → Standing cx code ty k l ls set → (op : Operator) × Place k l ls set op
+  pub place_of : (k : ℕ) (l : Label) (ls : List Label) (set : List ℕ) → Standing cx code ty k l ls set → (op : Operator) × Place k l ls set op
   place_of k l ls set s =
       let o = operator_at cx code (start ty) accepted k s.f s.fs s.at in
       let a = row_at cx code (start ty) accepted k o.0 o.1 s.f s.fs o.2 s.at in
@@ -223,7 +227,7 @@ module _ (cx : Context) (laws : IsLawful cx.of_module) (code : List Operator) (t
         absurd cc
 
     -- the state in a frame that the operator opens
-    inside : (h : Head) → op.form ≡ Opens h → state_before cx code (start ty) (suc k) ≡ Some (open_state (opened_frame h (params cx h) ∷ frame_under (op.row (label_heads (l ∷ ls))) p.s.f ∷ p.s.fs))
+    pub inside : (h : Head) → op.form ≡ Opens h → state_before cx code (start ty) (suc k) ≡ Some (open_state (opened_frame h (params cx h) ∷ frame_under (op.row (label_heads (l ∷ ls))) p.s.f ∷ p.s.fs))
     inside h e = p.next ∙ ap (λ x. Some (after cx (op.row (label_heads (l ∷ ls))) p.s.f p.s.fs x p.pushed)) e
 
     balances : (h : Head) → op.form ≡ Opens h → is_if h.kind ≡ true → HasNoElse code k → AllBelow cx (take (length (params cx h)) (types_on_top (wanted_count (op.row (label_heads (l ∷ ls))).type) l.operands)) (results cx h)
@@ -232,7 +236,7 @@ module _ (cx : Context) (laws : IsLawful cx.of_module) (code : List Operator) (t
         let fit = below_of_fit cx (params cx h) (results cx h) (if_balanced cx code (start ty) accepted k h (params cx h) (frame_under (op.row (label_heads (l ∷ ls))) p.s.f ∷ p.s.fs) i (inside h e) w) in
         below-trans cx laws _ (params cx h) (results cx h) ((lawful k op p.is).takes_params (label_heads (l ∷ ls)) h _ _ e i a.monotone.passes) fit
 
-    demand : Demand cx code (configuration k l ls set op)
+    pub demand : Demand cx code (configuration k l ls set op)
     demand = record {
       row = operands.holds_below cx (op.row (label_heads (l ∷ ls))) (label_heads (l ∷ ls)) (locals_set (p.s.f ∷ p.s.fs)) set l p.s.f p.s.agree.operands.0 op.form p.pushed laws ((lawful k op p.is).row (label_heads (l ∷ ls))) p.s.agree.head p.s.agree.live p.s.agree.operands.1 p.s.agree.operands.2 p.s.within p.holds;
       targets = reaches_targets (is_instruction op.form) refl;
@@ -280,13 +284,15 @@ module _ (cx : Context) (laws : IsLawful cx.of_module) (code : List Operator) (t
           within = set_within cx st r.sets p.s.f.first_set (locals_set p.s.fs) set p.s.within;
         }
 
-    exit_opened : (h : Head) → op.form ≡ Opens h → Exit cx code ty k h (frame_under (op.row (label_heads (l ∷ ls))) p.s.f ∷ p.s.fs)
+    pub exit_opened : (h : Head) → op.form ≡ Opens h → Exit cx code ty k h (frame_under (op.row (label_heads (l ∷ ls))) p.s.f ∷ p.s.fs)
     exit_opened h e =
         let fs' = frame_under (op.row (label_heads (l ∷ ls))) p.s.f ∷ p.s.fs in
         let fit = subst (λ hs. clauses_fit cx hs (op.row hs).clauses ≡ true) p.same (passes_here (ap is_instruction e)).clauses in
         record {
           delimiters_follow = after_delimiter cx code (start ty) accepted k h (params cx h) fs' (inside h e);
           again = λ i. inside h e;
+          closer = closer_of cx code (start ty) accepted k h (params cx h) fs' (inside h e);
+          opened = λ i. (op, p.is, e);
           clauses = λ i opener at j c g.
               let d : op ≡ opener = some_injective _ _ (sym p.is ∙ at) in
               operands.each_clause cx (heads fs') (opener.row (heads fs')).clauses (subst (λ (o : Operator). clauses_fit cx (heads fs') (o.row (heads fs')).clauses ≡ true) d fit) j c g;
@@ -318,6 +324,8 @@ module _ (cx : Context) (laws : IsLawful cx.of_module) (code : List Operator) (t
             outside = record {
               delimiters_follow = after_delimiter cx code (start ty) accepted c (head_with_kind Else h) (params cx h) fs' b;
               again = λ i. absurd cc;
+              closer = closer_of cx code (start ty) accepted c (head_with_kind Else h) (params cx h) fs' b;
+              opened = λ i. absurd cc;
               clauses = λ i opener at j d g. absurd cc;
             };
           };
@@ -394,6 +402,8 @@ module _ (cx : Context) (laws : IsLawful cx.of_module) (code : List Operator) (t
             outside = record {
               delimiters_follow = after_delimiter cx code (start ty) accepted c (head_with_kind (catch_kind all) h) types (g' ∷ gs) b;
               again = λ q. absurd (not_both (is_loop (catch_kind all)) q (no_loop all));
+              closer = closer_of cx code (start ty) accepted c (head_with_kind (catch_kind all) h) types (g' ∷ gs) b;
+              opened = λ q. absurd (not_both (is_try_table (catch_kind all)) q (no_try_table all));
               clauses = λ q opener at j d e. absurd (not_both (is_try_table (catch_kind all)) q (no_try_table all));
             };
           };
@@ -446,7 +456,7 @@ module _ (cx : Context) (laws : IsLawful cx.of_module) (code : List Operator) (t
     within = λ i h. h;
   }
 
-  run_keeps : (n : ℕ) (m : Machine) → Run cx code n (initial_machine ty) m → Keeps cx code ty m
+  pub run_keeps : (n : ℕ) (m : Machine) → Run cx code n (initial_machine ty) m → Keeps cx code ty m
   run_keeps zero m r = subst (Keeps cx code ty) r started
   run_keeps (suc n) m r = step_keeps r.0 m (run_keeps n r.0 r.1) r.2
 

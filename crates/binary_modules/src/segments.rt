@@ -48,7 +48,7 @@ fn skip_operator(
     if skip_vector(reader)? {
         return Ok(Some(depth));
     }
-    let op = read_operator(reader, canonical, lists, 0)?;
+    let op = read_operator(reader, canonical, lists)?;
     if let Op::Reference(ReferenceOp::RefFunc(index)) = op {
         push(referenced, index)?;
     }

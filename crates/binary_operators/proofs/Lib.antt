@@ -1,1 +1,4 @@
+pub mod Examples
+pub mod Items
 pub mod Powers
+pub mod Sequences

@@ -1,3 +1,14 @@
+pub mod Atomics
+pub mod Codes
+pub mod Expressions
+pub mod Forms
+pub mod Functions
 pub mod Heads
+pub mod Immediates
+pub mod Instructions
 pub mod Integers
+pub mod Numbers
+pub mod Types
+pub mod Unplaced
 pub mod Unread
+pub mod Values

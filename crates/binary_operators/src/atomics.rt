@@ -1,14 +1,18 @@
-//! Atomic operators, behind the prefix 0xfe.
+//! Atomic operators, behind the prefix 0xfe (the proposals "Threads" and "Shared-Everything Threads").
 
-ghost use Rattle.std.specs.Prelude.{◌≤◌, ◌<◌};
+ghost use Rattle.std.specs.Prelude.{◌≡◌, Some, None, option_map, IfOk, OnErr};
+ghost use Rattle.binary_operators.specs.Atomics.{atomic_at, global_accesses, table_accesses, field_accesses};
+ghost use Rattle.binary_operators.specs.Forms.{from};
+ghost use Rattle.binary_operators.specs.Immediates.{ordering};
+ghost use Rattle.binary_operators.specs.Unplaced.{unplaced};
 
+use crate::codes::natural;
 use crate::error::{Fault, ReadError};
-use crate::memory::read_memarg;
+use crate::forms::item;
 use crate::reader::BinaryReader;
-use crate::types::CanonicalTypes;
 use validate_visit::{
-    AtomicAccess, AtomicOp, AtomicRmwOp, FieldAccess, FieldIndex, GlobalAccess, IntegerType,
-    MemArg, Ordering, PackedInteger, SharedOp, SharedRmwOp, Sign, TableAccess,
+    AtomicAccess, AtomicOp, AtomicRmwOp, FieldAccess, GlobalAccess, IntegerType, MemArg, Op,
+    Ordering, PackedInteger, SharedRmwOp, Sign, TableAccess,
 };
 
 /// What is accessed in a memory, by the order of the codes, and its natural alignment.
@@ -23,7 +27,7 @@ static ACCESSED: [(AtomicAccess, u8); 7] = [
 ];
 
 /// What is done with a table's element, by the order of the codes.
-static OF_TABLE: [TableAccess; 4] = [
+static TABLE_ACCESSES: [TableAccess; 4] = [
     TableAccess::Get,
     TableAccess::Set,
     TableAccess::Xchg,
@@ -31,7 +35,7 @@ static OF_TABLE: [TableAccess; 4] = [
 ];
 
 /// What is done with a global, by the order of the codes.
-static OF_GLOBAL: [GlobalAccess; 9] = [
+static GLOBAL_ACCESSES: [GlobalAccess; 9] = [
     GlobalAccess::Value(TableAccess::Get),
     GlobalAccess::Value(TableAccess::Set),
     GlobalAccess::Rmw(SharedRmwOp::Add),
@@ -43,8 +47,8 @@ static OF_GLOBAL: [GlobalAccess; 9] = [
     GlobalAccess::Value(TableAccess::Cmpxchg),
 ];
 
-/// What is done with a field, by the order of the codes.
-static OF_FIELD: [FieldAccess; 11] = [
+/// What is done with a field or with a place of an array, by the order of the codes.
+static FIELD_ACCESSES: [FieldAccess; 11] = [
     FieldAccess::Whole(GlobalAccess::Value(TableAccess::Get)),
     FieldAccess::GetPacked(Sign::Signed),
     FieldAccess::GetPacked(Sign::Unsigned),
@@ -58,102 +62,63 @@ static OF_FIELD: [FieldAccess; 11] = [
     FieldAccess::Whole(GlobalAccess::Value(TableAccess::Cmpxchg)),
 ];
 
-/// What the operator of this code accesses in a memory, and its natural alignment.
-fn accessed(code: u32) -> (AtomicAccess, u8) {
-    ACCESSED[(code.saturating_sub(0xfe10) % 7) as usize]
-}
-
-/// The operator of this code that accesses a memory.
-fn accessing(code: u32, memarg: MemArg) -> AtomicOp {
-    let (access, _) = accessed(code);
-    match code {
-        0xfe00 => AtomicOp::AtomicNotify(memarg),
-        0xfe01 => AtomicOp::AtomicWait(IntegerType::I32, memarg),
-        0xfe02 => AtomicOp::AtomicWait(IntegerType::I64, memarg),
-        0xfe10..=0xfe16 => AtomicOp::AtomicLoad(access, memarg),
-        0xfe17..=0xfe1d => AtomicOp::AtomicStore(access, memarg),
-        0xfe1e..=0xfe24 => AtomicOp::AtomicRmw(access, AtomicRmwOp::Add, memarg),
-        0xfe25..=0xfe2b => AtomicOp::AtomicRmw(access, AtomicRmwOp::Sub, memarg),
-        0xfe2c..=0xfe32 => AtomicOp::AtomicRmw(access, AtomicRmwOp::And, memarg),
-        0xfe33..=0xfe39 => AtomicOp::AtomicRmw(access, AtomicRmwOp::Or, memarg),
-        0xfe3a..=0xfe40 => AtomicOp::AtomicRmw(access, AtomicRmwOp::Xor, memarg),
-        0xfe41..=0xfe47 => AtomicOp::AtomicRmw(access, AtomicRmwOp::Xchg, memarg),
-        _ => AtomicOp::AtomicCmpxchg(access, memarg),
-    }
-}
-
-/// Reads the immediates of an operator of this code that accesses a memory, of a fence or of a pause.
-pub fn read_atomic(reader: &mut BinaryReader<'_>, code: u32) -> Result<AtomicOp, ReadError> {
-    let natural = match code {
-        0xfe00 | 0xfe01 => 2,
-        0xfe02 => 3,
-        0xfe03 => return Ok(AtomicOp::AtomicFence(read_ordering(reader)?)),
-        0xfe04 => return Ok(AtomicOp::Pause),
-        _ => accessed(code).1,
+/// The operator that accesses this place, whose code is so many above 0xfe10.
+#[tactic(auto, unfolding(crate::specs::Atomics::atomic_at, crate::specs::Atomics::accessed))]
+pub(crate) fn atomic_op<'l>(place: u32, m: MemArg) -> Option<Op<'l>>
+    ensures { option_map (λ op. unplaced op) result ≡ atomic_at place m }
+{
+    let (access, max_align) = item(&ACCESSED, 0, place % 7)?;
+    let m = natural(max_align, m);
+    let op = match place / 7 {
+        0 => AtomicOp::AtomicLoad(access, m),
+        1 => AtomicOp::AtomicStore(access, m),
+        2 => AtomicOp::AtomicRmw(access, AtomicRmwOp::Add, m),
+        3 => AtomicOp::AtomicRmw(access, AtomicRmwOp::Sub, m),
+        4 => AtomicOp::AtomicRmw(access, AtomicRmwOp::And, m),
+        5 => AtomicOp::AtomicRmw(access, AtomicRmwOp::Or, m),
+        6 => AtomicOp::AtomicRmw(access, AtomicRmwOp::Xor, m),
+        7 => AtomicOp::AtomicRmw(access, AtomicRmwOp::Xchg, m),
+        8 => AtomicOp::AtomicCmpxchg(access, m),
+        _ => return None,
     };
-    Ok(accessing(code, read_memarg(reader, natural)?))
+    Some(Op::Atomic(op))
 }
 
-fn read_ordering(reader: &mut BinaryReader<'_>) -> Result<Ordering, ReadError> {
-    match reader.read_code(1, Fault::InvalidAtomicOrdering)? {
+/// What the operator of this code does with a global.
+#[tactic(auto, unfolding(crate::specs::Atomics::global_accesses))]
+pub(crate) fn global_access(code: u32) -> Option<GlobalAccess>
+    ensures { result ≡ from 0xfe4f global_accesses code }
+{
+    item(&GLOBAL_ACCESSES, 0xfe4f, code)
+}
+
+/// What the operator of this code does with an element of a table.
+#[tactic(auto, unfolding(crate::specs::Atomics::table_accesses))]
+pub(crate) fn table_access(code: u32) -> Option<TableAccess>
+    ensures { result ≡ from 0xfe58 table_accesses code }
+{
+    item(&TABLE_ACCESSES, 0xfe58, code)
+}
+
+/// What the operator of this code does with a field, or with a place of an array, where the first code is
+/// this one.
+#[tactic(auto, unfolding(crate::specs::Atomics::field_accesses))]
+pub(crate) fn field_access(first: u32, code: u32) -> Option<FieldAccess>
+    ensures { result ≡ from first field_accesses code }
+{
+    item(&FIELD_ACCESSES, first, code)
+}
+
+/// Reads the order of an atomic operator. It refuses `invalid atomic ordering`.
+#[tactic(auto, unfolding(crate::specs::Immediates::ordering))]
+pub(crate) fn read_ordering(reader: &mut BinaryReader<'_>) -> Result<Ordering, ReadError>
+    ensures read { IfOk result (λ order. ordering reader.old.left ≡ Some (order, reader.new.left)) }
+    ensures refused { OnErr result (ordering reader.old.left ≡ None) }
+{
+    let offset = reader.offset();
+    match reader.read_u8()? {
         0 => Ok(Ordering::SeqCst),
-        _ => Ok(Ordering::AcqRel),
+        1 => Ok(Ordering::AcqRel),
+        _ => Err(ReadError::malformed(Fault::InvalidAtomicOrdering, offset)),
     }
-}
-
-/// The operator of this code that accesses what is shared: a global, a table, a field or an array.
-fn sharing(code: u32, ordering: Ordering, index: u32, field: FieldIndex) -> SharedOp
-    requires from { 0xfe4f ≤ code }
-    requires to { code < 0xfe72 }
-{
-    if code < 0xfe58 {
-        return SharedOp::Global {
-            access: OF_GLOBAL[(code - 0xfe4f) as usize],
-            ordering,
-            global_index: index,
-        };
-    }
-    if code < 0xfe5c {
-        return SharedOp::Table {
-            access: OF_TABLE[(code - 0xfe58) as usize],
-            ordering,
-            table_index: index,
-        };
-    }
-    if code < 0xfe67 {
-        return SharedOp::Struct {
-            access: OF_FIELD[(code - 0xfe5c) as usize],
-            ordering,
-            field,
-        };
-    }
-    SharedOp::Array {
-        access: OF_FIELD[(code - 0xfe67) as usize],
-        ordering,
-        type_index: field.struct_type_index,
-    }
-}
-
-/// Reads the immediates of an operator of this code that accesses what is shared, or makes such a reference.
-pub fn read_shared(
-    reader: &mut BinaryReader<'_>,
-    canonical: CanonicalTypes<'_>,
-    code: u32,
-) -> Result<SharedOp, ReadError>
-    requires from { 0xfe4f ≤ code }
-    requires to { code ≤ 0xfe72 }
-{
-    if code == 0xfe72 {
-        return Ok(SharedOp::RefI31Shared);
-    }
-    let ordering = read_ordering(reader)?;
-    let index = reader.read_var_u32()?;
-    let mut field = FieldIndex {
-        struct_type_index: canonical.of(index),
-        field_index: 0,
-    };
-    if 0xfe5c <= code && code < 0xfe67 {
-        field.field_index = reader.read_var_u32()?;
-    }
-    Ok(sharing(code, ordering, index, field))
 }

@@ -1,5 +1,8 @@
 //! Why bytes aren't those of a module, and where.
 
+ghost use Rattle.std.specs.Prelude.{◌≡◌};
+ghost use Rattle.binary_operators.specs.declared.error.Cause.TheVariants.{OutOfMemory};
+
 use std::alloc::{AllocError, AllocFailed};
 
 /// What is wrong with bytes that are no module's.
@@ -149,7 +152,9 @@ impl ReadError {
     }
 
     /// Want of memory.
-    pub fn out_of_memory(offset: u64) -> ReadError {
+    pub fn out_of_memory(offset: u64) -> ReadError
+        ensures { result.cause ≡ OutOfMemory }
+    {
         ReadError {
             cause: Cause::OutOfMemory,
             offset,

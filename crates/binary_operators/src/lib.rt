@@ -4,25 +4,24 @@
 
 mod atomics;
 mod blocks;
-mod control;
+mod casts;
+mod codes;
 mod equal;
 mod error;
-mod indexed;
+mod forms;
 mod integers;
 mod lists;
 mod memory;
 mod numeric;
 mod operators;
 mod reader;
-mod references;
 mod types;
 
-pub use crate::blocks::read_value_types;
 pub use crate::equal::are_groups_equal;
 pub use crate::error::{Cause, Fault, ReadError};
-pub use crate::lists::{OperatorLists, lend, push};
+pub use crate::lists::{OperatorLists, push};
 pub use crate::operators::read_operator;
 pub use crate::reader::{BinaryReader, ByteRange};
 pub use crate::types::{
-    CanonicalTypes, GroupNames, read_ref_type, read_type_number, read_value_type,
+    CanonicalTypes, GroupNames, read_ref_type, read_type_number, read_value_type, read_value_types,
 };

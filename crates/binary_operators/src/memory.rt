@@ -1,71 +1,39 @@
-//! Operators on memories that load and store.
+//! Places in memories (WebAssembly core specification, "Binary Format: Instructions", "Memory Instructions").
 
-ghost use Rattle.std.specs.Prelude.{◌≤◌};
+ghost use Rattle.std.specs.Prelude.{◌≡◌, Some, None, IfOk, OnErr};
+ghost use Rattle.binary_operators.specs.Immediates.{memarg, in_memory};
 
 use crate::error::{Fault, ReadError};
 use crate::reader::BinaryReader;
-use validate_visit::{MemArg, MemArgTarget, MemoryOp, NumberType, PackedInteger, Sign};
+use validate_visit::{MemArg, MemArgTarget};
 
-/// Reads where an access looks, of which this alignment is natural.
-#[inline(always)]
-pub fn read_memarg(reader: &mut BinaryReader<'_>, max_align: u8) -> Result<MemArg, ReadError> {
-    let offset = reader.offset();
-    let flags = reader.read_var_u32()?;
-    if flags >= 0x80 {
-        return Err(ReadError::malformed(Fault::AlignmentTooLarge, offset));
-    }
-    let memory = if flags >= 0x40 {
-        reader.read_var_u32()?
-    } else {
-        0
-    };
+/// Reads where an access looks that is aligned so, in the memory at this index.
+fn read_place(reader: &mut BinaryReader<'_>, align: u8, memory: u32) -> Result<MemArg, ReadError>
+    ensures read { IfOk result (λ m. in_memory align memory reader.old.left ≡ Some (m, reader.new.left)) }
+    ensures refused { OnErr result (in_memory align memory reader.old.left ≡ None) }
+{
     Ok(MemArg {
-        align: (flags % 0x40) as u8,
-        max_align,
+        align,
+        max_align: 0,
         offset: reader.read_var_u64()?,
         target: MemArgTarget::Memory(memory),
     })
 }
 
-/// The natural alignments of loads and stores, from code 0x28 to code 0x3e.
-static NATURAL: [u8; 23] = [
-    2, 3, 2, 3, 0, 0, 1, 1, 0, 0, 1, 1, 2, 2, 2, 3, 2, 3, 0, 1, 0, 1, 2,
-];
-
-/// Reads a load or a store, of this code.
-pub fn read_access(reader: &mut BinaryReader<'_>, code: u8) -> Result<MemoryOp, ReadError>
-    requires from { 40 ≤ code }
-    requires to { code ≤ 62 }
+/// Reads where an access looks, of which no alignment is natural yet.
+#[tactic(auto, unfolding(crate::specs::Immediates::memarg))]
+pub fn read_memarg(reader: &mut BinaryReader<'_>) -> Result<MemArg, ReadError>
+    ensures read { IfOk result (λ m. memarg reader.old.left ≡ Some (m, reader.new.left)) }
+    ensures refused { OnErr result (memarg reader.old.left ≡ None) }
 {
-    let memarg = read_memarg(reader, NATURAL[(code - 0x28) as usize])?;
-    Ok(access(code, memarg))
-}
-
-/// The load or store of this code.
-fn access(code: u8, memarg: MemArg) -> MemoryOp {
-    match code {
-        0x28 => MemoryOp::Load(NumberType::I32, memarg),
-        0x29 => MemoryOp::Load(NumberType::I64, memarg),
-        0x2a => MemoryOp::Load(NumberType::F32, memarg),
-        0x2b => MemoryOp::Load(NumberType::F64, memarg),
-        0x2c => MemoryOp::LoadPacked(PackedInteger::I32Bits8, Sign::Signed, memarg),
-        0x2d => MemoryOp::LoadPacked(PackedInteger::I32Bits8, Sign::Unsigned, memarg),
-        0x2e => MemoryOp::LoadPacked(PackedInteger::I32Bits16, Sign::Signed, memarg),
-        0x2f => MemoryOp::LoadPacked(PackedInteger::I32Bits16, Sign::Unsigned, memarg),
-        0x30 => MemoryOp::LoadPacked(PackedInteger::I64Bits8, Sign::Signed, memarg),
-        0x31 => MemoryOp::LoadPacked(PackedInteger::I64Bits8, Sign::Unsigned, memarg),
-        0x32 => MemoryOp::LoadPacked(PackedInteger::I64Bits16, Sign::Signed, memarg),
-        0x33 => MemoryOp::LoadPacked(PackedInteger::I64Bits16, Sign::Unsigned, memarg),
-        0x34 => MemoryOp::LoadPacked(PackedInteger::I64Bits32, Sign::Signed, memarg),
-        0x35 => MemoryOp::LoadPacked(PackedInteger::I64Bits32, Sign::Unsigned, memarg),
-        0x36 => MemoryOp::Store(NumberType::I32, memarg),
-        0x37 => MemoryOp::Store(NumberType::I64, memarg),
-        0x38 => MemoryOp::Store(NumberType::F32, memarg),
-        0x39 => MemoryOp::Store(NumberType::F64, memarg),
-        0x3a => MemoryOp::StorePacked(PackedInteger::I32Bits8, memarg),
-        0x3b => MemoryOp::StorePacked(PackedInteger::I32Bits16, memarg),
-        0x3c => MemoryOp::StorePacked(PackedInteger::I64Bits8, memarg),
-        0x3d => MemoryOp::StorePacked(PackedInteger::I64Bits16, memarg),
-        _ => MemoryOp::StorePacked(PackedInteger::I64Bits32, memarg),
+    let offset = reader.offset();
+    let flags = reader.read_var_u32()?;
+    if flags < 0x40 {
+        return read_place(reader, flags as u8, 0);
     }
+    if flags >= 0x80 {
+        return Err(ReadError::malformed(Fault::AlignmentTooLarge, offset));
+    }
+    let memory = reader.read_var_u32()?;
+    read_place(reader, (flags - 0x40) as u8, memory)
 }

@@ -1,15 +1,18 @@
-//! Operators on numbers, by their codes.
+//! Operators on numbers of one type, and conversions, by their codes (WebAssembly core specification, "Binary
+//! Format: Instructions", "Numeric Instructions").
 
-use crate::error::ReadError;
-use crate::reader::BinaryReader;
+ghost use Rattle.std.specs.Prelude.{◌≡◌};
+ghost use Rattle.binary_operators.specs.Forms.{from};
+ghost use Rattle.binary_operators.specs.Numbers.{numeric_ops, conversion_ops};
+
+use crate::forms::item;
 use validate_visit::{
-    ConvertOp, FloatBinaryOp, FloatComparisonOp, FloatType, FloatUnaryOp, Ieee32, Ieee64,
-    IntegerBinaryOp, IntegerComparisonOp, IntegerType, IntegerUnaryOp, NumberType, NumericOp,
-    PackedInteger, Sign,
+    ConvertOp, FloatBinaryOp, FloatComparisonOp, FloatType, FloatUnaryOp, IntegerBinaryOp,
+    IntegerComparisonOp, IntegerType, IntegerUnaryOp, NumberType, NumericOp, PackedInteger, Sign,
 };
 
 /// The operators on numbers of one type, from code 0x45 to code 0xa6.
-pub static NUMERIC: [NumericOp; 98] = [
+static NUMERIC: [NumericOp; 98] = [
     NumericOp::Eqz(IntegerType::I32),
     NumericOp::IntegerComparison(IntegerType::I32, IntegerComparisonOp::Eq),
     NumericOp::IntegerComparison(IntegerType::I32, IntegerComparisonOp::Ne),
@@ -111,7 +114,7 @@ pub static NUMERIC: [NumericOp; 98] = [
 ];
 
 /// The conversions, from code 0xa7 to code 0xc4.
-pub static CONVERSIONS: [ConvertOp; 30] = [
+static CONVERSIONS: [ConvertOp; 30] = [
     ConvertOp::Wrap,
     ConvertOp::Trunc(IntegerType::I32, FloatType::F32, Sign::Signed),
     ConvertOp::Trunc(IntegerType::I32, FloatType::F32, Sign::Unsigned),
@@ -144,32 +147,16 @@ pub static CONVERSIONS: [ConvertOp; 30] = [
     ConvertOp::ExtendPacked(PackedInteger::I64Bits32),
 ];
 
-/// The conversions to integers that end at the bounds, from code 0 to code 7 behind the prefix 0xfc.
-pub static SATURATING: [ConvertOp; 8] = [
-    ConvertOp::TruncSat(IntegerType::I32, FloatType::F32, Sign::Signed),
-    ConvertOp::TruncSat(IntegerType::I32, FloatType::F32, Sign::Unsigned),
-    ConvertOp::TruncSat(IntegerType::I32, FloatType::F64, Sign::Signed),
-    ConvertOp::TruncSat(IntegerType::I32, FloatType::F64, Sign::Unsigned),
-    ConvertOp::TruncSat(IntegerType::I64, FloatType::F32, Sign::Signed),
-    ConvertOp::TruncSat(IntegerType::I64, FloatType::F32, Sign::Unsigned),
-    ConvertOp::TruncSat(IntegerType::I64, FloatType::F64, Sign::Signed),
-    ConvertOp::TruncSat(IntegerType::I64, FloatType::F64, Sign::Unsigned),
-];
+/// The operator on numbers of this code, if there is one.
+pub(crate) fn numeric_op(code: u32) -> Option<NumericOp>
+    ensures { result ≡ from 0x45 numeric_ops code }
+{
+    item(&NUMERIC, 0x45, code)
+}
 
-/// The operators on integers of 128 bits, from code 19 to code 22 behind the prefix 0xfc.
-pub static WIDE: [NumericOp; 4] = [
-    NumericOp::Add128,
-    NumericOp::Sub128,
-    NumericOp::MulWide(Sign::Signed),
-    NumericOp::MulWide(Sign::Unsigned),
-];
-
-/// Reads a constant, of this code.
-pub fn read_constant(reader: &mut BinaryReader<'_>, code: u32) -> Result<NumericOp, ReadError> {
-    match code {
-        0x41 => Ok(NumericOp::I32Const(reader.read_var_i32()?)),
-        0x42 => Ok(NumericOp::I64Const(reader.read_var_i64()?)),
-        0x43 => Ok(NumericOp::F32Const(Ieee32(reader.read_f32()?))),
-        _ => Ok(NumericOp::F64Const(Ieee64(reader.read_f64()?))),
-    }
+/// The conversion of this code, if there is one.
+pub(crate) fn conversion_op(code: u32) -> Option<ConvertOp>
+    ensures { result ≡ from 0xa7 conversion_ops code }
+{
+    item(&CONVERSIONS, 0xa7, code)
 }

@@ -1,7 +1,9 @@
 //! Bytes and numbers of a module (WebAssembly core specification, "Binary Format: Values").
 
-ghost use Rattle.std.specs.Prelude.{ℕ, ◌≡◌, ◌≤◌, ◌<◌, ◌+◌, ◌^◌, ◌↔◌, List, [], ◌∷◌, ◌++◌, Some, None, length, take, drop, true, false, IsTrue, IfOk, OnOk, IfSome, OnErr};
+ghost use Rattle.std.specs.Prelude.{ℕ, ◌≡◌, ◌≢◌, ◌≤◌, ◌<◌, ◌+◌, ◌^◌, ◌↔◌, List, [], ◌∷◌, ◌++◌, Some, None, length, take, drop, true, false, IsTrue, IfOk, OnOk, IfSome, OnErr};
 ghost use Rattle.binary_operators.specs.Integers.{unsigned, biased, signed};
+ghost use Rattle.binary_operators.specs.Values.{float32, float64};
+ghost use Rattle.binary_operators.specs.Types.{type_number};
 
 use crate::error::{Fault, ReadError};
 use crate::integers::{has_bits, last_biased, widened};
@@ -154,6 +156,7 @@ impl<'a> BinaryReader<'a> {
     pub fn reads(&mut self, code: u8) -> Result<bool, ReadError>
         ensures read { IfOk result (λ is_code. IsTrue is_code → self.old.left ≡ code ∷ self.new.left) }
         ensures passed { IfOk result (λ is_code. is_code ≡ false → self.new ≡ self.old) }
+        ensures other { IfOk result (λ is_code. is_code ≡ false → take 1 self.old.left ≢ code ∷ []) }
         ensures ended { OnErr result (self.old.left ≡ []) }
         ensures kept { OnErr result (self.new ≡ self.old) }
     {
@@ -238,6 +241,7 @@ impl<'a> BinaryReader<'a> {
     pub fn read_var_s33(&mut self) -> Result<Option<u32>, ReadError>
         ensures read { IfOk result (λ index. IfSome index (λ i. biased 33 self.old.left
             ≡ Some (i + 2 ^ 32, self.new.left))) }
+        ensures negative { IfOk result (λ index. index ≡ None → type_number self.old.left ≡ None) }
         ensures refused { OnErr result (biased 33 self.old.left ≡ None) }
     {
         let value = self.read_biased(33)?;
@@ -313,10 +317,11 @@ impl<'a> BinaryReader<'a> {
         self.part(size as usize)
     }
 
-    /// Reads the bits of a float of 32 bits.
+    /// Reads the bits of a float of 32 bits. It refuses where fewer bytes are left: `unexpected end`.
+    #[tactic(auto, unfolding(crate::specs::Values::float32))]
     pub fn read_f32(&mut self) -> Result<u32, ReadError>
-        ensures rest { OnOk result (self.new.left ≡ drop 4 self.old.left) }
-        ensures ended { OnErr result (length self.old.left < 4) }
+        ensures read { IfOk result (λ bits. float32 self.old.left ≡ Some (bits, self.new.left)) }
+        ensures refused { OnErr result (float32 self.old.left ≡ None) }
     {
         match self.read_bytes(4)? {
             [a, b, c, d] => Ok(u32::from_le_bytes([*a, *b, *c, *d])),
@@ -324,11 +329,15 @@ impl<'a> BinaryReader<'a> {
         }
     }
 
-    /// Reads the bits of a float of 64 bits.
-    pub fn read_f64(&mut self) -> Result<u64, ReadError> {
+    /// Reads the bits of a float of 64 bits. It refuses where fewer bytes are left: `unexpected end`.
+    #[tactic(auto, unfolding(crate::specs::Values::float64))]
+    pub fn read_f64(&mut self) -> Result<u64, ReadError>
+        ensures read { IfOk result (λ bits. float64 self.old.left ≡ Some (bits, self.new.left)) }
+        ensures refused { OnErr result (float64 self.old.left ≡ None) }
+    {
         let low = self.read_f32()?;
         let high = self.read_f32()?;
-        Ok(u64::from(high) << 32 | u64::from(low))
+        Ok(u64::from(high) * 0x1_0000_0000 + u64::from(low))
     }
 
     /// Reads a name (WebAssembly core specification, "Binary Format: Values", "Names"). It refuses what

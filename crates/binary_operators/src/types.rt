@@ -1,7 +1,12 @@
 //! Types (WebAssembly core specification, "Binary Format: Types"; exact types are of a proposal, "Custom
 //! Descriptors").
 
-ghost use Rattle.std.specs.Prelude.{◌≡◌, slice_get, unwrap_or};
+ghost use Rattle.std.specs.Prelude.{◌≡◌, ◌-◌, ◌^◌, length, min, slice_get, unwrap_or, Some, None, IfOk};
+ghost use Rattle.std.specs.Prelude.{OnErr};
+ghost use Rattle.binary_operators.specs.declared.types.GroupNames.TheVariants.{Indices};
+ghost use Rattle.validate_types.specs.declared.heap.HeapType.TheVariants.{Concrete};
+ghost use Rattle.binary_operators.specs.Types.{named, type_name, abstract_type, type_number, heap_type};
+ghost use Rattle.binary_operators.specs.Types.{reference_type, ref_type, value_type};
 
 use crate::error::{Fault, ReadError};
 use crate::reader::BinaryReader;
@@ -28,7 +33,10 @@ pub enum GroupNames {
 
 impl<'a> CanonicalTypes<'a> {
     /// The types of a list that says which type stands for each, where no group is being read.
-    pub fn new(canonical: &'a [u32]) -> CanonicalTypes<'a> {
+    pub fn new(canonical: &'a [u32]) -> CanonicalTypes<'a>
+        ensures { result
+            ≡ record { canonical = canonical.entry; group = Indices (min (length canonical.now) (2 ^ 32 - 1)) } }
+    {
         let count = u32::try_from(canonical.len()).unwrap_or(u32::MAX);
         CanonicalTypes {
             canonical,
@@ -53,7 +61,9 @@ impl<'a> CanonicalTypes<'a> {
     }
 
     /// What names the type at this index.
-    pub fn name(self, index: u32) -> UnpackedIndex {
+    pub fn name(self, index: u32) -> UnpackedIndex
+        ensures { result ≡ type_name self.entry index }
+    {
         if let Some(first) = self.canonical.get(index as usize) {
             return UnpackedIndex::Module(*first);
         }
@@ -94,13 +104,18 @@ static NUMBERS: [ValType; 5] = [
 ];
 
 /// The abstract type of this code, if it is one's.
-fn abstract_type(code: u8) -> Option<AbstractHeapType> {
+fn abstract_type(code: u8) -> Option<AbstractHeapType>
+    ensures { result ≡ abstract_type code }
+{
     let place = code.checked_sub(0x68)?;
     ABSTRACT.get(usize::from(place)).copied()
 }
 
 /// Reads the index of a type as an integer of 33 bits, which is no negative one.
-pub fn read_type_number(reader: &mut BinaryReader<'_>) -> Result<u32, ReadError> {
+pub fn read_type_number(reader: &mut BinaryReader<'_>) -> Result<u32, ReadError>
+    ensures read { IfOk result (λ i. type_number reader.old.left ≡ Some (i, reader.new.left)) }
+    ensures refused { OnErr result (type_number reader.old.left ≡ None) }
+{
     let offset = reader.offset();
     match reader.read_var_s33()? {
         Some(index) => Ok(index),
@@ -110,10 +125,15 @@ pub fn read_type_number(reader: &mut BinaryReader<'_>) -> Result<u32, ReadError>
 
 /// Reads a heap type. It refuses `invalid abstract heap type`, `invalid heap type` for a number that is
 /// neither a type's code nor an index, and what the reads of numbers refuse.
+#[tactic(auto, unfolding(crate::specs::Types::heap_type))]
 pub fn read_heap_type(
     reader: &mut BinaryReader<'_>,
     canonical: CanonicalTypes<'_>,
-) -> Result<HeapType, ReadError> {
+) -> Result<HeapType, ReadError>
+    ensures read { IfOk result (λ ty. heap_type canonical.entry reader.old.left
+        ≡ Some (ty, reader.new.left)) }
+    ensures refused { OnErr result (heap_type canonical.entry reader.old.left ≡ None) }
+{
     let shared = reader.reads(0x65)?;
     let offset = reader.offset();
     let code = reader.peek()?;
@@ -128,27 +148,50 @@ pub fn read_heap_type(
         reader.skip();
         return Ok(HeapType::Exact(canonical.name(reader.read_var_u32()?)));
     }
+    read_concrete(reader, canonical)
+}
+
+/// Reads a type of the module by its index.
+fn read_concrete(
+    reader: &mut BinaryReader<'_>,
+    canonical: CanonicalTypes<'_>,
+) -> Result<HeapType, ReadError>
+    ensures read { IfOk result (λ ty. named Concrete canonical.entry (type_number reader.old.left)
+        ≡ Some (ty, reader.new.left)) }
+    ensures refused { OnErr result (named Concrete canonical.entry (type_number reader.old.left) ≡ None) }
+{
     Ok(HeapType::Concrete(canonical.name(read_type_number(reader)?)))
 }
 
-/// Reads a heap type, and answers the reference to it, unless its index is too large: that is refused at the offset.
+/// Reads a heap type, and answers the reference to it, unless its index is too large: that is refused at the
+/// offset.
+#[tactic(auto, unfolding(crate::specs::Types::reference_type))]
 pub fn read_reference_to(
     reader: &mut BinaryReader<'_>,
     canonical: CanonicalTypes<'_>,
     nullable: bool,
     offset: u64,
-) -> Result<RefType, ReadError> {
+) -> Result<RefType, ReadError>
+    ensures read { IfOk result (λ ty. reference_type canonical.entry nullable reader.old.left
+        ≡ Some (ty, reader.new.left)) }
+    ensures refused { OnErr result (reference_type canonical.entry nullable reader.old.left ≡ None) }
+{
     match RefType::new(nullable, read_heap_type(reader, canonical)?) {
         Some(ty) => Ok(ty),
         None => Err(ReadError::malformed(Fault::TypeIndexTooLarge, offset)),
     }
 }
 
-/// Reads a reference type: a code and a heap type, or an abstract heap type alone, which is that of a nullable one.
+/// Reads a reference type: a code and a heap type, or an abstract heap type alone, which is that of a
+/// nullable one.
+#[tactic(auto, unfolding(crate::specs::Types::ref_type))]
 pub fn read_ref_type(
     reader: &mut BinaryReader<'_>,
     canonical: CanonicalTypes<'_>,
-) -> Result<RefType, ReadError> {
+) -> Result<RefType, ReadError>
+    ensures read { IfOk result (λ ty. ref_type canonical.entry reader.old.left ≡ Some (ty, reader.new.left)) }
+    ensures refused { OnErr result (ref_type canonical.entry reader.old.left ≡ None) }
+{
     let offset = reader.offset();
     let code = reader.peek()?;
     if code == 0x63 || code == 0x64 {
@@ -160,14 +203,31 @@ pub fn read_ref_type(
 }
 
 /// Reads a value type.
+#[tactic(auto, unfolding(crate::specs::Types::value_type))]
 pub fn read_value_type(
     reader: &mut BinaryReader<'_>,
     canonical: CanonicalTypes<'_>,
-) -> Result<ValType, ReadError> {
+) -> Result<ValType, ReadError>
+    ensures read { IfOk result (λ ty. value_type canonical.entry reader.old.left
+        ≡ Some (ty, reader.new.left)) }
+    ensures refused { OnErr result (value_type canonical.entry reader.old.left ≡ None) }
+{
     let code = reader.peek()?;
     if 0x7b <= code && code <= 0x7f {
         reader.skip();
         return Ok(NUMBERS[(code - 0x7b) as usize]);
     }
     Ok(ValType::Ref(read_ref_type(reader, canonical)?))
+}
+
+/// Reads a list of value types, behind those that are there.
+pub fn read_value_types(
+    reader: &mut BinaryReader<'_>,
+    canonical: CanonicalTypes<'_>,
+    types: &mut Vec<ValType>,
+) -> Result<(), ReadError> {
+    for _ in 0..reader.read_var_u32()? {
+        types.push(read_value_type(reader, canonical)?)?;
+    }
+    Ok(())
 }

@@ -9,17 +9,17 @@ mod types;
 
 use crate::encode::bytes_of;
 use crate::types::Bytes;
-use binary_operators::{BinaryReader, CanonicalTypes, OperatorLists, lend, read_operator};
+use binary_operators::{BinaryReader, CanonicalTypes, OperatorLists, read_operator};
 use script_reader::read_script;
 use std::alloc::Global;
 use std::process::ExitCode;
 use std::{fs, io};
 use validate_visit::Op;
 
-/// The operator that these bytes are read as, its list left out, or None where they aren't read as one.
-fn read_again<'l>(bytes: &[u8], lists: &mut OperatorLists) -> Option<Op<'l>> {
+/// The operator that these bytes are read as, or None where they aren't read as one.
+fn read_again<'l>(bytes: &[u8], lists: &'l mut OperatorLists) -> Option<Op<'l>> {
     let mut reader = BinaryReader::new(bytes);
-    match read_operator(&mut reader, CanonicalTypes::new(&[]), lists, 0) {
+    match read_operator(&mut reader, CanonicalTypes::new(&[]), lists) {
         Ok(op) if reader.is_at_end() => Some(op),
         _ => None,
     }
@@ -34,12 +34,10 @@ fn is_written_as(alloc: Global, op: Op<'_>, written: &Bytes) -> bool {
 /// Whether the operator that these bytes are read as is written as the same bytes.
 fn are_read_as_written(alloc: Global, written: &Bytes) -> bool {
     let mut lists = OperatorLists::new(alloc);
-    let Some(op) = read_again(&written.bytes, &mut lists) else {
-        return false;
-    };
-    let mut ops = [(op, 0)];
-    lend(&lists, &mut ops);
-    !written.is_short && is_written_as(alloc, ops[0].0, written)
+    match read_again(&written.bytes, &mut lists) {
+        Some(op) => !written.is_short && is_written_as(alloc, op, written),
+        None => false,
+    }
 }
 
 /// Prints of each operator that isn't read as itself its bytes, and behind them how many operators there are.

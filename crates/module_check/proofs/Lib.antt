@@ -1,1 +1,5 @@
+pub mod Accepted
+pub mod Begun
+pub mod Behind
 pub mod Locals
+pub mod Unplaced

@@ -1,35 +1,24 @@
--- The states that the bodies of a module start in (the crate's own).
-use Rattle.std.specs.Prelude.{◌≡◌, List, [], ◌∷◌, Some}
-use Rattle.validate_types.specs.declared.features.WasmFeatures.{WasmFeatures}
+-- The locals that the bytes of a function begin with (the crate's own).
+use Rattle.std.specs.Prelude.{◌≡◌, ℕ, List, Some}
+use Rattle.binary_operators.specs.Functions.{locals}
+use Rattle.binary_operators.specs.Values.{list_of}
+use Rattle.binary_operators.specs.declared.types.CanonicalTypes.{CanonicalTypes}
 use Rattle.validate_types.specs.declared.types.ValType.{ValType}
 use Rattle.validate_resources.specs.Context.{ModuleContext}
 use Rattle.validate_stacks.specs.State.{BodyState}
-use Rattle.validate_body.specs.Start.{const_start, IsFuncStart, DefinesLocals}
-use Rattle.module_check.specs.declared.read.BodyKind.{BodyKind}
-use Rattle.module_check.specs.declared.read.BodyKind.TheVariants.{Function, Expression}
-use Rattle.module_check.specs.declared.read.LocalGroup.{LocalGroup}
+use Rattle.validate_body.specs.Begin.{DefinesEach}
+use Rattle.validate_body.specs.Start.{DefinesLocals}
 
--- a constant expression starts: its type passes the check, and the frame gives the canonical form
-pub record IsExpressionStart
-    (md : ModuleContext) (features : WasmFeatures) (ty : ValType) (v : BodyState) : Type 0 where
-  pub type : ValType
-  pub is_canonical : md.canonical_type features ty ≡ Some type
-  pub starts : v ≡ const_start features type
+-- the bytes begin with a group, which defines its locals, and these bytes are behind it
+pub record DefinesGroup
+    (md : ModuleContext) (types : CanonicalTypes) (bytes rest : List ℕ) (v w : BodyState) : Type 0 where
+  pub group : ℕ × ValType
+  pub is_read : locals types bytes ≡ Some (group, rest)
+  pub defines : DefinesLocals md group.0 group.1 v w
 
--- a body of this kind starts in this state
-abbrev pub IsBodyStart : ModuleContext → WasmFeatures → BodyKind → BodyState → Type 0
-IsBodyStart md features (Function index) v = IsFuncStart md features index v
-IsBodyStart md features (Expression ty) v = IsExpressionStart md features ty v
-
--- these groups define their locals one after another, from the state v on to the state w
-abbrev pub DefinesEach : ModuleContext → List LocalGroup → BodyState → BodyState → Type 0
-DefinesEach md [] v w = v ≡ w
-DefinesEach md (l ∷ ls) v w = (u : BodyState) × DefinesLocals md l.count l.ty v u × DefinesEach md ls u w
-
--- the body's start, with exactly the locals that these groups define
-pub record HasLocals
-    (md : ModuleContext) (features : WasmFeatures) (kind : BodyKind) (groups : List LocalGroup)
-    (w : BodyState) : Type 0 where
-  pub start : BodyState
-  pub starts : IsBodyStart md features kind start
-  pub defines : DefinesEach md groups start w
+-- the bytes begin with the locals of a function, which are defined, and these bytes are behind them
+pub record DefinesRead
+    (md : ModuleContext) (types : CanonicalTypes) (bytes rest : List ℕ) (v w : BodyState) : Type 0 where
+  pub groups : List (ℕ × ValType)
+  pub are_read : list_of (locals types) bytes ≡ Some (groups, rest)
+  pub define : DefinesEach md groups v w

@@ -1,3 +1,4 @@
 pub mod Begin
+pub mod Loaded
 pub mod Safe
 pub mod Told

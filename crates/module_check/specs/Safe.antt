@@ -1,21 +1,24 @@
 -- When the bodies of a module are type safe (the crate's own).
-use Rattle.std.specs.Prelude.{◌≡◌, ℕ, List, Some}
-use Rattle.validate_visit.specs.declared.frame.BlockType.{BlockType}
-use Rattle.validate_resources.specs.Context.{ModuleContext}
-use Rattle.validate_visit.specs.declared.op.Op.{Op}
-use Rattle.validate_body.specs.Runs.{IsSafeFrom}
-use Rattle.validate_stacks.specs.State.{BodyState}
-use Rattle.validation_rules.specs.Static.{start}
+use Rattle.std.specs.Prelude.{◌≡◌, ℕ, List, []}
+use Rattle.binary_operators.specs.Expressions.{AreOperators}
+use Rattle.binary_operators.specs.Functions.{IsFunctionCode}
+use Rattle.binary_operators.specs.declared.types.CanonicalTypes.{CanonicalTypes}
 use Rattle.validate_types.specs.declared.features.WasmFeatures.{WasmFeatures}
-use Rattle.module_check.specs.Begin.{HasLocals}
-use Rattle.module_check.specs.declared.read.BodyKind.{BodyKind}
-use Rattle.module_check.specs.declared.read.BodyKind.TheVariants.{Function}
-use Rattle.module_check.specs.declared.read.LocalGroup.{LocalGroup}
+use Rattle.validate_types.specs.declared.types.ValType.{ValType}
+use Rattle.validate_visit.specs.declared.frame.BlockType.{BlockType}
+use Rattle.validate_visit.specs.declared.op.Op.{Op}
+use Rattle.validate_resources.specs.Context.{ModuleContext}
+use Rattle.validation_rules.specs.Static.{start}
+use Rattle.validate_stacks.specs.State.{BodyState}
+use Rattle.validate_body.specs.Runs.{without_offsets, IsSafeFrom}
+use Rattle.validate_body.specs.Begin.{HasLocals}
+use Rattle.validate_visit.specs.declared.body.BodyKind.{BodyKind}
+use Rattle.validate_visit.specs.declared.body.BodyKind.TheVariants.{Function, Expression}
 
 -- A body of these operators is type safe from the start of its kind, with exactly these locals: no run of it,
 -- however long, gets stuck, and what it returns fits the results.
 pub record IsSafeBody
-    (md : ModuleContext) (features : WasmFeatures) (kind : BodyKind) (groups : List LocalGroup)
+    (md : ModuleContext) (features : WasmFeatures) (kind : BodyKind) (groups : List (ℕ × ValType))
     (ops : List (Op × ℕ)) : Type 0 where
   pub begun : BodyState
   pub has_locals : HasLocals md features kind groups begun
@@ -23,10 +26,23 @@ pub record IsSafeBody
   pub one_frame : begun.present ≡ start block_type
   pub safe : IsSafeFrom md begun ops block_type
 
--- the same of the body of the function at this index, by the function's own type
-pub record IsSafeFunction
-    (md : ModuleContext) (features : WasmFeatures) (function : ℕ) (groups : List LocalGroup)
-    (ops : List (Op × ℕ)) : Type 0 where
-  pub type_index : ℕ
-  pub is_of_type : md.type_index_of function ≡ Some type_index
-  pub safe : IsSafeBody md features (Function type_index) groups ops
+-- the bytes are a body of this kind with these locals and operators: a constant expression has no locals
+abbrev pub IsCode : CanonicalTypes → BodyKind → List ℕ → List (ℕ × ValType) → List Op → Type 0
+IsCode types (Function index) bytes groups ops = IsFunctionCode types bytes groups ops
+IsCode types (Expression ty) bytes groups ops = (groups ≡ []) × AreOperators types bytes ops []
+
+-- what the bytes of a body of this kind say is type safe
+pub record IsSafeCode
+    (md : ModuleContext) (features : WasmFeatures) (types : CanonicalTypes) (kind : BodyKind)
+    (bytes : List ℕ) : Type 0 where
+  pub groups : List (ℕ × ValType)
+  pub ops : List (Op × ℕ)
+  pub is_code : IsCode types kind bytes groups (without_offsets ops)
+  pub is_safe : IsSafeBody md features kind groups ops
+
+-- what the bytes say from the state v on is type safe, if that is the start of a body
+pub record AreSafeOperators
+    (md : ModuleContext) (types : CanonicalTypes) (v : BodyState) (bytes : List ℕ) : Type 0 where
+  pub ops : List (Op × ℕ)
+  pub are_read : AreOperators types bytes (without_offsets ops) []
+  pub are_safe : (ty : BlockType) → v.present ≡ start ty → IsSafeFrom md v ops ty

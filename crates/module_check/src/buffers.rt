@@ -1,7 +1,6 @@
 //! What one body after another is checked in.
 
-ghost use Rattle.std.specs.Prelude.{◌≡◌, []};
-
+use binary_operators::OperatorLists;
 use std::alloc::Global;
 use std::mem;
 use validate_body::OperatorValidator;
@@ -12,8 +11,8 @@ use validate_stacks::OperatorValidatorAllocations;
 pub struct BodyBuffers {
     /// For the validator.
     allocations: OperatorValidatorAllocations,
-    /// For the heights behind each operator.
-    pub(crate) heights: Vec<(usize, usize)>,
+    /// For the list of one operator.
+    pub(crate) lists: OperatorLists,
 }
 
 impl BodyBuffers {
@@ -21,16 +20,12 @@ impl BodyBuffers {
     pub fn new(alloc: Global) -> BodyBuffers {
         BodyBuffers {
             allocations: OperatorValidatorAllocations::new(alloc),
-            heights: Vec::new(alloc),
+            lists: OperatorLists::new(alloc),
         }
     }
 
-    /// Takes the buffers for a validator; there are none until it gives them back. Of the body before no
-    /// heights are left.
-    pub(crate) fn take(&mut self) -> OperatorValidatorAllocations
-        ensures { self.new.heights.items ≡ [] }
-    {
-        self.heights.clear();
+    /// Takes the buffers for a validator; there are none until it gives them back.
+    pub(crate) fn take(&mut self) -> OperatorValidatorAllocations {
         let none = OperatorValidatorAllocations::new(self.allocations.allocator());
         mem::replace(&mut self.allocations, none)
     }

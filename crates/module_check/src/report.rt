@@ -1,6 +1,6 @@
 //! What the check of a body or a constant expression comes to.
 
-ghost use Rattle.std.specs.Prelude.{◌≢◌};
+ghost use Rattle.std.specs.Prelude.{◌≡◌, ◌≢◌, IsOk};
 ghost use Rattle.module_check.specs.declared.report.Verdict.TheVariants.{Accepted};
 
 use binary_modules::Place;
@@ -51,7 +51,46 @@ pub enum Verdict {
     OutOfMemory,
 }
 
+/// Why a body isn't accepted.
+#[derive(Drop)]
+pub enum Failure {
+    /// It can't be read.
+    Unread(ReadError),
+    /// The validator refuses it, or has no memory for it.
+    Refused(Error),
+}
+
+impl Failure {
+    /// A refusal with this text, at the offset.
+    pub(crate) fn refused(message: &'static str, offset: u64) -> Failure {
+        Failure::Refused(Error::new(message, offset))
+    }
+}
+
+impl From<ReadError> for Failure {
+    fn from(error: ReadError) -> Failure {
+        Failure::Unread(error)
+    }
+}
+
+impl From<Error> for Failure {
+    fn from(refusal: Error) -> Failure {
+        Failure::Refused(refusal)
+    }
+}
+
 impl Verdict {
+    /// The verdict of a body that was checked: it is accepted, or it isn't for this.
+    pub fn of_check(checked: Result<(), Failure>) -> Verdict
+        ensures { result ≡ Accepted → IsOk checked }
+    {
+        match checked {
+            Ok(()) => Verdict::Accepted,
+            Err(Failure::Unread(error)) => Verdict::of_read_error(error),
+            Err(Failure::Refused(refusal)) => Verdict::of_refusal(refusal),
+        }
+    }
+
     /// The verdict of a refusal by the validator.
     pub fn of_refusal(refusal: Error) -> Verdict
         ensures { result ≢ Accepted }

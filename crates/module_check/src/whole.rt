@@ -12,7 +12,6 @@ use validate_types::{Flags, WasmFeatures};
 
 /// Checks each constant expression.
 fn check_expressions(
-    alloc: Global,
     module: &LoadedModule<'_>,
     buffers: &mut BodyBuffers,
     text: &mut [u8],
@@ -22,15 +21,13 @@ fn check_expressions(
     ensures { IsTold (length text.new) out.new }
 {
     for expression in module.expressions() {
-        let features = WasmFeatures::all();
-        let verdict = module.verdict_of_expression(alloc, &features, expression, buffers);
+        let verdict = module.check_expression(&WasmFeatures::all(), expression, buffers);
         out.note(&verdict, Some(Item::Expression(expression.place)), text);
     }
 }
 
 /// Checks the body of the function at this index.
 fn check_body(
-    alloc: Global,
     module: &LoadedModule<'_>,
     function: u32,
     buffers: &mut BodyBuffers,
@@ -40,13 +37,12 @@ fn check_body(
     requires { IsTold (length text.old) out.old }
     ensures { IsTold (length text.new) out.new }
 {
-    let verdict = module.verdict_of_body(alloc, &WasmFeatures::all(), function, buffers);
+    let verdict = module.check_function(&WasmFeatures::all(), function, buffers);
     out.note(&verdict, Some(Item::Function(function)), text);
 }
 
 /// Checks each body and each constant expression.
 fn check_all(
-    alloc: Global,
     module: &LoadedModule<'_>,
     buffers: &mut BodyBuffers,
     text: &mut [u8],
@@ -55,16 +51,15 @@ fn check_all(
     requires { IsTold (length text.old) out.old }
     ensures { IsTold (length text.new) out.new }
 {
-    check_expressions(alloc, module, buffers, text, out);
+    check_expressions(module, buffers, text, out);
     for index in 0..module.bodies() {
         let function = module.function_of(index);
-        check_body(alloc, module, function, buffers, text, out);
+        check_body(module, function, buffers, text, out);
     }
 }
 
 /// Checks the body of the function at this index, if the module has one for it.
 fn check_one(
-    alloc: Global,
     module: &LoadedModule<'_>,
     function: u32,
     buffers: &mut BodyBuffers,
@@ -75,7 +70,7 @@ fn check_one(
     ensures { IsTold (length text.new) out.new }
 {
     if module.body_of(function).is_some() {
-        check_body(alloc, module, function, buffers, text, out);
+        check_body(module, function, buffers, text, out);
     } else {
         let item = Some(Item::Function(function));
         out.tell(
@@ -90,7 +85,6 @@ fn check_one(
 
 /// Checks each body and each constant expression, or the body of one function alone.
 fn check_chosen(
-    alloc: Global,
     module: &LoadedModule<'_>,
     function: Option<u32>,
     buffers: &mut BodyBuffers,
@@ -101,8 +95,8 @@ fn check_chosen(
     ensures { IsTold (length text.new) out.new }
 {
     match function {
-        Some(function) => check_one(alloc, module, function, buffers, text, out),
-        None => check_all(alloc, module, buffers, text, out),
+        Some(function) => check_one(module, function, buffers, text, out),
+        None => check_all(module, buffers, text, out),
     }
 }
 
@@ -118,7 +112,7 @@ fn check_loaded(
     ensures { IsTold (length text.new) out.new }
 {
     let mut buffers = BodyBuffers::new(alloc);
-    check_chosen(alloc, module, function, &mut buffers, text, out);
+    check_chosen(module, function, &mut buffers, text, out);
 }
 
 /// The status of a verdict.

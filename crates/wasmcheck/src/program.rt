@@ -3,7 +3,6 @@
 use crate::options::{Detail, Options, Wish, read_options};
 use crate::print::{Report, print_module_verdict};
 use module_check::{BodyBuffers, Item, LoadedModule, Verdict};
-use std::alloc::Global;
 use std::io::{BufWriter, IsTerminal, Read, Write};
 use std::{fs, io};
 use validate_types::WasmFeatures;
@@ -66,7 +65,6 @@ fn read_input(rt: &HostRuntime, file: &Option<String>) -> io::Result<Vec<u8>> {
 
 /// Checks each constant expression.
 fn check_expressions<W: Write>(
-    alloc: Global,
     out: &mut W,
     module: &LoadedModule<'_>,
     features: &WasmFeatures,
@@ -74,7 +72,7 @@ fn check_expressions<W: Write>(
     report: &mut Report<'_>,
 ) -> io::Result<()> {
     for expression in module.expressions() {
-        let verdict = module.verdict_of_expression(alloc, features, expression, buffers);
+        let verdict = module.check_expression(features, expression, buffers);
         report.tell(out, Item::Expression(expression.place), &verdict)?;
     }
     Ok(())
@@ -103,7 +101,7 @@ fn check_bodies<W: Write>(
     for index in 0..all {
         tell_progress(rt, index, all);
         let function = module.function_of(index);
-        let verdict = module.verdict_of_body(rt.alloc(), features, function, buffers);
+        let verdict = module.check_function(features, function, buffers);
         report.tell(out, Item::Function(function), &verdict)?;
     }
     Ok(())
@@ -118,7 +116,7 @@ fn check_items<W: Write>(
     buffers: &mut BodyBuffers,
     report: &mut Report<'_>,
 ) -> io::Result<()> {
-    check_expressions(rt.alloc(), out, module, features, buffers, report)?;
+    check_expressions(out, module, features, buffers, report)?;
     check_bodies(rt, out, module, features, buffers, report)
 }
 

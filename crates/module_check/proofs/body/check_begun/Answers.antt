@@ -1,18 +1,17 @@
+-- What was read and accepted is the code of the body.
 use Rattle.validate_body.specs.Start.{state}
+use Rattle.module_check.proofs.Begun.{function_code, expression_code}
 use Rattle.module_check.proofs.body.check_begun.Goals as goal
 
-pub returns-in-Ok-clause-safe : goal.returns-in-Ok-clause-safe
-returns-in-Ok-clause-safe g c = λ e features kind starts.
-    let begun = c.in-Ok.ensures.starting in
-    let safe = c.check_list.ensures.safe e begun.block_type begun.one_frame in
-    record {
-      begun = state c.define_each.new.validator;
-      has_locals = record {
-        start = state c.args.v.now;
-        starts = starts;
-        defines = rw (← c.deref.ensures.value) c.in-Ok.ensures.defined;
-      };
-      block_type = begun.block_type;
-      one_frame = begun.one_frame;
-      safe = rw (← c.deref-in-Ok.ensures.value) safe;
-    }
+pub returns-in_ok-check_operators-in-Function : goal.returns-in_ok-check_operators-in-Function
+returns-in_ok-check_operators-in-Function g c = λ features starts.
+    let defined = c.in_ok-define_locals-in-Function.ensures in
+    function_code (g.R.WasmModuleResources.context c.args.resources.now) features c.args.canonical (state c.args.v.now)
+    (state c.define_locals.new.v) c.args.reader.now.left c.define_locals.new.reader.left c.args.kind c.in-Function.field-0
+    c.in-Function.is starts defined.defined defined.starting c.in_ok-check_operators-in-Function.ensures
+
+pub returns-in_ok-check_operators-in-Expression : goal.returns-in_ok-check_operators-in-Expression
+returns-in_ok-check_operators-in-Expression g c = λ features starts.
+    expression_code (g.R.WasmModuleResources.context c.args.resources.now) features c.args.canonical (state c.args.v.now)
+    c.args.reader.now.left c.args.kind c.in-Expression.field-0 c.in-Expression.is starts c.requires
+    c.in_ok-check_operators-in-Expression.ensures

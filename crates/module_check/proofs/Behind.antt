@@ -1,0 +1,74 @@
+-- One more operator of the bytes of a body, of which no list is kept.
+use Rattle.std.proofs.Common.{◌≡◌, ◌≢◌, ℕ, List, [], ◌∷◌, ◌++◌, length, Some, Ok, is_none, ◌||◌, refl, sym, ap, ◌∙◌, subst, arith}
+use Rattle.std.proofs.lemmas.List.{map-append}
+use Rattle.binary_operators.specs.Expressions.{AreOperators}
+use Rattle.binary_operators.specs.Instructions.{operator as read_as}
+use Rattle.binary_operators.specs.Unplaced.{unplaced}
+use Rattle.binary_operators.specs.declared.types.CanonicalTypes.{CanonicalTypes}
+use Rattle.binary_operators.proofs.Sequences.{one_more_operator}
+use Rattle.validate_resources.specs.Context.{ModuleContext, IsLawful}
+use Rattle.validate_visit.specs.declared.op.Op.{Op}
+use Rattle.validation_rules.specs.Operators.{operator}
+use Rattle.validation_rules.specs.Static.{Frame, step, frame_count}
+use Rattle.validate_stacks.specs.Attempts.{Stacked, is_quiet}
+use Rattle.validate_stacks.specs.Pops.{IsKept}
+use Rattle.validate_stacks.specs.State.{BodyState, body_context, IsStarting, IsValidBody}
+use Rattle.validate_stacks.specs.Visits.{MayVisit, Meets}
+use Rattle.validate_stacks.proofs.Validity.{kept_on}
+use Rattle.validate_body.specs.Runs.{without_offsets, body_before}
+use Rattle.validate_body.proofs.Listed.{visited, visit_valid, visit_kept, safe_accepted}
+use Rattle.module_check.specs.Safe.{AreSafeOperators}
+use Rattle.module_check.proofs.Accepted.{run_more, accepted_whole}
+use Rattle.module_check.proofs.Unplaced.{same_operator}
+
+-- the bytes began with some operators, behind which these are left, and the state u is the one behind them
+pub record IsBehind (md : ModuleContext) (types : CanonicalTypes) (v u : BodyState) (bytes left : List ℕ) : Type 0 where
+  pub ops : List (Op × ℕ)
+  pub read : AreOperators types bytes (without_offsets ops) left
+  pub run : body_before md v ops (length ops) ≡ Some u.present
+  pub valid : IsValidBody md u
+  pub kept : IsKept v u
+
+pub at_start : (md : ModuleContext) (types : CanonicalTypes) (v : BodyState) (bytes : List ℕ) → IsStarting md v → IsBehind md types v v bytes bytes
+at_start md types v bytes s = record { ops = []; read = refl; run = refl; valid = s.is_valid; kept = refl }
+
+some_frames : (fs : List Frame) → length fs ≢ 0 → fs ≢ []
+some_frames [] h e = h refl
+some_frames (f ∷ fs) h e = absurd cc
+
+no_frames : (fs : List Frame) → length fs ≡ 0 → fs ≡ []
+no_frames [] h = refl
+no_frames (f ∷ fs) h = absurd (omega (arith, h))
+
+module _ (md : ModuleContext) (types : CanonicalTypes) (v : BodyState) (bytes left : List ℕ) where
+  pub may_visit : (u : Stacked) (n : ℕ) → IsStarting md v → n ≡ frame_count u.body.present → n ≢ 0 → IsBehind md types v u.body bytes left → MayVisit md u
+  may_visit u n s e h b = record {
+    open_frame = some_frames u.body.present.frames (λ z. h (e ∙ z));
+    valid = b.valid;
+    attempt = ap (λ p. is_none p || is_quiet u.phase) (ap (λ (x : BodyState). x.undone) b.kept ∙ s.none_pending);
+  }
+
+  pub one_more : (u w : BodyState) (op : Op) (offset : ℕ) (rest : List ℕ) (x : Unit {0}) → IsBehind md types v u bytes left → read_as types left ≡ Some (unplaced op, rest) → Meets md (λ cx. operator cx op) offset u (Ok x) w → IsBehind md types v w bytes rest
+  one_more u w op offset rest x b e m =
+      let cx = body_context md v in
+      let placed : step cx (operator cx op) u.present ≡ Some w.present =
+      sym (ap (λ (y : BodyState). step (body_context md y) (operator (body_context md y) op) u.present) b.kept) ∙ visited md op offset u w x m in
+      let row : step cx (operator cx (unplaced op)) u.present ≡ Some w.present =
+      ap (λ o. step cx o u.present) (same_operator cx op) ∙ placed in
+      record {
+        ops = b.ops ++ (unplaced op, offset) ∷ [];
+        read = subst (λ l. AreOperators types bytes l rest) (sym (map-append (λ (p : Op × ℕ). p.0) b.ops ((unplaced op, offset) ∷ [])))
+            (one_more_operator types bytes (without_offsets b.ops) left (unplaced op) rest b.read e);
+        run = run_more cx b.ops (unplaced op, offset) v.present u.present w.present b.run row;
+        valid = visit_valid md _ _ u w _ m;
+        kept = kept_on v u w b.kept (visit_kept md _ _ u w _ m);
+      }
+
+  pub whole : (u : BodyState) (n : ℕ) → IsBehind md types v u bytes left → left ≡ [] → n ≡ frame_count u.present → n ≡ 0 → IsLawful md → AreSafeOperators md types v bytes
+  whole u n b e c z laws =
+      let accepted = accepted_whole md v b.ops u.present b.run (no_frames u.present.frames (sym c ∙ z)) in
+      record {
+        ops = b.ops;
+        are_read = subst (λ l. AreOperators types bytes (without_offsets b.ops) l) e b.read;
+        are_safe = λ ty s. safe_accepted md v b.ops ty laws s accepted;
+      }

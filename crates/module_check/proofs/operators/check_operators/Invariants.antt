@@ -1,0 +1,8 @@
+-- Some operators were read and accepted, and the validator is in the state behind them.
+use Rattle.validate_body.specs.Start.{state}
+use Rattle.module_check.proofs.Behind.{IsBehind}
+use Rattle.module_check.proofs.operators.check_operators.Given as goal
+
+abbrev pub invariant-loop : goal.invariant-loop
+invariant-loop g l =
+    IsBehind (g.R.WasmModuleResources.context l.resources) l.fn.canonical (state l.fn.v) (state l.v) l.fn.reader.left l.reader.left

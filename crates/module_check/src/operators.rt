@@ -1,0 +1,102 @@
+//! The operators of a body, which are read and handed to its validator one by one.
+
+ghost use Rattle.std.specs.Prelude.{◌≢◌, OnOk};
+ghost use Rattle.validate_stacks.specs.State.{IsStarting};
+ghost use Rattle.validate_body.specs.Start.{state};
+ghost use Rattle.module_check.specs.Begin.{DefinesGroup, DefinesRead};
+ghost use Rattle.module_check.specs.Safe.{AreSafeOperators};
+
+use crate::report::Failure;
+use binary_operators::{
+    BinaryReader, CanonicalTypes, Fault, OperatorLists, ReadError, read_operator, read_value_type,
+};
+use validate_body::OperatorValidator;
+use validate_resources::WasmModuleResources;
+use validate_types::Error;
+use validate_visit::{ControlOp, Op};
+
+/// Reads a group of locals, and defines them in a body that starts.
+fn define_group<R: WasmModuleResources>(
+    v: &mut OperatorValidator,
+    resources: &R,
+    reader: &mut BinaryReader<'_>,
+    canonical: CanonicalTypes<'_>,
+) -> Result<(), Failure>
+    requires { IsStarting (R.context resources.now) (state v.old) }
+    ensures starting { OnOk result (IsStarting (R.context resources.now) (state v.new)) }
+    ensures defined { OnOk result (DefinesGroup (R.context resources.now) canonical.entry reader.old.left
+        reader.new.left (state v.old) (state v.new)) }
+{
+    let offset = reader.offset();
+    let count = reader.read_var_u32()?;
+    let ty = read_value_type(reader, canonical)?;
+    v.define_locals(offset, count, ty, resources)?;
+    Ok(())
+}
+
+/// Reads the locals of a function, and defines them in its body, which starts.
+#[tactic(auto, unfolding(binary_operators::specs::Values::list_of))]
+pub(crate) fn define_locals<R: WasmModuleResources>(
+    v: &mut OperatorValidator,
+    resources: &R,
+    reader: &mut BinaryReader<'_>,
+    canonical: CanonicalTypes<'_>,
+) -> Result<(), Failure>
+    requires { IsStarting (R.context resources.now) (state v.old) }
+    ensures starting { OnOk result (IsStarting (R.context resources.now) (state v.new)) }
+    ensures defined { OnOk result (DefinesRead (R.context resources.now) canonical.entry reader.old.left
+        reader.new.left (state v.old) (state v.new)) }
+{
+    let groups = reader.read_var_u32()?;
+    for _ in 0..groups {
+        define_group(v, resources, reader, canonical)?;
+    }
+    Ok(())
+}
+
+/// Whether the operator names a global past so many.
+fn has_later_global(op: &Op<'_>, globals: usize) -> bool {
+    match op {
+        Op::Control(ControlOp::GlobalGet(index)) => *index as usize >= globals,
+        _ => false,
+    }
+}
+
+/// Reads operators up to the end of the bytes, and checks each by the validator of their body, which starts.
+/// Globals past so many are unknown. It refuses what their reads refuse; what the validator refuses; an
+/// operator behind the one that closes the body; and, at the end, a body that is open.
+pub(crate) fn check_operators<R: WasmModuleResources>(
+    v: &mut OperatorValidator,
+    resources: &R,
+    reader: &mut BinaryReader<'_>,
+    canonical: CanonicalTypes<'_>,
+    lists: &mut OperatorLists,
+    globals: usize,
+) -> Result<(), Failure>
+    requires { IsStarting (R.context resources.now) (state v.old) }
+    ensures { OnOk result (AreSafeOperators (R.context resources.now) canonical.entry (state v.old)
+        reader.old.left) }
+{
+    for _ in 0..=reader.bytes_left() {
+        let is_closed = v.control_stack_height() == 0;
+        let offset = reader.offset();
+        if reader.is_at_end() {
+            if is_closed {
+                return Ok(());
+            }
+            return Err(Failure::refused(
+                "control frames remain at end of function body or expression",
+                offset,
+            ));
+        }
+        let op = read_operator(reader, canonical, lists)?;
+        if is_closed {
+            return Err(Failure::refused("operators remaining after end of function", offset));
+        }
+        if has_later_global(&op, globals) {
+            return Err(Failure::refused("unknown global: global index out of bounds", offset));
+        }
+        v.check(resources, offset, op)?;
+    }
+    Err(Failure::Unread(ReadError::malformed(Fault::UnexpectedEnd, reader.offset())))
+}

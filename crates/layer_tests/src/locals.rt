@@ -44,43 +44,62 @@ fn parameters_begin_set(rt: HostRuntime) -> Result<(), OutOfMemory> {
     Ok(())
 }
 
-/// Locals of so many of each of these types print so at their end.
-fn expect_end(
-    rt: &(impl Abort + AllocGlobal),
-    declared: &[(u32, ValType)],
-    end: &str,
-) -> Result<(), Fail> {
+/// Locals of so many of each of these types.
+fn defined(rt: &impl AllocGlobal, declared: &[(u32, ValType)]) -> Result<Locals, OutOfMemory> {
     let mut locals = Locals::new(rt.alloc());
     for (count, ty) in declared {
         locals.define(*count, *ty)?;
     }
-    let printed = format!(in rt.alloc(); "{locals:?}")?;
-    expect(rt, printed.ends_with(end));
+    Ok(locals)
+}
+
+/// The text between a word and the bracket that closes its list.
+fn list_behind<'a>(text: &'a str, word: &str) -> &'a str {
+    let (_, behind) = text.split_once(word).unwrap_or(("", ""));
+    let (list, _) = behind.split_once("]").unwrap_or(("", ""));
+    list
+}
+
+/// The first fifty are held plainly, and behind them equal types are one run, however many: each with the greatest index
+/// of the run. No clause says how they are held.
+#[test]
+fn further_locals_are_held_in_runs(rt: HostRuntime) -> Result<(), Fail> {
+    for (declared, runs) in [
+        (
+            [(2, ValType::I32), (60, ValType::I64), (0, ValType::F32)],
+            "(61, I64)",
+        ),
+        (
+            [(49, ValType::I32), (3, ValType::I64), (0, ValType::F32)],
+            "(51, I64)",
+        ),
+        (
+            [(50, ValType::I32), (1, ValType::I64), (1, ValType::F32)],
+            "(50, I64), (51, F32)",
+        ),
+        (
+            [(50_000, ValType::I32), (0, ValType::I64), (0, ValType::F32)],
+            "(49999, I32)",
+        ),
+    ] {
+        let locals = defined(&rt, &declared)?;
+        let printed = format!(in rt.alloc(); "{locals:?}")?;
+        expect_same(
+            &rt,
+            list_behind(&printed, " first: [").split(", ").count(),
+            50,
+        );
+        expect_same(&rt, list_behind(&printed, " uncached: ["), runs);
+    }
     Ok(())
 }
 
-/// Behind the first fifty, equal types are one run, however many. No clause says how they are held.
+/// Fifty thousand are as many as there may be: more are refused, and none more is none.
 #[test]
-fn further_locals_are_held_in_runs(rt: HostRuntime) -> Result<(), Fail> {
-    for (declared, end) in [
-        (
-            [(2, ValType::I32), (60, ValType::I64)],
-            " I64], uncached: [(61, I64)] }",
-        ),
-        (
-            [(49, ValType::I32), (3, ValType::I64)],
-            " I32, I64], uncached: [(51, I64)] }",
-        ),
-        (
-            [(50, ValType::I32), (1, ValType::F32)],
-            " I32], uncached: [(50, F32)] }",
-        ),
-        (
-            [(20_000, ValType::I32), (30_000, ValType::I32)],
-            " I32], uncached: [(49999, I32)] }",
-        ),
-    ] {
-        expect_end(&rt, &declared, end)?;
-    }
+fn no_more_than_fifty_thousand_locals(rt: HostRuntime) -> Result<(), OutOfMemory> {
+    let mut locals = defined(&rt, &[(50_000, ValType::I32)])?;
+    expect(&rt, !locals.define(u32::MAX, ValType::I32)?);
+    expect(&rt, locals.define(0, ValType::I32)?);
+    expect_same(&rt, locals.len_locals(), 50_000);
     Ok(())
 }

@@ -4,7 +4,7 @@ ghost use Rattle.std.specs.Prelude.{◌≡◌, IfOk, true, false, List, []};
 ghost use Rattle.std.specs.List.{list_all};
 ghost use Rattle.validate_visit.specs.Immediates.{is_module_op};
 ghost use Rattle.validate_visit.specs.Order.{is_well_ordered_list};
-ghost use Rattle.validate_body.specs.Runs.{without_offsets, IsAcceptedBody, IsSafeFrom};
+ghost use Rattle.validate_body.specs.Runs.{without_offsets, IsAcceptedBody, IsSafe};
 ghost use Rattle.validate_body.specs.Start.{state};
 ghost use Rattle.validate_stacks.specs.State.{BodyState, IsStarting};
 ghost use Rattle.validation_rules.specs.Static.{start};
@@ -181,11 +181,12 @@ fn check_any<R: WasmModuleResources>(
 
 /// The law of type safety, of a lookup over lists: what `safety_law` promises of any lookup.
 fn lists_are_safe(lists: &ModuleLists)
-    ensures { (v : BodyState) → (ty : _) → (ops : List _)
-        → IsStarting (⟦<ModuleLists as WasmModuleResources>⟧.context lists.now) v → v.present ≡ start ty
-        → is_well_ordered_list (without_offsets ops) ≡ true → list_all (λ (p : _). is_module_op p.0) ops
-        ≡ true → IsAcceptedBody (⟦<ModuleLists as WasmModuleResources>⟧.context lists.now) v ops
-        → IsSafeFrom (⟦<ModuleLists as WasmModuleResources>⟧.context lists.now) v ops ty }
+    ensures { (v : BodyState) → (ops : List _)
+        → IsStarting (⟦<ModuleLists as WasmModuleResources>⟧.context lists.now) v
+        → is_well_ordered_list (without_offsets ops) ≡ true
+        → list_all (λ (p : _). is_module_op p.0) ops ≡ true
+        → IsAcceptedBody (⟦<ModuleLists as WasmModuleResources>⟧.context lists.now) v ops
+        → IsSafe (⟦<ModuleLists as WasmModuleResources>⟧.context lists.now) v ops }
 {
     safety_law(lists)
 }

@@ -1,4 +1,5 @@
-//! Function validators: one that has failed, and a body for each group of operators, each visited and each attempted.
+//! Function validators: one that has failed, one of which an attempt was refused, and a body for each group of
+//! operators, each visited and each attempted.
 //!
 //! The bodies pass whichever request for memory is refused, one in a run: behind a visit without memory everything is
 //! there at a second try in a new function; an attempt without memory is accepted when it comes again. `.ci/growths`
@@ -14,10 +15,18 @@ use std::process::Abort;
 use wasmparser_validate::func::FuncValidator;
 use wasmparser_validate::operators::OperatorValidatorAllocations;
 use wasmparser_validate::resources::WasmModuleResources;
-use wasmparser_validate::types::Error;
-use wasmparser_validate::visit::{IntegerBinaryOp, IntegerType, NumericOp, Op};
+use wasmparser_validate::types::{Error, ValType};
+use wasmparser_validate::visit::{
+    ControlOp, FrameKind, IntegerBinaryOp, IntegerType, NumericOp, Op,
+};
 
 const I32_CONST: Op<'static> = Op::Numeric(NumericOp::I32Const(7));
+
+const I64_CONST: Op<'static> = Op::Numeric(NumericOp::I64Const(5));
+
+const DROP: Op<'static> = Op::Control(ControlOp::Drop);
+
+const END: Op<'static> = Op::Control(ControlOp::End);
 
 const I32_ADD: Op<'static> = Op::Numeric(NumericOp::IntegerBinary(
     IntegerType::I32,
@@ -147,5 +156,49 @@ fn a_failed_one_refuses_whatever_comes(rt: HostRuntime) -> Result<(), Lack> {
     let setting = Setting::read(&rt, HEAD)?;
     let v = setting.validator(OperatorValidatorAllocations::new(rt.alloc()))?;
     expect_refusals(&rt, &mut FuncValidator::new(rt.alloc(), v, &setting.lists));
+    Ok(())
+}
+
+/// What can be asked of a function whose operands are an i64 and an i32.
+fn expect_two_operands<R: WasmModuleResources>(
+    rt: &impl Abort,
+    function: &FuncValidator<'static, '_, R>,
+) {
+    expect_same(rt, function.operand_stack_height(), 2);
+    expect_same(rt, function.control_stack_height(), 1);
+    expect_same(rt, function.peek_operand_at(0), Some(Some(ValType::I32)));
+    expect_same(rt, function.peek_operand_at(1), Some(Some(ValType::I64)));
+    expect_same(rt, function.peek_operand_at(2), None);
+    expect_same(rt, function.current_frame(), Some(FrameKind::Block));
+    expect_same(rt, function.get_operand_type(1), Some(Some(ValType::I64)));
+    expect_same(rt, function.get_frame(0), Some(&function.first_frame()));
+    expect_same(rt, function.get_control_frame(1), None);
+    expect_same(rt, function.accepted().len(), 2);
+    expect(rt, !function.is_failed());
+}
+
+/// An attempt that is refused leaves no trace: the two constants are dropped, and the function ends.
+fn expect_five_accepted<R: WasmModuleResources>(
+    rt: &impl Abort,
+    function: &mut FuncValidator<'static, '_, R>,
+) -> Result<(), Error> {
+    accept_each(rt, function, &[(I64_CONST, 1), (I32_CONST, 2)], false)?;
+    let mismatch = "type mismatch: expected i32, found i64";
+    expect_refused(rt, function, I32_ADD, true, mismatch);
+    expect_two_operands(rt, function);
+    accept_each(rt, function, &[(DROP, 4), (DROP, 5), (END, 6)], false)?;
+    expect_same(rt, function.accepted().len(), 5);
+    function.finish(6)
+}
+
+#[test]
+fn an_attempt_that_is_refused_leaves_no_trace(rt: HostRuntime) -> Result<(), Lack> {
+    let setting = Setting::read(&rt, "type func ->\nfunc 0\nlocal 3 i64")?;
+    let v = setting.validator(OperatorValidatorAllocations::new(rt.alloc()))?;
+    let mut function = FuncValidator::new(rt.alloc(), v, &setting.lists);
+    expect_same(&rt, function.len_locals(), 3);
+    expect_same(&rt, function.get_local_type(2), Some(ValType::I64));
+    expect_same(&rt, function.get_local_type(3), None);
+    expect_five_accepted(&rt, &mut function)?;
     Ok(())
 }

@@ -14,6 +14,7 @@ ghost use Rattle.wasmparser_validate.specs.Start.{state, stacks_of};
 use crate::answers::answer_in;
 use crate::expectations::{expect, expect_text};
 use crate::lack::Lack;
+use crate::names::visit_named;
 use crate::texts::{expect_said, said, seen};
 use script_parts::{OperatorList, read_words};
 use script_reader::read_operator;
@@ -28,6 +29,8 @@ use wasmparser_validate::visit::{Op, VisitOperator};
 pub enum Way {
     /// They are visited.
     Visited,
+    /// They are visited by their own names.
+    Named,
     /// They are visited within an attempt, which is taken back: those with a `try`.
     Undone,
     /// They are attempted and taken back, and then attempted again.
@@ -44,7 +47,21 @@ pub fn visit<R: WasmModuleResources>(
     ensures valid { IsValidBody (R.context lists.now) (state v.new) }
     ensures kept { IsKept (state v.old) (state v.new) }
 {
-    visit_by_row(v, lists, op)
+    visit_either(v, lists, op, false)
+}
+
+/// The same, by the operator's own name or not.
+fn visit_either<R: WasmModuleResources>(
+    v: &mut OperatorValidator,
+    lists: &R,
+    op: Op<'_>,
+    is_named: bool,
+) -> Result<(), Error>
+    requires { MayVisit (R.context lists.now) (stacks_of v.old) }
+    ensures valid { IsValidBody (R.context lists.now) (state v.new) }
+    ensures kept { IsKept (state v.old) (state v.new) }
+{
+    visit_by_row(v, lists, op, is_named)
 }
 
 /// The same, with all that it promises.
@@ -52,26 +69,31 @@ fn visit_by_row<R: WasmModuleResources>(
     v: &mut OperatorValidator,
     lists: &R,
     op: Op<'_>,
+    is_named: bool,
 ) -> Result<(), Error>
     requires { MayVisit (R.context lists.now) (stacks_of v.old) }
     ensures { Meets (R.context lists.now) (λ cx. operator cx op.entry) 7 (state v.old) result (state v.new) }
 {
+    if is_named {
+        return visit_named(v, lists, op);
+    }
     v.with_resources(lists, 7).visit_operator(op)
 }
 
-/// Visits the operator.
+/// Visits the operator, by its own name or not.
 fn expect_visited<R: WasmModuleResources>(
     rt: &(impl Abort + AllocGlobal),
     v: &mut OperatorValidator,
     lists: &R,
     op: Op<'_>,
+    is_named: bool,
     wanted: &str,
 ) -> Result<(), Lack>
     requires { MayVisit (R.context lists.now) (stacks_of v.old) }
     ensures valid { IsValidBody (R.context lists.now) (state v.new) }
     ensures kept { IsKept (state v.old) (state v.new) }
 {
-    let answer = visit(v, lists, op);
+    let answer = visit_either(v, lists, op, is_named);
     let said = said(rt, v, answer)?;
     expect_said(rt, &said, wanted);
     Ok(())
@@ -163,7 +185,8 @@ fn expect_op<R: WasmModuleResources>(
     ensures valid { OnOk result (IsValidBody (R.context lists.now) (state v.new)) }
 {
     match way {
-        Way::Visited => expect_visited(rt, v, lists, op, wanted),
+        Way::Visited => expect_visited(rt, v, lists, op, false, wanted),
+        Way::Named => expect_visited(rt, v, lists, op, true, wanted),
         Way::Undone => expect_undone(rt, v, lists, op, wanted),
         Way::Attempted => expect_attempted(rt, v, lists, op, wanted),
     }

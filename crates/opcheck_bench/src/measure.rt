@@ -12,14 +12,14 @@ ghost use Rattle.validate_stacks.specs.Pops.{IsKept};
 ghost use Rattle.validate_stacks.specs.State.{IsStarting, IsValidBody};
 
 use crate::failure::Failure;
-use opcheck_script::begin_body;
-use script_reader::{BodyLine, LocalLine};
+use script_reader::BodyLine;
 use std::alloc::Global;
 use std::time::Instant;
-use validate_body::{OperatorValidator, check_ops, try_op};
+use validate_body::{OperatorValidator, begin_body, check_ops, try_op};
 use validate_resources::{ModuleLists, WasmModuleResources};
+use validate_stacks::OperatorValidatorAllocations;
 use validate_types::WasmFeatures;
-use validate_visit::{Op, have_module_immediates, is_well_ordered};
+use validate_visit::{LocalGroup, Op, have_module_immediates, is_well_ordered};
 
 /// A body, in its module.
 #[derive(Clone, Copy)]
@@ -33,7 +33,7 @@ pub struct Subject<'a> {
     /// The `func` or `expr` line.
     pub body: BodyLine,
     /// The `local` lines.
-    pub locals: &'a [LocalLine],
+    pub locals: &'a [LocalGroup],
     /// The operators.
     pub ops: &'a [(Op<'a>, u64)],
     /// Of each whether it is attempted.
@@ -117,11 +117,12 @@ fn time(
 {
     heights.clear();
     let Ok(mut validator) = begin_body(
-        subject.alloc,
         subject.module,
         subject.features,
-        subject.body,
+        subject.body.kind,
+        subject.body.offset,
         subject.locals,
+        OperatorValidatorAllocations::new(subject.alloc),
     ) else {
         return Err(Failure::Refused);
     };

@@ -1,3 +1,2 @@
-pub mod Locals
 pub mod Reports
 mod Attempts

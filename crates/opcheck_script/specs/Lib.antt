@@ -1,5 +1,4 @@
 pub mod Status
 pub mod Attempts
-pub mod Begin
 pub mod Reports
 pub mod Texts

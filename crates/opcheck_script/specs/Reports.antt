@@ -8,13 +8,14 @@ use Rattle.validate_resources.specs.Context.{ModuleContext}
 use Rattle.validate_resources.specs.Lists.{Declared, context_of, module_of}
 use Rattle.validate_visit.specs.Immediates.{is_module_op}
 use Rattle.validate_visit.specs.Order.{is_well_ordered_list}
+use Rattle.validate_visit.specs.declared.body.LocalGroup.{LocalGroup}
 use Rattle.validate_visit.specs.declared.frame.BlockType.{BlockType}
 use Rattle.validate_visit.specs.declared.op.Op.{Op}
 use Rattle.validate_stacks.specs.State.{BodyState}
 use Rattle.validation_rules.specs.Static.{State, start}
+use Rattle.validate_body.specs.Begin.{HasLocals, CannotBegin, without_places}
 use Rattle.validate_body.specs.Runs.{without_offsets, body_before, AreHeightsAfter, IsRefusedAt, IsSafeFrom}
 use Rattle.opcheck_script.specs.Attempts.{Attempted, RunsEach, accepted_of}
-use Rattle.opcheck_script.specs.Begin.{HasLocals, CannotBegin}
 use Rattle.opcheck_script.specs.declared.failure.BadScript.TheVariants.{Order, Module}
 use Rattle.opcheck_script.specs.declared.failure.Failure.{Failure}
 use Rattle.opcheck_script.specs.declared.failure.Failure.TheVariants.{BadScript, OutOfMemory}
@@ -22,7 +23,6 @@ use Rattle.opcheck_script.specs.declared.report.Report.{Report}
 use Rattle.opcheck_script.specs.declared.report.Answers.{Answers}
 use Rattle.opcheck_script.specs.declared.report.Answers.TheVariants.{Heights, Each}
 use Rattle.script_parts.specs.declared.script.BodyLine.{BodyLine}
-use Rattle.script_parts.specs.declared.script.LocalLine.{LocalLine}
 use Rattle.script_parts.specs.declared.script.Script.{Script}
 
 -- the operators can be those of a body: they are in order, and their immediates those of a module
@@ -66,7 +66,7 @@ pub record ScriptBody : Type 0 where
   pub features : WasmFeatures
   pub shows : Bool
   pub line : BodyLine
-  pub locals : List LocalLine
+  pub locals : List LocalGroup
   pub operators : Attempted
 
 abbrev pub script_body : Script → ScriptBody
@@ -83,7 +83,7 @@ script_body script =
 -- at the end, the body of those that were accepted is type safe
 pub record IsRun (md : ModuleContext) (body : ScriptBody) (report : Report) : Type 0 where
   pub begun : BodyState
-  pub has_locals : HasLocals md body.features body.line.body body.locals begun
+  pub has_locals : HasLocals md body.features body.line.kind (without_places body.locals) begun
   pub runs : Runs md begun body.shows body.operators report.answers report.outcome
   pub block_type : BlockType
   pub one_frame : begun.present ≡ start block_type
@@ -101,7 +101,8 @@ pub record IsRefusedBefore (md : ModuleContext) (body : ScriptBody) (report : Re
   pub refusal : Refusal
   pub is_outcome : report.outcome ≡ Err refusal
   pub cause :
-      refusal.wants_memory ≡ false → CannotBegin md body.features body.line body.locals refusal.offset
+      refusal.wants_memory ≡ false →
+      CannotBegin md body.features body.line.kind body.line.offset body.locals refusal.offset
   pub none_noted : HasNone report.answers
 
 abbrev pub IsReport : ModuleContext → ScriptBody → Report → Type 0

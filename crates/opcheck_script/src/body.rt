@@ -4,10 +4,8 @@ ghost use Rattle.std.specs.Prelude.{◌≡◌, ◌≢◌, ◌<◌, ◌||◌, tru
 ghost use Rattle.std.specs.List.{list_all, list_any};
 ghost use Rattle.validate_visit.specs.Immediates.{is_module_op};
 ghost use Rattle.validate_visit.specs.Order.{is_well_ordered_list};
-ghost use Rattle.validate_visit.specs.declared.frame.BlockType.{BlockType};
-ghost use Rattle.validation_rules.specs.Static.{start};
 ghost use Rattle.validate_stacks.specs.State.{IsStarting, body_context};
-ghost use Rattle.validate_body.specs.Runs.{without_offsets, IsSafeFrom};
+ghost use Rattle.validate_body.specs.Runs.{without_offsets, IsSafe};
 ghost use Rattle.validate_body.specs.Start.{state};
 ghost use Rattle.validate_func.specs.Functions.{function_from, Accepts, Refuses};
 ghost use Rattle.opcheck_script.specs.Attempts.{IsThere, IsAnswer, EndsRun, RunsEach, accepted_of, accepted_at};
@@ -45,8 +43,8 @@ pub fn run_operators<R: WasmModuleResources>(
       attempts =
           attempts.now;
     }) result.answers result.outcome }
-    ensures safe { result.outcome ≡ Ok true → (ty : BlockType) → (state v).present ≡ start ty
-        → IsSafeFrom (R.context resources.now) (state v) (accepted_in ops.now result.answers) ty }
+    ensures safe { result.outcome ≡ Ok true
+        → IsSafe (R.context resources.now) (state v) (accepted_in ops.now result.answers) }
 {
     if shows || has_attempts(attempts) {
         return run_each(alloc, v, ops, attempts, shows, resources);
@@ -89,8 +87,8 @@ fn run_each<R: WasmModuleResources>(
       attempts =
           attempts.now;
     }) result.answers result.outcome }
-    ensures safe { result.outcome ≡ Ok true → (ty : BlockType) → (state v).present ≡ start ty
-        → IsSafeFrom (R.context resources.now) (state v) (accepted_in ops.now result.answers) ty }
+    ensures safe { result.outcome ≡ Ok true
+        → IsSafe (R.context resources.now) (state v) (accepted_in ops.now result.answers) }
 {
     let mut function = FuncValidator::new(alloc, v, resources);
     let mut answers = Vec::new(alloc);
@@ -121,9 +119,8 @@ fn answer_each<'a, R: WasmModuleResources>(
       attempts =
           attempts.now;
     }) answers.new.items result }
-    ensures safe { result ≡ Ok true → (ty : BlockType) → function.old.starting.present ≡ start ty
-        → IsSafeFrom (R.context function.old.resources) function.old.starting
-        (accepted_of ops.now answers.new.items) ty }
+    ensures safe { result ≡ Ok true → IsSafe (R.context function.old.resources) function.old.starting
+        (accepted_of ops.now answers.new.items) }
 {
     for (index, pair) in ops.iter().enumerate() {
         let (op, offset) = *pair;

@@ -17,5 +17,5 @@ pub use failure::{BadScript, Failure};
 pub use print::print_report;
 pub use program::run;
 pub use report::{Answers, Report};
-pub use script::{begin_body, module_lists};
+pub use script::module_lists;
 pub use verdict::Verdict;

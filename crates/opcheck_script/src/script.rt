@@ -1,14 +1,11 @@
 //! Checking a script that was read.
 
-ghost use Rattle.std.specs.Prelude.{◌≡◌, ◌⊎◌, true, false, length, None, Some, IfOk, IfErr};
+ghost use Rattle.std.specs.Prelude.{◌≡◌, ◌⊎◌, true, length, None, Some, IfOk, IfErr};
 ghost use Rattle.std.specs.List.{list_all};
 ghost use Rattle.validate_visit.specs.Immediates.{is_module_op};
 ghost use Rattle.validate_resources.specs.Kept.{declared_lists};
 ghost use Rattle.validate_resources.specs.Lists.{module_of};
 ghost use Rattle.validate_resources.specs.Named.{declared_in};
-ghost use Rattle.validate_stacks.specs.State.{IsStarting};
-ghost use Rattle.validate_body.specs.Start.{state};
-ghost use Rattle.opcheck_script.specs.Begin.{IsExpressionStart, IsBodyStart, CannotStart, HasLocals, CannotBegin};
 ghost use Rattle.opcheck_script.specs.Reports.{ChecksScript, script_body, may_be_body};
 ghost use Rattle.script_parts.specs.Written.{may_all_be_attempted};
 ghost use Rattle.opcheck_script.specs.declared.failure.BadScript.{BadScript};
@@ -17,14 +14,13 @@ ghost use Rattle.opcheck_script.specs.declared.failure.Failure.{Failure};
 use crate::body::run_operators;
 use crate::failure::{BadScript, Failure};
 use crate::report::{Answers, Report};
-use script_reader::{Body, BodyLine, LocalLine, Operators, Script};
+use script_reader::{BodyLine, Operators, Script};
 use std::alloc::Global;
-use validate_body::OperatorValidator;
-use validate_resources::uses::laws;
-use validate_resources::{ModuleDeclarations, ModuleLists, WasmModuleResources};
+use validate_body::begin_body;
+use validate_resources::{ModuleDeclarations, ModuleLists};
 use validate_stacks::OperatorValidatorAllocations;
-use validate_types::{Error, ValType, WasmFeatures};
-use validate_visit::{Op, have_module_immediates, is_well_ordered};
+use validate_types::WasmFeatures;
+use validate_visit::{LocalGroup, Op, have_module_immediates, is_well_ordered};
 
 /// Checks a script: first its order, then its module, then its body.
 pub fn check_script(alloc: Global, script: Script<'_>) -> Result<Report, Failure>
@@ -58,7 +54,7 @@ fn check_operators(
     features: WasmFeatures,
     declarations: ModuleDeclarations,
     line: BodyLine,
-    locals: &[LocalLine],
+    locals: &[LocalGroup],
     ops: &[(Op<'_>, u64)],
     attempts: &[bool],
     shows: bool,
@@ -77,7 +73,8 @@ fn check_operators(
         return Err(Failure::BadScript(BadScript::Order));
     }
     let module = module_lists(alloc, declarations)?;
-    match begin_body(alloc, &module, &features, line, locals) {
+    let allocs = OperatorValidatorAllocations::new(alloc);
+    match begin_body(&module, &features, line.kind, line.offset, locals, allocs) {
         Ok(validator) => Ok(run_operators(alloc, validator, ops, attempts, shows, &module)),
         Err(refusal) => Ok(Report {
             answers: Answers::Heights(Vec::new(alloc)),
@@ -108,70 +105,4 @@ pub fn module_lists(alloc: Global, declarations: ModuleDeclarations) -> Result<M
             Failure::BadScript(BadScript::Module)
         }
     })
-}
-
-/// A validator of this body, with all its locals. A refusal carries the number of the line that it
-/// refuses, want of memory aside.
-pub fn begin_body<R: WasmModuleResources>(
-    alloc: Global,
-    resources: &R,
-    features: &WasmFeatures,
-    line: BodyLine,
-    locals: &[LocalLine],
-) -> Result<OperatorValidator, Error>
-    ensures starting { IfOk result (λ validator. IsStarting (R.context resources.now) (state validator)) }
-    ensures locals { IfOk result (λ validator. HasLocals (R.context resources.now) features.now
-        line.body locals.now (state validator)) }
-    ensures refused { IfErr result (λ e. e.wants_memory ≡ false
-        → CannotBegin (R.context resources.now) features.now line locals.now e.offset) }
-{
-    let mut validator = start_body(alloc, resources, features, line)?;
-    for local in locals {
-        validator.define_locals(local.offset, local.count, local.ty, resources)?;
-    }
-    Ok(validator)
-}
-
-/// A validator of the body that the `func` or `expr` line begins.
-fn start_body<R: WasmModuleResources>(
-    alloc: Global,
-    resources: &R,
-    features: &WasmFeatures,
-    line: BodyLine,
-) -> Result<OperatorValidator, Error>
-    ensures starting { IfOk result (λ validator. IsStarting (R.context resources.now) (state validator)) }
-    ensures made { IfOk result (λ validator. IsBodyStart (R.context resources.now) features.now
-        line.body (state validator)) }
-    ensures refused { IfErr result (λ e. e.wants_memory ≡ false
-        → CannotStart (R.context resources.now) features.now line.body) }
-    ensures offset { IfErr result (λ e. e.wants_memory ≡ false → e.offset ≡ line.offset) }
-{
-    let allocs = OperatorValidatorAllocations::new(alloc);
-    match line.body {
-        Body::Function(type_index) => {
-            OperatorValidator::new_func(type_index, line.offset, features, resources, allocs)
-        }
-        Body::Expression(ty) => start_expression(resources, features, ty, line.offset, allocs),
-    }
-}
-
-/// A validator of a constant expression of this type, which is checked first.
-fn start_expression<R: WasmModuleResources>(
-    resources: &R,
-    features: &WasmFeatures,
-    ty: ValType,
-    offset: u64,
-    allocs: OperatorValidatorAllocations,
-) -> Result<OperatorValidator, Error>
-    ensures starting { IfOk result (λ validator. IsStarting (R.context resources.now) (state validator)) }
-    ensures made { IfOk result (λ validator. IsExpressionStart (R.context resources.now) features.now ty
-        (state validator)) }
-    ensures refused { IfErr result (λ e. e.wants_memory ≡ false
-        → (R.context resources.now).canonical_type features.now ty ≡ None) }
-    ensures offset { IfErr result (λ e. e.wants_memory ≡ false → e.offset ≡ offset) }
-{
-    laws(resources);
-    let mut canonical = ty;
-    resources.check_value_type(&mut canonical, features, offset)?;
-    OperatorValidator::new_const_expr(features, canonical, allocs)
 }

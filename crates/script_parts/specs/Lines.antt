@@ -11,11 +11,11 @@ use Rattle.validate_types.specs.declared.types.SubType.{SubType}
 use Rattle.validate_types.specs.declared.types.TableType.{TableType}
 use Rattle.validate_resources.specs.declared.lists.FuncDecl.{FuncDecl}
 use Rattle.script_parts.specs.declared.script.BodyLine.{BodyLine}
-use Rattle.script_parts.specs.declared.script.LocalLine.{LocalLine}
 use Rattle.script_parts.specs.declared.script.Draft.{Draft}
 use Rattle.script_parts.specs.Written.{may_be_attempted}
 use Rattle.script_parts.specs.declared.script.Part.{Part}
 use Rattle.script_parts.specs.declared.script.Part.TheVariants.{Module, Locals, Operators}
+use Rattle.validate_visit.specs.declared.body.LocalGroup.{LocalGroup}
 use Rattle.validate_visit.specs.declared.op.Op.{Op}
 use Rattle.script_parts.specs.declared.line.Line.{Line}
 use Rattle.script_parts.specs.declared.line.Line.TheVariants.{Feature as OnFeature}
@@ -112,13 +112,13 @@ abbrev pub elements_after : Line → List RefType → List RefType
 elements_after (OnElement ty) before = before ++ ty ∷ []
 elements_after _ before = before
 
-abbrev pub locals_after : Line → ℕ → List LocalLine → List LocalLine
+abbrev pub locals_after : Line → ℕ → List LocalGroup → List LocalGroup
 locals_after (OnLocals n t) number before = before ++ record { count = n; ty = t; offset = number } ∷ []
 locals_after _ number before = before
 
 -- the `func` or `expr` line after a line
 abbrev pub body_after : Line → ℕ → Option BodyLine → Option BodyLine
-body_after (OnBody body) number before = Some (record { body = body; offset = number })
+body_after (OnBody kind) number before = Some (record { kind = kind; offset = number })
 body_after _ number before = before
 
 -- how many data segments the lines up to this one say that there are, if they do

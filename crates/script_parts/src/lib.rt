@@ -39,7 +39,7 @@ pub use crate::memory::read_memory_type;
 pub use crate::names::named_in;
 pub use crate::numbers::{read_i32, read_i64, read_index, read_u64};
 pub use crate::references::{read_heap_type, read_reference};
-pub use crate::script::{Body, BodyLine, Draft, LocalLine, Script};
+pub use crate::script::{BodyLine, Draft, Script};
 pub use crate::shared::{SharedAccess, read_ordering, read_shared};
 pub use crate::tables::read_table_type;
 pub use crate::types::read_type;

@@ -1,8 +1,8 @@
 //! What a line of a script says, where it writes no operator.
 
-use crate::script::Body;
 use validate_resources::FuncDecl;
 use validate_types::{GlobalType, MemoryType, RefType, SubType, TableType, ValType, WasmFeatures};
+use validate_visit::BodyKind;
 
 /// What a line says that is neither blank nor a comment, and writes no operator.
 #[derive(Drop)]
@@ -28,7 +28,7 @@ pub enum Line {
     /// `show`: the types of the operands are printed too.
     Show,
     /// `func N` or `expr T`: what the operators are the body of.
-    Body(Body),
+    Body(BodyKind),
     /// `local N T`: the body has this many more locals of this type.
     Locals(u32, ValType),
 }

@@ -9,34 +9,14 @@ use crate::written::{Operators, may_be_attempted};
 use bitflags::Flags;
 use std::alloc::Global;
 use validate_resources::ModuleDeclarations;
-use validate_types::{ValType, WasmFeatures};
-use validate_visit::Op;
-
-/// What the operators of a script are the body of.
-#[derive(Clone, Copy)]
-pub enum Body {
-    /// A function of the type at this index.
-    Function(u32),
-    /// A constant expression that gives a value of this type.
-    Expression(ValType),
-}
+use validate_types::WasmFeatures;
+use validate_visit::{BodyKind, LocalGroup, Op};
 
 /// The `func` or `expr` line.
 #[derive(Clone, Copy)]
 pub struct BodyLine {
     /// What it begins.
-    pub body: Body,
-    /// The number of the line.
-    pub offset: u64,
-}
-
-/// A `local` line.
-#[derive(Clone, Copy)]
-pub struct LocalLine {
-    /// How many locals it declares.
-    pub count: u32,
-    /// Their type.
-    pub ty: ValType,
+    pub kind: BodyKind,
     /// The number of the line.
     pub offset: u64,
 }
@@ -53,7 +33,7 @@ pub struct Script<'a> {
     /// The `func` or `expr` line.
     pub body: BodyLine,
     /// The `local` lines.
-    pub locals: Vec<LocalLine>,
+    pub locals: Vec<LocalGroup>,
     /// The operators.
     pub operators: Operators<'a>,
 }
@@ -70,7 +50,7 @@ pub struct Draft<'a> {
     /// The `func` or `expr` line, if it has come.
     pub body: Option<BodyLine>,
     /// The `local` lines.
-    pub locals: Vec<LocalLine>,
+    pub locals: Vec<LocalGroup>,
     /// The operators.
     pub operators: Operators<'a>,
 }
@@ -137,11 +117,11 @@ impl<'a> Draft<'a> {
                 self.declarations.data_count = Some(count);
             }
             (Line::Show, Part::Module, _, false) => self.shows = true,
-            (Line::Body(body), Part::Module, _, _) => {
-                self.body = Some(BodyLine { body, offset });
+            (Line::Body(kind), Part::Module, _, _) => {
+                self.body = Some(BodyLine { kind, offset });
             }
             (Line::Locals(count, ty), Part::Locals, _, _) => {
-                self.locals.push(LocalLine { count, ty, offset })?;
+                self.locals.push(LocalGroup { count, ty, offset })?;
             }
             _ => return Err(LineError::Bad),
         }

@@ -17,6 +17,5 @@ mod shared;
 pub use crate::operators::read_operator;
 pub use crate::script::read_script;
 pub use script_parts::{
-    Body, BodyLine, LineError, ListedOperator, LocalLine, OperatorList, Operators, Script,
-    ScriptError,
+    BodyLine, LineError, ListedOperator, OperatorList, Operators, Script, ScriptError,
 };

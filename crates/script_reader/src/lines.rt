@@ -2,10 +2,11 @@
 
 use crate::features::read_feature;
 use script_parts::{
-    Body, Line, LineError, read_function, read_global_type, read_index, read_memory_type,
-    read_reference, read_table_type, read_type, read_value_type,
+    Line, LineError, read_function, read_global_type, read_index, read_memory_type, read_reference,
+    read_table_type, read_type, read_value_type,
 };
 use std::alloc::Global;
+use validate_visit::BodyKind;
 
 /// Reads the words of a line of the module, of which there is one at least: a `func` or `expr` line is the
 /// last of these.
@@ -48,8 +49,8 @@ fn read_single(keyword: &str, words: &[&str]) -> Option<Line> {
         "tag" => Some(Line::Tag(read_index(word)?)),
         "elem" => Some(Line::Element(read_reference(word)?)),
         "data" => Some(Line::DataCount(read_index(word)?)),
-        "func" => Some(Line::Body(Body::Function(read_index(word)?))),
-        "expr" => Some(Line::Body(Body::Expression(read_value_type(word)?))),
+        "func" => Some(Line::Body(BodyKind::Function(read_index(word)?))),
+        "expr" => Some(Line::Body(BodyKind::Expression(read_value_type(word)?))),
         _ => None,
     }
 }

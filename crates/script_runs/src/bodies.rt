@@ -12,13 +12,14 @@ use crate::report::Report;
 use crate::seen::Seen;
 use crate::undone::run_lines;
 use odd_lookups::{Check, PairedLists, WantingLists};
-use opcheck_script::{begin_body, module_lists};
-use script_reader::{BodyLine, LocalLine, Operators, Script, read_script};
+use opcheck_script::module_lists;
+use script_reader::{BodyLine, Operators, Script, read_script};
 use std::alloc::{AllocError, Global};
-use validate_body::{OperatorValidator, try_op};
+use validate_body::{OperatorValidator, begin_body, try_op};
 use validate_resources::{ModuleLists, WasmModuleResources};
+use validate_stacks::OperatorValidatorAllocations;
 use validate_types::{Error, WasmFeatures};
-use validate_visit::Op;
+use validate_visit::{LocalGroup, Op};
 
 /// The lookup over which a body is checked.
 #[derive(Clone, Copy)]
@@ -125,11 +126,12 @@ fn run_begun<R: WasmModuleResources>(
     report: &mut Report,
     resources: &R,
     features: &WasmFeatures,
-    (line, locals): (BodyLine, &[LocalLine]),
+    (line, locals): (BodyLine, &[LocalGroup]),
     ops: &[(Op<'_>, u64)],
     work: Work<'_>,
 ) -> Result<(), AllocError> {
-    match begin_body(alloc, resources, features, line, locals) {
+    let allocs = OperatorValidatorAllocations::new(alloc);
+    match begin_body(resources, features, line.kind, line.offset, locals, allocs) {
         Ok(mut v) => run_lent(alloc, report, &mut v, ops, resources, work),
         Err(_) => cannot_begin(report, work.script, work.task),
     }
@@ -141,7 +143,7 @@ fn add_places<R: WasmModuleResources>(
     report: &mut Report,
     resources: &R,
     features: &WasmFeatures,
-    begin: (BodyLine, &[LocalLine]),
+    begin: (BodyLine, &[LocalGroup]),
     ops: &[(Op<'_>, u64)],
     work: Work<'_>,
 ) -> Result<(), AllocError> {
@@ -163,7 +165,7 @@ fn run_over<R: WasmModuleResources>(
     report: &mut Report,
     resources: &R,
     features: &WasmFeatures,
-    begin: (BodyLine, &[LocalLine]),
+    begin: (BodyLine, &[LocalGroup]),
     operators: &Operators<'_>,
     work: Work<'_>,
 ) -> Result<(), AllocError> {
@@ -184,7 +186,7 @@ fn run_in(
     report: &mut Report,
     (lists, lookup): (ModuleLists, Lookup),
     features: &WasmFeatures,
-    begin: (BodyLine, &[LocalLine]),
+    begin: (BodyLine, &[LocalGroup]),
     operators: &Operators<'_>,
     work: Work<'_>,
 ) -> Result<(), AllocError> {

@@ -9,13 +9,14 @@ ghost use Rattle.validate_visit.specs.Immediates.{is_module_op};
 ghost use Rattle.validate_visit.specs.Order.{is_well_ordered_list};
 
 use crate::report::Report;
-use opcheck_script::{Answers, begin_body, print_report, run_operators};
-use script_reader::{BodyLine, LocalLine, Operators};
+use opcheck_script::{Answers, print_report, run_operators};
+use script_reader::{BodyLine, Operators};
 use std::alloc::{AllocError, Global};
-use validate_body::OperatorValidator;
+use validate_body::{OperatorValidator, begin_body};
 use validate_resources::WasmModuleResources;
+use validate_stacks::OperatorValidatorAllocations;
 use validate_types::{Error, WasmFeatures};
-use validate_visit::{have_module_immediates, is_well_ordered};
+use validate_visit::{LocalGroup, have_module_immediates, is_well_ordered};
 
 /// Prints what the program prints of a body whose check came to this.
 fn add_report(
@@ -63,7 +64,7 @@ pub fn add_printed<R: WasmModuleResources>(
     report: &mut Report,
     resources: &R,
     features: &WasmFeatures,
-    (line, locals): (BodyLine, &[LocalLine]),
+    (line, locals): (BodyLine, &[LocalGroup]),
     operators: &Operators<'_>,
     (script, shows): (&str, bool),
 ) -> Result<(), AllocError> {
@@ -71,7 +72,8 @@ pub fn add_printed<R: WasmModuleResources>(
     if !is_well_ordered(ops) || !have_module_immediates(ops) {
         return report.refuse(script, "is out of order");
     }
-    match begin_body(alloc, resources, features, line, locals) {
+    let allocs = OperatorValidatorAllocations::new(alloc);
+    match begin_body(resources, features, line.kind, line.offset, locals, allocs) {
         Ok(v) => add_run(alloc, report, v, operators, shows, resources),
         Err(refusal) => add_refused(alloc, report, refusal),
     }

@@ -1,3 +1,4 @@
+pub mod Locals
 pub mod Params
 pub mod Listed
 pub mod Attempted

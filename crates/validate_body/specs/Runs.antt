@@ -6,7 +6,7 @@ use Rattle.validate_types.specs.Refusal.{Refusal}
 use Rattle.validate_visit.specs.declared.frame.BlockType.{BlockType}
 use Rattle.validate_visit.specs.declared.op.Op.{Op}
 use Rattle.validation_rules.specs.Rows.{Operator}
-use Rattle.validation_rules.specs.Static.{State, state_before, IsAccepted, operand_count, frame_count}
+use Rattle.validation_rules.specs.Static.{State, start, state_before, IsAccepted, operand_count, frame_count}
 use Rattle.validation_rules.specs.Operators.{operators}
 use Rattle.validate_stacks.specs.State.{BodyState, body_context}
 use Rattle.type_safety.specs.Bodies.{HasHeights}
@@ -57,3 +57,7 @@ pub record IsSafeFrom
     (md : ModuleContext) (v : BodyState) (ops : List (Op × ℕ)) (block_type : BlockType) : Type 0 where
   pub type_safe : IsTypeSafe (body_context md v) (body_operators md v ops) block_type
   pub heights : HasHeights (body_context md v) (body_operators md v ops) block_type
+
+-- the same from whatever type the body starts with
+abbrev pub IsSafe : ModuleContext → BodyState → List (Op × ℕ) → Type 0
+IsSafe md v ops = (ty : BlockType) → v.present ≡ start ty → IsSafeFrom md v ops ty

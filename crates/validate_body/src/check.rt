@@ -5,11 +5,9 @@ ghost use Rattle.std.specs.List.{list_all};
 ghost use Rattle.std.specs.Vec.{vec_capacity, vec_len};
 ghost use Rattle.validate_visit.specs.Immediates.{is_module_op};
 ghost use Rattle.validate_visit.specs.Order.{is_well_ordered_list};
-ghost use Rattle.validate_visit.specs.declared.frame.BlockType.{BlockType};
-ghost use Rattle.validation_rules.specs.Static.{start};
 ghost use Rattle.validate_stacks.specs.Pops.{IsKept};
 ghost use Rattle.validate_stacks.specs.State.{IsStarting, IsValidBody};
-ghost use Rattle.validate_body.specs.Runs.{without_offsets, body_before, AreHeightsAfter, IsRefusedAt, IsSafeFrom};
+ghost use Rattle.validate_body.specs.Runs.{without_offsets, body_before, AreHeightsAfter, IsRefusedAt, IsSafe};
 ghost use Rattle.validate_body.specs.Start.{state};
 
 use crate::validator::OperatorValidator;
@@ -50,8 +48,8 @@ pub fn check_ops<R: WasmModuleResources>(
         (λ p. AreHeightsAfter (R.context resources.now) (state v.old) ops.now p.0 heights.new.items) }
 
     // Where it answers that the outermost frame is closed, the list is type safe.
-    ensures safe { IfOk result (λ closed. closed ≡ true → (ty : BlockType) → (state v.old).present
-        ≡ start ty → IsSafeFrom (R.context resources.now) (state v.old) ops.now ty) }
+    ensures safe { IfOk result (λ closed. closed ≡ true
+        → IsSafe (R.context resources.now) (state v.old) ops.now) }
 
     // Whatever it answers, the types stay valid, and nothing but operands and frames changes.
     ensures valid { IsValidBody (R.context resources.now) (state v.new) }

@@ -3,6 +3,7 @@
 #![tactic(auto)]
 
 mod attempts;
+mod begin;
 mod check;
 pub mod first_set;
 mod proposal;
@@ -10,6 +11,7 @@ mod safety;
 mod validator;
 
 pub use crate::attempts::{try_and_undo, try_op};
+pub use crate::begin::{begin_body, start_body};
 pub use crate::check::check_ops;
 pub use crate::proposal::WasmProposalValidator;
 pub use crate::safety::safety_law;

@@ -1,11 +1,11 @@
 -- What a function validator stands for, and what becomes of it at an operator (the crate's own).
-use Rattle.std.specs.Prelude.{◌≡◌, ℕ, Bool, true, false, List, [], ◌∷◌, ◌++◌, Option, Some, None, length}
+use Rattle.std.specs.Prelude.{◌≡◌, ℕ, Bool, true, false, List, [], ◌∷◌, ◌++◌, Some, None, length}
 use Rattle.validate_resources.specs.Context.{ModuleContext}
 use Rattle.validate_types.specs.Refusal.{Refusal}
 use Rattle.validate_visit.specs.declared.frame.Frame.{Frame as FlatFrame}
 use Rattle.validate_visit.specs.declared.op.Op.{Op}
 use Rattle.validation_rules.specs.Operators.{operator}
-use Rattle.validation_rules.specs.Static.{State, step, start}
+use Rattle.validation_rules.specs.Static.{State, start, RowHolds, RowFails}
 use Rattle.validate_stacks.specs.State.{BodyState, body_context, IsStarting, IsValidBody}
 use Rattle.validate_stacks.specs.Steps.{frame_at}
 use Rattle.validate_body.specs.Runs.{body_before}
@@ -40,21 +40,19 @@ unmarked f = record f { failed = false }
 abbrev pub IsStaticRun : {R : Type 0} → ModuleContext → FunctionState R → Type 0
 IsStaticRun md f = body_before md f.starting f.accepted (length f.accepted) ≡ Some f.present
 
--- the open frames after an operator, or None where its row doesn't hold
-abbrev pub present_after : {R : Type 0} → ModuleContext → Op → FunctionState R → Option State
-present_after md op f = let cx = body_context md f.starting in step cx (operator cx op) f.present
-
 -- An operator is accepted, so that f becomes g: none was refused, its row holds, and it joins the list.
 pub record Accepts {R : Type 0} (md : ModuleContext) (p : Op × ℕ) (f g : FunctionState R) : Type 0 where
   pub none_failed : f.failed ≡ false
-  pub row : present_after md p.0 f ≡ Some g.present
+  pub row : let cx = body_context md f.starting in RowHolds cx (operator cx p.0) f.present g.present
   pub joins : g ≡ record f { accepted = f.accepted ++ p ∷ []; present = g.present }
 
 -- An operator is refused in f: one was refused before, memory is wanting, or its row doesn't hold. The
 -- refusal carries its offset.
 pub record Refuses
     {R : Type 0} (md : ModuleContext) (p : Op × ℕ) (f : FunctionState R) (refusal : Refusal) : Type 0 where
-  pub row : f.failed ≡ false → refusal.wants_memory ≡ false → present_after md p.0 f ≡ None
+  pub row :
+      let cx = body_context md f.starting in
+      f.failed ≡ false → refusal.wants_memory ≡ false → RowFails cx (operator cx p.0) f.present
   pub at_offset : refusal.offset ≡ p.1
 
 -- f becomes g, which has failed: the starting state and the accepted operators stay

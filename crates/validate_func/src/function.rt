@@ -2,11 +2,10 @@
 
 ghost use Rattle.std.specs.Prelude.{◌≡◌, ◌≢◌, ◌↔◌, true, false, [], Some, length, slice_get, IsOk, IsSome, OnOk, OnErr, IfOk, IfErr};
 ghost use Rattle.std.specs.Option.{option_copied};
-ghost use Rattle.validate_visit.specs.declared.frame.BlockType.{BlockType};
 ghost use Rattle.validation_rules.specs.Static.{start, operand_count, frame_count};
 ghost use Rattle.validate_stacks.specs.State.{IsStarting};
 ghost use Rattle.validate_stacks.specs.Steps.{type_at_depth, frame_at};
-ghost use Rattle.validate_body.specs.Runs.{IsAcceptedBody, IsSafeFrom};
+ghost use Rattle.validate_body.specs.Runs.{IsAcceptedBody, IsSafe};
 ghost use Rattle.validate_body.specs.Start.{state, current_kind, DefinesLocals, CannotDefine};
 ghost use Rattle.validate_func.specs.Functions.{function_from, body_state, unmarked, IsStaticRun, Accepts, Refuses, Fails};
 ghost use Rattle.validate_func.specs.Operands.{types_in};
@@ -177,8 +176,8 @@ impl<'a, 'resources, R: WasmModuleResources> FuncValidator<'a, 'resources, R> {
         // The rows of all accepted operators hold up to the outermost `end`, and their list is type safe.
         ensures rows { OnOk result (IsAcceptedBody (R.context self.now.resources) self.now.starting
             self.now.accepted) }
-        ensures safe { OnOk result ((ty : BlockType) → self.now.starting.present ≡ start ty
-            → IsSafeFrom (R.context self.now.resources) self.now.starting self.now.accepted ty) }
+        ensures safe { OnOk result (IsSafe (R.context self.now.resources) self.now.starting
+            self.now.accepted) }
     {
         if self.failed {
             return Err(has_failed(offset));
@@ -248,11 +247,18 @@ impl<'a, 'resources, R: WasmModuleResources> FuncValidator<'a, 'resources, R> {
     }
 
     /// The type of the operand at this depth, the top at 0: None past the end, and `Some(None)` for one whose
-    /// type isn't known (wasmparser's `get_operand_type`).
+    /// type isn't known.
     pub fn peek_operand_at(&self, depth: usize) -> Option<Option<ValType>>
         ensures { result ≡ type_at_depth (body_state self.now) depth }
     {
         self.validator.peek_operand_at(depth)
+    }
+
+    /// [`FuncValidator::peek_operand_at`], under the name of wasmparser's `FuncValidator`.
+    pub fn get_operand_type(&self, depth: usize) -> Option<Option<ValType>>
+        ensures { result ≡ type_at_depth (body_state self.now) depth }
+    {
+        self.peek_operand_at(depth)
     }
 
     /// The types of all operands, the lowest first; None for one whose type isn't known.
@@ -262,12 +268,18 @@ impl<'a, 'resources, R: WasmModuleResources> FuncValidator<'a, 'resources, R> {
         operand_types(*self.accepted.allocator(), &self.validator)
     }
 
-    /// The frame at this depth, the innermost at 0, or None past the end (wasmparser's
-    /// `get_control_frame`).
+    /// The frame at this depth, the innermost at 0, or None past the end.
     pub fn get_frame(&self, depth: usize) -> Option<&Frame>
         ensures { option_copied result ≡ frame_at (body_state self.now) depth }
     {
         self.validator.get_frame(depth)
+    }
+
+    /// [`FuncValidator::get_frame`], under the name of wasmparser's `FuncValidator`.
+    pub fn get_control_frame(&self, depth: usize) -> Option<&Frame>
+        ensures { option_copied result ≡ frame_at (body_state self.now) depth }
+    {
+        self.get_frame(depth)
     }
 
     /// How many locals are declared, the parameters among them.
@@ -277,8 +289,8 @@ impl<'a, 'resources, R: WasmModuleResources> FuncValidator<'a, 'resources, R> {
         self.validator.locals().len_locals()
     }
 
-    /// The type of the local at this index, or None past the end (wasmparser's `get_local_type`).
-    pub fn local_type(&self, index: u32) -> Option<ValType>
+    /// The type of the local at this index, or None past the end.
+    pub fn get_local_type(&self, index: u32) -> Option<ValType>
         ensures { result ≡ slice_get self.now.starting.locals index }
     {
         self.validator.locals().get(index)

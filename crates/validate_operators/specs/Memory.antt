@@ -10,11 +10,11 @@ use Rattle.validate_visit.specs.declared.op.ControlOp.TheVariants.{Drop}
 use Rattle.validate_visit.specs.declared.op.ExceptionOp.TheVariants.{Throw, ThrowRef, Rethrow}
 use Rattle.validation_rules.specs.Operators.{operator}
 use Rattle.validate_stacks.specs.State.{BodyState}
-use Rattle.validate_stacks.specs.Visits.{step_body}
+use Rattle.validate_stacks.specs.Visits.{RowFails}
 
 -- where no attempt is pending: refused only where the row doesn't hold
 abbrev pub RefusedByRow : ModuleContext → Op → BodyState → Result (Unit {0}) Refusal → Type 0
-RefusedByRow md op v answer = v.undone ≡ None → OnErr answer (step_body md (λ cx. operator cx op) v ≡ None)
+RefusedByRow md op v answer = v.undone ≡ None → OnErr answer (RowFails md (λ cx. operator cx op) v)
 
 abbrev pub TakesNoMemory : ModuleContext → Op → BodyState → Result (Unit {0}) Refusal → Type 0
 TakesNoMemory md (Control Unreachable) v answer = RefusedByRow md (Control Unreachable) v answer

@@ -30,9 +30,9 @@ use Rattle.validate_resources.specs.Context.{Valid, AllValid, is_valid_index, is
 use Rattle.validate_resources.specs.Indices.{is_id, is_known, heap_indices_pass, ref_indices_pass, type_indices_pass, table_indices_pass}
 use Rattle.validate_resources.specs.Indices.{global_indices_pass, sub_indices_pass, heap_with_id, ref_with_id, type_with_id, canonical_heap}
 use Rattle.validate_resources.specs.Indices.{index_with_id}
-use Rattle.validate_resources.specs.Order.{is_heap_below, have_fitting_supertypes, is_type_below, heap_top, declared_top, kind_bottom}
+use Rattle.validate_resources.specs.Order.{is_heap_below, have_supertypes_of_their_sort, is_type_below, heap_top, declared_top, kind_bottom}
 use Rattle.validate_resources.specs.Order.{is_heap_shared, is_shared_at}
-use Rattle.validate_resources.specs.Lists.{Declared, is_module, is_func_type, continues_function, have_func_types, has_fitting_descriptor, list_indices_pass, context_of, tag_signature}
+use Rattle.validate_resources.specs.Lists.{Declared, may_be_looked_up, is_func_type, continues_function, have_func_types, has_fitting_descriptor, list_indices_pass, context_of, tag_signature}
 use Rattle.validate_resources.specs.Lists.{is_valid_below, canonical_under, type_id}
 use Rattle.validate_resources.specs.Lawful.Matching.{passes-at, heap-shared, heap-reflexive, null-reflexive, bottom-below-exact, ref-reflexive, type-reflexive}
 use Rattle.validate_resources.specs.Lawful.Matching.{type-transitive, number-below, below-ref}
@@ -62,13 +62,13 @@ record Facts (d : Declared) : Type 0 where
   globals : list_all (global_indices_pass (is_id (length d.types))) d.globals ≡ true
   elements : list_all (ref_indices_pass (is_id (length d.types))) d.elements ≡ true
   functions : list_all (λ (f : FuncDecl). nat_lt f.type_index (length d.types)) d.functions ≡ true
-  supertypes : have_fitting_supertypes d.types ≡ true
+  supertypes : have_supertypes_of_their_sort d.types ≡ true
   continuations : list_all (continues_function d.types) d.types ≡ true
   descriptors : list_all has_fitting_descriptor d.types ≡ true
 
-facts : (d : Declared) → is_module is_id d ≡ true → Facts d
+facts : (d : Declared) → may_be_looked_up is_id d ≡ true → Facts d
 facts d h =
-    let fits = nat_le (length d.types) MAX_TYPES && list_indices_pass (is_id (length d.types)) d.types d.tables d.globals d.elements && have_fitting_supertypes d.types in
+    let fits = nat_le (length d.types) MAX_TYPES && list_indices_pass (is_id (length d.types)) d.types d.tables d.globals d.elements && have_supertypes_of_their_sort d.types in
     let (l, descriptors) = and_parts (fits && have_func_types d) _ h in
     let (k, func_types) = and_parts fits _ l in
     let (b, supertypes) = and_parts (nat_le (length d.types) MAX_TYPES && list_indices_pass (is_id (length d.types)) d.types d.tables d.globals d.elements) _ k in
@@ -173,7 +173,7 @@ checked_index d u h e =
     let p = cond_some (is_known (length d.types) u) (Concrete (index_with_id u)) h e in
     record { index = index_with_id u; is = sym p.1; same_type = named_by_id d u; exact = ap (λ b. if b then Some (Exact (index_with_id u)) else None) p.0 }
 
-pub lawful_lists : (d : Declared) → is_module is_id d ≡ true → IsLawful (context_of d)
+pub lawful_lists : (d : Declared) → may_be_looked_up is_id d ≡ true → IsLawful (context_of d)
 lawful_lists d h =
     let m = facts d h in
     record {
@@ -210,5 +210,5 @@ lawful_lists d h =
     }
 
 -- there are no more types than a lookup over lists holds
-pub few_types : (d : Declared) → is_module is_id d ≡ true → length d.types ≤ MAX_TYPES
+pub few_types : (d : Declared) → may_be_looked_up is_id d ≡ true → length d.types ≤ MAX_TYPES
 few_types d h = (facts d h).small

@@ -22,7 +22,7 @@ use Rattle.validate_resources.specs.Indices.{is_known, is_id, ref_indices_pass, 
 use Rattle.validate_resources.specs.Indices.{sub_indices_pass, ref_with_id, table_with_id, global_with_id}
 use Rattle.validate_resources.specs.Indices.{sub_with_ids}
 use Rattle.validate_resources.specs.Indices.{type_with_id, canonical_heap, canonical_ref}
-use Rattle.validate_resources.specs.Order.{is_heap_shared, have_fitting_supertypes, is_type_below, heap_top}
+use Rattle.validate_resources.specs.Order.{is_heap_shared, have_supertypes_of_their_sort, is_type_below, heap_top}
 
 -- what a module declares
 pub record Declared : Type 0 where
@@ -87,11 +87,11 @@ has_fitting_descriptor s = not (is_some (descriptor_of s)) || is_struct s.compos
 -- at most 1,000,000 types; each index passes the test, at their number; each supertype is an earlier type of
 -- the same kind and sharedness; each function, each tag and each continuation is of one of functions; each type
 -- with a descriptor is one of structs
-abbrev pub is_module : (ℕ → UnpackedIndex → Bool) → Declared → Bool
-is_module p d =
+abbrev pub may_be_looked_up : (ℕ → UnpackedIndex → Bool) → Declared → Bool
+may_be_looked_up p d =
     nat_le (length d.types) MAX_TYPES
     && list_indices_pass (p (length d.types)) d.types d.tables d.globals d.elements
-    && have_fitting_supertypes d.types
+    && have_supertypes_of_their_sort d.types
     && have_func_types d
     && list_all has_fitting_descriptor d.types
 
@@ -107,7 +107,7 @@ canonical_lists d = record d {
 
 -- the canonical lists of what is declared, where no cause of a refusal stands
 abbrev pub module_of : Declared → Option Declared
-module_of d = if is_module is_known d then Some (canonical_lists d) else None
+module_of d = if may_be_looked_up is_known d then Some (canonical_lists d) else None
 
 -- ---- the context
 

@@ -72,14 +72,14 @@ is_same_sort c (Some s) =
     is_same_kind c.inner s.composite_type.inner && beq c.shared s.composite_type.shared
 
 -- the supertype of type k is an earlier one of the same kind and sharedness, if it has one
-abbrev pub has_fitting_supertype : List SubType → ℕ → CompositeType → Option UnpackedIndex → Bool
-has_fitting_supertype types k c None = true
-has_fitting_supertype types k c (Some i) =
+abbrev pub has_supertype_of_its_sort : List SubType → ℕ → CompositeType → Option UnpackedIndex → Bool
+has_supertype_of_its_sort types k c None = true
+has_supertype_of_its_sort types k c (Some i) =
     nat_lt (number_of i) k && is_same_sort c (slice_get types (number_of i))
 
-abbrev pub have_fitting_supertypes : List SubType → Bool
-have_fitting_supertypes types =
-    list_all (λ (e : ℕ × SubType). has_fitting_supertype types e.0 e.1.composite_type e.1.supertype_idx)
+abbrev pub have_supertypes_of_their_sort : List SubType → Bool
+have_supertypes_of_their_sort types =
+    list_all (λ (e : ℕ × SubType). has_supertype_of_its_sort types e.0 e.1.composite_type e.1.supertype_idx)
     (enumerate_from 0 types)
 
 -- the supertype that a type declares, where that is an earlier one than type k

@@ -6,7 +6,7 @@ mod order;
 ghost use Rattle.std.specs.Prelude.{◌≡◌, ◌<◌, ◌≤◌, ◌&&◌, ℕ, length, codes, slice_get, Some, None, Ok, true, false, nat_lt, is_ok, IsTrue, IfOk, OnOk, OnErr, IfErr};
 ghost use Rattle.std.specs.List.{list_all};
 ghost use Rattle.validate_resources.specs.Indices.{is_id, unknown_text};
-ghost use Rattle.validate_resources.specs.Lists.{declared_by, canonical_under, is_module, is_func_type, continues_function, has_fitting_descriptor, module_of};
+ghost use Rattle.validate_resources.specs.Lists.{declared_by, canonical_under, may_be_looked_up, is_func_type, continues_function, has_fitting_descriptor, module_of};
 
 use crate::WasmModuleResources;
 use crate::kinds::{continuation_of, func_type_of};
@@ -48,7 +48,7 @@ pub struct ModuleLists {
     tags: Vec<u32>,
     elements: Vec<RefType>,
     data_count: Option<u32>,
-    ghost module: { is_module is_id (declared_by types.items functions.items tables.items
+    ghost module: { may_be_looked_up is_id (declared_by types.items functions.items tables.items
         memories.items globals.items tags.items elements.items data_count) ≡ true },
 }
 
@@ -117,7 +117,7 @@ impl ModuleLists {
         tags: Vec<u32>,
         data_count: Option<u32>,
     ) -> ModuleLists
-        requires { is_module is_id (declared_by forms.types.items functions.items forms.tables.items
+        requires { may_be_looked_up is_id (declared_by forms.types.items functions.items forms.tables.items
             memories.items forms.globals.items tags.items forms.elements.items data_count) ≡ true }
         ensures { declared_lists result ≡ declared_by forms.types.items functions.items forms.tables.items
             memories.items forms.globals.items tags.items forms.elements.items data_count }

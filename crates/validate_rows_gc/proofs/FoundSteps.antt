@@ -6,7 +6,8 @@ use Rattle.validate_types.specs.declared.heap.AbstractHeapType.{AbstractHeapType
 use Rattle.validate_types.specs.declared.heap.AbstractHeapType.TheVariants.{Eq}
 use Rattle.validation_rules.specs.Context.{I32}
 use Rattle.validation_rules.specs.Fits.{MaybeType, Known}
-use Rattle.validation_rules.specs.Found.{is_found_below, operand_found_below, found_pushes, is_same_sharedness, ref_eq_pushes, ref_eq_row}
+use Rattle.validation_rules.specs.Found.{is_found_below, found_pushes, is_same_sharedness, ref_eq_pushes, ref_eq_row}
+use Rattle.validate_rows_gc.specs.Found.{operand_found_below}
 use Rattle.validation_rules.specs.Operators.{looking_row, row_operator}
 use Rattle.validation_rules.specs.Rows.{guard}
 use Rattle.validate_stacks.specs.State.{BodyState}

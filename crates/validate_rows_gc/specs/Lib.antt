@@ -1,3 +1,4 @@
 pub mod Casts
 pub mod Descriptors
+pub mod Found
 pub mod Accesses

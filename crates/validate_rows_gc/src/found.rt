@@ -5,7 +5,8 @@ ghost use Rattle.std.specs.Prelude.{◌≡◌, true, false, None, Some, IfOk, On
 ghost use Rattle.std.specs.Option.{option_and_then};
 ghost use Rattle.validate_resources.specs.Context.{Valid};
 ghost use Rattle.validate_types.specs.Refs.{nullable_reference};
-ghost use Rattle.validation_rules.specs.Found.{abstract_beside, is_found_below, operand_found_below, measure_row, converted_operand, convert_ref_row, ref_eq_row};
+ghost use Rattle.validation_rules.specs.Found.{abstract_beside, is_found_below, measure_row, converted_operand, convert_ref_row, ref_eq_row};
+ghost use Rattle.validate_rows_gc.specs.Found.{operand_found_below};
 ghost use Rattle.validation_rules.specs.Found as rule;
 ghost use Rattle.validation_rules.specs.Operators.{row_operator, conversion_row};
 ghost use Rattle.validation_rules.specs.References.{i31};

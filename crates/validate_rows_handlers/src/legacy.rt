@@ -68,11 +68,20 @@ fn begin_catch_part<R: WasmModuleResources>(
 {
     let frame = stacks.pop_ctrl(resources, offset)?;
     if !may_catch(frame.kind) {
-        return Err(Error::new("catch found outside of a `try` block", offset));
+        return Err(Error::new(outside_of_try(catches_all), offset));
     }
     match stacks.push_bare_ctrl(catch_kind(catches_all), frame.block_type) {
         Ok(()) => Ok(()),
         Err(_) => Err(Error::out_of_memory(offset)),
+    }
+}
+
+/// The text where a `catch` or a `catch_all` stands in no part of a `try`.
+fn outside_of_try(catches_all: bool) -> &'static str {
+    if catches_all {
+        "catch_all found outside of a `try` block"
+    } else {
+        "catch found outside of an `try` block"
     }
 }
 
@@ -109,7 +118,7 @@ pub fn check_delegate<R: WasmModuleResources>(
 {
     let frame = stacks.pop_ctrl(resources, offset)?;
     if !is_try(frame.kind) {
-        return Err(Error::new("delegate found outside of a `try` block", offset));
+        return Err(Error::new("delegate found outside of an `try` block", offset));
     }
     label(stacks, offset, relative_depth)?;
     stacks.push_types(offset, results(resources, &frame.block_type))

@@ -2,6 +2,7 @@
 //! what they name, and the test of a list's order.
 #![tactic(auto)]
 
+mod body;
 mod br_table;
 mod catch;
 mod frame;
@@ -19,6 +20,7 @@ mod order;
 mod resume;
 mod shared;
 
+pub use crate::body::{BodyKind, LocalGroup};
 pub use crate::br_table::{BrTable, BrTableTargets, IncompleteTable};
 pub use crate::catch::{Catch, TryTable};
 pub use crate::frame::{BlockType, Frame, FrameKind};

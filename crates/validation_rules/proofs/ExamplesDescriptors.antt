@@ -1,7 +1,7 @@
 -- Exact references and descriptors: the order of exact types, what is allocated, whose descriptor is read, and
 -- casts by a descriptor.
 use Rattle.std.proofs.Common.{◌≡◌, ◌-◌, ◌++◌, ℕ, Bool, true, false, List, [], ◌∷◌, map, Option, Some, None, refl}
-use Rattle.validate_resources.specs.Lists.{Declared, is_module}
+use Rattle.validate_resources.specs.Lists.{Declared, may_be_looked_up}
 use Rattle.validate_resources.specs.Named.{nothing_declared}
 use Rattle.validate_resources.specs.Indices.{is_id}
 use Rattle.validate_types.specs.Features.{custom_descriptors}
@@ -66,17 +66,17 @@ types =
 abbrev declared : Declared
 declared = record nothing_declared { types = types; functions = record { type_index = 0; referenced = true; exact = false } ∷ record { type_index = 0; referenced = true; exact = true } ∷ [] }
 
-it_is_one : is_module is_id declared ≡ true
+it_is_one : may_be_looked_up is_id declared ≡ true
 it_is_one = refl
 
 -- one in which an array, or a function, has descriptors is none
 abbrev with_type : SubType → Declared
 with_type s = record declared { types = types ++ s ∷ [] }
 
-on_structs_alone : map (λ inner. is_module is_id (with_type (described_type None inner (Some (id 2)) None))) (StructInner [] ∷ function [] ∷ ArrayInner (record { 0 = field I32 }) ∷ []) ≡ true ∷ false ∷ false ∷ []
+on_structs_alone : map (λ inner. may_be_looked_up is_id (with_type (described_type None inner (Some (id 2)) None))) (StructInner [] ∷ function [] ∷ ArrayInner (record { 0 = field I32 }) ∷ []) ≡ true ∷ false ∷ false ∷ []
 on_structs_alone = refl
 
-descriptor_unknown : is_module is_id (with_type (described_type None (StructInner []) (Some (id 10)) None)) ≡ false × is_module is_id (with_type (described_type None (StructInner []) None (Some (id 10)))) ≡ false
+descriptor_unknown : may_be_looked_up is_id (with_type (described_type None (StructInner []) (Some (id 10)) None)) ≡ false × may_be_looked_up is_id (with_type (described_type None (StructInner []) None (Some (id 10)))) ≡ false
 descriptor_unknown = (refl, refl)
 
 abbrev under : ℕ → Context

@@ -23,7 +23,7 @@ use Rattle.validate_visit.specs.declared.op.ArrayOp.TheVariants.{ArrayNew, Array
 use Rattle.validation_rules.specs.Context.{Context, ValType, I32, Ref}
 use Rattle.validation_rules.specs.Calls.{may_access}
 use Rattle.validation_rules.specs.Indirect.{type_reference}
-use Rattle.validation_rules.specs.Exact.{has_exact_types, declared_heap, allocated_reference}
+use Rattle.validation_rules.specs.Exact.{has_custom_descriptors, declared_heap, allocated_reference}
 use Rattle.validation_rules.specs.Descriptors.{descriptor_at}
 use Rattle.validation_rules.specs.Structs.{struct_fields, accessible_struct, struct_type, struct_field, field_value, is_packed_field, is_whole_field, struct_row}
 use Rattle.validation_rules.specs.Arrays.{array_element, accessible_array, array_type, is_read_from_data, is_read_from_elements, may_be_copied, array_copy_row_for, array_row}
@@ -45,7 +45,7 @@ module _ (cx : Context) (laws : IsLawful cx.of_module) where
   -- what is allocated
   pub allocated_valid : (i : ℕ) (t : ValType) → allocated_reference cx i ≡ Some t → Valid cx.of_module t
   allocated_valid i t e =
-      let m = mapped_some (λ h. Ref (non_null_reference h)) (cx.of_module.canonical_heap (declared_heap (has_exact_types cx) (Module i))) t e in
+      let m = mapped_some (λ h. Ref (non_null_reference h)) (cx.of_module.canonical_heap (declared_heap (has_custom_descriptors cx) (Module i))) t e in
       subst (Valid cx.of_module) m.2 (laws.checked_heap _ m.0 m.1)
 
   pub struct_inner : (inner : CompositeInnerType) (fields : List FieldType) → struct_fields inner ≡ Some fields → inner_fields inner ≡ fields

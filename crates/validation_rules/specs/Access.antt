@@ -1,6 +1,9 @@
 -- The rows of loads and stores, of memories and of arrays, and of atomic operators on memories
 -- (WebAssembly core specification, "Validation: Memory Instructions"; the multibyte array access
 -- proposal for arrays, and the threads proposal for the atomic ones).
+-- An offset is at most 4294967295 where the address is an i32, of an array too. The alignment is at most
+-- the natural one; an atomic access has just that. An array is accessed under `multibyte_array_access`,
+-- without `gc`.
 use Rattle.std.specs.Prelude.{ℕ, Bool, true, ◌&&◌, ◌^◌, nat_eq, nat_le, nat_lt, List, [], ◌∷◌}
 use Rattle.std.specs.Prelude.{Option, Some, None, ◌++◌}
 use Rattle.std.specs.List.{list_all}

@@ -1,5 +1,8 @@
 -- The rows of operators on arrays (WebAssembly core specification, "Validation: Aggregate Instructions";
 -- the shared marks are those of the shared-everything-threads proposal).
+-- A packed integer is an i32 as an operand. An array is copied from one of the same packed integer, or of a
+-- type below. Numbers and vectors are read from a data segment, references from an element segment of a
+-- type below.
 use Rattle.std.specs.Prelude.{ℕ, Bool, true, false, ◌&&◌, [], ◌∷◌, Option, Some, None, replicate}
 use Rattle.std.specs.Option.{option_and_then}
 use Rattle.validate_resources.specs.Context.{is_number_or_vector}

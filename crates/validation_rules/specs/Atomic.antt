@@ -1,5 +1,7 @@
 -- The rows of atomic operators on memories (the threads proposal, "Validation"; `pause` and the weaker
 -- fence are those of the shared-everything-threads proposal).
+-- `rmw` takes a value and gives the one that was there. `cmpxchg` takes what is expected, and above it what
+-- replaces it; `wait` takes what is expected, and above it an i64, the time.
 use Rattle.std.specs.Prelude.{[]}
 use Rattle.validate_visit.specs.Numbers.{integer_type, access_type}
 use Rattle.validate_visit.specs.declared.op.AtomicOp.{AtomicOp}

@@ -1,5 +1,7 @@
 -- Rows of branches: what they want and carry depends on the labels of the open frames (WebAssembly core
 -- specification, "Validation: Control Instructions").
+-- All of them but `br_if` end the live part. `br_table` wants the default's types, which fit every other
+-- target too, and a complete table.
 use Rattle.std.specs.Prelude.{ℕ, pred, Bool, true, false, ◌&&◌, List, [], ◌∷◌, ◌++◌, None, length, map, take}
 use Rattle.std.specs.Prelude.{drop}
 use Rattle.std.specs.List.{list_all}

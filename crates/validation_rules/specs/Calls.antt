@@ -1,6 +1,9 @@
 -- The rows of calls and of operators on globals (WebAssembly core specification, "Validation: Control
 -- Instructions" and "Variable Instructions"; the shared marks are those of the
 -- shared-everything-threads proposal).
+-- `global.get` and `global.set` have no gate, whatever the type. A callee is found by the index of its
+-- function's type, which is what is marked shared. A tail call's results are tested in dead code too, and
+-- they are what is carried to the outermost label.
 use Rattle.std.specs.Prelude.{ℕ, pred, Bool, not, ◌&&◌, ◌||◌, List, [], ◌∷◌, Option, Some, length, map}
 use Rattle.std.specs.Option.{option_and_then}
 use Rattle.validate_resources.specs.Context.{signature_of}

@@ -1,6 +1,9 @@
 -- The rows of casts, and of branches by a cast (WebAssembly core specification, "Validation: Reference
 -- Instructions" and "Control Instructions"; that a branch may cast to any type of the hierarchy is of a
 -- proposal, "Custom Descriptors").
+-- A test or a cast takes any reference of the hierarchy, or null. `br_on_cast` carries the type that is
+-- cast to and leaves the difference, `br_on_cast_fail` the other way round; the label's last type lies
+-- above what is carried.
 use Rattle.std.specs.Prelude.{ℕ, Bool, true, false, not, ◌&&◌, List, [], ◌∷◌, ◌++◌, Option, Some, None}
 use Rattle.std.specs.Prelude.{if◌then◌else◌}
 use Rattle.std.specs.Bool.{beq}
@@ -15,7 +18,7 @@ use Rattle.validate_types.specs.declared.refs.RefType.{RefType}
 use Rattle.validate_visit.specs.declared.op.BranchCast.{BranchCast}
 use Rattle.validation_rules.specs.Branches.{has_label, label_types_at}
 use Rattle.validation_rules.specs.Context.{ModuleContext, ValType, I32, Ref, Context}
-use Rattle.validation_rules.specs.Exact.{has_exact_types}
+use Rattle.validation_rules.specs.Exact.{has_custom_descriptors}
 use Rattle.validation_rules.specs.Rows.{Head, Row, guard}
 use Rattle.validation_rules.specs.Shapes.{plain_row, plain_row_if, lookup_row}
 
@@ -76,15 +79,15 @@ is_same_top (Abstract shared a) (Abstract shared_too b) =
 is_same_top _ _ = false
 
 -- the other type lies below the one; where references can be exact, it is of the same hierarchy
-abbrev pub is_cast_below : Context → RefType → RefType → Bool
-is_cast_below cx from to =
-    if has_exact_types cx
+abbrev pub is_cast_target : Context → RefType → RefType → Bool
+is_cast_target cx from to =
+    if has_custom_descriptors cx
     then is_same_top (top_of cx.of_module from) (top_of cx.of_module to)
     else cx.of_module.below (Ref to) (Ref from)
 
 -- the one type may be cast to the other, which is no continuation
 abbrev pub may_cast : Context → RefType → RefType → Bool
-may_cast cx from to = is_castable cx.of_module to && is_cast_below cx from to
+may_cast cx from to = is_castable cx.of_module to && is_cast_target cx from to
 
 -- both types of a cast that may be, in canonical form
 abbrev pub checked_cast : Context → BranchCast → Option (RefType × RefType)

@@ -1,5 +1,9 @@
 -- The rows of operators on continuations (a proposal, "Stack Switching": validation of cont.new, cont.bind,
 -- suspend, resume, resume_throw, resume_throw_ref and switch).
+-- `cont.bind` binds the first parameters, and what is left is below the second type. The label of a handler
+-- ends with a reference to a continuation that takes what the tag gives back and gives what the resumed one
+-- gives. In `switch` the tag takes nothing, the last parameter is a continuation too, and both give what
+-- the tag gives back; the operands are the other parameters, and above them the continuation.
 use Rattle.std.specs.Prelude.{ℕ, Bool, false, ◌&&◌, ◌-◌, List, [], ◌∷◌, ◌++◌, Option, Some, None, map, take}
 use Rattle.std.specs.Prelude.{drop, length, nat_eq, nat_le}
 use Rattle.std.specs.Option.{option_and_then, option_map}

@@ -11,8 +11,8 @@ use Rattle.validate_types.specs.declared.heap.UnpackedIndex.TheVariants.{Module}
 use Rattle.validation_rules.specs.Context.{ValType, Ref, Context}
 
 -- references are exact where their type is known exactly
-abbrev pub has_exact_types : Context → Bool
-has_exact_types cx = has cx.features custom_descriptors
+abbrev pub has_custom_descriptors : Context → Bool
+has_custom_descriptors cx = has cx.features custom_descriptors
 
 -- a type of the module, exact or not
 abbrev pub declared_heap : Bool → UnpackedIndex → HeapType
@@ -23,8 +23,8 @@ declared_heap false u = Concrete u
 abbrev pub allocated_reference : Context → ℕ → Option ValType
 allocated_reference cx i =
     option_map (λ h. Ref (non_null_reference h))
-    (cx.of_module.canonical_heap (declared_heap (has_exact_types cx) (Module i)))
+    (cx.of_module.canonical_heap (declared_heap (has_custom_descriptors cx) (Module i)))
 
 -- what a reference to the function at this index points to, whose type this index names
 abbrev pub function_heap : Context → ℕ → UnpackedIndex → HeapType
-function_heap cx f u = declared_heap (has_exact_types cx && cx.of_module.has_exact_type f) u
+function_heap cx f u = declared_heap (has_custom_descriptors cx && cx.of_module.has_exact_type f) u

@@ -1,5 +1,6 @@
 -- Operators on exceptions (WebAssembly core specification, "Validation: Control Instructions", throw,
 -- throw_ref and try_table), and those of the legacy exceptions: try, catch, catch_all, delegate and rethrow.
+-- `rethrow` names the label of a part that caught an exception.
 use Rattle.std.specs.Prelude.{ℕ, suc, Bool, true, false, List, [], ◌∷◌, ◌++◌, Option, Some, None}
 use Rattle.std.specs.Prelude.{drop, length, nat_eq}
 use Rattle.std.specs.Option.{option_and_then, option_map}

@@ -1,6 +1,7 @@
 -- Operators that look for a reference below an abstract type, whatever its null and its sharedness
 -- (WebAssembly core specification, "Validation: Reference Instructions" and "Aggregate Instructions"; that
 -- they take shared references too is of the shared-everything-threads proposal).
+-- `ref.eq` compares two references below `eq`, of the same sharedness where both are known.
 use Rattle.std.specs.Prelude.{Bool, true, false, ◌&&◌, List, [], ◌∷◌, Option, Some, None}
 use Rattle.std.specs.Bool.{beq}
 use Rattle.validate_types.specs.Abstract.{is_abstract_below}
@@ -28,10 +29,6 @@ is_found_below md a (UnknownRef (Some b)) = is_abstract_below b a
 is_found_below md a (Known (Ref r)) =
     md.below (Ref r) (Ref (nullable_reference (abstract_beside md r a)))
 is_found_below md a (Known _) = false
-
--- the operand, where it does
-abbrev pub operand_found_below : ModuleContext → AbstractHeapType → MaybeType → Option MaybeType
-operand_found_below md a x = guard (is_found_below md a x) (Some x)
 
 -- one operand, and what is pushed for it
 abbrev pub found_pushes :

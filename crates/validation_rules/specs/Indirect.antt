@@ -1,5 +1,7 @@
 -- The rows of calls of a function that an operand names: by its place in a table, or by a reference
 -- (WebAssembly core specification, "Validation: Control Instructions").
+-- The operand is a place in a table whose elements lie below `funcref`, or a nullable reference to the
+-- type, which is looked up as a declared one.
 use Rattle.std.specs.Prelude.{ℕ, false, List, [], ◌∷◌, ◌++◌, Option, Some}
 use Rattle.std.specs.Option.{option_map}
 use Rattle.std.specs.Option.{option_and_then}

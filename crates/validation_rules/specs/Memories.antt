@@ -1,5 +1,8 @@
 -- The rows of operators on whole memories and on data segments (WebAssembly core specification,
 -- "Validation: Memory Instructions").
+-- Addresses, sizes and lengths are of the type of the memory's addresses; the byte that `memory.fill`
+-- writes, and a place and a length in a segment, are i32. A data segment is one of the count that the
+-- module says; where it says none, there is none.
 use Rattle.std.specs.Prelude.{ℕ, Bool, false, nat_lt, [], ◌∷◌, Option, Some, None}
 use Rattle.std.specs.Option.{option_map}
 use Rattle.validate_types.specs.Types.{address_type_of_memory}

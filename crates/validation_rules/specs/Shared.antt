@@ -1,5 +1,8 @@
 -- The rows of operators of shared-everything threads: atomic accesses to globals, tables, structs and arrays,
 -- and `ref.i31_shared` (proposal "shared-everything-threads").
+-- `get`, `set` and `xchg` access integers and references below `any`, `cmpxchg` integers and references
+-- below `eq`, the others integers alone. `set` writes packed integers too; `get_s` and `get_u` read nothing
+-- else.
 use Rattle.std.specs.Prelude.{ℕ, Bool, true, false, ◌&&◌, ◌||◌, List, [], ◌∷◌, ◌++◌}
 use Rattle.validate_types.specs.Refs.{nullable_reference, non_null_reference}
 use Rattle.validate_types.specs.Types.{is_packed, address_type_of_table}

@@ -214,6 +214,14 @@ step_in cx op (f ∷ fs) left =
 abbrev pub step : Context → Operator → State → Option State
 step cx op s = step_in cx op s.frames s.left
 
+-- the row of the operator holds in the state s, and t is the state after it
+abbrev pub RowHolds : Context → Operator → State → State → Type 0
+RowHolds cx op s t = step cx op s ≡ Some t
+
+-- its row doesn't hold
+abbrev pub RowFails : Context → Operator → State → Type 0
+RowFails cx op s = step cx op s ≡ None
+
 -- the state before place k, if the rows of all operators before it hold
 abbrev pub state_before : Context → List Operator → State → ℕ → Option State
 state_before cx code s zero = Some s

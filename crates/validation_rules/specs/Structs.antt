@@ -1,6 +1,7 @@
 -- The rows of operators on structs (WebAssembly core specification, "Validation: Aggregate
 -- Instructions"; the shared marks are those of the shared-everything-threads proposal, descriptors those of a
 -- proposal, "Custom Descriptors").
+-- A packed integer is an i32 as an operand.
 use Rattle.std.specs.Prelude.{ℕ, Bool, true, not, List, [], ◌∷◌, ◌++◌, Option, Some, None, is_none, slice_get}
 use Rattle.std.specs.List.{list_all}
 use Rattle.std.specs.Option.{option_and_then}

@@ -1,5 +1,8 @@
 -- The rows of operators on tables and element segments (WebAssembly core specification, "Validation:
 -- Table Instructions"; the shared marks are those of the shared-everything-threads proposal).
+-- Addresses, sizes, places and lengths are of the type of the table's addresses; a place and a length in a
+-- segment are i32. A length that two tables share is an i64 where both have addresses of 64 bits, else an
+-- i32. What is put into a table lies below its element type.
 use Rattle.std.specs.Prelude.{ℕ, [], ◌∷◌, Option, Some}
 use Rattle.std.specs.Option.{option_and_then}
 use Rattle.validate_types.specs.Types.{address_type_of_table}

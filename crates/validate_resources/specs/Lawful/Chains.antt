@@ -15,8 +15,8 @@ use Rattle.validate_types.specs.Heap.{number_of}
 use Rattle.validate_types.specs.declared.heap.UnpackedIndex.{UnpackedIndex}
 use Rattle.validate_types.specs.declared.types.CompositeType.{CompositeType}
 use Rattle.validate_types.specs.declared.types.SubType.{SubType}
-use Rattle.validate_resources.specs.Order.{is_same_sort, has_fitting_supertype}
-use Rattle.validate_resources.specs.Order.{have_fitting_supertypes}
+use Rattle.validate_resources.specs.Order.{is_same_sort, has_supertype_of_its_sort}
+use Rattle.validate_resources.specs.Order.{have_supertypes_of_their_sort}
 use Rattle.validate_resources.specs.Order.{earlier_index, declared_supertype, supertype_of, chain_by}
 use Rattle.validate_resources.specs.Order.{chains, supertypes, is_on_chain, is_index_below}
 
@@ -110,7 +110,7 @@ enumerated p n zero (y ∷ ys) x h e = let is : y ≡ x = cc in let at : n ≡ n
 enumerated p n (suc i) (y ∷ ys) x h e = let at : (n + 1) + i ≡ n + suc i = omega arith in
     rw (← at) (enumerated p (n + 1) i ys x (and_parts (p (n, y)) _ h).1 e)
 
-fits-sort : (types : List SubType) (k u : ℕ) (c : CompositeType) (x : Option UnpackedIndex) → has_fitting_supertype types k c x ≡ true → earlier_index k x ≡ Some u → is_same_sort c (slice_get types u) ≡ true
+fits-sort : (types : List SubType) (k u : ℕ) (c : CompositeType) (x : Option UnpackedIndex) → has_supertype_of_its_sort types k c x ≡ true → earlier_index k x ≡ Some u → is_same_sort c (slice_get types u) ≡ true
 fits-sort types k u c None h e = cc
 fits-sort types k u c (Some i) h e =
     let is = cond_some (nat_lt (number_of i) k) (number_of i) u e in
@@ -120,18 +120,18 @@ fits-sort types k u c (Some i) h e =
 abbrev pub KeepsSort : {X : Type 0} → (Option SubType → X) → Type 0
 KeepsSort shown = (s t : SubType) → is_same_sort s.composite_type (Some t) ≡ true → shown (Some s) ≡ shown (Some t)
 
-declared-sort : {X : Type 0} (shown : Option SubType → X) → KeepsSort shown → (types : List SubType) (k u : ℕ) (o : Option SubType) → slice_get types k ≡ o → have_fitting_supertypes types ≡ true → declared_supertype k o ≡ Some u → shown o ≡ shown (slice_get types u)
+declared-sort : {X : Type 0} (shown : Option SubType → X) → KeepsSort shown → (types : List SubType) (k u : ℕ) (o : Option SubType) → slice_get types k ≡ o → have_supertypes_of_their_sort types ≡ true → declared_supertype k o ≡ Some u → shown o ≡ shown (slice_get types u)
 declared-sort shown keeps types k u None is h e = cc
 declared-sort shown keeps types k u (Some s) is h e =
     let zero_more : 0 + k ≡ k = omega arith in
-    let fits = enumerated (λ (e : ℕ × SubType). has_fitting_supertype types e.0 e.1.composite_type e.1.supertype_idx) 0 k types s h is in
+    let fits = enumerated (λ (e : ℕ × SubType). has_supertype_of_its_sort types e.0 e.1.composite_type e.1.supertype_idx) 0 k types s h is in
     same (slice_get types u) (fits-sort types k u s.composite_type s.supertype_idx (rw zero_more at fits) e)
   where
     same : (p : Option SubType) → is_same_sort s.composite_type p ≡ true → shown (Some s) ≡ shown p
     same None f = cc
     same (Some t) f = keeps s t f
 
-below-sort : {X : Type 0} (shown : Option SubType → X) → KeepsSort shown → (types : List SubType) (m i j : ℕ) → have_fitting_supertypes types ≡ true → i < m → is_index_below types i j ≡ true → shown (slice_get types i) ≡ shown (slice_get types j)
+below-sort : {X : Type 0} (shown : Option SubType → X) → KeepsSort shown → (types : List SubType) (m i j : ℕ) → have_supertypes_of_their_sort types ≡ true → i < m → is_index_below types i j ≡ true → shown (slice_get types i) ≡ shown (slice_get types j)
 below-sort shown keeps types zero i j h l g = absurd (omega arith)
 below-sort shown keeps types (suc m) i j h l g =
     ⊎_elim (λ e. ap (λ n. shown (slice_get types n)) (eqb-true i j e))
@@ -140,5 +140,5 @@ below-sort shown keeps types (suc m) i j h l g =
     (or_cases (i == j) _ g)
 
 -- what two types of the same kind and sharedness show alike, types on one chain do
-pub index-sort : {X : Type 0} (shown : Option SubType → X) → KeepsSort shown → (types : List SubType) (i j : ℕ) → have_fitting_supertypes types ≡ true → is_index_below types i j ≡ true → shown (slice_get types i) ≡ shown (slice_get types j)
+pub index-sort : {X : Type 0} (shown : Option SubType → X) → KeepsSort shown → (types : List SubType) (i j : ℕ) → have_supertypes_of_their_sort types ≡ true → is_index_below types i j ≡ true → shown (slice_get types i) ≡ shown (slice_get types j)
 index-sort shown keeps types i j h g = below-sort shown keeps types (suc i) i j h (omega arith) g

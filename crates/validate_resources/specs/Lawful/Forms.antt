@@ -31,11 +31,11 @@ use Rattle.validate_types.specs.Types.{Signature, unpacked_type, unpacked_fields
 use Rattle.validate_resources.specs.Indices.{is_known, is_id, heap_indices_pass, type_indices_pass, option_index_passes, composite_indices_pass}
 use Rattle.validate_resources.specs.Indices.{storage_indices_pass, field_indices_pass, storage_with_id, field_with_id, inner_indices_pass, sub_indices_pass, index_with_id, heap_with_id, ref_with_id}
 use Rattle.validate_resources.specs.Indices.{type_with_id, table_with_id, global_with_id, inner_with_ids, composite_with_ids, sub_with_ids}
-use Rattle.validate_resources.specs.Order.{is_same_kind, is_same_sort, has_fitting_supertype}
-use Rattle.validate_resources.specs.Order.{have_fitting_supertypes}
+use Rattle.validate_resources.specs.Order.{is_same_kind, is_same_sort, has_supertype_of_its_sort}
+use Rattle.validate_resources.specs.Order.{have_supertypes_of_their_sort}
 use Rattle.validate_resources.specs.Order.{is_type_below}
 use Rattle.validate_resources.specs.Lists.{Declared, context_of, is_valid_below, list_indices_pass, is_func_type, is_of_func_type, continues_function, have_func_types, has_fitting_descriptor}
-use Rattle.validate_resources.specs.Lists.{is_module, module_of, canonical_lists}
+use Rattle.validate_resources.specs.Lists.{may_be_looked_up, module_of, canonical_lists}
 
 -- ---- validity in a context of lists
 
@@ -205,7 +205,7 @@ sort-same : (s : SubType) (o : Option SubType) → is_same_sort (sub_with_ids s)
 sort-same s None = refl
 sort-same s (Some t) = ap (λ b. b && beq s.composite_type.shared t.composite_type.shared) (kinds-same s.composite_type.inner t.composite_type.inner)
 
-fits-same : (types : List SubType) (k : ℕ) (s : SubType) (o : Option UnpackedIndex) → has_fitting_supertype (map sub_with_ids types) k (sub_with_ids s).composite_type (option_map index_with_id o) ≡ has_fitting_supertype types k s.composite_type o
+fits-same : (types : List SubType) (k : ℕ) (s : SubType) (o : Option UnpackedIndex) → has_supertype_of_its_sort (map sub_with_ids types) k (sub_with_ids s).composite_type (option_map index_with_id o) ≡ has_supertype_of_its_sort types k s.composite_type o
 fits-same types k s None = refl
 fits-same types k s (Some i) =
     ap (λ b. nat_lt (number_of i) k && b)
@@ -254,7 +254,7 @@ enumerated-same : {X Y : Type 0} (p : ℕ × Y → Bool) (q : ℕ × X → Bool)
 enumerated-same p q f same n [] = refl
 enumerated-same p q f same n (x ∷ xs) = ap₂ (λ a b. a && b) (same n x) (enumerated-same p q f same (n + 1) xs)
 
-supertypes-same : (types : List SubType) → have_fitting_supertypes (map sub_with_ids types) ≡ have_fitting_supertypes types
+supertypes-same : (types : List SubType) → have_supertypes_of_their_sort (map sub_with_ids types) ≡ have_supertypes_of_their_sort types
 supertypes-same types = enumerated-same _ _ sub_with_ids (λ k s. fits-same types k s s.supertype_idx) 0 types
 
 indices-same : (n : ℕ) (d : Declared) → list_indices_pass (is_id n) (map sub_with_ids d.types) (map table_with_id d.tables) (map global_with_id d.globals) (map ref_with_id d.elements) ≡ list_indices_pass (is_known n) d.types d.tables d.globals d.elements
@@ -265,13 +265,13 @@ indices-same n d =
     (all-same _ _ global_with_id (λ g. type-ids n g.content_type) d.globals))
     (all-same _ _ ref_with_id (λ r. heap-ids n r.heap_type) d.elements)
 
-pub module-same : (d : Declared) → is_module is_id (canonical_lists d) ≡ is_module is_known d
+pub module-same : (d : Declared) → may_be_looked_up is_id (canonical_lists d) ≡ may_be_looked_up is_known d
 module-same d =
     let n : ℕ = length d.types in
-    let at : ℕ → Bool = λ m. nat_le m MAX_TYPES && list_indices_pass (is_id m) (map sub_with_ids d.types) (map table_with_id d.tables) (map global_with_id d.globals) (map ref_with_id d.elements) && have_fitting_supertypes (map sub_with_ids d.types) && have_func_types (canonical_lists d) && list_all has_fitting_descriptor (map sub_with_ids d.types) in
+    let at : ℕ → Bool = λ m. nat_le m MAX_TYPES && list_indices_pass (is_id m) (map sub_with_ids d.types) (map table_with_id d.tables) (map global_with_id d.globals) (map ref_with_id d.elements) && have_supertypes_of_their_sort (map sub_with_ids d.types) && have_func_types (canonical_lists d) && list_all has_fitting_descriptor (map sub_with_ids d.types) in
     ap at (length-map d.types sub_with_ids)
     ∙ ap₂ (λ a b. nat_le n MAX_TYPES && a && b && have_func_types (canonical_lists d) && list_all has_fitting_descriptor (map sub_with_ids d.types)) (indices-same n d) (supertypes-same d.types)
-    ∙ ap₂ (λ b c. nat_le n MAX_TYPES && list_indices_pass (is_known n) d.types d.tables d.globals d.elements && have_fitting_supertypes d.types && b && c)
+    ∙ ap₂ (λ b c. nat_le n MAX_TYPES && list_indices_pass (is_known n) d.types d.tables d.globals d.elements && have_supertypes_of_their_sort d.types && b && c)
     (ap₂ (λ a b. a && b) (ap₂ (λ a b. a && b) (functions-same (λ (f : FuncDecl). f.type_index) d.types d.functions) (functions-same (λ (i : ℕ). i) d.types d.tags)) (all-same _ _ sub_with_ids (continued-same d.types) d.types))
     (all-same _ _ sub_with_ids descriptor-same d.types)
 
@@ -305,16 +305,16 @@ known-in d h =
 
 -- what the lists of a module pass, up to the supertypes, and up to the kinds of functions
 abbrev up_to_supertypes : Declared → Bool
-up_to_supertypes d = nat_le (length d.types) MAX_TYPES && list_indices_pass (is_known (length d.types)) d.types d.tables d.globals d.elements && have_fitting_supertypes d.types
+up_to_supertypes d = nat_le (length d.types) MAX_TYPES && list_indices_pass (is_known (length d.types)) d.types d.tables d.globals d.elements && have_supertypes_of_their_sort d.types
 
 abbrev up_to_functions : Declared → Bool
 up_to_functions d = up_to_supertypes d && have_func_types d
 
-functions-of : (d : Declared) → is_module is_known d ≡ true → have_func_types d ≡ true
+functions-of : (d : Declared) → may_be_looked_up is_known d ≡ true → have_func_types d ≡ true
 functions-of d e = (and_parts (up_to_supertypes d) _ (and_parts (up_to_functions d) _ e).0).1
 
-no-module-by : (d : Declared) → (is_module is_known d ≡ true → true ≡ false) → module_of d ≡ None
-no-module-by d h = ap (λ b. if b then Some (canonical_lists d) else None) (false-by (is_module is_known d) h)
+no-module-by : (d : Declared) → (may_be_looked_up is_known d ≡ true → true ≡ false) → module_of d ≡ None
+no-module-by d h = ap (λ b. if b then Some (canonical_lists d) else None) (false-by (may_be_looked_up is_known d) h)
 
 -- where one isn't of functions, the lists are no module
 pub no-functions : (d : Declared) → have_func_types d ≡ false → module_of d ≡ None

@@ -24,7 +24,7 @@ use Rattle.validate_types.specs.declared.types.SubType.{SubType}
 use Rattle.validate_types.specs.declared.types.ValType.{ValType}
 use Rattle.validate_types.specs.declared.types.ValType.TheVariants.{I32, I64, F32, F64, V128, Ref}
 use Rattle.validate_resources.specs.Context.{is_number_or_vector}
-use Rattle.validate_resources.specs.Order.{is_shared_type, is_shared_at, is_heap_shared, have_fitting_supertypes}
+use Rattle.validate_resources.specs.Order.{is_shared_type, is_shared_at, is_heap_shared, have_supertypes_of_their_sort}
 use Rattle.validate_resources.specs.Order.{is_same_kind, abstract_kind, kind_bottom}
 use Rattle.validate_resources.specs.Order.{is_declared_below, is_below_declared, is_heap_below, is_ref_below}
 use Rattle.validate_resources.specs.Order.{is_index_below, is_type_below}
@@ -168,7 +168,7 @@ below-shared : (z : Bool) (a : AbstractHeapType) (o : Option SubType) → is_bel
 below-shared z a None h = cc
 below-shared z a (Some s) h = beq-equal _ _ (and_parts (beq z s.composite_type.shared) _ h).0
 
-pub heap-shared : (types : List SubType) → have_fitting_supertypes types ≡ true → (h k : HeapType) → is_heap_below types h k ≡ true → is_heap_shared types h ≡ is_heap_shared types k
+pub heap-shared : (types : List SubType) → have_supertypes_of_their_sort types ≡ true → (h k : HeapType) → is_heap_below types h k ≡ true → is_heap_shared types h ≡ is_heap_shared types k
 heap-shared types fit (Abstract s a) (Abstract z b) e = beq-equal s z (and_parts (beq s z) _ e).0
 heap-shared types fit (Abstract s a) (Concrete j) e = below-shared s a (slice_get types (number_of j)) e
 heap-shared types fit (Concrete i) (Abstract z b) e = declared-shared (slice_get types (number_of i)) z b e
@@ -212,7 +212,7 @@ through-abstract (Some s) (Some t) z b h k =
     let holds = (and_parts (beq s.composite_type.shared t.composite_type.shared) _ on).1 in
     cc
 
-pub heap-transitive : (types : List SubType) → have_fitting_supertypes types ≡ true → (h k l : HeapType) → is_heap_below types h k ≡ true → is_heap_below types k l ≡ true → is_heap_below types h l ≡ true
+pub heap-transitive : (types : List SubType) → have_supertypes_of_their_sort types ≡ true → (h k l : HeapType) → is_heap_below types h k ≡ true → is_heap_below types k l ≡ true → is_heap_below types h l ≡ true
 heap-transitive types fit (Abstract s a) (Abstract z b) (Abstract w c) e f = abstract-through s z w a b c e f
 heap-transitive types fit (Abstract s a) (Abstract z b) (Concrete l) e f = abstract-declared s z a b (slice_get types (number_of l)) e f
 heap-transitive types fit (Abstract s a) (Concrete j) (Abstract w c) e f = through-declared s w a c (slice_get types (number_of j)) e f
@@ -296,7 +296,7 @@ null-transitive false y false h k = refl
 pub ref-reflexive : (types : List SubType) (r : RefType) → is_ref_below types r r ≡ true
 ref-reflexive types r = and_from _ _ (heap-reflexive types r.heap_type) (null-reflexive r.nullable)
 
-ref-transitive : (types : List SubType) → have_fitting_supertypes types ≡ true → (r s t : RefType) → is_ref_below types r s ≡ true → is_ref_below types s t ≡ true → is_ref_below types r t ≡ true
+ref-transitive : (types : List SubType) → have_supertypes_of_their_sort types ≡ true → (r s t : RefType) → is_ref_below types r s ≡ true → is_ref_below types s t ≡ true → is_ref_below types r t ≡ true
 ref-transitive types fit r s t e f =
     let p = and_parts (is_heap_below types r.heap_type s.heap_type) _ e in
     let q = and_parts (is_heap_below types s.heap_type t.heap_type) _ f in
@@ -334,7 +334,7 @@ below-ref types V128 s h = cc
 below-number : (types : List SubType) (t u v : ValType) → is_number_or_vector v ≡ true → is_type_below types t u ≡ true → is_type_below types u v ≡ true → is_type_below types t v ≡ true
 below-number types t u v n h k = subst (λ w. is_type_below types t w ≡ true) (number-below types u v k n) h
 
-pub type-transitive : (types : List SubType) → have_fitting_supertypes types ≡ true → (t u v : ValType) → is_type_below types t u ≡ true → is_type_below types u v ≡ true → is_type_below types t v ≡ true
+pub type-transitive : (types : List SubType) → have_supertypes_of_their_sort types ≡ true → (t u v : ValType) → is_type_below types t u ≡ true → is_type_below types u v ≡ true → is_type_below types t v ≡ true
 type-transitive types fit t u (Ref v) h k =
     let (s, is, e) = below-ref types u v k in
     let (r, was, f) = below-ref types t s (subst (λ w. is_type_below types t w ≡ true) is h) in

@@ -1,7 +1,7 @@
 //! The order on the types of a module.
 
 ghost use Rattle.std.specs.Prelude.{◌≡◌, true, false, slice_get};
-ghost use Rattle.validate_resources.specs.Order.{is_shared_at, is_heap_shared, is_same_kind, abstract_kind, kind_bottom, is_same_sort, has_fitting_supertype, have_fitting_supertypes, supertype_of, is_index_below, is_declared_below, is_below_declared, declared_top, heap_top, is_heap_below, is_ref_below, is_type_below};
+ghost use Rattle.validate_resources.specs.Order.{is_shared_at, is_heap_shared, is_same_kind, abstract_kind, kind_bottom, is_same_sort, has_supertype_of_its_sort, have_supertypes_of_their_sort, supertype_of, is_index_below, is_declared_below, is_below_declared, declared_top, heap_top, is_heap_below, is_ref_below, is_type_below};
 ghost use Rattle.validate_types.specs.Abstract.{abstract_top};
 
 use crate::lists::canonical::number;
@@ -87,7 +87,7 @@ fn supertype_fits(
     composite_type: &CompositeType,
     supertype: Option<PackedIndex>,
 ) -> bool
-    ensures { result ≡ has_fitting_supertype types.now index composite_type.now supertype }
+    ensures { result ≡ has_supertype_of_its_sort types.now index composite_type.now supertype }
 {
     match supertype {
         None => true,
@@ -100,7 +100,7 @@ fn supertype_fits(
 
 /// Whether each declared supertype is an earlier type of the same kind and sharedness.
 pub fn supertypes_fit(types: &[SubType]) -> bool
-    ensures { result ≡ have_fitting_supertypes types.now }
+    ensures { result ≡ have_supertypes_of_their_sort types.now }
 {
     types.iter().enumerate().all(|(index, ty)| {
         supertype_fits(types, index, &ty.composite_type, ty.supertype_idx)

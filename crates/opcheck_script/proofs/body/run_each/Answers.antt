@@ -1,8 +1,6 @@
 use Rattle.std.proofs.Common.{◌≡◌, true, Ok, subst}
-use Rattle.validate_visit.specs.declared.frame.BlockType.{BlockType}
 use Rattle.validate_func.specs.Functions.{FunctionState}
-use Rattle.validate_body.specs.Runs.{IsSafeFrom}
-use Rattle.validation_rules.specs.Static.{start}
+use Rattle.validate_body.specs.Runs.{IsSafe}
 use Rattle.opcheck_script.specs.Attempts.{accepted_of}
 use Rattle.opcheck_script.proofs.body.run_each.Goals as goal
 
@@ -10,5 +8,5 @@ pub returns-clause-safe : goal.returns-clause-safe
 returns-clause-safe g c =
     let outcome = c.answer_each-outcome.result in
     let accepted = accepted_of c.args.ops.now c.answer_each-outcome.new.answers.items in
-    subst (λ (f : FunctionState g.row.R.Denot). outcome ≡ Ok true → (ty : BlockType) → f.starting.present ≡ start ty → IsSafeFrom (g.R.WasmModuleResources.context f.resources) f.starting accepted ty)
+    subst (λ (f : FunctionState g.row.R.Denot). outcome ≡ Ok true → IsSafe (g.R.WasmModuleResources.context f.resources) f.starting accepted)
     c.new-function.ensures c.answer_each-outcome.ensures.safe

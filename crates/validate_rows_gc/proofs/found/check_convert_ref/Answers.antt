@@ -1,7 +1,8 @@
 use Rattle.std.proofs.Common.{rules, ◌≡◌, None, Some, sym, ap, ap₂, ◌∙◌}
 use Rattle.std.specs.Option.{option_map, option_and_then}
 use Rattle.validation_rules.specs.Fits.{MaybeType}
-use Rattle.validation_rules.specs.Found.{operand_found_below, converted_operand}
+use Rattle.validation_rules.specs.Found.{converted_operand}
+use Rattle.validate_rows_gc.specs.Found.{operand_found_below}
 use Rattle.validate_stacks.specs.State.{BodyState}
 use Rattle.validate_stacks.specs.Steps.{found_in_body, body_popped, body_pushed}
 use Rattle.validate_stacks.proofs.Validity.{kept_on}

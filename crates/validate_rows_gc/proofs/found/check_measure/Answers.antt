@@ -2,7 +2,7 @@ use Rattle.std.proofs.Common.{rules, ◌≡◌, None, Some, refl, sym, ap, ◌�
 use Rattle.std.specs.Option.{option_map, option_and_then}
 use Rattle.validation_rules.specs.Context.{I32}
 use Rattle.validation_rules.specs.Fits.{MaybeType, Known}
-use Rattle.validation_rules.specs.Found.{operand_found_below}
+use Rattle.validate_rows_gc.specs.Found.{operand_found_below}
 use Rattle.validate_stacks.specs.State.{BodyState}
 use Rattle.validate_stacks.specs.Steps.{found_in_body, body_popped, body_pushed}
 use Rattle.validate_stacks.proofs.Validity.{kept_on}

@@ -2,7 +2,8 @@ use Rattle.std.proofs.Common.{◌≡◌, Some, refl, sym, ap, ◌∙◌, subst}
 use Rattle.std.specs.Option.{option_map, option_and_then}
 use Rattle.validation_rules.specs.Context.{I32}
 use Rattle.validation_rules.specs.Fits.{MaybeType, Known}
-use Rattle.validation_rules.specs.Found.{measure_row, operand_found_below}
+use Rattle.validation_rules.specs.Found.{measure_row}
+use Rattle.validate_rows_gc.specs.Found.{operand_found_below}
 use Rattle.validation_rules.specs.Operators.{row_operator}
 use Rattle.validation_rules.specs.Rows.{guard}
 use Rattle.validate_stacks.specs.AtOnce.{MeetsAtOnce}

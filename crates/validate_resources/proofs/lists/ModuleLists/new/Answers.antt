@@ -3,8 +3,8 @@ use Rattle.std.specs.List.{list_all}
 use Rattle.std.proofs.lemmas.Bool.{and_from}
 use Rattle.std.proofs.lemmas.Grind.{common_steps}
 use Rattle.validate_resources.specs.Indices.{is_known}
-use Rattle.validate_resources.specs.Lists.{Declared, declared_by, is_module, canonical_lists, list_indices_pass, have_func_types, has_fitting_descriptor}
-use Rattle.validate_resources.specs.Order.{have_fitting_supertypes}
+use Rattle.validate_resources.specs.Lists.{Declared, declared_by, may_be_looked_up, canonical_lists, list_indices_pass, have_func_types, has_fitting_descriptor}
+use Rattle.validate_resources.specs.Order.{have_supertypes_of_their_sort}
 use Rattle.validate_resources.specs.declared.lists.TheConstants.{MAX_TYPES}
 use Rattle.validate_resources.specs.Lawful.Forms.{module-same, have_known_types, no-module, no-functions, no-descriptors}
 use Rattle.validate_resources.proofs.lists.ModuleLists.new.Goals.{Start, Else-not-have_fitting_descriptors}
@@ -13,12 +13,12 @@ use Rattle.validate_resources.proofs.lists.ModuleLists.new.Goals as goal
 abbrev lists : Start → Declared
 lists c = declared_by c.args.types.items c.args.functions.items c.args.tables.items c.args.memories.items c.args.globals.items c.args.tags.items c.args.elements.items c.args.data_count
 
-lists_are_module : (c : Else-not-have_fitting_descriptors) → is_module is_known (lists (goal.at.Else-not-have_fitting_descriptors c).Start) ≡ true
+lists_are_module : (c : Else-not-have_fitting_descriptors) → may_be_looked_up is_known (lists (goal.at.Else-not-have_fitting_descriptors c).Start) ≡ true
 lists_are_module c =
     let d : Declared = lists (goal.at.Else-not-have_fitting_descriptors c).Start in
     let few : nat_le (length d.types) MAX_TYPES ≡ true = grind (arith, common_steps) in
     let known : list_indices_pass (is_known (length d.types)) d.types d.tables d.globals d.elements ≡ true = grind (arith, common_steps) in
-    let supertypes : have_fitting_supertypes d.types ≡ true = grind (arith, common_steps) in
+    let supertypes : have_supertypes_of_their_sort d.types ≡ true = grind (arith, common_steps) in
     let func_types : have_func_types d ≡ true =
     rw (sym c.deref-8.ensures.value, sym c.deref-9.ensures.value, sym c.deref-10.ensures.value)
     (sym c.have_func_types.ensures ∙ c.if-not-have_func_types.false) in

@@ -7,7 +7,7 @@ ghost use Rattle.validate_stacks.specs.Visits.{MayVisit};
 
 use crate::left::{Left, check_list};
 use crate::places::add_operands;
-use crate::printed::add_printed;
+use crate::printed::{add_printed, begun};
 use crate::report::Report;
 use crate::seen::Seen;
 use crate::undone::run_lines;
@@ -15,9 +15,8 @@ use odd_lookups::{Check, PairedLists, WantingLists};
 use opcheck_script::module_lists;
 use script_reader::{BodyLine, Operators, Script, read_script};
 use std::alloc::{AllocError, Global};
-use validate_body::{OperatorValidator, begin_body, try_op};
+use validate_body::{OperatorValidator, try_op};
 use validate_resources::{ModuleLists, WasmModuleResources};
-use validate_stacks::OperatorValidatorAllocations;
 use validate_types::{Error, WasmFeatures};
 use validate_visit::{LocalGroup, Op};
 
@@ -126,12 +125,11 @@ fn run_begun<R: WasmModuleResources>(
     report: &mut Report,
     resources: &R,
     features: &WasmFeatures,
-    (line, locals): (BodyLine, &[LocalGroup]),
+    begin: (BodyLine, &[LocalGroup]),
     ops: &[(Op<'_>, u64)],
     work: Work<'_>,
 ) -> Result<(), AllocError> {
-    let allocs = OperatorValidatorAllocations::new(alloc);
-    match begin_body(resources, features, line.kind, line.offset, locals, allocs) {
+    match begun(alloc, resources, features, begin) {
         Ok(mut v) => run_lent(alloc, report, &mut v, ops, resources, work),
         Err(_) => cannot_begin(report, work.script, work.task),
     }

@@ -1,6 +1,6 @@
 //! What the program prints of a body, over any lookup.
 
-ghost use Rattle.std.specs.Prelude.{◌≡◌, true};
+ghost use Rattle.std.specs.Prelude.{◌≡◌, true, IfOk};
 ghost use Rattle.std.specs.List.{list_all};
 ghost use Rattle.validate_body.specs.Runs.{without_offsets};
 ghost use Rattle.validate_body.specs.Start.{state};
@@ -58,13 +58,27 @@ fn add_run<R: WasmModuleResources>(
     add_report(alloc, report, &check)
 }
 
+/// A validator of the body that the line begins, with these locals.
+pub fn begun<R: WasmModuleResources>(
+    alloc: Global,
+    resources: &R,
+    features: &WasmFeatures,
+    begin: (BodyLine, &[LocalGroup]),
+) -> Result<OperatorValidator, Error>
+    ensures { IfOk result (λ v. IsStarting (R.context resources.now) (state v)) }
+{
+    let (line, locals) = begin;
+    let allocs = OperatorValidatorAllocations::new(alloc);
+    begin_body(resources, features, line.kind, line.offset, locals, allocs)
+}
+
 /// Runs the operators of a script as the program does, and prints what it prints.
 pub fn add_printed<R: WasmModuleResources>(
     alloc: Global,
     report: &mut Report,
     resources: &R,
     features: &WasmFeatures,
-    (line, locals): (BodyLine, &[LocalGroup]),
+    begin: (BodyLine, &[LocalGroup]),
     operators: &Operators<'_>,
     (script, shows): (&str, bool),
 ) -> Result<(), AllocError> {
@@ -72,8 +86,7 @@ pub fn add_printed<R: WasmModuleResources>(
     if !is_well_ordered(ops) || !have_module_immediates(ops) {
         return report.refuse(script, "is out of order");
     }
-    let allocs = OperatorValidatorAllocations::new(alloc);
-    match begin_body(resources, features, line.kind, line.offset, locals, allocs) {
+    match begun(alloc, resources, features, begin) {
         Ok(v) => add_run(alloc, report, v, operators, shows, resources),
         Err(refusal) => add_refused(alloc, report, refusal),
     }

@@ -1,5 +1,5 @@
 -- What a loaded module says of its bodies (the crate's own).
-use Rattle.std.specs.Prelude.{◌≡◌, ℕ, ◌-◌, ◌^◌, ◌≤◌, List, Option, Some, length, min, take, drop, slice_get}
+use Rattle.std.specs.Prelude.{◌≡◌, ℕ, ◌+◌, ◌-◌, ◌^◌, ◌≤◌, ◌<◌, List, Option, Some, length, min, take, drop, slice_get}
 use Rattle.binary_modules.specs.declared.module.ConstantExpression.{ConstantExpression}
 use Rattle.binary_operators.specs.declared.reader.ByteRange.{ByteRange}
 use Rattle.binary_operators.specs.declared.types.CanonicalTypes.{CanonicalTypes}
@@ -47,3 +47,18 @@ pub record IsSafeExpression
   pub types : CanonicalTypes
   pub are_types : AreTypesOf m types
   pub is_safe : IsSafeCode (declared m) features types (Expression e.ty) (bytes_in m e.range)
+
+-- each of the module's first bodies, as many as these, is type safe, where its function's index has 32 bits
+abbrev pub AreSafeBodies : LoadedModule → WasmFeatures → ℕ → Type 0
+AreSafeBodies m features count = (body : ℕ) → body < count → m.imported_functions + body < 2 ^ 32
+    → IsSafeFunction m features (m.imported_functions + body)
+
+-- each of its first constant expressions, as many as these, is type safe
+abbrev pub AreSafeExpressions : LoadedModule → WasmFeatures → ℕ → Type 0
+AreSafeExpressions m features count = (place : ℕ) → (e : ConstantExpression) → place < count
+    → slice_get m.expressions.items place ≡ Some e → IsSafeExpression m features e
+
+-- each body and each constant expression of the module is type safe
+pub record IsSafeModule (m : LoadedModule) (features : WasmFeatures) : Type 0 where
+  pub bodies : AreSafeBodies m features (length m.bodies.items)
+  pub expressions : AreSafeExpressions m features (length m.expressions.items)

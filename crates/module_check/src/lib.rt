@@ -15,5 +15,5 @@ pub use crate::buffers::BodyBuffers;
 pub use crate::loaded::LoadedModule;
 pub use crate::report::{Failure, Item, Verdict};
 pub use crate::summary::ModuleVerdict;
-pub use crate::whole::validate;
+pub use crate::whole::{check_module, validate};
 pub use binary_modules::{ConstantExpression, FunctionNames, Place};

@@ -1,6 +1,6 @@
 //! A module whose bodies are to be checked.
 
-ghost use Rattle.std.specs.Prelude.{◌≡◌, ◌≤◌, Some, IfSome, OnSome};
+ghost use Rattle.std.specs.Prelude.{◌≡◌, ◌≤◌, ◌<◌, ◌+◌, ◌^◌, length, Some, IfSome, OnSome};
 ghost use Rattle.binary_operators.specs.declared.types.CanonicalTypes.{CanonicalTypes};
 ghost use Rattle.module_check.specs.Loaded.{declared, bytes_in, body_range, AreTypesOf, IsSafeFunction};
 ghost use Rattle.module_check.specs.Loaded.{IsSafeExpression};
@@ -76,12 +76,16 @@ impl<'a> LoadedModule<'a> {
     }
 
     /// How many bodies it has.
-    pub fn bodies(&self) -> usize {
+    pub fn bodies(&self) -> usize
+        ensures { result ≡ length self.now.bodies.items }
+    {
         self.bodies.len()
     }
 
     /// Its constant expressions.
-    pub fn expressions(&self) -> &[ConstantExpression] {
+    pub fn expressions(&self) -> &[ConstantExpression]
+        ensures { result.now ≡ self.now.expressions.items }
+    {
         &self.expressions
     }
 
@@ -91,7 +95,9 @@ impl<'a> LoadedModule<'a> {
     }
 
     /// The index of the function whose body is the one at this index.
-    pub fn function_of(&self, body: usize) -> u32 {
+    pub fn function_of(&self, body: usize) -> u32
+        ensures { self.now.imported_functions + body < 2 ^ 32 → result ≡ self.now.imported_functions + body }
+    {
         let function = self.imported_functions.saturating_add(body);
         u32::try_from(function).unwrap_or(u32::MAX)
     }

@@ -1,6 +1,7 @@
 //! What the check of a module comes to.
 
-ghost use Rattle.std.specs.Prelude.{◌≡◌, ◌≤◌, length, take};
+ghost use Rattle.std.specs.Prelude.{◌≡◌, ◌≢◌, ◌≤◌, length, take};
+ghost use Rattle.module_check.specs.declared.report.Verdict.TheVariants.{Accepted};
 ghost use Rattle.module_check.specs.Told.{IsTold};
 
 use crate::report::{Item, Verdict};
@@ -121,7 +122,8 @@ impl ModuleVerdict {
     /// Counts what isn't covered, at this offset, and tells it where nothing else is told.
     fn note_not_covered(&mut self, item: Option<Item>, offset: u64, text: &mut [u8])
         requires { IsTold (length text.old) self.old }
-        ensures { IsTold (length text.new) self.new }
+        ensures told { IsTold (length text.new) self.new }
+        ensures not_accepted { self.new.status ≢ 0 }
     {
         self.not_covered = self.not_covered.saturating_add(1);
         if self.status == ACCEPTED {
@@ -132,7 +134,8 @@ impl ModuleVerdict {
     /// Counts a verdict, and tells it where it weighs more than what is told.
     pub fn note(&mut self, verdict: &Verdict, item: Option<Item>, text: &mut [u8])
         requires { IsTold (length text.old) self.old }
-        ensures { IsTold (length text.new) self.new }
+        ensures told { IsTold (length text.new) self.new }
+        ensures accepted { self.new.status ≡ 0 → (self.old.status ≡ 0) × (verdict.now ≡ Accepted) }
     {
         match verdict {
             Verdict::Accepted => self.accepted = self.accepted.saturating_add(1),

@@ -1,6 +1,7 @@
 //! The check of a module, or of one of its bodies, with all proposals on.
 
-ghost use Rattle.std.specs.Prelude.{◌≡◌, length};
+ghost use Rattle.std.specs.Prelude.{◌≡◌, length, None, IfSome};
+ghost use Rattle.module_check.specs.Loaded.{AreSafeExpressions, IsSafeFunction, IsSafeModule};
 ghost use Rattle.module_check.specs.Told.{IsTold};
 
 use crate::buffers::BodyBuffers;
@@ -13,15 +14,18 @@ use validate_types::{Flags, WasmFeatures};
 /// Checks each constant expression.
 fn check_expressions(
     module: &LoadedModule<'_>,
+    features: &WasmFeatures,
     buffers: &mut BodyBuffers,
     text: &mut [u8],
     out: &mut ModuleVerdict,
 )
     requires { IsTold (length text.old) out.old }
-    ensures { IsTold (length text.new) out.new }
+    ensures told { IsTold (length text.new) out.new }
+    ensures accepted { out.new.status ≡ 0 → (out.old.status ≡ 0)
+        × AreSafeExpressions module.now features.now (length module.now.expressions.items) }
 {
     for expression in module.expressions() {
-        let verdict = module.check_expression(&WasmFeatures::all(), expression, buffers);
+        let verdict = module.check_expression(features, expression, buffers);
         out.note(&verdict, Some(Item::Expression(expression.place)), text);
     }
 }
@@ -29,48 +33,58 @@ fn check_expressions(
 /// Checks the body of the function at this index.
 fn check_body(
     module: &LoadedModule<'_>,
+    features: &WasmFeatures,
     function: u32,
     buffers: &mut BodyBuffers,
     text: &mut [u8],
     out: &mut ModuleVerdict,
 )
     requires { IsTold (length text.old) out.old }
-    ensures { IsTold (length text.new) out.new }
+    ensures told { IsTold (length text.new) out.new }
+    ensures accepted { out.new.status ≡ 0 → (out.old.status ≡ 0)
+        × IsSafeFunction module.now features.now function }
 {
-    let verdict = module.check_function(&WasmFeatures::all(), function, buffers);
+    let verdict = module.check_function(features, function, buffers);
     out.note(&verdict, Some(Item::Function(function)), text);
 }
 
-/// Checks each body and each constant expression.
-fn check_all(
+/// Checks each body and each constant expression of a module that was read, and notes what they come to.
+///
+/// The status is 0 only if it was 0 before and each of them is accepted: then each
+/// is type safe.
+pub fn check_module(
     module: &LoadedModule<'_>,
+    features: &WasmFeatures,
     buffers: &mut BodyBuffers,
     text: &mut [u8],
     out: &mut ModuleVerdict,
 )
     requires { IsTold (length text.old) out.old }
-    ensures { IsTold (length text.new) out.new }
+    ensures told { IsTold (length text.new) out.new }
+    ensures accepted { out.new.status ≡ 0 → IsSafeModule module.now features.now }
 {
-    check_expressions(module, buffers, text, out);
+    check_expressions(module, features, buffers, text, out);
     for index in 0..module.bodies() {
         let function = module.function_of(index);
-        check_body(module, function, buffers, text, out);
+        check_body(module, features, function, buffers, text, out);
     }
 }
 
 /// Checks the body of the function at this index, if the module has one for it.
 fn check_one(
     module: &LoadedModule<'_>,
+    features: &WasmFeatures,
     function: u32,
     buffers: &mut BodyBuffers,
     text: &mut [u8],
     out: &mut ModuleVerdict,
 )
     requires { IsTold (length text.old) out.old }
-    ensures { IsTold (length text.new) out.new }
+    ensures told { IsTold (length text.new) out.new }
+    ensures accepted { out.new.status ≡ 0 → IsSafeFunction module.now features.now function }
 {
     if module.body_of(function).is_some() {
-        check_body(module, function, buffers, text, out);
+        check_body(module, features, function, buffers, text, out);
     } else {
         let item = Some(Item::Function(function));
         out.tell(
@@ -86,17 +100,20 @@ fn check_one(
 /// Checks each body and each constant expression, or the body of one function alone.
 fn check_chosen(
     module: &LoadedModule<'_>,
+    features: &WasmFeatures,
     function: Option<u32>,
     buffers: &mut BodyBuffers,
     text: &mut [u8],
     out: &mut ModuleVerdict,
 )
     requires { IsTold (length text.old) out.old }
-    ensures { IsTold (length text.new) out.new }
+    ensures told { IsTold (length text.new) out.new }
+    ensures body { IfSome function (λ f. out.new.status ≡ 0 → IsSafeFunction module.now features.now f) }
+    ensures module { function ≡ None → out.new.status ≡ 0 → IsSafeModule module.now features.now }
 {
     match function {
-        Some(function) => check_one(module, function, buffers, text, out),
-        None => check_all(module, buffers, text, out),
+        Some(function) => check_one(module, features, function, buffers, text, out),
+        None => check_module(module, features, buffers, text, out),
     }
 }
 
@@ -104,15 +121,18 @@ fn check_chosen(
 fn check_loaded(
     alloc: Global,
     module: &LoadedModule<'_>,
+    features: &WasmFeatures,
     function: Option<u32>,
     text: &mut [u8],
     out: &mut ModuleVerdict,
 )
     requires { IsTold (length text.old) out.old }
-    ensures { IsTold (length text.new) out.new }
+    ensures told { IsTold (length text.new) out.new }
+    ensures body { IfSome function (λ f. out.new.status ≡ 0 → IsSafeFunction module.now features.now f) }
+    ensures module { function ≡ None → out.new.status ≡ 0 → IsSafeModule module.now features.now }
 {
     let mut buffers = BodyBuffers::new(alloc);
-    check_chosen(module, function, &mut buffers, text, out);
+    check_chosen(module, features, function, &mut buffers, text, out);
 }
 
 /// The status of a verdict.
@@ -137,7 +157,7 @@ pub fn validate(
 {
     *out = ModuleVerdict::new();
     match LoadedModule::new(alloc, bytes) {
-        Ok(module) => check_loaded(alloc, &module, function, text, out),
+        Ok(module) => check_loaded(alloc, &module, &WasmFeatures::all(), function, text, out),
         Err(verdict) => out.note_module(&verdict, text),
     }
     status_of(out)

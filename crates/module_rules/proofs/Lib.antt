@@ -1,0 +1,10 @@
+pub mod Found
+pub mod LookedUp
+pub mod Marked
+pub mod Distinct
+pub mod Depth
+pub mod ExampleWords
+mod ExamplesTypes
+mod ExamplesDescriptors
+mod ExamplesItems
+mod ExamplesModule

@@ -1,0 +1,10 @@
+use Rattle.std.proofs.Common.{◌≡◌, true, take}
+use Rattle.module_rules.specs.Exports.{are_distinct}
+use Rattle.module_rules.proofs.Distinct.{names_of, Holds}
+use Rattle.module_rules.proofs.names.check_names.Given as goal
+
+abbrev pub invariant-loop-export : goal.invariant-loop-export
+invariant-loop-export l = record {
+  distinct : are_distinct (names_of (take l.export-index l.exports)) ≡ true;
+  held : Holds l.names (names_of (take l.export-index l.exports));
+}

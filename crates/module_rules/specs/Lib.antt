@@ -1,0 +1,17 @@
+pub mod Exported
+pub mod Declarations
+pub mod Features
+pub mod Matching
+pub mod Descriptors
+pub mod Types
+pub mod Limits
+pub mod Tables
+pub mod Memories
+pub mod Globals
+pub mod Functions
+pub mod Exports
+pub mod Segments
+pub mod Constants
+pub mod References
+pub mod Validity
+pub mod Lookup

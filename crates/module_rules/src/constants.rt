@@ -1,0 +1,299 @@
+//! Constant expressions (WebAssembly core specification, "Validation: Instructions", "Constant Expressions").
+
+ghost use Rattle.std.specs.Prelude.{◌≡◌, ℕ, true, false, take, slice_get, OnOk, OnErr};
+ghost use Rattle.std.specs.List.{list_all};
+ghost use Rattle.module_rules.specs.Constants.{is_constant_binary, is_constant_numeric, is_constant_reference, is_constant_struct, is_constant_array, is_read, is_constant_operator, is_immutable, may_name_global, known_globals, is_constant_expression, expression_type, element_address_type, data_address_type};
+ghost use Rattle.module_rules.specs.Declarations.{declarations_of};
+
+use crate::elements::item_type;
+use crate::features::ModuleFeatures;
+use crate::items::{DeclaredGlobal, DeclaredMemory, DeclaredTable};
+use crate::module::{DeclaredModule, Place};
+use crate::segments::{DataKind, ElementKind};
+use std::alloc::Global;
+use validate_types::{Error, ValType};
+use validate_visit::{
+    ArrayOp, ControlOp, GlobalAccess, IntegerBinaryOp, NumericOp, Op, ReferenceOp, SharedOp,
+    StructOp, TableAccess,
+};
+
+/// Whether an operator on two integers is constant.
+fn is_constant_binary(features: ModuleFeatures, op: IntegerBinaryOp) -> bool
+    ensures { result ≡ is_constant_binary features op }
+{
+    match op {
+        IntegerBinaryOp::Add | IntegerBinaryOp::Sub | IntegerBinaryOp::Mul => {
+            features.extended_const()
+        }
+        _ => false,
+    }
+}
+
+/// Whether an operator on numbers is constant.
+fn is_constant_numeric(features: ModuleFeatures, op: NumericOp) -> bool
+    ensures { result ≡ is_constant_numeric features op }
+{
+    match op {
+        NumericOp::I32Const(_)
+        | NumericOp::I64Const(_)
+        | NumericOp::F32Const(_)
+        | NumericOp::F64Const(_) => true,
+        NumericOp::IntegerBinary(_, op) => is_constant_binary(features, op),
+        _ => false,
+    }
+}
+
+/// Whether an operator on references is constant.
+fn is_constant_reference(op: ReferenceOp) -> bool
+    ensures { result ≡ is_constant_reference op }
+{
+    matches!(
+        &op,
+        ReferenceOp::RefNull(_)
+            | ReferenceOp::RefFunc(_)
+            | ReferenceOp::RefI31
+            | ReferenceOp::AnyConvertExtern
+            | ReferenceOp::ExternConvertAny
+    )
+}
+
+/// Whether an operator on structs is constant.
+fn is_constant_struct(op: StructOp) -> bool
+    ensures { result ≡ is_constant_struct op }
+{
+    matches!(
+        &op,
+        StructOp::StructNew(_)
+            | StructOp::StructNewDefault(_)
+            | StructOp::StructNewDesc(_)
+            | StructOp::StructNewDefaultDesc(_)
+    )
+}
+
+/// Whether an operator on arrays is constant.
+fn is_constant_array(op: ArrayOp) -> bool
+    ensures { result ≡ is_constant_array op }
+{
+    matches!(
+        &op,
+        ArrayOp::ArrayNew(_) | ArrayOp::ArrayNewDefault(_) | ArrayOp::ArrayNewFixed { .. }
+    )
+}
+
+/// Whether it reads a global, and no more.
+fn is_read(access: GlobalAccess) -> bool
+    ensures { result ≡ is_read access }
+{
+    matches!(&access, GlobalAccess::Value(TableAccess::Get))
+}
+
+/// Whether a global is one of the first so many that can't be written, and is imported where collected types
+/// are off.
+fn may_name_global(
+    features: ModuleFeatures,
+    declared: &DeclaredModule,
+    count: usize,
+    index: u32,
+) -> bool
+    ensures { result ≡ may_name_global features (declarations_of declared.now) count index }
+{
+    is_immutable(&declared.globals, count, index)
+        && (index < declared.imports.globals || features.gc())
+}
+
+/// Whether there is a global at this index, among the first so many, and it can't be written.
+fn is_immutable(globals: &[DeclaredGlobal], count: usize, index: u32) -> bool
+    ensures { result ≡ is_immutable (slice_get (take count globals.now) index) }
+{
+    if index as usize >= count {
+        return false;
+    }
+    match globals.get(index as usize) {
+        Some(global) => !global.ty.mutable,
+        None => false,
+    }
+}
+
+/// Whether an operator is constant, where the first so many globals may be named.
+pub fn is_constant_operator(
+    features: ModuleFeatures,
+    declared: &DeclaredModule,
+    count: usize,
+    op: Op<'_>,
+) -> bool
+    ensures { result ≡ is_constant_operator features
+        (may_name_global features (declarations_of declared.now) count) op.entry }
+{
+    match op {
+        Op::Control(ControlOp::End) => true,
+        Op::Control(ControlOp::GlobalGet(index)) => may_name_global(
+            features, declared, count, index,
+        ),
+        Op::Numeric(op) => is_constant_numeric(features, op),
+        Op::Reference(op) => is_constant_reference(op),
+        Op::Struct(op) => is_constant_struct(op),
+        Op::Array(op) => is_constant_array(op),
+        Op::Shared(SharedOp::RefI31Shared) => true,
+        Op::Shared(
+            SharedOp::Global {
+                access,
+                global_index,
+                ..
+            },
+        ) => is_read(access) && may_name_global(features, declared, count, global_index),
+        _ => false,
+    }
+}
+
+/// So many globals may be named by a constant expression in this place.
+fn known_globals(declared: &DeclaredModule, place: Place) -> usize
+    ensures { result ≡ known_globals (declarations_of declared.now) place }
+{
+    match place {
+        Place::Table(_) => declared.imports.globals as usize,
+        Place::Global(index) => index as usize,
+        Place::ElementOffset(_) | Place::Element(_) | Place::DataOffset(_) => declared
+            .globals
+            .len(),
+    }
+}
+
+/// Why an operator isn't constant.
+fn constant_refusal(
+    alloc: Global,
+    declared: &DeclaredModule,
+    count: usize,
+    op: Op<'_>,
+    offset: u64,
+) -> Error {
+    let (Op::Control(ControlOp::GlobalGet(index))
+    | Op::Shared(
+        SharedOp::Global {
+            global_index: index,
+            ..
+        },
+    )) = op
+    else {
+        return Error::new(
+            "constant expression required: non-constant operator",
+            offset,
+        );
+    };
+    if index as usize >= count {
+        return Error::from_text(
+            format!(in alloc; "unknown global {index}: global index out of bounds"),
+            offset,
+        );
+    }
+    if is_immutable(&declared.globals, count, index) {
+        return Error::new(
+            "constant expression required: global.get of locally defined global",
+            offset,
+        );
+    }
+    Error::new(
+        "constant expression required: global.get of mutable global",
+        offset,
+    )
+}
+
+/// Whether each operator, beside its offset, is constant, where the first so many globals may be named.
+fn are_constant_operators(
+    features: ModuleFeatures,
+    declared: &DeclaredModule,
+    count: usize,
+    ops: &[(Op<'_>, u64)],
+) -> bool
+    ensures { result ≡ list_all (λ (e : _). is_constant_operator features
+        (may_name_global features (declarations_of declared.now) count) e.0) ops.now }
+{
+    ops.iter().all(|pair| is_constant_operator(features, declared, count, pair.0))
+}
+
+/// Why the first operator that isn't constant isn't.
+fn constant_expression_refusal(
+    alloc: Global,
+    features: ModuleFeatures,
+    declared: &DeclaredModule,
+    count: usize,
+    ops: &[(Op<'_>, u64)],
+) -> Error {
+    for (op, offset) in ops {
+        if !is_constant_operator(features, declared, count, *op) {
+            return constant_refusal(alloc, declared, count, *op, *offset);
+        }
+    }
+    Error::new("constant expression required", declared.imports.offset)
+}
+
+/// Each operator of a constant expression in this place is constant (each stands beside its offset). That
+/// they are valid, and the expression is of its type, is the validator's to say. It takes memory for a text
+/// alone.
+pub fn check_constant_expression(
+    alloc: Global,
+    features: ModuleFeatures,
+    declared: &DeclaredModule,
+    place: Place,
+    ops: &[(Op<'_>, u64)],
+) -> Result<(), Error>
+    ensures valid { OnOk result (is_constant_expression features (declarations_of declared.now) place
+        ops.now ≡ true) }
+    ensures invalid { OnErr result (is_constant_expression features (declarations_of declared.now) place
+        ops.now ≡ false) }
+{
+    let count = known_globals(declared, place);
+    if are_constant_operators(features, declared, count, ops) {
+        return Ok(());
+    }
+    Err(constant_expression_refusal(alloc, features, declared, count, ops))
+}
+
+/// The type of the addresses at which an element segment begins, if it goes to a table that is there.
+fn element_address_type(tables: &[DeclaredTable], kind: ElementKind) -> Option<ValType>
+    ensures { result ≡ element_address_type tables.now kind }
+{
+    let ElementKind::Active { table_index } = kind else {
+        return None;
+    };
+    let table = tables.get(table_index as usize)?;
+    Some(table.ty.index_type())
+}
+
+/// The type of the addresses at which a data segment begins, if it goes to a memory that is there.
+fn data_address_type(memories: &[DeclaredMemory], kind: DataKind) -> Option<ValType>
+    ensures { result ≡ data_address_type memories.now kind }
+{
+    let DataKind::Active { memory_index } = kind else {
+        return None;
+    };
+    let memory = memories.get(memory_index as usize)?;
+    Some(memory.ty.index_type())
+}
+
+/// The type of the value of a constant expression in this place, if that is there.
+pub fn expression_type(declared: &DeclaredModule, place: Place) -> Option<ValType>
+    ensures { result ≡ expression_type (declarations_of declared.now) place }
+{
+    match place {
+        Place::Table(index) => {
+            let table = declared.tables.get(index as usize)?;
+            Some(ValType::Ref(table.ty.element_type))
+        }
+        Place::Global(index) => {
+            let global = declared.globals.get(index as usize)?;
+            Some(global.ty.content_type)
+        }
+        Place::ElementOffset(index) => {
+            let element = declared.elements.get(index as usize)?;
+            element_address_type(&declared.tables, element.kind)
+        }
+        Place::Element(index) => {
+            let element = declared.elements.get(index as usize)?;
+            Some(ValType::Ref(item_type(&element.items)))
+        }
+        Place::DataOffset(index) => {
+            let segment = declared.data_segments.get(index as usize)?;
+            data_address_type(&declared.memories, segment.kind)
+        }
+    }
+}

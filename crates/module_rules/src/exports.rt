@@ -1,0 +1,67 @@
+//! Whether the exports of a module are valid (WebAssembly core specification, "Modules": exports).
+
+ghost use Rattle.std.specs.Prelude.{◌≡◌, slice_get};
+ghost use Rattle.std.specs.List.{list_all};
+ghost use Rattle.module_rules.specs.Declarations.{declarations_of};
+ghost use Rattle.module_rules.specs.Exports.{item_count, is_read_only, is_export_enabled, is_valid_export};
+
+use crate::features::ModuleFeatures;
+use crate::items::{DeclaredGlobal, Export, ExternalKind};
+use crate::module::DeclaredModule;
+
+/// So many items of a kind are there.
+pub fn item_count(declared: &DeclaredModule, kind: ExternalKind) -> usize
+    ensures { result ≡ item_count (declarations_of declared.now) kind }
+{
+    match kind {
+        ExternalKind::Func => declared.functions.len(),
+        ExternalKind::Table => declared.tables.len(),
+        ExternalKind::Memory => declared.memories.len(),
+        ExternalKind::Global => declared.globals.len(),
+        ExternalKind::Tag => declared.tags.len(),
+    }
+}
+
+/// Whether there is no global at this index, or none that can be written.
+fn is_read_only(globals: &[DeclaredGlobal], index: u32) -> bool
+    ensures { result ≡ is_read_only (slice_get globals.now index) }
+{
+    match globals.get(index as usize) {
+        None => true,
+        Some(global) => !global.ty.mutable,
+    }
+}
+
+/// Whether it is no global that can be written, or the proposal that lets such be exported is on.
+fn is_export_enabled(
+    features: ModuleFeatures,
+    globals: &[DeclaredGlobal],
+    kind: ExternalKind,
+    index: u32,
+) -> bool
+    ensures { result ≡ is_export_enabled features globals.now kind index }
+{
+    match kind {
+        ExternalKind::Global => features.mutable_global() || is_read_only(globals, index),
+        _ => true,
+    }
+}
+
+/// Whether an export is valid, as far as it has no other's name.
+pub fn is_valid_export(features: ModuleFeatures, declared: &DeclaredModule, export: &Export) -> bool
+    ensures { result ≡ is_valid_export features (declarations_of declared.now) export.now }
+{
+    (export.index as usize) < item_count(declared, export.kind)
+        && is_export_enabled(features, &declared.globals, export.kind, export.index)
+}
+
+/// Whether each export is valid, as far as it has no other's name.
+pub fn is_each_export_valid(features: ModuleFeatures, declared: &DeclaredModule) -> bool
+    ensures { result ≡ list_all (is_valid_export features (declarations_of declared.now))
+        (declarations_of declared.now).exports }
+{
+    declared
+        .exports
+        .iter()
+        .all(|export| is_valid_export(features, declared, export))
+}

@@ -1,0 +1,36 @@
+//! Whether the names of exports differ (WebAssembly core specification, "Modules": exports).
+
+ghost use Rattle.std.specs.Prelude.{◌≡◌, true, false, map, IfErr, OnOk};
+ghost use Rattle.module_rules.specs.Exported.{Exported};
+ghost use Rattle.module_rules.specs.Exports.{are_distinct};
+
+use crate::items::Export;
+use std::alloc::Global;
+use std::collections::BTreeSet;
+use validate_types::Error;
+
+/// Two exports have this name.
+fn duplicate(alloc: Global, export: &Export) -> Error {
+    let name = export.name.as_str();
+    Error::from_text(
+        format!(in alloc; "duplicate export name `{name}` already defined"),
+        export.offset,
+    )
+}
+
+/// No two exports have one name. It takes memory for the set of the names.
+pub fn check_names(alloc: Global, exports: &[Export]) -> Result<(), Error>
+    ensures valid { OnOk result (are_distinct (map (λ (e : Exported). e.name) exports.now) ≡ true) }
+    ensures invalid { IfErr result (λ e. e.wants_memory ≡ false
+        → are_distinct (map (λ (e : Exported). e.name) exports.now) ≡ false) }
+{
+    let mut names = BTreeSet::new(alloc);
+    for export in exports {
+        match names.insert(export.name.as_str()) {
+            Ok(true) => {}
+            Ok(false) => return Err(duplicate(alloc, export)),
+            Err(_) => return Err(Error::out_of_memory(export.offset)),
+        }
+    }
+    Ok(())
+}

@@ -1,21 +1,23 @@
 //! Operators on numbers, by shape (WebAssembly core specification, "Numeric Instructions").
 
 ghost use Rattle.std.specs.Prelude.{◌≡◌};
-ghost use Rattle.validate_visit.specs.Numbers.{number_type, integer_type, float_type};
+ghost use Rattle.validate_visit.specs.Numbers.{number_type, integer_type, float_type, packed_type};
 ghost use Rattle.validate_rows.specs.NumericShapes.{shape_row};
 ghost use Rattle.validate_rows.specs.declared.numeric.Shape.{Shape};
 ghost use Rattle.validation_rules.specs.Convert.{convert_row};
 ghost use Rattle.validation_rules.specs.Numeric.{numeric_row};
 ghost use Rattle.validation_rules.specs.Operators.{row_operator};
 ghost use Rattle.validate_stacks.specs.AtOnce.{MeetsAtOnce};
+ghost use Rattle.validate_stacks.specs.Moves.{Moves};
 ghost use Rattle.validate_stacks.specs.Visits.{MayVisit, Meets};
 
 use validate_resources::WasmModuleResources;
-use validate_shapes::numbers::{float, integer, number, once, packed, twice};
-use validate_shapes::plain::{binary_at_once, check_plain, constant_at_once, unary_at_once};
+use validate_shapes::checked::checked;
+use validate_shapes::numbers::{number, twice};
+use validate_shapes::plain::{binary, constant, plain, unary};
 use validate_stacks::Stacks;
-use validate_types::{Error, ValType};
-use validate_visit::{ConvertOp, FloatType, IntegerType, NumberType, NumericOp};
+use validate_types::{Error, NotAtOnce, Refused, ValType};
+use validate_visit::{ConvertOp, FloatType, IntegerType, NumberType, NumericOp, PackedInteger};
 
 /// What an operator on numbers takes and gives.
 #[derive(Clone, Copy)]
@@ -54,6 +56,19 @@ fn of_float(ty: FloatType) -> NumberType
     }
 }
 
+/// The whole of a packed integer as a number.
+#[inline(always)]
+fn of_packed(part: PackedInteger) -> NumberType
+    ensures { number_type result ≡ packed_type part }
+{
+    match part {
+        PackedInteger::I32Bits8 | PackedInteger::I32Bits16 => NumberType::I32,
+        PackedInteger::I64Bits8 | PackedInteger::I64Bits16 | PackedInteger::I64Bits32 => {
+            NumberType::I64
+        }
+    }
+}
+
 /// The shape of an operator on numbers of one type, or of a constant.
 #[inline(always)]
 fn numeric_shape(op: NumericOp) -> Shape
@@ -76,7 +91,92 @@ fn numeric_shape(op: NumericOp) -> Shape
     }
 }
 
-/// The check of an operator on numbers of one type, or of a constant, its gate aside.
+/// The shape of a conversion, or of an extension of a sign.
+#[inline(always)]
+fn convert_shape(op: ConvertOp) -> Shape
+    ensures { shape_row result ≡ convert_row op }
+{
+    match op {
+        ConvertOp::Wrap => Shape::Unary(NumberType::I64, NumberType::I32),
+        ConvertOp::Extend(_) => Shape::Unary(NumberType::I32, NumberType::I64),
+        ConvertOp::ExtendPacked(part) => Shape::Unary(of_packed(part), of_packed(part)),
+        ConvertOp::Trunc(into, from, _) | ConvertOp::TruncSat(into, from, _) => {
+            Shape::Unary(of_float(from), of_integer(into))
+        }
+        ConvertOp::Convert(into, from, _) => Shape::Unary(of_integer(from), of_float(into)),
+        ConvertOp::Demote => Shape::Unary(NumberType::F64, NumberType::F32),
+        ConvertOp::Promote => Shape::Unary(NumberType::F32, NumberType::F64),
+        ConvertOp::Reinterpret(into) => Shape::Unary(into.reinterpreted(), into),
+    }
+}
+
+/// [`unary`], by a call, so that what stands in each visit stays short.
+#[inline(never)]
+fn unary_by_call<A: Refused, R: WasmModuleResources>(
+    stacks: &mut Stacks,
+    resources: &R,
+    taken: NumberType,
+    given: NumberType,
+) -> Result<(), A>
+    requires { MayVisit (R.context resources.now) stacks.old }
+    ensures { Moves (R.context resources.now) A.tells
+        (λ cx. row_operator (shape_row (Shape.Unary taken given))) stacks.old result stacks.new }
+{
+    unary(stacks, resources, number(taken), number(given))
+}
+
+/// An operator of this shape.
+#[inline(always)]
+fn shaped<A: Refused, R: WasmModuleResources>(
+    stacks: &mut Stacks,
+    resources: &R,
+    shape: Shape,
+) -> Result<(), A>
+    requires { MayVisit (R.context resources.now) stacks.old }
+    ensures { Moves (R.context resources.now) A.tells (λ cx. row_operator (shape_row shape)) stacks.old result
+        stacks.new }
+{
+    let wide = ValType::I64;
+    match shape {
+        Shape::Constant(given) => constant(stacks, resources, number(given)),
+        Shape::Unary(taken, given) => unary_by_call(stacks, resources, taken, given),
+        Shape::Binary(taken, given) => binary(stacks, resources, number(taken), number(given)),
+        Shape::WideBinary => plain(stacks, resources, &[wide, wide, wide, wide], twice(wide)),
+        Shape::WideMultiply => plain(stacks, resources, twice(wide), twice(wide)),
+    }
+}
+
+/// An operator on numbers of one type, or a constant, its gate aside.
+#[inline(always)]
+pub fn numeric<A: Refused, R: WasmModuleResources>(
+    stacks: &mut Stacks,
+    resources: &R,
+    op: NumericOp,
+) -> Result<(), A>
+    requires { MayVisit (R.context resources.now) stacks.old }
+    ensures { Moves (R.context resources.now) A.tells (λ cx. row_operator (numeric_row op)) stacks.old result
+        stacks.new }
+{
+    shaped(stacks, resources, numeric_shape(op))
+}
+
+/// A conversion, or an extension of a sign, its gate aside.
+#[inline(always)]
+pub fn convert<A: Refused, R: WasmModuleResources>(
+    stacks: &mut Stacks,
+    resources: &R,
+    op: ConvertOp,
+) -> Result<(), A>
+    requires { MayVisit (R.context resources.now) stacks.old }
+    ensures { Moves (R.context resources.now) A.tells (λ cx. row_operator (convert_row op)) stacks.old result
+        stacks.new }
+{
+    shaped(stacks, resources, convert_shape(op))
+}
+
+// ---- what is still called by its old name
+
+/// [`numeric`], with the text and the place of a refusal.
 #[inline(always)]
 pub fn check_numeric_row<R: WasmModuleResources>(
     stacks: &mut Stacks,
@@ -88,28 +188,11 @@ pub fn check_numeric_row<R: WasmModuleResources>(
     ensures { Meets (R.context resources.now) (λ cx. row_operator (numeric_row op)) offset stacks.old.body
         result stacks.new.body }
 {
-    let wide = ValType::I64;
-    match numeric_shape(op) {
-        Shape::Constant(given) => {
-            check_plain(stacks, resources, offset, &[], once(number(given)))
-        }
-        Shape::Unary(taken, given) => {
-            let (taken, given) = (once(number(taken)), once(number(given)));
-            check_plain(stacks, resources, offset, taken, given)
-        }
-        Shape::Binary(taken, given) => {
-            let (taken, given) = (twice(number(taken)), once(number(given)));
-            check_plain(stacks, resources, offset, taken, given)
-        }
-        Shape::WideBinary => {
-            let taken = [wide, wide, wide, wide];
-            check_plain(stacks, resources, offset, &taken, twice(wide))
-        }
-        Shape::WideMultiply => { check_plain(stacks, resources, offset, twice(wide), twice(wide)) }
-    }
+    let answer = numeric(stacks, resources, op);
+    checked(stacks, resources, offset, answer)
 }
 
-/// The check of a conversion, or of an extension of a sign, its gate aside.
+/// [`convert`], with the text and the place of a refusal.
 #[inline(always)]
 pub fn check_convert_row<R: WasmModuleResources>(
     stacks: &mut Stacks,
@@ -121,90 +204,11 @@ pub fn check_convert_row<R: WasmModuleResources>(
     ensures { Meets (R.context resources.now) (λ cx. row_operator (convert_row op)) offset stacks.old.body
         result stacks.new.body }
 {
-    match op {
-        ConvertOp::Wrap => {
-            check_plain(
-                stacks,
-                resources,
-                offset,
-                once(ValType::I64),
-                once(ValType::I32),
-            )
-        }
-        ConvertOp::Extend(_) => {
-            check_plain(
-                stacks,
-                resources,
-                offset,
-                once(ValType::I32),
-                once(ValType::I64),
-            )
-        }
-        ConvertOp::ExtendPacked(part) => {
-            let ty = packed(part);
-            check_plain(stacks, resources, offset, once(ty), once(ty))
-        }
-        ConvertOp::Trunc(into, from, _) | ConvertOp::TruncSat(into, from, _) => {
-            check_plain(
-                stacks,
-                resources,
-                offset,
-                once(float(from)),
-                once(integer(into)),
-            )
-        }
-        ConvertOp::Convert(into, from, _) => {
-            check_plain(
-                stacks,
-                resources,
-                offset,
-                once(integer(from)),
-                once(float(into)),
-            )
-        }
-        ConvertOp::Demote => {
-            check_plain(
-                stacks,
-                resources,
-                offset,
-                once(ValType::F64),
-                once(ValType::F32),
-            )
-        }
-        ConvertOp::Promote => {
-            check_plain(
-                stacks,
-                resources,
-                offset,
-                once(ValType::F32),
-                once(ValType::F64),
-            )
-        }
-        ConvertOp::Reinterpret(into) => {
-            let from = number(into.reinterpreted());
-            check_plain(stacks, resources, offset, once(from), once(number(into)))
-        }
-    }
+    let answer = convert(stacks, resources, op);
+    checked(stacks, resources, offset, answer)
 }
 
-/// [`unary_at_once`], by a call, so that what stands in each visit stays short.
-#[inline(never)]
-fn unary_by_call<R: WasmModuleResources>(
-    stacks: &mut Stacks,
-    resources: &R,
-    taken: NumberType,
-    given: NumberType,
-) -> bool
-    requires { MayVisit (R.context resources.now) stacks.old }
-    ensures { MeetsAtOnce (R.context resources.now)
-        (λ cx. row_operator (shape_row (Shape.Unary taken given))) stacks.old result stacks.new }
-{
-    unary_at_once(stacks, resources, number(taken), number(given))
-}
-
-/// [`check_numeric_row`], where it passes at once. False, with nothing changed, where it doesn't.
-///
-/// It stands in each visit, so each shape is there once, and that of one operand, which few have, is called.
+/// [`numeric`], where it passes at once. False, with nothing changed, where it doesn't.
 #[inline(always)]
 pub fn numeric_at_once<R: WasmModuleResources>(
     stacks: &mut Stacks,
@@ -215,17 +219,11 @@ pub fn numeric_at_once<R: WasmModuleResources>(
     ensures { MeetsAtOnce (R.context resources.now) (λ cx. row_operator (numeric_row op)) stacks.old result
         stacks.new }
 {
-    match numeric_shape(op) {
-        Shape::Constant(given) => constant_at_once(stacks, resources, number(given)),
-        Shape::Unary(taken, given) => unary_by_call(stacks, resources, taken, given),
-        Shape::Binary(taken, given) => {
-            binary_at_once(stacks, resources, number(taken), number(given))
-        }
-        Shape::WideBinary | Shape::WideMultiply => false,
-    }
+    let answer: Result<(), NotAtOnce> = numeric(stacks, resources, op);
+    answer.is_ok()
 }
 
-/// [`check_convert_row`], where it passes at once. False, with nothing changed, where it doesn't.
+/// [`convert`], where it passes at once. False, with nothing changed, where it doesn't.
 #[inline(always)]
 pub fn convert_at_once<R: WasmModuleResources>(
     stacks: &mut Stacks,
@@ -236,24 +234,6 @@ pub fn convert_at_once<R: WasmModuleResources>(
     ensures { MeetsAtOnce (R.context resources.now) (λ cx. row_operator (convert_row op)) stacks.old result
         stacks.new }
 {
-    match op {
-        ConvertOp::Wrap => unary_at_once(stacks, resources, ValType::I64, ValType::I32),
-        ConvertOp::Extend(_) => { unary_at_once(stacks, resources, ValType::I32, ValType::I64) }
-        ConvertOp::ExtendPacked(part) => {
-            let ty = packed(part);
-            unary_at_once(stacks, resources, ty, ty)
-        }
-        ConvertOp::Trunc(into, from, _) | ConvertOp::TruncSat(into, from, _) => {
-            unary_at_once(stacks, resources, float(from), integer(into))
-        }
-        ConvertOp::Convert(into, from, _) => {
-            unary_at_once(stacks, resources, integer(from), float(into))
-        }
-        ConvertOp::Demote => unary_at_once(stacks, resources, ValType::F64, ValType::F32),
-        ConvertOp::Promote => unary_at_once(stacks, resources, ValType::F32, ValType::F64),
-        ConvertOp::Reinterpret(into) => {
-            let from = number(into.reinterpreted());
-            unary_at_once(stacks, resources, from, number(into))
-        }
-    }
+    let answer: Result<(), NotAtOnce> = convert(stacks, resources, op);
+    answer.is_ok()
 }

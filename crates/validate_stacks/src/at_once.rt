@@ -140,7 +140,7 @@ impl Stacks {
     /// Takes so many own operands of the innermost frame, while no attempt is pending, and pushes one, where there is
     /// room, if none goes. False, with nothing changed, where there is none. It takes no memory.
     #[inline(always)]
-    fn push_over(&mut self, count: usize, pushed: ValType) -> bool
+    pub(crate) fn push_over(&mut self, count: usize, pushed: ValType) -> bool
         requires idle { self.old.body.undone ≡ None }
         requires own { count ≤ length (innermost_operands self.old.body.present.frames) }
         ensures exact { MatchBool result

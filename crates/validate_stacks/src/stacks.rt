@@ -26,10 +26,10 @@ use validate_visit::{BlockType, Frame, FrameKind};
 #[derive(Drop)]
 pub struct Stacks {
     pub(crate) operands: Pile<MaybeType>,
-    control: Pile<Frame>,
+    pub(crate) control: Pile<Frame>,
     locals: Locals,
-    inits: LocalInits,
-    transaction: Transaction,
+    pub(crate) inits: LocalInits,
+    pub(crate) transaction: Transaction,
     shared: bool,
     features: WasmFeatures,
     alloc: Global,
@@ -484,7 +484,7 @@ impl Stacks {
     }
 
     /// Marks the innermost frame as dead.
-    fn mark(&mut self)
+    pub(crate) fn mark(&mut self)
         ensures { self.new.body ≡ body_marked self.old.body }
     {
         let Some(innermost) = self.control.get(0) else {
@@ -644,7 +644,12 @@ impl Stacks {
 
 /// A live frame, over so many operands and locals that were set.
 #[inline(always)]
-fn live_frame(kind: FrameKind, block_type: BlockType, height: usize, init_height: usize) -> Frame
+pub(crate) fn live_frame(
+    kind: FrameKind,
+    block_type: BlockType,
+    height: usize,
+    init_height: usize,
+) -> Frame
     ensures { result ≡ record { kind = kind; block_type = block_type; height = height; unreachable = false; init_height = init_height } }
 {
     Frame {

@@ -3,6 +3,7 @@
 ghost use Rattle.std.specs.Prelude.{◌≡◌, true, false, codes, IfOk, OnErr};
 ghost use Rattle.std.specs.String.{string_bytes};
 
+use crate::refusal::Refusal;
 use std::alloc::{AllocError, AllocFailed};
 use std::marker::Model;
 
@@ -38,6 +39,7 @@ pub struct Error {
     // In this order of the fields an answer is copied faster.
     message: Message,
     offset: u64,
+    reason: Option<Refusal>,
 }
 
 impl Model for Error {
@@ -62,6 +64,7 @@ impl Error {
         Error {
             offset,
             message: Message::Fixed(message),
+            reason: None,
         }
     }
 
@@ -72,6 +75,7 @@ impl Error {
         Error {
             offset,
             message: Message::Owned(text),
+            reason: None,
         }
     }
 
@@ -97,7 +101,50 @@ impl Error {
         Error {
             offset,
             message: Message::OutOfMemory,
+            reason: Some(Refusal::OutOfMemory),
         }
+    }
+
+    /// A refusal for this reason, with the text that was made for it, at this offset; or want of memory, where there
+    /// was none for the text.
+    pub fn of_refusal(refusal: Refusal, text: Result<String, AllocError>, offset: u64) -> Error
+        ensures made { IfOk text (λ t. result
+            ≡ record { offset = offset; text = string_bytes t; wants_memory = false }) }
+        ensures unmade { OnErr text (result
+            ≡ record { offset = offset; text = codes "out of memory"; wants_memory = true }) }
+        ensures offset { result.offset ≡ offset }
+    {
+        match text {
+            Ok(text) => Error {
+                offset,
+                message: Message::Owned(text),
+                reason: Some(refusal),
+            },
+            Err(_) => Error::out_of_memory(offset),
+        }
+    }
+
+    /// A refusal for this reason, with a fixed text, at this offset.
+    pub fn of_fixed(refusal: Refusal, text: &'static str, offset: u64) -> Error
+        ensures { result ≡ record { offset = offset; text = text.now; wants_memory = false } }
+    {
+        Error {
+            offset,
+            message: Message::Fixed(text),
+            reason: Some(refusal),
+        }
+    }
+
+    /// The same refusal, at this offset.
+    pub fn at(self, offset: u64) -> Error
+        ensures { result ≡ record self { offset = offset } }
+    {
+        Error { offset, ..self }
+    }
+
+    /// Why it was refused, where the validator's own rules did; None of a refusal that a caller made, by a text.
+    pub fn reason(&self) -> Option<Refusal> {
+        self.reason
     }
 
     /// The offset that was handed in to the call that refused.

@@ -1,17 +1,5 @@
-use Rattle.std.proofs.Common.{rules, [], ◌∷◌, refl}
-use Rattle.validation_rules.specs.Calls.{global_set_row}
-use Rattle.validation_rules.specs.Operators.{plain_row}
-use Rattle.validate_stacks.proofs.AtOnce.{not_at_once}
-use Rattle.validate_shapes.proofs.LookupRows.{found_at_once}
+use Rattle.validate_shapes.proofs.Moves.{moves_at_once}
 use Rattle.validate_rows.proofs.globals.global_set_at_once.Goals as goal
 
-pub returns-in_default : goal.returns-in_default
-returns-in_default g c = not_at_once _ _ c.args.stacks.now
-
-pub returns-then-not-ty : goal.returns-then-not-ty
-returns-then-not-ty g c = not_at_once _ _ c.args.stacks.now
-
 pub returns : goal.returns
-returns g c =
-    let md = g.R.WasmModuleResources.context c.args.resources.now in
-    found_at_once md c.args.stacks.now.body (λ cx hs. global_set_row cx c.args.global_index) (λ cx hs. plain_row (c.in-Ok.ty.content_type ∷ []) []) c.args.stacks.now c.plain_at_once.new.stacks c.plain_at_once.result refl (search rules) c.plain_at_once.ensures
+returns g c = moves_at_once _ _ _ _ _ c.global_set-answer.result c.is_ok.result c.is_ok.ensures.value c.global_set-answer.ensures

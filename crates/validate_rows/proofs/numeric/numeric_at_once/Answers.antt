@@ -1,5 +1,5 @@
-use Rattle.validate_stacks.proofs.AtOnce.{not_at_once}
+use Rattle.validate_shapes.proofs.Moves.{moves_at_once}
 use Rattle.validate_rows.proofs.numeric.numeric_at_once.Goals as goal
 
-pub returns-in-WideBinary : goal.returns-in-WideBinary
-returns-in-WideBinary g c = not_at_once _ _ c.args.stacks.now
+pub returns : goal.returns
+returns g c = moves_at_once _ _ _ _ _ c.numeric-answer.result c.is_ok.result c.is_ok.ensures.value c.numeric-answer.ensures

@@ -1,14 +1,5 @@
-use Rattle.validate_shapes.proofs.AtOnce.{first_passes, second_meets, still_visits}
+use Rattle.validate_shapes.proofs.Moves.{moves_at_once}
 use Rattle.validate_rows.proofs.variables.local_tee_at_once.Goals as goal
 
-pub any_tee_at_once-requires : goal.any_tee_at_once-requires
-any_tee_at_once-requires g c =
-    still_visits (g.R.WasmModuleResources.context c.args.resources.now) _ c.args.stacks.now c.near_tee_at_once.new.stacks c.near_tee_at_once.result c.near_tee_at_once.ensures c.if-near_tee_at_once.false c.requires
-
-pub returns-then-near_tee_at_once : goal.returns-then-near_tee_at_once
-returns-then-near_tee_at_once g c =
-    first_passes (g.R.WasmModuleResources.context c.args.resources.now) _ c.args.stacks.now c.near_tee_at_once.new.stacks c.near_tee_at_once.result c.near_tee_at_once.ensures c.if-near_tee_at_once.true
-
 pub returns : goal.returns
-returns g c =
-    second_meets (g.R.WasmModuleResources.context c.args.resources.now) _ c.args.stacks.now c.near_tee_at_once.new.stacks c.any_tee_at_once.new.stacks c.near_tee_at_once.result c.any_tee_at_once.result c.near_tee_at_once.ensures c.if-near_tee_at_once.false c.any_tee_at_once.ensures
+returns g c = moves_at_once _ _ _ _ _ c.local_tee-answer.result c.is_ok.result c.is_ok.ensures.value c.local_tee-answer.ensures

@@ -136,11 +136,15 @@ known_globals d _ = length d.globals
 
 -- ---- expressions
 
--- each operator, beside its offset, is constant
+-- an operator is constant in an expression in this place
+abbrev pub is_constant_in : ModuleFeatures → Declarations → Place → Op → Bool
+is_constant_in features d place =
+    is_constant_operator features (may_name_global features d (known_globals d place))
+
+-- each operator, beside its offset, is
 abbrev pub is_constant_expression : ModuleFeatures → Declarations → Place → List (Op × ℕ) → Bool
 is_constant_expression features d place ops =
-    let may_name = may_name_global features d (known_globals d place) in
-    list_all (λ (e : Op × ℕ). is_constant_operator features may_name e.0) ops
+    list_all (λ (e : Op × ℕ). is_constant_in features d place e.0) ops
 
 -- the type of the addresses that a segment begins at, if it goes to a table or a memory
 abbrev pub element_address_type : List DeclaredTable → ElementKind → Option ValType

@@ -1,8 +1,7 @@
 //! Constant expressions (WebAssembly core specification, "Validation: Instructions", "Constant Expressions").
 
 ghost use Rattle.std.specs.Prelude.{◌≡◌, ℕ, true, false, take, slice_get, OnOk, OnErr};
-ghost use Rattle.std.specs.List.{list_all};
-ghost use Rattle.module_rules.specs.Constants.{is_constant_binary, is_constant_numeric, is_constant_reference, is_constant_struct, is_constant_array, is_read, is_constant_operator, is_immutable, may_name_global, known_globals, is_constant_expression, expression_type, element_address_type, data_address_type};
+ghost use Rattle.module_rules.specs.Constants.{is_constant_binary, is_constant_numeric, is_constant_reference, is_constant_struct, is_constant_array, is_read, is_constant_operator, is_constant_in, is_immutable, may_name_global, known_globals, expression_type, element_address_type, data_address_type};
 ghost use Rattle.module_rules.specs.Declarations.{declarations_of};
 
 use crate::elements::item_type;
@@ -197,55 +196,29 @@ fn constant_refusal(
     )
 }
 
-/// Whether each operator, beside its offset, is constant, where the first so many globals may be named.
-fn are_constant_operators(
-    features: ModuleFeatures,
-    declared: &DeclaredModule,
-    count: usize,
-    ops: &[(Op<'_>, u64)],
-) -> bool
-    ensures { result ≡ list_all (λ (e : _). is_constant_operator features
-        (may_name_global features (declarations_of declared.now) count) e.0) ops.now }
-{
-    ops.iter().all(|pair| is_constant_operator(features, declared, count, pair.0))
-}
-
-/// Why the first operator that isn't constant isn't.
-fn constant_expression_refusal(
-    alloc: Global,
-    features: ModuleFeatures,
-    declared: &DeclaredModule,
-    count: usize,
-    ops: &[(Op<'_>, u64)],
-) -> Error {
-    for (op, offset) in ops {
-        if !is_constant_operator(features, declared, count, *op) {
-            return constant_refusal(alloc, declared, count, *op, *offset);
-        }
-    }
-    Error::new("constant expression required", declared.imports.offset)
-}
-
-/// Each operator of a constant expression in this place is constant (each stands beside its offset). That
-/// they are valid, and the expression is of its type, is the validator's to say. It takes memory for a text
-/// alone.
-pub fn check_constant_expression(
+/// An operator of a constant expression in this place is constant. It refuses at the offset of the operator,
+/// and takes memory for a text alone.
+///
+/// Where each operator of an expression is, the expression is constant. That its operators are valid, and its
+/// value is of its type, is the validator's to say.
+pub fn check_constant_operator(
     alloc: Global,
     features: ModuleFeatures,
     declared: &DeclaredModule,
     place: Place,
-    ops: &[(Op<'_>, u64)],
+    op: Op<'_>,
+    offset: u64,
 ) -> Result<(), Error>
-    ensures valid { OnOk result (is_constant_expression features (declarations_of declared.now) place
-        ops.now ≡ true) }
-    ensures invalid { OnErr result (is_constant_expression features (declarations_of declared.now) place
-        ops.now ≡ false) }
+    ensures valid { OnOk result (is_constant_in features (declarations_of declared.now) place op.entry
+        ≡ true) }
+    ensures invalid { OnErr result (is_constant_in features (declarations_of declared.now) place op.entry
+        ≡ false) }
 {
     let count = known_globals(declared, place);
-    if are_constant_operators(features, declared, count, ops) {
+    if is_constant_operator(features, declared, count, op) {
         return Ok(());
     }
-    Err(constant_expression_refusal(alloc, features, declared, count, ops))
+    Err(constant_refusal(alloc, declared, count, op, offset))
 }
 
 /// The type of the addresses at which an element segment begins, if it goes to a table that is there.

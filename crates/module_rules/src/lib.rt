@@ -3,6 +3,7 @@
 #![tactic(auto)]
 
 mod constants;
+mod copies;
 mod descriptors;
 mod elements;
 mod exports;
@@ -27,7 +28,7 @@ mod type_refusals;
 mod types;
 mod validity;
 
-pub use crate::constants::{check_constant_expression, expression_type, is_constant_operator};
+pub use crate::constants::{check_constant_operator, expression_type, is_constant_operator};
 pub use crate::features::ModuleFeatures;
 pub use crate::items::{
     DeclaredFunction, DeclaredGlobal, DeclaredMemory, DeclaredTable, DeclaredTag, Export,

@@ -9,6 +9,7 @@ ghost use Rattle.module_rules.specs.Lookup.{Marks, function_decl, function_decls
 ghost use Rattle.module_rules.specs.References.{exported_functions, listed_functions, is_referenced};
 ghost use Rattle.module_rules.specs.Segments.{item_type};
 
+use crate::copies::copied_types;
 use crate::elements::item_type;
 use crate::items::{
     DeclaredFunction, DeclaredGlobal, DeclaredMemory, DeclaredTable, DeclaredTag, Export,
@@ -177,11 +178,12 @@ fn said_count(count: Option<DataCount>) -> Option<u32>
 /// memory for the lists, and refuses where there is none. Of a valid module `ModuleLists::new` refuses none.
 pub fn lookup_lists(
     alloc: Global,
-    declared: DeclaredModule,
+    declared: &DeclaredModule,
 ) -> Result<ModuleDeclarations, OutOfMemory>
-    ensures { IfOk result (λ l. declared_in l ≡ lookup_lists (declarations_of declared)) }
+    ensures { IfOk result (λ l. declared_in l ≡ lookup_lists (declarations_of declared.now)) }
 {
-    let functions = function_decls(alloc, &declared)?;
+    let types = copied_types(alloc, &declared.types)?;
+    let functions = function_decls(alloc, declared)?;
     let tables = table_types(alloc, &declared.tables)?;
     let memories = memory_types(alloc, &declared.memories)?;
     let globals = global_types(alloc, &declared.globals)?;
@@ -189,7 +191,7 @@ pub fn lookup_lists(
     let elements = element_types(alloc, &declared.elements)?;
     Ok(ModuleDeclarations {
         data_count: said_count(declared.data_count),
-        types: declared.types,
+        types,
         functions,
         tables,
         memories,

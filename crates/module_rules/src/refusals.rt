@@ -387,9 +387,19 @@ fn items_refusal(
 }
 
 /// Why what becomes of an element segment isn't valid, or it has too many items.
-fn element_kind_refusal(alloc: Global, declared: &DeclaredModule, element: &Element) -> Error {
+fn element_kind_refusal(
+    alloc: Global,
+    features: ModuleFeatures,
+    declared: &DeclaredModule,
+    element: &Element,
+) -> Error {
     let ElementKind::Active { table_index } = element.kind else {
-        return Error::new("bulk memory must be enabled", element.offset);
+        let text = if features.bulk_memory() {
+            "number of elements is out of bounds"
+        } else {
+            "bulk memory must be enabled"
+        };
+        return Error::new(text, element.offset);
     };
     let Some(table) = declared.tables.get(table_index as usize) else {
         return Error::from_text(
@@ -433,7 +443,7 @@ pub fn elements_refusal(
         ) {
             return match items_refusal(alloc, features, declared, element) {
                 Some(error) => error,
-                None => element_kind_refusal(alloc, declared, element),
+                None => element_kind_refusal(alloc, features, declared, element),
             };
         }
     }

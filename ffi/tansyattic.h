@@ -1,4 +1,5 @@
-/* The check of a binary WebAssembly module: each function's body and each constant expression (docs/MODULES.md).
+/* Whether a binary WebAssembly module is valid: what it declares, each function's body and each constant expression
+ * (docs/MODULES.md).
  *
  * What the library was proved for holds where the caller keeps to this, which nothing tests:
  * - `bytes` points at `length` bytes that nothing writes during the call, and isn't null, even for a length of 0;
@@ -21,11 +22,11 @@ extern "C" {
 #endif
 
 enum tansyattic_status {
-    TANSYATTIC_ACCEPTED = 0,      /* each body and each constant expression is accepted */
-    TANSYATTIC_REFUSED = 1,       /* one is refused */
-    TANSYATTIC_NO_MODULE = 2,     /* the bytes are no module's, or what they declare is refused */
+    TANSYATTIC_VALID = 0,         /* the module is valid; of one function: what the module declares, and its body */
+    TANSYATTIC_INVALID = 1,       /* what it declares isn't, or a body or a constant expression */
+    TANSYATTIC_MALFORMED = 2,     /* the bytes aren't those of a module */
     TANSYATTIC_OUT_OF_MEMORY = 3, /* there was no memory for the check: nothing is known */
-    TANSYATTIC_NOT_COVERED = 4,   /* none is refused, and one has a vector operator, which isn't covered */
+    TANSYATTIC_NOT_COVERED = 4,   /* nothing is refused, and there is a vector operator, which isn't covered */
     TANSYATTIC_NO_BODY = 5        /* the module has no body for the function: it is imported, or isn't there */
 };
 
@@ -39,8 +40,8 @@ enum tansyattic_kind {
     TANSYATTIC_MODULE = 6          /* the module as a whole */
 };
 
-/* What a check comes to. What is told is the first of those that weigh most: want of memory, then a refusal, then
- * what isn't covered. Where all is accepted, nothing is. */
+/* What a check comes to. What is told is the first of those that weigh most: want of memory, then what is malformed,
+ * then what is invalid, then what isn't covered. Of a valid module nothing is. */
 struct tansyattic_verdict {
     uint32_t status;              /* a tansyattic_status */
     uint32_t kind;                /* what is told: a tansyattic_kind */
@@ -48,7 +49,7 @@ struct tansyattic_verdict {
     uint64_t offset;              /* where, from the first byte of the module */
     size_t text_length;           /* so many bytes of the text were written */
     uint64_t accepted;            /* so many bodies and constant expressions are accepted, */
-    uint64_t refused;             /* so many refused, */
+    uint64_t refused;             /* so many refused (what the module declares counts for one), */
     uint64_t not_covered;         /* and so many not covered */
 };
 
@@ -57,8 +58,8 @@ struct tansyattic_verdict {
 uint32_t tansyattic_validate(const uint8_t *bytes, size_t length, uint8_t *text, size_t text_length,
                              struct tansyattic_verdict *out);
 
-/* The same of the body of one function alone, by its index, the imported functions counted first. The sections of
- * the module are read on each call. */
+/* The same of what the module declares and the body of one function, by its index, the imported functions counted
+ * first. The sections of the module are read on each call. */
 uint32_t tansyattic_validate_function(const uint8_t *bytes, size_t length, uint32_t function, uint8_t *text,
                                       size_t text_length, struct tansyattic_verdict *out);
 

@@ -45,15 +45,15 @@ unsafe extern "C" {
 /// What a check comes to.
 #[derive(Clone, Copy, Debug, PartialEq, Eq, PartialOrd, Ord)]
 pub enum Status {
-    /// Each body and each constant expression is accepted.
-    Accepted = 0,
-    /// One is refused.
-    Refused = 1,
-    /// The bytes are no module's, or what they declare is refused.
-    NoModule = 2,
+    /// The module is valid; of one function: what the module declares, and its body.
+    Valid = 0,
+    /// What it declares isn't, or a body or a constant expression.
+    Invalid = 1,
+    /// The bytes aren't those of a module.
+    Malformed = 2,
     /// There was no memory for the check: nothing is known.
     OutOfMemory = 3,
-    /// None is refused, and one has a vector operator, which isn't covered.
+    /// Nothing is refused, and there is a vector operator, which isn't covered.
     NotCovered = 4,
     /// The module has no body for the function: it is imported, or isn't there.
     NoBody = 5,
@@ -78,7 +78,7 @@ pub enum Item {
     Module,
 }
 
-/// Why not all is accepted: the first of what weighs most.
+/// Why a module isn't valid: the first of what weighs most.
 #[derive(Clone, Debug, PartialEq, Eq)]
 pub struct Told {
     /// What it is about.
@@ -94,11 +94,11 @@ pub struct Told {
 pub struct Verdict {
     /// What it comes to.
     pub status: Status,
-    /// Why, where not all is accepted.
+    /// Why, where it isn't valid.
     pub told: Option<Told>,
     /// How many bodies and constant expressions are accepted.
     pub accepted: u64,
-    /// How many are refused.
+    /// How many are refused; what the module declares counts for one.
     pub refused: u64,
     /// How many aren't covered.
     pub not_covered: u64,
@@ -107,9 +107,9 @@ pub struct Verdict {
 impl Verdict {
     fn new(raw: &RawVerdict, text: &[u8]) -> Verdict {
         let status = match raw.status {
-            0 => Status::Accepted,
-            1 => Status::Refused,
-            2 => Status::NoModule,
+            0 => Status::Valid,
+            1 => Status::Invalid,
+            2 => Status::Malformed,
             4 => Status::NotCovered,
             5 => Status::NoBody,
             _ => Status::OutOfMemory,
@@ -127,7 +127,7 @@ impl Verdict {
         let told = Told { item, offset: raw.offset, text };
         Verdict {
             status,
-            told: (status != Status::Accepted).then_some(told),
+            told: (status != Status::Valid).then_some(told),
             accepted: raw.accepted,
             refused: raw.refused,
             not_covered: raw.not_covered,
@@ -160,7 +160,7 @@ impl fmt::Display for Verdict {
     }
 }
 
-/// Checks each body and each constant expression of a module, of which these are all the bytes.
+/// Checks a module, of which these are all the bytes: what it declares, each body and each constant expression.
 pub fn validate(bytes: &[u8]) -> Verdict {
     let mut text = [0; 256];
     let mut raw = RawVerdict::default();
@@ -172,7 +172,7 @@ pub fn validate(bytes: &[u8]) -> Verdict {
     Verdict::new(&raw, &text)
 }
 
-/// Checks the body of the function at this index, the imported ones counted first.
+/// Checks what the module declares, and the body of the function at this index, the imported ones counted first.
 pub fn validate_function(bytes: &[u8], function: u32) -> Verdict {
     let mut text = [0; 256];
     let mut raw = RawVerdict::default();
@@ -207,7 +207,7 @@ fn check(name: &str, function: Option<u32>) -> Status {
 fn main() -> ExitCode {
     let (major, minor, patch) = version();
     println!("tansyattic {major}.{minor}.{patch}");
-    let mut greatest = Status::Accepted;
+    let mut greatest = Status::Valid;
     let mut function = None;
     let mut words = std::env::args().skip(1);
     while let Some(word) = words.next() {

@@ -39,7 +39,7 @@ static uint8_t *read_file(const char *name, size_t *length) {
 
 static void print_verdict(const char *name, const struct tansyattic_verdict *v, const uint8_t *text) {
     printf("%s: status %" PRIu32, name, v->status);
-    if (v->status != TANSYATTIC_ACCEPTED) {
+    if (v->status != TANSYATTIC_VALID) {
         printf(": %s", kinds[v->kind <= TANSYATTIC_MODULE ? v->kind : TANSYATTIC_MODULE]);
         if (v->kind < TANSYATTIC_MODULE) printf(" %" PRIu64, v->index);
         printf(" at offset 0x%" PRIx64 ": %.*s", v->offset, (int)v->text_length, (const char *)text);

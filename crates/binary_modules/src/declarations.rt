@@ -1,35 +1,49 @@
 //! What a module imports and declares (WebAssembly core specification, "Binary Format: Modules").
 
-use crate::module::{Module, Place};
+ghost use Rattle.binary_modules.specs.Imported.{AreImported};
+ghost use Rattle.module_rules.specs.Declarations.{declarations_of};
+
+use crate::module::{Module, index_behind};
 use crate::segments::read_expression;
 use binary_operators::{
     BinaryReader, CanonicalTypes, Fault, ReadError, push, read_ref_type, read_value_type,
 };
+use module_rules::{
+    DeclaredFunction, DeclaredGlobal, DeclaredMemory, DeclaredModule, DeclaredTable, DeclaredTag,
+    Imports, Limits, Place, TableInit,
+};
 use std::alloc::Global;
-use validate_resources::FuncDecl;
-use validate_types::{GlobalType, MemoryType, TableType, ValType};
+use validate_types::{GlobalType, MemoryType, TableType};
 
-/// The flags of the limits of a memory or a table.
+/// The limits of a memory or a table, with what stands in their flags.
 #[derive(Clone, Copy)]
-struct Limits {
+struct FlaggedLimits {
+    limits: Limits,
     is_64: bool,
     shared: bool,
+    page_size_log2: Option<u32>,
 }
 
-/// Reads limits, of which the numbers aren't kept.
-fn read_limits(reader: &mut BinaryReader<'_>, most_flags: u8) -> Result<Limits, ReadError> {
+/// Reads limits, with flags up to this.
+fn read_limits(reader: &mut BinaryReader<'_>, most_flags: u8) -> Result<FlaggedLimits, ReadError> {
     let flags = reader.read_code(most_flags, Fault::InvalidLimitsFlags)?;
     let is_64 = flags & 4 != 0;
-    let _least = read_size(reader, is_64)?;
-    if flags & 1 != 0 {
-        let _most = read_size(reader, is_64)?;
-    }
-    if flags & 8 != 0 {
-        let _page = reader.read_var_u32()?;
-    }
-    Ok(Limits {
+    let initial = read_size(reader, is_64)?;
+    let maximum = if flags & 1 != 0 {
+        Some(read_size(reader, is_64)?)
+    } else {
+        None
+    };
+    let page_size_log2 = if flags & 8 != 0 {
+        Some(reader.read_var_u32()?)
+    } else {
+        None
+    };
+    Ok(FlaggedLimits {
+        limits: Limits { initial, maximum },
         is_64,
         shared: flags & 2 != 0,
+        page_size_log2,
     })
 }
 
@@ -40,41 +54,55 @@ fn read_size(reader: &mut BinaryReader<'_>, is_64: bool) -> Result<u64, ReadErro
     Ok(u64::from(reader.read_var_u32()?))
 }
 
-/// Reads the type of a function, a reference to which may be exact.
+/// Reads the type of a function, which stands at this offset. A reference to the function may be exact.
 pub fn declare_function(
     reader: &mut BinaryReader<'_>,
     module: &mut Module,
     exact: bool,
+    offset: u64,
 ) -> Result<(), ReadError> {
     let index = reader.read_var_u32()?;
-    let type_index = CanonicalTypes::new(&module.canonical).of(index);
-    let function = FuncDecl {
+    let type_index = CanonicalTypes::new(&module.declared.canonical).of(index);
+    let function = DeclaredFunction {
         type_index,
-        referenced: false,
         exact,
+        offset,
     };
-    push(&mut module.declarations.functions, function)
+    push(&mut module.declared.functions, function)
 }
 
-/// Reads the type of a table, and what its elements are at first where that stands behind it.
+/// Reads the type of a table, which stands at this offset, and what its elements are at first where that stands
+/// behind it.
 fn declare_table(
     alloc: Global,
     reader: &mut BinaryReader<'_>,
     module: &mut Module,
-    is_initialized: bool,
+    init: TableInit,
+    offset: u64,
 ) -> Result<(), ReadError> {
-    let element_type = read_ref_type(reader, CanonicalTypes::new(&module.canonical))?;
-    let limits = read_limits(reader, 7)?;
-    if is_initialized {
-        let place = Place::Table(module.declarations.tables.len());
-        read_expression(alloc, reader, module, place, ValType::Ref(element_type))?;
+    let element_type = read_ref_type(reader, CanonicalTypes::new(&module.declared.canonical))?;
+    let FlaggedLimits {
+        limits,
+        is_64,
+        shared,
+        ..
+    } = read_limits(reader, 7)?;
+    if init == TableInit::Expr {
+        let place = Place::Table(index_behind(module.declared.tables.len()));
+        read_expression(alloc, reader, module, place)?;
     }
-    let table = TableType {
+    let ty = TableType {
         element_type,
-        table64: limits.is_64,
-        shared: limits.shared,
+        table64: is_64,
+        shared,
     };
-    push(&mut module.declarations.tables, table)
+    let table = DeclaredTable {
+        ty,
+        limits,
+        init,
+        offset,
+    };
+    push(&mut module.declared.tables, table)
 }
 
 /// Reads a table of the module's own.
@@ -83,71 +111,107 @@ pub fn read_table(
     reader: &mut BinaryReader<'_>,
     module: &mut Module,
 ) -> Result<(), ReadError> {
-    let is_initialized = reader.reads(0x40)?;
-    if is_initialized {
-        let _zero = reader.read_code(0, Fault::InvalidTableEncoding)?;
+    let offset = reader.offset();
+    if !reader.reads(0x40)? {
+        return declare_table(alloc, reader, module, TableInit::RefNull, offset);
     }
-    declare_table(alloc, reader, module, is_initialized)
+    let _zero = reader.read_code(0, Fault::InvalidTableEncoding)?;
+    declare_table(alloc, reader, module, TableInit::Expr, offset)
 }
 
-/// Reads the type of a memory.
-pub fn declare_memory(reader: &mut BinaryReader<'_>, module: &mut Module) -> Result<(), ReadError> {
-    let limits = read_limits(reader, 15)?;
-    let memory = MemoryType {
-        memory64: limits.is_64,
-        shared: limits.shared,
+/// Reads the type of a memory, which stands at this offset.
+pub fn declare_memory(
+    reader: &mut BinaryReader<'_>,
+    module: &mut Module,
+    offset: u64,
+) -> Result<(), ReadError> {
+    let FlaggedLimits {
+        limits,
+        is_64,
+        shared,
+        page_size_log2,
+    } = read_limits(reader, 15)?;
+    let memory = DeclaredMemory {
+        ty: MemoryType {
+            memory64: is_64,
+            shared,
+        },
+        limits,
+        page_size_log2,
+        offset,
     };
-    push(&mut module.declarations.memories, memory)
+    push(&mut module.declared.memories, memory)
 }
 
-/// Reads the type of a global, and its first value where that stands behind it.
+/// Reads the type of a global, which stands at this offset, and its first value where that stands behind it.
 pub fn declare_global(
     alloc: Global,
     reader: &mut BinaryReader<'_>,
     module: &mut Module,
     is_initialized: bool,
+    offset: u64,
 ) -> Result<(), ReadError> {
-    let content_type = read_value_type(reader, CanonicalTypes::new(&module.canonical))?;
+    let content_type = read_value_type(reader, CanonicalTypes::new(&module.declared.canonical))?;
     let flags = reader.read_code(3, Fault::MalformedMutability)?;
     if is_initialized {
-        let place = Place::Global(module.declarations.globals.len());
-        read_expression(alloc, reader, module, place, content_type)?;
+        let place = Place::Global(index_behind(module.declared.globals.len()));
+        read_expression(alloc, reader, module, place)?;
     }
-    let global = GlobalType {
+    let ty = GlobalType {
         content_type,
         mutable: flags & 1 != 0,
         shared: flags & 2 != 0,
     };
-    push(&mut module.declarations.globals, global)
+    push(&mut module.declared.globals, DeclaredGlobal { ty, offset })
 }
 
-/// Reads the type of a tag.
-pub fn declare_tag(reader: &mut BinaryReader<'_>, module: &mut Module) -> Result<(), ReadError> {
+/// Reads the type of a tag, which stands at this offset.
+pub fn declare_tag(
+    reader: &mut BinaryReader<'_>,
+    module: &mut Module,
+    offset: u64,
+) -> Result<(), ReadError> {
     let _exception = reader.read_code(0, Fault::InvalidTagAttributes)?;
     let index = reader.read_var_u32()?;
-    let index = CanonicalTypes::new(&module.canonical).of(index);
-    push(&mut module.declarations.tags, index)
+    let func_type_idx = CanonicalTypes::new(&module.declared.canonical).of(index);
+    let tag = DeclaredTag {
+        func_type_idx,
+        offset,
+    };
+    push(&mut module.declared.tags, tag)
 }
 
-/// Reads an import.
+/// Reads an import, which stands at this offset.
 pub fn read_import(
     alloc: Global,
     reader: &mut BinaryReader<'_>,
     module: &mut Module,
+    offset: u64,
 ) -> Result<(), ReadError> {
     let _module = reader.read_name()?;
     let _name = reader.read_name()?;
-    let offset = reader.offset();
+    let kind_offset = reader.offset();
     let kind = reader.read_u8()?;
     match kind {
-        0 | 0x20 => {
-            module.imported_functions = module.imported_functions.saturating_add(1);
-            declare_function(reader, module, kind == 0x20)
-        }
-        1 => declare_table(alloc, reader, module, false),
-        2 => declare_memory(reader, module),
-        3 => declare_global(alloc, reader, module, false),
-        4 => declare_tag(reader, module),
-        _ => Err(ReadError::malformed(Fault::MalformedImportKind, offset)),
+        0 | 0x20 => declare_function(reader, module, kind == 0x20, offset),
+        1 => declare_table(alloc, reader, module, TableInit::RefNull, offset),
+        2 => declare_memory(reader, module, offset),
+        3 => declare_global(alloc, reader, module, false, offset),
+        4 => declare_tag(reader, module, offset),
+        _ => Err(ReadError::malformed(Fault::MalformedImportKind, kind_offset)),
+    }
+}
+
+/// How many items of each kind are imported, from this offset on: all that are declared as the imports end.
+pub fn imports_of(declared: &DeclaredModule, offset: u64) -> Imports
+    ensures { AreImported (declarations_of declared.now) result }
+{
+    Imports {
+        functions: index_behind(declared.functions.len()),
+        tables: index_behind(declared.tables.len()),
+        memories: index_behind(declared.memories.len()),
+        globals: index_behind(declared.globals.len()),
+        tags: index_behind(declared.tags.len()),
+        offset,
     }
 }

@@ -10,8 +10,9 @@ use crate::module::Module;
 use crate::subtypes::read_sub_type;
 use crate::words::words_of;
 use binary_operators::{
-    BinaryReader, CanonicalTypes, Fault, GroupNames, ReadError, are_groups_equal,
+    BinaryReader, CanonicalTypes, Fault, GroupNames, ReadError, are_groups_equal, push,
 };
+use module_rules::RecGroup;
 use std::alloc::Global;
 use std::collections::BTreeMap;
 use validate_types::SubType;
@@ -98,12 +99,12 @@ fn read_sub_types(
     Ok(())
 }
 
-/// Reads how many types a group has.
-fn read_count(reader: &mut BinaryReader<'_>) -> Result<u32, ReadError> {
+/// Reads how many types a group has, unless it is the one type that stands there.
+fn read_count(reader: &mut BinaryReader<'_>) -> Result<Option<u32>, ReadError> {
     if reader.reads(0x4e)? {
-        return reader.read_var_u32();
+        return Ok(Some(reader.read_var_u32()?));
     }
-    Ok(1)
+    Ok(None)
 }
 
 /// Says of so many types, behind those of the list, that those from this index on stand for them.
@@ -123,26 +124,36 @@ fn read_group(
     groups: &mut Groups,
 ) -> Result<(), ReadError> {
     let offset = reader.offset();
-    let Ok(first) = u32::try_from(module.canonical.len()) else {
+    let Ok(first) = u32::try_from(module.declared.canonical.len()) else {
         return Err(ReadError::malformed(Fault::TypeIndexTooLarge, offset));
     };
-    let count = read_count(reader)?;
+    let written = read_count(reader)?;
+    let count = written.unwrap_or(1);
     let mut again = reader.again();
-    let places = CanonicalTypes::in_group(&module.canonical, GroupNames::Places);
+    let places = CanonicalTypes::in_group(&module.declared.canonical, GroupNames::Places);
     read_sub_types(alloc, reader, places, count, &mut groups.rolled)?;
     let stands = groups.find(alloc, Group { first, count }, offset)?;
-    let indices = CanonicalTypes::in_group(&module.canonical, GroupNames::Indices(stands.first));
+    let indices = CanonicalTypes::in_group(
+        &module.declared.canonical,
+        GroupNames::Indices(stands.first),
+    );
     read_sub_types(
         alloc,
         &mut again,
         indices,
         count,
-        &mut module.declarations.types,
+        &mut module.declared.types,
     )?;
     if stands.first != first {
         module.merged = module.merged.saturating_add(count as usize);
     }
-    push_canonical(&mut module.canonical, stands.first, count)
+    push_canonical(&mut module.declared.canonical, stands.first, count)?;
+    let group = RecGroup {
+        count,
+        explicit: written.is_some(),
+        offset,
+    };
+    push(&mut module.declared.groups, group)
 }
 
 /// Reads so many groups of types.

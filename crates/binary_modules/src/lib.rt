@@ -11,7 +11,7 @@ mod segments;
 mod subtypes;
 mod words;
 
-pub use crate::module::{ConstantExpression, Module, Place};
+pub use crate::module::{ConstantExpression, Module};
 pub use crate::names::{FunctionNames, read_function_names};
 pub use crate::sections::read_module;
 pub use binary_operators::ByteRange;

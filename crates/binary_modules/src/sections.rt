@@ -1,21 +1,62 @@
 //! Modules, section by section (WebAssembly core specification, "Binary Format: Modules").
 
+ghost use Rattle.std.specs.Prelude.{◌≡◌, ◌+◌, length, IfOk, OnOk};
+ghost use Rattle.binary_modules.specs.Imported.{AreImported};
+ghost use Rattle.module_rules.specs.Declarations.{declarations_of};
+
 use crate::declarations::{
-    declare_function, declare_global, declare_memory, declare_tag, read_import, read_table,
+    declare_function, declare_global, declare_memory, declare_tag, imports_of, read_import,
+    read_table,
 };
 use crate::groups::read_types;
 use crate::module::Module;
 use crate::segments::{read_data, read_element};
 use binary_operators::{BinaryReader, ByteRange, Fault, ReadError, push};
+use module_rules::{DataCount, Export, ExternalKind, Start};
 use std::alloc::Global;
 
-fn read_export(reader: &mut BinaryReader<'_>, module: &mut Module) -> Result<(), ReadError> {
-    let _name = reader.read_name()?;
-    let kind = reader.read_code(4, Fault::InvalidExternalKind)?;
-    let index = reader.read_var_u32()?;
-    if kind == 0 {
-        return push(&mut module.referenced, index);
+/// Reads what an export is of.
+fn read_external_kind(reader: &mut BinaryReader<'_>) -> Result<ExternalKind, ReadError> {
+    match reader.read_code(4, Fault::InvalidExternalKind)? {
+        0 => Ok(ExternalKind::Func),
+        1 => Ok(ExternalKind::Table),
+        2 => Ok(ExternalKind::Memory),
+        3 => Ok(ExternalKind::Global),
+        _ => Ok(ExternalKind::Tag),
     }
+}
+
+fn read_export(
+    alloc: Global,
+    reader: &mut BinaryReader<'_>,
+    module: &mut Module,
+) -> Result<(), ReadError> {
+    let offset = reader.offset();
+    let name = String::from_str(alloc, reader.read_name()?)?;
+    let kind = read_external_kind(reader)?;
+    let index = reader.read_var_u32()?;
+    let export = Export {
+        name,
+        kind,
+        index,
+        offset,
+    };
+    push(&mut module.declared.exports, export)
+}
+
+/// Reads the start function, whose index is the whole section.
+fn read_start(reader: &mut BinaryReader<'_>, module: &mut Module) -> Result<(), ReadError> {
+    let offset = reader.offset();
+    let function = reader.read_var_u32()?;
+    module.declared.start = Some(Start { function, offset });
+    Ok(())
+}
+
+/// Reads how many data segments there are, which is the whole section.
+fn read_data_count(reader: &mut BinaryReader<'_>, module: &mut Module) -> Result<(), ReadError> {
+    let offset = reader.offset();
+    let count = reader.read_var_u32()?;
+    module.declared.data_count = Some(DataCount { count, offset });
     Ok(())
 }
 
@@ -32,18 +73,33 @@ fn read_item(
     reader: &mut BinaryReader<'_>,
     module: &mut Module,
 ) -> Result<(), ReadError> {
+    let offset = reader.offset();
     match id {
-        2 => read_import(alloc, reader, module),
-        3 => declare_function(reader, module, true),
+        2 => read_import(alloc, reader, module, offset),
+        3 => declare_function(reader, module, true, offset),
         4 => read_table(alloc, reader, module),
-        5 => declare_memory(reader, module),
-        6 => declare_global(alloc, reader, module, true),
-        7 => read_export(reader, module),
+        5 => declare_memory(reader, module, offset),
+        6 => declare_global(alloc, reader, module, true, offset),
+        7 => read_export(alloc, reader, module),
         9 => read_element(alloc, reader, module),
         10 => read_body(reader, module),
         11 => read_data(alloc, reader, module),
-        _ => declare_tag(reader, module),
+        _ => declare_tag(reader, module, offset),
     }
+}
+
+/// Reads the items of the list that the section with this id is.
+fn read_items(
+    alloc: Global,
+    id: u8,
+    reader: &mut BinaryReader<'_>,
+    module: &mut Module,
+) -> Result<(), ReadError> {
+    let count = reader.read_var_u32()?;
+    for _ in 0..count {
+        read_item(alloc, id, reader, module)?;
+    }
+    Ok(())
 }
 
 /// Where a section stands among the others, by its id; a custom section has no place.
@@ -64,30 +120,34 @@ fn place_behind(last: u8, id: u8, offset: u64) -> Result<u8, ReadError> {
     }
 }
 
+/// Reads the imports, behind which all that is declared is imported.
+fn read_imports(
+    alloc: Global,
+    reader: &mut BinaryReader<'_>,
+    module: &mut Module,
+) -> Result<(), ReadError>
+    ensures { OnOk result (AreImported (declarations_of module.new.declared) module.new.declared.imports) }
+{
+    let offset = reader.offset();
+    read_items(alloc, 2, reader, module)?;
+    module.declared.imports = imports_of(&module.declared, offset);
+    Ok(())
+}
+
 fn read_section(
     alloc: Global,
     id: u8,
     reader: &mut BinaryReader<'_>,
     module: &mut Module,
 ) -> Result<(), ReadError> {
-    if id == 0 {
-        return read_custom(reader, module);
+    match id {
+        0 => read_custom(reader, module),
+        1 => read_types(alloc, reader, module),
+        2 => read_imports(alloc, reader, module),
+        8 => read_start(reader, module),
+        12 => read_data_count(reader, module),
+        _ => read_items(alloc, id, reader, module),
     }
-    if id == 1 {
-        return read_types(alloc, reader, module);
-    }
-    let count = reader.read_var_u32()?;
-    if id == 12 {
-        module.declarations.data_count = Some(count);
-    }
-    // The start section is a number too, the index of a function, and no list.
-    if id == 8 || id == 12 {
-        return Ok(());
-    }
-    for _ in 0..count {
-        read_item(alloc, id, reader, module)?;
-    }
-    Ok(())
 }
 
 /// Reads the name of a custom section, of which only the name section is kept.
@@ -137,7 +197,10 @@ fn read_next(
 }
 
 /// Reads the header and each section.
-fn read_sections(alloc: Global, bytes: &[u8], module: &mut Module) -> Result<(), ReadError> {
+fn read_sections(alloc: Global, bytes: &[u8], module: &mut Module) -> Result<(), ReadError>
+    ensures { OnOk result (module.new.declared.imports.functions + length module.new.bodies.items
+        ≡ length module.new.declared.functions.items) }
+{
     let mut reader = BinaryReader::new(bytes);
     read_header(&mut reader)?;
     let mut last = 0;
@@ -150,24 +213,30 @@ fn read_sections(alloc: Global, bytes: &[u8], module: &mut Module) -> Result<(),
     check_counts(module, reader.offset())
 }
 
-/// Reads a module, of which these are all the bytes. The operators of its bodies aren't read, and neither
-/// are its limits, names, exports and data kept.
-pub fn read_module(alloc: Global, bytes: &[u8]) -> Result<Module, ReadError> {
+/// Reads a module, of which these are all the bytes. The operators of its bodies aren't read, and its data aren't
+/// kept. It has a body for each function that isn't imported.
+pub fn read_module(alloc: Global, bytes: &[u8]) -> Result<Module, ReadError>
+    ensures bodies { IfOk result (λ m. m.declared.imports.functions + length m.bodies.items
+        ≡ length m.declared.functions.items) }
+{
     let mut module = Module::new(alloc);
     read_sections(alloc, bytes, &mut module)?;
-    module.mark_referenced();
     Ok(module)
 }
 
 /// Refuses, at this offset, a module that hasn't as many bodies as functions of its own (`InconsistentCode`), or as
 /// many data segments as it says (`InconsistentData`).
-fn check_counts(module: &Module, offset: u64) -> Result<(), ReadError> {
-    let functions = module.declarations.functions.len();
-    if functions.saturating_sub(module.imported_functions) != module.bodies.len() {
+fn check_counts(module: &Module, offset: u64) -> Result<(), ReadError>
+    ensures { OnOk result (module.now.declared.imports.functions + length module.now.bodies.items
+        ≡ length module.now.declared.functions.items) }
+{
+    let declared = &module.declared;
+    let imported = declared.imports.functions as usize;
+    if declared.functions.len().checked_sub(imported) != Some(module.bodies.len()) {
         return Err(ReadError::malformed(Fault::InconsistentCode, offset));
     }
-    if let Some(count) = module.declarations.data_count
-        && count as usize != module.data_segments
+    if let Some(said) = declared.data_count
+        && said.count as usize != declared.data_segments.len()
     {
         return Err(ReadError::malformed(Fault::InconsistentData, offset));
     }

@@ -1,12 +1,13 @@
 //! Constant expressions, and the segments that have them.
 
-use crate::module::{ConstantExpression, Module, Place};
+use crate::module::{Module, index_behind};
 use binary_operators::{
     BinaryReader, ByteRange, CanonicalTypes, Fault, OperatorLists, ReadError, push, read_operator,
     read_ref_type,
 };
+use module_rules::{Data, DataKind, Element, ElementItems, ElementKind, FunctionItems, Place};
 use std::alloc::Global;
-use validate_types::{RefType, ValType};
+use validate_types::RefType;
 use validate_visit::{ControlOp, ExceptionOp, Op, ReferenceOp};
 
 /// Reads over a constant of the vector type, if the next operator is one. It refuses other vector operators.
@@ -76,58 +77,90 @@ fn skip_expression(
     Err(ReadError::malformed(Fault::UnexpectedEnd, reader.offset()))
 }
 
-/// Reads a constant expression of this type, for this.
+/// Reads a constant expression for this.
 pub fn read_expression(
     alloc: Global,
     reader: &mut BinaryReader<'_>,
     module: &mut Module,
     place: Place,
-    ty: ValType,
 ) -> Result<(), ReadError> {
     let mut lists = OperatorLists::new(alloc);
-    let canonical = CanonicalTypes::new(&module.canonical);
-    match skip_expression(reader, canonical, &mut lists, &mut module.referenced) {
-        Ok(range) => module.add_expression(place, ty, range),
+    let canonical = CanonicalTypes::new(&module.declared.canonical);
+    let referenced = &mut module.declared.expression_functions;
+    match skip_expression(reader, canonical, &mut lists, referenced) {
+        Ok(range) => module.add_expression(place, range),
         Err(error) => Err(error),
     }
 }
 
-/// Reads the type of the items of an element segment with these flags, and what tells it from others.
-fn read_item_type(
+/// Reads what becomes of an element segment with these flags: the table that it is written to, and where it goes.
+fn read_element_kind(
+    alloc: Global,
     reader: &mut BinaryReader<'_>,
-    module: &Module,
+    module: &mut Module,
     flags: u32,
-) -> Result<RefType, ReadError> {
-    if flags > 4 {
-        return read_ref_type(reader, CanonicalTypes::new(&module.canonical));
+) -> Result<ElementKind, ReadError> {
+    match flags {
+        1 | 5 => return Ok(ElementKind::Passive),
+        3 | 7 => return Ok(ElementKind::Declared),
+        _ => {}
     }
-    if flags == 4 {
-        return Ok(RefType::FUNCREF);
-    }
-    if flags != 0 {
-        let _function = reader.read_code(0, Fault::InvalidElementKind)?;
-    }
-    Ok(RefType::FUNCREF.as_non_null())
+    let table_index = if flags == 2 || flags == 6 {
+        reader.read_var_u32()?
+    } else {
+        0
+    };
+    let place = Place::ElementOffset(index_behind(module.declared.elements.len()));
+    read_expression(alloc, reader, module, place)?;
+    Ok(ElementKind::Active { table_index })
 }
 
-/// Reads the items of an element segment: constant expressions of this type, or the indices of functions.
+/// Reads the indices of the functions that an element segment lists.
+fn read_function_items(
+    alloc: Global,
+    reader: &mut BinaryReader<'_>,
+) -> Result<ElementItems, ReadError> {
+    let mut indices = Vec::new(alloc);
+    let count = reader.read_var_u32()?;
+    for _ in 0..count {
+        push(&mut indices, reader.read_var_u32()?)?;
+    }
+    Ok(ElementItems::Functions(FunctionItems { indices }))
+}
+
+/// Reads the constant expressions of an element segment, which are of this type.
+fn read_expression_items(
+    alloc: Global,
+    reader: &mut BinaryReader<'_>,
+    module: &mut Module,
+    ty: RefType,
+) -> Result<ElementItems, ReadError> {
+    let place = Place::Element(index_behind(module.declared.elements.len()));
+    let count = reader.read_var_u32()?;
+    for _ in 0..count {
+        read_expression(alloc, reader, module, place)?;
+    }
+    Ok(ElementItems::Expressions { ty, count })
+}
+
+/// Reads the items of an element segment with these flags, behind what tells their type.
 fn read_items(
     alloc: Global,
     reader: &mut BinaryReader<'_>,
     module: &mut Module,
-    are_expressions: bool,
-    ty: RefType,
-) -> Result<(), ReadError> {
-    let place = Place::Element(module.declarations.elements.len());
-    let count = reader.read_var_u32()?;
-    for _ in 0..count {
-        if are_expressions {
-            read_expression(alloc, reader, module, place, ValType::Ref(ty))?;
-        } else {
-            push(&mut module.referenced, reader.read_var_u32()?)?;
-        }
+    flags: u32,
+) -> Result<ElementItems, ReadError> {
+    if flags > 4 {
+        let ty = read_ref_type(reader, CanonicalTypes::new(&module.declared.canonical))?;
+        return read_expression_items(alloc, reader, module, ty);
     }
-    Ok(())
+    if flags == 4 {
+        return read_expression_items(alloc, reader, module, RefType::FUNCREF);
+    }
+    if flags != 0 {
+        let _function = reader.read_code(0, Fault::InvalidElementKind)?;
+    }
+    read_function_items(alloc, reader)
 }
 
 /// Reads an element segment.
@@ -141,22 +174,34 @@ pub fn read_element(
     if flags > 7 {
         return Err(ReadError::malformed(Fault::InvalidSegmentFlags, offset));
     }
-    if flags % 2 == 0 {
-        let table = if flags == 2 || flags == 6 {
-            reader.read_var_u32()?
-        } else {
-            0
-        };
-        let ty = match module.declarations.tables.get(table as usize) {
-            Some(ty) => ty.index_type(),
-            None => ValType::I32,
-        };
-        let place = Place::ElementOffset(module.declarations.elements.len());
-        read_expression(alloc, reader, module, place, ty)?;
+    let kind = read_element_kind(alloc, reader, module, flags)?;
+    let items = read_items(alloc, reader, module, flags)?;
+    let element = Element {
+        kind,
+        items,
+        offset,
+    };
+    push(&mut module.declared.elements, element)
+}
+
+/// Reads what becomes of a data segment with these flags: the memory that it is written to, and where it goes.
+fn read_data_kind(
+    alloc: Global,
+    reader: &mut BinaryReader<'_>,
+    module: &mut Module,
+    flags: u32,
+) -> Result<DataKind, ReadError> {
+    if flags == 1 {
+        return Ok(DataKind::Passive);
     }
-    let ty = read_item_type(reader, module, flags)?;
-    read_items(alloc, reader, module, flags >= 4, ty)?;
-    push(&mut module.declarations.elements, ty)
+    let memory_index = if flags == 2 {
+        reader.read_var_u32()?
+    } else {
+        0
+    };
+    let place = Place::DataOffset(index_behind(module.declared.data_segments.len()));
+    read_expression(alloc, reader, module, place)?;
+    Ok(DataKind::Active { memory_index })
 }
 
 /// Reads a data segment.
@@ -170,25 +215,7 @@ pub fn read_data(
     if flags > 2 {
         return Err(ReadError::malformed(Fault::InvalidSegmentFlags, offset));
     }
-    if flags != 1 {
-        let memory = if flags == 2 {
-            reader.read_var_u32()?
-        } else {
-            0
-        };
-        let ty = match module.declarations.memories.get(memory as usize) {
-            Some(ty) => ty.index_type(),
-            None => ValType::I32,
-        };
-        read_expression(
-            alloc,
-            reader,
-            module,
-            Place::DataOffset(module.data_segments),
-            ty,
-        )?;
-    }
+    let kind = read_data_kind(alloc, reader, module, flags)?;
     let _bytes = reader.sized_part()?;
-    module.data_segments = module.data_segments.saturating_add(1);
-    Ok(())
+    push(&mut module.declared.data_segments, Data { kind, offset })
 }

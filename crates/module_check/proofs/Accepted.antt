@@ -1,5 +1,6 @@
 -- One more accepted operator, and the whole body.
-use Rattle.std.proofs.Common.{◌≡◌, ℕ, List, [], ◌∷◌, ◌++◌, length, Option, Some, ap, ◌∙◌}
+use Rattle.std.proofs.Common.{◌≡◌, ℕ, List, [], ◌∷◌, ◌++◌, length, Option, Some, Result, Ok, Err, ap, ◌∙◌}
+use Rattle.std.specs.Prelude.{IsOk, OnOk}
 use Rattle.std.specs.Option.{option_and_then}
 use Rattle.std.proofs.lemmas.List.{length-map}
 use Rattle.validate_resources.specs.Context.{ModuleContext}
@@ -27,3 +28,8 @@ accepted_whole md s ops t run none =
       ap (state_before cx (body_operators md s ops) s.present) (length-map (without_offsets ops) (operator cx) ∙ length-map ops (λ (p : Op × ℕ). p.0))
           ∙ (run ∙ ap (λ (fs : List Frame). Some (record { frames = fs; left = t.left })) none),
     )
+
+-- what is promised where there is a value is so where there is one
+pub given_ok : {T E P : Type 0} (r : Result T E) → IsOk r → OnOk r P → P
+given_ok (Ok x) is h = h
+given_ok (Err e) is h = absurd cc

@@ -1,5 +1,6 @@
 pub mod Accepted
 pub mod Begun
 pub mod Behind
+pub mod Counted
 pub mod Locals
 pub mod Unplaced

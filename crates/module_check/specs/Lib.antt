@@ -1,4 +1,5 @@
 pub mod Begin
+pub mod Constant
 pub mod Loaded
 pub mod Safe
 pub mod Told

@@ -1,16 +1,33 @@
--- What a loaded module says of its bodies (the crate's own).
-use Rattle.std.specs.Prelude.{◌≡◌, ℕ, ◌+◌, ◌-◌, ◌^◌, ◌≤◌, ◌<◌, List, Option, Some, length, min, take, drop, slice_get}
+-- What a loaded module says of itself, its bodies and its constant expressions (the crate's own).
+use Rattle.std.specs.Prelude.{◌≡◌, ℕ, ◌+◌, ◌-◌, ◌^◌, ◌≤◌, ◌<◌, true, List, Option, Some, length}
+use Rattle.std.specs.Prelude.{min, take, drop, slice_get}
 use Rattle.binary_modules.specs.declared.module.ConstantExpression.{ConstantExpression}
 use Rattle.binary_operators.specs.declared.reader.ByteRange.{ByteRange}
 use Rattle.binary_operators.specs.declared.types.CanonicalTypes.{CanonicalTypes}
 use Rattle.binary_operators.specs.declared.types.GroupNames.TheVariants.{Indices}
+use Rattle.module_rules.specs.Constants.{expression_type, is_constant_expression}
+use Rattle.module_rules.specs.Declarations.{Declarations, declarations_of}
+use Rattle.module_rules.specs.Features.{operator_features}
+use Rattle.module_rules.specs.Lookup.{lookup_lists}
+use Rattle.module_rules.specs.Validity.{IsValidModule}
+use Rattle.module_rules.specs.declared.features.ModuleFeatures.{ModuleFeatures}
 use Rattle.validate_resources.specs.Context.{ModuleContext}
 use Rattle.validate_resources.specs.Kept.{declared_lists}
-use Rattle.validate_resources.specs.Lists.{context_of}
-use Rattle.validate_types.specs.declared.features.WasmFeatures.{WasmFeatures}
+use Rattle.validate_resources.specs.Lists.{context_of, module_of}
+use Rattle.validate_types.specs.declared.types.ValType.{ValType}
 use Rattle.module_check.specs.Safe.{IsSafeCode}
 use Rattle.validate_visit.specs.declared.body.BodyKind.TheVariants.{Function, Expression}
 use Rattle.module_check.specs.declared.loaded.LoadedModule.{LoadedModule}
+
+-- the bytes that it was read of, what it declares, and the proposals that are on
+abbrev pub bytes_of : LoadedModule → List ℕ
+bytes_of m = m.bytes.now
+
+abbrev pub declarations : LoadedModule → Declarations
+declarations m = declarations_of m.declared
+
+abbrev pub features_of : LoadedModule → ModuleFeatures
+features_of m = m.features
 
 -- the lookup that the module declares
 abbrev pub declared : LoadedModule → ModuleContext
@@ -18,47 +35,64 @@ declared m = context_of (declared_lists m.lists)
 
 -- the bytes of the module that stand there
 abbrev pub bytes_in : LoadedModule → ByteRange → List ℕ
-bytes_in m range = drop range.start (take range.end m.bytes.now)
+bytes_in m range = drop range.start (take range.end (bytes_of m))
 
 -- where the body of the function at this index stands: those that are imported have none
 abbrev pub body_range : LoadedModule → ℕ → Option ByteRange
-body_range m function = slice_get m.bodies.items (function - m.imported_functions)
+body_range m function = slice_get m.bodies.items (function - m.declared.imports.functions)
 
 -- an index of a type is read as that of the type that the module has stand for it
 pub record AreTypesOf (m : LoadedModule) (types : CanonicalTypes) : Type 0 where
-  pub canonical : types.canonical.now ≡ m.canonical.items
-  pub behind : types.group ≡ Indices (min (length m.canonical.items) (2 ^ 32 - 1))
+  pub canonical : types.canonical.now ≡ m.declared.canonical.items
+  pub behind : types.group ≡ Indices (min (length m.declared.canonical.items) (2 ^ 32 - 1))
 
 -- The module has a body for the function at this index. What its bytes say is type safe in the lookup that
 -- the module declares, by the function's own type.
-pub record IsSafeFunction (m : LoadedModule) (features : WasmFeatures) (function : ℕ) : Type 0 where
+pub record IsSafeFunction (m : LoadedModule) (function : ℕ) : Type 0 where
   pub type_index : ℕ
   pub is_of_type : (declared m).type_index_of function ≡ Some type_index
-  pub is_own : m.imported_functions ≤ function
+  pub is_own : m.declared.imports.functions ≤ function
   pub range : ByteRange
   pub is_body : body_range m function ≡ Some range
   pub types : CanonicalTypes
   pub are_types : AreTypesOf m types
-  pub is_safe : IsSafeCode (declared m) features types (Function type_index) (bytes_in m range)
+  pub is_safe : IsSafeCode (declared m) (operator_features (features_of m)) types (Function type_index)
+      (bytes_in m range)
 
--- the same of a constant expression, by its type
-pub record IsSafeExpression
-    (m : LoadedModule) (features : WasmFeatures) (e : ConstantExpression) : Type 0 where
+-- What the bytes of a constant expression say is type safe, by the type that its place asks for, and each
+-- operator is constant there.
+pub record IsSafeExpression (m : LoadedModule) (e : ConstantExpression) : Type 0 where
+  pub value_type : ValType
+  pub is_of_type : expression_type (declarations m) e.place ≡ Some value_type
   pub types : CanonicalTypes
   pub are_types : AreTypesOf m types
-  pub is_safe : IsSafeCode (declared m) features types (Expression e.ty) (bytes_in m e.range)
+  pub is_safe : IsSafeCode (declared m) (operator_features (features_of m)) types (Expression value_type)
+      (bytes_in m e.range)
+  pub is_constant : is_constant_expression (features_of m) (declarations m) e.place is_safe.ops ≡ true
 
 -- each of the module's first bodies, as many as these, is type safe, where its function's index has 32 bits
-abbrev pub AreSafeBodies : LoadedModule → WasmFeatures → ℕ → Type 0
-AreSafeBodies m features count = (body : ℕ) → body < count → m.imported_functions + body < 2 ^ 32
-    → IsSafeFunction m features (m.imported_functions + body)
+abbrev pub AreSafeBodies : LoadedModule → ℕ → Type 0
+AreSafeBodies m count = (body : ℕ) → body < count → m.declared.imports.functions + body < 2 ^ 32
+    → IsSafeFunction m (m.declared.imports.functions + body)
 
--- each of its first constant expressions, as many as these, is type safe
-abbrev pub AreSafeExpressions : LoadedModule → WasmFeatures → ℕ → Type 0
-AreSafeExpressions m features count = (place : ℕ) → (e : ConstantExpression) → place < count
-    → slice_get m.expressions.items place ≡ Some e → IsSafeExpression m features e
+-- each function of the module that isn't imported has a body that is type safe
+abbrev pub AreSafeFunctions : LoadedModule → Type 0
+AreSafeFunctions m = (function : ℕ) → m.declared.imports.functions ≤ function
+    → function < length m.declared.functions.items → IsSafeFunction m function
 
--- each body and each constant expression of the module is type safe
-pub record IsSafeModule (m : LoadedModule) (features : WasmFeatures) : Type 0 where
-  pub bodies : AreSafeBodies m features (length m.bodies.items)
-  pub expressions : AreSafeExpressions m features (length m.expressions.items)
+-- each of its first constant expressions, as many as these, is type safe and constant
+abbrev pub AreSafeExpressions : LoadedModule → ℕ → Type 0
+AreSafeExpressions m count = (place : ℕ) → (e : ConstantExpression) → place < count
+    → slice_get m.expressions.items place ≡ Some e → IsSafeExpression m e
+
+-- each function and each constant expression of the module is type safe, and these are constant
+pub record IsSafeModule (m : LoadedModule) : Type 0 where
+  pub functions : AreSafeFunctions m
+  pub expressions : AreSafeExpressions m (length m.expressions.items)
+
+-- The module is valid (WebAssembly core specification, "Validation: Modules"): what it declares is, under its
+-- proposals, of which the lookup is made; and so are its bodies and its constant expressions.
+pub record IsValid (m : LoadedModule) : Type 0 where
+  pub declarations_valid : IsValidModule (features_of m) (declarations m)
+  pub is_lookup : module_of (lookup_lists (declarations m)) ≡ Some (declared_lists m.lists)
+  pub code_safe : IsSafeModule m

@@ -1,5 +1,5 @@
 -- When the bodies of a module are type safe (the crate's own).
-use Rattle.std.specs.Prelude.{◌≡◌, ℕ, List, []}
+use Rattle.std.specs.Prelude.{◌≡◌, ℕ, Bool, true, List, []}
 use Rattle.binary_operators.specs.Expressions.{AreOperators}
 use Rattle.binary_operators.specs.Functions.{IsFunctionCode}
 use Rattle.binary_operators.specs.declared.types.CanonicalTypes.{CanonicalTypes}
@@ -12,6 +12,7 @@ use Rattle.validation_rules.specs.Static.{start}
 use Rattle.validate_stacks.specs.State.{BodyState}
 use Rattle.validate_body.specs.Runs.{without_offsets, IsSafeFrom}
 use Rattle.validate_body.specs.Begin.{HasLocals}
+use Rattle.module_check.specs.Constant.{each_may_stand}
 use Rattle.validate_visit.specs.declared.body.BodyKind.{BodyKind}
 use Rattle.validate_visit.specs.declared.body.BodyKind.TheVariants.{Function, Expression}
 
@@ -40,9 +41,19 @@ pub record IsSafeCode
   pub is_code : IsCode types kind bytes groups (without_offsets ops)
   pub is_safe : IsSafeBody md features kind groups ops
 
--- what the bytes say from the state v on is type safe, if that is the start of a body
+-- the same, and each operator is one that may stand there
+pub record IsScopedCode
+    (md : ModuleContext) (features : WasmFeatures) (types : CanonicalTypes) (kind : BodyKind)
+    (may : Op → Bool) (bytes : List ℕ) : Type 0 where
+  pub code : IsSafeCode md features types kind bytes
+  pub each_stands : each_may_stand may code.ops ≡ true
+
+-- what the bytes say from the state v on is type safe, if that is the start of a body, and each operator is
+-- one that may stand there
 pub record AreSafeOperators
-    (md : ModuleContext) (types : CanonicalTypes) (v : BodyState) (bytes : List ℕ) : Type 0 where
+    (md : ModuleContext) (types : CanonicalTypes) (may : Op → Bool) (v : BodyState) (bytes : List ℕ)
+    : Type 0 where
   pub ops : List (Op × ℕ)
   pub are_read : AreOperators types bytes (without_offsets ops) []
+  pub each_stands : each_may_stand may ops ≡ true
   pub are_safe : (ty : BlockType) → v.present ≡ start ty → IsSafeFrom md v ops ty

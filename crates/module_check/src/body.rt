@@ -4,11 +4,13 @@ ghost use Rattle.std.specs.Prelude.{◌≡◌, ◌≢◌, IfOk, OnOk};
 ghost use Rattle.validate_body.specs.Start.{state};
 ghost use Rattle.validate_stacks.specs.State.{IsStarting};
 ghost use Rattle.validate_body.specs.Begin.{IsBodyStart};
-ghost use Rattle.module_check.specs.Safe.{IsSafeCode};
+ghost use Rattle.module_check.specs.Constant.{may_stand};
+ghost use Rattle.module_check.specs.Safe.{IsScopedCode};
 ghost use Rattle.module_check.specs.declared.report.Verdict.TheVariants.{Accepted};
 ghost use Rattle.validate_types.specs.declared.features.WasmFeatures.{WasmFeatures};
 
 use crate::buffers::BodyBuffers;
+use crate::constant::ConstantPlace;
 use crate::operators::{check_operators, define_locals};
 use crate::report::{Failure, Verdict};
 use binary_operators::{BinaryReader, CanonicalTypes, OperatorLists};
@@ -18,7 +20,7 @@ use validate_types::WasmFeatures;
 use validate_visit::BodyKind;
 
 /// Reads the locals of a body of this kind, if it has some, and its operators up to the end of the bytes, and
-/// checks them by its validator, which is new. Globals past so many are unknown.
+/// checks them by its validator, which is new. In a constant expression each is to be constant.
 fn check_begun<R: WasmModuleResources>(
     v: &mut OperatorValidator,
     resources: &R,
@@ -26,51 +28,52 @@ fn check_begun<R: WasmModuleResources>(
     canonical: CanonicalTypes<'_>,
     lists: &mut OperatorLists,
     kind: BodyKind,
-    globals: usize,
+    constant: Option<ConstantPlace<'_>>,
 ) -> Result<(), Failure>
     requires { IsStarting (R.context resources.now) (state v.old) }
     ensures { OnOk result ((features : WasmFeatures)
         → IsBodyStart (R.context resources.now) features kind (state v.old)
-        → IsSafeCode (R.context resources.now) features canonical.entry kind reader.old.left) }
+        → IsScopedCode (R.context resources.now) features canonical.entry kind (may_stand constant.entry)
+        reader.old.left) }
 {
     match kind {
         BodyKind::Function(_) => {
             define_locals(v, resources, reader, canonical)?;
-            check_operators(v, resources, reader, canonical, lists, globals)?;
+            check_operators(v, resources, reader, canonical, lists, constant)?;
             Ok(())
         }
         BodyKind::Expression(_) => {
-            check_operators(v, resources, reader, canonical, lists, globals)?;
+            check_operators(v, resources, reader, canonical, lists, constant)?;
             Ok(())
         }
     }
 }
 
-/// Reads a body of this kind, up to the end of the bytes, and checks it as it is read. Globals past so many
-/// are unknown in it.
+/// Reads a body of this kind, up to the end of the bytes, and checks it as it is read: that of a function, or a
+/// constant expression in this place.
 ///
 /// `Accepted`: all of the bytes were read, each operator is accepted, and the last closes the body. Then no
 /// run of the operators that the bytes are gets stuck, and what it returns fits the results, by the start
-/// that the kind and the locals make. `Refused`: by the validator, since more frames are open than closed,
-/// since operators stand behind the one that closes the body, or for what couldn't be read. `NotCovered`: a
-/// vector operator stands behind operators that are accepted. `OutOfMemory`: there was no memory for the
-/// check.
+/// that the kind and the locals make; and in a constant expression each is constant. `Refused`: by the
+/// validator, since more frames are open than closed, since operators stand behind the one that closes the
+/// body, or since one isn't constant. `Malformed`: it can't be read. `NotCovered`: a vector operator stands
+/// behind operators that are accepted. `OutOfMemory`: there was no memory for the check.
 pub fn check_body<R: WasmModuleResources>(
     resources: &R,
     features: &WasmFeatures,
     kind: BodyKind,
-    globals: usize,
+    constant: Option<ConstantPlace<'_>>,
     reader: &mut BinaryReader<'_>,
     canonical: CanonicalTypes<'_>,
     buffers: &mut BodyBuffers,
 ) -> Verdict
-    ensures { result ≡ Accepted → IsSafeCode (R.context resources.now) features.now canonical.entry kind
-        reader.old.left }
+    ensures { result ≡ Accepted → IsScopedCode (R.context resources.now) features.now canonical.entry kind
+        (may_stand constant.entry) reader.old.left }
 {
     match start_body(resources, features, kind, reader.offset(), buffers.take()) {
         Ok(mut v) => {
             let lists = &mut buffers.lists;
-            let checked = check_begun(&mut v, resources, reader, canonical, lists, kind, globals);
+            let checked = check_begun(&mut v, resources, reader, canonical, lists, kind, constant);
             buffers.put_back(v);
             Verdict::of_check(checked)
         }

@@ -24,6 +24,11 @@ impl BodyBuffers {
         }
     }
 
+    /// What the buffers are taken by.
+    pub(crate) fn allocator(&self) -> Global {
+        self.allocations.allocator()
+    }
+
     /// Takes the buffers for a validator; there are none until it gives them back.
     pub(crate) fn take(&mut self) -> OperatorValidatorAllocations {
         let none = OperatorValidatorAllocations::new(self.allocations.allocator());

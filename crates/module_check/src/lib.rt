@@ -1,9 +1,10 @@
-//! The check of a binary module: each body of a function and each constant expression is read and handed
-//! to the validator, and what comes of it is told.
+//! The check of a binary module: what it declares is to be valid, each body of a function and each constant
+//! expression is read and handed to the validator, and what comes of it is told.
 #![tactic(auto)]
 
 mod body;
 mod buffers;
+mod constant;
 mod loaded;
 mod operators;
 mod report;
@@ -12,8 +13,10 @@ mod whole;
 
 pub use crate::body::check_body;
 pub use crate::buffers::BodyBuffers;
+pub use crate::constant::ConstantPlace;
 pub use crate::loaded::LoadedModule;
 pub use crate::report::{Failure, Item, Verdict};
 pub use crate::summary::ModuleVerdict;
 pub use crate::whole::{check_module, validate};
-pub use binary_modules::{ConstantExpression, FunctionNames, Place};
+pub use binary_modules::{ConstantExpression, FunctionNames};
+pub use module_rules::{ModuleFeatures, Place};

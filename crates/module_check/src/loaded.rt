@@ -1,78 +1,116 @@
 //! A module whose bodies are to be checked.
 
-ghost use Rattle.std.specs.Prelude.{◌≡◌, ◌≤◌, ◌<◌, ◌+◌, ◌^◌, length, Some, IfSome, OnSome};
-ghost use Rattle.binary_operators.specs.declared.types.CanonicalTypes.{CanonicalTypes};
-ghost use Rattle.module_check.specs.Loaded.{declared, bytes_in, body_range, AreTypesOf, IsSafeFunction};
-ghost use Rattle.module_check.specs.Loaded.{IsSafeExpression};
-ghost use Rattle.module_check.specs.Safe.{IsSafeCode};
-ghost use Rattle.module_check.specs.declared.report.Verdict.TheVariants.{Accepted};
+ghost use Rattle.std.specs.Prelude.{◌≡◌, ◌≤◌, ◌<◌, ◌+◌, ◌^◌, false, length, Some, IfSome, OnSome, IfOk, OnOk, IfErr};
+ghost use Rattle.module_rules.specs.Declarations.{declarations_of};
+ghost use Rattle.module_rules.specs.Lookup.{lookup_lists};
+ghost use Rattle.module_rules.specs.Validity.{IsValidModule, is_valid_module};
+ghost use Rattle.validate_resources.specs.Kept.{declared_lists};
+ghost use Rattle.validate_resources.specs.Lists.{module_of};
 
 use crate::body::check_body;
 use crate::buffers::BodyBuffers;
+use crate::constant::ConstantPlace;
 use crate::report::Verdict;
 use binary_modules::{
     ByteRange, ConstantExpression, FunctionNames, Module, read_function_names, read_module,
 };
 use binary_operators::{BinaryReader, CanonicalTypes, ReadError};
+use module_rules::{
+    DeclaredModule, ModuleFeatures, expression_type, lookup_lists, validate_module,
+};
 use std::alloc::Global;
 use validate_resources::{ModuleLists, WasmModuleResources};
-use validate_types::{Error, WasmFeatures};
+use validate_types::Error;
 use validate_visit::BodyKind;
 
-/// A module that was read, with its bytes.
+/// A module that was read, with its bytes. What it declares is valid.
 #[derive(Drop)]
 pub struct LoadedModule<'a> {
     bytes: &'a [u8],
+    features: ModuleFeatures,
+    declared: DeclaredModule,
     lists: ModuleLists,
-    canonical: Vec<u32>,
     merged: usize,
-    imported_functions: usize,
     bodies: Vec<ByteRange>,
     expressions: Vec<ConstantExpression>,
     names: Option<ByteRange>,
+    ghost valid: { IsValidModule features (declarations_of declared) },
+    ghost counted: { declared.imports.functions + length bodies.items ≡ length declared.functions.items },
+    ghost lookup: { module_of (lookup_lists (declarations_of declared)) ≡ Some (declared_lists lists) },
 }
 
 impl<'a> LoadedModule<'a> {
-    /// Reads a module, of which these are all the bytes. The verdict is no acceptance: `Refused` for bytes
-    /// that are no module's, or where [`ModuleLists::new`] refuses what it declares, `NotCovered` for a
-    /// vector operator in a constant expression, but for a constant, or want of memory.
-    pub fn new(alloc: Global, bytes: &'a [u8]) -> Result<LoadedModule<'a>, Verdict> {
+    ghost use Rattle.binary_operators.specs.declared.types.CanonicalTypes.{CanonicalTypes};
+    ghost use Rattle.module_check.specs.Constant.{may_stand};
+    ghost use Rattle.module_check.specs.Loaded.{declarations, features_of, bytes_of, declared, bytes_in};
+    ghost use Rattle.module_check.specs.Loaded.{body_range, AreTypesOf};
+    ghost use Rattle.module_check.specs.Loaded.{IsSafeFunction, IsSafeExpression};
+    ghost use Rattle.module_check.specs.Safe.{IsScopedCode};
+    ghost use Rattle.module_check.specs.declared.report.Verdict.TheVariants.{Accepted, Refused};
+    ghost use Rattle.module_rules.specs.Features.{operator_features};
+    ghost use Rattle.validate_types.specs.declared.error.Error.{Error};
+
+    /// Reads a module, of which these are all the bytes, and checks that what it declares is valid under these
+    /// proposals. The verdict is no acceptance: `Malformed` for bytes that are no module's, `Refused` where what
+    /// it declares isn't valid, `NotCovered` for a vector operator in a constant expression, but for a constant,
+    /// or want of memory.
+    pub fn new(
+        alloc: Global,
+        bytes: &'a [u8],
+        features: ModuleFeatures,
+    ) -> Result<LoadedModule<'a>, Verdict>
+        ensures bytes { IfOk result (λ m. bytes_of m ≡ bytes.now) }
+        ensures features { IfOk result (λ m. features_of m ≡ features) }
+    {
         match read_module(alloc, bytes) {
-            Ok(module) => LoadedModule::of_module(alloc, bytes, module),
+            Ok(module) => LoadedModule::of_module(alloc, bytes, features, module),
             Err(error) => Err(Verdict::of_read_error(error)),
         }
     }
 
-    /// The module that was read of these bytes, in its canonical form.
+    /// The module that was read of these bytes, if what it declares is valid.
     fn of_module(
         alloc: Global,
         bytes: &'a [u8],
+        features: ModuleFeatures,
         module: Module,
-    ) -> Result<LoadedModule<'a>, Verdict> {
+    ) -> Result<LoadedModule<'a>, Verdict>
+        requires { module.declared.imports.functions + length module.bodies.items
+            ≡ length module.declared.functions.items }
+        ensures bytes { IfOk result (λ m. bytes_of m ≡ bytes.now) }
+        ensures features { IfOk result (λ m. features_of m ≡ features) }
+        ensures declared { IfOk result (λ m. declarations m ≡ declarations_of module.declared) }
+        ensures invalid { IfErr result (λ v. (e : Error) → v ≡ Refused e
+            → is_valid_module features (declarations_of module.declared) ≡ false) }
+    {
         let Module {
-            declarations,
-            canonical,
+            declared,
             merged,
-            imported_functions,
             bodies,
             expressions,
-            referenced: _,
-            data_segments: _,
             names,
         } = module;
-        match ModuleLists::from_declarations(alloc, declarations) {
+        match valid_lookup(alloc, &declared, features) {
             Ok(lists) => Ok(LoadedModule {
                 bytes,
+                features,
+                declared,
                 lists,
-                canonical,
                 merged,
-                imported_functions,
                 bodies,
                 expressions,
                 names,
             }),
             Err(refusal) => Err(Verdict::of_refusal(refusal)),
         }
+    }
+
+    /// What it declares, which is valid.
+    pub fn declarations(&self) -> &DeclaredModule
+        ensures declared { declarations_of result.now ≡ declarations self.now }
+        ensures valid { IsValidModule (features_of self.now) (declarations_of result.now) }
+    {
+        &self.declared
     }
 
     /// How many bodies it has.
@@ -96,19 +134,20 @@ impl<'a> LoadedModule<'a> {
 
     /// The index of the function whose body is the one at this index.
     pub fn function_of(&self, body: usize) -> u32
-        ensures { self.now.imported_functions + body < 2 ^ 32 → result ≡ self.now.imported_functions + body }
+        ensures { self.now.declared.imports.functions + body < 2 ^ 32
+            → result ≡ self.now.declared.imports.functions + body }
     {
-        let function = self.imported_functions.saturating_add(body);
-        u32::try_from(function).unwrap_or(u32::MAX)
+        let imported = self.declared.imports.functions as usize;
+        u32::try_from(imported.saturating_add(body)).unwrap_or(u32::MAX)
     }
 
     /// Where the body of the function at this index stands, or None where the module has none for it.
     pub fn body_of(&self, function: u32) -> Option<ByteRange>
         ensures is_body { IfSome result (λ range. body_range self.now function ≡ Some range) }
-        ensures is_own { OnSome result (self.now.imported_functions ≤ function) }
+        ensures is_own { OnSome result (self.now.declared.imports.functions ≤ function) }
     {
-        let body = (function as usize).checked_sub(self.imported_functions)?;
-        self.bodies.get(body).copied()
+        let body = function.checked_sub(self.declared.imports.functions)?;
+        self.bodies.get(body as usize).copied()
     }
 
     /// The names of its functions, as far as they can be read. It refuses want of memory.
@@ -130,30 +169,30 @@ impl<'a> LoadedModule<'a> {
     fn types(&self) -> CanonicalTypes<'_>
         ensures { AreTypesOf self.now result }
     {
-        CanonicalTypes::new(&self.canonical)
+        CanonicalTypes::new(&self.declared.canonical)
     }
 
     /// Checks a body of this kind that stands there, as [`check_body`] does. It refuses bytes that the module
     /// doesn't have.
     fn check_range(
         &self,
-        features: &WasmFeatures,
         kind: BodyKind,
-        globals: usize,
+        constant: Option<ConstantPlace<'_>>,
         range: ByteRange,
         buffers: &mut BodyBuffers,
     ) -> Verdict
         ensures { result ≡ Accepted → (types : CanonicalTypes) × AreTypesOf self.now types
-            × IsSafeCode (declared self.now) features.now types kind (bytes_in self.now range) }
+            × IsScopedCode (declared self.now) (operator_features self.now.features) types kind
+            (may_stand constant.entry) (bytes_in self.now range) }
     {
         match BinaryReader::of_range(self.bytes, range) {
             Some(mut reader) => {
                 let types = self.types();
                 check_body(
                     &self.lists,
-                    features,
+                    &self.features.operator_features(),
                     kind,
-                    globals,
+                    constant,
                     &mut reader,
                     types,
                     buffers,
@@ -169,51 +208,75 @@ impl<'a> LoadedModule<'a> {
     /// `Accepted`: the bytes are those of a function, all of them, with locals and operators that are type
     /// safe in the lookup that the module declares, by the start that the function's own type and the locals
     /// make.
-    pub fn check_function(
-        &self,
-        features: &WasmFeatures,
-        function: u32,
-        buffers: &mut BodyBuffers,
-    ) -> Verdict
-        ensures { result ≡ Accepted → IsSafeFunction self.now features.now function }
+    pub fn check_function(&self, function: u32, buffers: &mut BodyBuffers) -> Verdict
+        ensures { result ≡ Accepted → IsSafeFunction self.now function }
     {
         let Some(range) = self.body_of(function) else {
             return Verdict::Refused(unknown_function(0));
         };
         match self.type_of(function) {
-            Some(ty) => {
-                self.check_range(features, BodyKind::Function(ty), usize::MAX, range, buffers)
-            }
+            Some(ty) => self.check_range(BodyKind::Function(ty), None, range, buffers),
             None => Verdict::Refused(unknown_function(range.start as u64)),
         }
     }
 
     /// Checks a constant expression of this module, as it stands in the bytes, as [`check_body`] does. It
-    /// refuses one of which the module doesn't have the bytes.
+    /// refuses one of which the module doesn't have the bytes, or the place.
     ///
     /// `Accepted`: the bytes are operators, all of them, that are type safe in the lookup that the module
-    /// declares, and give a value of the expression's type. No operator names a global past those that it may
-    /// name.
+    /// declares, and give a value of the type that its place asks for. Each operator is constant there.
     pub fn check_expression(
         &self,
-        features: &WasmFeatures,
         expression: &ConstantExpression,
         buffers: &mut BodyBuffers,
     ) -> Verdict
-        ensures { result ≡ Accepted → IsSafeExpression self.now features.now expression.now }
+        ensures { result ≡ Accepted → IsSafeExpression self.now expression.now }
     {
-        let kind = BodyKind::Expression(expression.ty);
+        let place = expression.place;
+        let Some(ty) = expression_type(&self.declared, place) else {
+            return Verdict::Refused(unknown_place(expression.range.start as u64));
+        };
+        let constant = ConstantPlace {
+            alloc: buffers.allocator(),
+            features: self.features,
+            declared: &self.declared,
+            place,
+        };
         self.check_range(
-            features,
-            kind,
-            expression.globals,
+            BodyKind::Expression(ty),
+            Some(constant),
             expression.range,
             buffers,
         )
     }
 }
 
+/// The lookup over what a module declares, if that is valid under these proposals. It refuses as
+/// [`validate_module`] does, and for want of memory.
+fn valid_lookup(
+    alloc: Global,
+    declared: &DeclaredModule,
+    features: ModuleFeatures,
+) -> Result<ModuleLists, Error>
+    ensures valid { OnOk result (IsValidModule features (declarations_of declared.now)) }
+    ensures lookup { IfOk result (λ m. module_of (lookup_lists (declarations_of declared.now))
+        ≡ Some (declared_lists m)) }
+    ensures invalid { IfErr result (λ e. e.wants_memory ≡ false
+        → is_valid_module features (declarations_of declared.now) ≡ false) }
+{
+    validate_module(alloc, declared, features)?;
+    match lookup_lists(alloc, declared) {
+        Ok(lists) => ModuleLists::from_declarations(alloc, lists),
+        Err(_) => Err(Error::out_of_memory(0)),
+    }
+}
+
 /// The refusal of a function that the module hasn't, or has no body for.
 fn unknown_function(offset: u64) -> Error {
     Error::new("unknown function: function index out of bounds", offset)
+}
+
+/// The refusal of a constant expression in a place that the module hasn't.
+fn unknown_place(offset: u64) -> Error {
+    Error::new("the module has no place for a constant expression", offset)
 }

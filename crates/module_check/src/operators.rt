@@ -4,16 +4,16 @@ ghost use Rattle.std.specs.Prelude.{◌≢◌, OnOk};
 ghost use Rattle.validate_stacks.specs.State.{IsStarting};
 ghost use Rattle.validate_body.specs.Start.{state};
 ghost use Rattle.module_check.specs.Begin.{DefinesGroup, DefinesRead};
+ghost use Rattle.module_check.specs.Constant.{may_stand};
 ghost use Rattle.module_check.specs.Safe.{AreSafeOperators};
 
+use crate::constant::{ConstantPlace, check_place};
 use crate::report::Failure;
 use binary_operators::{
     BinaryReader, CanonicalTypes, Fault, OperatorLists, ReadError, read_operator, read_value_type,
 };
 use validate_body::OperatorValidator;
 use validate_resources::WasmModuleResources;
-use validate_types::Error;
-use validate_visit::{ControlOp, Op};
 
 /// Reads a group of locals, and defines them in a body that starts.
 fn define_group<R: WasmModuleResources>(
@@ -54,28 +54,20 @@ pub(crate) fn define_locals<R: WasmModuleResources>(
     Ok(())
 }
 
-/// Whether the operator names a global past so many.
-fn has_later_global(op: &Op<'_>, globals: usize) -> bool {
-    match op {
-        Op::Control(ControlOp::GlobalGet(index)) => *index as usize >= globals,
-        _ => false,
-    }
-}
-
 /// Reads operators up to the end of the bytes, and checks each by the validator of their body, which starts.
-/// Globals past so many are unknown. It refuses what their reads refuse; what the validator refuses; an
-/// operator behind the one that closes the body; and, at the end, a body that is open.
+/// It refuses what their reads refuse; what the validator refuses; an operator behind the one that closes the
+/// body; in a constant expression, one that isn't constant; and, at the end, a body that is open.
 pub(crate) fn check_operators<R: WasmModuleResources>(
     v: &mut OperatorValidator,
     resources: &R,
     reader: &mut BinaryReader<'_>,
     canonical: CanonicalTypes<'_>,
     lists: &mut OperatorLists,
-    globals: usize,
+    constant: Option<ConstantPlace<'_>>,
 ) -> Result<(), Failure>
     requires { IsStarting (R.context resources.now) (state v.old) }
-    ensures { OnOk result (AreSafeOperators (R.context resources.now) canonical.entry (state v.old)
-        reader.old.left) }
+    ensures { OnOk result (AreSafeOperators (R.context resources.now) canonical.entry (may_stand constant.entry)
+        (state v.old) reader.old.left) }
 {
     for _ in 0..=reader.bytes_left() {
         let is_closed = v.control_stack_height() == 0;
@@ -93,9 +85,7 @@ pub(crate) fn check_operators<R: WasmModuleResources>(
         if is_closed {
             return Err(Failure::refused("operators remaining after end of function", offset));
         }
-        if has_later_global(&op, globals) {
-            return Err(Failure::refused("unknown global: global index out of bounds", offset));
-        }
+        check_place(constant, op, offset)?;
         v.check(resources, offset, op)?;
     }
     Err(Failure::Unread(ReadError::malformed(Fault::UnexpectedEnd, reader.offset())))

@@ -1,10 +1,11 @@
 //! What the check of a body or a constant expression comes to.
 
-ghost use Rattle.std.specs.Prelude.{◌≡◌, ◌≢◌, IsOk};
-ghost use Rattle.module_check.specs.declared.report.Verdict.TheVariants.{Accepted};
+ghost use Rattle.std.specs.Prelude.{◌≡◌, ◌≢◌, false, IsOk};
+ghost use Rattle.module_check.specs.declared.report.Verdict.TheVariants.{Accepted, Refused};
+ghost use Rattle.validate_types.specs.declared.error.Error.{Error};
 
-use binary_modules::Place;
-use binary_operators::{Cause, ReadError};
+use binary_operators::{Cause, Fault, ReadError};
+use module_rules::Place;
 use std::fmt;
 use validate_types::Error;
 
@@ -19,9 +20,9 @@ pub enum Item {
 
 impl Item {
     /// What it belongs to, the index of that, and which part of it.
-    fn words(self) -> (&'static str, usize, &'static str) {
+    fn words(self) -> (&'static str, u32, &'static str) {
         match self {
-            Item::Function(index) => ("func", index as usize, ""),
+            Item::Function(index) => ("func", index, ""),
             Item::Expression(Place::Table(index)) => ("table", index, " init"),
             Item::Expression(Place::Global(index)) => ("global", index, " init"),
             Item::Expression(Place::ElementOffset(index)) => ("elem", index, " offset"),
@@ -43,8 +44,10 @@ impl fmt::Display for Item {
 pub enum Verdict {
     /// Each operator is accepted, and the last closes the body.
     Accepted,
-    /// The validator refuses it.
+    /// It isn't valid.
     Refused(Error),
+    /// Its bytes can't be read: they aren't of the binary format.
+    Malformed(Error),
     /// It has a vector operator at this offset, which isn't covered, and nothing before is refused.
     NotCovered(u64),
     /// There was no memory for the check.
@@ -91,9 +94,10 @@ impl Verdict {
         }
     }
 
-    /// The verdict of a refusal by the validator.
+    /// The verdict of a refusal: `Refused`, unless it is want of memory.
     pub fn of_refusal(refusal: Error) -> Verdict
-        ensures { result ≢ Accepted }
+        ensures not_accepted { result ≢ Accepted }
+        ensures refused { (e : Error) → result ≡ Refused e → refusal.wants_memory ≡ false }
     {
         if refusal.is_out_of_memory() {
             Verdict::OutOfMemory
@@ -102,12 +106,26 @@ impl Verdict {
         }
     }
 
-    /// The verdict where operators can't be read.
+    /// The verdict where bytes can't be read for this. Some of what the reader refuses is of the binary format,
+    /// but not valid: types that aren't there, and several supertypes.
+    fn of_fault(fault: Fault, offset: u64) -> Verdict
+        ensures { result ≢ Accepted }
+    {
+        let refusal = Error::new(fault.text(), offset);
+        match fault {
+            Fault::UnknownType | Fault::TypeIndexTooLarge | Fault::SeveralSupertypes => {
+                Verdict::Refused(refusal)
+            }
+            _ => Verdict::Malformed(refusal),
+        }
+    }
+
+    /// The verdict where bytes can't be read.
     pub fn of_read_error(error: ReadError) -> Verdict
         ensures { result ≢ Accepted }
     {
         match error.cause {
-            Cause::Malformed(fault) => Verdict::Refused(Error::new(fault.text(), error.offset)),
+            Cause::Malformed(fault) => Verdict::of_fault(fault, error.offset),
             Cause::VectorOperator => Verdict::NotCovered(error.offset),
             Cause::OutOfMemory => Verdict::OutOfMemory,
         }

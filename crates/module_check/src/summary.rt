@@ -1,20 +1,22 @@
 //! What the check of a module comes to.
 
-ghost use Rattle.std.specs.Prelude.{◌≡◌, ◌≢◌, ◌≤◌, length, take};
+ghost use Rattle.std.specs.Prelude.{◌≡◌, ◌≢◌, ◌<◌, ◌≤◌, length, take};
 ghost use Rattle.module_check.specs.declared.report.Verdict.TheVariants.{Accepted};
 ghost use Rattle.module_check.specs.Told.{IsTold};
 
 use crate::report::{Item, Verdict};
-use binary_modules::Place;
+use module_rules::Place;
 
-/// The status where each body and each constant expression is accepted.
-pub const ACCEPTED: u32 = 0;
+/// The status of a valid module: what it declares is valid, and each body and each constant expression is
+/// accepted.
+pub const VALID: u32 = 0;
 
-/// The status where one is refused.
-pub const REFUSED: u32 = 1;
+/// The status of an invalid module: what it declares isn't valid, or a body or a constant expression is
+/// refused.
+pub const INVALID: u32 = 1;
 
-/// The status where the bytes are no module's, or what they declare is refused.
-pub const NO_MODULE: u32 = 2;
+/// The status where the bytes aren't those of a module.
+pub const MALFORMED: u32 = 2;
 
 /// The status for want of memory.
 pub const OUT_OF_MEMORY: u32 = 3;
@@ -28,8 +30,8 @@ pub const NO_BODY: u32 = 5;
 /// The kind of what is told where it is the module as a whole.
 const MODULE: u32 = 6;
 
-/// What the check of a module comes to, as C lays it out. What is told is the first of those that weigh most: want of
-/// memory, then a refusal, then what isn't covered.
+/// What the check of a module comes to, as C lays it out. What is told is the first of those that weigh most:
+/// want of memory, then what is malformed, then what isn't valid, then what isn't covered.
 #[repr(C)]
 #[derive(Drop)]
 pub struct ModuleVerdict {
@@ -46,7 +48,7 @@ pub struct ModuleVerdict {
     pub text_length: usize,
     /// How many bodies and constant expressions are accepted.
     pub accepted: u64,
-    /// How many are refused.
+    /// How many are refused, as malformed or not valid; the module as a whole counts for one.
     pub refused: u64,
     /// How many aren't covered.
     pub not_covered: u64,
@@ -56,11 +58,11 @@ pub struct ModuleVerdict {
 fn place_of(item: Option<Item>) -> (u32, u64) {
     match item {
         Some(Item::Function(index)) => (0, u64::from(index)),
-        Some(Item::Expression(Place::Table(index))) => (1, index as u64),
-        Some(Item::Expression(Place::Global(index))) => (2, index as u64),
-        Some(Item::Expression(Place::ElementOffset(index))) => (3, index as u64),
-        Some(Item::Expression(Place::Element(index))) => (4, index as u64),
-        Some(Item::Expression(Place::DataOffset(index))) => (5, index as u64),
+        Some(Item::Expression(Place::Table(index))) => (1, u64::from(index)),
+        Some(Item::Expression(Place::Global(index))) => (2, u64::from(index)),
+        Some(Item::Expression(Place::ElementOffset(index))) => (3, u64::from(index)),
+        Some(Item::Expression(Place::Element(index))) => (4, u64::from(index)),
+        Some(Item::Expression(Place::DataOffset(index))) => (5, u64::from(index)),
         None => (MODULE, 0),
     }
 }
@@ -85,7 +87,7 @@ impl ModuleVerdict {
         ensures text { result.text_length ≡ 0 }
     {
         ModuleVerdict {
-            status: ACCEPTED,
+            status: VALID,
             kind: MODULE,
             index: 0,
             offset: 0,
@@ -119,6 +121,14 @@ impl ModuleVerdict {
         self.text_length = write_text(message.as_bytes(), text);
     }
 
+    /// Counts what is refused.
+    fn count_refused(&mut self)
+        ensures counted { 0 < self.new.refused }
+        ensures kept { self.new ≡ record self.old { refused = self.new.refused } }
+    {
+        self.refused = self.refused.saturating_add(1);
+    }
+
     /// Counts what isn't covered, at this offset, and tells it where nothing else is told.
     fn note_not_covered(&mut self, item: Option<Item>, offset: u64, text: &mut [u8])
         requires { IsTold (length text.old) self.old }
@@ -126,12 +136,12 @@ impl ModuleVerdict {
         ensures not_accepted { self.new.status ≢ 0 }
     {
         self.not_covered = self.not_covered.saturating_add(1);
-        if self.status == ACCEPTED {
+        if self.status == VALID {
             self.tell(NOT_COVERED, item, offset, "a vector operator", text);
         }
     }
 
-    /// Counts a verdict, and tells it where it weighs more than what is told.
+    /// Counts a verdict on the item, or on the module, and tells it where it weighs more than what is told.
     pub fn note(&mut self, verdict: &Verdict, item: Option<Item>, text: &mut [u8])
         requires { IsTold (length text.old) self.old }
         ensures told { IsTold (length text.new) self.new }
@@ -140,9 +150,15 @@ impl ModuleVerdict {
         match verdict {
             Verdict::Accepted => self.accepted = self.accepted.saturating_add(1),
             Verdict::Refused(refusal) => {
-                self.refused = self.refused.saturating_add(1);
-                if self.status == ACCEPTED || self.status == NOT_COVERED {
-                    self.tell(REFUSED, item, refusal.offset(), refusal.message(), text);
+                self.count_refused();
+                if self.status == VALID || self.status == NOT_COVERED {
+                    self.tell(INVALID, item, refusal.offset(), refusal.message(), text);
+                }
+            }
+            Verdict::Malformed(refusal) => {
+                self.count_refused();
+                if self.status != OUT_OF_MEMORY && self.status != MALFORMED {
+                    self.tell(MALFORMED, item, refusal.offset(), refusal.message(), text);
                 }
             }
             Verdict::NotCovered(offset) => self.note_not_covered(item, *offset, text),
@@ -151,19 +167,6 @@ impl ModuleVerdict {
                     self.tell(OUT_OF_MEMORY, item, 0, "out of memory", text);
                 }
             }
-        }
-    }
-
-    /// Notes why a module isn't checked.
-    pub fn note_module(&mut self, verdict: &Verdict, text: &mut [u8])
-        requires { IsTold (length text.old) self.old }
-        ensures { IsTold (length text.new) self.new }
-    {
-        match verdict {
-            Verdict::Refused(refusal) => {
-                self.tell(NO_MODULE, None, refusal.offset(), refusal.message(), text);
-            }
-            _ => self.note(verdict, None, text),
         }
     }
 }

@@ -1,20 +1,20 @@
-//! The check of a module, or of one of its bodies, with all proposals on.
+//! The check of a module, or of one of its bodies.
 
 ghost use Rattle.std.specs.Prelude.{◌≡◌, length, None, IfSome};
-ghost use Rattle.module_check.specs.Loaded.{AreSafeExpressions, IsSafeFunction, IsSafeModule};
+ghost use Rattle.module_check.specs.Loaded.{AreSafeExpressions, IsSafeFunction, IsValid};
 ghost use Rattle.module_check.specs.Told.{IsTold};
 
 use crate::buffers::BodyBuffers;
 use crate::loaded::LoadedModule;
 use crate::report::Item;
 use crate::summary::{ModuleVerdict, NO_BODY};
+use module_rules::ModuleFeatures;
 use std::alloc::Global;
-use validate_types::{Flags, WasmFeatures};
+use validate_types::Flags;
 
 /// Checks each constant expression.
 fn check_expressions(
     module: &LoadedModule<'_>,
-    features: &WasmFeatures,
     buffers: &mut BodyBuffers,
     text: &mut [u8],
     out: &mut ModuleVerdict,
@@ -22,10 +22,10 @@ fn check_expressions(
     requires { IsTold (length text.old) out.old }
     ensures told { IsTold (length text.new) out.new }
     ensures accepted { out.new.status ≡ 0 → (out.old.status ≡ 0)
-        × AreSafeExpressions module.now features.now (length module.now.expressions.items) }
+        × AreSafeExpressions module.now (length module.now.expressions.items) }
 {
     for expression in module.expressions() {
-        let verdict = module.check_expression(features, expression, buffers);
+        let verdict = module.check_expression(expression, buffers);
         out.note(&verdict, Some(Item::Expression(expression.place)), text);
     }
 }
@@ -33,7 +33,6 @@ fn check_expressions(
 /// Checks the body of the function at this index.
 fn check_body(
     module: &LoadedModule<'_>,
-    features: &WasmFeatures,
     function: u32,
     buffers: &mut BodyBuffers,
     text: &mut [u8],
@@ -42,38 +41,37 @@ fn check_body(
     requires { IsTold (length text.old) out.old }
     ensures told { IsTold (length text.new) out.new }
     ensures accepted { out.new.status ≡ 0 → (out.old.status ≡ 0)
-        × IsSafeFunction module.now features.now function }
+        × IsSafeFunction module.now function }
 {
-    let verdict = module.check_function(features, function, buffers);
+    let verdict = module.check_function(function, buffers);
     out.note(&verdict, Some(Item::Function(function)), text);
 }
 
 /// Checks each body and each constant expression of a module that was read, and notes what they come to.
 ///
-/// The status is 0 only if it was 0 before and each of them is accepted: then each
-/// is type safe.
+/// The status is 0 only if it was 0 before and each of them is accepted. Then the module is valid: what it
+/// declares is (that was checked as it was read), each body and each constant expression is type safe, and the
+/// operators of these are constant.
 pub fn check_module(
     module: &LoadedModule<'_>,
-    features: &WasmFeatures,
     buffers: &mut BodyBuffers,
     text: &mut [u8],
     out: &mut ModuleVerdict,
 )
     requires { IsTold (length text.old) out.old }
     ensures told { IsTold (length text.new) out.new }
-    ensures accepted { out.new.status ≡ 0 → IsSafeModule module.now features.now }
+    ensures accepted { out.new.status ≡ 0 → IsValid module.now }
 {
-    check_expressions(module, features, buffers, text, out);
+    check_expressions(module, buffers, text, out);
     for index in 0..module.bodies() {
         let function = module.function_of(index);
-        check_body(module, features, function, buffers, text, out);
+        check_body(module, function, buffers, text, out);
     }
 }
 
 /// Checks the body of the function at this index, if the module has one for it.
 fn check_one(
     module: &LoadedModule<'_>,
-    features: &WasmFeatures,
     function: u32,
     buffers: &mut BodyBuffers,
     text: &mut [u8],
@@ -81,10 +79,10 @@ fn check_one(
 )
     requires { IsTold (length text.old) out.old }
     ensures told { IsTold (length text.new) out.new }
-    ensures accepted { out.new.status ≡ 0 → IsSafeFunction module.now features.now function }
+    ensures accepted { out.new.status ≡ 0 → IsSafeFunction module.now function }
 {
     if module.body_of(function).is_some() {
-        check_body(module, features, function, buffers, text, out);
+        check_body(module, function, buffers, text, out);
     } else {
         let item = Some(Item::Function(function));
         out.tell(
@@ -100,7 +98,6 @@ fn check_one(
 /// Checks each body and each constant expression, or the body of one function alone.
 fn check_chosen(
     module: &LoadedModule<'_>,
-    features: &WasmFeatures,
     function: Option<u32>,
     buffers: &mut BodyBuffers,
     text: &mut [u8],
@@ -108,12 +105,12 @@ fn check_chosen(
 )
     requires { IsTold (length text.old) out.old }
     ensures told { IsTold (length text.new) out.new }
-    ensures body { IfSome function (λ f. out.new.status ≡ 0 → IsSafeFunction module.now features.now f) }
-    ensures module { function ≡ None → out.new.status ≡ 0 → IsSafeModule module.now features.now }
+    ensures body { IfSome function (λ f. out.new.status ≡ 0 → IsSafeFunction module.now f) }
+    ensures module { function ≡ None → out.new.status ≡ 0 → IsValid module.now }
 {
     match function {
-        Some(function) => check_one(module, features, function, buffers, text, out),
-        None => check_module(module, features, buffers, text, out),
+        Some(function) => check_one(module, function, buffers, text, out),
+        None => check_module(module, buffers, text, out),
     }
 }
 
@@ -121,18 +118,17 @@ fn check_chosen(
 fn check_loaded(
     alloc: Global,
     module: &LoadedModule<'_>,
-    features: &WasmFeatures,
     function: Option<u32>,
     text: &mut [u8],
     out: &mut ModuleVerdict,
 )
     requires { IsTold (length text.old) out.old }
     ensures told { IsTold (length text.new) out.new }
-    ensures body { IfSome function (λ f. out.new.status ≡ 0 → IsSafeFunction module.now features.now f) }
-    ensures module { function ≡ None → out.new.status ≡ 0 → IsSafeModule module.now features.now }
+    ensures body { IfSome function (λ f. out.new.status ≡ 0 → IsSafeFunction module.now f) }
+    ensures module { function ≡ None → out.new.status ≡ 0 → IsValid module.now }
 {
     let mut buffers = BodyBuffers::new(alloc);
-    check_chosen(module, features, function, &mut buffers, text, out);
+    check_chosen(module, function, &mut buffers, text, out);
 }
 
 /// The status of a verdict.
@@ -142,9 +138,9 @@ fn status_of(verdict: &ModuleVerdict) -> u32
     verdict.status
 }
 
-/// Checks each body and each constant expression of a module, of which these are all the bytes, or the body of one
-/// function alone. It writes what they come to, and of the first that weighs most the text, as much as there is room
-/// for; it answers the status.
+/// Checks a module, of which these are all the bytes, with all proposals on: what it declares, and each body
+/// and each constant expression, or the body of one function alone. It writes what they come to, and of the
+/// first that weighs most the text, as much as there is room for; it answers the status.
 pub fn validate(
     alloc: Global,
     bytes: &[u8],
@@ -156,9 +152,9 @@ pub fn validate(
     ensures told { IsTold (length text.new) out.new }
 {
     *out = ModuleVerdict::new();
-    match LoadedModule::new(alloc, bytes) {
-        Ok(module) => check_loaded(alloc, &module, &WasmFeatures::all(), function, text, out),
-        Err(verdict) => out.note_module(&verdict, text),
+    match LoadedModule::new(alloc, bytes, ModuleFeatures::all()) {
+        Ok(module) => check_loaded(alloc, &module, function, text, out),
+        Err(verdict) => out.note(&verdict, None, text),
     }
     status_of(out)
 }

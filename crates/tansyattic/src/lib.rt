@@ -17,9 +17,9 @@ pub extern "C" fn tansyattic_version() -> u32 {
     VERSION
 }
 
-/// Checks each body and each constant expression of a module, of which these are all the bytes. It writes what
-/// they come to, and of the first that weighs most the text, as much as there is room for; it answers the
-/// status.
+/// Checks a module, of which these are all the bytes: what it declares, each body and each constant expression.
+/// It writes what they come to, and of the first that weighs most the text, as much as there is room for; it
+/// answers the status, 0 of a valid module.
 #[unsafe(no_mangle)]
 pub extern "C" fn tansyattic_validate(
     alloc: Global,
@@ -33,8 +33,8 @@ pub extern "C" fn tansyattic_validate(
     validate(alloc, bytes, None, text, out)
 }
 
-/// Checks the body of the function at this index, the imported ones counted, of a module of which these are all
-/// the bytes, as [`tansyattic_validate`] does. The sections of the module are read on each call.
+/// Checks what a module declares, of which these are all the bytes, and the body of the function at this index,
+/// the imported ones counted, as [`tansyattic_validate`] does. The sections of the module are read on each call.
 #[unsafe(no_mangle)]
 pub extern "C" fn tansyattic_validate_function(
     alloc: Global,

@@ -1,5 +1,5 @@
-//! Checks the bodies of functions and the constant expressions of a binary module, which is read from the file
-//! that is named, or from standard input: prints those that aren't accepted, and how many came to what.
+//! Says whether a binary module, which is read from the file that is named, or from standard input, is valid, and
+//! why not: what it declares, the bodies of its functions, and its constant expressions.
 #![tactic(auto)]
 
 mod options;

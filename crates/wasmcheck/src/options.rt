@@ -1,7 +1,8 @@
 //! What the program's words choose.
 
+use module_check::ModuleFeatures;
 use std::{env, io};
-use validate_types::{Flags, WasmFeatures};
+use validate_types::Flags;
 
 /// What is asked for.
 #[derive(Clone, Copy)]
@@ -19,11 +20,12 @@ pub enum Wish {
 /// How much is printed.
 #[derive(Clone, Copy)]
 pub enum Detail {
-    /// The last line.
+    /// The last line, which says whether the module is valid.
     Last,
-    /// A line for each body and expression that isn't accepted, and the last one.
+    /// Why it isn't valid, ahead of that: a line for each body and expression that isn't accepted, or one for the
+    /// module.
     Others,
-    /// A line for each, and the last one.
+    /// A line for each body and expression, and how many came to what.
     Each,
 }
 
@@ -35,20 +37,20 @@ pub struct Options {
     /// How much is printed.
     pub detail: Detail,
     /// The proposals that are on.
-    pub features: WasmFeatures,
+    pub features: ModuleFeatures,
     /// The file to read, or standard input.
     pub file: Option<String>,
     /// Whether the next word is a list of proposals.
     awaits_list: bool,
 }
 
-/// The proposals of a list of names: `all`, names as in scripts, and names to be taken off, behind a `-`. A list
-/// that begins with one of these begins from all proposals.
-fn read_features(list: &str) -> Option<WasmFeatures> {
+/// The proposals of a list of names: `all`, `default`, which are upstream's, those of proposals, and names to be
+/// taken off, behind a `-`. A list that begins with one of these begins from all proposals.
+fn read_features(list: &str) -> Option<ModuleFeatures> {
     let mut features = if list.starts_with('-') {
-        WasmFeatures::all()
+        ModuleFeatures::all()
     } else {
-        WasmFeatures::empty()
+        ModuleFeatures::empty()
     };
     for word in list.split(',') {
         features = with_word(features, word)?;
@@ -57,12 +59,13 @@ fn read_features(list: &str) -> Option<WasmFeatures> {
 }
 
 /// The proposals with those that a word adds, or without those that it takes off.
-fn with_word(features: WasmFeatures, word: &str) -> Option<WasmFeatures> {
+fn with_word(features: ModuleFeatures, word: &str) -> Option<ModuleFeatures> {
     let taken = word.strip_prefix('-');
     let named = match taken.unwrap_or(word) {
-        "all" => WasmFeatures::all(),
-        "none" => WasmFeatures::empty(),
-        name => WasmFeatures::from_name(name)?,
+        "all" => ModuleFeatures::all(),
+        "default" => ModuleFeatures::DEFAULT,
+        "none" => ModuleFeatures::empty(),
+        name => ModuleFeatures::from_name(name)?,
     };
     if taken.is_some() {
         Some(features.difference(named))
@@ -116,7 +119,7 @@ pub fn read_options(rt: &HostRuntime) -> io::Result<Options> {
     let mut options = Options {
         wish: Wish::Check,
         detail: Detail::Others,
-        features: WasmFeatures::all(),
+        features: ModuleFeatures::all(),
         file: None,
         awaits_list: false,
     };

@@ -1,7 +1,7 @@
 //! What is printed of a module.
 
 use crate::options::Detail;
-use crate::program::{ACCEPTED, FAILED, NO_MODULE, NOT_COVERED, REFUSED};
+use crate::program::{FAILED, INVALID, MALFORMED, NOT_COVERED, VALID};
 use module_check::{FunctionNames, Item, Verdict};
 use std::io;
 use std::io::Write;
@@ -11,6 +11,7 @@ use std::io::Write;
 struct Counts {
     accepted: u64,
     refused: u64,
+    malformed: u64,
     not_covered: u64,
     wants_memory: u64,
 }
@@ -21,6 +22,7 @@ impl Counts {
         match verdict {
             Verdict::Accepted => self.accepted = self.accepted.saturating_add(1),
             Verdict::Refused(_) => self.refused = self.refused.saturating_add(1),
+            Verdict::Malformed(_) => self.malformed = self.malformed.saturating_add(1),
             Verdict::NotCovered(_) => self.not_covered = self.not_covered.saturating_add(1),
             Verdict::OutOfMemory => self.wants_memory = self.wants_memory.saturating_add(1),
         }
@@ -30,19 +32,21 @@ impl Counts {
     fn status(&self) -> u8 {
         if self.wants_memory > 0 {
             FAILED
+        } else if self.malformed > 0 {
+            MALFORMED
         } else if self.refused > 0 {
-            REFUSED
+            INVALID
         } else if self.not_covered > 0 {
             NOT_COVERED
         } else {
-            ACCEPTED
+            VALID
         }
     }
 
     /// Prints them.
     fn print<W: Write>(&self, out: &mut W) -> io::Result<()> {
         let accepted = self.accepted;
-        let refused = self.refused;
+        let refused = self.refused.saturating_add(self.malformed);
         let not_covered = self.not_covered;
         write!(
             out,
@@ -55,11 +59,22 @@ impl Counts {
     }
 }
 
+/// What is said of a module that comes to this status.
+fn word_of(status: u8) -> &'static str {
+    match status {
+        VALID => "valid",
+        INVALID => "invalid",
+        MALFORMED => "malformed",
+        NOT_COVERED => "not covered",
+        _ => "out of memory",
+    }
+}
+
 /// Prints the rest of an item's line.
 fn print_verdict<W: Write>(out: &mut W, verdict: &Verdict) -> io::Result<()> {
     match verdict {
         Verdict::Accepted => writeln!(out, ": accepted"),
-        Verdict::Refused(refusal) => {
+        Verdict::Refused(refusal) | Verdict::Malformed(refusal) => {
             let offset = refusal.offset();
             let text = refusal.message();
             writeln!(out, " failed at offset 0x{offset:x}: {text}")
@@ -91,6 +106,7 @@ impl<'m> Report<'m> {
             counts: Counts {
                 accepted: 0,
                 refused: 0,
+                malformed: 0,
                 not_covered: 0,
                 wants_memory: 0,
             },
@@ -125,25 +141,41 @@ impl<'m> Report<'m> {
         }
     }
 
-    /// Prints the last line, and ahead of it, where each line is printed, how many types are equal to earlier ones, if
-    /// some are. It answers the status.
+    /// Prints the last line, whether the module is valid; ahead of it, where each line is printed, how many types are
+    /// equal to earlier ones, if some are, and how many bodies and expressions came to what. It answers the status.
     pub fn end<W: Write>(&self, out: &mut W, merged: usize) -> io::Result<u8> {
-        if matches!(self.detail, Detail::Each) && merged > 0 {
-            writeln!(out, "{merged} types equal to earlier ones")?;
+        if matches!(self.detail, Detail::Each) {
+            if merged > 0 {
+                writeln!(out, "{merged} types equal to earlier ones")?;
+            }
+            self.counts.print(out)?;
         }
-        self.counts.print(out)?;
-        Ok(self.counts.status())
+        print_status(out, self.counts.status())
     }
 }
 
-/// Prints why the module as a whole isn't checked, and answers the status.
-pub fn print_module_verdict<W: Write>(out: &mut W, verdict: &Verdict) -> io::Result<u8> {
-    write!(out, "module")?;
-    print_verdict(out, verdict)?;
-    match verdict {
-        Verdict::Accepted => Ok(ACCEPTED),
-        Verdict::Refused(_) => Ok(NO_MODULE),
-        Verdict::NotCovered(_) => Ok(NOT_COVERED),
-        Verdict::OutOfMemory => Ok(FAILED),
+/// Prints the last line of a module that comes to this status, and answers it.
+fn print_status<W: Write>(out: &mut W, status: u8) -> io::Result<u8> {
+    writeln!(out, "{}", word_of(status))?;
+    Ok(status)
+}
+
+/// Prints why the module as a whole isn't checked, unless that is left out, and the last line. It answers the status.
+pub fn print_module_verdict<W: Write>(
+    out: &mut W,
+    detail: Detail,
+    verdict: &Verdict,
+) -> io::Result<u8> {
+    if !matches!(detail, Detail::Last) {
+        write!(out, "module")?;
+        print_verdict(out, verdict)?;
     }
+    let status = match verdict {
+        Verdict::Accepted => VALID,
+        Verdict::Refused(_) => INVALID,
+        Verdict::Malformed(_) => MALFORMED,
+        Verdict::NotCovered(_) => NOT_COVERED,
+        Verdict::OutOfMemory => FAILED,
+    };
+    print_status(out, status)
 }

@@ -5,21 +5,20 @@ use crate::print::{Report, print_module_verdict};
 use module_check::{BodyBuffers, Item, LoadedModule, Verdict};
 use std::io::{BufWriter, IsTerminal, Read, Write};
 use std::{fs, io};
-use validate_types::WasmFeatures;
 
-/// The status where each body and each constant expression is accepted.
-pub const ACCEPTED: u8 = 0;
+/// The status of a valid module.
+pub const VALID: u8 = 0;
 
-/// The status where one is refused.
-pub const REFUSED: u8 = 1;
+/// The status of an invalid module: what it declares isn't valid, or a body or a constant expression is refused.
+pub const INVALID: u8 = 1;
 
-/// The status where the bytes are no module's, or the words aren't understood.
-pub const NO_MODULE: u8 = 2;
+/// The status where the bytes aren't those of a module, or the words aren't understood.
+pub const MALFORMED: u8 = 2;
 
 /// The status for want of memory, or a failed read or write.
 pub const FAILED: u8 = 3;
 
-/// The status where none is refused, and one isn't covered.
+/// The status where nothing is refused, and a body or a constant expression isn't covered.
 pub const NOT_COVERED: u8 = 4;
 
 /// After so many bodies it is said how far the check is.
@@ -29,27 +28,23 @@ const MANY: usize = 5_000;
 const HELP: &str = "\
 usage: wasmcheck [OPTIONS] [FILE]
 
-Checks the bodies of functions and the constant expressions of the binary WebAssembly module
-in FILE, or on standard input.
+Says whether the binary WebAssembly module in FILE, or on standard input, is valid, and why not:
+what it declares, the bodies of its functions, and its constant expressions.
 
   -q, --quiet      print the last line alone
-  -v, --verbose    print a line for each body, accepted ones too
+  -v, --verbose    print a line for each body, accepted ones too, and how many came to what
   --features LIST  the proposals that are on, by their names, with commas between: all, unless
-                   this is said; a leading - takes one off (-gc,-exceptions)
+                   this is said; a leading - takes one off (-gc,-exceptions); default is the set
+                   that wasmparser has on
   -h, --help       print this
   -V, --version    print the version
 
-Status: 0 each is accepted; 1 one is refused; 2 no module, or words that aren't understood;
-3 want of memory, or a failed read or write; 4 none is refused, and one isn't covered.
+Status: 0 valid; 1 invalid; 2 malformed, or words that aren't understood; 3 want of memory, or a
+failed read or write; 4 nothing is refused, and there are vector operators, which aren't covered.
 ";
 
 /// The version of the program.
 const VERSION: &str = "wasmcheck 0.1.0, the operator validator of wasmparser 0.263.0\n";
-
-/// What an acceptance doesn't say.
-const NOT_CHECKED: &str =
-    "not checked: that constant expressions are constant, limits, supertypes against \
-what they declare, finality, segments against their tables, exports, the start function";
 
 /// Reads the bytes of the file, or of standard input.
 fn read_input(rt: &HostRuntime, file: &Option<String>) -> io::Result<Vec<u8>> {
@@ -67,12 +62,11 @@ fn read_input(rt: &HostRuntime, file: &Option<String>) -> io::Result<Vec<u8>> {
 fn check_expressions<W: Write>(
     out: &mut W,
     module: &LoadedModule<'_>,
-    features: &WasmFeatures,
     buffers: &mut BodyBuffers,
     report: &mut Report<'_>,
 ) -> io::Result<()> {
     for expression in module.expressions() {
-        let verdict = module.check_expression(features, expression, buffers);
+        let verdict = module.check_expression(expression, buffers);
         report.tell(out, Item::Expression(expression.place), &verdict)?;
     }
     Ok(())
@@ -93,7 +87,6 @@ fn check_bodies<W: Write>(
     rt: &HostRuntime,
     out: &mut W,
     module: &LoadedModule<'_>,
-    features: &WasmFeatures,
     buffers: &mut BodyBuffers,
     report: &mut Report<'_>,
 ) -> io::Result<()> {
@@ -101,7 +94,7 @@ fn check_bodies<W: Write>(
     for index in 0..all {
         tell_progress(rt, index, all);
         let function = module.function_of(index);
-        let verdict = module.check_function(features, function, buffers);
+        let verdict = module.check_function(function, buffers);
         report.tell(out, Item::Function(function), &verdict)?;
     }
     Ok(())
@@ -112,12 +105,11 @@ fn check_items<W: Write>(
     rt: &HostRuntime,
     out: &mut W,
     module: &LoadedModule<'_>,
-    features: &WasmFeatures,
     buffers: &mut BodyBuffers,
     report: &mut Report<'_>,
 ) -> io::Result<()> {
-    check_expressions(out, module, features, buffers, report)?;
-    check_bodies(rt, out, module, features, buffers, report)
+    check_expressions(out, module, buffers, report)?;
+    check_bodies(rt, out, module, buffers, report)
 }
 
 /// Checks each of them in new buffers.
@@ -125,11 +117,10 @@ fn check_all<W: Write>(
     rt: &HostRuntime,
     out: &mut W,
     module: &LoadedModule<'_>,
-    features: &WasmFeatures,
     report: &mut Report<'_>,
 ) -> io::Result<()> {
     let mut buffers = BodyBuffers::new(rt.alloc());
-    check_items(rt, out, module, features, &mut buffers, report)
+    check_items(rt, out, module, &mut buffers, report)
 }
 
 /// Checks a module, and answers the status.
@@ -137,14 +128,13 @@ fn check_module<W: Write>(
     rt: &HostRuntime,
     out: &mut W,
     module: &LoadedModule<'_>,
-    features: &WasmFeatures,
     detail: Detail,
 ) -> io::Result<u8> {
     let Ok(names) = module.names(rt.alloc()) else {
-        return print_module_verdict(out, &Verdict::OutOfMemory);
+        return print_module_verdict(out, detail, &Verdict::OutOfMemory);
     };
     let mut report = Report::new(names, detail);
-    check_all(rt, out, module, features, &mut report)?;
+    check_all(rt, out, module, &mut report)?;
     report.end(out, module.merged())
 }
 
@@ -155,9 +145,9 @@ fn check_input<W: Write>(
     options: &Options,
     input: &[u8],
 ) -> io::Result<u8> {
-    match LoadedModule::new(rt.alloc(), input) {
-        Ok(module) => check_module(rt, out, &module, &options.features, options.detail),
-        Err(verdict) => print_module_verdict(out, &verdict),
+    match LoadedModule::new(rt.alloc(), input, options.features) {
+        Ok(module) => check_module(rt, out, &module, options.detail),
+        Err(verdict) => print_module_verdict(out, options.detail, &verdict),
     }
 }
 
@@ -187,11 +177,7 @@ fn check(rt: &HostRuntime, options: &Options) -> io::Result<u8> {
     if let Some(text) = doubt(&input) {
         writeln!(err, "wasmcheck: {text}")?;
     }
-    let status = print_check(rt, options, &input)?;
-    if !matches!(options.detail, Detail::Last) && (status == ACCEPTED || status == NOT_COVERED) {
-        writeln!(err, "{NOT_CHECKED}")?;
-    }
-    Ok(status)
+    print_check(rt, options, &input)
 }
 
 /// Writes a text, and answers the status.
@@ -205,8 +191,8 @@ pub fn run(rt: &HostRuntime) -> io::Result<u8> {
     let options = read_options(rt)?;
     match options.wish {
         Wish::Check => check(rt, &options),
-        Wish::Help => write_text(rt.stdout(), HELP, ACCEPTED),
-        Wish::Version => write_text(rt.stdout(), VERSION, ACCEPTED),
-        Wish::Unknown => write_text(rt.stderr(), HELP, NO_MODULE),
+        Wish::Help => write_text(rt.stdout(), HELP, VALID),
+        Wish::Version => write_text(rt.stdout(), VERSION, VALID),
+        Wish::Unknown => write_text(rt.stderr(), HELP, MALFORMED),
     }
 }

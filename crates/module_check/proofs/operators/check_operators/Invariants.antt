@@ -1,8 +1,9 @@
 -- Some operators were read and accepted, and the validator is in the state behind them.
 use Rattle.validate_body.specs.Start.{state}
+use Rattle.module_check.specs.Constant.{may_stand}
 use Rattle.module_check.proofs.Behind.{IsBehind}
 use Rattle.module_check.proofs.operators.check_operators.Given as goal
 
 abbrev pub invariant-loop : goal.invariant-loop
 invariant-loop g l =
-    IsBehind (g.R.WasmModuleResources.context l.resources) l.fn.canonical (state l.fn.v) (state l.v) l.fn.reader.left l.reader.left
+    IsBehind (g.R.WasmModuleResources.context l.resources) l.fn.canonical (may_stand l.fn.constant) (state l.fn.v) (state l.v) l.fn.reader.left l.reader.left

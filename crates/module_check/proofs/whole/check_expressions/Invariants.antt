@@ -9,5 +9,5 @@ invariant-loop-expression l =
     record {
       told : IsTold (length l.text) l.out;
       before : l.out.status ≡ 0 → l.fn.out.status ≡ 0;
-      safe : l.out.status ≡ 0 → AreSafeExpressions l.module l.features l.expression-index;
+      safe : l.out.status ≡ 0 → AreSafeExpressions l.module l.expression-index;
     }

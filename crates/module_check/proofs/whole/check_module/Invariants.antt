@@ -9,6 +9,6 @@ abbrev pub invariant-loop-index : goal.invariant-loop-index
 invariant-loop-index l =
     record {
       told : IsTold (length l.text) l.out;
-      expressions : l.out.status ≡ 0 → AreSafeExpressions l.module l.features (length l.module.expressions.items);
-      bodies : l.out.status ≡ 0 → AreSafeBodies l.module l.features l.index;
+      expressions : l.out.status ≡ 0 → AreSafeExpressions l.module (length l.module.expressions.items);
+      bodies : l.out.status ≡ 0 → AreSafeBodies l.module l.index;
     }

@@ -1,0 +1,28 @@
+-- One more body is checked, and at the end each function's is.
+use Rattle.std.proofs.Common.{length, arith, subst}
+use Rattle.module_check.specs.Loaded.{IsSafeFunction, AreSafeBodies}
+use Rattle.module_check.proofs.Counted.{functions_safe, one_more_body}
+use Rattle.module_check.proofs.whole.check_module.Goals as goal
+
+pub loop-index-preserved : goal.loop-index-preserved
+loop-index-preserved c =
+    let m = c.args.module.now in
+    record {
+      told = c.check_body.ensures.told;
+      expressions = λ z. c.loop-index.invariant.expressions (c.check_body.ensures.accepted z).0;
+      bodies = λ z. one_more_body m c.loop-index.index (c.loop-index.invariant.bodies (c.check_body.ensures.accepted z).0)
+          (λ small. subst (IsSafeFunction m) (c.function_of-function.ensures small) (c.check_body.ensures.accepted z).1);
+    }
+
+pub returns-clause-accepted : goal.returns-clause-accepted
+returns-clause-accepted c = λ z.
+    let m = c.args.module.now in
+    let each : AreSafeBodies m (length m.bodies.items) = λ body within small. c.loop-index.invariant.bodies z body (omega (arith, within, c.bodies-index-end.ensures, c.loop-index-test.false)) small in
+    record {
+      declarations_valid = m.valid;
+      is_lookup = m.lookup;
+      code_safe = record {
+        functions = functions_safe m m.valid m.counted each;
+        expressions = c.loop-index.invariant.expressions z;
+      };
+    }

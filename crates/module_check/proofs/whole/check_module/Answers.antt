@@ -1,5 +1,5 @@
 -- One more body is checked, and at the end each function's is.
-use Rattle.std.proofs.Common.{length, arith, subst}
+use Rattle.std.proofs.Common.{length, ◌≤◌, rules, arith, subst}
 use Rattle.module_check.specs.Loaded.{IsSafeFunction, AreSafeBodies}
 use Rattle.module_check.proofs.Counted.{functions_safe, one_more_body}
 use Rattle.module_check.proofs.whole.check_module.Goals as goal
@@ -17,7 +17,8 @@ loop-index-preserved c =
 pub returns-clause-accepted : goal.returns-clause-accepted
 returns-clause-accepted c = λ z.
     let m = c.args.module.now in
-    let each : AreSafeBodies m (length m.bodies.items) = λ body within small. c.loop-index.invariant.bodies z body (omega (arith, within, c.bodies-index-end.ensures, c.loop-index-test.false)) small in
+    let all : length m.bodies.items ≤ c.loop-index.index = search (rules, arith) in
+    let each : AreSafeBodies m (length m.bodies.items) = λ body within small. c.loop-index.invariant.bodies z body (omega (arith, within, all)) small in
     record {
       declarations_valid = m.valid;
       is_lookup = m.lookup;

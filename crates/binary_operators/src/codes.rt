@@ -1,13 +1,14 @@
 //! Operators by their codes (WebAssembly core specification, "Binary Format: Instructions", and the
 //! proposals): a table for each form. A code behind a prefix has the prefix above it, as 0xfb0f.
 
-ghost use Rattle.std.specs.Prelude.{◌≡◌, option_map};
+ghost use Rattle.std.specs.Prelude.{◌≡◌, Some, None, option_map, OnOk, OnErr};
 ghost use Rattle.binary_operators.specs.Codes.{at, plain_ops, index_ops, two_index_ops, type_ops};
 ghost use Rattle.binary_operators.specs.Codes.{typed_index_ops};
 ghost use Rattle.binary_operators.specs.Codes.{two_type_ops, heap_ops, cast_ops, block_ops, natural};
 ghost use Rattle.binary_operators.specs.Codes.{access_ops};
 ghost use Rattle.binary_operators.specs.Unplaced.{unplaced};
 
+use crate::error::ReadError;
 use validate_types::HeapType;
 use validate_visit::{
     ArrayOp, AtomicOp, BlockType, BranchCast, ContinuationOp, ControlOp, ConvertOp, ExceptionOp,
@@ -15,102 +16,129 @@ use validate_visit::{
     ReferenceOp, SharedOp, Sign, StructOp, TableOp,
 };
 
-/// The operator of this code that has no immediates.
+/// Writes the operator of this code that has no immediates. It refuses a code that no such operator has, which stands
+/// at the offset. Most operators are written like this, in place, since one is large: the other tables answer theirs.
+#[inline(always)]
 #[tactic(auto, unfolding(crate::specs::Codes::plain_ops))]
-pub(crate) fn plain_op<'l>(code: u32) -> Option<Op<'l>>
-    ensures { option_map (λ op. unplaced op) result ≡ at code plain_ops }
+pub(crate) fn plain_op<'l>(code: u32, offset: u64, to: &mut Op<'l>) -> Result<(), ReadError>
+    ensures read { OnOk result (at code plain_ops ≡ Some (unplaced to.new)) }
+    ensures refused { OnErr result (at code plain_ops ≡ None) }
 {
-    let op = match code {
-        0x00 => Op::Control(ControlOp::Unreachable),
-        0x01 => Op::Control(ControlOp::Nop),
-        0x05 => Op::Control(ControlOp::Else),
-        0x0a => Op::Exception(ExceptionOp::ThrowRef),
-        0x0b => Op::Control(ControlOp::End),
-        0x0f => Op::Control(ControlOp::Return),
-        0x19 => Op::Exception(ExceptionOp::CatchAll),
-        0x1a => Op::Control(ControlOp::Drop),
-        0x1b => Op::Control(ControlOp::Select),
-        0xd1 => Op::Reference(ReferenceOp::RefIsNull),
-        0xd3 => Op::Reference(ReferenceOp::RefEq),
-        0xd4 => Op::Reference(ReferenceOp::RefAsNonNull),
-        0xfb0f => Op::Array(ArrayOp::ArrayLen),
-        0xfb1a => Op::Reference(ReferenceOp::AnyConvertExtern),
-        0xfb1b => Op::Reference(ReferenceOp::ExternConvertAny),
-        0xfb1c => Op::Reference(ReferenceOp::RefI31),
-        0xfb1d => Op::Reference(ReferenceOp::I31Get(Sign::Signed)),
-        0xfb1e => Op::Reference(ReferenceOp::I31Get(Sign::Unsigned)),
-        0xfc00 => Op::Convert(ConvertOp::TruncSat(IntegerType::I32, FloatType::F32, Sign::Signed)),
-        0xfc01 => Op::Convert(ConvertOp::TruncSat(
+    match code {
+        0x00 => *to = Op::Control(ControlOp::Unreachable),
+        0x01 => *to = Op::Control(ControlOp::Nop),
+        0x05 => *to = Op::Control(ControlOp::Else),
+        0x0a => *to = Op::Exception(ExceptionOp::ThrowRef),
+        0x0b => *to = Op::Control(ControlOp::End),
+        0x0f => *to = Op::Control(ControlOp::Return),
+        0x19 => *to = Op::Exception(ExceptionOp::CatchAll),
+        0x1a => *to = Op::Control(ControlOp::Drop),
+        0x1b => *to = Op::Control(ControlOp::Select),
+        0xd1 => *to = Op::Reference(ReferenceOp::RefIsNull),
+        0xd3 => *to = Op::Reference(ReferenceOp::RefEq),
+        0xd4 => *to = Op::Reference(ReferenceOp::RefAsNonNull),
+        0xfb0f => *to = Op::Array(ArrayOp::ArrayLen),
+        0xfb1a => *to = Op::Reference(ReferenceOp::AnyConvertExtern),
+        0xfb1b => *to = Op::Reference(ReferenceOp::ExternConvertAny),
+        0xfb1c => *to = Op::Reference(ReferenceOp::RefI31),
+        0xfb1d => *to = Op::Reference(ReferenceOp::I31Get(Sign::Signed)),
+        0xfb1e => *to = Op::Reference(ReferenceOp::I31Get(Sign::Unsigned)),
+        0xfc00 => *to = Op::Convert(ConvertOp::TruncSat(
+            IntegerType::I32,
+            FloatType::F32,
+            Sign::Signed,
+        )),
+        0xfc01 => *to = Op::Convert(ConvertOp::TruncSat(
             IntegerType::I32,
             FloatType::F32,
             Sign::Unsigned,
         )),
-        0xfc02 => Op::Convert(ConvertOp::TruncSat(IntegerType::I32, FloatType::F64, Sign::Signed)),
-        0xfc03 => Op::Convert(ConvertOp::TruncSat(
+        0xfc02 => *to = Op::Convert(ConvertOp::TruncSat(
+            IntegerType::I32,
+            FloatType::F64,
+            Sign::Signed,
+        )),
+        0xfc03 => *to = Op::Convert(ConvertOp::TruncSat(
             IntegerType::I32,
             FloatType::F64,
             Sign::Unsigned,
         )),
-        0xfc04 => Op::Convert(ConvertOp::TruncSat(IntegerType::I64, FloatType::F32, Sign::Signed)),
-        0xfc05 => Op::Convert(ConvertOp::TruncSat(
+        0xfc04 => *to = Op::Convert(ConvertOp::TruncSat(
+            IntegerType::I64,
+            FloatType::F32,
+            Sign::Signed,
+        )),
+        0xfc05 => *to = Op::Convert(ConvertOp::TruncSat(
             IntegerType::I64,
             FloatType::F32,
             Sign::Unsigned,
         )),
-        0xfc06 => Op::Convert(ConvertOp::TruncSat(IntegerType::I64, FloatType::F64, Sign::Signed)),
-        0xfc07 => Op::Convert(ConvertOp::TruncSat(
+        0xfc06 => *to = Op::Convert(ConvertOp::TruncSat(
+            IntegerType::I64,
+            FloatType::F64,
+            Sign::Signed,
+        )),
+        0xfc07 => *to = Op::Convert(ConvertOp::TruncSat(
             IntegerType::I64,
             FloatType::F64,
             Sign::Unsigned,
         )),
-        0xfc13 => Op::Numeric(NumericOp::Add128),
-        0xfc14 => Op::Numeric(NumericOp::Sub128),
-        0xfc15 => Op::Numeric(NumericOp::MulWide(Sign::Signed)),
-        0xfc16 => Op::Numeric(NumericOp::MulWide(Sign::Unsigned)),
-        0xfe04 => Op::Atomic(AtomicOp::Pause),
-        0xfe72 => Op::Shared(SharedOp::RefI31Shared),
-        _ => return None,
-    };
-    Some(op)
+        0xfc13 => *to = Op::Numeric(NumericOp::Add128),
+        0xfc14 => *to = Op::Numeric(NumericOp::Sub128),
+        0xfc15 => *to = Op::Numeric(NumericOp::MulWide(Sign::Signed)),
+        0xfc16 => *to = Op::Numeric(NumericOp::MulWide(Sign::Unsigned)),
+        0xfe04 => *to = Op::Atomic(AtomicOp::Pause),
+        0xfe72 => *to = Op::Shared(SharedOp::RefI31Shared),
+        _ => return Err(ReadError::illegal(offset)),
+    }
+    Ok(())
 }
 
-/// The operator of this code whose immediate is this index.
+/// Writes the operator of this code whose immediate is this index. It refuses a code that no such operator has, which
+/// stands at the offset.
+#[inline(always)]
 #[tactic(auto, unfolding(crate::specs::Codes::index_ops))]
-pub(crate) fn index_op<'l>(code: u32, index: u32) -> Option<Op<'l>>
-    ensures { option_map (λ op. unplaced op) result ≡ option_map (λ make. make index) (at code index_ops) }
+pub(crate) fn index_op<'l>(
+    code: u32,
+    index: u32,
+    offset: u64,
+    to: &mut Op<'l>,
+) -> Result<(), ReadError>
+    ensures read { OnOk result (option_map (λ make. make index) (at code index_ops) ≡ Some (unplaced to.new)) }
+    ensures refused { OnErr result (at code index_ops ≡ None) }
 {
-    let op = match code {
-        0x07 => Op::Exception(ExceptionOp::Catch(index)),
-        0x08 => Op::Exception(ExceptionOp::Throw(index)),
-        0x09 => Op::Exception(ExceptionOp::Rethrow(index)),
-        0x0c => Op::Control(ControlOp::Br(index)),
-        0x0d => Op::Control(ControlOp::BrIf(index)),
-        0x10 => Op::Control(ControlOp::Call(index)),
-        0x12 => Op::Control(ControlOp::ReturnCall(index)),
-        0x18 => Op::Exception(ExceptionOp::Delegate(index)),
-        0x20 => Op::Control(ControlOp::LocalGet(index)),
-        0x21 => Op::Control(ControlOp::LocalSet(index)),
-        0x22 => Op::Control(ControlOp::LocalTee(index)),
-        0x23 => Op::Control(ControlOp::GlobalGet(index)),
-        0x24 => Op::Control(ControlOp::GlobalSet(index)),
-        0x25 => Op::Table(TableOp::TableGet(index)),
-        0x26 => Op::Table(TableOp::TableSet(index)),
-        0x3f => Op::Memory(MemoryOp::MemorySize(index)),
-        0x40 => Op::Memory(MemoryOp::MemoryGrow(index)),
-        0xd2 => Op::Reference(ReferenceOp::RefFunc(index)),
-        0xd5 => Op::Reference(ReferenceOp::BrOnNull(index)),
-        0xd6 => Op::Reference(ReferenceOp::BrOnNonNull(index)),
-        0xe2 => Op::Continuation(ContinuationOp::Suspend(index)),
-        0xfc09 => Op::Memory(MemoryOp::DataDrop(index)),
-        0xfc0b => Op::Memory(MemoryOp::MemoryFill(index)),
-        0xfc0d => Op::Table(TableOp::ElemDrop(index)),
-        0xfc0f => Op::Table(TableOp::TableGrow(index)),
-        0xfc10 => Op::Table(TableOp::TableSize(index)),
-        0xfc11 => Op::Table(TableOp::TableFill(index)),
-        0xfc12 => Op::Memory(MemoryOp::MemoryDiscard(index)),
-        _ => return None,
-    };
-    Some(op)
+    match code {
+        0x07 => *to = Op::Exception(ExceptionOp::Catch(index)),
+        0x08 => *to = Op::Exception(ExceptionOp::Throw(index)),
+        0x09 => *to = Op::Exception(ExceptionOp::Rethrow(index)),
+        0x0c => *to = Op::Control(ControlOp::Br(index)),
+        0x0d => *to = Op::Control(ControlOp::BrIf(index)),
+        0x10 => *to = Op::Control(ControlOp::Call(index)),
+        0x12 => *to = Op::Control(ControlOp::ReturnCall(index)),
+        0x18 => *to = Op::Exception(ExceptionOp::Delegate(index)),
+        0x20 => *to = Op::Control(ControlOp::LocalGet(index)),
+        0x21 => *to = Op::Control(ControlOp::LocalSet(index)),
+        0x22 => *to = Op::Control(ControlOp::LocalTee(index)),
+        0x23 => *to = Op::Control(ControlOp::GlobalGet(index)),
+        0x24 => *to = Op::Control(ControlOp::GlobalSet(index)),
+        0x25 => *to = Op::Table(TableOp::TableGet(index)),
+        0x26 => *to = Op::Table(TableOp::TableSet(index)),
+        0x3f => *to = Op::Memory(MemoryOp::MemorySize(index)),
+        0x40 => *to = Op::Memory(MemoryOp::MemoryGrow(index)),
+        0xd2 => *to = Op::Reference(ReferenceOp::RefFunc(index)),
+        0xd5 => *to = Op::Reference(ReferenceOp::BrOnNull(index)),
+        0xd6 => *to = Op::Reference(ReferenceOp::BrOnNonNull(index)),
+        0xe2 => *to = Op::Continuation(ContinuationOp::Suspend(index)),
+        0xfc09 => *to = Op::Memory(MemoryOp::DataDrop(index)),
+        0xfc0b => *to = Op::Memory(MemoryOp::MemoryFill(index)),
+        0xfc0d => *to = Op::Table(TableOp::ElemDrop(index)),
+        0xfc0f => *to = Op::Table(TableOp::TableGrow(index)),
+        0xfc10 => *to = Op::Table(TableOp::TableSize(index)),
+        0xfc11 => *to = Op::Table(TableOp::TableFill(index)),
+        0xfc12 => *to = Op::Memory(MemoryOp::MemoryDiscard(index)),
+        _ => return Err(ReadError::illegal(offset)),
+    }
+    Ok(())
 }
 
 /// The operator of this code whose immediates are these two indices.

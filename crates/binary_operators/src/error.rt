@@ -143,6 +143,11 @@ impl ReadError {
         }
     }
 
+    /// The refusal of a code that no operator has, which stands at the offset.
+    pub(crate) fn illegal(offset: u64) -> ReadError {
+        ReadError::malformed(Fault::IllegalOpcode, offset)
+    }
+
     /// Bytes that begin a vector operator.
     pub fn vector_operator(offset: u64) -> ReadError {
         ReadError {

@@ -6,6 +6,7 @@ ghost use Rattle.binary_operators.specs.Integers.{last_biased};
 
 /// The integer of so many bits that a last byte is, with half of 2 to their power added, or None where it is
 /// none.
+#[inline(always)]
 pub(crate) fn last_biased(byte: u8, bits: u32) -> Option<u64>
     requires some { 0 < bits }
     requires within { bits ≤ 64 }
@@ -29,6 +30,7 @@ pub(crate) fn last_biased(byte: u8, bits: u32) -> Option<u64>
 }
 
 /// Half of 2 to the power of so many bits.
+#[inline(always)]
 fn half_of(bits: u32) -> u64
     requires some { 0 < bits }
     requires within { bits ≤ 64 }

@@ -148,6 +148,7 @@ static CONVERSIONS: [ConvertOp; 30] = [
 ];
 
 /// The operator on numbers of this code, if there is one.
+#[inline(always)]
 pub(crate) fn numeric_op(code: u32) -> Option<NumericOp>
     ensures { result ≡ from 0x45 numeric_ops code }
 {

@@ -1,7 +1,7 @@
 //! Operators in the bytes of a body (WebAssembly core specification, "Binary Format: Instructions", and the
 //! proposals).
 
-ghost use Rattle.std.specs.Prelude.{◌≡◌, ◌≢◌, ◌+◌, ◌*◌, Some, None, option_map, IfOk, IfErr, OnErr};
+ghost use Rattle.std.specs.Prelude.{◌≡◌, ◌≢◌, ◌+◌, ◌*◌, Some, None, option_map, IfOk, OnOk, IfErr, OnErr};
 ghost use Rattle.binary_operators.specs.Codes.{at, plain_ops};
 ghost use Rattle.binary_operators.specs.Forms.{from, forms, forms_behind};
 ghost use Rattle.binary_operators.specs.Instructions.{index_op, two_index_op};
@@ -14,7 +14,7 @@ ghost use Rattle.binary_operators.specs.Instructions.{resume_table, resume_ops};
 ghost use Rattle.binary_operators.specs.Instructions.{resume_op, resume_throw_op, atomic_op, fence_op};
 ghost use Rattle.binary_operators.specs.Instructions.{global_op};
 ghost use Rattle.binary_operators.specs.Instructions.{table_op, field_op, array_op, operator_by, prefixed_op};
-ghost use Rattle.binary_operators.specs.Instructions.{operator};
+ghost use Rattle.binary_operators.specs.Instructions.{operator_of, operator};
 ghost use Rattle.binary_operators.specs.Numbers.{numeric_ops, conversion_ops};
 ghost use Rattle.binary_operators.specs.Unplaced.{unplaced};
 ghost use Rattle.validate_visit.specs.declared.op.Op.TheVariants.{Numeric, Convert};
@@ -27,7 +27,7 @@ use crate::codes::{
     access_op, block_op, cast_op, heap_op, index_op, plain_op, two_index_op, two_type_op, type_op,
     typed_index_op,
 };
-use crate::error::{Fault, ReadError};
+use crate::error::ReadError;
 use crate::forms::{Form, form_behind, form_of};
 use crate::lists::{OperatorLists, read_list};
 use crate::memory::read_memarg;
@@ -40,67 +40,62 @@ use validate_visit::{
     Ieee64, NumericOp, Op, ResumeTable, SharedOp, TryTable,
 };
 
-/// The refusal of a code that no operator has, which stands at the offset.
-fn illegal(offset: u64) -> ReadError {
-    ReadError::malformed(Fault::IllegalOpcode, offset)
-}
-
-/// The operator, if there is one: else its code, which stands at the offset, is refused.
+/// Writes the operator, if there is one: else its code, which stands at the offset, is refused.
 #[inline(always)]
-fn legal<'l>(op: Option<Op<'l>>, offset: u64) -> Result<Op<'l>, ReadError>
-    ensures read { IfOk result (λ found. option_map (λ o. unplaced o) op.entry ≡ Some (unplaced found)) }
+fn put<'l>(op: Option<Op<'l>>, offset: u64, to: &mut Op<'l>) -> Result<(), ReadError>
+    ensures read { OnOk result (option_map (λ o. unplaced o) op.entry ≡ Some (unplaced to.new)) }
     ensures refused { OnErr result (option_map (λ o. unplaced o) op.entry ≡ None) }
 {
     match op {
-        Some(op) => Ok(op),
-        None => Err(illegal(offset)),
+        Some(op) => {
+            *to = op;
+            Ok(())
+        }
+        None => Err(ReadError::illegal(offset)),
     }
-}
-
-/// The operator of this code, which stands at the offset and has no immediates.
-fn plain<'l>(code: u32, offset: u64) -> Result<Op<'l>, ReadError>
-    ensures read { IfOk result (λ op. at code plain_ops ≡ Some (unplaced op)) }
-    ensures refused { OnErr result (at code plain_ops ≡ None) }
-{
-    legal(plain_op(code), offset)
 }
 
 /// The operator on numbers of this code, which stands at the offset.
-fn numeric<'l>(code: u32, offset: u64) -> Result<Op<'l>, ReadError>
-    ensures read { IfOk result (λ op. option_map (λ o. Numeric o) (from 0x45 numeric_ops code)
-        ≡ Some (unplaced op)) }
+#[inline(always)]
+fn numeric<'l>(code: u32, offset: u64, to: &mut Op<'l>) -> Result<(), ReadError>
+    ensures read { OnOk result (option_map (λ o. Numeric o) (from 0x45 numeric_ops code)
+        ≡ Some (unplaced to.new)) }
     ensures refused { OnErr result (from 0x45 numeric_ops code ≡ None) }
 {
-    match numeric_op(code) {
-        Some(op) => Ok(Op::Numeric(op)),
-        None => Err(illegal(offset)),
-    }
+    let Some(op) = numeric_op(code) else {
+        return Err(ReadError::illegal(offset));
+    };
+    *to = Op::Numeric(op);
+    Ok(())
 }
 
 /// The conversion of this code, which stands at the offset.
-fn conversion<'l>(code: u32, offset: u64) -> Result<Op<'l>, ReadError>
-    ensures read { IfOk result (λ op. option_map (λ o. Convert o) (from 0xa7 conversion_ops code)
-        ≡ Some (unplaced op)) }
+fn conversion<'l>(code: u32, offset: u64, to: &mut Op<'l>) -> Result<(), ReadError>
+    ensures read { OnOk result (option_map (λ o. Convert o) (from 0xa7 conversion_ops code)
+        ≡ Some (unplaced to.new)) }
     ensures refused { OnErr result (from 0xa7 conversion_ops code ≡ None) }
 {
-    match conversion_op(code) {
-        Some(op) => Ok(Op::Convert(op)),
-        None => Err(illegal(offset)),
-    }
+    let Some(op) = conversion_op(code) else {
+        return Err(ReadError::illegal(offset));
+    };
+    *to = Op::Convert(op);
+    Ok(())
 }
 
 /// Reads the index of an operator of this code, which stands at the offset.
+#[inline(always)]
 #[tactic(auto, unfolding(crate::specs::Instructions::index_op))]
 fn read_index<'l>(
     reader: &mut BinaryReader<'_>,
     code: u32,
     offset: u64,
-) -> Result<Op<'l>, ReadError>
-    ensures read { IfOk result (λ op. index_op code reader.old.left ≡ Some (unplaced op, reader.new.left)) }
+    to: &mut Op<'l>,
+) -> Result<(), ReadError>
+    ensures read { OnOk result (index_op code reader.old.left ≡ Some (unplaced to.new, reader.new.left)) }
     ensures refused { OnErr result (index_op code reader.old.left ≡ None) }
 {
     let index = reader.read_var_u32()?;
-    legal(index_op(code, index), offset)
+    index_op(code, index, offset, to)
 }
 
 /// Reads the indices of an operator of this code, which stands at the offset.
@@ -109,14 +104,15 @@ fn read_two_indices<'l>(
     reader: &mut BinaryReader<'_>,
     code: u32,
     offset: u64,
-) -> Result<Op<'l>, ReadError>
-    ensures read { IfOk result (λ op. two_index_op code reader.old.left
-        ≡ Some (unplaced op, reader.new.left)) }
+    to: &mut Op<'l>,
+) -> Result<(), ReadError>
+    ensures read { OnOk result (two_index_op code reader.old.left
+        ≡ Some (unplaced to.new, reader.new.left)) }
     ensures refused { OnErr result (two_index_op code reader.old.left ≡ None) }
 {
     let first = reader.read_var_u32()?;
     let second = reader.read_var_u32()?;
-    legal(two_index_op(code, first, second), offset)
+    put(two_index_op(code, first, second), offset, to)
 }
 
 /// Reads the index of the type of an operator of this code, which stands at the offset.
@@ -126,13 +122,14 @@ fn read_type_index<'l>(
     canonical: CanonicalTypes<'_>,
     code: u32,
     offset: u64,
-) -> Result<Op<'l>, ReadError>
-    ensures read { IfOk result (λ op. type_op code canonical.entry reader.old.left
-        ≡ Some (unplaced op, reader.new.left)) }
+    to: &mut Op<'l>,
+) -> Result<(), ReadError>
+    ensures read { OnOk result (type_op code canonical.entry reader.old.left
+        ≡ Some (unplaced to.new, reader.new.left)) }
     ensures refused { OnErr result (type_op code canonical.entry reader.old.left ≡ None) }
 {
     let ty = canonical.of(reader.read_var_u32()?);
-    legal(type_op(code, ty), offset)
+    put(type_op(code, ty), offset, to)
 }
 
 /// Reads the index of the type of an operator of this code, which stands at the offset, and another index.
@@ -142,14 +139,15 @@ fn read_typed_index<'l>(
     canonical: CanonicalTypes<'_>,
     code: u32,
     offset: u64,
-) -> Result<Op<'l>, ReadError>
-    ensures read { IfOk result (λ op. typed_index_op code canonical.entry reader.old.left
-        ≡ Some (unplaced op, reader.new.left)) }
+    to: &mut Op<'l>,
+) -> Result<(), ReadError>
+    ensures read { OnOk result (typed_index_op code canonical.entry reader.old.left
+        ≡ Some (unplaced to.new, reader.new.left)) }
     ensures refused { OnErr result (typed_index_op code canonical.entry reader.old.left ≡ None) }
 {
     let ty = canonical.of(reader.read_var_u32()?);
     let index = reader.read_var_u32()?;
-    legal(typed_index_op(code, ty, index), offset)
+    put(typed_index_op(code, ty, index), offset, to)
 }
 
 /// Reads the indices of the types of an operator of this code, which stands at the offset.
@@ -159,14 +157,15 @@ fn read_two_types<'l>(
     canonical: CanonicalTypes<'_>,
     code: u32,
     offset: u64,
-) -> Result<Op<'l>, ReadError>
-    ensures read { IfOk result (λ op. two_type_op code canonical.entry reader.old.left
-        ≡ Some (unplaced op, reader.new.left)) }
+    to: &mut Op<'l>,
+) -> Result<(), ReadError>
+    ensures read { OnOk result (two_type_op code canonical.entry reader.old.left
+        ≡ Some (unplaced to.new, reader.new.left)) }
     ensures refused { OnErr result (two_type_op code canonical.entry reader.old.left ≡ None) }
 {
     let first = canonical.of(reader.read_var_u32()?);
     let second = canonical.of(reader.read_var_u32()?);
-    legal(two_type_op(code, first, second), offset)
+    put(two_type_op(code, first, second), offset, to)
 }
 
 /// Reads the heap type of an operator of this code, which stands at the offset.
@@ -176,13 +175,14 @@ fn read_heap<'l>(
     canonical: CanonicalTypes<'_>,
     code: u32,
     offset: u64,
-) -> Result<Op<'l>, ReadError>
-    ensures read { IfOk result (λ op. heap_op code canonical.entry reader.old.left
-        ≡ Some (unplaced op, reader.new.left)) }
+    to: &mut Op<'l>,
+) -> Result<(), ReadError>
+    ensures read { OnOk result (heap_op code canonical.entry reader.old.left
+        ≡ Some (unplaced to.new, reader.new.left)) }
     ensures refused { OnErr result (heap_op code canonical.entry reader.old.left ≡ None) }
 {
     let ty = read_heap_type(reader, canonical)?;
-    legal(heap_op(code, ty), offset)
+    put(heap_op(code, ty), offset, to)
 }
 
 /// Reads the cast of an operator of this code, which stands at the offset.
@@ -192,13 +192,14 @@ fn read_branch_cast<'l>(
     canonical: CanonicalTypes<'_>,
     code: u32,
     offset: u64,
-) -> Result<Op<'l>, ReadError>
-    ensures read { IfOk result (λ op. cast_op code canonical.entry reader.old.left
-        ≡ Some (unplaced op, reader.new.left)) }
+    to: &mut Op<'l>,
+) -> Result<(), ReadError>
+    ensures read { OnOk result (cast_op code canonical.entry reader.old.left
+        ≡ Some (unplaced to.new, reader.new.left)) }
     ensures refused { OnErr result (cast_op code canonical.entry reader.old.left ≡ None) }
 {
     let cast = read_cast(reader, canonical)?;
-    legal(cast_op(code, cast), offset)
+    put(cast_op(code, cast), offset, to)
 }
 
 /// Reads the type of the block of an operator of this code, which stands at the offset.
@@ -208,13 +209,14 @@ fn read_block<'l>(
     canonical: CanonicalTypes<'_>,
     code: u32,
     offset: u64,
-) -> Result<Op<'l>, ReadError>
-    ensures read { IfOk result (λ op. block_op code canonical.entry reader.old.left
-        ≡ Some (unplaced op, reader.new.left)) }
+    to: &mut Op<'l>,
+) -> Result<(), ReadError>
+    ensures read { OnOk result (block_op code canonical.entry reader.old.left
+        ≡ Some (unplaced to.new, reader.new.left)) }
     ensures refused { OnErr result (block_op code canonical.entry reader.old.left ≡ None) }
 {
     let ty = read_block_type(reader, canonical)?;
-    legal(block_op(code, ty), offset)
+    put(block_op(code, ty), offset, to)
 }
 
 /// Reads the place in a memory of an operator of this code, which stands at the offset.
@@ -223,12 +225,13 @@ fn read_access<'l>(
     reader: &mut BinaryReader<'_>,
     code: u32,
     offset: u64,
-) -> Result<Op<'l>, ReadError>
-    ensures read { IfOk result (λ op. access_op code reader.old.left ≡ Some (unplaced op, reader.new.left)) }
+    to: &mut Op<'l>,
+) -> Result<(), ReadError>
+    ensures read { OnOk result (access_op code reader.old.left ≡ Some (unplaced to.new, reader.new.left)) }
     ensures refused { OnErr result (access_op code reader.old.left ≡ None) }
 {
     let place = read_memarg(reader)?;
-    legal(access_op(code, place), offset)
+    put(access_op(code, place), offset, to)
 }
 
 /// Reads the place in a memory of an atomic operator of this code, which stands at the offset.
@@ -237,62 +240,69 @@ fn read_atomic<'l>(
     reader: &mut BinaryReader<'_>,
     code: u32,
     offset: u64,
-) -> Result<Op<'l>, ReadError>
-    ensures read { IfOk result (λ op. atomic_op code reader.old.left ≡ Some (unplaced op, reader.new.left)) }
+    to: &mut Op<'l>,
+) -> Result<(), ReadError>
+    ensures read { OnOk result (atomic_op code reader.old.left ≡ Some (unplaced to.new, reader.new.left)) }
     ensures refused { OnErr result (atomic_op code reader.old.left ≡ None) }
 {
     let place = read_memarg(reader)?;
-    legal(atomic_op(code.saturating_sub(0xfe10), place), offset)
+    put(atomic_op(code.saturating_sub(0xfe10), place), offset, to)
 }
 
 /// Reads the integer of an `i32.const`.
+#[inline(always)]
 #[tactic(auto, unfolding(crate::specs::Instructions::constant_i32))]
-fn read_i32<'l>(reader: &mut BinaryReader<'_>) -> Result<Op<'l>, ReadError>
-    ensures read { IfOk result (λ op. constant_i32 reader.old.left ≡ Some (unplaced op, reader.new.left)) }
+fn read_i32<'l>(reader: &mut BinaryReader<'_>, to: &mut Op<'l>) -> Result<(), ReadError>
+    ensures read { OnOk result (constant_i32 reader.old.left ≡ Some (unplaced to.new, reader.new.left)) }
     ensures refused { OnErr result (constant_i32 reader.old.left ≡ None) }
 {
     let value = reader.read_var_i32()?;
-    Ok(Op::Numeric(NumericOp::I32Const(value)))
+    *to = Op::Numeric(NumericOp::I32Const(value));
+    Ok(())
 }
 
 /// Reads the integer of an `i64.const`.
 #[tactic(auto, unfolding(crate::specs::Instructions::constant_i64))]
-fn read_i64<'l>(reader: &mut BinaryReader<'_>) -> Result<Op<'l>, ReadError>
-    ensures read { IfOk result (λ op. constant_i64 reader.old.left ≡ Some (unplaced op, reader.new.left)) }
+fn read_i64<'l>(reader: &mut BinaryReader<'_>, to: &mut Op<'l>) -> Result<(), ReadError>
+    ensures read { OnOk result (constant_i64 reader.old.left ≡ Some (unplaced to.new, reader.new.left)) }
     ensures refused { OnErr result (constant_i64 reader.old.left ≡ None) }
 {
     let value = reader.read_var_i64()?;
-    Ok(Op::Numeric(NumericOp::I64Const(value)))
+    *to = Op::Numeric(NumericOp::I64Const(value));
+    Ok(())
 }
 
 /// Reads the float of an `f32.const`.
 #[tactic(auto, unfolding(crate::specs::Instructions::constant_f32))]
-fn read_f32<'l>(reader: &mut BinaryReader<'_>) -> Result<Op<'l>, ReadError>
-    ensures read { IfOk result (λ op. constant_f32 reader.old.left ≡ Some (unplaced op, reader.new.left)) }
+fn read_f32<'l>(reader: &mut BinaryReader<'_>, to: &mut Op<'l>) -> Result<(), ReadError>
+    ensures read { OnOk result (constant_f32 reader.old.left ≡ Some (unplaced to.new, reader.new.left)) }
     ensures refused { OnErr result (constant_f32 reader.old.left ≡ None) }
 {
     let bits = reader.read_f32()?;
-    Ok(Op::Numeric(NumericOp::F32Const(Ieee32(bits))))
+    *to = Op::Numeric(NumericOp::F32Const(Ieee32(bits)));
+    Ok(())
 }
 
 /// Reads the float of an `f64.const`.
 #[tactic(auto, unfolding(crate::specs::Instructions::constant_f64))]
-fn read_f64<'l>(reader: &mut BinaryReader<'_>) -> Result<Op<'l>, ReadError>
-    ensures read { IfOk result (λ op. constant_f64 reader.old.left ≡ Some (unplaced op, reader.new.left)) }
+fn read_f64<'l>(reader: &mut BinaryReader<'_>, to: &mut Op<'l>) -> Result<(), ReadError>
+    ensures read { OnOk result (constant_f64 reader.old.left ≡ Some (unplaced to.new, reader.new.left)) }
     ensures refused { OnErr result (constant_f64 reader.old.left ≡ None) }
 {
     let bits = reader.read_f64()?;
-    Ok(Op::Numeric(NumericOp::F64Const(Ieee64(bits))))
+    *to = Op::Numeric(NumericOp::F64Const(Ieee64(bits)));
+    Ok(())
 }
 
 /// Reads the order of an `atomic.fence`.
 #[tactic(auto, unfolding(crate::specs::Instructions::fence_op))]
-fn read_fence<'l>(reader: &mut BinaryReader<'_>) -> Result<Op<'l>, ReadError>
-    ensures read { IfOk result (λ op. fence_op reader.old.left ≡ Some (unplaced op, reader.new.left)) }
+fn read_fence<'l>(reader: &mut BinaryReader<'_>, to: &mut Op<'l>) -> Result<(), ReadError>
+    ensures read { OnOk result (fence_op reader.old.left ≡ Some (unplaced to.new, reader.new.left)) }
     ensures refused { OnErr result (fence_op reader.old.left ≡ None) }
 {
     let ordering = read_ordering(reader)?;
-    Ok(Op::Atomic(AtomicOp::AtomicFence(ordering)))
+    *to = Op::Atomic(AtomicOp::AtomicFence(ordering));
+    Ok(())
 }
 
 /// Reads the order and the global of an operator of this code, which stands at the offset.
@@ -301,20 +311,22 @@ fn read_global<'l>(
     reader: &mut BinaryReader<'_>,
     code: u32,
     offset: u64,
-) -> Result<Op<'l>, ReadError>
-    ensures read { IfOk result (λ op. global_op code reader.old.left ≡ Some (unplaced op, reader.new.left)) }
+    to: &mut Op<'l>,
+) -> Result<(), ReadError>
+    ensures read { OnOk result (global_op code reader.old.left ≡ Some (unplaced to.new, reader.new.left)) }
     ensures refused { OnErr result (global_op code reader.old.left ≡ None) }
 {
     let ordering = read_ordering(reader)?;
     let global_index = reader.read_var_u32()?;
-    match global_access(code) {
-        Some(access) => Ok(Op::Shared(SharedOp::Global {
-            access,
-            ordering,
-            global_index,
-        })),
-        None => Err(illegal(offset)),
-    }
+    let Some(access) = global_access(code) else {
+        return Err(ReadError::illegal(offset));
+    };
+    *to = Op::Shared(SharedOp::Global {
+        access,
+        ordering,
+        global_index,
+    });
+    Ok(())
 }
 
 /// Reads the order and the table of an operator of this code, which stands at the offset.
@@ -323,20 +335,22 @@ fn read_table<'l>(
     reader: &mut BinaryReader<'_>,
     code: u32,
     offset: u64,
-) -> Result<Op<'l>, ReadError>
-    ensures read { IfOk result (λ op. table_op code reader.old.left ≡ Some (unplaced op, reader.new.left)) }
+    to: &mut Op<'l>,
+) -> Result<(), ReadError>
+    ensures read { OnOk result (table_op code reader.old.left ≡ Some (unplaced to.new, reader.new.left)) }
     ensures refused { OnErr result (table_op code reader.old.left ≡ None) }
 {
     let ordering = read_ordering(reader)?;
     let table_index = reader.read_var_u32()?;
-    match table_access(code) {
-        Some(access) => Ok(Op::Shared(SharedOp::Table {
-            access,
-            ordering,
-            table_index,
-        })),
-        None => Err(illegal(offset)),
-    }
+    let Some(access) = table_access(code) else {
+        return Err(ReadError::illegal(offset));
+    };
+    *to = Op::Shared(SharedOp::Table {
+        access,
+        ordering,
+        table_index,
+    });
+    Ok(())
 }
 
 /// Reads the order and the field of an operator of this code, which stands at the offset.
@@ -346,9 +360,10 @@ fn read_field<'l>(
     canonical: CanonicalTypes<'_>,
     code: u32,
     offset: u64,
-) -> Result<Op<'l>, ReadError>
-    ensures read { IfOk result (λ op. field_op code canonical.entry reader.old.left
-        ≡ Some (unplaced op, reader.new.left)) }
+    to: &mut Op<'l>,
+) -> Result<(), ReadError>
+    ensures read { OnOk result (field_op code canonical.entry reader.old.left
+        ≡ Some (unplaced to.new, reader.new.left)) }
     ensures refused { OnErr result (field_op code canonical.entry reader.old.left ≡ None) }
 {
     let ordering = read_ordering(reader)?;
@@ -358,14 +373,15 @@ fn read_field<'l>(
         struct_type_index,
         field_index,
     };
-    match field_access(0xfe5c, code) {
-        Some(access) => Ok(Op::Shared(SharedOp::Struct {
-            access,
-            ordering,
-            field,
-        })),
-        None => Err(illegal(offset)),
-    }
+    let Some(access) = field_access(0xfe5c, code) else {
+        return Err(ReadError::illegal(offset));
+    };
+    *to = Op::Shared(SharedOp::Struct {
+        access,
+        ordering,
+        field,
+    });
+    Ok(())
 }
 
 /// Reads the order and the array type of an operator of this code, which stands at the offset.
@@ -375,21 +391,23 @@ fn read_array<'l>(
     canonical: CanonicalTypes<'_>,
     code: u32,
     offset: u64,
-) -> Result<Op<'l>, ReadError>
-    ensures read { IfOk result (λ op. array_op code canonical.entry reader.old.left
-        ≡ Some (unplaced op, reader.new.left)) }
+    to: &mut Op<'l>,
+) -> Result<(), ReadError>
+    ensures read { OnOk result (array_op code canonical.entry reader.old.left
+        ≡ Some (unplaced to.new, reader.new.left)) }
     ensures refused { OnErr result (array_op code canonical.entry reader.old.left ≡ None) }
 {
     let ordering = read_ordering(reader)?;
     let type_index = canonical.of(reader.read_var_u32()?);
-    match field_access(0xfe67, code) {
-        Some(access) => Ok(Op::Shared(SharedOp::Array {
-            access,
-            ordering,
-            type_index,
-        })),
-        None => Err(illegal(offset)),
-    }
+    let Some(access) = field_access(0xfe67, code) else {
+        return Err(ReadError::illegal(offset));
+    };
+    *to = Op::Shared(SharedOp::Array {
+        access,
+        ordering,
+        type_index,
+    });
+    Ok(())
 }
 
 /// Reads the labels of a `br_table`, which it is lent.
@@ -398,27 +416,29 @@ fn read_branch_table<'l>(
     reader: &mut BinaryReader<'_>,
     canonical: CanonicalTypes<'_>,
     labels: &'l mut Vec<u32>,
-) -> Result<Op<'l>, ReadError>
-    ensures read { IfOk result (λ op. branch_table reader.old.left ≡ Some (unplaced op, reader.new.left)) }
+    to: &mut Op<'l>,
+) -> Result<(), ReadError>
+    ensures read { OnOk result (branch_table reader.old.left ≡ Some (unplaced to.new, reader.new.left)) }
     ensures refused { IfErr result (λ e. e.cause ≢ OutOfMemory → branch_table reader.old.left ≡ None) }
 {
     read_list(reader, canonical, labels)?;
     let default = reader.read_var_u32()?;
-    Ok(Op::Control(ControlOp::BrTable(BrTable {
+    *to = Op::Control(ControlOp::BrTable(BrTable {
         targets: labels.as_slice(),
         complete: true,
         default,
-    })))
+    }));
+    Ok(())
 }
 
 /// The `select` of these types.
 fn select<'l>(types: &'l [ValType]) -> Op<'l>
     ensures { unplaced result ≡ select_of types.now }
 {
-    match types {
-        [ty] => Op::Control(ControlOp::TypedSelect(*ty)),
-        _ => Op::Control(ControlOp::TypedSelectMulti(types)),
+    if let [ty] = types {
+        return Op::Control(ControlOp::TypedSelect(*ty));
     }
+    Op::Control(ControlOp::TypedSelectMulti(types))
 }
 
 /// Reads the types of a `select`, which it is lent.
@@ -427,14 +447,16 @@ fn read_select<'l>(
     reader: &mut BinaryReader<'_>,
     canonical: CanonicalTypes<'_>,
     types: &'l mut Vec<ValType>,
-) -> Result<Op<'l>, ReadError>
-    ensures read { IfOk result (λ op. select_op canonical.entry reader.old.left
-        ≡ Some (unplaced op, reader.new.left)) }
+    to: &mut Op<'l>,
+) -> Result<(), ReadError>
+    ensures read { OnOk result (select_op canonical.entry reader.old.left
+        ≡ Some (unplaced to.new, reader.new.left)) }
     ensures refused { IfErr result (λ e. e.cause ≢ OutOfMemory
         → select_op canonical.entry reader.old.left ≡ None) }
 {
     read_list(reader, canonical, types)?;
-    Ok(select(types.as_slice()))
+    *to = select(types.as_slice());
+    Ok(())
 }
 
 /// Reads the type of a `try_table` and its clauses, which it is lent.
@@ -443,18 +465,20 @@ fn read_try_table<'l>(
     reader: &mut BinaryReader<'_>,
     canonical: CanonicalTypes<'_>,
     catches: &'l mut Vec<Catch>,
-) -> Result<Op<'l>, ReadError>
-    ensures read { IfOk result (λ op. try_table_op canonical.entry reader.old.left
-        ≡ Some (unplaced op, reader.new.left)) }
+    to: &mut Op<'l>,
+) -> Result<(), ReadError>
+    ensures read { OnOk result (try_table_op canonical.entry reader.old.left
+        ≡ Some (unplaced to.new, reader.new.left)) }
     ensures refused { IfErr result (λ e. e.cause ≢ OutOfMemory
         → try_table_op canonical.entry reader.old.left ≡ None) }
 {
     let ty = read_block_type(reader, canonical)?;
     read_list(reader, canonical, catches)?;
-    Ok(Op::Exception(ExceptionOp::TryTable(TryTable {
+    *to = Op::Exception(ExceptionOp::TryTable(TryTable {
         ty,
         catches: catches.as_slice(),
-    })))
+    }));
+    Ok(())
 }
 
 /// The operator of this code that resumes a continuation of this type with these handlers, and throws nothing
@@ -488,15 +512,16 @@ fn read_resume<'l>(
     handlers: &'l mut Vec<Handle>,
     code: u32,
     offset: u64,
-) -> Result<Op<'l>, ReadError>
-    ensures read { IfOk result (λ op. resume_op code canonical.entry reader.old.left
-        ≡ Some (unplaced op, reader.new.left)) }
+    to: &mut Op<'l>,
+) -> Result<(), ReadError>
+    ensures read { OnOk result (resume_op code canonical.entry reader.old.left
+        ≡ Some (unplaced to.new, reader.new.left)) }
     ensures refused { IfErr result (λ e. e.cause ≢ OutOfMemory
         → resume_op code canonical.entry reader.old.left ≡ None) }
 {
     let ty = canonical.of(reader.read_var_u32()?);
     read_list(reader, canonical, handlers)?;
-    legal(resume(code, ty, handlers.as_slice()), offset)
+    put(resume(code, ty, handlers.as_slice()), offset, to)
 }
 
 /// Reads the type of a `resume_throw`, the tag of what it throws, and its handlers, which it is lent.
@@ -505,26 +530,29 @@ fn read_resume_throw<'l>(
     reader: &mut BinaryReader<'_>,
     canonical: CanonicalTypes<'_>,
     handlers: &'l mut Vec<Handle>,
-) -> Result<Op<'l>, ReadError>
-    ensures read { IfOk result (λ op. resume_throw_op canonical.entry reader.old.left
-        ≡ Some (unplaced op, reader.new.left)) }
+    to: &mut Op<'l>,
+) -> Result<(), ReadError>
+    ensures read { OnOk result (resume_throw_op canonical.entry reader.old.left
+        ≡ Some (unplaced to.new, reader.new.left)) }
     ensures refused { IfErr result (λ e. e.cause ≢ OutOfMemory
         → resume_throw_op canonical.entry reader.old.left ≡ None) }
 {
     let cont_type_index = canonical.of(reader.read_var_u32()?);
     let tag_index = reader.read_var_u32()?;
     read_list(reader, canonical, handlers)?;
-    Ok(Op::Continuation(ContinuationOp::ResumeThrow {
+    *to = Op::Continuation(ContinuationOp::ResumeThrow {
         cont_type_index,
         tag_index,
         resume_table: ResumeTable {
             handlers: handlers.as_slice(),
         },
-    }))
+    });
+    Ok(())
 }
 
 /// Reads the immediates of an operator of this code, which stands at the offset, by their form. Its list, if
 /// it has one, is lent.
+#[inline(never)]
 fn read_by<'l>(
     reader: &mut BinaryReader<'_>,
     canonical: CanonicalTypes<'_>,
@@ -532,46 +560,48 @@ fn read_by<'l>(
     form: Form,
     code: u32,
     offset: u64,
-) -> Result<Op<'l>, ReadError>
-    ensures read { IfOk result (λ op. operator_by form code canonical.entry reader.old.left
-        ≡ Some (unplaced op, reader.new.left)) }
+    to: &mut Op<'l>,
+) -> Result<(), ReadError>
+    ensures read { OnOk result (operator_by form code canonical.entry reader.old.left
+        ≡ Some (unplaced to.new, reader.new.left)) }
     ensures refused { IfErr result (λ e. e.cause ≢ OutOfMemory
         → operator_by form code canonical.entry reader.old.left ≡ None) }
 {
     match form {
-        Form::Plain => plain(code, offset),
-        Form::Block => read_block(reader, canonical, code, offset),
-        Form::Index => read_index(reader, code, offset),
-        Form::TwoIndices => read_two_indices(reader, code, offset),
-        Form::TypeIndex => read_type_index(reader, canonical, code, offset),
-        Form::TypedIndex => read_typed_index(reader, canonical, code, offset),
-        Form::TwoTypes => read_two_types(reader, canonical, code, offset),
-        Form::Heap => read_heap(reader, canonical, code, offset),
-        Form::Cast => read_branch_cast(reader, canonical, code, offset),
-        Form::Access => read_access(reader, code, offset),
-        Form::Atomic => read_atomic(reader, code, offset),
-        Form::I32 => read_i32(reader),
-        Form::I64 => read_i64(reader),
-        Form::F32 => read_f32(reader),
-        Form::F64 => read_f64(reader),
-        Form::Numeric => numeric(code, offset),
-        Form::Conversion => conversion(code, offset),
-        Form::Labels => read_branch_table(reader, canonical, &mut lists.labels),
-        Form::Types => read_select(reader, canonical, &mut lists.types),
-        Form::Clauses => read_try_table(reader, canonical, &mut lists.catches),
-        Form::Handlers => read_resume(reader, canonical, &mut lists.handlers, code, offset),
-        Form::Thrown => read_resume_throw(reader, canonical, &mut lists.handlers),
-        Form::Fence => read_fence(reader),
-        Form::Global => read_global(reader, code, offset),
-        Form::Table => read_table(reader, code, offset),
-        Form::Field => read_field(reader, canonical, code, offset),
-        Form::Array => read_array(reader, canonical, code, offset),
+        Form::Plain => plain_op(code, offset, to),
+        Form::Block => read_block(reader, canonical, code, offset, to),
+        Form::Index => read_index(reader, code, offset, to),
+        Form::TwoIndices => read_two_indices(reader, code, offset, to),
+        Form::TypeIndex => read_type_index(reader, canonical, code, offset, to),
+        Form::TypedIndex => read_typed_index(reader, canonical, code, offset, to),
+        Form::TwoTypes => read_two_types(reader, canonical, code, offset, to),
+        Form::Heap => read_heap(reader, canonical, code, offset, to),
+        Form::Cast => read_branch_cast(reader, canonical, code, offset, to),
+        Form::Access => read_access(reader, code, offset, to),
+        Form::Atomic => read_atomic(reader, code, offset, to),
+        Form::I32 => read_i32(reader, to),
+        Form::I64 => read_i64(reader, to),
+        Form::F32 => read_f32(reader, to),
+        Form::F64 => read_f64(reader, to),
+        Form::Numeric => numeric(code, offset, to),
+        Form::Conversion => conversion(code, offset, to),
+        Form::Labels => read_branch_table(reader, canonical, &mut lists.labels, to),
+        Form::Types => read_select(reader, canonical, &mut lists.types, to),
+        Form::Clauses => read_try_table(reader, canonical, &mut lists.catches, to),
+        Form::Handlers => read_resume(reader, canonical, &mut lists.handlers, code, offset, to),
+        Form::Thrown => read_resume_throw(reader, canonical, &mut lists.handlers, to),
+        Form::Fence => read_fence(reader, to),
+        Form::Global => read_global(reader, code, offset, to),
+        Form::Table => read_table(reader, code, offset, to),
+        Form::Field => read_field(reader, canonical, code, offset, to),
+        Form::Array => read_array(reader, canonical, code, offset, to),
         Form::Vector => Err(ReadError::vector_operator(offset)),
-        Form::Illegal | Form::Prefix => Err(illegal(offset)),
+        Form::Illegal | Form::Prefix => Err(ReadError::illegal(offset)),
     }
 }
 
 /// Reads the operator behind a prefix, which stands at the offset.
+#[inline(never)]
 #[tactic(auto, unfolding(crate::specs::Instructions::prefixed_op))]
 fn read_prefixed<'l>(
     reader: &mut BinaryReader<'_>,
@@ -579,26 +609,75 @@ fn read_prefixed<'l>(
     lists: &'l mut OperatorLists,
     prefix: u8,
     offset: u64,
-) -> Result<Op<'l>, ReadError>
-    ensures read { IfOk result (λ op. prefixed_op prefix canonical.entry reader.old.left
-        ≡ Some (unplaced op, reader.new.left)) }
+    to: &mut Op<'l>,
+) -> Result<(), ReadError>
+    ensures read { OnOk result (prefixed_op prefix canonical.entry reader.old.left
+        ≡ Some (unplaced to.new, reader.new.left)) }
     ensures refused { IfErr result (λ e. e.cause ≢ OutOfMemory
         → prefixed_op prefix canonical.entry reader.old.left ≡ None) }
 {
     let code = reader.read_var_u32()?;
     let Some(form) = form_behind(prefix, code) else {
-        return Err(illegal(offset));
+        return Err(ReadError::illegal(offset));
     };
     let whole = u32::from(prefix) * 0x100 + code;
-    read_by(reader, canonical, lists, form, whole, offset)
+    read_by(reader, canonical, lists, form, whole, offset, to)
+}
+
+/// Reads an operator of this code, which stands at the offset, by its form, if there is such an operator.
+#[inline(never)]
+fn read_rare<'l>(
+    reader: &mut BinaryReader<'_>,
+    canonical: &CanonicalTypes<'_>,
+    lists: &'l mut OperatorLists,
+    form: Option<Form>,
+    code: u8,
+    offset: u64,
+    to: &mut Op<'l>,
+) -> Result<(), ReadError>
+    ensures read { OnOk result (operator_of form code canonical.now reader.old.left
+        ≡ Some (unplaced to.new, reader.new.left)) }
+    ensures refused { IfErr result (λ e. e.cause ≢ OutOfMemory
+        → operator_of form code canonical.now reader.old.left ≡ None) }
+{
+    match form {
+        Some(Form::Prefix) => read_prefixed(reader, *canonical, lists, code, offset, to),
+        Some(form) => read_by(reader, *canonical, lists, form, u32::from(code), offset, to),
+        None => Err(ReadError::illegal(offset)),
+    }
+}
+
+/// Reads one operator, as [`read_operator`] does, into this place: an operator is large, and isn't copied so. Where it
+/// refuses, what stands there says nothing.
+#[inline(always)]
+#[tactic(auto, unfolding(crate::specs::Instructions::operator))]
+pub fn read_operator_into<'l>(
+    reader: &mut BinaryReader<'_>,
+    canonical: &CanonicalTypes<'_>,
+    lists: &'l mut OperatorLists,
+    to: &mut Op<'l>,
+) -> Result<(), ReadError>
+    ensures read { OnOk result (operator canonical.now reader.old.left
+        ≡ Some (unplaced to.new, reader.new.left)) }
+    ensures refused { IfErr result (λ e. e.cause ≢ OutOfMemory
+        → operator canonical.now reader.old.left ≡ None) }
+{
+    let offset = reader.offset();
+    let code = reader.read_u8()?;
+    match form_of(code) {
+        // Most operators have one of these forms: they are read in line.
+        Some(Form::Index) => read_index(reader, u32::from(code), offset, to),
+        Some(Form::Numeric) => numeric(u32::from(code), offset, to),
+        Some(Form::Plain) => plain_op(u32::from(code), offset, to),
+        Some(Form::I32) => read_i32(reader, to),
+        form => read_rare(reader, canonical, lists, form, code, offset, to),
+    }
 }
 
 /// Reads one operator, which is lent its list out of the buffers. It refuses `illegal opcode` for a code that
 /// no operator has, a vector operator as such, what the reads of the immediates refuse, and want of memory
 /// for the list. But for want of memory the bytes that it refuses begin with no operator (of `specs/`, which has no
 /// vector operators).
-#[inline(always)]
-#[tactic(auto, unfolding(crate::specs::Instructions::operator))]
 pub fn read_operator<'l>(
     reader: &mut BinaryReader<'_>,
     canonical: CanonicalTypes<'_>,
@@ -609,11 +688,7 @@ pub fn read_operator<'l>(
     ensures refused { IfErr result (λ e. e.cause ≢ OutOfMemory
         → operator canonical.entry reader.old.left ≡ None) }
 {
-    let offset = reader.offset();
-    let code = reader.read_u8()?;
-    match form_of(code) {
-        Some(Form::Prefix) => read_prefixed(reader, canonical, lists, code, offset),
-        Some(form) => read_by(reader, canonical, lists, form, u32::from(code), offset),
-        None => Err(illegal(offset)),
-    }
+    let mut op = Op::Numeric(NumericOp::I32Const(0));
+    read_operator_into(reader, &canonical, lists, &mut op)?;
+    Ok(op)
 }

@@ -97,7 +97,7 @@ impl<'a> BinaryReader<'a> {
     pub fn is_at_end(&self) -> bool
         ensures { IsTrue result ↔ (self.now.left ≡ []) }
     {
-        self.bytes_left() == 0
+        self.place >= self.bytes.len()
     }
 
     /// The next byte, which isn't read yet. It refuses where none is left: `unexpected end`.
@@ -157,6 +157,7 @@ impl<'a> BinaryReader<'a> {
         ensures read { IfOk result (λ is_code. IsTrue is_code → self.old.left ≡ code ∷ self.new.left) }
         ensures passed { IfOk result (λ is_code. is_code ≡ false → self.new ≡ self.old) }
         ensures other { IfOk result (λ is_code. is_code ≡ false → take 1 self.old.left ≢ code ∷ []) }
+        ensures there { OnOk result (self.old.left ≢ []) }
         ensures ended { OnErr result (self.old.left ≡ []) }
         ensures kept { OnErr result (self.new ≡ self.old) }
     {
@@ -229,6 +230,7 @@ impl<'a> BinaryReader<'a> {
     }
 
     /// Reads an integer of 32 bits (s32), as [`BinaryReader::read_var_u32`].
+    #[inline(always)]
     pub fn read_var_i32(&mut self) -> Result<i32, ReadError>
         ensures read { IfOk result (λ value. signed 32 self.old.left ≡ Some (value, self.new.left)) }
         ensures refused { OnErr result (signed 32 self.old.left ≡ None) }
@@ -260,8 +262,39 @@ impl<'a> BinaryReader<'a> {
         Ok((i128::from(value) - 0x8000_0000_0000_0000) as i64)
     }
 
+    /// Reads the next byte if it ends a number, as the first byte of most numbers does.
+    #[inline(always)]
+    fn read_last(&mut self) -> Option<u8>
+        ensures read { IfSome result (λ byte. self.old.left ≡ byte ∷ self.new.left) }
+        ensures last { IfSome result (λ byte. byte < 0x80) }
+        ensures kept { result ≡ None → self.new ≡ self.old }
+    {
+        let place = self.place;
+        if place < self.bytes.len() && self.bytes[place] < 0x80 {
+            self.place = place + 1;
+            return Some(self.bytes[place]);
+        }
+        None
+    }
+
     /// Reads a number of so many bits.
+    #[inline(always)]
     fn read_unsigned(&mut self, bits: u32) -> Result<u64, ReadError>
+        requires within { bits ≤ 64 }
+        ensures below { IfOk result (λ value. value < 2 ^ bits) }
+        ensures read { IfOk result (λ value. unsigned bits self.old.left ≡ Some (value, self.new.left)) }
+        ensures refused { OnErr result (unsigned bits self.old.left ≡ None) }
+    {
+        let offset = self.offset();
+        match self.read_last() {
+            Some(byte) if has_bits(byte, bits) => Ok(u64::from(byte)),
+            Some(_) => Err(ReadError::malformed(Fault::IntegerTooLarge, offset)),
+            None => self.read_long_unsigned(bits),
+        }
+    }
+
+    /// Reads a number of so many bits, of any number of bytes.
+    fn read_long_unsigned(&mut self, bits: u32) -> Result<u64, ReadError>
         requires within { bits ≤ 64 }
         ensures below { IfOk result (λ value. value < 2 ^ bits) }
         ensures read { IfOk result (λ value. unsigned bits self.old.left ≡ Some (value, self.new.left)) }
@@ -278,13 +311,33 @@ impl<'a> BinaryReader<'a> {
         if bits <= 7 {
             return Err(ReadError::malformed(Fault::IntegerTooLong, offset));
         }
-        let rest = self.read_unsigned(bits - 7)?;
+        let rest = self.read_long_unsigned(bits - 7)?;
         Ok(widened(rest, byte - 0x80, bits))
     }
 
     /// Reads an integer of so many bits, and answers it with half of 2 to their power added, which is no
     /// negative number.
+    #[inline(always)]
     fn read_biased(&mut self, bits: u32) -> Result<u64, ReadError>
+        requires some { 0 < bits }
+        requires within { bits ≤ 64 }
+        ensures below { IfOk result (λ value. value < 2 ^ bits) }
+        ensures read { IfOk result (λ value. biased bits self.old.left ≡ Some (value, self.new.left)) }
+        ensures refused { OnErr result (biased bits self.old.left ≡ None) }
+    {
+        let offset = self.offset();
+        let Some(byte) = self.read_last() else {
+            return self.read_long_biased(bits);
+        };
+        match last_biased(byte, bits) {
+            Some(value) => Ok(value),
+            None => Err(ReadError::malformed(Fault::IntegerTooLarge, offset)),
+        }
+    }
+
+    /// Reads an integer of so many bits, of any number of bytes, and answers it with half of 2 to their power
+    /// added.
+    fn read_long_biased(&mut self, bits: u32) -> Result<u64, ReadError>
         requires some { 0 < bits }
         requires within { bits ≤ 64 }
         ensures below { IfOk result (λ value. value < 2 ^ bits) }
@@ -302,7 +355,7 @@ impl<'a> BinaryReader<'a> {
         if bits <= 7 {
             return Err(ReadError::malformed(Fault::IntegerTooLong, offset));
         }
-        let rest = self.read_biased(bits - 7)?;
+        let rest = self.read_long_biased(bits - 7)?;
         Ok(widened(rest, byte - 0x80, bits))
     }
 

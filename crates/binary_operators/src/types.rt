@@ -45,7 +45,9 @@ impl<'a> CanonicalTypes<'a> {
     }
 
     /// The same, while the group behind these types is read.
-    pub fn in_group(canonical: &'a [u32], group: GroupNames) -> CanonicalTypes<'a> {
+    pub fn in_group(canonical: &'a [u32], group: GroupNames) -> CanonicalTypes<'a>
+        ensures { result ≡ record { canonical = canonical.entry; group = group } }
+    {
         CanonicalTypes { canonical, group }
     }
 
@@ -218,16 +220,4 @@ pub fn read_value_type(
         return Ok(NUMBERS[(code - 0x7b) as usize]);
     }
     Ok(ValType::Ref(read_ref_type(reader, canonical)?))
-}
-
-/// Reads a list of value types, behind those that are there.
-pub fn read_value_types(
-    reader: &mut BinaryReader<'_>,
-    canonical: CanonicalTypes<'_>,
-    types: &mut Vec<ValType>,
-) -> Result<(), ReadError> {
-    for _ in 0..reader.read_var_u32()? {
-        types.push(read_value_type(reader, canonical)?)?;
-    }
-    Ok(())
 }

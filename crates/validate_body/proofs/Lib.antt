@@ -1,4 +1,5 @@
 pub mod Locals
 pub mod Params
 pub mod Listed
+pub mod Accepted
 pub mod Attempted

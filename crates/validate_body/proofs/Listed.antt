@@ -234,7 +234,7 @@ may_visit_next md v ops i u h n k valid o = record {
 
 -- ---- the end of the list
 
-no_frames : (fs : List Frame) → length fs ≡ 0 → fs ≡ []
+pub no_frames : (fs : List Frame) → length fs ≡ 0 → fs ≡ []
 no_frames [] h = refl
 no_frames (f ∷ fs) h = absurd (omega (arith, h))
 

@@ -11,7 +11,7 @@ use Rattle.validate_body.specs.Begin.{DefinesEach, HasLocals, CannotBegin, witho
 use Rattle.validate_visit.specs.declared.body.BodyKind.{BodyKind}
 use Rattle.validate_visit.specs.declared.body.LocalGroup.{LocalGroup}
 
-one_group_more : (md : ModuleContext) (ls : List (ℕ × ValType)) (l : ℕ × ValType) (v u w : BodyState) → DefinesEach md ls v u → DefinesLocals md l.0 l.1 u w → DefinesEach md (ls ++ l ∷ []) v w
+pub one_group_more : (md : ModuleContext) (ls : List (ℕ × ValType)) (l : ℕ × ValType) (v u w : BodyState) → DefinesEach md ls v u → DefinesLocals md l.0 l.1 u w → DefinesEach md (ls ++ l ∷ []) v w
 one_group_more md [] l v u w e d = (w, subst (λ x. DefinesLocals md l.0 l.1 x w) (sym e) d, refl)
 one_group_more md (k ∷ ks) l v u w e d = (e.0, e.1, one_group_more md ks l e.0 u w e.2 d)
 

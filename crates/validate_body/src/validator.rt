@@ -137,10 +137,28 @@ impl OperatorValidator {
         ensures valid { IsValidBody (R.context resources.now) (state self.new) }
         ensures kept { IsKept (state self.old) (state self.new) }
     {
-        if self.passes_at_once(resources, &op) {
+        self.check_ref(resources, offset, &op)
+    }
+
+    /// [`OperatorValidator::check`] of an operator that isn't copied.
+    #[inline(always)]
+    pub fn check_ref<R: WasmModuleResources>(
+        &mut self,
+        resources: &R,
+        offset: u64,
+        op: &Op,
+    ) -> Result<(), Error>
+        requires { MayVisit (R.context resources.now) (stacks_of self.old) }
+        ensures row { Meets (R.context resources.now) (λ cx. operator cx op.now) offset
+            (state self.old) result (state self.new) }
+        ensures memory { TakesNoMemory (R.context resources.now) op.now (state self.old) result }
+        ensures valid { IsValidBody (R.context resources.now) (state self.new) }
+        ensures kept { IsKept (state self.old) (state self.new) }
+    {
+        if self.passes_at_once(resources, op) {
             return Ok(());
         }
-        self.check_in_place(resources, offset, &op)
+        self.check_in_place(resources, offset, op)
     }
 
     /// [`OperatorValidator::check`] of an operator that lies in a list and doesn't pass at once.

@@ -1,28 +1,16 @@
--- One more accepted operator of a function validator, and the whole body.
-use Rattle.std.proofs.Common.{◌≡◌, ℕ, Bool, false, List, [], ◌∷◌, ◌++◌, length, Option, Some, sym, ap, ◌∙◌, subst}
-use Rattle.std.specs.Option.{option_and_then}
-use Rattle.std.proofs.lemmas.List.{length-map}
+-- One more accepted operator of a function validator.
+use Rattle.std.proofs.Common.{◌≡◌, ℕ, Bool, false, List, [], ◌∷◌, ◌++◌, length, Some, sym, ap, ◌∙◌, subst}
 use Rattle.validate_resources.specs.Context.{ModuleContext}
 use Rattle.validate_visit.specs.declared.frame.Frame.{Frame as FlatFrame}
 use Rattle.validate_visit.specs.declared.op.Op.{Op}
-use Rattle.validation_rules.specs.Context.{Context}
-use Rattle.validation_rules.specs.Operators.{operator, operators}
-use Rattle.validation_rules.specs.Static.{Frame, State, step, state_before, start}
-use Rattle.validation_rules.proofs.Steps.{and_then_given}
+use Rattle.validation_rules.specs.Operators.{operator}
+use Rattle.validation_rules.specs.Static.{step, start}
 use Rattle.validate_stacks.specs.Pops.{IsKept}
 use Rattle.validate_stacks.specs.State.{BodyState, body_context, IsStarting, IsValidBody}
 use Rattle.validate_stacks.specs.Steps.{frame_at}
-use Rattle.validate_body.specs.Runs.{without_offsets, body_operators, body_before, IsAcceptedBody}
+use Rattle.validate_body.specs.Runs.{body_before}
+use Rattle.validate_body.proofs.Accepted.{run_more}
 use Rattle.validate_func.specs.Functions.{state_from, function_state, Accepts, IsSound}
-
--- the static run over one more operator
-pub run_more : (cx : Context) (ops : List (Op × ℕ)) (p : Op × ℕ) (s u w : State) → state_before cx (operators cx (without_offsets ops)) s (length ops) ≡ Some u → step cx (operator cx p.0) u ≡ Some w → state_before cx (operators cx (without_offsets (ops ++ p ∷ []))) s (length (ops ++ p ∷ [])) ≡ Some w
-run_more cx [] p s u w h e =
-    let same : s ≡ u = cc in
-    ap (λ (o : Option State). option_and_then (λ (t : State). Some t) o) (ap (step cx (operator cx p.0)) same ∙ e)
-run_more cx (q ∷ ops) p s u w h e =
-    let m = and_then_given (step cx (operator cx q.0) s) (λ (v : State). state_before cx (operators cx (without_offsets ops)) v (length ops)) u h in
-    ap (λ (o : Option State). option_and_then (λ (v : State). state_before cx (operators cx (without_offsets (ops ++ p ∷ []))) v (length (ops ++ p ∷ []))) o) m.1 ∙ run_more cx ops p m.0 u w m.2 e
 
 module _ (md : ModuleContext) (first : FlatFrame) (v w : BodyState) (accepted items : List (Op × ℕ)) (p : Op × ℕ) (b c : Bool) (kept : IsKept v w) (listed : items ≡ accepted ++ p ∷ []) (row : step (body_context md v) (operator (body_context md v) p.0) v.present ≡ Some w.present) (is : c ≡ false) where
   -- an operator doesn't change where the body started
@@ -50,13 +38,3 @@ module _ (md : ModuleContext) (first : FlatFrame) (v w : BodyState) (accepted it
         ∙ (ap (λ (l : List (Op × ℕ)). record { resources = r; starting = state_from first v; accepted = l; present = w.present; failed = c }) listed
         ∙ ap (λ (x : Bool). record { resources = r; starting = state_from first v; accepted = accepted ++ p ∷ []; present = w.present; failed = x }) (is ∙ sym was));
   }
-
--- ---- the whole body
-
-pub accepted_whole : (md : ModuleContext) (s : BodyState) (ops : List (Op × ℕ)) (t : State) → body_before md s ops (length ops) ≡ Some t → t.frames ≡ [] → IsAcceptedBody md s ops
-accepted_whole md s ops t run none =
-    let cx = body_context md s in (
-      t.left,
-      ap (state_before cx (body_operators md s ops) s.present) (length-map (without_offsets ops) (operator cx) ∙ length-map ops (λ (p : Op × ℕ). p.0))
-          ∙ (run ∙ ap (λ (fs : List Frame). Some (record { frames = fs; left = t.left })) none),
-    )

@@ -1,8 +1,7 @@
-use Rattle.std.proofs.Common.{◌≡◌, Ok, OnErr, sym, subst, ap, ◌∙◌}
+use Rattle.std.proofs.Common.{◌≡◌, OnErr, sym, subst, ap, ◌∙◌}
 use Rattle.validation_rules.specs.Operators.{operator}
-use Rattle.validate_stacks.specs.Attempts.{Stacked, body_of}
+use Rattle.validate_stacks.specs.Attempts.{Stacked}
 use Rattle.validate_stacks.specs.Visits.{MayVisit, Meets}
-use Rattle.validate_stacks.specs.State.{BodyState}
 use Rattle.validate_stacks.proofs.AtOnce.{done_at_once, same_at_once}
 use Rattle.validate_body.specs.Start.{state, stacks_of}
 use Rattle.validate_body.proofs.Listed.{visit_valid, visit_kept}

@@ -3,7 +3,7 @@ use Rattle.validate_body.specs.Runs.{IsAcceptedBody}
 use Rattle.validate_body.specs.Start.{state}
 use Rattle.validate_body.proofs.Listed.{safe_accepted}
 use Rattle.validate_func.specs.Functions.{FunctionState, state_from}
-use Rattle.validate_func.proofs.Accepted.{accepted_whole}
+use Rattle.validate_body.proofs.Accepted.{accepted_whole}
 use Rattle.validate_func.proofs.function.FuncValidator.finish.Goals as goal
 
 pub returns-clause-rows : goal.returns-clause-rows

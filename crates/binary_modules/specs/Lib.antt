@@ -1,1 +1,15 @@
-pub mod Imported
+pub mod ContentsRead
+pub mod Groups
+pub mod Imports
+pub mod Initializers
+pub mod Items
+pub mod Kept
+pub mod Limits
+pub mod Modules
+pub mod OwnRead
+pub mod Parts
+pub mod Read
+pub mod SectionList
+pub mod Sections
+pub mod Segments
+pub mod SubTypes

@@ -4,10 +4,16 @@
 //! here, that of the first of them: whatever names a type is read through a list that says which stands for
 //! it. Each group is read twice: first rolled up, to be compared, and then as it is declared.
 
-ghost use Rattle.std.specs.Prelude.{◌≡◌, ◌+◌, ◌-◌, ◌≤◌, IfSome, length, drop, slice_range};
+ghost use Rattle.std.specs.Prelude.{◌≡◌, List, [], ◌++◌, Some, IfOk, IfSome, OnOk, Any};
+ghost use Rattle.std.specs.List.{range_with_len};
+ghost use Rattle.binary_operators.specs.declared.types.GroupNames.TheVariants.{Places, Indices};
+ghost use Rattle.validate_types.specs.declared.types.SubType.{SubType};
+ghost use Rattle.binary_modules.specs.Groups.{Group as ReadGroup, group_count, AreTypes};
+ghost use Rattle.binary_modules.specs.Read.{HasTypes, Stands, HasRead, HasReadGroup};
+ghost use Rattle.binary_modules.specs.declared.groups.Group.{Group};
 
-use crate::module::Module;
-use crate::subtypes::read_sub_type;
+use crate::lists::read_so_many;
+use crate::subtypes::read_mark;
 use crate::words::words_of;
 use binary_operators::{
     BinaryReader, CanonicalTypes, Fault, GroupNames, ReadError, are_groups_equal, push,
@@ -17,165 +23,210 @@ use std::alloc::Global;
 use std::collections::BTreeMap;
 use validate_types::SubType;
 
-/// A group of types that was read.
-#[derive(Clone, Copy)]
+/// A recursion group to which none before it is equal.
+#[derive(Drop)]
 struct Group {
     /// The index of its first type.
     first: u32,
-    /// How many it has.
-    count: u32,
+    /// Its types, rolled up.
+    types: Vec<SubType>,
 }
 
-/// The groups that were read.
+/// The recursion groups that differ.
 #[derive(Drop)]
 struct Groups {
-    /// The types of all of them, rolled up.
-    rolled: Vec<SubType>,
-    /// Those that differ, each by its words.
-    known: BTreeMap<Vec<u32>, Group>,
+    groups: Vec<Group>,
+    /// Where a group with these words stands among them.
+    places: BTreeMap<Vec<u32>, usize>,
 }
 
 impl Groups {
     /// No groups. It takes no memory.
-    fn new(alloc: Global) -> Groups {
+    fn new(alloc: Global) -> Groups
+        ensures { result.groups.items ≡ [] }
+    {
         Groups {
-            rolled: Vec::new(alloc),
-            known: BTreeMap::new(alloc),
+            groups: Vec::new(alloc),
+            places: BTreeMap::new(alloc),
         }
     }
 
-    /// Which group stands for the one that was read last, which begins at this index and at this offset: an
-    /// earlier, equal one, or itself. It refuses a type that isn't there, `unknown type: type index out of
-    /// bounds`, and want of memory.
-    fn find(&mut self, alloc: Global, group: Group, offset: u64) -> Result<Group, ReadError> {
-        let first = group.first as usize;
-        if first > self.rolled.len() {
+    /// The index of the first type of the group that has these words, if its types are these.
+    fn equal(&self, words: &Vec<u32>, types: &[SubType]) -> Option<u32>
+        ensures { IfSome result (λ first. Any (λ (g : Group). (g.first ≡ first) × (g.types.items ≡ types.now))
+            self.now.groups.items) }
+    {
+        let place = self.places.get(words).copied()?;
+        if place >= self.groups.len() {
+            return None;
+        }
+        let group = &self.groups[place];
+        if are_groups_equal(&group.types, types) {
+            Some(group.first)
+        } else {
+            None
+        }
+    }
+
+    /// The index that stands for that of the first type of a group with these words: that of an equal group, or its
+    /// own. It refuses want of memory.
+    fn stand(&mut self, group: Group, words: Vec<u32>) -> Result<u32, ReadError>
+        ensures { IfOk result (λ first. Stands self.old.groups.items self.new.groups.items group first) }
+    {
+        if let Some(first) = self.equal(&words, &group.types) {
+            return Ok(first);
+        }
+        let _former = self.places.insert(words, self.groups.len())?;
+        let first = group.first;
+        push(&mut self.groups, group)?;
+        Ok(first)
+    }
+}
+
+/// The types that a module declares.
+#[derive(Drop)]
+pub struct TypeSection {
+    /// The types. They name each type by the index of the one that stands for it.
+    pub types: Vec<SubType>,
+    /// Of each type the index of the one that stands for it: the first of those that are equal.
+    pub canonical: Vec<u32>,
+    /// The recursion groups that the types stand in, one behind another.
+    pub groups: Vec<RecGroup>,
+}
+
+impl TypeSection {
+    /// No types. It takes no memory.
+    pub fn new(alloc: Global) -> TypeSection
+        ensures types { result.types.items ≡ [] }
+        ensures canonical { result.canonical.items ≡ [] }
+        ensures groups { result.groups.items ≡ [] }
+    {
+        TypeSection {
+            types: Vec::new(alloc),
+            canonical: Vec::new(alloc),
+            groups: Vec::new(alloc),
+        }
+    }
+
+    /// Says of so many types, behind those that are there, that those from this index on stand for them. It refuses an
+    /// index past 2^32 at the offset, and want of memory.
+    fn name(&mut self, first: u32, count: u32, offset: u64) -> Result<(), ReadError>
+        ensures canonical { OnOk result (self.new.canonical.items
+            ≡ self.old.canonical.items ++ range_with_len first count) }
+        ensures types { self.new.types ≡ self.old.types }
+        ensures groups { self.new.groups ≡ self.old.groups }
+    {
+        for place in 0..count {
+            let Some(index) = first.checked_add(place) else {
+                return Err(ReadError::malformed(Fault::TypeIndexTooLarge, offset));
+            };
+            push(&mut self.canonical, index)?;
+        }
+        Ok(())
+    }
+
+    /// Reads the types of a group, so many, behind those that are there. The index stands for that of the first. It
+    /// refuses what the reads of the types refuse, and want of memory.
+    fn declare(
+        &mut self,
+        alloc: Global,
+        reader: &mut BinaryReader<'_>,
+        first: u32,
+        count: u32,
+    ) -> Result<(), ReadError>
+        ensures types { OnOk result ((read : List SubType)
+            × HasTypes self.old.canonical.items (Indices first) count reader.old.left read reader.new.left
+            × (self.new.types.items ≡ self.old.types.items ++ read)) }
+        ensures canonical { OnOk result (self.new.canonical.items
+            ≡ self.old.canonical.items ++ range_with_len first count) }
+        ensures groups { self.new.groups ≡ self.old.groups }
+    {
+        let offset = reader.offset();
+        let names = CanonicalTypes::in_group(&self.canonical, GroupNames::Indices(first));
+        read_so_many(alloc, reader, names, count, &mut self.types)?;
+        self.name(first, count, offset)?;
+        Ok(())
+    }
+
+    /// For how many types another one stands.
+    pub(crate) fn merged(&self) -> usize {
+        let own = (0..self.canonical.len()).zip(self.canonical.iter());
+        own.filter(|(index, first)| *index != **first as usize)
+            .count()
+    }
+
+    /// Reads a group behind those that were read. It refuses what the reads of its types refuse, a type behind the
+    /// group, `unknown type: type index out of bounds`, and want of memory.
+    fn read_group(
+        &mut self,
+        alloc: Global,
+        reader: &mut BinaryReader<'_>,
+        groups: &mut Groups,
+    ) -> Result<(), ReadError>
+        ensures { OnOk result ((before : List ReadGroup) → HasRead self.old groups.old.groups.items before
+            → HasReadGroup before reader.old.left reader.new.left self.new groups.new.groups.items) }
+    {
+        let offset = reader.offset();
+        let Ok(first) = u32::try_from(self.canonical.len()) else {
             return Err(ReadError::malformed(Fault::TypeIndexTooLarge, offset));
-        }
-        let words = words_of(alloc, &self.rolled[first..], offset)?;
-        let candidate = self.known.get(&words).copied();
-        if let Some(equal) = standing_group(candidate, &self.rolled, first) {
-            return Ok(equal);
-        }
-        let _none = self.known.insert(words, group)?;
-        Ok(group)
+        };
+        let explicit = read_mark(reader, 0x4e)?;
+        let count = read_count(reader, explicit)?;
+        let mut again = reader.again();
+        let types = read_rolled(alloc, reader, &self.canonical, count)?;
+        let words = words_of(alloc, &types, offset)?;
+        let stands = groups.stand(Group { first, types }, words)?;
+        self.declare(alloc, &mut again, stands, count)?;
+        push(
+            &mut self.groups,
+            RecGroup {
+                count,
+                explicit,
+                offset,
+            },
+        )?;
+        Ok(())
     }
 }
 
-/// The group, if it has as many types as the one that is the rest of the list from the first on, and they are
-/// equal: then its types stand for those.
-fn standing_group(candidate: Option<Group>, rolled: &[SubType], first: usize) -> Option<Group>
-    requires { first ≤ length rolled.now }
-    ensures equal { IfSome result (λ group. slice_range rolled.now group.first (group.first + group.count)
-        ≡ drop first rolled.now) }
-    ensures count { IfSome result (λ group. group.count ≡ length rolled.now - first) }
+/// Reads how many types a group has, which is written as a list or not.
+fn read_count(reader: &mut BinaryReader<'_>, explicit: bool) -> Result<u32, ReadError>
+    ensures { IfOk result (λ count. group_count explicit reader.old.left ≡ Some (count, reader.new.left)) }
 {
-    let group = candidate?;
-    let start = group.first as usize;
-    let count = group.count as usize;
-    let end = start.saturating_add(count);
-    if end > first || count != rolled.len() - first {
-        return None;
+    if explicit {
+        return reader.read_var_u32();
     }
-    if are_groups_equal(&rolled[start..end], &rolled[first..]) {
-        Some(group)
-    } else {
-        None
-    }
+    Ok(1)
 }
 
-/// Reads so many types, behind those that are there.
-fn read_sub_types(
+/// Reads so many types of a group, rolled up, where these stand for the types before it.
+fn read_rolled(
     alloc: Global,
     reader: &mut BinaryReader<'_>,
-    canonical: CanonicalTypes<'_>,
+    canonical: &[u32],
     count: u32,
-    types: &mut Vec<SubType>,
-) -> Result<(), ReadError> {
-    for _ in 0..count {
-        let ty = read_sub_type(alloc, reader, canonical)?;
-        types.push(ty)?;
-    }
-    Ok(())
+) -> Result<Vec<SubType>, ReadError>
+    ensures { IfOk result (λ types. HasTypes canonical.now Places count reader.old.left types.items
+        reader.new.left) }
+{
+    let mut types = Vec::new(alloc);
+    let names = CanonicalTypes::in_group(canonical, GroupNames::Places);
+    read_so_many(alloc, reader, names, count, &mut types)?;
+    Ok(types)
 }
 
-/// Reads how many types a group has, unless it is the one type that stands there.
-fn read_count(reader: &mut BinaryReader<'_>) -> Result<Option<u32>, ReadError> {
-    if reader.reads(0x4e)? {
-        return Ok(Some(reader.read_var_u32()?));
-    }
-    Ok(None)
-}
-
-/// Says of so many types, behind those of the list, that those from this index on stand for them.
-fn push_canonical(canonical: &mut Vec<u32>, first: u32, count: u32) -> Result<(), ReadError> {
-    for place in 0..count {
-        canonical.push(first.saturating_add(place))?;
-    }
-    Ok(())
-}
-
-/// Reads a group of types behind those that are there, and which types stand for them. It refuses what the read of a
-/// type refuses, and what the search of an equal group does.
-fn read_group(
-    alloc: Global,
-    reader: &mut BinaryReader<'_>,
-    module: &mut Module,
-    groups: &mut Groups,
-) -> Result<(), ReadError> {
-    let offset = reader.offset();
-    let Ok(first) = u32::try_from(module.declared.canonical.len()) else {
-        return Err(ReadError::malformed(Fault::TypeIndexTooLarge, offset));
-    };
-    let written = read_count(reader)?;
-    let count = written.unwrap_or(1);
-    let mut again = reader.again();
-    let places = CanonicalTypes::in_group(&module.declared.canonical, GroupNames::Places);
-    read_sub_types(alloc, reader, places, count, &mut groups.rolled)?;
-    let stands = groups.find(alloc, Group { first, count }, offset)?;
-    let indices = CanonicalTypes::in_group(
-        &module.declared.canonical,
-        GroupNames::Indices(stands.first),
-    );
-    read_sub_types(
-        alloc,
-        &mut again,
-        indices,
-        count,
-        &mut module.declared.types,
-    )?;
-    if stands.first != first {
-        module.merged = module.merged.saturating_add(count as usize);
-    }
-    push_canonical(&mut module.declared.canonical, stands.first, count)?;
-    let group = RecGroup {
-        count,
-        explicit: written.is_some(),
-        offset,
-    };
-    push(&mut module.declared.groups, group)
-}
-
-/// Reads so many groups of types.
-fn read_groups(
-    alloc: Global,
-    reader: &mut BinaryReader<'_>,
-    module: &mut Module,
-    groups: &mut Groups,
-) -> Result<(), ReadError> {
+/// Reads the types of a module, group by group. It refuses what the reads of types refuse, a name of a type behind
+/// its group, `unknown type: type index out of bounds`, more types than 2^32, `type index greater than implementation
+/// limits`, and want of memory.
+pub fn read_types(alloc: Global, reader: &mut BinaryReader<'_>) -> Result<TypeSection, ReadError>
+    ensures { IfOk result (λ section. AreTypes reader.old.left section.types.items section.canonical.items
+        section.groups.items reader.new.left) }
+{
     let count = reader.read_var_u32()?;
-    for _ in 0..count {
-        read_group(alloc, reader, module, groups)?;
-    }
-    Ok(())
-}
-
-/// Reads the types of a module.
-pub fn read_types(
-    alloc: Global,
-    reader: &mut BinaryReader<'_>,
-    module: &mut Module,
-) -> Result<(), ReadError> {
+    let mut section = TypeSection::new(alloc);
     let mut groups = Groups::new(alloc);
-    read_groups(alloc, reader, module, &mut groups)
+    for _ in 0..count {
+        section.read_group(alloc, reader, &mut groups)?;
+    }
+    Ok(section)
 }

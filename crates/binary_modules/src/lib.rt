@@ -2,16 +2,26 @@
 //! constant expressions stand.
 #![tactic(auto)]
 
-mod declarations;
+mod contents;
+mod data;
+mod elements;
+mod entries;
+mod expressions;
 mod groups;
-mod module;
+mod imports;
+mod initializers;
+mod items;
+mod limits;
+mod lists;
 mod names;
-mod sections;
-mod segments;
+mod own;
+mod owned;
+mod parts;
+mod section_list;
 mod subtypes;
+mod whole;
 mod words;
 
-pub use crate::module::{ConstantExpression, Module};
+pub use crate::initializers::ConstantExpression;
 pub use crate::names::{FunctionNames, read_function_names};
-pub use crate::sections::read_module;
-pub use binary_operators::ByteRange;
+pub use crate::whole::{Module, read_module};

@@ -1,7 +1,8 @@
 //! The names of functions (WebAssembly core specification, appendix "Custom Sections", "Name Section"). They say
 //! nothing of whether a module is valid, so what can't be read of them is left out.
 
-use binary_operators::{BinaryReader, ByteRange, Cause, ReadError};
+use crate::parts::read_name;
+use binary_operators::{BinaryReader, Cause, ReadError};
 use std::alloc::Global;
 use std::collections::BTreeMap;
 
@@ -29,7 +30,7 @@ impl<'a> FunctionNames<'a> {
         let count = reader.read_var_u32()?;
         for _ in 0..count {
             let function = reader.read_var_u32()?;
-            let name = reader.read_name()?;
+            let name = read_name(reader)?;
             let _former = self.names.insert(function, name)?;
         }
         Ok(())
@@ -55,13 +56,10 @@ impl<'a> FunctionNames<'a> {
 /// want of memory alone.
 pub fn read_function_names<'a>(
     alloc: Global,
-    bytes: &'a [u8],
-    section: ByteRange,
+    section: &BinaryReader<'a>,
 ) -> Result<FunctionNames<'a>, ReadError> {
     let mut names = FunctionNames::new(alloc);
-    let Some(mut reader) = BinaryReader::of_range(bytes, section) else {
-        return Ok(names);
-    };
+    let mut reader = section.again();
     if let Err(error) = names.read_section(&mut reader) {
         if matches!(error.cause, Cause::OutOfMemory) {
             return Err(error);

@@ -1,5 +1,6 @@
 -- What was read and accepted is the code of a body.
-use Rattle.std.proofs.Common.{◌≡◌, ℕ, Bool, List, [], refl, sym, subst}
+use Rattle.std.proofs.Common.{◌≡◌, ℕ, Bool, List, [], refl, sym, subst, Result, Ok, Err}
+use Rattle.std.specs.Prelude.{IsOk, OnOk}
 use Rattle.binary_operators.specs.declared.types.CanonicalTypes.{CanonicalTypes}
 use Rattle.validate_types.specs.declared.features.WasmFeatures.{WasmFeatures}
 use Rattle.validate_types.specs.declared.types.ValType.{ValType}
@@ -47,3 +48,13 @@ module _ (md : ModuleContext) (features : WasmFeatures) (types : CanonicalTypes)
     };
     each_stands = s.each_stands;
   }
+
+-- what is promised where there is a value is so where there is one
+pub given_ok : {T E P : Type 0} (r : Result T E) → IsOk r → OnOk r P → P
+given_ok (Ok x) is h = h
+given_ok (Err e) is h = absurd cc
+
+-- what follows from it is so too
+pub then_ok : {T E P Q : Type 0} (r : Result T E) → (P → Q) → OnOk r P → OnOk r Q
+then_ok (Ok x) f h = f h
+then_ok (Err e) f h = h

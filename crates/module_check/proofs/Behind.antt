@@ -1,5 +1,5 @@
 -- One more operator of the bytes of a body, of which no list is kept.
-use Rattle.std.proofs.Common.{◌≡◌, ◌≢◌, ℕ, Bool, true, List, [], ◌∷◌, ◌++◌, length, Some, Ok, is_none, ◌||◌, refl, sym, ap, ◌∙◌, subst, arith}
+use Rattle.std.proofs.Common.{◌≡◌, ◌≢◌, ℕ, Bool, true, List, [], ◌∷◌, ◌++◌, length, Some, Ok, is_none, ◌||◌, refl, sym, ap, ◌∙◌, subst}
 use Rattle.std.proofs.lemmas.Bool.{and_from}
 use Rattle.std.proofs.lemmas.List.{map-append}
 use Rattle.std.proofs.lemmas.List.Folds.{list_all-append}
@@ -11,17 +11,18 @@ use Rattle.binary_operators.proofs.Sequences.{one_more_operator}
 use Rattle.validate_resources.specs.Context.{ModuleContext, IsLawful}
 use Rattle.validate_visit.specs.declared.op.Op.{Op}
 use Rattle.validation_rules.specs.Operators.{operator}
-use Rattle.validation_rules.specs.Static.{Frame, step, frame_count}
+use Rattle.validation_rules.specs.Static.{Frame, State, start, step, frame_count}
+use Rattle.validate_visit.specs.declared.frame.BlockType.{BlockType}
 use Rattle.validate_stacks.specs.Attempts.{Stacked, is_quiet}
 use Rattle.validate_stacks.specs.Pops.{IsKept}
 use Rattle.validate_stacks.specs.State.{BodyState, body_context, IsStarting, IsValidBody}
 use Rattle.validate_stacks.specs.Visits.{MayVisit, Meets}
 use Rattle.validate_stacks.proofs.Validity.{kept_on}
 use Rattle.validate_body.specs.Runs.{without_offsets, body_before}
-use Rattle.validate_body.proofs.Listed.{visited, visit_valid, visit_kept, safe_accepted}
+use Rattle.validate_body.proofs.Listed.{visited, visit_valid, visit_kept, no_frames, safe_accepted}
 use Rattle.module_check.specs.Constant.{each_may_stand}
 use Rattle.module_check.specs.Safe.{AreSafeOperators}
-use Rattle.module_check.proofs.Accepted.{run_more, accepted_whole}
+use Rattle.validate_body.proofs.Accepted.{run_more, accepted_whole}
 use Rattle.module_check.proofs.Unplaced.{same_operator}
 
 -- the bytes began with some operators, behind which these are left, and the state u is the one behind them
@@ -33,16 +34,26 @@ pub record IsBehind (md : ModuleContext) (types : CanonicalTypes) (may : Op → 
   pub valid : IsValidBody md u
   pub kept : IsKept v u
 
-pub at_start : (md : ModuleContext) (types : CanonicalTypes) (may : Op → Bool) (v : BodyState) (bytes : List ℕ) → IsStarting md v → IsBehind md types may v v bytes bytes
-at_start md types may v bytes s = record { ops = []; read = refl; stand = refl; run = refl; valid = s.is_valid; kept = refl }
+-- and a frame is open there
+pub record IsOpenBehind (md : ModuleContext) (types : CanonicalTypes) (may : Op → Bool) (v u : BodyState) (bytes left : List ℕ) : Type 0 where
+  pub behind : IsBehind md types may v u bytes left
+  pub is_open : u.present.frames ≢ []
+
+open_at_start : (s : State) (ty : BlockType) → s ≡ start ty → s.frames ≢ []
+open_at_start s ty is e = let clash : (start ty).frames ≡ [] = sym (ap (λ (x : State). x.frames) is) ∙ e in absurd cc
+
+pub at_start : (md : ModuleContext) (types : CanonicalTypes) (may : Op → Bool) (v : BodyState) (bytes : List ℕ) → IsStarting md v → IsOpenBehind md types may v v bytes bytes
+at_start md types may v bytes s = record {
+  behind = record { ops = []; read = refl; stand = refl; run = refl; valid = s.is_valid; kept = refl };
+  is_open = open_at_start v.present s.block_type s.one_frame;
+}
 
 some_frames : (fs : List Frame) → length fs ≢ 0 → fs ≢ []
 some_frames [] h e = h refl
 some_frames (f ∷ fs) h e = absurd cc
 
-no_frames : (fs : List Frame) → length fs ≡ 0 → fs ≡ []
-no_frames [] h = refl
-no_frames (f ∷ fs) h = absurd (omega (arith, h))
+pub still_open : (u : State) (n : ℕ) → n ≡ frame_count u → n ≢ 0 → u.frames ≢ []
+still_open u n e h = some_frames u.frames (λ z. h (e ∙ z))
 
 -- one more operator that may stand
 one_more_stands : (may : Op → Bool) (ops : List (Op × ℕ)) (p : Op × ℕ) → each_may_stand may ops ≡ true → may p.0 ≡ true → each_may_stand may (ops ++ p ∷ []) ≡ true
@@ -50,11 +61,11 @@ one_more_stands may ops p h e =
     list_all-append (λ (q : Op × ℕ). may q.0) ops (p ∷ []) ∙ and_from _ _ h (and_from (may p.0) true e refl)
 
 module _ (md : ModuleContext) (types : CanonicalTypes) (may : Op → Bool) (v : BodyState) (bytes left : List ℕ) where
-  pub may_visit : (u : Stacked) (n : ℕ) → IsStarting md v → n ≡ frame_count u.body.present → n ≢ 0 → IsBehind md types may v u.body bytes left → MayVisit md u
-  may_visit u n s e h b = record {
-    open_frame = some_frames u.body.present.frames (λ z. h (e ∙ z));
-    valid = b.valid;
-    attempt = ap (λ p. is_none p || is_quiet u.phase) (ap (λ (x : BodyState). x.undone) b.kept ∙ s.none_pending);
+  pub may_visit : (u : Stacked) → IsStarting md v → IsOpenBehind md types may v u.body bytes left → MayVisit md u
+  may_visit u s b = record {
+    open_frame = b.is_open;
+    valid = b.behind.valid;
+    attempt = ap (λ p. is_none p || is_quiet u.phase) (ap (λ (x : BodyState). x.undone) b.behind.kept ∙ s.none_pending);
   }
 
   pub one_more : (u w : BodyState) (op : Op) (offset : ℕ) (rest : List ℕ) (x : Unit {0}) → IsBehind md types may v u bytes left → read_as types left ≡ Some (unplaced op, rest) → may (unplaced op) ≡ true → Meets md (λ cx. operator cx op) offset u (Ok x) w → IsBehind md types may v w bytes rest

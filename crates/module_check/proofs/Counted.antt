@@ -1,8 +1,8 @@
 -- Each function of a valid module that isn't imported has one of its bodies, and one more body or expression is safe.
-use Rattle.std.proofs.Common.{◌≡◌, ◌∙◌, ℕ, ◌+◌, ◌-◌, ◌^◌, ◌≤◌, ◌<◌, length, ap, subst, arith, ◌⊎◌, inl, inr, get_or}
+use Rattle.std.proofs.Common.{◌≡◌, ◌∙◌, ℕ, List, ◌+◌, ◌-◌, ◌^◌, ◌≤◌, ◌<◌, length, ap, subst, arith, ◌⊎◌, inl, inr, get_or}
 use Rattle.std.proofs.lemmas.Bool.{and_parts, leb-true, cases_lt}
 use Rattle.std.proofs.lemmas.Option.{get_or_from_slice_get}
-use Rattle.binary_modules.specs.declared.module.ConstantExpression.{ConstantExpression}
+use Rattle.binary_modules.specs.declared.initializers.ConstantExpression.{ConstantExpression}
 use Rattle.module_rules.specs.Declarations.{Declarations}
 use Rattle.module_rules.specs.Validity.{IsValidModule}
 use Rattle.module_rules.specs.declared.features.ModuleFeatures.{ModuleFeatures}
@@ -47,3 +47,7 @@ module _ (m : LoadedModule) (n : ℕ) where
           let same : n ≡ place = omega (arith, l, within) in
           let at : get_or m.expressions.items n d ≡ e = ap (λ k. get_or m.expressions.items k d) same ∙ get_or_from_slice_get m.expressions.items place e d there in
           subst (IsSafeExpression m) at this
+
+-- what is said of the expression that the loop is at, is said of the one that stands there in the module
+pub expression_there : (m : LoadedModule) (n : ℕ) (es : List ConstantExpression) (e d : ConstantExpression) → es ≡ m.expressions.items → e ≡ get_or es n d → IsSafeExpression m e → IsSafeExpression m (get_or m.expressions.items n d)
+expression_there m n es e d same is this = subst (λ l. IsSafeExpression m (get_or l n d)) same (subst (IsSafeExpression m) is this)

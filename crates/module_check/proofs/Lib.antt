@@ -1,4 +1,3 @@
-pub mod Accepted
 pub mod Begun
 pub mod Behind
 pub mod Counted

@@ -1,8 +1,11 @@
 -- What a loaded module says of itself, its bodies and its constant expressions (the crate's own).
 use Rattle.std.specs.Prelude.{◌≡◌, ℕ, ◌+◌, ◌-◌, ◌^◌, ◌≤◌, ◌<◌, true, List, Option, Some, length}
-use Rattle.std.specs.Prelude.{min, take, drop, slice_get}
-use Rattle.binary_modules.specs.declared.module.ConstantExpression.{ConstantExpression}
-use Rattle.binary_operators.specs.declared.reader.ByteRange.{ByteRange}
+use Rattle.std.specs.Prelude.{min, map, slice_get}
+use Rattle.binary_modules.specs.declared.initializers.ConstantExpression.{ConstantExpression}
+use Rattle.binary_modules.specs.ContentsRead.{bytes_of as bytes_left}
+use Rattle.binary_modules.specs.Kept.{told}
+use Rattle.binary_modules.specs.Modules.{IsModule}
+use Rattle.binary_operators.specs.Unread.{Unread}
 use Rattle.binary_operators.specs.declared.types.CanonicalTypes.{CanonicalTypes}
 use Rattle.binary_operators.specs.declared.types.GroupNames.TheVariants.{Indices}
 use Rattle.module_rules.specs.Constants.{expression_type, is_constant_expression}
@@ -33,13 +36,9 @@ features_of m = m.features
 abbrev pub declared : LoadedModule → ModuleContext
 declared m = context_of (declared_lists m.lists)
 
--- the bytes of the module that stand there
-abbrev pub bytes_in : LoadedModule → ByteRange → List ℕ
-bytes_in m range = drop range.start (take range.end (bytes_of m))
-
--- where the body of the function at this index stands: those that are imported have none
-abbrev pub body_range : LoadedModule → ℕ → Option ByteRange
-body_range m function = slice_get m.bodies.items (function - m.declared.imports.functions)
+-- a reader of the body of the function at this index: those that are imported have none
+abbrev pub body_at : LoadedModule → ℕ → Option Unread
+body_at m function = slice_get m.bodies.items (function - m.declared.imports.functions)
 
 -- an index of a type is read as that of the type that the module has stand for it
 pub record AreTypesOf (m : LoadedModule) (types : CanonicalTypes) : Type 0 where
@@ -52,12 +51,12 @@ pub record IsSafeFunction (m : LoadedModule) (function : ℕ) : Type 0 where
   pub type_index : ℕ
   pub is_of_type : (declared m).type_index_of function ≡ Some type_index
   pub is_own : m.declared.imports.functions ≤ function
-  pub range : ByteRange
-  pub is_body : body_range m function ≡ Some range
+  pub body : Unread
+  pub is_body : body_at m function ≡ Some body
   pub types : CanonicalTypes
   pub are_types : AreTypesOf m types
   pub is_safe : IsSafeCode (declared m) (operator_features (features_of m)) types (Function type_index)
-      (bytes_in m range)
+      body.left
 
 -- What the bytes of a constant expression say is type safe, by the type that its place asks for, and each
 -- operator is constant there.
@@ -67,7 +66,7 @@ pub record IsSafeExpression (m : LoadedModule) (e : ConstantExpression) : Type 0
   pub types : CanonicalTypes
   pub are_types : AreTypesOf m types
   pub is_safe : IsSafeCode (declared m) (operator_features (features_of m)) types (Expression value_type)
-      (bytes_in m e.range)
+      e.bytes.left
   pub is_constant : is_constant_expression (features_of m) (declarations m) e.place is_safe.ops ≡ true
 
 -- each of the module's first bodies, as many as these, is type safe, where its function's index has 32 bits
@@ -90,9 +89,11 @@ pub record IsSafeModule (m : LoadedModule) : Type 0 where
   pub functions : AreSafeFunctions m
   pub expressions : AreSafeExpressions m (length m.expressions.items)
 
--- The module is valid (WebAssembly core specification, "Validation: Modules"): what it declares is, under its
+-- The module is valid (WebAssembly core specification, "Validation: Modules"): its bytes are those of a module
+-- that declares this, with these bodies and constant expressions; what it declares is valid under its
 -- proposals, of which the lookup is made; and so are its bodies and its constant expressions.
 pub record IsValid (m : LoadedModule) : Type 0 where
+  pub is_module : ∥ IsModule (bytes_of m) (declarations m) (bytes_left m.bodies.items) (map told m.expressions.items) ∥₁
   pub declarations_valid : IsValidModule (features_of m) (declarations m)
   pub is_lookup : module_of (lookup_lists (declarations m)) ≡ Some (declared_lists m.lists)
   pub code_safe : IsSafeModule m

@@ -1,6 +1,6 @@
 //! Which operators may stand in a body, beside what their rows ask.
 
-ghost use Rattle.std.specs.Prelude.{◌≡◌, true, OnOk};
+ghost use Rattle.std.specs.Prelude.{◌≡◌, true, Some, OnOk};
 ghost use Rattle.module_check.specs.Constant.{may_stand};
 
 use crate::report::Failure;
@@ -23,16 +23,24 @@ pub struct ConstantPlace<'m> {
 
 /// Refuses an operator that isn't constant in this place, at its offset. In the body of a function, which is no
 /// such place, any may stand.
+#[inline(always)]
 pub(crate) fn check_place(
-    constant: Option<ConstantPlace<'_>>,
-    op: Op<'_>,
+    constant: &Option<ConstantPlace<'_>>,
+    op: &Op<'_>,
     offset: u64,
 ) -> Result<(), Failure>
-    ensures { OnOk result (may_stand constant.entry op.entry ≡ true) }
+    ensures { OnOk result (may_stand constant.now op.now ≡ true) }
 {
-    let Some(at) = constant else {
-        return Ok(());
-    };
-    check_constant_operator(at.alloc, at.features, at.declared, at.place, op, offset)?;
+    match constant {
+        Some(at) => check_constant(at, op, offset),
+        None => Ok(()),
+    }
+}
+
+/// Refuses an operator that isn't constant in this place, at its offset.
+fn check_constant(at: &ConstantPlace<'_>, op: &Op<'_>, offset: u64) -> Result<(), Failure>
+    ensures { OnOk result (may_stand (Some at.now) op.now ≡ true) }
+{
+    check_constant_operator(at.alloc, at.features, at.declared, at.place, *op, offset)?;
     Ok(())
 }

@@ -1,6 +1,9 @@
 //! A module whose bodies are to be checked.
 
-ghost use Rattle.std.specs.Prelude.{◌≡◌, ◌≤◌, ◌<◌, ◌+◌, ◌^◌, false, length, Some, IfSome, OnSome, IfOk, OnOk, IfErr};
+ghost use Rattle.std.specs.Prelude.{◌≡◌, ◌≢◌, ◌≤◌, ◌<◌, ◌+◌, ◌^◌, false, length, map, Some, IfSome, OnSome, IfOk, OnOk, IfErr};
+ghost use Rattle.binary_modules.specs.ContentsRead.{bytes_of as bytes_left};
+ghost use Rattle.binary_modules.specs.Kept.{told};
+ghost use Rattle.binary_modules.specs.Modules.{IsModule};
 ghost use Rattle.module_rules.specs.Declarations.{declarations_of};
 ghost use Rattle.module_rules.specs.Lookup.{lookup_lists};
 ghost use Rattle.module_rules.specs.Validity.{IsValidModule, is_valid_module};
@@ -11,9 +14,7 @@ use crate::body::check_body;
 use crate::buffers::BodyBuffers;
 use crate::constant::ConstantPlace;
 use crate::report::Verdict;
-use binary_modules::{
-    ByteRange, ConstantExpression, FunctionNames, Module, read_function_names, read_module,
-};
+use binary_modules::{ConstantExpression, FunctionNames, Module, read_function_names, read_module};
 use binary_operators::{BinaryReader, CanonicalTypes, ReadError};
 use module_rules::{
     DeclaredModule, ModuleFeatures, expression_type, lookup_lists, validate_module,
@@ -31,9 +32,10 @@ pub struct LoadedModule<'a> {
     declared: DeclaredModule,
     lists: ModuleLists,
     merged: usize,
-    bodies: Vec<ByteRange>,
-    expressions: Vec<ConstantExpression>,
-    names: Option<ByteRange>,
+    bodies: Vec<BinaryReader<'a>>,
+    expressions: Vec<ConstantExpression<'a>>,
+    names: Option<BinaryReader<'a>>,
+    ghost read: { ∥ IsModule bytes.now (declarations_of declared) (bytes_left bodies.items) (map told expressions.items) ∥₁ },
     ghost valid: { IsValidModule features (declarations_of declared) },
     ghost counted: { declared.imports.functions + length bodies.items ≡ length declared.functions.items },
     ghost lookup: { module_of (lookup_lists (declarations_of declared)) ≡ Some (declared_lists lists) },
@@ -42,8 +44,8 @@ pub struct LoadedModule<'a> {
 impl<'a> LoadedModule<'a> {
     ghost use Rattle.binary_operators.specs.declared.types.CanonicalTypes.{CanonicalTypes};
     ghost use Rattle.module_check.specs.Constant.{may_stand};
-    ghost use Rattle.module_check.specs.Loaded.{declarations, features_of, bytes_of, declared, bytes_in};
-    ghost use Rattle.module_check.specs.Loaded.{body_range, AreTypesOf};
+    ghost use Rattle.module_check.specs.Loaded.{declarations, features_of, bytes_of, declared};
+    ghost use Rattle.module_check.specs.Loaded.{body_at, AreTypesOf};
     ghost use Rattle.module_check.specs.Loaded.{IsSafeFunction, IsSafeExpression};
     ghost use Rattle.module_check.specs.Safe.{IsScopedCode};
     ghost use Rattle.module_check.specs.declared.report.Verdict.TheVariants.{Accepted, Refused};
@@ -61,6 +63,7 @@ impl<'a> LoadedModule<'a> {
     ) -> Result<LoadedModule<'a>, Verdict>
         ensures bytes { IfOk result (λ m. bytes_of m ≡ bytes.now) }
         ensures features { IfOk result (λ m. features_of m ≡ features) }
+        ensures refused { IfErr result (λ verdict. verdict ≢ Accepted) }
     {
         match read_module(alloc, bytes) {
             Ok(module) => LoadedModule::of_module(alloc, bytes, features, module),
@@ -73,15 +76,18 @@ impl<'a> LoadedModule<'a> {
         alloc: Global,
         bytes: &'a [u8],
         features: ModuleFeatures,
-        module: Module,
+        module: Module<'a>,
     ) -> Result<LoadedModule<'a>, Verdict>
-        requires { module.declared.imports.functions + length module.bodies.items
+        requires read { ∥ IsModule bytes.now (declarations_of module.declared) (bytes_left module.bodies.items)
+            (map told module.expressions.items) ∥₁ }
+        requires counted { module.declared.imports.functions + length module.bodies.items
             ≡ length module.declared.functions.items }
         ensures bytes { IfOk result (λ m. bytes_of m ≡ bytes.now) }
         ensures features { IfOk result (λ m. features_of m ≡ features) }
-        ensures declared { IfOk result (λ m. declarations m ≡ declarations_of module.declared) }
+        ensures declared { IfOk result (λ m. declarations m ≡ declarations_of module.entry.declared) }
+        ensures refused { IfErr result (λ verdict. verdict ≢ Accepted) }
         ensures invalid { IfErr result (λ v. (e : Error) → v ≡ Refused e
-            → is_valid_module features (declarations_of module.declared) ≡ false) }
+            → is_valid_module features (declarations_of module.entry.declared) ≡ false) }
     {
         let Module {
             declared,
@@ -121,7 +127,7 @@ impl<'a> LoadedModule<'a> {
     }
 
     /// Its constant expressions.
-    pub fn expressions(&self) -> &[ConstantExpression]
+    pub fn expressions(&self) -> &[ConstantExpression<'a>]
         ensures { result.now ≡ self.now.expressions.items }
     {
         &self.expressions
@@ -141,19 +147,19 @@ impl<'a> LoadedModule<'a> {
         u32::try_from(imported.saturating_add(body)).unwrap_or(u32::MAX)
     }
 
-    /// Where the body of the function at this index stands, or None where the module has none for it.
-    pub fn body_of(&self, function: u32) -> Option<ByteRange>
-        ensures is_body { IfSome result (λ range. body_range self.now function ≡ Some range) }
+    /// A reader of the body of the function at this index, or None where the module has none for it.
+    pub fn body_of(&self, function: u32) -> Option<&BinaryReader<'a>>
+        ensures is_body { IfSome result (λ body. body_at self.now function ≡ Some body.now) }
         ensures is_own { OnSome result (self.now.declared.imports.functions ≤ function) }
     {
         let body = function.checked_sub(self.declared.imports.functions)?;
-        self.bodies.get(body as usize).copied()
+        self.bodies.get(body as usize)
     }
 
     /// The names of its functions, as far as they can be read. It refuses want of memory.
     pub fn names(&self, alloc: Global) -> Result<FunctionNames<'a>, ReadError> {
-        match self.names {
-            Some(section) => read_function_names(alloc, self.bytes, section),
+        match &self.names {
+            Some(section) => read_function_names(alloc, section),
             None => Ok(FunctionNames::new(alloc)),
         }
     }
@@ -172,34 +178,29 @@ impl<'a> LoadedModule<'a> {
         CanonicalTypes::new(&self.declared.canonical)
     }
 
-    /// Checks a body of this kind that stands there, as [`check_body`] does. It refuses bytes that the module
-    /// doesn't have.
-    fn check_range(
+    /// Checks a body of this kind that these bytes are, as [`check_body`] does.
+    fn check_bytes(
         &self,
         kind: BodyKind,
         constant: Option<ConstantPlace<'_>>,
-        range: ByteRange,
+        bytes: &BinaryReader<'_>,
         buffers: &mut BodyBuffers,
     ) -> Verdict
         ensures { result ≡ Accepted → (types : CanonicalTypes) × AreTypesOf self.now types
             × IsScopedCode (declared self.now) (operator_features self.now.features) types kind
-            (may_stand constant.entry) (bytes_in self.now range) }
+            (may_stand constant.entry) bytes.now.left }
     {
-        match BinaryReader::of_range(self.bytes, range) {
-            Some(mut reader) => {
-                let types = self.types();
-                check_body(
-                    &self.lists,
-                    &self.features.operator_features(),
-                    kind,
-                    constant,
-                    &mut reader,
-                    types,
-                    buffers,
-                )
-            }
-            None => Verdict::Refused(Error::new("the module has no such bytes", 0)),
-        }
+        let mut reader = bytes.again();
+        let types = self.types();
+        check_body(
+            &self.lists,
+            &self.features.operator_features(),
+            kind,
+            constant,
+            &mut reader,
+            types,
+            buffers,
+        )
     }
 
     /// Checks the body of the function at this index, as it stands in the bytes of this module. It refuses
@@ -211,12 +212,12 @@ impl<'a> LoadedModule<'a> {
     pub fn check_function(&self, function: u32, buffers: &mut BodyBuffers) -> Verdict
         ensures { result ≡ Accepted → IsSafeFunction self.now function }
     {
-        let Some(range) = self.body_of(function) else {
+        let Some(body) = self.body_of(function) else {
             return Verdict::Refused(unknown_function(0));
         };
         match self.type_of(function) {
-            Some(ty) => self.check_range(BodyKind::Function(ty), None, range, buffers),
-            None => Verdict::Refused(unknown_function(range.start as u64)),
+            Some(ty) => self.check_bytes(BodyKind::Function(ty), None, body, buffers),
+            None => Verdict::Refused(unknown_function(body.offset())),
         }
     }
 
@@ -227,14 +228,14 @@ impl<'a> LoadedModule<'a> {
     /// declares, and give a value of the type that its place asks for. Each operator is constant there.
     pub fn check_expression(
         &self,
-        expression: &ConstantExpression,
+        expression: &ConstantExpression<'_>,
         buffers: &mut BodyBuffers,
     ) -> Verdict
         ensures { result ≡ Accepted → IsSafeExpression self.now expression.now }
     {
         let place = expression.place;
         let Some(ty) = expression_type(&self.declared, place) else {
-            return Verdict::Refused(unknown_place(expression.range.start as u64));
+            return Verdict::Refused(unknown_place(expression.bytes.offset()));
         };
         let constant = ConstantPlace {
             alloc: buffers.allocator(),
@@ -242,10 +243,10 @@ impl<'a> LoadedModule<'a> {
             declared: &self.declared,
             place,
         };
-        self.check_range(
+        self.check_bytes(
             BodyKind::Expression(ty),
             Some(constant),
-            expression.range,
+            &expression.bytes,
             buffers,
         )
     }

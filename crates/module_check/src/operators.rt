@@ -1,6 +1,6 @@
 //! The operators of a body, which are read and handed to its validator one by one.
 
-ghost use Rattle.std.specs.Prelude.{◌≢◌, OnOk};
+ghost use Rattle.std.specs.Prelude.{◌≡◌, ◌≢◌, [], OnOk};
 ghost use Rattle.validate_stacks.specs.State.{IsStarting};
 ghost use Rattle.validate_body.specs.Start.{state};
 ghost use Rattle.module_check.specs.Begin.{DefinesGroup, DefinesRead};
@@ -10,10 +10,12 @@ ghost use Rattle.module_check.specs.Safe.{AreSafeOperators};
 use crate::constant::{ConstantPlace, check_place};
 use crate::report::Failure;
 use binary_operators::{
-    BinaryReader, CanonicalTypes, Fault, OperatorLists, ReadError, read_operator, read_value_type,
+    BinaryReader, CanonicalTypes, Fault, OperatorLists, ReadError, read_operator,
+    read_operator_into, read_value_type,
 };
 use validate_body::OperatorValidator;
 use validate_resources::WasmModuleResources;
+use validate_visit::{NumericOp, Op};
 
 /// Reads a group of locals, and defines them in a body that starts.
 fn define_group<R: WasmModuleResources>(
@@ -70,23 +72,37 @@ pub(crate) fn check_operators<R: WasmModuleResources>(
         (state v.old) reader.old.left) }
 {
     for _ in 0..=reader.bytes_left() {
-        let is_closed = v.control_stack_height() == 0;
         let offset = reader.offset();
         if reader.is_at_end() {
-            if is_closed {
-                return Ok(());
-            }
             return Err(Failure::refused(
                 "control frames remain at end of function body or expression",
                 offset,
             ));
         }
-        let op = read_operator(reader, canonical, lists)?;
-        if is_closed {
-            return Err(Failure::refused("operators remaining after end of function", offset));
+        let mut op = Op::Numeric(NumericOp::I32Const(0));
+        read_operator_into(reader, &canonical, lists, &mut op)?;
+        check_place(&constant, &op, offset)?;
+        v.check_ref(resources, offset, &op)?;
+        if v.control_stack_height() == 0 {
+            return check_end(reader, canonical, lists);
         }
-        check_place(constant, op, offset)?;
-        v.check(resources, offset, op)?;
     }
     Err(Failure::Unread(ReadError::malformed(Fault::UnexpectedEnd, reader.offset())))
+}
+
+/// Whether nothing is left behind the operator that closes a body. It refuses an operator that is, or what can't be
+/// read.
+fn check_end(
+    reader: &mut BinaryReader<'_>,
+    canonical: CanonicalTypes<'_>,
+    lists: &mut OperatorLists,
+) -> Result<(), Failure>
+    ensures { OnOk result (reader.old.left ≡ []) }
+{
+    if reader.is_at_end() {
+        return Ok(());
+    }
+    let offset = reader.offset();
+    let _op = read_operator(reader, canonical, lists)?;
+    Err(Failure::refused("operators remaining after end of function", offset))
 }

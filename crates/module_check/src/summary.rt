@@ -27,6 +27,9 @@ pub const NOT_COVERED: u32 = 4;
 /// The status where the module has no body for the function.
 pub const NO_BODY: u32 = 5;
 
+/// The status where there is no module.
+pub const NOT_LOADED: u32 = 6;
+
 /// The kind of what is told where it is the module as a whole.
 const MODULE: u32 = 6;
 

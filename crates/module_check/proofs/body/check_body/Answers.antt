@@ -1,5 +1,5 @@
 -- What was checked and accepted is the code of the body.
-use Rattle.module_check.proofs.Accepted.{given_ok}
+use Rattle.module_check.proofs.Begun.{given_ok}
 use Rattle.module_check.proofs.body.check_body.Goals as goal
 
 pub returns-in-Ok : goal.returns-in-Ok

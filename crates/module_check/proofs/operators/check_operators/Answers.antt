@@ -1,23 +1,35 @@
 -- An operator more is read and accepted, and at the end all of them are.
-use Rattle.std.proofs.Common.{rules, ◌≡◌, ◌∙◌, []}
+use Rattle.std.proofs.Common.{◌∙◌}
 use Rattle.validate_body.specs.Start.{state}
 use Rattle.module_check.specs.Constant.{may_stand}
-use Rattle.module_check.proofs.Behind.{one_more, whole}
+use Rattle.module_check.proofs.Begun.{then_ok}
+use Rattle.module_check.proofs.Behind.{one_more, still_open, whole}
 use Rattle.module_check.proofs.Unplaced.{same_place}
 use Rattle.module_check.proofs.operators.check_operators.Goals as goal
 
-pub returns-then-is_closed : goal.returns-then-is_closed
-returns-then-is_closed g c =
+pub returns-then-control_stack_height-eq0 : goal.returns-then-control_stack_height-eq0
+returns-then-control_stack_height-eq0 g c =
     let md = g.R.WasmModuleResources.context c.args.resources.now in
-    let ended : c.loop.reader.left ≡ [] = search rules in
-    whole md c.args.canonical (may_stand c.args.constant) (state c.args.v.now) c.args.reader.now.left c.loop.reader.left (state c.loop.v)
-    c.control_stack_height-is_closed.result c.loop.invariant ended
-    c.control_stack_height-is_closed.ensures c.if-is_closed.true (g.met.R.WasmModuleResources.lawful c.args.resources.now)
+    let rest = c.read_operator_into.new.reader.left in
+    let more = one_more md c.args.canonical (may_stand c.args.constant) (state c.args.v.now) c.args.reader.now.left c.loop.reader.left
+    (state c.loop.v) (state c.check_ref.new.self) c.read_operator_into.new.to c.offset-offset.result rest
+    c.in_ok-check_ref.field-0 c.loop.invariant.behind c.in_ok-read_operator_into.ensures.read
+    (same_place c.args.constant c.read_operator_into.new.to ∙ c.in_ok-check_place.ensures) c.in_ok-check_ref.ensures.row in
+    then_ok c.check_end.result
+    (λ ended. whole md c.args.canonical (may_stand c.args.constant) (state c.args.v.now) c.args.reader.now.left rest
+    (state c.check_ref.new.self) c.control_stack_height.result more ended c.control_stack_height.ensures
+    c.if-control_stack_height-eq0.true (g.met.R.WasmModuleResources.lawful c.args.resources.now))
+    c.check_end.ensures
 
 pub loop-preserved : goal.loop-preserved
 loop-preserved g c =
     let md = g.R.WasmModuleResources.context c.args.resources.now in
-    one_more md c.args.canonical (may_stand c.args.constant) (state c.args.v.now) c.args.reader.now.left c.loop.reader.left (state c.loop.v)
-    (state c.check.new.self) c.in_ok-op.op c.offset-offset.result c.read_operator.new.reader.left
-    c.in_ok-check.field-0 c.loop.invariant c.in_ok-op.ensures.read
-    (same_place c.args.constant c.in_ok-op.op ∙ c.in_ok-check_place.ensures) c.in_ok-check.ensures.row
+    record {
+      behind = one_more md c.args.canonical (may_stand c.args.constant) (state c.args.v.now) c.args.reader.now.left c.loop.reader.left
+          (state c.loop.v) (state c.check_ref.new.self) c.read_operator_into.new.to c.offset-offset.result
+          c.read_operator_into.new.reader.left c.in_ok-check_ref.field-0 c.loop.invariant.behind
+          c.in_ok-read_operator_into.ensures.read
+          (same_place c.args.constant c.read_operator_into.new.to ∙ c.in_ok-check_place.ensures) c.in_ok-check_ref.ensures.row;
+      is_open = still_open (state c.check_ref.new.self).present c.control_stack_height.result c.control_stack_height.ensures
+          c.if-control_stack_height-eq0.false;
+    }

@@ -3,7 +3,7 @@ use Rattle.std.proofs.Common.{arith, sym, ◌∙◌, [], ◌∷◌, ◌++◌}
 use Rattle.binary_operators.specs.Functions.{locals}
 use Rattle.binary_operators.proofs.Items.{one_more}
 use Rattle.validate_body.specs.Start.{state}
-use Rattle.module_check.proofs.Locals.{one_group_more}
+use Rattle.validate_body.proofs.Locals.{one_group_more}
 use Rattle.module_check.proofs.operators.define_locals.Goals as goal
 
 pub loop-preserved : goal.loop-preserved

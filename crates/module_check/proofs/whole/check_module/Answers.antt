@@ -20,6 +20,7 @@ returns-clause-accepted c = λ z.
     let all : length m.bodies.items ≤ c.loop-index.index = search (rules, arith) in
     let each : AreSafeBodies m (length m.bodies.items) = λ body within small. c.loop-index.invariant.bodies z body (omega (arith, within, all)) small in
     record {
+      is_module = m.read;
       declarations_valid = m.valid;
       is_lookup = m.lookup;
       code_safe = record {

@@ -4,7 +4,7 @@ use Rattle.module_check.proofs.loaded.LoadedModule.check_expression.Goals as goa
 
 pub returns : goal.returns
 returns c = λ accepted.
-    let code = c.check_range.ensures accepted in
+    let code = c.check_bytes.ensures accepted in
     record {
       value_type = c.in-Some.ty;
       is_of_type = sym c.expression_type.ensures ∙ c.in-Some.is;

@@ -1,0 +1,12 @@
+pub mod Added
+pub mod ExampleItems
+pub mod ExampleModule
+pub mod Examples
+pub mod Fronts
+pub mod Grouped
+pub mod ImportedMore
+pub mod Listed
+pub mod Named
+pub mod NamedFunctions
+pub mod SectionsMore
+pub mod WholeParts

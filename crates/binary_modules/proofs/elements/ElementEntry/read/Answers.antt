@@ -1,0 +1,9 @@
+-- The segment behind its flags.
+use Rattle.std.proofs.Common.{rules}
+use Rattle.binary_modules.specs.Segments.{element}
+use Rattle.binary_modules.proofs.elements.ElementEntry.read.Goals as goal
+
+pub returns : goal.returns
+unfolding element
+returns c =
+    let e = c.in_ok-segment.ensures in (e.0, search rules, e.2, e.3)

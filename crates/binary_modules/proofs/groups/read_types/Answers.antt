@@ -1,0 +1,43 @@
+-- No groups, a group more, and all of them.
+use Rattle.std.proofs.Common.{rules, ap, sym, refl, ◌∙◌, ◌≡◌, ◌+◌, ◌++◌, ◌∷◌, [], length, map, Some}
+use Rattle.std.proofs.lemmas.List.{length_push}
+use Rattle.binary_modules.specs.Groups.{written_shape}
+use Rattle.binary_modules.proofs.Grouped.{one_more_group, none_known}
+use Rattle.binary_modules.proofs.groups.read_types.Goals as goal
+
+pub loop-init : goal.loop-init
+loop-init c = (
+  [],
+  refl,
+  record {
+    types = c.new-section.ensures.types;
+    canonical = c.new-section.ensures.canonical;
+    written = ap (map written_shape) c.new-section.ensures.groups;
+    known = none_known c.new-groups.result.groups.items c.new-groups.ensures;
+  },
+  refl,
+)
+
+pub loop-preserved : goal.loop-preserved
+loop-preserved c =
+    let i = c.loop.invariant in
+    let g = c.in_ok-read_group.ensures i.0 i.2 in (
+      i.0 ++ g.group ∷ [],
+      one_more_group [] c.read_var_u32.new.self.left i.0 c.loop.reader.left g.group c.read_group.new.reader.left i.1 g.is_group,
+      g.has_read,
+      length_push i.0 g.group ∙ ap (λ n. n + 1) i.3,
+    )
+
+pub returns : goal.returns
+returns c =
+    let i = c.loop.invariant in
+    let all : length i.0 ≡ c.in_ok-count.count = search rules in
+    record {
+      groups = i.0;
+      behind = c.read_var_u32.new.self.left;
+      has_count = c.in_ok-count.ensures.read ∙ ap (λ n. Some (n, c.read_var_u32.new.self.left)) (sym all);
+      are_groups = i.1;
+      are_types = i.2.types;
+      are_canonical = i.2.canonical;
+      are_written = i.2.written;
+    }

@@ -1,0 +1,14 @@
+-- It has no constant expressions.
+use Rattle.std.proofs.Common.{ap, refl}
+use Rattle.binary_modules.specs.Items.{alone, alone_item, own_function}
+use Rattle.binary_modules.proofs.Added.{adds_none}
+use Rattle.binary_modules.proofs.owned.DeclaredFunctionEntry.read.Goals as goal
+
+pub returns : goal.returns
+unfolding own_function
+returns c = (
+  alone (record c.in_ok-function.function { offset = 0 }),
+  ap alone_item c.in_ok-function.ensures.read,
+  refl,
+  adds_none c.args._initializers.now,
+)

@@ -1,0 +1,14 @@
+-- It has no constant expressions.
+use Rattle.std.proofs.Common.{ap, refl}
+use Rattle.binary_modules.specs.Items.{alone, alone_item, memory}
+use Rattle.binary_modules.proofs.Added.{adds_none}
+use Rattle.binary_modules.proofs.owned.DeclaredMemoryEntry.read.Goals as goal
+
+pub returns : goal.returns
+unfolding memory
+returns c = (
+  alone (record c.in_ok-memory.memory { offset = 0 }),
+  ap alone_item c.in_ok-memory.ensures.read,
+  refl,
+  adds_none c.args._initializers.now,
+)

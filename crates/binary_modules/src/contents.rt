@@ -1,0 +1,108 @@
+//! What stands in the sections of a module (WebAssembly core specification, "Binary Format: Modules").
+
+ghost use Rattle.std.specs.Prelude.{ℕ, ◌≡◌, List, [], length, Some, IfOk, OnOk, option_map};
+ghost use Rattle.binary_operators.specs.Values.{so_many, list_of};
+ghost use Rattle.binary_modules.specs.ContentsRead.{IsList, bytes_of};
+ghost use Rattle.binary_modules.specs.Items.{Item, placed};
+ghost use Rattle.binary_modules.specs.Kept.{Adds};
+ghost use Rattle.binary_modules.specs.declared.contents.SectionNumber.{SectionNumber};
+ghost use Rattle.binary_modules.specs.Parts.{sized};
+ghost use Rattle.binary_modules.specs.SectionList.{told_sections};
+ghost use Rattle.binary_modules.specs.Sections.{contents_of, section_contents, IsNumber};
+
+use crate::entries::{Entry, read_entries};
+use crate::initializers::Initializers;
+use crate::section_list::{ContentSection, contents_of, read_part, section_contents};
+use binary_operators::{BinaryReader, CanonicalTypes, Fault, ReadError, push};
+use std::alloc::Global;
+
+/// Refuses what is left of a section: `section size mismatch`.
+pub(crate) fn check_end(reader: &BinaryReader<'_>) -> Result<(), ReadError>
+    ensures { OnOk result (reader.now.left ≡ []) }
+{
+    if reader.is_at_end() {
+        return Ok(());
+    }
+    Err(ReadError::malformed(Fault::SectionSizeMismatch, reader.offset()))
+}
+
+/// Reads the items of the section with this id, behind those that are there. It refuses what their reads refuse, and
+/// bytes behind them, `section size mismatch`.
+pub(crate) fn read_section_of<'a, T: Entry>(
+    alloc: Global,
+    sections: &[ContentSection<'a>],
+    id: u8,
+    canonical: CanonicalTypes<'_>,
+    items: &mut Vec<T>,
+    initializers: &mut Initializers<'a>,
+) -> Result<(), ReadError>
+    ensures { OnOk result ((read : List (Item T))
+        × IsList (T.reading canonical.entry) T.unplaced id (told_sections sections.now) items.old.items
+        items.new.items read
+        × Adds initializers.old (placed (length items.old.items) read) initializers.new) }
+{
+    let mut reader = contents_of(sections, id);
+    read_entries(alloc, &mut reader, canonical, items, initializers)?;
+    check_end(&reader)?;
+    Ok(())
+}
+
+/// A number that is a whole section.
+#[derive(Clone, Copy)]
+pub(crate) struct SectionNumber {
+    /// The number.
+    pub number: u32,
+    /// The offset at which it stands.
+    pub offset: u64,
+}
+
+/// Reads the number that the section with this id is, if there is one.
+pub(crate) fn read_number_of(
+    sections: &[ContentSection<'_>],
+    id: u8,
+) -> Result<Option<SectionNumber>, ReadError>
+    ensures { IfOk result (λ n. IsNumber (section_contents id (told_sections sections.now))
+        (option_map (λ (x : SectionNumber). x.number) n)) }
+{
+    let Some(mut reader) = section_contents(sections, id) else {
+        return Ok(None);
+    };
+    let offset = reader.offset();
+    let number = reader.read_var_u32()?;
+    check_end(&reader)?;
+    Ok(Some(SectionNumber { number, offset }))
+}
+
+/// Reads so many bodies, behind those that are there.
+fn read_bodies<'a>(
+    reader: &mut BinaryReader<'a>,
+    count: u32,
+    bodies: &mut Vec<BinaryReader<'a>>,
+) -> Result<(), ReadError>
+    requires { bodies.old.items ≡ [] }
+    ensures { OnOk result (so_many sized count reader.old.left
+        ≡ Some (bytes_of bodies.new.items, reader.new.left)) }
+{
+    for _ in 0..count {
+        let body = read_part(reader)?;
+        push(bodies, body)?;
+    }
+    Ok(())
+}
+
+/// Reads the bodies of a module.
+#[tactic(auto, unfolding(binary_operators::specs::Values::list_of))]
+pub(crate) fn read_bodies_of<'a>(
+    alloc: Global,
+    sections: &[ContentSection<'a>],
+) -> Result<Vec<BinaryReader<'a>>, ReadError>
+    ensures { IfOk result (λ bodies. list_of sized (contents_of 10 (told_sections sections.now))
+        ≡ Some (bytes_of bodies.items, [])) }
+{
+    let mut reader = contents_of(sections, 10);
+    let count = reader.read_var_u32()?;
+    let mut bodies = Vec::new(alloc);
+    read_bodies(&mut reader, count, &mut bodies)?;
+    check_end(&reader)?;
+    Ok(bodies)
+}

@@ -1,0 +1,125 @@
+//! Constant expressions (WebAssembly core specification, "Binary Format: Instructions", "Expressions").
+
+ghost use Rattle.std.specs.Prelude.{ℕ, ◌≡◌, ◌+◌, ◌^◌, ◌<◌, ◌≤◌, List, ◌++◌, Option, Some, IfSome, false, IsTrue, IfOk, OnOk, length};
+ghost use Rattle.binary_operators.specs.Instructions.{operator};
+ghost use Rattle.binary_operators.specs.declared.types.CanonicalTypes.{CanonicalTypes};
+ghost use Rattle.validate_visit.specs.declared.op.Op.{Op};
+ghost use Rattle.binary_modules.specs.Initializers.{of_operator, piece, depth_behind, named, named_functions, expression};
+
+use binary_operators::{
+    BinaryReader, CanonicalTypes, Fault, OperatorLists, ReadError, push, read_operator,
+};
+use validate_visit::{ControlOp, ExceptionOp, Op, ReferenceOp};
+
+/// Reads a constant of the vector type, if the next operator is one. It refuses other vector operators.
+#[tactic(auto, unfolding(crate::specs::Initializers::piece, crate::specs::Initializers::vector_constant))]
+fn read_vector_constant(reader: &mut BinaryReader<'_>) -> Result<bool, ReadError>
+    ensures constant { IfOk result (λ is_constant. IsTrue is_constant
+        → (types : CanonicalTypes) → piece types reader.old.left ≡ Some (Option.None, reader.new.left)) }
+    ensures other { IfOk result (λ is_constant. is_constant ≡ false
+        → (types : CanonicalTypes) → piece types reader.old.left ≡ of_operator (operator types reader.old.left)) }
+    ensures passed { IfOk result (λ is_constant. is_constant ≡ false → reader.new ≡ reader.old) }
+{
+    let offset = reader.offset();
+    if !reader.reads(0xfd)? {
+        return Ok(false);
+    }
+    if reader.read_var_u32()? != 12 {
+        return Err(ReadError::vector_operator(offset));
+    }
+    let _bits = reader.read_bytes(16)?;
+    Ok(true)
+}
+
+/// How many parts are open behind an operator, where so many are open before it, or None where it ends the outermost
+/// one.
+fn depth_behind(depth: usize, op: Op<'_>) -> Option<usize>
+    requires { depth + 1 < 2 ^ 64 }
+    ensures depth { result ≡ depth_behind depth (Some op.entry) }
+    ensures below { IfSome result (λ behind. behind ≤ depth + 1) }
+{
+    match op {
+        Op::Control(ControlOp::Block(_) | ControlOp::Loop(_) | ControlOp::If(_))
+        | Op::Exception(ExceptionOp::TryTable(_) | ExceptionOp::Try(_)) => Some(depth + 1),
+        Op::Control(ControlOp::End) | Op::Exception(ExceptionOp::Delegate(_)) => {
+            depth.checked_sub(1)
+        }
+        _ => Some(depth),
+    }
+}
+
+/// Notes the function that an operator names by `ref.func`, if it does.
+fn note_function(op: Op<'_>, functions: &mut Vec<u32>) -> Result<(), ReadError>
+    ensures { OnOk result (functions.new.items ≡ functions.old.items ++ named (Some op.entry)) }
+{
+    match op {
+        Op::Reference(ReferenceOp::RefFunc(index)) => push(functions, index),
+        _ => Ok(()),
+    }
+}
+
+/// Reads an operator of a constant expression in which so many parts are open, or a vector constant, and notes the
+/// function that it names. It answers how many are open behind it, or None where it ends the expression.
+fn read_piece(
+    reader: &mut BinaryReader<'_>,
+    canonical: CanonicalTypes<'_>,
+    lists: &mut OperatorLists,
+    functions: &mut Vec<u32>,
+    depth: usize,
+) -> Result<Option<usize>, ReadError>
+    requires { depth + 1 < 2 ^ 64 }
+    ensures below { IfOk result (λ behind. IfSome behind (λ b. b ≤ depth + 1)) }
+    ensures read { IfOk result (λ behind. (op : Option Op)
+        × (piece canonical.entry reader.old.left ≡ Some (op, reader.new.left))
+        × (behind ≡ depth_behind depth op)
+        × (functions.new.items ≡ functions.old.items ++ named op)) }
+{
+    if read_vector_constant(reader)? {
+        return Ok(Some(depth));
+    }
+    let op = read_operator(reader, canonical, lists)?;
+    note_function(op, functions)?;
+    Ok(depth_behind(depth, op))
+}
+
+/// Reads the operators of a constant expression, and notes the functions that they name.
+fn read_operators(
+    reader: &mut BinaryReader<'_>,
+    canonical: CanonicalTypes<'_>,
+    lists: &mut OperatorLists,
+    functions: &mut Vec<u32>,
+) -> Result<(), ReadError>
+    ensures { OnOk result ((names : List ℕ)
+        × (named_functions (length reader.old.left) canonical.entry 0 reader.old.left
+        ≡ Some (names, reader.new.left))
+        × (functions.new.items ≡ functions.old.items ++ names)) }
+{
+    let mut depth = 0;
+    for _ in 0..reader.bytes_left() {
+        match read_piece(reader, canonical, lists, functions, depth)? {
+            Some(behind) => depth = behind,
+            None => return Ok(()),
+        }
+    }
+    Err(ReadError::malformed(Fault::UnexpectedEnd, reader.offset()))
+}
+
+/// Reads a constant expression, notes the functions that it names, and answers a reader of it. It refuses what the reads
+/// of operators refuse, and bytes that end in it: `unexpected end`.
+#[tactic(auto, unfolding(crate::specs::Initializers::expression))]
+pub(crate) fn read_expression<'a>(
+    reader: &mut BinaryReader<'a>,
+    canonical: CanonicalTypes<'_>,
+    lists: &mut OperatorLists,
+    functions: &mut Vec<u32>,
+) -> Result<BinaryReader<'a>, ReadError>
+    ensures { IfOk result (λ read. (names : List ℕ)
+        × (expression canonical.entry reader.old.left
+        ≡ Some (record { bytes = read.left; functions = names }, reader.new.left))
+        × (functions.new.items ≡ functions.old.items ++ names)) }
+{
+    let mut start = reader.again();
+    read_operators(reader, canonical, lists, functions)?;
+    let count = start.bytes_left().saturating_sub(reader.bytes_left());
+    start.part(count)
+}

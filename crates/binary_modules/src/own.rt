@@ -1,0 +1,97 @@
+//! The items of a module's own, and its segments (WebAssembly core specification, "Binary Format: Modules").
+
+ghost use Rattle.std.specs.Prelude.{IfOk, OnOk};
+ghost use Rattle.binary_modules.specs.OwnRead.{HasOwnItems, HasSegments};
+ghost use Rattle.binary_modules.specs.SectionList.{told_sections};
+
+use crate::contents::read_section_of;
+use crate::imports::Imported;
+use crate::initializers::Initializers;
+use crate::section_list::ContentSection;
+use binary_operators::{CanonicalTypes, ReadError};
+use module_rules::{Data, Element};
+use std::alloc::Global;
+
+/// Reads the functions, tables, memories, tags and globals of a module's own, behind those that are imported.
+pub(crate) fn read_own_items<'a>(
+    alloc: Global,
+    sections: &[ContentSection<'a>],
+    canonical: CanonicalTypes<'_>,
+    items: &mut Imported,
+    initializers: &mut Initializers<'a>,
+) -> Result<(), ReadError>
+    ensures { OnOk result (HasOwnItems canonical.entry (told_sections sections.now) items.old items.new
+        initializers.old initializers.new) }
+{
+    let mut none = Initializers::new(alloc);
+    read_section_of(
+        alloc,
+        sections,
+        3,
+        canonical,
+        &mut items.functions,
+        &mut none,
+    )?;
+    read_section_of(
+        alloc,
+        sections,
+        4,
+        canonical,
+        &mut items.tables,
+        initializers,
+    )?;
+    read_section_of(
+        alloc,
+        sections,
+        5,
+        canonical,
+        &mut items.memories,
+        &mut none,
+    )?;
+    read_section_of(alloc, sections, 13, canonical, &mut items.tags, &mut none)?;
+    read_section_of(
+        alloc,
+        sections,
+        6,
+        canonical,
+        &mut items.globals,
+        initializers,
+    )?;
+    Ok(())
+}
+
+/// The segments of a module.
+#[derive(Drop)]
+pub(crate) struct Segments {
+    /// The element segments.
+    pub elements: Vec<Element>,
+    /// The data segments.
+    pub data_segments: Vec<Data>,
+}
+
+/// Reads the segments of a module.
+pub(crate) fn read_segments<'a>(
+    alloc: Global,
+    sections: &[ContentSection<'a>],
+    canonical: CanonicalTypes<'_>,
+    initializers: &mut Initializers<'a>,
+) -> Result<Segments, ReadError>
+    ensures { IfOk result (λ s. HasSegments canonical.entry (told_sections sections.now) s
+        initializers.old initializers.new) }
+{
+    let mut elements = Vec::new(alloc);
+    read_section_of(alloc, sections, 9, canonical, &mut elements, initializers)?;
+    let mut data_segments = Vec::new(alloc);
+    read_section_of(
+        alloc,
+        sections,
+        11,
+        canonical,
+        &mut data_segments,
+        initializers,
+    )?;
+    Ok(Segments {
+        elements,
+        data_segments,
+    })
+}

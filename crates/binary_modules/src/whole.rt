@@ -1,0 +1,277 @@
+//! A whole module (WebAssembly core specification, "Binary Format: Modules").
+
+ghost use Rattle.std.specs.Prelude.{ℕ, ◌≡◌, ◌+◌, List, [], ◌∷◌, map, length, Some, IfOk, OnOk, IfSome, option_map};
+ghost use Rattle.module_rules.specs.Declarations.{declarations_of};
+ghost use Rattle.module_rules.specs.Exported.{Exported};
+ghost use Rattle.binary_modules.specs.ContentsRead.{IsList, bytes_of};
+ghost use Rattle.binary_modules.specs.Groups.{AreTypes};
+ghost use Rattle.binary_modules.specs.Imports.{HasImports, AreCounted};
+ghost use Rattle.binary_modules.specs.Items.{Item, exported};
+ghost use Rattle.binary_modules.specs.Kept.{told};
+ghost use Rattle.binary_modules.specs.Modules.{HasContents, IsModule};
+ghost use Rattle.binary_modules.specs.SectionList.{told_sections};
+ghost use Rattle.binary_modules.specs.Sections.{contents_of};
+ghost use Rattle.binary_modules.specs.declared.contents.SectionNumber.{SectionNumber};
+
+use crate::contents::{SectionNumber, check_end, read_bodies_of, read_number_of, read_section_of};
+use crate::groups::{TypeSection, read_types};
+use crate::imports::{Imported, read_imports};
+use crate::initializers::{ConstantExpression, Initializers};
+use crate::own::{read_own_items, read_segments};
+use crate::parts::read_name;
+use crate::section_list::{ContentSection, contents_of, read_sections};
+use binary_operators::{BinaryReader, CanonicalTypes, Fault, ReadError};
+use module_rules::{DataCount, DeclaredModule, Export, Imports, Start};
+use std::alloc::Global;
+
+/// What a module declares, and the bytes of its bodies and constant expressions.
+#[derive(Drop)]
+pub struct Module<'a> {
+    /// What it declares.
+    pub declared: DeclaredModule,
+    /// For how many types another one stands.
+    pub merged: usize,
+    /// The bodies of the functions of its own, each with its locals before its operators.
+    pub bodies: Vec<BinaryReader<'a>>,
+    /// Its constant expressions.
+    pub expressions: Vec<ConstantExpression<'a>>,
+    /// What stands in the last name section, behind its name.
+    pub names: Option<BinaryReader<'a>>,
+}
+
+/// Reads a byte that has to be this one.
+fn read_expected(
+    reader: &mut BinaryReader<'_>,
+    byte: u8,
+    fault: Fault,
+    offset: u64,
+) -> Result<(), ReadError>
+    ensures { OnOk result (reader.old.left ≡ byte ∷ reader.new.left) }
+{
+    if reader.read_u8()? == byte {
+        return Ok(());
+    }
+    Err(ReadError::malformed(fault, offset))
+}
+
+/// Reads the magic number and the version that a module begins with.
+fn read_header(reader: &mut BinaryReader<'_>) -> Result<(), ReadError>
+    ensures { OnOk result (reader.old.left
+        ≡ 0x00 ∷ 0x61 ∷ 0x73 ∷ 0x6d ∷ 0x01 ∷ 0x00 ∷ 0x00 ∷ 0x00 ∷ reader.new.left) }
+{
+    let magic = reader.offset();
+    read_expected(reader, 0x00, Fault::NoMagicHeader, magic)?;
+    read_expected(reader, 0x61, Fault::NoMagicHeader, magic)?;
+    read_expected(reader, 0x73, Fault::NoMagicHeader, magic)?;
+    read_expected(reader, 0x6d, Fault::NoMagicHeader, magic)?;
+    let version = reader.offset();
+    read_expected(reader, 0x01, Fault::UnknownVersion, version)?;
+    read_expected(reader, 0x00, Fault::UnknownVersion, version)?;
+    read_expected(reader, 0x00, Fault::UnknownVersion, version)?;
+    read_expected(reader, 0x00, Fault::UnknownVersion, version)
+}
+
+/// Reads the types of a module.
+fn read_type_section(
+    alloc: Global,
+    sections: &[ContentSection<'_>],
+) -> Result<TypeSection, ReadError>
+    ensures { IfOk result (λ s. AreTypes (contents_of 1 (told_sections sections.now)) s.types.items
+        s.canonical.items s.groups.items []) }
+{
+    let mut reader = contents_of(sections, 1);
+    let section = read_types(alloc, &mut reader)?;
+    check_end(&reader)?;
+    Ok(section)
+}
+
+/// Reads the imports of a module.
+fn read_import_section(
+    alloc: Global,
+    sections: &[ContentSection<'_>],
+    canonical: CanonicalTypes<'_>,
+) -> Result<Imported, ReadError>
+    ensures { IfOk result (λ i. HasImports canonical.entry (contents_of 2 (told_sections sections.now)) i []) }
+{
+    let mut reader = contents_of(sections, 2);
+    let imported = read_imports(alloc, &mut reader, canonical)?;
+    check_end(&reader)?;
+    Ok(imported)
+}
+
+/// So many items, as an index counts them. It refuses more than 2^32.
+fn count_of(count: usize) -> Result<u32, ReadError>
+    ensures { IfOk result (λ n. n ≡ count) }
+{
+    let Ok(count) = u32::try_from(count) else {
+        return Err(ReadError::malformed(Fault::TypeIndexTooLarge, 0));
+    };
+    Ok(count)
+}
+
+/// How many items of each kind are imported, from this offset on.
+fn imports_of(items: &Imported, offset: u64) -> Result<Imports, ReadError>
+    ensures { IfOk result (λ i. AreCounted items.now i) }
+{
+    let functions = count_of(items.functions.len())?;
+    let tables = count_of(items.tables.len())?;
+    let memories = count_of(items.memories.len())?;
+    let globals = count_of(items.globals.len())?;
+    let tags = count_of(items.tags.len())?;
+    Ok(Imports {
+        functions,
+        tables,
+        memories,
+        globals,
+        tags,
+        offset,
+    })
+}
+
+/// Reads the exports of a module.
+fn read_exports(
+    alloc: Global,
+    sections: &[ContentSection<'_>],
+    canonical: CanonicalTypes<'_>,
+) -> Result<Vec<Export>, ReadError>
+    ensures { IfOk result (λ list. (read : List (Item Exported))
+        × IsList exported (λ e. record e { offset = 0 }) 7 (told_sections sections.now) [] list.items read) }
+{
+    let mut exports = Vec::new(alloc);
+    let mut none = Initializers::new(alloc);
+    read_section_of(alloc, sections, 7, canonical, &mut exports, &mut none)?;
+    Ok(exports)
+}
+
+/// The start function, by its number.
+fn start_of(number: Option<SectionNumber>) -> Option<Start>
+    ensures { option_map (λ s. s.function) result ≡ option_map (λ (n : SectionNumber). n.number) number }
+{
+    match number {
+        Some(n) => Some(Start {
+            function: n.number,
+            offset: n.offset,
+        }),
+        None => None,
+    }
+}
+
+/// How many data segments are counted, by that number.
+fn data_count_of(number: Option<SectionNumber>) -> Option<DataCount>
+    ensures { option_map (λ c. c.count) result ≡ option_map (λ (n : SectionNumber). n.number) number }
+{
+    match number {
+        Some(n) => Some(DataCount {
+            count: n.number,
+            offset: n.offset,
+        }),
+        None => None,
+    }
+}
+
+/// Refuses other than so many bodies as functions that aren't imported (`InconsistentCode`).
+fn check_bodies(imported: u32, functions: usize, bodies: usize) -> Result<(), ReadError>
+    ensures { OnOk result (imported + bodies ≡ functions) }
+{
+    if functions.checked_sub(imported as usize) == Some(bodies) {
+        return Ok(());
+    }
+    Err(ReadError::malformed(Fault::InconsistentCode, 0))
+}
+
+/// Refuses other than so many data segments as are counted (`InconsistentData`).
+fn check_data_count(number: Option<SectionNumber>, segments: usize) -> Result<(), ReadError>
+    ensures { OnOk result (IfSome (option_map (λ (n : SectionNumber). n.number) number) (λ n. n ≡ segments)) }
+{
+    match number {
+        Some(n) if n.number as usize != segments => {
+            Err(ReadError::malformed(Fault::InconsistentData, n.offset))
+        }
+        _ => Ok(()),
+    }
+}
+
+/// What stands in a name section, behind its name, if the section is one.
+fn names_in<'a>(section: &ContentSection<'a>) -> Option<BinaryReader<'a>> {
+    let mut contents = section.contents.again();
+    if section.id == 0 && matches!(read_name(&mut contents), Ok("name")) {
+        return Some(contents);
+    }
+    None
+}
+
+/// What stands in the last name section, behind its name.
+fn names_of<'a>(sections: &[ContentSection<'a>]) -> Option<BinaryReader<'a>> {
+    let mut names = None;
+    for section in sections {
+        if let Some(found) = names_in(section) {
+            names = Some(found);
+        }
+    }
+    names
+}
+
+/// Reads what stands in the sections of a module.
+fn read_contents<'a>(
+    alloc: Global,
+    sections: &[ContentSection<'a>],
+) -> Result<Module<'a>, ReadError>
+    ensures counted { IfOk result (λ m. m.declared.imports.functions + length m.bodies.items
+        ≡ length m.declared.functions.items) }
+    ensures read { IfOk result (λ m. HasContents (told_sections sections.now) (declarations_of m.declared)
+        (bytes_of m.bodies.items) (map told m.expressions.items)) }
+{
+    let types = read_type_section(alloc, sections)?;
+    let canonical = CanonicalTypes::new(&types.canonical);
+    let mut items = read_import_section(alloc, sections, canonical)?;
+    let imports = imports_of(&items, contents_of(sections, 2).offset())?;
+    let mut initializers = Initializers::new(alloc);
+    read_own_items(alloc, sections, canonical, &mut items, &mut initializers)?;
+    let exports = read_exports(alloc, sections, canonical)?;
+    let start = read_number_of(sections, 8)?;
+    let segments = read_segments(alloc, sections, canonical, &mut initializers)?;
+    let data_count = read_number_of(sections, 12)?;
+    let bodies = read_bodies_of(alloc, sections)?;
+    check_bodies(imports.functions, items.functions.len(), bodies.len())?;
+    check_data_count(data_count, segments.data_segments.len())?;
+    Ok(Module {
+        merged: types.merged(),
+        declared: DeclaredModule {
+            types: types.types,
+            groups: types.groups,
+            canonical: types.canonical,
+            imports,
+            functions: items.functions,
+            tables: items.tables,
+            memories: items.memories,
+            globals: items.globals,
+            tags: items.tags,
+            exports,
+            start: start_of(start),
+            elements: segments.elements,
+            data_count: data_count_of(data_count),
+            data_segments: segments.data_segments,
+            expression_functions: initializers.functions,
+        },
+        bodies,
+        expressions: initializers.expressions,
+        names: names_of(sections),
+    })
+}
+
+/// Reads a module, of which these are all the bytes. It refuses bytes that are no module's, a vector operator in a
+/// constant expression, but for a constant, and want of memory.
+///
+/// What it declares is what the bytes say, and so are its bodies and its constant expressions.
+pub fn read_module<'a>(alloc: Global, bytes: &'a [u8]) -> Result<Module<'a>, ReadError>
+    ensures counted { IfOk result (λ m. m.declared.imports.functions + length m.bodies.items
+        ≡ length m.declared.functions.items) }
+    ensures read { IfOk result (λ m. IsModule bytes.now (declarations_of m.declared) (bytes_of m.bodies.items)
+        (map told m.expressions.items)) }
+{
+    let mut reader = BinaryReader::new(bytes);
+    read_header(&mut reader)?;
+    let sections = read_sections(alloc, &mut reader)?;
+    let contents = read_contents(alloc, &sections)?;
+    Ok(contents)
+}

@@ -1,84 +1,119 @@
-/* Says of each module that is named what its check comes to, or, behind `-f INDEX`, that of one of its functions.
- * Ends with the greatest status.
+/* Tells of each module that is named what isn't accepted, with all proposals on, and how much came to what; behind
+ * `-f INDEX`, what the body of one of its functions comes to. Ends with the greatest status, and with 7 where a file
+ * can't be read or a word isn't understood.
  *
  *     gcc -O2 -o validate ffi/validate.c ffi/memory.c crates/tansyattic/out/libtansyattic.a
  */
 #include "tansyattic.h"
+#include <errno.h>
 #include <inttypes.h>
 #include <stdio.h>
 #include <stdlib.h>
 #include <string.h>
 
+enum { FAILED = 7 };
+
 static const char *const kinds[] = {
     "func", "table init", "global init", "elem offset", "elem item", "data offset", "module",
 };
 
-/* Reads the bytes of a file. They are NULL where that fails, and else never, even where there are none. */
-static uint8_t *read_file(const char *name, size_t *length) {
+/* Reads the bytes of a file, which may be none. Answers whether it could. */
+static bool read_file(const char *name, uint8_t **bytes, size_t *length) {
     FILE *file = fopen(name, "rb");
-    if (file == NULL) return NULL;
-    size_t room = 1 << 16;
-    uint8_t *bytes = malloc(room);
+    if (file == NULL) return false;
+    size_t room = 0;
+    *bytes = NULL;
     *length = 0;
-    while (bytes != NULL) {
-        size_t moved = fread(bytes + *length, 1, room - *length, file);
-        *length += moved;
-        if (moved == 0) break;
-        if (*length < room) continue;
-        uint8_t *larger = realloc(bytes, room *= 2);
-        if (larger == NULL) free(bytes);
-        bytes = larger;
-    }
-    if (bytes != NULL && ferror(file)) {
-        free(bytes);
-        bytes = NULL;
-    }
+    do {
+        uint8_t *larger = realloc(*bytes, room += room / 2 + 65536);
+        if (larger == NULL) break;
+        *bytes = larger;
+        *length += fread(*bytes + *length, 1, room - *length, file);
+    } while (*length == room);
+    bool whole = feof(file) != 0;
     fclose(file);
-    return bytes;
+    return whole;
 }
 
-static void print_verdict(const char *name, const struct tansyattic_verdict *v, const uint8_t *text) {
-    printf("%s: status %" PRIu32, name, v->status);
-    if (v->status != TANSYATTIC_VALID) {
-        printf(": %s", kinds[v->kind <= TANSYATTIC_MODULE ? v->kind : TANSYATTIC_MODULE]);
-        if (v->kind < TANSYATTIC_MODULE) printf(" %" PRIu64, v->index);
-        printf(" at offset 0x%" PRIx64 ": %.*s", v->offset, (int)v->text_length, (const char *)text);
-    }
-    printf(": %" PRIu64 " accepted, %" PRIu64 " refused, %" PRIu64 " not covered\n", v->accepted, v->refused,
-           v->not_covered);
+static void print_told(const char *name, const struct tansyattic_verdict *v, const uint8_t *text) {
+    printf("%s: %s", name, kinds[v->kind <= TANSYATTIC_MODULE ? v->kind : TANSYATTIC_MODULE]);
+    if (v->kind < TANSYATTIC_MODULE) printf(" %" PRIu64, v->index);
+    printf(": %.*s (at offset 0x%" PRIx64 ")\n", (int)v->text_length, (const char *)text, v->offset);
+}
+
+/* Prints what a module comes to, and what isn't accepted. */
+static uint32_t check_module(const char *name, struct tansyattic_module *module) {
+    uint8_t text[200];
+    struct tansyattic_verdict v;
+    uint32_t status = tansyattic_validate_module(module, NULL, 0, &v);
+    uint64_t accepted = v.accepted, refused = v.refused, not_covered = v.not_covered;
+    size_t position = 0;
+    if (status != TANSYATTIC_VALID)
+        while (tansyattic_validate_next(module, &position, text, sizeof text, &v) != TANSYATTIC_VALID)
+            print_told(name, &v, text);
+    printf("%s: %" PRIu64 " accepted, %" PRIu64 " refused, %" PRIu64 " not covered\n", name, accepted, refused,
+           not_covered);
+    return status;
+}
+
+/* Prints what the body of one of its functions comes to. */
+static uint32_t check_function(const char *name, struct tansyattic_module *module, uint32_t function) {
+    uint8_t text[200];
+    struct tansyattic_verdict v;
+    uint32_t status = tansyattic_validate_function(module, function, text, sizeof text, &v);
+    if (status == TANSYATTIC_VALID)
+        printf("%s: func %" PRIu32 ": accepted\n", name, function);
+    else
+        print_told(name, &v, text);
+    return status;
 }
 
 /* Checks the module of a file, or the function of it that is named. */
-static uint32_t check(const char *name, const char *function) {
+static uint32_t check(const char *name, const uint32_t *function) {
+    uint8_t *bytes, text[200];
     size_t length;
-    uint8_t *bytes = read_file(name, &length);
-    if (bytes == NULL) {
+    if (!read_file(name, &bytes, &length)) {
         printf("%s: can't be read\n", name);
-        return TANSYATTIC_OUT_OF_MEMORY;
+        return FAILED;
     }
-    uint8_t text[200];
+    struct tansyattic_module module = TANSYATTIC_NONE;
     struct tansyattic_verdict v;
-    if (function == NULL)
-        tansyattic_validate(bytes, length, text, sizeof text, &v);
+    uint32_t status = tansyattic_load(bytes, length, TANSYATTIC_FEATURES_ALL, &module, text, sizeof text, &v);
+    if (status != TANSYATTIC_VALID)
+        print_told(name, &v, text);
+    else if (function == NULL)
+        status = check_module(name, &module);
     else
-        tansyattic_validate_function(bytes, length, (uint32_t)strtoul(function, NULL, 10), text, sizeof text, &v);
+        status = check_function(name, &module, *function);
+    tansyattic_free(&module);
     free(bytes);
-    print_verdict(name, &v, text);
-    return v.status;
+    return status;
+}
+
+/* The index that a word is. Answers whether it is one. */
+static bool read_index(const char *word, uint32_t *index) {
+    char *end;
+    if (word == NULL || *word < '0' || *word > '9') return false;
+    errno = 0;
+    unsigned long long value = strtoull(word, &end, 10);
+    *index = (uint32_t)value;
+    return errno == 0 && *end == 0 && value <= UINT32_MAX;
 }
 
 int main(int count, char **words) {
-    uint32_t greatest = 0;
-    const char *function = NULL;
-    uint32_t version = tansyattic_version();
+    uint32_t greatest = 0, index, version = tansyattic_version();
+    const uint32_t *function = NULL;
     printf("tansyattic %" PRIu32 ".%" PRIu32 ".%" PRIu32 "\n", version >> 16, version >> 8 & 0xff, version & 0xff);
     for (int i = 1; i < count; i++) {
-        if (strcmp(words[i], "-f") == 0 && i + 1 < count) {
-            function = words[++i];
-            continue;
+        if (strcmp(words[i], "-f") != 0) {
+            uint32_t status = check(words[i], function);
+            if (status > greatest) greatest = status;
+        } else if (read_index(words[++i], &index)) {
+            function = &index;
+        } else {
+            fprintf(stderr, "-f: the index of a function stands behind it\n");
+            return FAILED;
         }
-        uint32_t status = check(words[i], function);
-        if (status > greatest) greatest = status;
     }
     return (int)greatest;
 }

@@ -1,0 +1,320 @@
+//! The calls of C on a module.
+
+ghost use Rattle.std.specs.Prelude.{◌≡◌, ◌≢◌, ◌<◌, ◌-◌, length, true, false, None, Some, IsOk, IfOk, IfErr, IfSome};
+ghost use Rattle.module_check.specs.Loaded.{IsSafeFunction, IsValid};
+ghost use Rattle.module_check.specs.Told.{IsTold};
+ghost use Rattle.module_check.specs.declared.report.Verdict.TheVariants.{Accepted};
+ghost use Rattle.module_handles.specs.Calls.{OnModule, OfModule, HaveTheSame, IsLoadedFrom, IsValidModuleOf};
+ghost use Rattle.module_handles.specs.Items.{AreSafeBetween, AreSafeFrom};
+
+use crate::handle::ModuleHandle;
+use crate::items::{check_from, check_function};
+use crate::shared::SharedModule;
+use module_check::{
+    BodyBuffers, Item, LoadedModule, ModuleFeatures, ModuleVerdict, NO_BODY, NOT_LOADED,
+    OUT_OF_MEMORY, VALID, Verdict, check_module,
+};
+use std::alloc::Global;
+use std::sync::Arc;
+use validate_types::Flags;
+
+/// The status of a verdict.
+fn status_of(verdict: &ModuleVerdict) -> u32
+    ensures { result ≡ verdict.now.status }
+{
+    verdict.status
+}
+
+/// Reads a module, of which these are all the bytes, and checks that what it declares is valid under these proposals:
+/// bits that stand for none say nothing.
+fn read<'a>(alloc: Global, bytes: &'a [u8], features: u32) -> Result<LoadedModule<'a>, Verdict>
+    ensures loaded { IfOk result (IsLoadedFrom bytes.now features) }
+    ensures refused { IfErr result (λ verdict. verdict ≢ Accepted) }
+{
+    LoadedModule::new(alloc, bytes, ModuleFeatures::from_bits_truncate(features))
+}
+
+/// Checks each body and each constant expression of a module.
+fn check_all(alloc: Global, module: &LoadedModule<'_>, text: &mut [u8], out: &mut ModuleVerdict)
+    requires { IsTold (length text.old) out.old }
+    ensures told { IsTold (length text.new) out.new }
+    ensures valid { out.new.status ≡ 0 → IsValid «module».now }
+{
+    check_module(module, &mut BodyBuffers::new(alloc), text, out);
+}
+
+/// Checks a module that was read, or notes why it wasn't.
+fn check_read(
+    alloc: Global,
+    read: &Result<LoadedModule<'_>, Verdict>,
+    text: &mut [u8],
+    out: &mut ModuleVerdict,
+)
+    requires told { IsTold (length text.old) out.old }
+    requires refused { IfErr read.now (λ verdict. verdict ≢ Accepted) }
+    ensures told { IsTold (length text.new) out.new }
+    ensures read { out.new.status ≡ 0 → IsOk read.now }
+    ensures valid { out.new.status ≡ 0 → IfOk read.now IsValid }
+{
+    match read {
+        Ok(module) => check_all(alloc, module, text, out),
+        Err(verdict) => out.note(verdict, None, text),
+    }
+}
+
+/// Checks a module, of which these are all the bytes, under these proposals: what it declares, each body and each
+/// constant expression. Where the status is 0, it is valid.
+pub fn validate(
+    alloc: Global,
+    bytes: &[u8],
+    features: u32,
+    text: &mut [u8],
+    out: &mut ModuleVerdict,
+) -> u32
+    ensures status { result ≡ out.new.status }
+    ensures told { IsTold (length text.new) out.new }
+    ensures valid { result ≡ 0 → IsValidModuleOf bytes.now features }
+{
+    *out = ModuleVerdict::new();
+    check_read(alloc, &read(alloc, bytes, features), text, out);
+    status_of(out)
+}
+
+/// Frees what a handle has.
+pub fn free(alloc: Global, handle: &mut ModuleHandle)
+    ensures { handle.new.held ≡ None }
+{
+    drop(handle.take(alloc));
+}
+
+/// Puts a module that is shared into a handle. Answers whether there was memory for it; else the handle stays as it
+/// was.
+fn keep(alloc: Global, module: SharedModule, handle: &mut ModuleHandle) -> bool
+    ensures kept { result ≡ true → handle.new.held ≡ Some «module» }
+    ensures unchanged { result ≡ false → handle.new.held ≡ handle.old.held }
+{
+    match Box::new(alloc, module) {
+        Ok(module) => {
+            handle.put(alloc, module);
+            true
+        }
+        Err(_) => false,
+    }
+}
+
+/// Reads a module into a handle, of which these are all the bytes, and checks that what it declares is valid under these
+/// proposals. Where the status is 0, the handle has it, and what it had before is freed; else it stays as it was.
+pub fn load(
+    alloc: Global,
+    bytes: &'static [u8],
+    features: u32,
+    handle: &mut ModuleHandle,
+    text: &mut [u8],
+    out: &mut ModuleVerdict,
+) -> u32
+    ensures status { result ≡ out.new.status }
+    ensures told { IsTold (length text.new) out.new }
+    ensures loaded { result ≡ 0 → OnModule handle.new.held (IsLoadedFrom bytes.now features) }
+    ensures unchanged { result ≢ 0 → handle.new.held ≡ handle.old.held }
+{
+    *out = ModuleVerdict::new();
+    match read(alloc, bytes, features) {
+        Ok(module) => {
+            if !keep_new(alloc, module, handle) {
+                out.tell(OUT_OF_MEMORY, None, 0, "out of memory", text);
+            }
+        }
+        Err(verdict) => out.note(&verdict, None, text),
+    }
+    status_of(out)
+}
+
+/// Puts a module into a handle. Answers whether there was memory for it; else the handle stays as it was.
+fn keep_new(alloc: Global, module: LoadedModule<'static>, handle: &mut ModuleHandle) -> bool
+    ensures kept { result ≡ true → OnModule handle.new.held (λ m. m ≡ «module».entry) }
+    ensures unchanged { result ≡ false → handle.new.held ≡ handle.old.held }
+{
+    match Arc::new(alloc, module) {
+        Ok(loaded) => keep(alloc, SharedModule { loaded }, handle),
+        Err(_) => false,
+    }
+}
+
+/// Another owner of a module, if there was memory for it.
+fn another(shared: &SharedModule) -> Option<SharedModule>
+    ensures { IfSome result (λ s. HaveTheSame (Some s) (Some shared.now)) }
+{
+    match shared.loaded.clone() {
+        Ok(loaded) => Some(SharedModule { loaded }),
+        Err(_) => None,
+    }
+}
+
+/// The status where there was memory, or not.
+fn status_of_memory(found: bool) -> u32
+    ensures found { result ≡ 0 → found ≡ true }
+    ensures wanting { result ≢ 0 → found ≡ false }
+{
+    if found { VALID } else { OUT_OF_MEMORY }
+}
+
+/// Gives a second handle the module of the first, which has it as before. Answers the status: 0, or that of want of
+/// memory or of no module, where the second stays as it was.
+pub fn share(alloc: Global, handle: &mut ModuleHandle, other: &mut ModuleHandle) -> u32
+    ensures shared { result ≡ 0 → HaveTheSame other.new.held handle.old.held }
+    ensures unchanged { result ≢ 0 → other.new.held ≡ other.old.held }
+    ensures kept { handle.new.held ≡ handle.old.held }
+{
+    let Some(shared) = handle.take(alloc) else {
+        return NOT_LOADED;
+    };
+    let second = another(&shared);
+    handle.put(alloc, shared);
+    match second {
+        Some(second) => status_of_memory(keep(alloc, second, other)),
+        None => OUT_OF_MEMORY,
+    }
+}
+
+/// The index behind that of the last function of a module.
+fn function_count(module: &LoadedModule<'_>) -> u32 {
+    module.function_of(module.bodies())
+}
+
+/// The index behind that of the last function, or 0 where there is no module.
+pub fn functions(alloc: Global, handle: &mut ModuleHandle) -> u32
+    ensures { handle.new.held ≡ handle.old.held }
+{
+    let Some(shared) = handle.take(alloc) else {
+        return 0;
+    };
+    let count = function_count(&shared.loaded);
+    handle.put(alloc, shared);
+    count
+}
+
+/// How many functions are imported, and have no body, or 0 where there is no module.
+pub fn imported_functions(alloc: Global, handle: &mut ModuleHandle) -> u32
+    ensures { handle.new.held ≡ handle.old.held }
+{
+    let Some(shared) = handle.take(alloc) else {
+        return 0;
+    };
+    let count = shared.loaded.function_of(0);
+    handle.put(alloc, shared);
+    count
+}
+
+/// Takes the module of a handle for a call, and begins its verdict, which tells where there is none.
+fn begin(
+    alloc: Global,
+    handle: &mut ModuleHandle,
+    text: &mut [u8],
+    out: &mut ModuleVerdict,
+) -> Option<Box<SharedModule>>
+    ensures told { IsTold (length text.new) out.new }
+    ensures some { IfSome result (λ b. (handle.old.held ≡ Some b.value) × (out.new.status ≡ 0)) }
+    ensures none { result ≡ None → (handle.old.held ≡ None) × (handle.new.held ≡ None) × (out.new.status ≢ 0) }
+{
+    *out = ModuleVerdict::new();
+    let shared = handle.take(alloc);
+    if shared.is_none() {
+        out.tell(NOT_LOADED, None, 0, "there is no module", text);
+    }
+    shared
+}
+
+/// Checks the body of the function at this index, if the module has one for it, and notes what it comes to.
+fn check_one(
+    alloc: Global,
+    module: &LoadedModule<'_>,
+    function: u32,
+    text: &mut [u8],
+    out: &mut ModuleVerdict,
+)
+    requires { IsTold (length text.old) out.old }
+    ensures told { IsTold (length text.new) out.new }
+    ensures safe { out.new.status ≡ 0 → IsSafeFunction «module».now function }
+{
+    if module.body_of(function).is_some() {
+        check_function(module, function, &mut BodyBuffers::new(alloc), text, out);
+    } else {
+        let item = Some(Item::Function(function));
+        out.tell(
+            NO_BODY,
+            item,
+            0,
+            "the module has no body for this function",
+            text,
+        );
+    }
+}
+
+/// Checks the body of the function at this index.
+pub fn validate_function(
+    alloc: Global,
+    handle: &mut ModuleHandle,
+    function: u32,
+    text: &mut [u8],
+    out: &mut ModuleVerdict,
+) -> u32
+    ensures status { result ≡ out.new.status }
+    ensures told { IsTold (length text.new) out.new }
+    ensures safe { result ≡ 0 → OnModule handle.old.held (λ m. IsSafeFunction m function) }
+    ensures kept { handle.new.held ≡ handle.old.held }
+{
+    if let Some(shared) = begin(alloc, handle, text, out) {
+        check_one(alloc, &shared.loaded, function, text, out);
+        handle.put(alloc, shared);
+    }
+    status_of(out)
+}
+
+/// Checks each body and each constant expression. Where the status is 0, the module is valid.
+pub fn validate_module(
+    alloc: Global,
+    handle: &mut ModuleHandle,
+    text: &mut [u8],
+    out: &mut ModuleVerdict,
+) -> u32
+    ensures status { result ≡ out.new.status }
+    ensures told { IsTold (length text.new) out.new }
+    ensures valid { result ≡ 0 → OnModule handle.old.held IsValid }
+    ensures kept { handle.new.held ≡ handle.old.held }
+{
+    if let Some(shared) = begin(alloc, handle, text, out) {
+        check_all(alloc, &shared.loaded, text, out);
+        handle.put(alloc, shared);
+    }
+    status_of(out)
+}
+
+/// Checks them one after another, the constant expressions first, from the one at the position on, up to one that isn't
+/// accepted: that is told, and the position is behind it. The status is 0 where there is none.
+pub fn validate_next(
+    alloc: Global,
+    handle: &mut ModuleHandle,
+    position: &mut usize,
+    text: &mut [u8],
+    out: &mut ModuleVerdict,
+) -> u32
+    ensures status { result ≡ out.new.status }
+    ensures told { IsTold (length text.new) out.new }
+    ensures rest { result ≡ 0 → OnModule handle.old.held (λ m. AreSafeFrom m position.old) }
+    ensures before { result ≢ 0 → OfModule handle.old.held (λ m.
+        AreSafeBetween m position.old (position.new - 1)) }
+    ensures further { result ≢ 0 → OfModule handle.old.held (λ m. position.old < position.new) }
+    ensures kept { handle.new.held ≡ handle.old.held }
+{
+    if let Some(shared) = begin(alloc, handle, text, out) {
+        check_from(
+            &shared.loaded,
+            position,
+            &mut BodyBuffers::new(alloc),
+            text,
+            out,
+        );
+        handle.put(alloc, shared);
+    }
+    status_of(out)
+}

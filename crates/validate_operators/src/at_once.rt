@@ -19,7 +19,7 @@ use validate_rows::globals::{global_get, global_set};
 use validate_rows::indirect::call_indirect_at_once;
 use validate_rows::memory::memory_at_once;
 use validate_rows::parametric::{drop_operand, select};
-use validate_rows::references::{ref_as_non_null_at_once, ref_is_null_at_once, ref_null_at_once};
+use validate_rows::references::{ref_as_non_null, ref_is_null, ref_null};
 use validate_rows::variables::{local_get, local_set, local_tee};
 use validate_rows_gc::arrays::array_at_once;
 use validate_rows_gc::casts::{
@@ -189,9 +189,9 @@ fn reference_at_once<R: WasmModuleResources>(
         (λ cx. staying_operator (λ hs. reference_row cx hs op.now)) stacks.old result stacks.new }
 {
     match op {
-        ReferenceOp::RefNull(heap_type) => ref_null_at_once(stacks, resources, *heap_type),
-        ReferenceOp::RefIsNull => ref_is_null_at_once(stacks, resources),
-        ReferenceOp::RefAsNonNull => ref_as_non_null_at_once(stacks, resources),
+        ReferenceOp::RefNull(heap_type) => is_done(ref_null(stacks, resources, *heap_type)),
+        ReferenceOp::RefIsNull => is_done(ref_is_null(stacks, resources)),
+        ReferenceOp::RefAsNonNull => is_done(ref_as_non_null(stacks, resources)),
         ReferenceOp::RefTestNonNull(heap_type) => ref_test_at_once(
             stacks, resources, false, *heap_type,
         ),

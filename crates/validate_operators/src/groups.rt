@@ -1,12 +1,12 @@
 //! The check of each group: behind the operator's gate, that of its row.
 
-ghost use Rattle.std.specs.Prelude.{◌≡◌, true, false, OnOk, OnErr, IfErr};
+ghost use Rattle.std.specs.Prelude.{◌≡◌, [], true, false, OnOk, OnErr, IfErr};
 ghost use Rattle.validate_types.specs.Gates.{is_open};
 ghost use Rattle.validate_types.specs.declared.gate.Gate.{Gate};
 ghost use Rattle.validate_visit.specs.Gates.{reference_gate};
 ghost use Rattle.validate_visit.specs.declared.op.Op.{Op};
-ghost use Rattle.validation_rules.specs.Operators.{operator, staying_operator, control_operator, exception_operator};
-ghost use Rattle.validation_rules.specs.References.{reference_row};
+ghost use Rattle.validation_rules.specs.Operators.{operator, row_operator, looking_row, staying_operator, control_operator, exception_operator};
+ghost use Rattle.validation_rules.specs.References.{reference_row, ref_null_row, ref_func_row, null_test_pushes, non_null_pushes};
 ghost use Rattle.validate_stacks.specs.Visits.{MayVisit, Meets};
 ghost use Rattle.validate_operators.specs.Bodies.{has_body};
 ghost use Rattle.validate_operators.specs.Memory.{TakesNoMemory};
@@ -22,6 +22,7 @@ use validate_rows::memory::check_memory_row;
 use validate_rows::parametric::{
     check_typed_select, check_typed_select_multi, drop_operand, select,
 };
+use validate_rows::references::{ref_as_non_null, ref_func, ref_is_null, ref_null};
 use validate_rows::tables::check_table_row;
 use validate_rows::variables::{local_get, local_set, local_tee};
 use validate_rows::{indirect, references};
@@ -36,7 +37,7 @@ use validate_rows_handlers::throws::{check_rethrow, check_throw, check_throw_ref
 use validate_shapes::blocks::check_opener;
 use validate_shapes::checked::{checked, checked_after};
 use validate_stacks::Stacks;
-use validate_types::{AbstractHeapType, Error, Gate, ValType};
+use validate_types::{AbstractHeapType, Error, Gate, HeapType, ValType};
 use validate_visit::{
     ArrayOp, AtomicOp, ContinuationOp, ControlOp, ConvertOp, ExceptionOp, FrameKind, MemoryOp,
     NumericOp, ReferenceOp, SharedOp, StructOp, TableOp,
@@ -274,6 +275,69 @@ pub(crate) fn check_atomic<R: WasmModuleResources>(
     check_atomic_row(stacks, resources, offset, op)
 }
 
+/// The check of `ref.null`, its gate aside. It and its kin are called, so that none of what they tell lies where they
+/// aren't.
+#[inline(never)]
+fn check_ref_null<R: WasmModuleResources>(
+    stacks: &mut Stacks,
+    resources: &R,
+    offset: u64,
+    heap_type: HeapType,
+) -> Result<(), Error>
+    requires { MayVisit (R.context resources.now) stacks.old }
+    ensures { Meets (R.context resources.now) (λ cx. row_operator (ref_null_row cx heap_type)) offset
+        stacks.old.body result stacks.new.body }
+{
+    let answer = ref_null(stacks, resources, heap_type);
+    checked(stacks, resources, offset, answer)
+}
+
+/// The same of `ref.func`, which has no form at once.
+#[inline(never)]
+fn check_ref_func<R: WasmModuleResources>(
+    stacks: &mut Stacks,
+    resources: &R,
+    offset: u64,
+    function_index: u32,
+) -> Result<(), Error>
+    requires { MayVisit (R.context resources.now) stacks.old }
+    ensures { Meets (R.context resources.now) (λ cx. row_operator (ref_func_row cx function_index)) offset
+        stacks.old.body result stacks.new.body }
+{
+    let answer = ref_func(stacks, resources, function_index);
+    checked(stacks, resources, offset, answer)
+}
+
+/// The same of `ref.is_null`.
+#[inline(never)]
+fn check_ref_is_null<R: WasmModuleResources>(
+    stacks: &mut Stacks,
+    resources: &R,
+    offset: u64,
+) -> Result<(), Error>
+    requires { MayVisit (R.context resources.now) stacks.old }
+    ensures { Meets (R.context resources.now) (λ cx. row_operator (looking_row 1 null_test_pushes)) offset
+        stacks.old.body result stacks.new.body }
+{
+    let answer = ref_is_null(stacks, resources);
+    checked_after(stacks, resources, offset, 1, answer)
+}
+
+/// The same of `ref.as_non_null`.
+#[inline(never)]
+fn check_ref_as_non_null<R: WasmModuleResources>(
+    stacks: &mut Stacks,
+    resources: &R,
+    offset: u64,
+) -> Result<(), Error>
+    requires { MayVisit (R.context resources.now) stacks.old }
+    ensures { Meets (R.context resources.now) (λ cx. row_operator (looking_row 1 (non_null_pushes cx []))) offset
+        stacks.old.body result stacks.new.body }
+{
+    let answer = ref_as_non_null(stacks, resources);
+    checked_after(stacks, resources, offset, 1, answer)
+}
+
 /// The check of an operator on references, its gate aside.
 fn check_reference_row<R: WasmModuleResources>(
     stacks: &mut Stacks,
@@ -286,14 +350,12 @@ fn check_reference_row<R: WasmModuleResources>(
         stacks.old.body result stacks.new.body }
 {
     match op {
-        ReferenceOp::RefNull(heap_type) => {
-            references::check_ref_null(stacks, resources, offset, heap_type)
-        }
-        ReferenceOp::RefIsNull => references::check_ref_is_null(stacks, resources, offset),
+        ReferenceOp::RefNull(heap_type) => check_ref_null(stacks, resources, offset, heap_type),
+        ReferenceOp::RefIsNull => check_ref_is_null(stacks, resources, offset),
         ReferenceOp::RefFunc(function_index) => {
-            references::check_ref_func(stacks, resources, offset, function_index)
+            check_ref_func(stacks, resources, offset, function_index)
         }
-        ReferenceOp::RefAsNonNull => references::check_ref_as_non_null(stacks, resources, offset),
+        ReferenceOp::RefAsNonNull => check_ref_as_non_null(stacks, resources, offset),
         ReferenceOp::BrOnNull(relative_depth) => {
             references::check_br_on_null(stacks, resources, offset, relative_depth)
         }

@@ -11,11 +11,11 @@ use Rattle.validation_rules.specs.References.{ref_func_row}
 use Rattle.validation_rules.specs.Operators.{plain_row, plain_row_if, lookup_row}
 use Rattle.validation_rules.proofs.Valid.{declared_valid}
 use Rattle.validate_stacks.specs.State.{body_context}
-use Rattle.validate_shapes.proofs.LookupRows.{meets_barred, meets_found}
+use Rattle.validate_shapes.proofs.Moves.{moves_barred, moves_found}
 use Rattle.validate_shapes.proofs.HeapReferences.{not_made, made_is}
-use Rattle.validate_rows.proofs.references.check_ref_func.Given.{Over}
-use Rattle.validate_rows.proofs.references.check_ref_func.Goals.{After-function_heap-heap_type}
-use Rattle.validate_rows.proofs.references.check_ref_func.Goals as goal
+use Rattle.validate_rows.proofs.references.ref_func.Given.{Over}
+use Rattle.validate_rows.proofs.references.ref_func.Goals.{After-function_heap-heap_type}
+use Rattle.validate_rows.proofs.references.ref_func.Goals as goal
 
 module _ (g : Over) (c : After-function_heap-heap_type g) where
   abbrev md : ModuleContext
@@ -29,16 +29,16 @@ module _ (g : Over) (c : After-function_heap-heap_type g) where
 
 pub returns-in_default : goal.returns-in_default
 returns-in_default g c =
-    meets_barred _ _ (λ cx hs. ref_func_row cx c.args.function_index) _ _ (search rules) (search rules) (search rules) c.requires.valid
+    moves_barred _ _ c.args.stacks.now (λ cx hs. ref_func_row cx c.args.function_index) _ (search rules) (search rules)
 
 pub returns-then-not-is_function_referenced : goal.returns-then-not-is_function_referenced
 returns-then-not-is_function_referenced g c =
-    meets_barred _ _ (λ cx hs. ref_func_row cx c.args.function_index) _ _ (search rules) (search rules) (search rules) c.requires.valid
+    moves_barred _ _ c.args.stacks.now (λ cx hs. ref_func_row cx c.args.function_index) _ (search rules) (search rules)
 
 pub unreachable-requires : goal.unreachable-requires
 unreachable-requires g c =
     let at = (goal.at.unreachable-requires g c).After-function_heap-heap_type in
-    not_made (md g at) c.function_heap-heap_type.result false (heap_valid g at) (sym c.new-2.ensures ∙ c.in_default-new.is)
+    not_made (md g at) c.function_heap-heap_type.result false (heap_valid g at) (sym c.new.ensures ∙ c.in_default-new.is)
 
 pub returns : goal.returns
 returns g c =
@@ -49,5 +49,5 @@ returns g c =
     let found = ap (λ o. lookup_row o (λ (id : CoreTypeId). plain_row_if (cx.of_module.is_referenced f) [] (Ref (reference false (function_heap cx f (Id id))) ∷ []))) (sym c.type_id_of_function.ensures ∙ c.in-Some.is) in
     let referenced = ap (λ b. plain_row_if b [] ps) (sym c.is_function_referenced.ensures ∙ c.if-not-is_function_referenced.false) in
     let heap = ap (λ (h : HeapType). plain_row [] (Ref (reference false h) ∷ [])) (sym c.function_heap-heap_type.ensures) in
-    let made = ap (λ (r : RefType). plain_row [] (Ref r ∷ [])) (made_is (md g at) c.function_heap-heap_type.result false c.in-Some-new.ty (heap_valid g at) (sym c.new-2.ensures ∙ c.in-Some-new.is)) in
-    meets_found (md g at) c.args.stacks.now.body (λ cx hs. ref_func_row cx f) c.args.offset (λ cx hs. plain_row [] (Ref c.in-Some-new.ty ∷ [])) _ _ (found ∙ (referenced ∙ (heap ∙ made))) c.check_plain.ensures
+    let made = ap (λ (r : RefType). plain_row [] (Ref r ∷ [])) (made_is (md g at) c.function_heap-heap_type.result false c.in-Some-new.ty (heap_valid g at) (sym c.new.ensures ∙ c.in-Some-new.is)) in
+    moves_found (md g at) _ c.args.stacks.now (λ cx hs. ref_func_row cx f) _ (λ cx hs. plain_row [] (Ref c.in-Some-new.ty ∷ [])) _ (found ∙ (referenced ∙ (heap ∙ made))) c.constant.ensures

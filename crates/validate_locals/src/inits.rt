@@ -232,6 +232,19 @@ impl LocalInits {
         }
     }
 
+    /// Makes room to set one more local. Want of memory changes nothing.
+    pub fn take_room(&mut self) -> Result<(), OutOfMemory>
+        ensures set_at_entry { self.new.set_at_entry ≡ self.old.set_at_entry }
+        ensures order { self.new.order ≡ self.old.order }
+        ensures room { self.old.room ≤ self.new.room }
+        ensures declared_room { self.new.declared_room ≡ self.old.declared_room }
+        ensures ok { OnOk result (length self.new.order < self.new.room) }
+        ensures err { OnErr result (self.new ≡ self.old) }
+    {
+        self.inits.reserve(1)?;
+        Ok(())
+    }
+
     /// Sets the local at this index: where it wasn't set, it comes last in the order. Want of memory
     /// changes nothing, and there is none where there is room or the local is set already.
     #[inline(always)]

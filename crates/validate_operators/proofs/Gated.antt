@@ -1,5 +1,5 @@
 -- An operator behind its gate.
-use Rattle.std.proofs.Common.{◌≡◌, ℕ, Bool, true, false, ◌&&◌, List, [], ◌∷◌, None, Result, Ok, Err, OnOk, OnErr, IfErr, refl, sym, ap, ◌∙◌}
+use Rattle.std.proofs.Common.{◌≡◌, ℕ, Bool, true, false, ◌&&◌, List, [], ◌∷◌, None, Result, Ok, Err, IsOk, is_ok, OnOk, OnErr, IfErr, refl, sym, ap, ◌∙◌}
 use Rattle.std.specs.Option.{option_map}
 use Rattle.validate_resources.specs.Context.{ModuleContext}
 use Rattle.validate_types.specs.Refusal.{Refusal}
@@ -10,9 +10,12 @@ use Rattle.validate_visit.specs.declared.op.Op.{Op}
 use Rattle.validation_rules.specs.Rows.{Head, Form, Stays, Opens, BeginsElse, BeginsCatch, Ends, Delegates, Row, Operator}
 use Rattle.validation_rules.specs.Static.{Frame, State, step, step_in}
 use Rattle.validation_rules.specs.Operators.{operator, ungated_operator}
+use Rattle.validate_stacks.specs.Attempts.{Stacked}
+use Rattle.validate_stacks.specs.Moves.{Moves}
 use Rattle.validate_stacks.specs.State.{BodyState, body_context, IsValidBody}
 use Rattle.validate_stacks.specs.Visits.{step_body, Meets}
 use Rattle.validate_shapes.proofs.LastSteps.{meets_none, meets_as}
+use Rattle.validate_shapes.proofs.Moves.{unmoved, moves_as}
 
 -- the operator with another premise before its own
 abbrev under : Bool → Operator → Operator
@@ -44,3 +47,25 @@ module _ (md : ModuleContext) (v : BodyState) where
       -- it is open
       pub meets_open : (w : BodyState) (r : Result (Unit {0}) Refusal) → is_open v.features gate ≡ true → Meets md (λ c. ungated_operator c op) offset v r w → Meets md (λ c. operator c op) offset v r w
       meets_open w r h m = meets_as md (λ c. ungated_operator c op) (λ c. operator c op) offset v w r (sym (gated_as true (ap (is_open v.features) (sym same) ∙ h))) m
+
+-- ---- the same of a body
+
+module _ {E : Type 0} (md : ModuleContext) (tells : E → Type 0) (op : Op) (s : Stacked) (gate : Gate) (same : gate ≡ gate_of op) where
+  pub moves_shut : (r : Result (Unit {0}) E) → OnOk r ⊥ → OnErr r (is_open s.body.features gate ≡ false) → Moves md tells (λ c. operator c op) s r s
+  moves_shut (Ok u) n h = absurd n
+  moves_shut (Err e) n h = unmoved md tells (λ c. operator c op) s s (Err e) tt refl (λ t. shut md s.body op (ap (is_open s.body.features) (sym same) ∙ h))
+
+  pub moves_open : (w : Stacked) (r : Result (Unit {0}) E) → is_open s.body.features gate ≡ true → Moves md tells (λ c. ungated_operator c op) s r w → Moves md tells (λ c. operator c op) s r w
+  moves_open w r h m = moves_as md tells (λ c. operator c op) (λ c. ungated_operator c op) s w (gated_as md s.body op true (ap (is_open s.body.features) (sym same) ∙ h)) r m
+
+-- the answer of a body is that of its check
+pub refused_as : {E F : Type 0} (P : Type 0) (a : Result (Unit {0}) E) (r : Result (Unit {0}) F) → is_ok r ≡ is_ok a → OnErr a P → OnErr r P
+refused_as P (Ok u) (Ok x) same h = tt
+refused_as P (Err e) (Err x) same h = h
+refused_as P (Ok u) (Err x) same h = cc
+refused_as P (Err e) (Ok x) same h = tt
+
+pub accepted_as : {E F : Type 0} (P : Type 0) (a : Result (Unit {0}) E) (r : Result (Unit {0}) F) → is_ok r ≡ is_ok a → IsOk a → OnErr r P
+accepted_as P a (Ok x) same h = tt
+accepted_as P (Ok u) (Err x) same h = cc
+accepted_as P (Err e) (Err x) same h = absurd cc

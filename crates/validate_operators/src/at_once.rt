@@ -2,7 +2,7 @@
 
 ghost use Rattle.validate_visit.specs.declared.op.Op.{Op};
 ghost use Rattle.validate_visit.specs.declared.op.ControlOp.{ControlOp};
-ghost use Rattle.std.specs.Prelude.{◌≡◌, true};
+ghost use Rattle.std.specs.Prelude.{◌≡◌, true, is_ok};
 ghost use Rattle.validate_types.specs.declared.gate.Gate.TheVariants.{Mvp};
 ghost use Rattle.validate_visit.specs.Gates.{control_gate};
 ghost use Rattle.validation_rules.specs.Operators.{operator, control_operator, staying_operator};
@@ -10,17 +10,17 @@ ghost use Rattle.validation_rules.specs.References.{reference_row};
 ghost use Rattle.validate_stacks.specs.AtOnce.{MeetsAtOnce};
 ghost use Rattle.validate_stacks.specs.Visits.{MayVisit};
 
+use crate::one_body::{gated_convert, gated_numeric};
 use validate_resources::WasmModuleResources;
-use validate_rows::branches::{br_at_once, br_if_at_once, br_table_at_once, return_at_once};
-use validate_rows::calls::call_at_once;
-use validate_rows::control::{else_at_once, end_at_once, nop_at_once, unreachable_at_once};
-use validate_rows::globals::{global_get_at_once, global_set_at_once};
+use validate_rows::branches::{br, br_if, br_table, return_results};
+use validate_rows::calls::call;
+use validate_rows::control::{else_at_once, end_at_once, nop, unreachable};
+use validate_rows::globals::{global_get, global_set};
 use validate_rows::indirect::call_indirect_at_once;
 use validate_rows::memory::memory_at_once;
-use validate_rows::numeric::{convert_at_once, numeric_at_once};
-use validate_rows::parametric::{drop_at_once, select_at_once};
+use validate_rows::parametric::{drop_operand, select};
 use validate_rows::references::{ref_as_non_null_at_once, ref_is_null_at_once, ref_null_at_once};
-use validate_rows::variables::{local_get_at_once, local_set_at_once, local_tee_at_once};
+use validate_rows::variables::{local_get, local_set, local_tee};
 use validate_rows_gc::arrays::array_at_once;
 use validate_rows_gc::casts::{
     br_on_cast_at_once, br_on_cast_fail_at_once, ref_cast_at_once, ref_test_at_once,
@@ -29,44 +29,17 @@ use validate_rows_gc::found::{measure_at_once, ref_eq_at_once};
 use validate_rows_gc::structs::struct_at_once;
 use validate_shapes::blocks::opener_at_once;
 use validate_stacks::Stacks;
-use validate_types::{AbstractHeapType, Gate, ValType};
+use validate_types::{AbstractHeapType, Gate, NotAtOnce, ValType};
 use validate_visit::{
-    ArrayOp, BlockType, BrTable, ControlOp, ConvertOp, FrameKind, MemoryOp, NumericOp, Op,
-    ReferenceOp, StructOp,
+    ArrayOp, BlockType, ControlOp, FrameKind, MemoryOp, Op, ReferenceOp, StructOp,
 };
 
-/// An operator on numbers, behind its gate.
+/// Whether a body was done.
 #[inline(always)]
-fn gated_numeric_at_once<R: WasmModuleResources>(
-    stacks: &mut Stacks,
-    resources: &R,
-    op: &NumericOp,
-) -> bool
-    requires { MayVisit (R.context resources.now) stacks.old }
-    ensures { MeetsAtOnce (R.context resources.now) (λ cx. operator cx (Op.Numeric op.now)) stacks.old result
-        stacks.new }
+fn is_done(answer: Result<(), NotAtOnce>) -> bool
+    ensures { result ≡ is_ok answer }
 {
-    if !op.gate().is_open(stacks.features()) {
-        return false;
-    }
-    numeric_at_once(stacks, resources, *op)
-}
-
-/// A conversion, behind its gate.
-#[inline(never)]
-fn gated_convert_at_once<R: WasmModuleResources>(
-    stacks: &mut Stacks,
-    resources: &R,
-    op: &ConvertOp,
-) -> bool
-    requires { MayVisit (R.context resources.now) stacks.old }
-    ensures { MeetsAtOnce (R.context resources.now) (λ cx. operator cx (Op.Convert op.now)) stacks.old result
-        stacks.new }
-{
-    if !op.gate().is_open(stacks.features()) {
-        return false;
-    }
-    convert_at_once(stacks, resources, *op)
+    answer.is_ok()
 }
 
 /// `block`, its gate aside.
@@ -99,20 +72,6 @@ fn if_at_once<R: WasmModuleResources>(stacks: &mut Stacks, resources: &R, ty: &B
     opener_at_once(stacks, resources, FrameKind::If, Some(ValType::I32), *ty)
 }
 
-/// `br_table`, its gate aside.
-#[inline(never)]
-fn table_at_once<R: WasmModuleResources>(
-    stacks: &mut Stacks,
-    resources: &R,
-    table: &BrTable<'_>,
-) -> bool
-    requires { MayVisit (R.context resources.now) stacks.old }
-    ensures { MeetsAtOnce (R.context resources.now)
-        (λ cx. control_operator cx (ControlOp.BrTable table.now)) stacks.old result stacks.new }
-{
-    br_table_at_once(stacks, resources, *table)
-}
-
 /// An operator on control, locals or globals, its gate aside. None that passes at once has a gate.
 #[inline(always)]
 fn control_at_once<R: WasmModuleResources>(
@@ -126,29 +85,29 @@ fn control_at_once<R: WasmModuleResources>(
     ensures gate { result ≡ true → control_gate op.now ≡ Mvp }
 {
     match op {
-        ControlOp::Unreachable => unreachable_at_once(stacks, resources),
-        ControlOp::Nop => nop_at_once(stacks, resources),
+        ControlOp::Unreachable => is_done(unreachable(stacks, resources)),
+        ControlOp::Nop => is_done(nop(stacks, resources)),
         ControlOp::Block(ty) => block_at_once(stacks, resources, ty),
         ControlOp::Loop(ty) => loop_at_once(stacks, resources, ty),
         ControlOp::If(ty) => if_at_once(stacks, resources, ty),
         ControlOp::Else => else_at_once(stacks, resources),
         ControlOp::End => end_at_once(stacks, resources),
-        ControlOp::Br(relative_depth) => br_at_once(stacks, resources, *relative_depth),
-        ControlOp::BrIf(relative_depth) => br_if_at_once(stacks, resources, *relative_depth),
-        ControlOp::BrTable(table) => table_at_once(stacks, resources, table),
-        ControlOp::Return => return_at_once(stacks, resources),
-        ControlOp::Call(function_index) => call_at_once(stacks, resources, *function_index),
+        ControlOp::Br(relative_depth) => is_done(br(stacks, resources, *relative_depth)),
+        ControlOp::BrIf(relative_depth) => is_done(br_if(stacks, resources, *relative_depth)),
+        ControlOp::BrTable(table) => is_done(br_table(stacks, resources, table)),
+        ControlOp::Return => is_done(return_results(stacks, resources)),
+        ControlOp::Call(function_index) => is_done(call(stacks, resources, *function_index)),
         ControlOp::CallIndirect {
             type_index,
             table_index,
         } => call_indirect_at_once(stacks, resources, *type_index, *table_index),
-        ControlOp::Drop => drop_at_once(stacks, resources),
-        ControlOp::Select => select_at_once(stacks, resources),
-        ControlOp::LocalGet(local_index) => local_get_at_once(stacks, resources, *local_index),
-        ControlOp::LocalSet(local_index) => local_set_at_once(stacks, resources, *local_index),
-        ControlOp::LocalTee(local_index) => local_tee_at_once(stacks, resources, *local_index),
-        ControlOp::GlobalGet(global_index) => global_get_at_once(stacks, resources, *global_index),
-        ControlOp::GlobalSet(global_index) => global_set_at_once(stacks, resources, *global_index),
+        ControlOp::Drop => is_done(drop_operand(stacks, resources)),
+        ControlOp::Select => is_done(select(stacks, resources)),
+        ControlOp::LocalGet(local_index) => is_done(local_get(stacks, resources, *local_index)),
+        ControlOp::LocalSet(local_index) => is_done(local_set(stacks, resources, *local_index)),
+        ControlOp::LocalTee(local_index) => is_done(local_tee(stacks, resources, *local_index)),
+        ControlOp::GlobalGet(global_index) => is_done(global_get(stacks, resources, *global_index)),
+        ControlOp::GlobalSet(global_index) => is_done(global_set(stacks, resources, *global_index)),
         _ => false,
     }
 }
@@ -282,8 +241,8 @@ pub fn operator_at_once<R: WasmModuleResources>(stacks: &mut Stacks, resources: 
 {
     match op {
         Op::Control(op) => gated_control_at_once(stacks, resources, op),
-        Op::Numeric(op) => gated_numeric_at_once(stacks, resources, op),
-        Op::Convert(op) => gated_convert_at_once(stacks, resources, op),
+        Op::Numeric(op) => is_done(gated_numeric(stacks, resources, op)),
+        Op::Convert(op) => is_done(gated_convert(stacks, resources, op)),
         Op::Memory(op) => gated_memory_at_once(stacks, resources, op),
         Op::Reference(op) => gated_reference_at_once(stacks, resources, op),
         Op::Struct(op) => gated_struct_at_once(stacks, resources, op),

@@ -8,21 +8,22 @@ ghost use Rattle.validate_visit.specs.declared.op.Op.{Op};
 ghost use Rattle.validation_rules.specs.Operators.{operator, staying_operator, control_operator, exception_operator};
 ghost use Rattle.validation_rules.specs.References.{reference_row};
 ghost use Rattle.validate_stacks.specs.Visits.{MayVisit, Meets};
+ghost use Rattle.validate_operators.specs.Bodies.{has_body};
 ghost use Rattle.validate_operators.specs.Memory.{TakesNoMemory};
 
+use crate::one_body::{gated_convert, gated_numeric};
 use validate_resources::WasmModuleResources;
 use validate_rows::atomic::check_atomic_row;
-use validate_rows::branches::{check_br, check_br_if, check_br_table, check_return};
-use validate_rows::calls::{check_call, check_return_call};
-use validate_rows::control::{check_else, check_end, check_nop, check_unreachable};
-use validate_rows::globals::{check_global_get, check_global_set};
+use validate_rows::branches::{br, br_if, br_table, return_results};
+use validate_rows::calls::{call, check_return_call};
+use validate_rows::control::{check_else, check_end, nop, unreachable};
+use validate_rows::globals::{global_get, global_set};
 use validate_rows::memory::check_memory_row;
-use validate_rows::numeric::{check_convert_row, check_numeric_row};
 use validate_rows::parametric::{
-    check_drop, check_select, check_typed_select, check_typed_select_multi,
+    check_typed_select, check_typed_select_multi, drop_operand, select,
 };
 use validate_rows::tables::check_table_row;
-use validate_rows::variables::{check_local_get, check_local_set, check_local_tee};
+use validate_rows::variables::{local_get, local_set, local_tee};
 use validate_rows::{indirect, references};
 use validate_rows_gc::arrays::check_array_row;
 use validate_rows_gc::places::check_shared_row;
@@ -33,6 +34,7 @@ use validate_rows_handlers::continuations::check_continuation_row;
 use validate_rows_handlers::legacy::{check_catch, check_catch_all, check_delegate};
 use validate_rows_handlers::throws::{check_rethrow, check_throw, check_throw_ref};
 use validate_shapes::blocks::check_opener;
+use validate_shapes::checked::{checked, checked_after};
 use validate_stacks::Stacks;
 use validate_types::{AbstractHeapType, Error, Gate, ValType};
 use validate_visit::{
@@ -55,6 +57,83 @@ fn check_enabled(stacks: &Stacks, offset: u64, gate: Gate) -> Result<(), Error>
     }
 }
 
+/// The check of an operator that has one body, its gate aside. It is called where that has refused already, so that none
+/// of what it tells lies where it isn't.
+#[cold]
+#[inline(never)]
+fn check_body<R: WasmModuleResources>(
+    stacks: &mut Stacks,
+    resources: &R,
+    offset: u64,
+    op: ControlOp,
+) -> Result<(), Error>
+    requires visit { MayVisit (R.context resources.now) stacks.old }
+    requires body { has_body op ≡ true }
+    ensures row { Meets (R.context resources.now) (λ cx. control_operator cx op.entry) offset
+        stacks.old.body result stacks.new.body }
+    ensures memory { TakesNoMemory (R.context resources.now) (Op.Control op.entry) stacks.old.body result }
+{
+    match op {
+        ControlOp::Unreachable => {
+            let answer = unreachable(stacks, resources);
+            checked(stacks, resources, offset, answer)
+        }
+        ControlOp::Nop => {
+            let answer = nop(stacks, resources);
+            checked(stacks, resources, offset, answer)
+        }
+        ControlOp::Br(relative_depth) => {
+            let answer = br(stacks, resources, relative_depth);
+            checked(stacks, resources, offset, answer)
+        }
+        ControlOp::BrIf(relative_depth) => {
+            let answer = br_if(stacks, resources, relative_depth);
+            checked_after(stacks, resources, offset, 1, answer)
+        }
+        ControlOp::BrTable(table) => {
+            let answer = br_table(stacks, resources, &table);
+            checked_after(stacks, resources, offset, 1, answer)
+        }
+        ControlOp::Return => {
+            let answer = return_results(stacks, resources);
+            checked(stacks, resources, offset, answer)
+        }
+        ControlOp::Call(function_index) => {
+            let answer = call(stacks, resources, function_index);
+            checked(stacks, resources, offset, answer)
+        }
+        ControlOp::Drop => {
+            let answer = drop_operand(stacks, resources);
+            checked(stacks, resources, offset, answer)
+        }
+        ControlOp::Select => {
+            let answer = select(stacks, resources);
+            checked_after(stacks, resources, offset, 3, answer)
+        }
+        ControlOp::LocalGet(local_index) => {
+            let answer = local_get(stacks, resources, local_index);
+            checked(stacks, resources, offset, answer)
+        }
+        ControlOp::LocalSet(local_index) => {
+            let answer = local_set(stacks, resources, local_index);
+            checked(stacks, resources, offset, answer)
+        }
+        ControlOp::LocalTee(local_index) => {
+            let answer = local_tee(stacks, resources, local_index);
+            checked(stacks, resources, offset, answer)
+        }
+        ControlOp::GlobalGet(global_index) => {
+            let answer = global_get(stacks, resources, global_index);
+            checked(stacks, resources, offset, answer)
+        }
+        ControlOp::GlobalSet(global_index) => {
+            let answer = global_set(stacks, resources, global_index);
+            checked(stacks, resources, offset, answer)
+        }
+        _ => unreachable!(),
+    }
+}
+
 /// The check of an operator on control, locals or globals, its gate aside.
 #[inline(always)]
 fn check_control_operator<R: WasmModuleResources>(
@@ -69,8 +148,6 @@ fn check_control_operator<R: WasmModuleResources>(
     ensures memory { TakesNoMemory (R.context resources.now) (Op.Control op.entry) stacks.old.body result }
 {
     match op {
-        ControlOp::Unreachable => check_unreachable(stacks, resources, offset),
-        ControlOp::Nop => check_nop(stacks, resources, offset),
         ControlOp::Block(ty) => {
             check_opener(stacks, resources, offset, FrameKind::Block, &[], ty)
         }
@@ -87,11 +164,6 @@ fn check_control_operator<R: WasmModuleResources>(
         }
         ControlOp::Else => check_else(stacks, resources, offset),
         ControlOp::End => check_end(stacks, resources, offset),
-        ControlOp::Br(relative_depth) => check_br(stacks, resources, offset, relative_depth),
-        ControlOp::BrIf(relative_depth) => check_br_if(stacks, resources, offset, relative_depth),
-        ControlOp::BrTable(targets) => check_br_table(stacks, resources, offset, targets),
-        ControlOp::Return => check_return(stacks, resources, offset),
-        ControlOp::Call(function_index) => check_call(stacks, resources, offset, function_index),
         ControlOp::ReturnCall(function_index) => {
             check_return_call(stacks, resources, offset, function_index)
         }
@@ -115,19 +187,9 @@ fn check_control_operator<R: WasmModuleResources>(
         ControlOp::ReturnCallRef(type_index) => {
             indirect::check_return_call_ref(stacks, resources, offset, type_index)
         }
-        ControlOp::Drop => check_drop(stacks, resources, offset),
-        ControlOp::Select => check_select(stacks, resources, offset),
         ControlOp::TypedSelect(ty) => check_typed_select(stacks, resources, offset, ty),
         ControlOp::TypedSelectMulti(_) => check_typed_select_multi(stacks, resources, offset),
-        ControlOp::LocalGet(local_index) => check_local_get(stacks, resources, offset, local_index),
-        ControlOp::LocalSet(local_index) => check_local_set(stacks, resources, offset, local_index),
-        ControlOp::LocalTee(local_index) => check_local_tee(stacks, resources, offset, local_index),
-        ControlOp::GlobalGet(global_index) => {
-            check_global_get(stacks, resources, offset, global_index)
-        }
-        ControlOp::GlobalSet(global_index) => {
-            check_global_set(stacks, resources, offset, global_index)
-        }
+        _ => check_body(stacks, resources, offset, op),
     }
 }
 
@@ -160,8 +222,8 @@ pub(crate) fn check_numeric<R: WasmModuleResources>(
     ensures { Meets (R.context resources.now) (λ cx. operator cx (Op.Numeric op)) offset
         stacks.old.body result stacks.new.body }
 {
-    check_enabled(stacks, offset, op.gate())?;
-    check_numeric_row(stacks, resources, offset, op)
+    let answer = gated_numeric(stacks, resources, &op);
+    checked(stacks, resources, offset, answer)
 }
 
 /// The check of a conversion, or of an extension of a sign: accepted exactly where its row holds,
@@ -176,8 +238,8 @@ pub(crate) fn check_convert<R: WasmModuleResources>(
     ensures { Meets (R.context resources.now) (λ cx. operator cx (Op.Convert op)) offset
         stacks.old.body result stacks.new.body }
 {
-    check_enabled(stacks, offset, op.gate())?;
-    check_convert_row(stacks, resources, offset, op)
+    let answer = gated_convert(stacks, resources, &op);
+    checked(stacks, resources, offset, answer)
 }
 
 /// The check of an operator on memories: accepted exactly where its row holds, memory aside, with the

@@ -3,6 +3,7 @@
 
 mod at_once;
 mod groups;
+mod one_body;
 mod operator;
 
 pub use crate::at_once::operator_at_once;

@@ -1,5 +1,5 @@
 -- Locals that are set already, and the innermost frame, for what passes at once.
-use Rattle.std.proofs.Common.{◌==◌, ◌≤◌, get_or, ◌≡◌, ℕ, [], ◌∷◌, length, arith, Bool, true, false, Option, Some, None, IsSome, is_none, is_some, ◌||◌, refl, sym, ap, ◌∙◌, if◌then◌else◌, ap₂, subst}
+use Rattle.std.proofs.Common.{◌==◌, ◌<◌, ◌≤◌, get_or, ◌≡◌, ℕ, [], ◌∷◌, length, arith, Bool, true, false, Option, Some, None, IsSome, is_none, is_some, ◌||◌, refl, sym, ap, ◌∙◌, if◌then◌else◌, ap₂, subst}
 use Rattle.std.specs.Option.{ForSome}
 use Rattle.validate_resources.specs.Context.{ModuleContext}
 use Rattle.validate_visit.specs.declared.frame.Frame.{Frame as FlatFrame}
@@ -14,7 +14,9 @@ use Rattle.std.specs.Prelude.{List}
 use Rattle.validate_stacks.specs.Pops.{body_popped_each}
 use Rattle.validate_stacks.specs.Attempts.{Stacked, is_unmarked, may_frame}
 use Rattle.validate_stacks.specs.State.{BodyState, body_with_frames}
-use Rattle.validate_stacks.specs.Steps.{frame_at, body_with_local_set, frames_first_setting}
+use Rattle.validation_rules.specs.Pops.{found_by_pop}
+use Rattle.validation_rules.specs.Static.{Frame}
+use Rattle.validate_stacks.specs.Steps.{frame_at, body_with_local_set, found_in_body, found_in_frames, frames_first_setting, innermost_operands}
 use Rattle.validate_stacks.proofs.AtOnce.{popped_each_set, popped_each_kept}
 
 chosen : (b : Bool) (u w : BodyState) → b ≡ true → (if b then u else w) ≡ u
@@ -72,3 +74,15 @@ without_null_valid md (Known I64) y h e = absurd cc
 without_null_valid md (Known F32) y h e = absurd cc
 without_null_valid md (Known F64) y h e = absurd cc
 without_null_valid md (Known V128) y h e = absurd cc
+
+-- an own operand is found
+pub own_found : (v : BodyState) → 0 < length (innermost_operands v.present.frames) → (t : MaybeType) × (found_in_body v ≡ Some t)
+own_found v h = by v.present.frames h
+  where
+    in_frame : (dead : Bool) (own : List MaybeType) → 0 < length own → (t : MaybeType) × (found_by_pop dead own ≡ Some t)
+    in_frame dead [] h = absurd (omega (arith, h))
+    in_frame dead (t ∷ own) h = (t, refl)
+
+    by : (fs : List Frame) → 0 < length (innermost_operands fs) → (t : MaybeType) × (found_in_frames fs ≡ Some t)
+    by [] h = absurd (omega (arith, h))
+    by (f ∷ fs) h = in_frame f.dead f.operands h

@@ -8,51 +8,32 @@ ghost use Rattle.validation_rules.specs.Context.{Context};
 ghost use Rattle.validation_rules.specs.Fits.{Known, all_fit};
 ghost use Rattle.validation_rules.specs.Static.{heads};
 ghost use Rattle.validation_rules.specs.Operators.{row_operator, staying_operator};
-ghost use Rattle.validate_stacks.specs.AtOnce.{MeetsAtOnce};
+ghost use Rattle.validate_stacks.specs.Moves.{Moves};
 ghost use Rattle.validate_stacks.specs.State.{body_context};
 ghost use Rattle.validate_stacks.specs.Visits.{MayVisit, Meets};
 
 use std::alloc::{AllocError, Global};
 use validate_resources::WasmModuleResources;
-use validate_shapes::functions::type_of_function;
+use validate_shapes::functions::{find_function, type_of_function};
 use validate_shapes::matching::are_below;
-use validate_shapes::plain::{check_plain, plain_at_once};
+use validate_shapes::plain::plain;
 use validate_stacks::Stacks;
 use validate_stacks::blocks::label_types;
-use validate_types::{Error, FuncType, ValType};
+use validate_types::{Error, FuncType, Refused, ValType};
 
 /// `call`: what the function takes, and what it gives.
-#[inline(always)]
-pub fn check_call<R: WasmModuleResources>(
-    stacks: &mut Stacks,
-    resources: &R,
-    offset: u64,
-    function_index: u32,
-) -> Result<(), Error>
-    requires { MayVisit (R.context resources.now) stacks.old }
-    ensures { Meets (R.context resources.now) (λ cx. row_operator (call_row cx function_index)) offset
-        stacks.old.body result stacks.new.body }
-{
-    let func_type = type_of_function(stacks, resources, offset, function_index)?;
-    let (params, results) = (func_type.params(), func_type.results());
-    check_plain(stacks, resources, offset, params, results)
-}
-
-/// [`check_call`], where it passes at once. False, with nothing changed, where it doesn't.
 #[inline(never)]
-pub fn call_at_once<R: WasmModuleResources>(
+pub fn call<A: Refused, R: WasmModuleResources>(
     stacks: &mut Stacks,
     resources: &R,
     function_index: u32,
-) -> bool
+) -> Result<(), A>
     requires { MayVisit (R.context resources.now) stacks.old }
-    ensures { MeetsAtOnce (R.context resources.now) (λ cx. row_operator (call_row cx function_index))
-        stacks.old result stacks.new }
+    ensures { Moves (R.context resources.now) A.tells (λ cx. row_operator (call_row cx function_index)) stacks.old result
+        stacks.new }
 {
-    let Ok(func_type) = type_of_function(stacks, resources, 0, function_index) else {
-        return false;
-    };
-    plain_at_once(stacks, resources, func_type.params(), func_type.results())
+    let func_type = find_function(stacks, resources, function_index)?;
+    plain(stacks, resources, func_type.params(), func_type.results())
 }
 
 /// The results of a function that is called in the place of the rest of the body: as many as the

@@ -8,6 +8,7 @@ ghost use Rattle.validation_rules.specs.Valid.{IsValidBlock};
 ghost use Rattle.validation_rules.specs.Static.{missing_else_fits};
 ghost use Rattle.validate_stacks.specs.AtOnce.{MeetsAtOnce};
 ghost use Rattle.validate_stacks.specs.Attempts.{may_frame};
+ghost use Rattle.validate_stacks.specs.Moves.{Moves};
 ghost use Rattle.validate_stacks.specs.Pops.{IsKept};
 ghost use Rattle.validate_stacks.specs.State.{IsValidBody};
 ghost use Rattle.validate_stacks.specs.Steps.{head_of};
@@ -17,66 +18,37 @@ ghost use Rattle.validate_stacks.specs.Visits.{MayVisit, Meets};
 use validate_resources::WasmModuleResources;
 use validate_stacks::Stacks;
 use validate_stacks::blocks::{params, results};
-use validate_types::Error;
+use validate_types::{Error, Refused, grown};
 use validate_visit::{BlockType, Frame, FrameKind};
 
 /// `nop`: nothing. It is never refused, and takes no memory.
 #[inline(always)]
-pub fn check_nop<R: WasmModuleResources>(
-    stacks: &mut Stacks,
-    resources: &R,
-    offset: u64,
-) -> Result<(), Error>
+pub fn nop<A: Refused, R: WasmModuleResources>(stacks: &mut Stacks, resources: &R) -> Result<(), A>
     requires { MayVisit (R.context resources.now) stacks.old }
-    ensures visit { Meets (R.context resources.now) (λ cx. row_operator (plain_row [] [])) offset
-        stacks.old.body result stacks.new.body }
-    ensures memory { IsOk result }
+    ensures row { Moves (R.context resources.now) A.tells (λ cx. row_operator (plain_row [] [])) stacks.old
+        result stacks.new }
+    ensures accepted { IsOk result }
 {
     // The contract alone reads these.
     let _resources = resources;
     let _stacks = stacks;
-    let _offset = offset;
     Ok(())
 }
 
-/// [`check_nop`], which passes at once.
-#[inline(always)]
-pub fn nop_at_once<R: WasmModuleResources>(stacks: &mut Stacks, resources: &R) -> bool
-    requires { MayVisit (R.context resources.now) stacks.old }
-    ensures { MeetsAtOnce (R.context resources.now) (λ cx. row_operator (plain_row [] [])) stacks.old result
-        stacks.new }
-{
-    // The contract alone reads these.
-    let _resources = resources;
-    let _stacks = stacks;
-    true
-}
-
-/// `unreachable`: the live part of the frame ends here. It is never refused, and takes no memory.
-#[inline(always)]
-pub fn check_unreachable<R: WasmModuleResources>(
+/// `unreachable`: the live part of the frame ends here. Where no attempt is pending it is never refused.
+#[inline(never)]
+pub fn unreachable<A: Refused, R: WasmModuleResources>(
     stacks: &mut Stacks,
     resources: &R,
-    offset: u64,
-) -> Result<(), Error>
+) -> Result<(), A>
     requires { MayVisit (R.context resources.now) stacks.old }
-    ensures visit { Meets (R.context resources.now) (λ cx. row_operator (ending_row [])) offset
-        stacks.old.body result stacks.new.body }
-    ensures memory { stacks.old.body.undone ≡ None → IsOk result }
+    ensures row { Moves (R.context resources.now) A.tells (λ cx. row_operator (ending_row [])) stacks.old result
+        stacks.new }
+    ensures idle { stacks.old.body.undone ≡ None → IsOk result }
 {
     // The contract alone reads it.
     let _resources = resources;
-    stacks.unreachable(offset)
-}
-
-/// [`check_unreachable`], where no attempt is pending. False, with nothing changed, where one is.
-#[inline(never)]
-pub fn unreachable_at_once<R: WasmModuleResources>(stacks: &mut Stacks, resources: &R) -> bool
-    requires { MayVisit (R.context resources.now) stacks.old }
-    ensures { MeetsAtOnce (R.context resources.now) (λ cx. row_operator (ending_row [])) stacks.old result
-        stacks.new }
-{
-    stacks.unreachable_at_once(resources, &[])
+    grown(stacks.end_live())
 }
 
 /// `else`: closes the first part of an `if`, which has to have exactly its results, and begins the

@@ -1,21 +1,24 @@
 //! Operators on numbers, by shape (WebAssembly core specification, "Numeric Instructions").
 
-ghost use Rattle.std.specs.Prelude.{◌≡◌};
-ghost use Rattle.validate_visit.specs.Numbers.{number_type, integer_type, float_type};
+ghost use Rattle.std.specs.Prelude.{◌≡◌, [], ◌∷◌};
+ghost use Rattle.std.specs.List.{AllByRecursion};
+ghost use Rattle.validate_resources.specs.Context.{Valid};
+ghost use Rattle.validate_types.specs.declared.types.ValType.{ValType};
+ghost use Rattle.validate_visit.specs.Numbers.{number_type, integer_type, float_type, packed_type};
 ghost use Rattle.validate_rows.specs.NumericShapes.{shape_row};
 ghost use Rattle.validate_rows.specs.declared.numeric.Shape.{Shape};
 ghost use Rattle.validation_rules.specs.Convert.{convert_row};
 ghost use Rattle.validation_rules.specs.Numeric.{numeric_row};
-ghost use Rattle.validation_rules.specs.Operators.{row_operator};
-ghost use Rattle.validate_stacks.specs.AtOnce.{MeetsAtOnce};
-ghost use Rattle.validate_stacks.specs.Visits.{MayVisit, Meets};
+ghost use Rattle.validation_rules.specs.Operators.{plain_row, row_operator};
+ghost use Rattle.validate_stacks.specs.Moves.{Moves};
+ghost use Rattle.validate_stacks.specs.Visits.{MayVisit};
 
 use validate_resources::WasmModuleResources;
-use validate_shapes::numbers::{float, integer, number, once, packed, twice};
-use validate_shapes::plain::{binary_at_once, check_plain, constant_at_once, unary_at_once};
+use validate_shapes::numbers::{number, twice};
+use validate_shapes::plain::{binary, constant, plain, unary};
 use validate_stacks::Stacks;
-use validate_types::{Error, ValType};
-use validate_visit::{ConvertOp, FloatType, IntegerType, NumberType, NumericOp};
+use validate_types::{Refused, ValType};
+use validate_visit::{ConvertOp, FloatType, IntegerType, NumberType, NumericOp, PackedInteger};
 
 /// What an operator on numbers takes and gives.
 #[derive(Clone, Copy)]
@@ -54,6 +57,19 @@ fn of_float(ty: FloatType) -> NumberType
     }
 }
 
+/// The whole of a packed integer as a number.
+#[inline(always)]
+fn of_packed(part: PackedInteger) -> NumberType
+    ensures { number_type result ≡ packed_type part }
+{
+    match part {
+        PackedInteger::I32Bits8 | PackedInteger::I32Bits16 => NumberType::I32,
+        PackedInteger::I64Bits8 | PackedInteger::I64Bits16 | PackedInteger::I64Bits32 => {
+            NumberType::I64
+        }
+    }
+}
+
 /// The shape of an operator on numbers of one type, or of a constant.
 #[inline(always)]
 fn numeric_shape(op: NumericOp) -> Shape
@@ -76,184 +92,97 @@ fn numeric_shape(op: NumericOp) -> Shape
     }
 }
 
-/// The check of an operator on numbers of one type, or of a constant, its gate aside.
+/// What a conversion takes and gives, or an extension of a sign.
 #[inline(always)]
-pub fn check_numeric_row<R: WasmModuleResources>(
-    stacks: &mut Stacks,
-    resources: &R,
-    offset: u64,
-    op: NumericOp,
-) -> Result<(), Error>
-    requires { MayVisit (R.context resources.now) stacks.old }
-    ensures { Meets (R.context resources.now) (λ cx. row_operator (numeric_row op)) offset stacks.old.body
-        result stacks.new.body }
-{
-    let wide = ValType::I64;
-    match numeric_shape(op) {
-        Shape::Constant(given) => {
-            check_plain(stacks, resources, offset, &[], once(number(given)))
-        }
-        Shape::Unary(taken, given) => {
-            let (taken, given) = (once(number(taken)), once(number(given)));
-            check_plain(stacks, resources, offset, taken, given)
-        }
-        Shape::Binary(taken, given) => {
-            let (taken, given) = (twice(number(taken)), once(number(given)));
-            check_plain(stacks, resources, offset, taken, given)
-        }
-        Shape::WideBinary => {
-            let taken = [wide, wide, wide, wide];
-            check_plain(stacks, resources, offset, &taken, twice(wide))
-        }
-        Shape::WideMultiply => { check_plain(stacks, resources, offset, twice(wide), twice(wide)) }
-    }
-}
-
-/// The check of a conversion, or of an extension of a sign, its gate aside.
-#[inline(always)]
-pub fn check_convert_row<R: WasmModuleResources>(
-    stacks: &mut Stacks,
-    resources: &R,
-    offset: u64,
-    op: ConvertOp,
-) -> Result<(), Error>
-    requires { MayVisit (R.context resources.now) stacks.old }
-    ensures { Meets (R.context resources.now) (λ cx. row_operator (convert_row op)) offset stacks.old.body
-        result stacks.new.body }
+fn convert_types(op: ConvertOp) -> (NumberType, NumberType)
+    ensures { shape_row (Shape.Unary result.0 result.1) ≡ convert_row op }
 {
     match op {
-        ConvertOp::Wrap => {
-            check_plain(
-                stacks,
-                resources,
-                offset,
-                once(ValType::I64),
-                once(ValType::I32),
-            )
-        }
-        ConvertOp::Extend(_) => {
-            check_plain(
-                stacks,
-                resources,
-                offset,
-                once(ValType::I32),
-                once(ValType::I64),
-            )
-        }
-        ConvertOp::ExtendPacked(part) => {
-            let ty = packed(part);
-            check_plain(stacks, resources, offset, once(ty), once(ty))
-        }
+        ConvertOp::Wrap => (NumberType::I64, NumberType::I32),
+        ConvertOp::Extend(_) => (NumberType::I32, NumberType::I64),
+        ConvertOp::ExtendPacked(part) => (of_packed(part), of_packed(part)),
         ConvertOp::Trunc(into, from, _) | ConvertOp::TruncSat(into, from, _) => {
-            check_plain(
-                stacks,
-                resources,
-                offset,
-                once(float(from)),
-                once(integer(into)),
-            )
+            (of_float(from), of_integer(into))
         }
-        ConvertOp::Convert(into, from, _) => {
-            check_plain(
-                stacks,
-                resources,
-                offset,
-                once(integer(from)),
-                once(float(into)),
-            )
-        }
-        ConvertOp::Demote => {
-            check_plain(
-                stacks,
-                resources,
-                offset,
-                once(ValType::F64),
-                once(ValType::F32),
-            )
-        }
-        ConvertOp::Promote => {
-            check_plain(
-                stacks,
-                resources,
-                offset,
-                once(ValType::F32),
-                once(ValType::F64),
-            )
-        }
-        ConvertOp::Reinterpret(into) => {
-            let from = number(into.reinterpreted());
-            check_plain(stacks, resources, offset, once(from), once(number(into)))
-        }
+        ConvertOp::Convert(into, from, _) => (of_integer(from), of_float(into)),
+        ConvertOp::Demote => (NumberType::F64, NumberType::F32),
+        ConvertOp::Promote => (NumberType::F32, NumberType::F64),
+        ConvertOp::Reinterpret(into) => (into.reinterpreted(), into),
     }
 }
 
-/// [`unary_at_once`], by a call, so that what stands in each visit stays short.
+/// [`unary`], by a call, so that what stands in each visit stays short.
 #[inline(never)]
-fn unary_by_call<R: WasmModuleResources>(
+fn unary_by_call<A: Refused, R: WasmModuleResources>(
     stacks: &mut Stacks,
     resources: &R,
     taken: NumberType,
     given: NumberType,
-) -> bool
+) -> Result<(), A>
     requires { MayVisit (R.context resources.now) stacks.old }
-    ensures { MeetsAtOnce (R.context resources.now)
+    ensures { Moves (R.context resources.now) A.tells
         (λ cx. row_operator (shape_row (Shape.Unary taken given))) stacks.old result stacks.new }
 {
-    unary_at_once(stacks, resources, number(taken), number(given))
+    unary(stacks, resources, number(taken), number(given))
 }
 
-/// [`check_numeric_row`], where it passes at once. False, with nothing changed, where it doesn't.
-///
-/// It stands in each visit, so each shape is there once, and that of one operand, which few have, is called.
+/// What a wide addition or subtraction takes.
 #[inline(always)]
-pub fn numeric_at_once<R: WasmModuleResources>(
+fn four_integers() -> &'static [ValType]
+    ensures { result.now ≡ ValType.I64 ∷ ValType.I64 ∷ ValType.I64 ∷ ValType.I64 ∷ [] }
+{
+    &[ValType::I64, ValType::I64, ValType::I64, ValType::I64]
+}
+
+/// An operator of one of the wide shapes, by a call too.
+#[inline(never)]
+fn wide<A: Refused, R: WasmModuleResources>(
+    stacks: &mut Stacks,
+    resources: &R,
+    wanted: &[ValType],
+) -> Result<(), A>
+    requires visit { MayVisit (R.context resources.now) stacks.old }
+    requires wanted { AllByRecursion (Valid (R.context resources.now)) wanted.now }
+    ensures { Moves (R.context resources.now) A.tells
+        (λ cx. row_operator (plain_row wanted.now (ValType.I64 ∷ ValType.I64 ∷ []))) stacks.old result
+        stacks.new }
+{
+    plain(stacks, resources, wanted, twice(ValType::I64))
+}
+
+/// An operator on numbers of one type, or a constant, its gate aside.
+///
+/// It stands in each visit, so the shapes that few operators have are called.
+#[inline(always)]
+pub fn numeric<A: Refused, R: WasmModuleResources>(
     stacks: &mut Stacks,
     resources: &R,
     op: NumericOp,
-) -> bool
+) -> Result<(), A>
     requires { MayVisit (R.context resources.now) stacks.old }
-    ensures { MeetsAtOnce (R.context resources.now) (λ cx. row_operator (numeric_row op)) stacks.old result
+    ensures { Moves (R.context resources.now) A.tells (λ cx. row_operator (numeric_row op)) stacks.old result
         stacks.new }
 {
     match numeric_shape(op) {
-        Shape::Constant(given) => constant_at_once(stacks, resources, number(given)),
+        Shape::Constant(given) => constant(stacks, resources, number(given)),
         Shape::Unary(taken, given) => unary_by_call(stacks, resources, taken, given),
-        Shape::Binary(taken, given) => {
-            binary_at_once(stacks, resources, number(taken), number(given))
-        }
-        Shape::WideBinary | Shape::WideMultiply => false,
+        Shape::Binary(taken, given) => binary(stacks, resources, number(taken), number(given)),
+        Shape::WideBinary => wide(stacks, resources, four_integers()),
+        Shape::WideMultiply => wide(stacks, resources, twice(ValType::I64)),
     }
 }
 
-/// [`check_convert_row`], where it passes at once. False, with nothing changed, where it doesn't.
+/// A conversion, or an extension of a sign, its gate aside.
 #[inline(always)]
-pub fn convert_at_once<R: WasmModuleResources>(
+pub fn convert<A: Refused, R: WasmModuleResources>(
     stacks: &mut Stacks,
     resources: &R,
     op: ConvertOp,
-) -> bool
+) -> Result<(), A>
     requires { MayVisit (R.context resources.now) stacks.old }
-    ensures { MeetsAtOnce (R.context resources.now) (λ cx. row_operator (convert_row op)) stacks.old result
+    ensures { Moves (R.context resources.now) A.tells (λ cx. row_operator (convert_row op)) stacks.old result
         stacks.new }
 {
-    match op {
-        ConvertOp::Wrap => unary_at_once(stacks, resources, ValType::I64, ValType::I32),
-        ConvertOp::Extend(_) => { unary_at_once(stacks, resources, ValType::I32, ValType::I64) }
-        ConvertOp::ExtendPacked(part) => {
-            let ty = packed(part);
-            unary_at_once(stacks, resources, ty, ty)
-        }
-        ConvertOp::Trunc(into, from, _) | ConvertOp::TruncSat(into, from, _) => {
-            unary_at_once(stacks, resources, float(from), integer(into))
-        }
-        ConvertOp::Convert(into, from, _) => {
-            unary_at_once(stacks, resources, integer(from), float(into))
-        }
-        ConvertOp::Demote => unary_at_once(stacks, resources, ValType::F64, ValType::F32),
-        ConvertOp::Promote => unary_at_once(stacks, resources, ValType::F32, ValType::F64),
-        ConvertOp::Reinterpret(into) => {
-            let from = number(into.reinterpreted());
-            unary_at_once(stacks, resources, from, number(into))
-        }
-    }
+    let (taken, given) = convert_types(op);
+    unary(stacks, resources, number(taken), number(given))
 }

@@ -15,6 +15,7 @@ use Rattle.validation_rules.specs.Operators.{ending_row, staying_operator}
 use Rattle.validation_rules.proofs.Rows.{row_with}
 use Rattle.validation_rules.proofs.Steps.{some_injective, guard_some}
 use Rattle.validation_rules.proofs.Valid.{label_at_valid, heads_valid}
+use Rattle.validate_stacks.specs.AtOnce.{body_dropped, frames_dropped}
 use Rattle.validate_stacks.specs.Steps.{head_of}
 use Rattle.validate_stacks.specs.Pops.{body_popped_each, body_pushed_each}
 use Rattle.validate_stacks.specs.State.{BodyState, IsValidBody, body_context}
@@ -202,6 +203,17 @@ still_open md ws v u h o e = by v.present.frames refl (sym (same_heads md ws v u
     by : (fs : List Frame) → v.present.frames ≡ fs → heads fs ≡ [] → ⊥
     by [] k q = o k
     by (f ∷ fs) k q = absurd cc
+
+-- operands dropped leave the labels
+dropped_heads : (n : ℕ) (v : BodyState) → heads (body_dropped n v).present.frames ≡ heads v.present.frames
+dropped_heads n v = by v.present.frames
+  where
+    by : (fs : List Frame) → heads (frames_dropped n fs) ≡ heads fs
+    by [] = refl
+    by (f ∷ fs) = refl
+
+pub dropped_label : (n d : ℕ) (v : BodyState) → label_at (body_dropped n v) d ≡ label_at v d
+dropped_label n d v = ap (λ hs. option_map type_and_kind (slice_get hs d)) (dropped_heads n v)
 
 -- ---- `br_if`
 

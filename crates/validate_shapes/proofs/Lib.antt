@@ -4,6 +4,7 @@ mod Fields
 pub mod Replaced
 pub mod LastSteps
 pub mod LookupRows
+pub mod Moves
 pub mod BranchSteps
 pub mod CarriedTypes
 pub mod ReferenceSteps

@@ -11,7 +11,53 @@ use std::alloc::Global;
 use validate_resources::WasmModuleResources;
 use validate_resources::kinds::{expected_func_type, func_type_of};
 use validate_stacks::Stacks;
-use validate_types::{Error, FuncType};
+use validate_types::{Error, FuncType, Refusal, Refused};
+
+/// The type of a function. It refuses one that isn't declared, and in a shared function one that isn't shared.
+#[inline(always)]
+pub fn find_function<'a, A: Refused, R: WasmModuleResources>(
+    stacks: &Stacks,
+    resources: &'a R,
+    function_index: u32,
+) -> Result<&'a FuncType, A>
+    ensures found { IfOk result (λ f. callee (body_context (R.context resources.now) stacks.now.body)
+        function_index ≡ Some f.now) }
+    ensures params { IfOk result (λ f. AllByRecursion (Valid (R.context resources.now)) f.now.params) }
+    ensures results { IfOk result (λ f. AllByRecursion (Valid (R.context resources.now)) f.now.results) }
+    ensures refused { OnErr result (callee (body_context (R.context resources.now) stacks.now.body)
+        function_index ≡ None) }
+{
+    let Some(type_index) = resources.type_index_of_function(function_index) else {
+        return Err(A::of(Refusal::UnknownFunction(function_index)));
+    };
+    find_func_type(stacks, resources, type_index)
+}
+
+/// The function type at an index. It refuses one that isn't declared, a type of another kind, and in a shared function one
+/// that isn't shared.
+pub fn find_func_type<'a, A: Refused, R: WasmModuleResources>(
+    stacks: &Stacks,
+    resources: &'a R,
+    type_index: u32,
+) -> Result<&'a FuncType, A>
+    ensures found { IfOk result (λ f. typed_callee (body_context (R.context resources.now) stacks.now.body)
+        type_index ≡ Some f.now) }
+    ensures params { IfOk result (λ f. AllByRecursion (Valid (R.context resources.now)) f.now.params) }
+    ensures results { IfOk result (λ f. AllByRecursion (Valid (R.context resources.now)) f.now.results) }
+    ensures refused { OnErr result (typed_callee (body_context (R.context resources.now) stacks.now.body)
+        type_index ≡ None) }
+{
+    let Some(sub_type) = resources.sub_type_at(type_index) else {
+        return Err(A::of(Refusal::UnknownType));
+    };
+    let Some(func_type) = func_type_of(sub_type) else {
+        return Err(A::of(Refusal::NoFunctionType(type_index)));
+    };
+    if stacks.is_shared() && !sub_type.composite_type.shared {
+        return Err(A::of(Refusal::UnsharedFunction));
+    }
+    Ok(func_type)
+}
 
 /// The type of a function, which has to be declared, and in a shared function has to be shared
 /// (wasmparser's `type_of_function`).

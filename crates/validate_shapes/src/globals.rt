@@ -8,7 +8,30 @@ ghost use Rattle.validate_stacks.specs.State.{body_context};
 use validate_resources::WasmModuleResources;
 use validate_resources::uses::laws;
 use validate_stacks::Stacks;
-use validate_types::{Error, GlobalType};
+use validate_types::{Error, GlobalType, Refusal, Refused};
+
+/// The type of a global. It refuses one that isn't declared, and in a shared function one that isn't shared.
+#[inline(always)]
+pub fn find_global<A: Refused, R: WasmModuleResources>(
+    stacks: &Stacks,
+    resources: &R,
+    global_index: u32,
+) -> Result<GlobalType, A>
+    ensures found { IfOk result (λ g. global_type (body_context (R.context resources.now) stacks.now.body)
+        global_index ≡ Some g) }
+    ensures valid { IfOk result (λ g. Valid (R.context resources.now) g.content_type) }
+    ensures refused { OnErr result (global_type (body_context (R.context resources.now) stacks.now.body)
+        global_index ≡ None) }
+{
+    laws(resources);
+    let Some(global) = resources.global_at(global_index) else {
+        return Err(A::of(Refusal::UnknownGlobal));
+    };
+    if stacks.is_shared() && !global.shared {
+        return Err(A::of(Refusal::UnsharedGlobal));
+    }
+    Ok(global)
+}
 
 /// The type of a global, which has to be declared, and in a shared function has to be shared
 /// (wasmparser's `global_type_at`).

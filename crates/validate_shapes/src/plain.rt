@@ -2,16 +2,117 @@
 
 ghost use Rattle.std.specs.Prelude.{◌≡◌, None, true, [], ◌∷◌, ◌++◌, OnErr};
 ghost use Rattle.std.specs.List.{AllByRecursion};
-ghost use Rattle.validate_resources.specs.Context.{Valid};
+ghost use Rattle.validate_resources.specs.Context.{Valid, is_number_or_vector};
 ghost use Rattle.validation_rules.specs.Operators.{plain_row, ending_row, row_operator};
-ghost use Rattle.validate_stacks.specs.AtOnce.{MeetsAtOnce, pushed_list};
+ghost use Rattle.validate_stacks.specs.AtOnce.{MeetsAtOnce};
+ghost use Rattle.validate_stacks.specs.Moves.{Moves};
 ghost use Rattle.validate_stacks.specs.Visits.{step_body, MayVisit, Meets};
 
+use crate::checked::checked;
+use crate::numbers::{once, twice};
 use validate_resources::WasmModuleResources;
 use validate_stacks::Stacks;
-use validate_types::{Error, MaybeType, ValType};
+use validate_types::{Error, MaybeType, NotAtOnce, Refused, ValType, grown};
 
-/// `[wanted] -> [pushed]`, the last of each on top.
+/// `[wanted] -> [given]`, the last of each on top. It is called, so that what stands in each visit stays short.
+#[inline(never)]
+pub fn plain<A: Refused, R: WasmModuleResources>(
+    stacks: &mut Stacks,
+    resources: &R,
+    wanted: &[ValType],
+    given: &[ValType],
+) -> Result<(), A>
+    requires visit { MayVisit (R.context resources.now) stacks.old }
+    requires wanted { AllByRecursion (Valid (R.context resources.now)) wanted.now }
+    requires given { AllByRecursion (Valid (R.context resources.now)) given.now }
+    ensures { Moves (R.context resources.now) A.tells
+        (λ cx. row_operator (plain_row wanted.now given.now)) stacks.old result stacks.new }
+{
+    stacks.exchange_types(resources, wanted, given)
+}
+
+/// `[] -> [given]`
+#[inline(always)]
+pub fn constant<A: Refused, R: WasmModuleResources>(
+    stacks: &mut Stacks,
+    resources: &R,
+    given: ValType,
+) -> Result<(), A>
+    requires visit { MayVisit (R.context resources.now) stacks.old }
+    requires given { Valid (R.context resources.now) given }
+    ensures { Moves (R.context resources.now) A.tells (λ cx. row_operator (plain_row [] (given ∷ [])))
+        stacks.old result stacks.new }
+{
+    // The contract alone reads it.
+    let _resources = resources;
+    grown(stacks.push_operand(MaybeType::Known(given)))
+}
+
+/// `[taken] -> [given]`. The list is written twice, so that nothing of it lies in memory where the first call takes it.
+#[inline(always)]
+pub fn unary<A: Refused, R: WasmModuleResources>(
+    stacks: &mut Stacks,
+    resources: &R,
+    taken: ValType,
+    given: ValType,
+) -> Result<(), A>
+    requires visit { MayVisit (R.context resources.now) stacks.old }
+    requires taken { Valid (R.context resources.now) taken }
+    requires given { Valid (R.context resources.now) given }
+    ensures { Moves (R.context resources.now) A.tells
+        (λ cx. row_operator (plain_row (taken ∷ []) (given ∷ []))) stacks.old result stacks.new }
+{
+    if stacks.exchange_numbers_at_once(resources, &[taken], Some(given)) {
+        return Ok(());
+    }
+    plain(stacks, resources, &[taken], &[given])
+}
+
+/// `[taken taken] -> [given]` of numbers or vectors. The lists of the call are constants, so that none lies in memory.
+#[inline(always)]
+pub fn binary<A: Refused, R: WasmModuleResources>(
+    stacks: &mut Stacks,
+    resources: &R,
+    taken: ValType,
+    given: ValType,
+) -> Result<(), A>
+    requires visit { MayVisit (R.context resources.now) stacks.old }
+    requires taken { Valid (R.context resources.now) taken }
+    requires given { Valid (R.context resources.now) given }
+    requires taken_number { is_number_or_vector taken ≡ true }
+    requires given_number { is_number_or_vector given ≡ true }
+    ensures { Moves (R.context resources.now) A.tells
+        (λ cx. row_operator (plain_row (taken ∷ taken ∷ []) (given ∷ []))) stacks.old result stacks.new }
+{
+    if stacks.exchange_numbers_at_once(resources, &[taken, taken], Some(given)) {
+        return Ok(());
+    }
+    plain(stacks, resources, twice(taken), once(given))
+}
+
+/// `[low top] -> []`
+#[inline(always)]
+pub fn taken<A: Refused, R: WasmModuleResources>(
+    stacks: &mut Stacks,
+    resources: &R,
+    low: ValType,
+    top: ValType,
+) -> Result<(), A>
+    requires visit { MayVisit (R.context resources.now) stacks.old }
+    requires low { Valid (R.context resources.now) low }
+    requires top { Valid (R.context resources.now) top }
+    ensures { Moves (R.context resources.now) A.tells
+        (λ cx. row_operator (plain_row (low ∷ top ∷ []) [])) stacks.old result stacks.new }
+{
+    if stacks.exchange_numbers_at_once(resources, &[low, top], None) {
+        return Ok(());
+    }
+    plain(stacks, resources, &[low, top], &[])
+}
+
+// ---- what is still called by its old name
+
+/// [`plain`], with the text and the place of a refusal.
 #[inline(always)]
 pub fn check_plain<R: WasmModuleResources>(
     stacks: &mut Stacks,
@@ -27,34 +128,12 @@ pub fn check_plain<R: WasmModuleResources>(
         (λ cx. row_operator (plain_row wanted.now pushed.now)) offset stacks.old.body result
         stacks.new.body }
 {
-    if plain_at_once(stacks, resources, wanted, pushed) {
-        return Ok(());
-    }
-    plain_by_pops(stacks, resources, offset, wanted, pushed)
+    let answer = plain(stacks, resources, wanted, pushed);
+    checked(stacks, resources, offset, answer)
 }
 
-/// The same by pops and pushes one by one.
-fn plain_by_pops<R: WasmModuleResources>(
-    stacks: &mut Stacks,
-    resources: &R,
-    offset: u64,
-    wanted: &[ValType],
-    pushed: &[ValType],
-) -> Result<(), Error>
-    requires visit { MayVisit (R.context resources.now) stacks.old }
-    requires wanted { AllByRecursion (Valid (R.context resources.now)) wanted.now }
-    requires pushed { AllByRecursion (Valid (R.context resources.now)) pushed.now }
-    ensures { Meets (R.context resources.now)
-        (λ cx. row_operator (plain_row wanted.now pushed.now)) offset stacks.old.body result
-        stacks.new.body }
-{
-    stacks.pop_types(resources, offset, wanted)?;
-    stacks.push_types(offset, pushed)
-}
-
-/// [`check_plain`], where it passes at once: no attempt is pending, each operand is there and fits, one type at most is
-/// pushed, and there is room. False, with nothing changed, where it doesn't.
-#[inline(never)]
+/// [`plain`], where it passes at once. False, with nothing changed, where it doesn't.
+#[inline(always)]
 pub fn plain_at_once<R: WasmModuleResources>(
     stacks: &mut Stacks,
     resources: &R,
@@ -67,48 +146,11 @@ pub fn plain_at_once<R: WasmModuleResources>(
     ensures { MeetsAtOnce (R.context resources.now)
         (λ cx. row_operator (plain_row wanted.now pushed.now)) stacks.old result stacks.new }
 {
-    if pushed.len() > 1 {
-        return false;
-    }
-    stacks.exchange_at_once(resources, wanted, pushed.first().copied())
+    let answer: Result<(), NotAtOnce> = plain(stacks, resources, wanted, pushed);
+    answer.is_ok()
 }
 
-/// The same of number and vector types alone, where the operands are known to be of them. In live code it makes no call.
-#[inline(always)]
-fn numbers_at_once<R: WasmModuleResources>(
-    stacks: &mut Stacks,
-    resources: &R,
-    wanted: &[ValType],
-    given: Option<ValType>,
-) -> bool
-    requires visit { MayVisit (R.context resources.now) stacks.old }
-    requires wanted { AllByRecursion (Valid (R.context resources.now)) wanted.now }
-    requires given { AllByRecursion (Valid (R.context resources.now)) (pushed_list given) }
-    ensures { MeetsAtOnce (R.context resources.now)
-        (λ cx. row_operator (plain_row wanted.now (pushed_list given))) stacks.old result stacks.new }
-{
-    stacks.exchange_numbers_at_once(resources, wanted, given)
-}
-
-/// `[] -> [given]`, where it passes at once. Nothing is wanted, so it is a push.
-#[inline(always)]
-pub fn constant_at_once<R: WasmModuleResources>(
-    stacks: &mut Stacks,
-    resources: &R,
-    given: ValType,
-) -> bool
-    requires visit { MayVisit (R.context resources.now) stacks.old }
-    requires given { Valid (R.context resources.now) given }
-    ensures { MeetsAtOnce (R.context resources.now) (λ cx. row_operator (plain_row [] (given ∷ [])))
-        stacks.old result stacks.new }
-{
-    // The contract alone reads it.
-    let _resources = resources;
-    stacks.push_at_once(MaybeType::Known(given))
-}
-
-/// `[taken] -> [given]`, where it passes at once. The list is written twice, so that nothing of it lies in memory where
-/// the first call takes it.
+/// [`unary`], where it passes at once.
 #[inline(always)]
 pub fn unary_at_once<R: WasmModuleResources>(
     stacks: &mut Stacks,
@@ -122,33 +164,11 @@ pub fn unary_at_once<R: WasmModuleResources>(
     ensures { MeetsAtOnce (R.context resources.now)
         (λ cx. row_operator (plain_row (taken ∷ []) (given ∷ []))) stacks.old result stacks.new }
 {
-    if numbers_at_once(stacks, resources, &[taken], Some(given)) {
-        return true;
-    }
-    plain_at_once(stacks, resources, &[taken], &[given])
+    let answer: Result<(), NotAtOnce> = unary(stacks, resources, taken, given);
+    answer.is_ok()
 }
 
-/// `[taken taken] -> [given]`, where it passes at once.
-#[inline(always)]
-pub fn binary_at_once<R: WasmModuleResources>(
-    stacks: &mut Stacks,
-    resources: &R,
-    taken: ValType,
-    given: ValType,
-) -> bool
-    requires visit { MayVisit (R.context resources.now) stacks.old }
-    requires taken { Valid (R.context resources.now) taken }
-    requires given { Valid (R.context resources.now) given }
-    ensures { MeetsAtOnce (R.context resources.now)
-        (λ cx. row_operator (plain_row (taken ∷ taken ∷ []) (given ∷ []))) stacks.old result stacks.new }
-{
-    if numbers_at_once(stacks, resources, &[taken, taken], Some(given)) {
-        return true;
-    }
-    plain_at_once(stacks, resources, &[taken, taken], &[given])
-}
-
-/// `[low top] -> []`, where it passes at once.
+/// [`taken`], where it passes at once.
 #[inline(always)]
 pub fn taken_at_once<R: WasmModuleResources>(
     stacks: &mut Stacks,
@@ -162,10 +182,8 @@ pub fn taken_at_once<R: WasmModuleResources>(
     ensures { MeetsAtOnce (R.context resources.now)
         (λ cx. row_operator (plain_row (low ∷ top ∷ []) [])) stacks.old result stacks.new }
 {
-    if numbers_at_once(stacks, resources, &[low, top], None) {
-        return true;
-    }
-    plain_at_once(stacks, resources, &[low, top], &[])
+    let answer: Result<(), NotAtOnce> = taken(stacks, resources, low, top);
+    answer.is_ok()
 }
 
 /// `[types] -> [types above]`: operands of these types stay, and another comes above them.

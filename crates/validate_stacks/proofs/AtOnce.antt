@@ -1,5 +1,5 @@
 -- Operands put in place or taken where no attempt is pending, and what fits at once.
-use Rattle.std.proofs.Common.{◌≡◌, ◌≢◌, ◌⊎◌, inl, inr, min, reverse, Result, Ok, Err, IsOk, is_ok, OnOk, MatchResult, MatchOption, MatchBool, ℕ, zero, suc, ◌+◌, ◌-◌, ◌<◌, ◌≤◌, List, [], ◌∷◌, Bool, true, false, Option, Some, None, is_some, IsSome, length, get_or, map, slice_get, take, drop, refl, sym, ◌∙◌, ap, subst, arith}
+use Rattle.std.proofs.Common.{◌≡◌, ◌≢◌, ◌⊎◌, inl, inr, min, reverse, Result, Ok, Err, IsOk, MatchResult, MatchOption, MatchBool, ℕ, zero, suc, ◌+◌, ◌-◌, ◌<◌, ◌≤◌, List, [], ◌∷◌, Bool, true, false, Option, Some, None, is_some, IsSome, length, get_or, map, slice_get, take, drop, refl, sym, ◌∙◌, ap, subst, arith}
 use Rattle.std.specs.List.{AllByRecursion}
 use Rattle.std.specs.Option.{option_map}
 use Rattle.std.proofs.lemmas.List.{at_drop_more, append-nil, drop_all, drop_min, drop-drop, length-drop, length-map, length-reverse, length-take-le, take_all, take-append-drop, take-append-le, take-take}
@@ -326,7 +326,7 @@ undone_at_once md op v w e = e
 
 -- ---- the live part ended, and a frame closed
 
-ended_dropped : (n : ℕ) (v : BodyState) → body_unreachable (body_dropped n v) ≡ body_unreachable v
+pub ended_dropped : (n : ℕ) (v : BodyState) → body_unreachable (body_dropped n v) ≡ body_unreachable v
 ended_dropped n v = by v.present.frames
   where
     by : (fs : List Frame) → body_unreachable (body_dropped n (body_with_frames fs v)) ≡ body_unreachable (body_with_frames fs v)
@@ -386,11 +386,6 @@ was_made Q false h m = cc
 pub was_not_made : {Q : Type 0} (P : Type 0) (b : Bool) → b ≡ false → MatchBool b P Q → Q
 was_not_made P true h m = cc
 was_not_made P false h m = m
-
--- what ends the live part where nothing is recorded: it can't fail
-pub ended_of : {E : Type 0} (md : ModuleContext) (wanted : List ValType) (v : BodyState) (s w : Stacked) (r : Result (Unit {0}) E) (b : Bool) → has_operands_fitting (body_context md v) wanted v ≡ true → OnOk r (w.body ≡ body_unreachable v) → b ≡ is_ok r → IsOk r → MatchBool b (option_map body_unreachable (body_popped_each md (reverse wanted) v) ≡ Some w.body) (w ≡ s)
-ended_of md wanted v s w (Ok x) b fit e is ok = rw is (ended_whole md wanted v w.body fit e)
-ended_of md wanted v s w (Err x) b fit e is ok = absurd cc
 
 -- ---- a frame opened where nothing is recorded
 

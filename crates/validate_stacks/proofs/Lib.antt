@@ -9,6 +9,9 @@ pub mod Whole
 pub mod ClosedFrames
 pub mod PopRuns
 pub mod AtOnce
+mod Changed
+pub mod Moves
 pub mod FieldValues
 mod Examples
+mod ExamplesChanges
 mod Heights

@@ -3,7 +3,7 @@ use Rattle.std.specs.Prelude.{unwrap_or, is_none, ◌||◌}
 use Rattle.validate_transaction.specs.TakeBack.{is_empty}
 use Rattle.std.proofs.Common.{◌≡◌, ℕ, List, [], ◌∷◌, Bool, true, Option, Some, None, IsSome, refl, sym, ◌∙◌, ap, subst}
 use Rattle.validation_rules.specs.Static.{State}
-use Rattle.validate_stacks.specs.Attempts.{Phase, Clean, Moved, Set, Framed, Unset, Marked, Stacked, phase_moved, is_quiet, is_setting, has_none_unset, is_unmarked, may_step, may_frame, may_unset, innermost_first_set, stacks_begun, stacks_rolled_back}
+use Rattle.validate_stacks.specs.Attempts.{Phase, Clean, Moved, Set, Framed, Unset, Marked, Stacked, phase_moved, is_quiet, is_setting, has_none_unset, is_unmarked, may_step, may_frame, may_set, may_unset, innermost_first_set, stacks_begun, stacks_rolled_back}
 use Rattle.validate_resources.specs.Context.{ModuleContext}
 use Rattle.validation_rules.specs.Valid.{IsValidState}
 use Rattle.validate_stacks.specs.Pops.{IsKept}
@@ -36,6 +36,19 @@ frame_after v w k e h =
     ap (λ b. (is_none w.body.undone || b)) (sym (unmarked_moved w.phase) ∙ ap is_unmarked e ∙ unmarked_moved v.phase)
     ∙ ap (λ (u : Option State). (is_none u || (is_unmarked v.phase))) (ap (λ x. x.undone) k) ∙ h
 
+setting_moved : (p : Phase) → is_setting (phase_moved p) ≡ is_setting p
+setting_moved Clean = refl
+setting_moved Moved = refl
+setting_moved Set = refl
+setting_moved Framed = refl
+setting_moved Unset = refl
+setting_moved Marked = refl
+
+pub set_after : (v w : Stacked) → IsKept v.body w.body → phase_moved w.phase ≡ phase_moved v.phase → may_set v ≡ true → may_set w ≡ true
+set_after v w k e h =
+    ap (λ b. (is_none w.body.undone || b)) (sym (setting_moved w.phase) ∙ ap is_setting e ∙ setting_moved v.phase)
+    ∙ ap (λ (u : Option State). (is_none u || (is_setting v.phase))) (ap (λ x. x.undone) k) ∙ h
+
 split : (l : List ℕ) (b : Bool) → b ≡ true → (is_empty l || b) ≡ true
 split [] b h = refl
 split (i ∷ l) b h = h
@@ -63,6 +76,9 @@ quiet_is (Some u) Marked h = cc
 -- where an operator may be visited, each first change may be made
 pub step_frame : (v : Stacked) → may_step v ≡ true → may_frame v ≡ true
 step_frame v h = (quiet_is v.body.undone v.phase h).0
+
+pub step_set : (v : Stacked) → may_step v ≡ true → may_set v ≡ true
+step_set v h = (quiet_is v.body.undone v.phase h).2
 
 pub step_unset : (v : Stacked) → may_step v ≡ true → may_unset v ≡ true
 step_unset v h = split (innermost_first_set v.body.present.frames) _ (quiet_is v.body.undone v.phase h).1

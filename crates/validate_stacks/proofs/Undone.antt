@@ -43,6 +43,15 @@ sound_room fr fr' fs or or' operands ir set_at_entry is (Active log) ls h k w = 
 }
 sound_room fr fr' fs or or' operands ir set_at_entry is (Inactive a) ls h k w = record { shape = w.shape; marks = w.marks; undo = tt }
 
+-- and more room to set locals
+pub sound_order_room : (fr : ℕ) (fs : List FlatFrame) (or : ℕ) (operands : List MaybeType) (ir ir' : ℕ) (set_at_entry : List Bool) (is : List ℕ) (t : Transaction) (ls : List ValType) → ir ≤ ir' → IsSound fr fs or operands ir set_at_entry is t ls → IsSound fr fs or operands ir' set_at_entry is t ls
+sound_order_room fr fs or operands ir ir' set_at_entry is (Active log) ls h w = record {
+  shape = w.shape;
+  marks = w.marks;
+  undo = record { shape = w.undo.shape; frames = w.undo.frames; operands = w.undo.operands; room = omega (arith, h, w.undo.room); fresh = w.undo.fresh; still = w.undo.still; full = w.undo.full };
+}
+sound_order_room fr fs or operands ir ir' set_at_entry is (Inactive a) ls h w = record { shape = w.shape; marks = w.marks; undo = tt }
+
 -- ---- operands
 
 -- the phase by its bits: a frame was marked, none was opened or closed, no local was unset, one was set, no

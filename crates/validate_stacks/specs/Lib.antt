@@ -10,3 +10,5 @@ pub mod Counted
 pub mod Heights
 pub mod Visits
 pub mod AtOnce
+pub mod Changes
+pub mod Moves

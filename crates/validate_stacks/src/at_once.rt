@@ -23,9 +23,9 @@ use validate_types::{FieldType, MaybeType, ValType};
 use validate_visit::{BlockType, FrameKind};
 
 impl Stacks {
-    /// [`Stacks::exchange_at_once`] of number and vector types alone, of which some are wanted: where the innermost frame has
-    /// as many own operands, known to be of these very types, or is dead and has none. In live code it makes no call, so it
-    /// is short where it is inlined.
+    /// [`Stacks::exchange_types`] of number and vector types alone, of which some are wanted, where no attempt is pending: the
+    /// innermost frame has as many own operands, known to be of these very types, or is dead and has none. False, with
+    /// nothing changed, where that isn't so. In live code it makes no call, so it is short where it is inlined.
     #[inline(always)]
     pub fn exchange_numbers_at_once<R: WasmModuleResources>(
         &mut self,
@@ -101,63 +101,28 @@ impl Stacks {
         }
     }
 
-    /// Pops operands of these types, the last of the list first, and pushes one of the other type, if there is one:
-    /// where no attempt is pending, each pop finds an operand, which fits, and there is room, where the innermost frame
-    /// has none that goes. False, with nothing changed, where that isn't so. It takes no memory.
-    #[inline(always)]
-    pub fn exchange_at_once<R: WasmModuleResources>(
-        &mut self,
-        resources: &R,
-        wanted: &[ValType],
-        pushed: Option<ValType>,
-    ) -> bool
-        requires types { AllByRecursion (Valid (R.context resources.now)) wanted.now }
-        requires state { IsValidBody (R.context resources.now) self.old.body }
-        ensures exact { MatchBool result
-            (option_map (body_pushed_each (pushed_list pushed))
-            (body_popped_each (R.context resources.now) (reverse wanted.now) self.old.body) ≡ Some self.new.body)
-            (self.new ≡ self.old) }
-        ensures phase { phase_moved self.new.phase ≡ phase_moved self.old.phase }
-    {
-        let own = self.own_len();
-        if self.is_pending() || !self.has_fitting_among(resources, own, wanted) {
-            return false;
-        }
-        let count = wanted.len().min(own);
-        match pushed {
-            Some(ty) => {
-                if count == 0 {
-                    return self.push_at_once(MaybeType::Known(ty));
-                }
-                self.drop_operands(count - 1);
-                self.replace_operand(MaybeType::Known(ty));
-            }
-            None => self.drop_operands(count),
-        }
-        true
-    }
-
     /// Takes so many own operands of the innermost frame, while no attempt is pending, and pushes one, where there is
     /// room, if none goes. False, with nothing changed, where there is none. It takes no memory.
     #[inline(always)]
-    fn push_over(&mut self, count: usize, pushed: ValType) -> bool
+    pub(crate) fn push_over(&mut self, count: usize, pushed: MaybeType) -> bool
         requires idle { self.old.body.undone ≡ None }
         requires own { count ≤ length (innermost_operands self.old.body.present.frames) }
         ensures exact { MatchBool result
-            (self.new.body ≡ body_pushed (Known pushed) (body_dropped count self.old.body))
+            (self.new.body ≡ body_pushed pushed (body_dropped count self.old.body))
             (self.new ≡ self.old) }
         ensures phase { phase_moved self.new.phase ≡ phase_moved self.old.phase }
     {
         if count == 0 {
-            return self.push_at_once(MaybeType::Known(pushed));
+            return self.push_at_once(pushed);
         }
         self.drop_operands(count - 1);
-        self.replace_operand(MaybeType::Known(pushed));
+        self.replace_operand(pushed);
         true
     }
 
-    /// [`Stacks::exchange_at_once`] of so many operands of one type, where the innermost frame has as many own ones, or
-    /// none. It takes the time of its own operands at most.
+    /// Pops so many operands of one type and pushes another, where no attempt is pending, the operands fit, and the innermost
+    /// frame has as many own ones, or none. False, with nothing changed, where that isn't so. It takes the time of its own
+    /// operands at most, and no memory.
     pub fn exchange_run_at_once<R: WasmModuleResources>(
         &mut self,
         resources: &R,
@@ -177,16 +142,17 @@ impl Stacks {
             return false;
         }
         if own == 0 {
-            return self.is_fitting_at(resources, own, 0, &elem) && self.push_over(0, pushed);
+            return self.is_fitting_at(resources, own, 0, &elem)
+                && self.push_over(0, MaybeType::Known(pushed));
         }
         let count = n as usize;
         if own < count || !self.has_fitting_run(resources, elem, count) {
             return false;
         }
-        self.push_over(count, pushed)
+        self.push_over(count, MaybeType::Known(pushed))
     }
 
-    /// [`Stacks::exchange_at_once`] of the values of fields.
+    /// The same of the values of fields.
     pub fn exchange_fields_at_once<R: WasmModuleResources>(
         &mut self,
         resources: &R,
@@ -204,25 +170,7 @@ impl Stacks {
         if self.is_pending() || !self.has_fitting_fields(resources, own, fields) {
             return false;
         }
-        self.push_over(fields.len().min(own), pushed)
-    }
-
-    /// Pops the operand that is found, whatever its type: where no attempt is pending, and one is found. False, with
-    /// nothing changed, where that isn't so. It takes no memory.
-    #[inline(always)]
-    pub fn drop_at_once(&mut self) -> bool
-        ensures exact { MatchBool result (self.new.body ≡ body_popped self.old.body) (self.new ≡ self.old) }
-        ensures found { result ≡ true → IsSome (found_in_body self.old.body) }
-        ensures phase { phase_moved self.new.phase ≡ phase_moved self.old.phase }
-    {
-        if self.is_pending() {
-            return false;
-        }
-        if self.own_len() == 0 {
-            return self.found_at(0).is_some();
-        }
-        self.drop_operands(1);
-        true
+        self.push_over(fields.len().min(own), MaybeType::Known(pushed))
     }
 
     /// Pops the operand that is found, whatever its type, and pushes another: where no attempt is pending, one is found,
@@ -259,30 +207,6 @@ impl Stacks {
         self.drop_operands(1);
         self.replace_operand(ty);
         true
-    }
-
-    /// Pops operands of these types, the last of the list first, and ends the live part of the innermost frame: where
-    /// no attempt is pending, and each pop finds an operand, which fits. False, with nothing changed, where that isn't
-    /// so. It takes no memory.
-    #[inline(always)]
-    pub fn unreachable_at_once<R: WasmModuleResources>(
-        &mut self,
-        resources: &R,
-        wanted: &[ValType],
-    ) -> bool
-        requires types { AllByRecursion (Valid (R.context resources.now)) wanted.now }
-        requires state { IsValidBody (R.context resources.now) self.old.body }
-        ensures exact { MatchBool result
-            (option_map body_unreachable
-            (body_popped_each (R.context resources.now) (reverse wanted.now) self.old.body) ≡ Some self.new.body)
-            (self.new ≡ self.old) }
-        ensures valid { IsValidBody (R.context resources.now) self.new.body }
-        ensures kept { IsKept self.old.body self.new.body }
-    {
-        if self.is_pending() || !self.has_operands_fitting(resources, wanted) {
-            return false;
-        }
-        self.unreachable(0).is_ok()
     }
 
     /// Closes the innermost frame, which has this block type, and opens another in its place, of this kind and without

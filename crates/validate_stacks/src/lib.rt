@@ -5,14 +5,20 @@
 mod allocations;
 mod at_once;
 pub mod blocks;
+mod change;
 mod counted;
 mod either;
+mod exchanges;
+mod finds;
 mod laws;
 mod lists;
+mod movers;
 pub mod pops;
+mod refusals;
 mod stacks;
 
 pub use crate::allocations::OperatorValidatorAllocations;
+pub use crate::change::Change;
 pub use crate::counted::Pops;
 pub use crate::either::Either;
 pub use crate::laws::shape_law;

@@ -252,13 +252,33 @@ impl Stacks {
         ensures { result ≡ may_pop (body_context (R.context resources.now) self.now.body)
             (found_after_pops_in_body depth self.now.body) (Some wanted.now) }
     {
-        let Some(found) = self.found_among(own, depth) else {
-            return false;
-        };
-        if fits_at_once(found, Some(*wanted)) {
+        if self.is_number_at(resources, own, depth, wanted) {
             return true;
         }
         self.is_fitting_by_order(resources, depth, wanted)
+    }
+
+    /// Whether the operand that a pop finds after so many others isn't known at all, or is known to be of this number or
+    /// vector type, where the innermost frame has so many own operands.
+    #[inline(always)]
+    pub(crate) fn is_number_at<R: WasmModuleResources>(
+        &self,
+        resources: &R,
+        own: usize,
+        depth: usize,
+        wanted: &ValType,
+    ) -> bool
+        requires own { own ≡ length (innermost_operands self.now.body.present.frames) }
+        requires wanted { Valid (R.context resources.now) wanted.now }
+        ensures { result ≡ true → may_pop (body_context (R.context resources.now) self.now.body)
+            (found_after_pops_in_body depth self.now.body) (Some wanted.now) ≡ true }
+    {
+        // The contract alone reads it.
+        let _resources = resources;
+        match self.found_among(own, depth) {
+            Some(found) => fits_at_once(found, Some(*wanted)),
+            None => false,
+        }
     }
 
     /// The same by the order of types. It looks for the operand again, so that nothing is copied where it isn't called.
@@ -281,38 +301,6 @@ impl Stacks {
             }
         }
         self.is_fitting(resources, self.found_at(depth), *wanted)
-    }
-
-    /// Checks that pops of these types would pass, the last of the list first, and leaves the operands in
-    /// place (wasmparser's `match_stack_operands`, which pops and pushes them). Where they would not, it
-    /// makes them, so that it refuses as they do, and the operands are popped up to the one that doesn't
-    /// fit. Memory is wanted as by [`Stacks::pop_types`].
-    pub fn match_operands<R: WasmModuleResources>(
-        &mut self,
-        resources: &R,
-        offset: u64,
-        wanted: &[ValType],
-    ) -> Result<(), Error>
-        requires types { AllByRecursion (Valid (R.context resources.now)) wanted.now }
-        requires state { IsValidBody (R.context resources.now) self.old.body }
-        ensures passed { OnOk result (has_operands_fitting
-            (body_context (R.context resources.now) self.old.body) wanted.now self.old.body ≡ true) }
-        ensures same { OnOk result (self.new ≡ self.old) }
-        ensures refused { IfErr result (λ e. e.wants_memory ≡ false
-            → has_operands_fitting (body_context (R.context resources.now) self.old.body) wanted.now
-            self.old.body ≡ false) }
-        ensures idle { self.old.body.undone ≡ None
-            → OnErr result (has_operands_fitting (body_context (R.context resources.now) self.old.body)
-            wanted.now self.old.body ≡ false) }
-        ensures phase { phase_moved self.new.phase ≡ phase_moved self.old.phase }
-        ensures offset { IfErr result (λ e. e.offset ≡ offset) }
-        ensures valid { IsValidBody (R.context resources.now) self.new.body }
-        ensures kept { IsKept self.old.body self.new.body }
-    {
-        if self.has_operands_fitting(resources, wanted) {
-            return Ok(());
-        }
-        self.pop_types(resources, offset, wanted)
     }
 
     /// Pushes an operand of each of these types, the first of the list first. It refuses for want of

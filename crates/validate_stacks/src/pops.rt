@@ -79,7 +79,7 @@ fn reference_found(alloc: Global, expected: ValType, offset: u64) -> Error
 }
 
 /// An unknown reference of which this abstract type is known, with the sharedness of the wanted one.
-fn unknown_reference<R: WasmModuleResources>(
+pub(crate) fn unknown_reference<R: WasmModuleResources>(
     resources: &R,
     ty: AbstractHeapType,
     wanted: RefType,

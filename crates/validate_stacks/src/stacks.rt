@@ -4,6 +4,7 @@ ghost use Rattle.std.specs.Prelude.{◌≡◌, ◌≢◌, ◌+◌, ◌<◌, ◌�
 ghost use Rattle.std.specs.Option.{option_copied, ForSome};
 ghost use Rattle.validate_locals.specs.Limit.{max_locals};
 ghost use Rattle.validate_resources.specs.Context.{ModuleContext};
+ghost use Rattle.validate_transaction.specs.Recorded.{with_push};
 ghost use Rattle.validate_transaction.specs.TakeBack.{items_taken_back, CanTakeBack};
 ghost use Rattle.validation_rules.specs.Static.{operand_count, frame_count, locals_set, is_local_set};
 ghost use Rattle.validate_stacks.specs.AtOnce.{body_dropped, body_given, body_with_frame_over};
@@ -26,10 +27,10 @@ use validate_visit::{BlockType, Frame, FrameKind};
 #[derive(Drop)]
 pub struct Stacks {
     pub(crate) operands: Pile<MaybeType>,
-    control: Pile<Frame>,
+    pub(crate) control: Pile<Frame>,
     locals: Locals,
-    inits: LocalInits,
-    transaction: Transaction,
+    pub(crate) inits: LocalInits,
+    pub(crate) transaction: Transaction,
     shared: bool,
     features: WasmFeatures,
     alloc: Global,
@@ -264,8 +265,7 @@ impl Stacks {
             (λ _. self.new ≡ self.old) }
         ensures phase { phase_moved self.new.phase ≡ phase_moved self.old.phase }
     {
-        self.operands.take_room()?;
-        self.transaction.record_push()?;
+        prepare_push(&mut self.operands, &mut self.transaction)?;
         self.operands.put(ty);
         Ok(())
     }
@@ -438,12 +438,20 @@ impl Stacks {
     pub fn found_at(&self, depth: usize) -> Option<MaybeType>
         ensures { result ≡ found_after_pops_in_body depth self.now.body }
     {
+        self.operand_found(depth).copied()
+    }
+
+    /// Where it lies.
+    #[inline(always)]
+    pub(crate) fn operand_found(&self, depth: usize) -> Option<&MaybeType>
+        ensures { option_copied result ≡ found_after_pops_in_body depth self.now.body }
+    {
         let frame = self.control.get(0)?;
         if depth < self.operands.len() - frame.height {
-            return self.operands.get(depth).copied();
+            return self.operands.get(depth);
         }
         if frame.unreachable {
-            Some(MaybeType::Bottom)
+            Some(&MaybeType::Bottom)
         } else {
             None
         }
@@ -484,7 +492,7 @@ impl Stacks {
     }
 
     /// Marks the innermost frame as dead.
-    fn mark(&mut self)
+    pub(crate) fn mark(&mut self)
         ensures { self.new.body ≡ body_marked self.old.body }
     {
         let Some(innermost) = self.control.get(0) else {
@@ -642,9 +650,50 @@ impl Stacks {
     }
 }
 
+/// Room for one more operand, and its entry in the log of an attempt, if one is pending. Want of memory changes nothing
+/// but room.
+#[inline(always)]
+fn prepare_push(
+    operands: &mut Pile<MaybeType>,
+    transaction: &mut Transaction,
+) -> Result<(), OutOfMemory>
+    ensures items { operands.new.items ≡ operands.old.items }
+    ensures never_less { operands.old.room ≤ operands.new.room }
+    ensures room { OnOk result (length operands.new.items < operands.new.room) }
+    ensures recorded { MatchResult result (λ _. transaction.new ≡ with_push transaction.old)
+        (λ _. transaction.new ≡ transaction.old) }
+{
+    if transaction.is_active() || !operands.has_room() {
+        return grow_for_push(operands, transaction);
+    }
+    Ok(())
+}
+
+/// [`prepare_push`], where a log or memory is wanted.
+#[cold]
+#[inline(never)]
+fn grow_for_push(
+    operands: &mut Pile<MaybeType>,
+    transaction: &mut Transaction,
+) -> Result<(), OutOfMemory>
+    ensures items { operands.new.items ≡ operands.old.items }
+    ensures never_less { operands.old.room ≤ operands.new.room }
+    ensures room { OnOk result (length operands.new.items < operands.new.room) }
+    ensures recorded { MatchResult result (λ _. transaction.new ≡ with_push transaction.old)
+        (λ _. transaction.new ≡ transaction.old) }
+{
+    operands.take_room()?;
+    transaction.record_push()
+}
+
 /// A live frame, over so many operands and locals that were set.
 #[inline(always)]
-fn live_frame(kind: FrameKind, block_type: BlockType, height: usize, init_height: usize) -> Frame
+pub(crate) fn live_frame(
+    kind: FrameKind,
+    block_type: BlockType,
+    height: usize,
+    init_height: usize,
+) -> Frame
     ensures { result ≡ record { kind = kind; block_type = block_type; height = height; unreachable = false; init_height = init_height } }
 {
     Frame {

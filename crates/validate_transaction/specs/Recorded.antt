@@ -1,8 +1,10 @@
 -- The log after one more entry (the crate's own).
-use Rattle.std.specs.Prelude.{ℕ, List, ◌∷◌, ◌++◌, Bool, true, false, Option, Some, None}
+use Rattle.std.specs.Prelude.{ℕ, List, [], ◌∷◌, ◌++◌, Bool, true, false, Option, Some, None, map, replicate}
 use Rattle.validate_types.specs.declared.types.ValType.{ValType}
 use Rattle.validate_types.specs.declared.types.MaybeType.{MaybeType}
 use Rattle.validate_visit.specs.declared.frame.Frame.{Frame}
+use Rattle.validate_transaction.specs.declared.log.Closed.{Closed}
+use Rattle.validate_transaction.specs.declared.log.Entry.{Entry}
 use Rattle.validate_transaction.specs.declared.log.Transaction.{Transaction}
 use Rattle.validate_transaction.specs.declared.log.Transaction.TheVariants.{Active, Inactive}
 use Rattle.validate_transaction.specs.Log.{Log, has_changes}
@@ -37,3 +39,31 @@ with_mark (Inactive allocs) = Inactive allocs
 abbrev pub has_changes_now : ℕ → Transaction → Bool
 has_changes_now n (Active log) = has_changes n log
 has_changes_now n (Inactive allocs) = false
+
+-- ---- all that a call does: operands are popped, a frame is closed, one is opened, and operands are pushed
+
+abbrev pub frames_with_closed : Option Closed → List (Option Frame) → List (Option Frame)
+frames_with_closed None trace = trace
+frames_with_closed (Some c) trace = Some c.frame.now ∷ trace
+
+abbrev pub frames_with_opened : Bool → List (Option Frame) → List (Option Frame)
+frames_with_opened true trace = None ∷ trace
+frames_with_opened false trace = trace
+
+-- the locals that it unsets
+abbrev pub unset_by : Option Closed → List ℕ
+unset_by None = []
+unset_by (Some c) = c.unset.now
+
+abbrev pub log_with_entry : Entry → Log → Log
+log_with_entry e log =
+    record log {
+      operands = replicate e.pushed None ++ (map Some e.popped.now ++ log.operands);
+      frames = frames_with_opened e.opened (frames_with_closed e.closed log.frames);
+      inits = log.inits ++ unset_by e.closed;
+    }
+
+-- the log of an attempt, if one is pending
+abbrev pub with_entry : Entry → Transaction → Transaction
+with_entry e (Active log) = Active (log_with_entry e log)
+with_entry e (Inactive allocs) = Inactive allocs

@@ -1,8 +1,9 @@
 //! The log of one attempt.
 
 ghost use Rattle.std.specs.Prelude.{◌≡◌, ℕ, ◌+◌, ◌<◌, ◌≤◌, List, [], ◌∷◌, ◌++◌, length, IfOk, OnOk, OnErr, IsOk, MatchOption, Option, true, false, None, Some};
-ghost use Rattle.std.specs.Prelude.{MatchResult};
+ghost use Rattle.std.specs.Prelude.{MatchResult, map, replicate};
 ghost use Rattle.validate_transaction.specs.Log.{Log, empty_log, has_changes};
+ghost use Rattle.validate_transaction.specs.Recorded.{log_with_entry};
 
 use crate::pile::Pile;
 use std::alloc::Global;
@@ -177,11 +178,79 @@ impl RollbackLog {
         Ok(())
     }
 
+    /// Records all that a call does. Want of memory changes nothing: there is room for all before anything is put.
+    #[inline(never)]
+    pub fn record(&mut self, entry: Entry<'_>) -> Result<(), OutOfMemory>
+        ensures { MatchResult result (λ _. self.new ≡ log_with_entry entry.entry self.old)
+            (λ _. self.new ≡ self.old) }
+    {
+        let Some(operands) = entry.popped.len().checked_add(entry.pushed) else {
+            return Err(OutOfMemory);
+        };
+        self.operands.reserve(operands)?;
+        self.frames.reserve(2)?;
+        if let Some(closed) = entry.closed {
+            self.inits.extend_from_slice(closed.unset)?;
+            self.frames.put(Some(*closed.frame));
+        }
+        if entry.opened {
+            self.frames.put(None);
+        }
+        put_popped(&mut self.operands, entry.popped);
+        put_pushed(&mut self.operands, entry.pushed);
+        Ok(())
+    }
+
     /// Records that the code of a frame became dead. It takes no memory.
     pub fn set_unreachable(&mut self)
         ensures { self.new ≡ record self.old { unreachable = true } }
     {
         self.unreachable = true;
+    }
+}
+
+/// A frame that is closed, as a log records it.
+#[derive(Clone, Copy)]
+pub struct Closed<'a> {
+    /// The frame as it was.
+    pub frame: &'a Frame,
+    /// The locals that it unsets, in order.
+    pub unset: &'a [u32],
+}
+
+/// What a call does to operands and frames, as a log records it.
+#[derive(Clone, Copy)]
+pub struct Entry<'a> {
+    /// The operands that are popped, the top last.
+    pub popped: &'a [MaybeType],
+    /// The frame that is closed, if one is.
+    pub closed: Option<Closed<'a>>,
+    /// Whether a frame is opened.
+    pub opened: bool,
+    /// How many operands are pushed.
+    pub pushed: usize,
+}
+
+/// Records that these operands were popped, the last of the list first, where there is room.
+fn put_popped(trace: &mut Pile<Option<MaybeType>>, popped: &[MaybeType])
+    requires { length trace.old.items + length popped.now ≤ trace.old.room }
+    ensures items { trace.new.items ≡ map Some popped.now ++ trace.old.items }
+    ensures never_less { trace.old.room ≤ trace.new.room }
+{
+    let mut left = popped.len();
+    while left > 0 {
+        left -= 1;
+        trace.put(Some(popped[left]));
+    }
+}
+
+/// Records that so many operands were pushed, where there is room.
+fn put_pushed(trace: &mut Pile<Option<MaybeType>>, count: usize)
+    requires { length trace.old.items + count ≤ trace.old.room }
+    ensures { trace.new.items ≡ replicate count None ++ trace.old.items }
+{
+    for _pushed in 0..count {
+        trace.put(None);
     }
 }
 

@@ -85,6 +85,19 @@ impl<T> Pile<T> {
         Ok(())
     }
 
+    /// Room for so many more items. Want of memory changes no item.
+    #[inline(always)]
+    pub fn reserve(&mut self, count: usize) -> Result<(), OutOfMemory>
+        ensures items { self.new.items ≡ self.old.items }
+        ensures never_less { self.old.room ≤ self.new.room }
+        ensures ok { OnOk result (length self.new.items + count ≤ self.new.room) }
+        ensures only_full { length self.old.items + count ≤ self.old.room → IsOk result }
+        ensures within { length self.old.items ≤ self.old.room }
+    {
+        self.vec.reserve(count)?;
+        Ok(())
+    }
+
     /// Whether there is room for one more item.
     #[inline(always)]
     pub fn has_room(&self) -> bool

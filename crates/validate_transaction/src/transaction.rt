@@ -3,9 +3,9 @@
 ghost use Rattle.std.specs.Prelude.{◌≡◌, ℕ, MatchResult, IsOk, IsSome, IsNone, Some, None, is_some};
 ghost use Rattle.validate_transaction.specs.Log.{Log, empty_log};
 ghost use Rattle.validate_transaction.specs.Mapped.{Maps};
-ghost use Rattle.validate_transaction.specs.Recorded.{log_of, with_push, with_pop, with_opened, with_closed, with_mark, has_changes_now};
+ghost use Rattle.validate_transaction.specs.Recorded.{log_of, with_push, with_pop, with_opened, with_closed, with_mark, with_entry, has_changes_now};
 
-use crate::log::{RollbackLog, RollbackLogAllocations, Transaction};
+use crate::log::{Entry, RollbackLog, RollbackLogAllocations, Transaction};
 use std::mem;
 use validate_types::{MaybeType, OutOfMemory};
 use validate_visit::Frame;
@@ -136,6 +136,20 @@ impl Transaction {
     {
         match self {
             Transaction::Active(log) => log.pop_ctrl(frame, inits),
+            Transaction::Inactive(_) => Ok(()),
+        }
+    }
+
+    /// Records all that a call does, if an attempt is pending. Want of memory changes nothing, and there is none
+    /// where no attempt is pending.
+    #[inline(always)]
+    pub fn record(&mut self, entry: Entry<'_>) -> Result<(), OutOfMemory>
+        ensures exact { MatchResult result (λ _. self.new ≡ with_entry entry.entry self.old)
+            (λ _. self.new ≡ self.old) }
+        ensures idle { log_of self.old ≡ None → IsOk result }
+    {
+        match self {
+            Transaction::Active(log) => log.record(entry),
             Transaction::Inactive(_) => Ok(()),
         }
     }

@@ -100,6 +100,13 @@ impl Error {
         }
     }
 
+    /// The same refusal, at this offset.
+    pub fn at(self, offset: u64) -> Error
+        ensures { result ≡ record self { offset = offset } }
+    {
+        Error { offset, ..self }
+    }
+
     /// The offset that was handed in to the call that refused.
     pub fn offset(&self) -> u64
         ensures { result ≡ self.now.offset }

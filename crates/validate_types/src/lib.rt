@@ -8,7 +8,9 @@ mod features;
 mod gate;
 mod heap;
 mod refs;
+mod refusal;
 mod signature;
+mod texts;
 mod types;
 
 pub use crate::error::{Error, OutOfMemory};
@@ -16,6 +18,7 @@ pub use crate::features::WasmFeatures;
 pub use crate::gate::Gate;
 pub use crate::heap::{AbstractHeapType, CoreTypeId, HeapType, PackedIndex, UnpackedIndex};
 pub use crate::refs::RefType;
+pub use crate::refusal::{ClauseKind, NotAtOnce, Packing, Refusal, Refused, Told, grown};
 pub use crate::signature::func_signature_matches;
 pub use crate::types::{
     ArrayType, CompositeInnerType, CompositeType, ContType, FieldType, FuncType, GlobalType,

@@ -1,12 +1,5 @@
-use Rattle.std.proofs.Common.{Some, sym, ap, ◌∙◌}
-use Rattle.validate_stacks.specs.Pops.{may_pop}
-use Rattle.validate_stacks.specs.State.{body_context}
-use Rattle.validate_stacks.proofs.AtOnce.{fits_by}
+use Rattle.std.proofs.Common.{sym}
 use Rattle.validate_stacks.proofs.stacks.Stacks.is_fitting_at.Goals as goal
 
-pub returns-then-fits_at_once : goal.returns-then-fits_at_once
-returns-then-fits_at_once g c =
-    let md = g.R.WasmModuleResources.context c.args.resources.now in
-    let v = c.args.self.now.body in
-    let fits = fits_by md (g.met.R.WasmModuleResources.lawful c.args.resources.now) v c.in-Some.found c.args.wanted.now c.requires.wanted (c.fits_at_once.ensures c.if-fits_at_once.true) in
-    sym (ap (λ o. may_pop (body_context md v) o (Some c.args.wanted.now)) (sym c.found_among.ensures ∙ c.in-Some.is) ∙ fits)
+pub returns-then-is_number_at : goal.returns-then-is_number_at
+returns-then-is_number_at g c = sym (c.is_number_at.ensures c.if-is_number_at.true)

@@ -11,23 +11,17 @@ use Rattle.validate_stacks.proofs.stacks.Stacks.push_operand.Goals as goal
 pub invariant_of-self : goal.invariant_of-self
 invariant_of-self c =
     let s = c.self.inside in
-    rw c.take_room.ensures.items (sound_room s.control.room s.control.room s.control.items s.operands.room c.take_room.new.self.room s.operands.items s.inits.room s.inits.set_at_entry s.inits.order s.transaction s.locals (omega arith) c.take_room.ensures.never_less c.self.invariant)
-
-pub invariant_of-self-in_err-record_push : goal.invariant_of-self-in_err-record_push
-invariant_of-self-in_err-record_push c =
-    let s = c.self.inside in
-    rw (c.take_room.ensures.items, c.in_err-record_push.ensures.exact) (sound_room s.control.room s.control.room s.control.items s.operands.room c.take_room.new.self.room s.operands.items s.inits.room s.inits.set_at_entry s.inits.order s.transaction s.locals (omega arith) c.take_room.ensures.never_less c.self.invariant)
+    rw (c.prepare_push.ensures.items, c.in_err-prepare_push.ensures.recorded) (sound_room s.control.room s.control.room s.control.items s.operands.room c.prepare_push.new.operands.room s.operands.items s.inits.room s.inits.set_at_entry s.inits.order s.transaction s.locals (omega arith) c.prepare_push.ensures.never_less c.self.invariant)
 
 pub invariant_of-self-2 : goal.invariant_of-self-2
 invariant_of-self-2 c =
     let s = c.self.inside in
-    rw (c.put.ensures.items, c.take_room.ensures.items, c.in_ok-record_push.ensures.exact) (sound_push s.control.room s.control.items s.operands.room c.put.new.self.room c.args.ty s.operands.items s.inits.room s.inits.set_at_entry s.inits.order s.transaction s.locals (omega arith) c.self.invariant)
+    rw (c.put.ensures.items, c.prepare_push.ensures.items, c.in_ok-prepare_push.ensures.recorded) (sound_push s.control.room s.control.items s.operands.room c.put.new.self.room c.args.ty s.operands.items s.inits.room s.inits.set_at_entry s.inits.order s.transaction s.locals (omega arith) c.self.invariant)
 
 pub returns-clause-exact : goal.returns-clause-exact
 returns-clause-exact c =
     let s = c.self.inside in
-    let un = undone_pending s.control.items s.operands.items s.inits.order s.transaction in
-    rw (c.put.ensures.items, c.take_room.ensures.items, c.in_ok-record_push.ensures.exact)
+    rw (c.put.ensures.items, c.prepare_push.ensures.items, c.in_ok-prepare_push.ensures.recorded)
     (ap (λ (p : State). record { present = p; shared = s.shared; features = s.features; locals = s.locals; set_at_entry = s.inits.set_at_entry; undone = undone_pending s.control.items (c.args.ty ∷ s.operands.items) s.inits.order (with_push s.transaction) }) (cut-push s.control.items c.args.ty s.operands.items s.inits.order (length s.inits.order) c.self.invariant.shape)
     ∙ ap (λ u. body_pushed c.args.ty (state_of s.control.items s.operands.items s.inits.order s.shared s.features s.locals s.inits.set_at_entry u)) (undone_push s.control.items c.args.ty s.operands.items s.inits.order s.transaction)
     ∙ ap (body_pushed c.args.ty) (ap body_of c.self.view_is))
@@ -35,4 +29,4 @@ returns-clause-exact c =
 pub returns-clause-phase : goal.returns-clause-phase
 returns-clause-phase c =
     let s = c.self.inside in
-    rw c.in_ok-record_push.ensures.exact (phase_push (length s.inits.order) s.transaction ∙ ap (λ (v : Stacked). phase_moved v.phase) c.self.view_is)
+    rw c.in_ok-prepare_push.ensures.recorded (phase_push (length s.inits.order) s.transaction ∙ ap (λ (v : Stacked). phase_moved v.phase) c.self.view_is)

@@ -1,0 +1,12 @@
+use Rattle.std.proofs.Common.{[], ◌∷◌}
+use Rattle.validate_stacks.specs.Pops.{body_pushed_each}
+use Rattle.validate_stacks.proofs.Moves.{given_alone}
+use Rattle.validate_shapes.proofs.Moves.{exchange_moves, plain_is}
+use Rattle.validate_shapes.proofs.plain.constant.Goals as goal
+
+pub returns : goal.returns
+returns g c =
+    let md = g.R.WasmModuleResources.context c.args.resources.now in
+    let s = c.args.stacks.now in
+    let given = c.args.given ∷ [] in
+    exchange_moves md _ _ s _ [] given (plain_is md s.body [] given c.requires.visit.open_frame) (c.requires.given, tt) c.requires.visit.valid _ (given_alone md _ (body_pushed_each given) s _ c.push_operand.result _ c.grown.ensures.same c.grown.ensures.told c.push_operand.ensures.exact)

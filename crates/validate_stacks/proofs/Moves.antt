@@ -1,0 +1,86 @@
+-- What finders and movers show of a body of an operator.
+use Rattle.std.proofs.Common.{◌≡◌, ◌≢◌, ℕ, ◌+◌, min, true, false, List, [], ◌∷◌, Bool, Option, Some, None, Result, Ok, Err, MatchResult, OnOk, IfErr, is_ok, reverse, length, refl, sym, ap, ◌∙◌, subst}
+use Rattle.std.specs.Option.{option_map}
+use Rattle.validate_resources.specs.Context.{ModuleContext}
+use Rattle.validate_types.specs.declared.error.OutOfMemory.{OutOfMemory}
+use Rattle.validate_types.specs.declared.types.ValType.{ValType}
+use Rattle.validation_rules.specs.Fits.{all_fit}
+use Rattle.validation_rules.specs.Rows.{guard}
+use Rattle.validation_rules.specs.Static.{Frame}
+use Rattle.validate_stacks.specs.AtOnce.{body_dropped, frames_dropped}
+use Rattle.validate_stacks.specs.Attempts.{Stacked}
+use Rattle.validate_stacks.specs.Moves.{Takes}
+use Rattle.validate_stacks.specs.Pops.{body_popped_each, has_operands_fitting, operands_found_in}
+use Rattle.validate_stacks.specs.State.{BodyState, body_context, body_with_frames}
+use Rattle.validate_stacks.specs.Steps.{innermost_operands, found_after_pops_in_body, found_after_pops_in_frames}
+use Rattle.std.proofs.lemmas.List.{drop-drop}
+use Rattle.validation_rules.specs.Pops.{found_by_pop}
+use Rattle.validate_stacks.proofs.AtOnce.{dropped_none, dropped_within, popped_dropped}
+use Rattle.validate_stacks.proofs.Whole.{popped_none, popped_whole}
+
+-- what doesn't fit is not popped
+pub not_popped : (md : ModuleContext) (wanted : List ValType) (v : BodyState) → v.present.frames ≢ [] → has_operands_fitting (body_context md v) wanted v ≡ false → body_popped_each md (reverse wanted) v ≡ None
+not_popped md wanted v o h = by v.present.frames refl
+  where
+    shut : {A : Type 0} (b : Bool) (x : Option A) → b ≡ false → guard b x ≡ None
+    shut false x e = refl
+    shut true x e = cc
+
+    by : (fs : List Frame) → v.present.frames ≡ fs → body_popped_each md (reverse wanted) v ≡ None
+    by [] e = absurd (o e)
+    by (f ∷ fs) e = popped_whole md v f fs wanted e ∙ shut _ _ (sym (ap (λ gs. all_fit (body_context md v) (operands_found_in (length wanted) gs) wanted) e) ∙ h)
+
+-- what is found below others is found once they are dropped
+pub found_below : (k n : ℕ) (v : BodyState) → found_after_pops_in_body k (body_dropped n v) ≡ found_after_pops_in_body (n + k) v
+found_below k n v = by v.present.frames
+  where
+    by : (fs : List Frame) → found_after_pops_in_frames k (frames_dropped n fs) ≡ found_after_pops_in_frames (n + k) fs
+    by [] = refl
+    by (f ∷ fs) = ap (found_by_pop f.dead) (drop-drop k n f.operands)
+
+pub found_at_depth : (above depth k : ℕ) (v : BodyState) → depth ≡ above + k → found_after_pops_in_body depth v ≡ found_after_pops_in_body k (body_dropped above v)
+found_at_depth above depth k v e = ap (λ d. found_after_pops_in_body d v) e ∙ sym (found_below k above v)
+
+-- and dropped in two steps
+pub dropped_below : (k n : ℕ) (v : BodyState) → body_dropped k (body_dropped n v) ≡ body_dropped (n + k) v
+dropped_below k n v = by v.present.frames
+  where
+    by : (fs : List Frame) → body_dropped k (body_dropped n (body_with_frames fs v)) ≡ body_dropped (n + k) (body_with_frames fs v)
+    by [] = refl
+    by (f ∷ fs) = ap (λ xs. body_with_frames (record f { operands = xs } ∷ fs) v) (drop-drop k n f.operands)
+
+-- with no other above
+pub fits_now : (md : ModuleContext) (wanted : List ValType) (v : BodyState) (b : Bool) → has_operands_fitting (body_context md v) wanted (body_dropped 0 v) ≡ b → has_operands_fitting (body_context md v) wanted v ≡ b
+fits_now md wanted v b h = sym (ap (has_operands_fitting (body_context md v) wanted) (dropped_none v)) ∙ h
+
+module _ {E : Type 0} (md : ModuleContext) (tells : E → Type 0) (wanted : List ValType) (f : BodyState → BodyState) where
+  -- operands that aren't found, or don't fit
+  pub not_taken : (s : Stacked) (a : Result (Unit {0}) E) → s.body.present.frames ≢ [] → OnOk a ⊥ → has_operands_fitting (body_context md s.body) wanted s.body ≡ false → Takes md tells wanted f s a s
+  unfolding Takes
+  not_taken s (Ok u) there never h = absurd never
+  not_taken s (Err e) there never h = (refl, λ t. not_popped md wanted s.body there h)
+
+  -- operands that fit, moved as far as the frame has them
+  pub taken : (s w : Stacked) (k : ℕ) (r : Result (Unit {0}) OutOfMemory) (a : Result (Unit {0}) E) → has_operands_fitting (body_context md s.body) wanted s.body ≡ true → k ≡ min (length wanted) (length (innermost_operands s.body.present.frames)) → is_ok a ≡ is_ok r → IfErr a (λ e. tells e → ⊥) → MatchResult r (λ _. w.body ≡ f (body_dropped k s.body)) (λ _. w ≡ s) → Takes md tells wanted f s a w
+  unfolding Takes
+  taken s w k (Ok u) (Ok x) fit least same told m = ap (option_map f) (popped_dropped md wanted s.body fit ∙ ap Some (dropped_within (length wanted) k s.body least)) ∙ ap Some (sym m)
+  taken s w k (Err e) (Err x) fit least same told m = (m, λ t. absurd (told t))
+  taken s w k (Ok u) (Err x) fit least same told m = cc
+  taken s w k (Err e) (Ok x) fit least same told m = cc
+
+  -- after a move that was not made
+  pub takes_then : (s t w : Stacked) → t ≡ s → (a : Result (Unit {0}) E) → Takes md tells wanted f t a w → Takes md tells wanted f s a w
+  takes_then s t w same a m = subst (λ (x : Stacked). Takes md tells wanted f x a w) same m
+
+  -- after one that was
+  pub takes_done : (s w : Stacked) → option_map f (body_popped_each md (reverse wanted) s.body) ≡ Some w.body → Takes md tells wanted f s (Ok tt) w
+  unfolding Takes
+  takes_done s w e = e
+
+-- where nothing is wanted, a move alone
+pub given_alone : {E : Type 0} (md : ModuleContext) (tells : E → Type 0) (f : BodyState → BodyState) (s w : Stacked) (r : Result (Unit {0}) OutOfMemory) (a : Result (Unit {0}) E) → is_ok a ≡ is_ok r → IfErr a (λ e. tells e → ⊥) → MatchResult r (λ _. w.body ≡ f s.body) (λ _. w ≡ s) → Takes md tells [] f s a w
+unfolding Takes
+given_alone md tells f s w (Ok u) (Ok x) same told m = ap (option_map f) (popped_none md s.body) ∙ ap Some (sym m)
+given_alone md tells f s w (Err e) (Err x) same told m = (m, λ t. absurd (told t))
+given_alone md tells f s w (Ok u) (Err x) same told m = cc
+given_alone md tells f s w (Err e) (Ok x) same told m = cc

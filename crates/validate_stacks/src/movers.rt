@@ -1,0 +1,209 @@
+//! The moves of operators: each is made whole, or changes nothing.
+
+ghost use Rattle.std.specs.Prelude.{◌≡◌, ◌≢◌, ◌<◌, ◌≤◌, [], None, true, length, IsOk, MatchResult};
+ghost use Rattle.validate_stacks.specs.AtOnce.{body_dropped};
+ghost use Rattle.validate_stacks.specs.Attempts.{may_frame, may_set, may_unset};
+ghost use Rattle.validate_stacks.specs.Pops.{body_pushed_each};
+ghost use Rattle.validate_stacks.specs.Steps.{innermost_operands, body_pushed, body_unreachable, body_with_frame, body_with_local_set, body_without_frame};
+
+use crate::change::Change;
+use crate::stacks::Stacks;
+use validate_types::{MaybeType, OutOfMemory, ValType};
+use validate_visit::{BlockType, FrameKind};
+
+impl Stacks {
+    /// Takes so many own operands of the innermost frame, which has as many, and gives one of each of these types, the
+    /// last on top. Want of memory changes nothing, and there is none where no attempt is pending and no more come than
+    /// go.
+    #[inline(always)]
+    pub fn exchange(&mut self, taken: usize, given: &[ValType]) -> Result<(), OutOfMemory>
+        requires { taken ≤ length (innermost_operands self.old.body.present.frames) }
+        ensures exact { MatchResult result
+            (λ _. self.new.body ≡ body_pushed_each given.now (body_dropped taken self.old.body))
+            (λ _. self.new ≡ self.old) }
+        ensures idle { self.old.body.undone ≡ None → length given.now ≤ taken → IsOk result }
+    {
+        // Where no attempt is pending, and one comes at most, it is put in place.
+        if !self.is_pending() && given.len() <= 1 {
+            let Some(ty) = given.first() else {
+                self.drop_operands(taken);
+                return Ok(());
+            };
+            if self.push_over(taken, MaybeType::Known(*ty)) {
+                return Ok(());
+            }
+        }
+        self.exchange_any(taken, given)
+    }
+
+    /// [`Stacks::exchange`], of any number of operands, and recorded where an attempt is pending.
+    #[inline(never)]
+    fn exchange_any(&mut self, taken: usize, given: &[ValType]) -> Result<(), OutOfMemory>
+        requires { taken ≤ length (innermost_operands self.old.body.present.frames) }
+        ensures exact { MatchResult result
+            (λ _. self.new.body ≡ body_pushed_each given.now (body_dropped taken self.old.body))
+            (λ _. self.new ≡ self.old) }
+        ensures idle { self.old.body.undone ≡ None → length given.now ≤ taken → IsOk result }
+    {
+        self.change(Change {
+            taken,
+            closes: false,
+            sets: None,
+            opens: None,
+            given,
+            top: None,
+        })
+    }
+
+    /// [`Stacks::exchange`] with one operand that comes, of which less may be known.
+    #[inline(always)]
+    pub fn replace(&mut self, taken: usize, ty: MaybeType) -> Result<(), OutOfMemory>
+        requires { taken ≤ length (innermost_operands self.old.body.present.frames) }
+        ensures exact { MatchResult result
+            (λ _. self.new.body ≡ body_pushed ty (body_dropped taken self.old.body))
+            (λ _. self.new ≡ self.old) }
+        ensures idle { self.old.body.undone ≡ None → 0 < taken → IsOk result }
+    {
+        if !self.is_pending() {
+            if self.push_over(taken, ty) {
+                return Ok(());
+            }
+        }
+        self.replace_any(taken, ty)
+    }
+
+    /// [`Stacks::replace`], recorded where an attempt is pending.
+    #[inline(never)]
+    fn replace_any(&mut self, taken: usize, ty: MaybeType) -> Result<(), OutOfMemory>
+        requires { taken ≤ length (innermost_operands self.old.body.present.frames) }
+        ensures exact { MatchResult result
+            (λ _. self.new.body ≡ body_pushed ty (body_dropped taken self.old.body))
+            (λ _. self.new ≡ self.old) }
+        ensures idle { self.old.body.undone ≡ None → 0 < taken → IsOk result }
+    {
+        self.change(Change {
+            taken,
+            closes: false,
+            sets: None,
+            opens: None,
+            given: &[],
+            top: Some(ty),
+        })
+    }
+
+    /// [`Stacks::exchange`], and a declared local is set: where it wasn't, it joins those first set in the innermost frame.
+    /// Want of memory changes nothing.
+    #[inline(always)]
+    pub fn set_local(
+        &mut self,
+        local_index: u32,
+        taken: usize,
+        given: &[ValType],
+    ) -> Result<(), OutOfMemory>
+        requires open_frame { self.old.body.present.frames ≢ [] }
+        requires own { taken ≤ length (innermost_operands self.old.body.present.frames) }
+        requires declared { local_index < length self.old.body.locals }
+        requires set { may_set self.old ≡ true }
+        ensures { MatchResult result (λ _. self.new.body
+            ≡ body_pushed_each given.now (body_with_local_set local_index (body_dropped taken self.old.body)))
+            (λ _. self.new ≡ self.old) }
+    {
+        self.change(Change {
+            taken,
+            closes: false,
+            sets: Some(local_index),
+            opens: None,
+            given,
+            top: None,
+        })
+    }
+
+    /// Takes so many own operands of the innermost frame, which has as many, and opens a frame that owns one of each of
+    /// these types, the last on top. Want of memory changes nothing.
+    #[inline(always)]
+    pub fn open(
+        &mut self,
+        taken: usize,
+        kind: FrameKind,
+        block_type: BlockType,
+        given: &[ValType],
+    ) -> Result<(), OutOfMemory>
+        requires own { taken ≤ length (innermost_operands self.old.body.present.frames) }
+        requires frames { may_frame self.old ≡ true }
+        ensures { MatchResult result (λ _. self.new.body
+            ≡ body_pushed_each given.now (body_with_frame kind block_type (body_dropped taken self.old.body)))
+            (λ _. self.new ≡ self.old) }
+    {
+        self.change(Change {
+            taken,
+            closes: false,
+            sets: None,
+            opens: Some((kind, block_type)),
+            given,
+            top: None,
+        })
+    }
+
+    /// Closes the innermost frame with its own operands, and gives the next outer one an operand of each of these types, the
+    /// last on top: the locals that were first set in the frame aren't set any more. Want of memory changes nothing, and
+    /// there is none where no attempt is pending and no more come than go.
+    #[inline(always)]
+    pub fn close(&mut self, given: &[ValType]) -> Result<(), OutOfMemory>
+        requires open_frame { self.old.body.present.frames ≢ [] }
+        requires frames { may_frame self.old ≡ true }
+        requires unsets { may_unset self.old ≡ true }
+        ensures exact { MatchResult result
+            (λ _. self.new.body ≡ body_pushed_each given.now (body_without_frame self.old.body))
+            (λ _. self.new ≡ self.old) }
+        ensures idle { self.old.body.undone ≡ None
+            → length given.now ≤ length (innermost_operands self.old.body.present.frames) → IsOk result }
+    {
+        self.change(Change {
+            taken: self.own_len(),
+            closes: true,
+            sets: None,
+            opens: None,
+            given,
+            top: None,
+        })
+    }
+
+    /// Closes the innermost frame as [`Stacks::close`] does, and opens one in its place that owns an operand of each of
+    /// these types, the last on top. Want of memory changes nothing.
+    #[inline(always)]
+    pub fn reopen_with(
+        &mut self,
+        kind: FrameKind,
+        block_type: BlockType,
+        given: &[ValType],
+    ) -> Result<(), OutOfMemory>
+        requires open_frame { self.old.body.present.frames ≢ [] }
+        requires frames { may_frame self.old ≡ true }
+        requires unsets { may_unset self.old ≡ true }
+        ensures { MatchResult result (λ _. self.new.body
+            ≡ body_pushed_each given.now (body_with_frame kind block_type (body_without_frame self.old.body)))
+            (λ _. self.new ≡ self.old) }
+    {
+        self.change(Change {
+            taken: self.own_len(),
+            closes: true,
+            sets: None,
+            opens: Some((kind, block_type)),
+            given,
+            top: None,
+        })
+    }
+
+    /// Ends the live part of the innermost frame: it is dead from here on, and its own operands go. Want of memory changes
+    /// nothing, and there is none where no attempt is pending.
+    #[inline(always)]
+    pub fn end_live(&mut self) -> Result<(), OutOfMemory>
+        ensures exact { MatchResult result (λ _. self.new.body ≡ body_unreachable self.old.body)
+            (λ _. self.new ≡ self.old) }
+        ensures idle { self.old.body.undone ≡ None → IsOk result }
+    {
+        self.exchange(self.own_len(), &[])?;
+        self.mark();
+        Ok(())
+    }
+}

@@ -1,0 +1,286 @@
+//! The refusals of operators, as a caller is told them: with a text and a place.
+
+ghost use Rattle.std.specs.Prelude.{◌≡◌, false};
+ghost use Rattle.validate_resources.specs.Context.{ModuleContext};
+ghost use Rattle.validate_stacks.specs.Pops.{IsKept};
+ghost use Rattle.validate_stacks.specs.State.{IsValidBody};
+ghost use Rattle.validate_types.specs.Told.{IsRowRefused, IsTold};
+
+use crate::blocks::label_types;
+use crate::pops::ty_to_str;
+use crate::stacks::Stacks;
+use std::alloc::{AllocError, Global};
+use validate_resources::WasmModuleResources;
+use validate_resources::kinds::func_type_of;
+use validate_types::{Error, MaybeType, Refusal, Told, ValType};
+
+impl Stacks {
+    /// The refusal, at this offset, with its text. The operands go that upstream takes before it refuses: those above one that
+    /// doesn't fit, and that one; all of the frame where one isn't found; so many, where it refuses for another reason.
+    #[cold]
+    #[inline(never)]
+    pub fn refuse<R: WasmModuleResources>(
+        &mut self,
+        resources: &R,
+        told: Told,
+        taken: usize,
+        offset: u64,
+    ) -> Error
+        ensures offset { result.offset ≡ offset }
+        ensures told { result.wants_memory ≡ false → IsRowRefused told }
+        ensures valid { (md : ModuleContext) → IsValidBody md self.old.body → IsValidBody md self.new.body }
+        ensures kept { IsKept self.old.body self.new.body }
+    {
+        match told {
+            Told::LookUp(error) => error.at(offset),
+            Told::Rule(refusal) => {
+                let error = self.error(resources, refusal, offset);
+                self.take_refused(refusal, taken);
+                error
+            }
+        }
+    }
+
+    /// Takes the operands that upstream has taken by then.
+    fn take_refused(&mut self, refusal: Refusal, taken: usize)
+        ensures valid { (md : ModuleContext) → IsValidBody md self.old.body → IsValidBody md self.new.body }
+        ensures kept { IsKept self.old.body self.new.body }
+    {
+        let own = self.own_len();
+        let taken = match refusal {
+            Refusal::NothingFound(_) => own,
+            Refusal::Mismatch { depth, .. } => own.min(depth.saturating_add(1)),
+            _ => own.min(taken),
+        };
+        // Where there is no memory for the log of an attempt, they stay.
+        let _ = self.exchange(taken, &[]);
+    }
+
+    /// What a branch to the outermost frame carries: the results of the body; nothing, where no frame is open.
+    fn body_results<'a, R: WasmModuleResources>(&'a self, resources: &'a R) -> &'a [ValType] {
+        match self.get_frame(self.control_stack_height().saturating_sub(1)) {
+            Some(frame) => label_types(resources, &frame.block_type, frame.kind),
+            None => &[],
+        }
+    }
+
+    /// The refusal of a rule, at this offset, with its text.
+    fn error<R: WasmModuleResources>(&self, resources: &R, refusal: Refusal, offset: u64) -> Error
+        ensures offset { result.offset ≡ offset }
+        ensures told { result.wants_memory ≡ false → IsTold refusal }
+    {
+        if let Refusal::OutOfMemory = refusal {
+            return Error::out_of_memory(offset);
+        }
+        match refusal.fixed_text() {
+            Some(text) => Error::new(text, offset),
+            None => Error::from_text(self.made_text(resources, refusal), offset),
+        }
+    }
+
+    /// The text of a refusal that names a type or an index.
+    fn made_text<R: WasmModuleResources>(
+        &self,
+        resources: &R,
+        refusal: Refusal,
+    ) -> Result<String, AllocError> {
+        let alloc = self.allocator();
+        match refusal {
+            Refusal::NoFunctionType(index) => declared_text(resources, alloc, "func", index),
+            Refusal::NoStructType(index) => declared_text(resources, alloc, "struct", index),
+            Refusal::NoArrayType(index) => declared_text(resources, alloc, "array", index),
+            Refusal::OtherResults(index) => self.results_text(resources, index),
+            _ => operand_text(alloc, refusal),
+        }
+    }
+
+    /// The text where a function of the type at this index is called last, and doesn't give what the body does.
+    fn results_text<R: WasmModuleResources>(
+        &self,
+        resources: &R,
+        type_index: u32,
+    ) -> Result<String, AllocError> {
+        let alloc = self.allocator();
+        let wanted = names_of(alloc, self.body_results(resources))?;
+        let results = names_of(alloc, results_of(resources, type_index))?;
+        format!(in alloc;
+            "type mismatch: current function requires result type [{wanted}] but callee returns [{results}]"
+        )
+    }
+}
+
+/// The text of a declared type of another kind than this.
+fn declared_text<R: WasmModuleResources>(
+    resources: &R,
+    alloc: Global,
+    kind: &'static str,
+    type_index: u32,
+) -> Result<String, AllocError> {
+    match resources.sub_type_at(type_index) {
+        Some(found) => {
+            format!(in alloc; "expected {kind} type at index {type_index}, found {found}")
+        }
+        None => format!(in alloc; "unknown type: type index out of bounds"),
+    }
+}
+
+/// The results of the function type at this index; nothing, where there is none.
+fn results_of<R: WasmModuleResources>(resources: &R, type_index: u32) -> &[ValType] {
+    match resources.sub_type_at(type_index) {
+        Some(sub_type) => match func_type_of(sub_type) {
+            Some(func_type) => func_type.results(),
+            None => &[],
+        },
+        None => &[],
+    }
+}
+
+/// The names of types, parted by spaces.
+fn names_of(alloc: Global, types: &[ValType]) -> Result<String, AllocError> {
+    let mut names = String::new(alloc);
+    for (index, ty) in types.iter().enumerate() {
+        let parted = if index == 0 { "" } else { " " };
+        write!(names, "{parted}{ty}")?;
+    }
+    Ok(names)
+}
+
+/// The text of an operand that isn't there, or of another type.
+fn operand_text(alloc: Global, refusal: Refusal) -> Result<String, AllocError> {
+    match refusal {
+        Refusal::NothingFound(Some(wanted)) => {
+            let wanted = ty_to_str(wanted);
+            format!(in alloc; "type mismatch: expected {wanted} but nothing on stack")
+        }
+        Refusal::Mismatch { wanted, found, .. } => mismatch_text(alloc, wanted, found),
+        Refusal::NoReference(found) => {
+            let found = ty_to_str(found);
+            format!(in alloc; "type mismatch: expected ref but found {found}")
+        }
+        Refusal::NoDeclaredReference(found) => {
+            let found = ty_to_str(found);
+            format!(in alloc; "type mismatch: {found}")
+        }
+        Refusal::NoContinuationReference(found) => {
+            let found = ty_to_str(found);
+            format!(in alloc; "type mismatch: expected a continuation reference, found {found}")
+        }
+        _ => index_text(alloc, refusal),
+    }
+}
+
+/// The text of an operand that doesn't fit.
+fn mismatch_text(alloc: Global, wanted: ValType, found: MaybeType) -> Result<String, AllocError> {
+    let wanted = ty_to_str(wanted);
+    match found {
+        MaybeType::Known(found) => {
+            let found = ty_to_str(found);
+            format!(in alloc; "type mismatch: expected {wanted}, found {found}")
+        }
+        MaybeType::Bottom | MaybeType::UnknownRef(_) => {
+            format!(in alloc; "type mismatch: expected {wanted}, found heap type")
+        }
+    }
+}
+
+/// The text of an index that names nothing, or another thing.
+fn index_text(alloc: Global, refusal: Refusal) -> Result<String, AllocError> {
+    match refusal {
+        Refusal::UnknownLocal(index) => {
+            format!(in alloc; "unknown local {index}: local index out of bounds")
+        }
+        Refusal::UninitializedLocal(index) => format!(in alloc; "uninitialized local: {index}"),
+        Refusal::UnknownFunction(index) => {
+            format!(in alloc; "unknown function {index}: function index out of bounds")
+        }
+        Refusal::UnknownTable(index) => {
+            format!(in alloc; "unknown table {index}: table index out of bounds")
+        }
+        Refusal::UnknownMemory(index) => format!(in alloc; "unknown memory {index}"),
+        Refusal::UnknownTag(index) => {
+            format!(in alloc; "unknown tag {index}: tag index out of bounds")
+        }
+        Refusal::UnknownElements(index) => {
+            format!(in alloc; "unknown elem segment {index}: segment index out of bounds")
+        }
+        Refusal::UnknownData(index) => format!(in alloc; "unknown data segment {index}"),
+        Refusal::NoContinuationType(index) => format!(in alloc; "non-continuation type {index}"),
+        Refusal::WantsDescriptor { type_index, name } => {
+            format!(in alloc;
+                "type with descriptor requires descriptor allocation: `{name}` with type {type_index}"
+            )
+        }
+        Refusal::NotDescribed { type_index, name } => {
+            format!(in alloc; "invalid `{name}`: type {type_index} is not described")
+        }
+        _ => access_text(alloc, refusal),
+    }
+}
+
+/// The text of what can't be written, read or made so.
+fn access_text(alloc: Global, refusal: Refusal) -> Result<String, AllocError> {
+    match refusal {
+        Refusal::ImmutableGlobal(name) => {
+            format!(in alloc; "global is immutable: cannot modify it with `{name}`")
+        }
+        Refusal::NotDefaultable { name, ty } => {
+            format!(in alloc; "invalid `{name}`: {ty} field is not defaultable")
+        }
+        Refusal::NotAllowed { place, name, types } => {
+            format!(in alloc; "invalid type: `{place}.atomic.{name}` only allows {types}")
+        }
+        Refusal::NoBytes(ty) => {
+            format!(in alloc;
+                "array access instructions require a numeric, vector, or packed element type, found `{ty}`"
+            )
+        }
+        Refusal::NoReferences(name) => {
+            format!(in alloc;
+                "type mismatch: {name} can only create arrays with reference elements"
+            )
+        }
+        Refusal::OtherElements {
+            name,
+            segment,
+            wanted,
+            found,
+        } => {
+            format!(in alloc;
+                "invalid {name} instruction: element segment {segment} type mismatch: expected {wanted}, found {found}"
+            )
+        }
+        Refusal::OtherStorage { wanted, found } => {
+            format!(in alloc; "array types do not match: expected {wanted}, found {found}")
+        }
+        _ => cast_text(alloc, refusal),
+    }
+}
+
+/// The text of a cast that isn't one.
+fn cast_text(alloc: Global, refusal: Refusal) -> Result<String, AllocError> {
+    match refusal {
+        Refusal::OtherHierarchy { from, into } => {
+            format!(in alloc;
+                "type mismatch: {from} and {into} have different heap type hierarchies"
+            )
+        }
+        Refusal::CastNotBelow { from, into } => {
+            format!(in alloc; "type mismatch: expected {from}, found {into}")
+        }
+        Refusal::CastLabel { label, carried } => {
+            format!(in alloc;
+                "type mismatch: casting to type {carried}, but it does not match label result type {label}"
+            )
+        }
+        Refusal::CastFailLabel { label, carried } => {
+            format!(in alloc; "type mismatch: expected label result type {label}, found {carried}")
+        }
+        Refusal::NotExact { wanted, found } => {
+            format!(in alloc;
+                "type mismatch: expected descriptor of exact type {wanted} found {found}"
+            )
+        }
+        // All others have a fixed text.
+        _ => format!(in alloc; "{refusal:?}"),
+    }
+}

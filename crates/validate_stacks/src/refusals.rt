@@ -12,7 +12,7 @@ use crate::stacks::Stacks;
 use std::alloc::{AllocError, Global};
 use validate_resources::WasmModuleResources;
 use validate_resources::kinds::func_type_of;
-use validate_types::{Error, MaybeType, Refusal, Told, ValType};
+use validate_types::{Error, MaybeType, OutOfMemory, Refusal, Told, ValType};
 
 impl Stacks {
     /// The refusal, at this offset, with its text. The operands go that upstream takes before it refuses: those above one that
@@ -35,14 +35,16 @@ impl Stacks {
             Told::LookUp(error) => error.at(offset),
             Told::Rule(refusal) => {
                 let error = self.error(resources, refusal, offset);
-                self.take_refused(refusal, taken);
-                error
+                match self.take_refused(refusal, taken) {
+                    Ok(()) => error,
+                    Err(OutOfMemory) => Error::out_of_memory(offset),
+                }
             }
         }
     }
 
-    /// Takes the operands that upstream has taken by then.
-    fn take_refused(&mut self, refusal: Refusal, taken: usize)
+    /// Takes the operands that upstream has taken by then. Where there is no memory for the log of an attempt, they stay.
+    fn take_refused(&mut self, refusal: Refusal, taken: usize) -> Result<(), OutOfMemory>
         ensures valid { (md : ModuleContext) → IsValidBody md self.old.body → IsValidBody md self.new.body }
         ensures kept { IsKept self.old.body self.new.body }
     {
@@ -52,8 +54,7 @@ impl Stacks {
             Refusal::Mismatch { depth, .. } => own.min(depth.saturating_add(1)),
             _ => own.min(taken),
         };
-        // Where there is no memory for the log of an attempt, they stay.
-        let _ = self.exchange(taken, &[]);
+        self.exchange(taken, &[])
     }
 
     /// What a branch to the outermost frame carries: the results of the body; nothing, where no frame is open.

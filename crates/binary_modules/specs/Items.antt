@@ -1,8 +1,8 @@
--- What a module imports and declares besides types and segments, in its bytes (WebAssembly core specification,
--- "Binary Format: Modules" and "Types", "External Types"; exact imports are of a proposal, "Custom
--- Descriptors"). Where an item stands says nothing of it.
-use Rattle.std.specs.Prelude.{◌+◌, ◌++◌, map, ℕ, Bool, true, false, List, [], ◌∷◌, Option, Some, None, slice_get}
-use Rattle.std.specs.Prelude.{nat_eq, nat_lt, if◌then◌else◌}
+-- What a module imports and declares besides types and segments, in its bytes (WebAssembly core
+-- specification, "Binary Format: Modules" and "Types", "External Types"; exact imports are of a proposal,
+-- "Custom Descriptors"). Where an item stands says nothing of it.
+use Rattle.std.specs.Prelude.{◌+◌, ◌++◌, map, ℕ, Bool, true, false, List, [], ◌∷◌, Option, Some, None}
+use Rattle.std.specs.Prelude.{nat_eq, nat_lt, slice_get, if◌then◌else◌}
 use Rattle.binary_operators.specs.Integers.{unsigned}
 use Rattle.binary_operators.specs.Types.{canonical, value_type}
 use Rattle.binary_operators.specs.Values.{◌>>=◌, byte}

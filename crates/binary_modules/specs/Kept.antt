@@ -13,8 +13,10 @@ abbrev pub told_expression : Place × Expression → Place × List ℕ
 told_expression e = (e.0, e.1.bytes)
 
 -- these expressions stand behind those that were there, and the functions that they name behind those
-pub record Adds (before : Initializers) (read : List (Place × Expression)) (after : Initializers) : Type 0 where
+pub record Adds
+    (before : Initializers) (read : List (Place × Expression)) (after : Initializers) : Type 0 where
   pub expressions :
       map told after.expressions.items ≡ map told before.expressions.items ++ map told_expression read
   pub functions :
-      after.functions.items ≡ before.functions.items ++ flat_map (λ (e : Place × Expression). e.1.functions) read
+      after.functions.items
+      ≡ before.functions.items ++ flat_map (λ (e : Place × Expression). e.1.functions) read

@@ -122,7 +122,8 @@ pub record AreDeclared (c : Contents) (d : Declarations) : Type 0 where
       map (λ (g : DeclaredGlobal). record g { offset = 0 }) d.globals
       ≡ flat_map global_in c.imports ++ declared_items c.globals
   pub tags :
-      map (λ (t : DeclaredTag). record t { offset = 0 }) d.tags ≡ flat_map tag_in c.imports ++ declared_items c.tags
+      map (λ (t : DeclaredTag). record t { offset = 0 }) d.tags
+      ≡ flat_map tag_in c.imports ++ declared_items c.tags
   pub exports : map (λ (e : Exported). record e { offset = 0 }) d.exports ≡ declared_items c.exports
   pub start : option_map (λ (s : Start). s.function) d.start ≡ c.start
   pub elements : map (λ (e : Element). record e { offset = 0 }) d.elements ≡ declared_items c.elements
@@ -140,8 +141,8 @@ pub record AreAllTypes (canonical : List ℕ) (types : CanonicalTypes) : Type 0 
 -- The sections have contents that declare this. The bodies and the constant expressions, each with what it is
 -- for, are these.
 pub record HasContents
-    (sections : List Section) (d : Declarations) (bodies : List (List ℕ)) (expressions : List (Place × List ℕ)) :
-    Type 0 where
+    (sections : List Section) (d : Declarations) (bodies : List (List ℕ))
+    (expressions : List (Place × List ℕ)) : Type 0 where
   pub are_types : AreTypes (contents_of 1 sections) d.types d.canonical d.groups []
   pub types : CanonicalTypes
   pub are_all_types : AreAllTypes d.canonical types
@@ -152,8 +153,8 @@ pub record HasContents
   pub are_expressions :
       expressions ≡ map (λ (e : Place × Expression). (e.0, e.1.bytes)) (expressions_of contents)
 
--- The bytes are those of a module that declares this. It has these bodies, one for each function of its own in
--- their order, and these constant expressions, each with what it is for.
+-- The bytes are those of a module that declares this. It has these bodies, one for each function of its own
+-- in their order, and these constant expressions, each with what it is for.
 pub record IsModule
     (bytes : List ℕ) (d : Declarations) (bodies : List (List ℕ)) (expressions : List (Place × List ℕ)) :
     Type 0 where

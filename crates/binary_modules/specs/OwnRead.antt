@@ -19,18 +19,20 @@ use Rattle.binary_modules.specs.declared.own.Segments.{Segments}
 
 -- the items of the module's own stand behind those that were there
 pub record HasOwnItems
-    (types : CanonicalTypes) (sections : List Section) (before after : Imported) (initial final : Initializers) :
-    Type 0 where
+    (types : CanonicalTypes) (sections : List Section) (before after : Imported)
+    (initial final : Initializers) : Type 0 where
   pub functions : List (Item DeclaredFunction)
   pub are_functions :
       IsList (own_function types) (λ f. record f { offset = 0 }) 3 sections before.functions.items
       after.functions.items functions
   pub tables : List (Item DeclaredTable)
   pub are_tables :
-      IsList (table types) (λ t. record t { offset = 0 }) 4 sections before.tables.items after.tables.items tables
+      IsList (table types) (λ t. record t { offset = 0 }) 4 sections before.tables.items after.tables.items
+      tables
   pub memories : List (Item DeclaredMemory)
   pub are_memories :
-      IsList memory (λ m. record m { offset = 0 }) 5 sections before.memories.items after.memories.items memories
+      IsList memory (λ m. record m { offset = 0 }) 5 sections before.memories.items after.memories.items
+      memories
   pub tags : List (Item DeclaredTag)
   pub are_tags :
       IsList (tag types) (λ t. record t { offset = 0 }) 13 sections before.tags.items after.tags.items tags
@@ -39,7 +41,8 @@ pub record HasOwnItems
       IsList (global types) (λ g. record g { offset = 0 }) 6 sections before.globals.items after.globals.items
       globals
   pub have_initializers :
-      Adds initial (placed (length before.tables.items) tables ++ placed (length before.globals.items) globals) final
+      Adds initial
+      (placed (length before.tables.items) tables ++ placed (length before.globals.items) globals) final
 
 -- the segments of the module
 pub record HasSegments
@@ -50,5 +53,6 @@ pub record HasSegments
       IsList (element types) (λ e. record e { offset = 0 }) 9 sections [] s.elements.items elements
   pub data_items : List (Item Data)
   pub are_data :
-      IsList (data_segment types) (λ d. record d { offset = 0 }) 11 sections [] s.data_segments.items data_items
+      IsList (data_segment types) (λ d. record d { offset = 0 }) 11 sections [] s.data_segments.items
+      data_items
   pub have_initializers : Adds initial (placed 0 elements ++ placed 0 data_items) final

@@ -10,7 +10,7 @@ use Rattle.binary_modules.specs.Groups.{IsGroup}
 use Rattle.binary_modules.specs.declared.groups.Group.{Group}
 use Rattle.binary_modules.specs.declared.groups.TypeSection.{TypeSection}
 
--- the bytes begin with so many types of a group, where these stand for those before it, and its own are named so
+-- The bytes begin with so many types of a group. These stand for those before it, and its own are named so.
 pub record HasTypes
     (canonical : List ℕ) (names : GroupNames) (count : ℕ) (bytes : List ℕ) (read : List SubType)
     (rest : List ℕ) : Type 0 where
@@ -19,8 +19,8 @@ pub record HasTypes
   pub are_own : types.group ≡ names
   pub are_read : so_many (sub_type types) count bytes ≡ Some (read, rest)
 
--- The index stands for that of the group's first type: its own, and then the group is known, or that of a group
--- that was known before and is equal.
+-- The index stands for that of the group's first type: its own, and then the group is known, or that of a
+-- group that was known before and is equal.
 abbrev pub Stands : List Group → List Group → Group → ℕ → Type 0
 Stands before after g first =
     ((first ≡ g.first) × (after ≡ before ++ g ∷ []))

@@ -1,5 +1,5 @@
--- The sections of a module (WebAssembly core specification, "Binary Format: Modules", "Sections" and "Modules";
--- the standard gives the places of sections in its grammar of modules).
+-- The sections of a module (WebAssembly core specification, "Binary Format: Modules", "Sections" and
+-- "Modules"; the standard gives the places of sections in its grammar of modules).
 use Rattle.std.specs.Prelude.{◌≡◌, ℕ, Bool, true, false, List, [], ◌∷◌, ◌||◌, not}
 use Rattle.std.specs.Prelude.{Option, Some, None, is_some, nat_eq, if◌then◌else◌}
 use Rattle.std.specs.List.{list_all}

@@ -1,5 +1,5 @@
--- Element and data segments in the bytes of a module (WebAssembly core specification, "Binary Format: Modules",
--- "Element Section" and "Data Section"). Where a segment stands says nothing of it.
+-- Element and data segments in the bytes of a module (WebAssembly core specification, "Binary Format:
+-- Modules", "Element Section" and "Data Section"). Where a segment stands says nothing of it.
 use Rattle.std.specs.Prelude.{ℕ, ◌%◌, Bool, true, false, List, [], ◌∷◌, ◌++◌, length, map}
 use Rattle.std.specs.Prelude.{Option, Some, None, nat_eq, nat_lt, if◌then◌else◌}
 use Rattle.binary_operators.specs.Integers.{unsigned}
@@ -55,8 +55,8 @@ active_elements has_table types bytes = do
     offset.1,
   )
 
--- Of its flags the first bit says that it isn't written to a table at first. Then the second says that it only
--- declares functions, and else that the index of the table is written.
+-- Of its flags the first bit says that it isn't written to a table at first. Then the second says that it
+-- only declares functions, and else that the index of the table is written.
 abbrev pub element_target : ℕ → CanonicalTypes → List ℕ → Option (Target ElementKind × List ℕ)
 element_target flags types bytes =
     if nat_eq (flags % 4) 1 then Some (nowhere_to Passive, bytes)

@@ -29,11 +29,12 @@ pub enum Import {
     Tag(DeclaredTag),
 }
 
-/// Reads what is imported by this code, where the import stands at this offset.
+/// Reads what is imported by this code, which stands at `code_offset`, where the import stands at this offset.
 fn read_import_behind(
     reader: &mut BinaryReader<'_>,
     canonical: CanonicalTypes<'_>,
     code: u8,
+    code_offset: u64,
     offset: u64,
 ) -> Result<Import, ReadError>
     ensures read { IfOk result (λ i. import_behind code canonical.entry reader.old.left
@@ -47,7 +48,7 @@ fn read_import_behind(
         0x02 => Ok(Import::Memory(read_memory_type(reader, offset)?)),
         0x03 => Ok(Import::Global(read_global_type(reader, canonical, offset)?)),
         0x04 => Ok(Import::Tag(read_tag_type(reader, canonical, offset)?)),
-        _ => Err(ReadError::malformed(Fault::MalformedImportKind, reader.offset())),
+        _ => Err(ReadError::malformed(Fault::MalformedImportKind, code_offset)),
     }
 }
 
@@ -65,8 +66,9 @@ fn read_import(
     let offset = reader.offset();
     let _from = read_name(reader)?;
     let _item = read_name(reader)?;
+    let code_offset = reader.offset();
     let code = reader.read_u8()?;
-    read_import_behind(reader, canonical, code, offset)
+    read_import_behind(reader, canonical, code, code_offset, offset)
 }
 
 /// The imported items of a module, by their kinds.

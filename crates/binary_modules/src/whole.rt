@@ -1,6 +1,6 @@
 //! A whole module (WebAssembly core specification, "Binary Format: Modules").
 
-ghost use Rattle.std.specs.Prelude.{ℕ, ◌≡◌, ◌+◌, List, [], ◌∷◌, map, length, Some, IfOk, OnOk, IfSome, option_map};
+ghost use Rattle.std.specs.Prelude.{ℕ, ◌≡◌, ◌+◌, List, [], ◌∷◌, ◌++◌, map, length, Some, IfOk, OnOk, IfSome, option_map};
 ghost use Rattle.module_rules.specs.Declarations.{declarations_of};
 ghost use Rattle.module_rules.specs.Exported.{Exported};
 ghost use Rattle.binary_modules.specs.ContentsRead.{IsList, bytes_of};
@@ -39,16 +39,16 @@ pub struct Module<'a> {
     pub names: Option<BinaryReader<'a>>,
 }
 
-/// Reads a byte that has to be this one.
+/// Reads these bytes. It refuses others for this fault.
 fn read_expected(
     reader: &mut BinaryReader<'_>,
-    byte: u8,
+    expected: &[u8],
     fault: Fault,
-    offset: u64,
 ) -> Result<(), ReadError>
-    ensures { OnOk result (reader.old.left ≡ byte ∷ reader.new.left) }
+    ensures { OnOk result (reader.old.left ≡ expected.now ++ reader.new.left) }
 {
-    if reader.read_u8()? == byte {
+    let offset = reader.offset();
+    if reader.read_bytes(expected.len())? == expected {
         return Ok(());
     }
     Err(ReadError::malformed(fault, offset))
@@ -59,16 +59,8 @@ fn read_header(reader: &mut BinaryReader<'_>) -> Result<(), ReadError>
     ensures { OnOk result (reader.old.left
         ≡ 0x00 ∷ 0x61 ∷ 0x73 ∷ 0x6d ∷ 0x01 ∷ 0x00 ∷ 0x00 ∷ 0x00 ∷ reader.new.left) }
 {
-    let magic = reader.offset();
-    read_expected(reader, 0x00, Fault::NoMagicHeader, magic)?;
-    read_expected(reader, 0x61, Fault::NoMagicHeader, magic)?;
-    read_expected(reader, 0x73, Fault::NoMagicHeader, magic)?;
-    read_expected(reader, 0x6d, Fault::NoMagicHeader, magic)?;
-    let version = reader.offset();
-    read_expected(reader, 0x01, Fault::UnknownVersion, version)?;
-    read_expected(reader, 0x00, Fault::UnknownVersion, version)?;
-    read_expected(reader, 0x00, Fault::UnknownVersion, version)?;
-    read_expected(reader, 0x00, Fault::UnknownVersion, version)
+    read_expected(reader, b"\0asm".as_slice(), Fault::NoMagicHeader)?;
+    read_expected(reader, [1, 0, 0, 0].as_slice(), Fault::UnknownVersion)
 }
 
 /// Reads the types of a module.
@@ -169,23 +161,27 @@ fn data_count_of(number: Option<SectionNumber>) -> Option<DataCount>
     }
 }
 
-/// Refuses other than so many bodies as functions that aren't imported (`InconsistentCode`).
-fn check_bodies(imported: u32, functions: usize, bodies: usize) -> Result<(), ReadError>
+/// Refuses, at the end of a module, other than so many bodies as functions that aren't imported (`InconsistentCode`).
+fn check_bodies(imported: u32, functions: usize, bodies: usize, end: u64) -> Result<(), ReadError>
     ensures { OnOk result (imported + bodies ≡ functions) }
 {
     if functions.checked_sub(imported as usize) == Some(bodies) {
         return Ok(());
     }
-    Err(ReadError::malformed(Fault::InconsistentCode, 0))
+    Err(ReadError::malformed(Fault::InconsistentCode, end))
 }
 
-/// Refuses other than so many data segments as are counted (`InconsistentData`).
-fn check_data_count(number: Option<SectionNumber>, segments: usize) -> Result<(), ReadError>
+/// Refuses, at the end of a module, other than so many data segments as are counted (`InconsistentData`).
+fn check_data_count(
+    number: Option<SectionNumber>,
+    segments: usize,
+    end: u64,
+) -> Result<(), ReadError>
     ensures { OnOk result (IfSome (option_map (λ (n : SectionNumber). n.number) number) (λ n. n ≡ segments)) }
 {
     match number {
         Some(n) if n.number as usize != segments => {
-            Err(ReadError::malformed(Fault::InconsistentData, n.offset))
+            Err(ReadError::malformed(Fault::InconsistentData, end))
         }
         _ => Ok(()),
     }
@@ -211,10 +207,11 @@ fn names_of<'a>(sections: &[ContentSection<'a>]) -> Option<BinaryReader<'a>> {
     names
 }
 
-/// Reads what stands in the sections of a module.
+/// Reads what stands in the sections of a module that ends at this offset.
 fn read_contents<'a>(
     alloc: Global,
     sections: &[ContentSection<'a>],
+    end: u64,
 ) -> Result<Module<'a>, ReadError>
     ensures counted { IfOk result (λ m. m.declared.imports.functions + length m.bodies.items
         ≡ length m.declared.functions.items) }
@@ -232,8 +229,8 @@ fn read_contents<'a>(
     let segments = read_segments(alloc, sections, canonical, &mut initializers)?;
     let data_count = read_number_of(sections, 12)?;
     let bodies = read_bodies_of(alloc, sections)?;
-    check_bodies(imports.functions, items.functions.len(), bodies.len())?;
-    check_data_count(data_count, segments.data_segments.len())?;
+    check_bodies(imports.functions, items.functions.len(), bodies.len(), end)?;
+    check_data_count(data_count, segments.data_segments.len(), end)?;
     Ok(Module {
         merged: types.merged(),
         declared: DeclaredModule {
@@ -272,6 +269,6 @@ pub fn read_module<'a>(alloc: Global, bytes: &'a [u8]) -> Result<Module<'a>, Rea
     let mut reader = BinaryReader::new(bytes);
     read_header(&mut reader)?;
     let sections = read_sections(alloc, &mut reader)?;
-    let contents = read_contents(alloc, &sections)?;
+    let contents = read_contents(alloc, &sections, reader.offset())?;
     Ok(contents)
 }

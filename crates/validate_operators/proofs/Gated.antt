@@ -38,6 +38,14 @@ module _ (md : ModuleContext) (v : BodyState) where
     pub shut : is_open v.features (gate_of op) ≡ false → step_body md (λ c. operator c op) v ≡ None
     shut h = let o = ungated_operator (body_context md v) op in gated_as false h ∙ not_under o.form o.row v.present.frames
 
+    -- without its gate it has no step
+    pub none_behind : step_body md (λ c. ungated_operator c op) v ≡ None → step_body md (λ c. operator c op) v ≡ None
+    none_behind n = by (is_open v.features (gate_of op)) refl
+      where
+        by : (b : Bool) → is_open v.features (gate_of op) ≡ b → step_body md (λ c. operator c op) v ≡ None
+        by true e = gated_as true e ∙ n
+        by false e = shut e
+
     module _ (gate : Gate) (same : gate ≡ gate_of op) (offset : ℕ) where
       -- the gate is closed
       pub meets_shut : (r : Result (Unit {0}) Refusal) → OnOk r ⊥ → OnErr r (is_open v.features gate ≡ false) → IfErr r (λ e. e.offset ≡ offset) → IsValidBody md v → Meets md (λ c. operator c op) offset v r v

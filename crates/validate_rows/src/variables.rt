@@ -5,9 +5,8 @@ ghost use Rattle.validate_stacks.specs.Moves.{Moves};
 ghost use Rattle.validate_stacks.specs.Visits.{MayVisit};
 
 use validate_resources::WasmModuleResources;
-use validate_shapes::plain::constant;
 use validate_stacks::Stacks;
-use validate_types::Refused;
+use validate_types::{Refused, grown};
 
 /// `local.get`: `[] -> [t]` of a local that is set.
 #[inline(always)]
@@ -20,9 +19,11 @@ pub fn local_get<A: Refused, R: WasmModuleResources>(
     ensures { Moves (R.context resources.now) A.tells (λ cx. row_operator (local_get_row cx local_index)) stacks.old
         result stacks.new }
 {
-    let ty = *stacks.find_local(local_index)?;
+    // The contract alone reads it.
+    let _resources = resources;
+    stacks.find_local(local_index)?;
     stacks.find_set(local_index)?;
-    constant(stacks, resources, ty)
+    grown(stacks.push_local(local_index))
 }
 
 /// `local.set`: `[t] -> []`, and the local is set. Most are set already, and are numbers.

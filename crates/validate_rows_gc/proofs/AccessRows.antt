@@ -1,5 +1,5 @@
 -- The row of an access, by what it takes and gives.
-use Rattle.std.proofs.Common.{◌≡◌, ℕ, Bool, true, false, ◌&&◌, ◌||◌, List, [], ◌∷◌, ◌++◌, refl, sym, ap, ◌∙◌, subst}
+use Rattle.std.proofs.Common.{◌≡◌, Bool, true, false, ◌||◌, List, [], ◌∷◌, ◌++◌, refl, sym, ap, ◌∙◌, subst}
 use Rattle.std.specs.List.{AllByRecursion}
 use Rattle.validate_resources.specs.Context.{ModuleContext, Valid}
 use Rattle.validate_types.specs.declared.types.FieldType.{FieldType}

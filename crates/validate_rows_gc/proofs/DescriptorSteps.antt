@@ -1,10 +1,9 @@
 -- The steps of operators that make a struct with a descriptor, read one, or cast by one, by their pops: once the
 -- descriptor is popped, a struct is made, or a cast is one, like others.
-use Rattle.std.proofs.Common.{◌≡◌, ◌≢◌, ℕ, Bool, true, false, ◌||◌, is_none, subst, List, [], ◌∷◌, ◌++◌, reverse, Option, Some, None, Result, Ok, Err, OnOk, refl, sym, ap, ap₂, ◌∙◌}
+use Rattle.std.proofs.Common.{◌≡◌, ◌≢◌, ℕ, Bool, true, false, ◌||◌, is_none, subst, List, [], ◌∷◌, ◌++◌, reverse, Option, Some, None, refl, sym, ap, ap₂, ◌∙◌}
 use Rattle.std.specs.Option.{option_map, option_and_then}
 use Rattle.std.proofs.lemmas.List.{reverse-append}
 use Rattle.validate_resources.specs.Context.{ModuleContext}
-use Rattle.validate_types.specs.Refusal.{Refusal}
 use Rattle.validate_types.specs.Refs.{nullable_reference, non_null_reference, is_exact}
 use Rattle.validate_types.specs.declared.heap.HeapType.{HeapType}
 use Rattle.validate_types.specs.declared.heap.HeapType.TheVariants.{Exact}
@@ -24,13 +23,17 @@ use Rattle.validation_rules.specs.Operators.{plain_row, plain_row_if, lookup_row
 use Rattle.validation_rules.specs.Rows.{Head, Row, guard}
 use Rattle.validation_rules.specs.Static.{Frame, State, heads}
 use Rattle.validation_rules.specs.Structs.{struct_type, described_row_for}
-use Rattle.validate_stacks.specs.Pops.{may_pop, body_popped_each, body_pushed_each, IsKept}
+use Rattle.validate_stacks.specs.AtOnce.{body_dropped}
+use Rattle.validate_stacks.specs.Pops.{may_pop, body_popped_each, body_pushed_each, has_operands_fitting, IsKept}
 use Rattle.validate_stacks.specs.Attempts.{Phase, Clean, Moved, Set, Framed, Unset, Marked, Stacked, phase_moved, is_quiet, may_step}
 use Rattle.validate_stacks.specs.State.{BodyState, IsValidBody, body_context}
 use Rattle.validate_stacks.specs.Steps.{found_in_body, body_popped, body_pushed}
 use Rattle.validate_stacks.specs.Visits.{step_body, MayVisit}
+use Rattle.validation_rules.proofs.Steps.{some_injective}
 use Rattle.validate_stacks.proofs.Validity.{popped_kept}
-use Rattle.validate_stacks.proofs.Whole.{popped_next}
+use Rattle.validate_stacks.proofs.AtOnce.{popped_dropped}
+use Rattle.validate_stacks.proofs.Moves.{not_popped, fits_now}
+use Rattle.validate_stacks.proofs.Whole.{popped_none, popped_next}
 use Rattle.validate_shapes.proofs.BranchSteps.{popped_heads, pushes_is}
 use Rattle.validate_shapes.proofs.LookupRows.{at_labels, barred}
 use Rattle.validate_shapes.proofs.ReferenceSteps.{one_is, tested_types, tested_is}
@@ -45,11 +48,6 @@ alone false x = refl
 guard_none : {A : Type 0} (b : Bool) → guard {A = A} b None ≡ None
 guard_none true = refl
 guard_none false = refl
-
--- where two facts of what is answered give a third
-pub on_both : {A B C : Type 0} (r : Result (Unit {0}) Refusal) → OnOk r A → OnOk r B → (A → B → C) → OnOk r C
-on_both (Ok u) a b f = f a b
-on_both (Err e) a b f = tt
 
 -- what is left of an operator after a pop may still be done
 quiet_moved : (p : Phase) → is_quiet (phase_moved p) ≡ is_quiet p
@@ -80,6 +78,34 @@ visit_after md v w m popped phase valid kept =
       valid = valid;
       attempt = step_after v w kept phase m.attempt;
     }
+
+-- the row of what is made with a descriptor, by the type of that
+pub described_as : (md : ModuleContext) (v : BodyState) (i : ℕ) (d : ValType) → option_map (descriptor true) (descriptor_at md i) ≡ Some d → (row : ValType → List FieldType → ValType → Row) → described_row_for (body_context md v) i row ≡ lookups_row (struct_type (body_context md v) i) (allocated_reference (body_context md v) i) (row d)
+described_as md v i d e row = by (descriptor_at md i) e
+  where
+    under : ValType → Row
+    under t = lookups_row (struct_type (body_context md v) i) (allocated_reference (body_context md v) i) (row t)
+
+    by : (q : Option UnpackedIndex) → option_map (descriptor true) q ≡ Some d → lookup_row q (λ u. under (descriptor true u)) ≡ under d
+    by None k = absurd cc
+    by (Some u) k = ap under (some_injective (descriptor true u) d k)
+
+-- an operand that fits can be popped, and one that doesn't can't
+pub is_there : (md : ModuleContext) (v : BodyState) (w : ValType) → has_operands_fitting (body_context md v) (w ∷ []) (body_dropped 0 v) ≡ true → may_pop (body_context md v) (found_in_body v) (Some w) ≡ true
+is_there md v w h = passed _ _ _ (sym (popped_next md w [] v) ∙ popped_dropped md (w ∷ []) v (fits_now md (w ∷ []) v true h))
+  where
+    passed : (b : Bool) (q : Option BodyState) (x : BodyState) → guard b q ≡ Some x → b ≡ true
+    passed true q x e = refl
+    passed false q x e = absurd cc
+
+pub not_there : (md : ModuleContext) (v : BodyState) → v.present.frames ≢ [] → (w : ValType) → has_operands_fitting (body_context md v) (w ∷ []) (body_dropped 0 v) ≡ false → may_pop (body_context md v) (found_in_body v) (Some w) ≡ false
+not_there md v o w h =
+    let b = may_pop (body_context md v) (found_in_body v) (Some w) in
+    shut b (body_popped v) (sym (popped_next md w [] v ∙ ap (guard b) (popped_none md (body_popped v))) ∙ not_popped md (w ∷ []) v o (fits_now md (w ∷ []) v false h))
+  where
+    shut : (b : Bool) (x : BodyState) → guard b (Some x) ≡ None → b ≡ false
+    shut true x e = absurd cc
+    shut false x e = refl
 
 module _ (md : ModuleContext) (v : BodyState) (o : v.present.frames ≢ []) where
   abbrev cx : Context
@@ -140,15 +166,6 @@ module _ (md : ModuleContext) (v : BodyState) (o : v.present.frames ≢ []) wher
         by None e k =
             barred md v (λ c hs. described_row_for c i with_descriptor)
             (ap (λ q. (lookup_row q (λ d. lookups_row (struct_type cx i) (allocated_reference cx i) (with_descriptor (descriptor true d)))).premise) e)
-        by (Some d) e k =
-            by_descriptor d e
-            ∙ ap (λ b. guard b (step_body md (λ c. row_operator (lookups_row (struct_type c i) (allocated_reference c i) under_row)) (body_popped v))) k
-
-    pub made_rest : (u : BodyState) → found_new_descriptor cx (descriptor_at md i) (found_in_body v) ≡ true → u ≡ body_popped v → step_body md (λ c. row_operator (described_row_for c i with_descriptor)) v ≡ step_body md (λ c. row_operator (lookups_row (struct_type c i) (allocated_reference c i) under_row)) u
-    made_rest u h popped = by (descriptor_at md i) refl h ∙ ap (λ (w : BodyState). step_body md (λ c. row_operator (lookups_row (struct_type c i) (allocated_reference c i) under_row)) w) (sym popped)
-      where
-        by : (q : Option UnpackedIndex) → descriptor_at md i ≡ q → found_new_descriptor cx q (found_in_body v) ≡ true → step_body md (λ c. row_operator (described_row_for c i with_descriptor)) v ≡ step_body md (λ c. row_operator (lookups_row (struct_type c i) (allocated_reference c i) under_row)) (body_popped v)
-        by None e k = absurd cc
         by (Some d) e k =
             by_descriptor d e
             ∙ ap (λ b. guard b (step_body md (λ c. row_operator (lookups_row (struct_type c i) (allocated_reference c i) under_row)) (body_popped v))) k

@@ -4,11 +4,11 @@ ghost use Rattle.std.specs.Prelude.{◌≡◌, ◌++◌};
 ghost use Rattle.validate_resources.specs.Context.{Valid};
 ghost use Rattle.validate_types.specs.Types.{unpacked_type};
 ghost use Rattle.validation_rules.specs.Shared as rule;
-ghost use Rattle.validate_shapes.specs.Operands.{few_types};
+ghost use Rattle.validate_shapes.specs.Operands.{few_types, given_types};
 ghost use Rattle.validate_rows_gc.specs.Accesses.{place_types};
 
 use validate_resources::WasmModuleResources;
-use validate_shapes::operands::Few;
+use validate_shapes::operands::{Few, Given};
 use validate_types::{AbstractHeapType, HeapType, RefType, StorageType, ValType};
 use validate_visit::{FieldAccess, GlobalAccess, SharedRmwOp, Sign, TableAccess};
 
@@ -123,12 +123,12 @@ pub fn wanted_by(place: Place, access: FieldAccess, value: ValType) -> Few
 }
 
 /// What it gives.
-pub fn given_by(access: FieldAccess, value: ValType) -> Few
-    ensures { few_types result ≡ rule.given_by access value }
+pub fn given_by(access: FieldAccess, value: ValType) -> Given<'static>
+    ensures { given_types result ≡ rule.given_by access value }
 {
     match access {
-        FieldAccess::Whole(GlobalAccess::Value(TableAccess::Set)) => Few::Zero,
-        _ => Few::One(value),
+        FieldAccess::Whole(GlobalAccess::Value(TableAccess::Set)) => Given::Nothing,
+        _ => Given::One(value),
     }
 }
 

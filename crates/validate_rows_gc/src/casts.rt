@@ -7,88 +7,83 @@ ghost use Rattle.validation_rules.specs.Casts.{is_castable, cast_operand, ref_te
 ghost use Rattle.validation_rules.specs.Casts as rule;
 ghost use Rattle.validation_rules.specs.Operators.{row_operator, staying_operator};
 ghost use Rattle.validate_stacks.specs.AtOnce.{MeetsAtOnce};
+ghost use Rattle.validate_stacks.specs.Moves.{Moves};
 ghost use Rattle.validate_stacks.specs.State.{body_context};
 ghost use Rattle.validate_stacks.specs.Visits.{MayVisit, Meets};
 ghost use Rattle.validate_rows_gc.specs.Casts.{cast_types};
 
 use validate_resources::WasmModuleResources;
 use validate_resources::uses::laws;
+use validate_shapes::checked::placed;
 use validate_shapes::labels::label;
-use validate_shapes::plain::{check_onto, check_plain, plain_at_once};
+use validate_shapes::plain::{check_onto, plain, plain_at_once};
 use validate_stacks::Stacks;
 use validate_stacks::blocks::label_types;
-use validate_types::{AbstractHeapType, Error, HeapType, RefType, ValType};
+use validate_types::{
+    AbstractHeapType, Error, HeapType, NotAtOnce, RefType, Refusal, Refused, ValType,
+};
 use validate_visit::BranchCast;
 
 /// A reference type whose gates are open and whose indices are known, in canonical form (wasmparser's
 /// `check_ref_type`).
 #[inline(always)]
-fn checked_ref<R: WasmModuleResources>(
+fn checked_ref<A: Refused, R: WasmModuleResources>(
     stacks: &Stacks,
     resources: &R,
-    offset: u64,
     ty: RefType,
-) -> Result<RefType, Error>
+) -> Result<RefType, A>
     ensures found { IfOk result (λ r. rule.checked_ref
         (body_context (R.context resources.now) stacks.now.body) ty ≡ Some r) }
     ensures valid { IfOk result (λ r. Valid (R.context resources.now) (ValType.Ref r)) }
-    ensures refused { IfErr result (λ e. e.wants_memory ≡ false
+    ensures refused { IfErr result (λ e. A.tells e
         → rule.checked_ref (body_context (R.context resources.now) stacks.now.body) ty ≡ None) }
-    ensures offset { IfErr result (λ e. e.offset ≡ offset) }
 {
     laws(resources);
-    match stacks.features().check_ref_type(ty) {
-        Ok(()) => {
-            let mut checked = ty;
-            resources.check_ref_type(&mut checked, offset)?;
-            Ok(checked)
-        }
-        Err(text) => Err(Error::new(text, offset)),
+    if let Err(text) = stacks.features().check_ref_type(ty) {
+        return Err(A::of(Refusal::ReferenceOff(text)));
+    }
+    let mut checked = ty;
+    match resources.check_ref_type(&mut checked, 0) {
+        Ok(()) => Ok(checked),
+        Err(error) => Err(A::by_look_up(error)),
     }
 }
 
 /// Refuses a type that no cast leads to (wasmparser's `check_cast_to_allowed`).
 #[inline(always)]
-fn check_castable<R: WasmModuleResources>(
-    resources: &R,
-    offset: u64,
-    ty: RefType,
-) -> Result<(), Error>
+fn check_castable<A: Refused, R: WasmModuleResources>(resources: &R, ty: RefType) -> Result<(), A>
     requires { Valid (R.context resources.now) (ValType.Ref ty) }
     ensures passed { OnOk result (is_castable (R.context resources.now) ty ≡ true) }
     ensures refused { OnErr result (is_castable (R.context resources.now) ty ≡ false) }
-    ensures offset { IfErr result (λ e. e.offset ≡ offset) }
 {
     match resources.top_type(&ty.heap_type()) {
         HeapType::Abstract {
             ty: AbstractHeapType::Cont,
             ..
-        } => { Err(Error::new("invalid cast: cannot cast to a continuation type", offset)) }
+        } => Err(A::of(Refusal::CastToContinuation)),
         _ => Ok(()),
     }
 }
 
 /// The type of a test or a cast to a heap type, which may be cast to (wasmparser's `check_downcast`).
 #[inline(always)]
-pub fn cast_type<R: WasmModuleResources>(
+pub fn cast_type<A: Refused, R: WasmModuleResources>(
     stacks: &Stacks,
     resources: &R,
-    offset: u64,
     nullable: bool,
     heap_type: HeapType,
-) -> Result<RefType, Error>
+) -> Result<RefType, A>
     ensures found { IfOk result (λ r. rule.cast_type (body_context (R.context resources.now) stacks.now.body)
         nullable heap_type ≡ Some r) }
     ensures valid { IfOk result (λ r. Valid (R.context resources.now) (ValType.Ref r)) }
-    ensures refused { IfErr result (λ e. e.wants_memory ≡ false → rule.cast_type
+    ensures refused { IfErr result (λ e. A.tells e → rule.cast_type
         (body_context (R.context resources.now) stacks.now.body) nullable heap_type ≡ None) }
-    ensures offset { IfErr result (λ e. e.offset ≡ offset) }
 {
     let Some(ty) = RefType::new(nullable, heap_type) else {
-        return Err(Error::new("implementation limit: type index too large", offset));
+        return Err(A::of(Refusal::TypeIndexTooLarge));
     };
-    let checked = checked_ref(stacks, resources, offset, ty)?;
-    check_castable(resources, offset, checked)?;
+    let checked = checked_ref(stacks, resources, ty)?;
+    check_castable(resources, checked)?;
     Ok(checked)
 }
 
@@ -107,75 +102,37 @@ pub fn operand_of_cast<R: WasmModuleResources>(resources: &R, ty: RefType) -> Va
 }
 
 /// `ref.test`: `[(ref null top)] -> [i32]`, with the top type of the hierarchy of the type tested.
-pub fn check_ref_test<R: WasmModuleResources>(
+#[inline(never)]
+pub fn ref_test<A: Refused, R: WasmModuleResources>(
     stacks: &mut Stacks,
     resources: &R,
-    offset: u64,
     nullable: bool,
     heap_type: HeapType,
-) -> Result<(), Error>
+) -> Result<(), A>
     requires { MayVisit (R.context resources.now) stacks.old }
-    ensures { Meets (R.context resources.now) (λ cx. row_operator (ref_test_row cx nullable heap_type))
-        offset stacks.old.body result stacks.new.body }
+    ensures { Moves (R.context resources.now) A.tells (λ cx. row_operator (ref_test_row cx nullable heap_type))
+        stacks.old result stacks.new }
 {
-    let ty = cast_type(stacks, resources, offset, nullable, heap_type)?;
+    let ty = cast_type(stacks, resources, nullable, heap_type)?;
     let operand = operand_of_cast(resources, ty);
-    check_plain(stacks, resources, offset, &[operand], &[ValType::I32])
+    plain(stacks, resources, &[operand], &[ValType::I32])
 }
 
 /// `ref.cast`: `[(ref null top)] -> [t]`, with the top type of the hierarchy of the type t cast to.
-pub fn check_ref_cast<R: WasmModuleResources>(
-    stacks: &mut Stacks,
-    resources: &R,
-    offset: u64,
-    nullable: bool,
-    heap_type: HeapType,
-) -> Result<(), Error>
-    requires { MayVisit (R.context resources.now) stacks.old }
-    ensures { Meets (R.context resources.now) (λ cx. row_operator (ref_cast_row cx nullable heap_type))
-        offset stacks.old.body result stacks.new.body }
-{
-    let ty = cast_type(stacks, resources, offset, nullable, heap_type)?;
-    let operand = operand_of_cast(resources, ty);
-    check_plain(stacks, resources, offset, &[operand], &[ValType::Ref(ty)])
-}
-
-/// [`check_ref_test`], where it passes at once. False, with nothing changed, where it doesn't.
 #[inline(never)]
-pub fn ref_test_at_once<R: WasmModuleResources>(
+pub fn ref_cast<A: Refused, R: WasmModuleResources>(
     stacks: &mut Stacks,
     resources: &R,
     nullable: bool,
     heap_type: HeapType,
-) -> bool
+) -> Result<(), A>
     requires { MayVisit (R.context resources.now) stacks.old }
-    ensures { MeetsAtOnce (R.context resources.now) (λ cx. row_operator (ref_test_row cx nullable heap_type))
+    ensures { Moves (R.context resources.now) A.tells (λ cx. row_operator (ref_cast_row cx nullable heap_type))
         stacks.old result stacks.new }
 {
-    let Ok(ty) = cast_type(stacks, resources, 0, nullable, heap_type) else {
-        return false;
-    };
+    let ty = cast_type(stacks, resources, nullable, heap_type)?;
     let operand = operand_of_cast(resources, ty);
-    plain_at_once(stacks, resources, &[operand], &[ValType::I32])
-}
-
-/// [`check_ref_cast`], where it passes at once. False, with nothing changed, where it doesn't.
-#[inline(never)]
-pub fn ref_cast_at_once<R: WasmModuleResources>(
-    stacks: &mut Stacks,
-    resources: &R,
-    nullable: bool,
-    heap_type: HeapType,
-) -> bool
-    requires { MayVisit (R.context resources.now) stacks.old }
-    ensures { MeetsAtOnce (R.context resources.now) (λ cx. row_operator (ref_cast_row cx nullable heap_type))
-        stacks.old result stacks.new }
-{
-    let Ok(ty) = cast_type(stacks, resources, 0, nullable, heap_type) else {
-        return false;
-    };
-    let operand = operand_of_cast(resources, ty);
-    plain_at_once(stacks, resources, &[operand], &[ValType::Ref(ty)])
+    plain(stacks, resources, &[operand], &[ValType::Ref(ty)])
 }
 
 /// Whether both are one abstract type, as top types are.
@@ -196,65 +153,56 @@ fn is_same_top(a: HeapType, b: HeapType) -> bool
 
 /// Refuses a cast to a type that doesn't lie below the one cast from, or, where references can be exact, is of
 /// another hierarchy; and one that no cast leads to (wasmparser's `check_br_on_cast_type_hierarchy`).
-fn check_may_cast<R: WasmModuleResources>(
+fn check_may_cast<A: Refused, R: WasmModuleResources>(
     stacks: &Stacks,
     resources: &R,
-    offset: u64,
     from: RefType,
     to: RefType,
-) -> Result<(), Error>
+) -> Result<(), A>
     requires from { Valid (R.context resources.now) (ValType.Ref from) }
     requires to { Valid (R.context resources.now) (ValType.Ref to) }
     ensures passed { OnOk result (may_cast (body_context (R.context resources.now) stacks.now.body)
         from to ≡ true) }
     ensures refused { OnErr result (may_cast (body_context (R.context resources.now) stacks.now.body)
         from to ≡ false) }
-    ensures offset { IfErr result (λ e. e.offset ≡ offset) }
 {
-    check_castable(resources, offset, to)?;
+    check_castable(resources, to)?;
     if stacks.features().custom_descriptors() {
         let from_top = resources.top_type(&from.heap_type());
         let to_top = resources.top_type(&to.heap_type());
         if is_same_top(from_top, to_top) {
             Ok(())
         } else {
-            Err(other_hierarchy(stacks, offset, from, to))
+            Err(A::of(Refusal::OtherHierarchy { from, into: to }))
         }
     } else if resources.is_subtype(ValType::Ref(to), ValType::Ref(from)) {
         Ok(())
     } else {
-        Err(not_below(stacks, offset, from, to))
+        Err(A::of(Refusal::CastNotBelow { from, into: to }))
     }
 }
 
-/// The refusal of a cast to a type of another hierarchy.
-#[cold]
-#[inline(never)]
-fn other_hierarchy(stacks: &Stacks, offset: u64, from: RefType, to: RefType) -> Error
-    ensures { result.offset ≡ offset }
-{
-    Error::from_text(
-        format!(in stacks.allocator();
-            "type mismatch: {from} and {to} have different heap type hierarchies"
-        ),
-        offset,
-    )
-}
-
-/// The refusal of a cast to a type that doesn't lie below the one cast from.
-#[cold]
-#[inline(never)]
-fn not_below(stacks: &Stacks, offset: u64, from: RefType, to: RefType) -> Error
-    ensures { result.offset ≡ offset }
-{
-    Error::from_text(
-        format!(in stacks.allocator(); "type mismatch: expected {from}, found {to}"),
-        offset,
-    )
-}
-
 /// Both types of a branch by a cast, in canonical form; the one may be cast to the other.
-pub fn checked_cast<R: WasmModuleResources>(
+pub fn checked_cast<A: Refused, R: WasmModuleResources>(
+    stacks: &Stacks,
+    resources: &R,
+    cast: BranchCast,
+) -> Result<(RefType, RefType), A>
+    ensures found { IfOk result (λ p. rule.checked_cast (body_context (R.context resources.now) stacks.now.body)
+        cast ≡ Some p) }
+    ensures from { IfOk result (λ p. Valid (R.context resources.now) (ValType.Ref p.0)) }
+    ensures to { IfOk result (λ p. Valid (R.context resources.now) (ValType.Ref p.1)) }
+    ensures refused { IfErr result (λ e. A.tells e
+        → rule.checked_cast (body_context (R.context resources.now) stacks.now.body) cast ≡ None) }
+{
+    let from = checked_ref(stacks, resources, cast.from_ref_type)?;
+    let to = checked_ref(stacks, resources, cast.to_ref_type)?;
+    check_may_cast(stacks, resources, from, to)?;
+    Ok((from, to))
+}
+
+/// [`checked_cast`], with the text and the place of a refusal.
+pub fn placed_cast<R: WasmModuleResources>(
     stacks: &Stacks,
     resources: &R,
     offset: u64,
@@ -268,10 +216,8 @@ pub fn checked_cast<R: WasmModuleResources>(
         → rule.checked_cast (body_context (R.context resources.now) stacks.now.body) cast ≡ None) }
     ensures offset { IfErr result (λ e. e.offset ≡ offset) }
 {
-    let from = checked_ref(stacks, resources, offset, cast.from_ref_type)?;
-    let to = checked_ref(stacks, resources, offset, cast.to_ref_type)?;
-    check_may_cast(stacks, resources, offset, from, to)?;
-    Ok((from, to))
+    let found = checked_cast(stacks, resources, cast);
+    placed(stacks, resources, offset, found)
 }
 
 /// Where a branch by a cast is taken.
@@ -458,7 +404,7 @@ pub fn check_br_on_cast<R: WasmModuleResources>(
     ensures { Meets (R.context resources.now) (λ cx. staying_operator (λ hs. br_on_cast_row cx hs cast))
         offset stacks.old.body result stacks.new.body }
 {
-    let (from, to) = checked_cast(stacks, resources, offset, cast)?;
+    let (from, to) = placed_cast(stacks, resources, offset, cast)?;
     let types = CastTypes::on_cast(from, to);
     check_cast_branch(
         stacks,
@@ -483,7 +429,7 @@ pub fn check_br_on_cast_fail<R: WasmModuleResources>(
         (λ cx. staying_operator (λ hs. br_on_cast_fail_row cx hs cast)) offset stacks.old.body result
         stacks.new.body }
 {
-    let (from, to) = checked_cast(stacks, resources, offset, cast)?;
+    let (from, to) = placed_cast(stacks, resources, offset, cast)?;
     let types = CastTypes::on_cast_fail(from, to);
     check_cast_branch(
         stacks,
@@ -506,7 +452,8 @@ pub fn br_on_cast_at_once<R: WasmModuleResources>(
     ensures { MeetsAtOnce (R.context resources.now)
         (λ cx. staying_operator (λ hs. br_on_cast_row cx hs cast.now)) stacks.old result stacks.new }
 {
-    let Ok((from, to)) = checked_cast(stacks, resources, 0, *cast) else {
+    let found: Result<(RefType, RefType), NotAtOnce> = checked_cast(stacks, resources, *cast);
+    let Ok((from, to)) = found else {
         return false;
     };
     let types = CastTypes::on_cast(from, to);
@@ -524,7 +471,8 @@ pub fn br_on_cast_fail_at_once<R: WasmModuleResources>(
     ensures { MeetsAtOnce (R.context resources.now)
         (λ cx. staying_operator (λ hs. br_on_cast_fail_row cx hs cast.now)) stacks.old result stacks.new }
 {
-    let Ok((from, to)) = checked_cast(stacks, resources, 0, *cast) else {
+    let found: Result<(RefType, RefType), NotAtOnce> = checked_cast(stacks, resources, *cast);
+    let Ok((from, to)) = found else {
         return false;
     };
     let types = CastTypes::on_cast_fail(from, to);

@@ -5,43 +5,48 @@ ghost use Rattle.validate_resources.specs.Context.{Valid, is_valid_heap, is_vali
 ghost use Rattle.validate_types.specs.Refs as reference_rule;
 ghost use Rattle.validate_types.specs.declared.heap.HeapType.{HeapType};
 ghost use Rattle.validate_types.specs.declared.heap.UnpackedIndex.{UnpackedIndex};
+ghost use Rattle.validation_rules.specs.Casts as cast_rule;
 ghost use Rattle.validation_rules.specs.Descriptors.{ref_get_desc_row, ref_cast_desc_eq_row, br_on_cast_desc_eq_row, br_on_cast_desc_eq_fail_row};
 ghost use Rattle.validation_rules.specs.Descriptors as descriptor_rule;
 ghost use Rattle.validation_rules.specs.Operators.{row_operator, staying_operator};
 ghost use Rattle.validation_rules.specs.Valid.{IsValidOperand};
 ghost use Rattle.validate_stacks.specs.Attempts.{phase_moved};
-ghost use Rattle.validate_stacks.specs.Pops.{may_pop, IsKept};
+ghost use Rattle.validate_stacks.specs.Moves.{Moves};
+ghost use Rattle.validate_stacks.specs.Pops.{IsKept};
 ghost use Rattle.validate_stacks.specs.State.{IsValidBody, body_context};
 ghost use Rattle.validate_stacks.specs.Steps.{found_in_body, body_popped};
 ghost use Rattle.validate_stacks.specs.Visits.{MayVisit, Meets};
 ghost use Rattle.validate_rows_gc.specs.Descriptors.{found_descriptor};
 
-use crate::casts::{CastTypes, Taken, cast_type, check_cast_branch, checked_cast, operand_of_cast};
+use crate::casts::{CastTypes, Taken, cast_type, check_cast_branch, operand_of_cast, placed_cast};
 use validate_resources::WasmModuleResources;
 use validate_resources::uses::laws;
 use validate_shapes::aggregates::{declared_heap, descriptor_at, type_reference};
+use validate_shapes::checked::placed;
 use validate_shapes::plain::check_plain;
-use validate_shapes::references::push_found;
 use validate_stacks::Stacks;
-use validate_types::{Error, HeapType, MaybeType, PackedIndex, RefType, UnpackedIndex, ValType};
+use validate_types::{
+    Error, HeapType, MaybeType, PackedIndex, RefType, Refusal, Refused, UnpackedIndex, ValType,
+    grown,
+};
 use validate_visit::BranchCast;
 
 /// The exact type at this index, which has to be declared, in canonical form.
-fn exact_heap_at<R: WasmModuleResources>(
+fn exact_heap_at<A: Refused, R: WasmModuleResources>(
     resources: &R,
-    offset: u64,
     type_index: u32,
-) -> Result<HeapType, Error>
+) -> Result<HeapType, A>
     ensures found { IfOk result (λ h. (R.context resources.now).canonical_heap
         (HeapType.Exact (UnpackedIndex.Module type_index)) ≡ Some h) }
     ensures valid { IfOk result (λ h. is_valid_heap (R.context resources.now) h ≡ true) }
-    ensures refused { IfErr result (λ e. e.wants_memory ≡ false → (R.context resources.now).canonical_heap
+    ensures refused { IfErr result (λ e. A.tells e → (R.context resources.now).canonical_heap
         (HeapType.Exact (UnpackedIndex.Module type_index)) ≡ None) }
-    ensures offset { IfErr result (λ e. e.offset ≡ offset) }
 {
     laws(resources);
     let mut heap_type = HeapType::Exact(UnpackedIndex::Module(type_index));
-    resources.check_heap_type(&mut heap_type, offset)?;
+    if let Err(error) = resources.check_heap_type(&mut heap_type, 0) {
+        return Err(A::by_look_up(error));
+    }
     Ok(heap_type)
 }
 
@@ -66,63 +71,58 @@ fn is_found_exact<R: WasmModuleResources>(resources: &R, exact: HeapType, found:
     }
 }
 
-/// [`Stacks::pop_operand`] of a type that is wanted; that what is found is valid too is among its clauses.
-pub fn pop_of_type<R: WasmModuleResources>(
-    stacks: &mut Stacks,
-    resources: &R,
-    offset: u64,
-    wanted: ValType,
-) -> Result<MaybeType, Error>
-    requires wanted { Valid (R.context resources.now) wanted }
-    requires state { IsValidBody (R.context resources.now) stacks.old.body }
-    ensures value { IfOk result (λ t. found_in_body stacks.old.body ≡ Some t) }
-    ensures passed { OnOk result (may_pop (body_context (R.context resources.now) stacks.old.body)
-        (found_in_body stacks.old.body) (Some wanted) ≡ true) }
-    ensures operand { IfOk result (λ t. IsValidOperand (R.context resources.now) t) }
-    ensures popped { OnOk result (stacks.new.body ≡ body_popped stacks.old.body) }
-    ensures refused { IfErr result (λ e. e.wants_memory ≡ false
-        → may_pop (body_context (R.context resources.now) stacks.old.body) (found_in_body stacks.old.body)
-        (Some wanted) ≡ false) }
-    ensures phase { phase_moved stacks.new.phase ≡ phase_moved stacks.old.phase }
-    ensures valid { IsValidBody (R.context resources.now) stacks.new.body }
-    ensures kept { IsKept stacks.old.body stacks.new.body }
-    ensures offset { IfErr result (λ e. e.offset ≡ offset) }
-{
-    stacks.pop_operand(resources, offset, Some(wanted))
-}
-
 /// `ref.get_desc`: `[(ref null t)] -> [(ref d)]`, with the type d of the descriptors of the type t at this index;
 /// exact where what is found is.
-pub fn check_ref_get_desc<R: WasmModuleResources>(
+pub fn ref_get_desc<A: Refused, R: WasmModuleResources>(
     stacks: &mut Stacks,
     resources: &R,
-    offset: u64,
     type_index: u32,
-) -> Result<(), Error>
+) -> Result<(), A>
     requires { MayVisit (R.context resources.now) stacks.old }
-    ensures { Meets (R.context resources.now) (λ cx. row_operator (ref_get_desc_row cx type_index)) offset
-        stacks.old.body result stacks.new.body }
+    ensures { Moves (R.context resources.now) A.tells (λ cx. row_operator (ref_get_desc_row cx type_index)) stacks.old
+        result stacks.new }
 {
-    let from = type_reference(stacks, resources, offset, true, type_index)?;
-    let exact = exact_heap_at(resources, offset, type_index)?;
-    let found = pop_of_type(stacks, resources, offset, from)?;
-    let index = descriptor_at(resources, offset, type_index)?;
-    match index {
-        Some(descriptor) => {
-            let is_exact = is_found_exact(resources, exact, found);
-            let given = RefType {
-                nullable: false,
-                heap_type: declared_heap(is_exact, descriptor.unpack()),
-            };
-            push_found(stacks, offset, MaybeType::Known(ValType::Ref(given)))
-        }
-        None => Err(Error::new("expected type with descriptor", offset)),
-    }
+    let from = type_reference(stacks, resources, true, type_index)?;
+    let exact = exact_heap_at(resources, type_index)?;
+    stacks.find_operands(resources, 0, &[from])?;
+    let Some(descriptor) = descriptor_at(resources, type_index)? else {
+        return Err(A::of(Refusal::NoDescriptor));
+    };
+    let found = *stacks.find_any(0)?;
+    let given = RefType {
+        nullable: false,
+        heap_type: declared_heap(is_found_exact(resources, exact, found), descriptor.unpack()),
+    };
+    let own = stacks.own_len();
+    grown(stacks.replace(own.min(1), MaybeType::Known(ValType::Ref(given))))
 }
 
 /// The type of the descriptors of the type that a cast leads to, which has to be one of the module and to have
 /// them (wasmparser's `check_descriptor`).
-fn descriptor_in<R: WasmModuleResources>(
+fn descriptor_in<A: Refused, R: WasmModuleResources>(
+    resources: &R,
+    heap_type: HeapType,
+) -> Result<PackedIndex, A>
+    ensures found { IfOk result (λ d. descriptor_rule.descriptor_in (R.context resources.now) heap_type
+        ≡ Some d) }
+    ensures valid { IfOk result (λ d. is_valid_index (R.context resources.now) d ≡ true) }
+    ensures refused { OnErr result (descriptor_rule.descriptor_in (R.context resources.now) heap_type ≡ None) }
+{
+    match heap_type {
+        HeapType::Concrete(UnpackedIndex::Module(index))
+        | HeapType::Exact(UnpackedIndex::Module(index)) => {
+            match descriptor_at(resources, index)? {
+                Some(descriptor) => Ok(descriptor),
+                None => Err(A::of(Refusal::TargetWithoutDescriptor)),
+            }
+        }
+        _ => Err(A::of(Refusal::UnexpectedHeapType)),
+    }
+}
+
+/// [`descriptor_in`], with the text and the place of a refusal.
+fn placed_descriptor<R: WasmModuleResources>(
+    stacks: &Stacks,
     resources: &R,
     offset: u64,
     heap_type: HeapType,
@@ -133,16 +133,27 @@ fn descriptor_in<R: WasmModuleResources>(
     ensures refused { OnErr result (descriptor_rule.descriptor_in (R.context resources.now) heap_type ≡ None) }
     ensures offset { IfErr result (λ e. e.offset ≡ offset) }
 {
-    match heap_type {
-        HeapType::Concrete(UnpackedIndex::Module(index))
-        | HeapType::Exact(UnpackedIndex::Module(index)) => {
-            match descriptor_at(resources, offset, index)? {
-                Some(descriptor) => Ok(descriptor),
-                None => Err(Error::new("cast target must have descriptor", offset)),
-            }
-        }
-        _ => Err(Error::new("unexpected heap type", offset)),
-    }
+    let found = descriptor_in(resources, heap_type);
+    placed(stacks, resources, offset, found)
+}
+
+/// [`cast_type`], with the text and the place of a refusal.
+fn placed_type<R: WasmModuleResources>(
+    stacks: &Stacks,
+    resources: &R,
+    offset: u64,
+    nullable: bool,
+    heap_type: HeapType,
+) -> Result<RefType, Error>
+    ensures found { IfOk result (λ r. cast_rule.cast_type (body_context (R.context resources.now) stacks.now.body)
+        nullable heap_type ≡ Some r) }
+    ensures valid { IfOk result (λ r. Valid (R.context resources.now) (ValType.Ref r)) }
+    ensures refused { IfErr result (λ e. e.wants_memory ≡ false → cast_rule.cast_type
+        (body_context (R.context resources.now) stacks.now.body) nullable heap_type ≡ None) }
+    ensures offset { IfErr result (λ e. e.offset ≡ offset) }
+{
+    let found = cast_type(stacks, resources, nullable, heap_type);
+    placed(stacks, resources, offset, found)
 }
 
 /// The refusal of a descriptor that isn't exact, where something is cast to an exact type.
@@ -182,7 +193,7 @@ fn pop_descriptor<R: WasmModuleResources>(
     ensures offset { IfErr result (λ e. e.offset ≡ offset) }
 {
     let wanted = ValType::Ref(RefType::concrete(true, descriptor));
-    let found = pop_of_type(stacks, resources, offset, wanted)?;
+    let found = stacks.pop_operand(resources, offset, Some(wanted))?;
     if !exact {
         return Ok(());
     }
@@ -220,9 +231,9 @@ pub fn check_ref_cast_desc_eq<R: WasmModuleResources>(
         (λ cx. row_operator (ref_cast_desc_eq_row cx nullable heap_type)) offset stacks.old.body result
         stacks.new.body }
 {
-    let descriptor = descriptor_in(resources, offset, heap_type)?;
+    let descriptor = placed_descriptor(stacks, resources, offset, heap_type)?;
     pop_descriptor(stacks, resources, offset, is_exact(heap_type), descriptor)?;
-    let ty = cast_type(stacks, resources, offset, nullable, heap_type)?;
+    let ty = placed_type(stacks, resources, offset, nullable, heap_type)?;
     let operand = operand_of_cast(resources, ty);
     check_plain(stacks, resources, offset, &[operand], &[ValType::Ref(ty)])
 }
@@ -239,9 +250,9 @@ pub fn check_br_on_cast_desc_eq<R: WasmModuleResources>(
         (λ cx. staying_operator (λ hs. br_on_cast_desc_eq_row cx hs cast)) offset stacks.old.body result
         stacks.new.body }
 {
-    let (from, to) = checked_cast(stacks, resources, offset, cast)?;
+    let (from, to) = placed_cast(stacks, resources, offset, cast)?;
     let heap_type = cast.to_ref_type.heap_type();
-    let descriptor = descriptor_in(resources, offset, heap_type)?;
+    let descriptor = placed_descriptor(stacks, resources, offset, heap_type)?;
     pop_descriptor(stacks, resources, offset, is_exact(heap_type), descriptor)?;
     let types = CastTypes {
         from,
@@ -271,9 +282,9 @@ pub fn check_br_on_cast_desc_eq_fail<R: WasmModuleResources>(
         (λ cx. staying_operator (λ hs. br_on_cast_desc_eq_fail_row cx hs cast)) offset stacks.old.body
         result stacks.new.body }
 {
-    let (from, to) = checked_cast(stacks, resources, offset, cast)?;
+    let (from, to) = placed_cast(stacks, resources, offset, cast)?;
     let heap_type = cast.to_ref_type.heap_type();
-    let descriptor = descriptor_in(resources, offset, heap_type)?;
+    let descriptor = placed_descriptor(stacks, resources, offset, heap_type)?;
     pop_descriptor(stacks, resources, offset, is_exact(heap_type), descriptor)?;
     let types = CastTypes {
         from,

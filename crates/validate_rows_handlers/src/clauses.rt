@@ -6,6 +6,7 @@ ghost use Rattle.validate_resources.specs.Context.{Valid};
 ghost use Rattle.validation_rules.specs.Context.{Context};
 ghost use Rattle.validation_rules.specs.Exceptions.{clause_to, exception_reference, try_table_operator};
 ghost use Rattle.validation_rules.specs.Fits.{Known, all_fit};
+ghost use Rattle.validation_rules.specs.Operators.{checked_block};
 ghost use Rattle.validation_rules.specs.Static.{heads, clause_fits};
 ghost use Rattle.validate_rows_handlers.specs.Clauses.{is_fitting_catch, are_fitting_catches};
 ghost use Rattle.validate_stacks.specs.State.{IsValidBody, body_context};
@@ -13,13 +14,14 @@ ghost use Rattle.validate_stacks.specs.Visits.{MayVisit, Meets};
 
 use validate_resources::WasmModuleResources;
 use validate_shapes::blocks::check_block_type;
+use validate_shapes::checked::placed;
 use validate_shapes::labels::label;
 use validate_shapes::tags::exception_types_at;
 use validate_stacks::Stacks;
 use validate_stacks::blocks::{label_types, params};
 use validate_stacks::pops::mismatch;
 use validate_types::{Error, RefType, ValType};
-use validate_visit::{Catch, FrameKind, TryTable};
+use validate_visit::{BlockType, Catch, FrameKind, TryTable};
 
 /// What each clause carries to its label, one by one from the first: types below those of the label.
 fn check_types<R: WasmModuleResources>(
@@ -155,11 +157,21 @@ fn check_clause<R: WasmModuleResources>(
 {
     match catch {
         Catch::One { tag, label } => {
-            let types = exception_types_at(stacks, resources, offset, tag)?;
+            let types = placed(
+                stacks,
+                resources,
+                offset,
+                exception_types_at(resources, tag),
+            )?;
             check_carried(stacks, resources, offset, catch, label, types)
         }
         Catch::OneRef { tag, label } => {
-            let types = exception_types_at(stacks, resources, offset, tag)?;
+            let types = placed(
+                stacks,
+                resources,
+                offset,
+                exception_types_at(resources, tag),
+            )?;
             check_carried_with_reference(stacks, resources, offset, catch, label, types)
         }
         Catch::All { label } => check_carried(stacks, resources, offset, catch, label, &[]),
@@ -189,6 +201,27 @@ fn check_clauses<R: WasmModuleResources>(
     Ok(())
 }
 
+/// [`check_block_type`], with the text and the place of a refusal.
+fn placed_block_type<R: WasmModuleResources>(
+    stacks: &Stacks,
+    resources: &R,
+    offset: u64,
+    block_type: BlockType,
+) -> Result<BlockType, Error>
+    ensures checked { IfOk result (λ bt. checked_block
+        (body_context (R.context resources.now) stacks.now.body) block_type ≡ Some bt) }
+    ensures refused { IfErr result (λ e. e.wants_memory ≡ false
+        → checked_block (body_context (R.context resources.now) stacks.now.body) block_type ≡ None) }
+    ensures offset { IfErr result (λ e. e.offset ≡ offset) }
+{
+    placed(
+        stacks,
+        resources,
+        offset,
+        check_block_type(stacks, resources, block_type),
+    )
+}
+
 /// `try_table`: takes the parameters of its block type, and opens a frame over them. The labels of its
 /// clauses are counted outside that frame.
 pub fn check_try_table<R: WasmModuleResources>(
@@ -201,7 +234,7 @@ pub fn check_try_table<R: WasmModuleResources>(
     ensures { Meets (R.context resources.now) (λ cx. try_table_operator cx table.entry) offset
         stacks.old.body result stacks.new.body }
 {
-    let block_type = check_block_type(stacks, resources, offset, table.ty)?;
+    let block_type = placed_block_type(stacks, resources, offset, table.ty)?;
     stacks.pop_types(resources, offset, params(resources, &block_type))?;
     check_clauses(stacks, resources, offset, table.catches)?;
     stacks.push_ctrl(resources, offset, FrameKind::TryTable, block_type)

@@ -9,6 +9,7 @@ ghost use Rattle.validate_stacks.specs.State.{IsValidBody};
 ghost use Rattle.validate_stacks.specs.Visits.{step_body, MayVisit, Meets};
 
 use validate_resources::WasmModuleResources;
+use validate_shapes::checked::placed;
 use validate_shapes::labels::label;
 use validate_shapes::tags::exception_types_at;
 use validate_stacks::Stacks;
@@ -31,7 +32,12 @@ pub fn check_catch<R: WasmModuleResources>(
         stacks.new.body }
 {
     begin_catch_part(stacks, resources, offset, false)?;
-    let types = exception_types_at(stacks, resources, offset, tag_index)?;
+    let types = placed(
+        stacks,
+        resources,
+        offset,
+        exception_types_at(resources, tag_index),
+    )?;
     stacks.push_types(offset, types)
 }
 

@@ -110,6 +110,25 @@ pub fn taken<A: Refused, R: WasmModuleResources>(
     plain(stacks, resources, &[low, top], &[])
 }
 
+/// `[types] -> []`, and the live part of the frame ends. Where no attempt is pending it is refused only where its row doesn't
+/// hold.
+pub fn ending<A: Refused, R: WasmModuleResources>(
+    stacks: &mut Stacks,
+    resources: &R,
+    types: &[ValType],
+) -> Result<(), A>
+    requires visit { MayVisit (R.context resources.now) stacks.old }
+    requires types { AllByRecursion (Valid (R.context resources.now)) types.now }
+    ensures row { Moves (R.context resources.now) A.tells (λ cx. row_operator (ending_row types.now)) stacks.old result
+        stacks.new }
+    ensures idle { stacks.old.body.undone ≡ None
+        → OnErr result (step_body (R.context resources.now) (λ cx. row_operator (ending_row types.now))
+        stacks.old.body ≡ None) }
+{
+    stacks.find_operands(resources, 0, types)?;
+    grown(stacks.end_live())
+}
+
 // ---- what is still called by its old name
 
 /// [`plain`], with the text and the place of a refusal.
@@ -150,42 +169,6 @@ pub fn plain_at_once<R: WasmModuleResources>(
     answer.is_ok()
 }
 
-/// [`unary`], where it passes at once.
-#[inline(always)]
-pub fn unary_at_once<R: WasmModuleResources>(
-    stacks: &mut Stacks,
-    resources: &R,
-    taken: ValType,
-    given: ValType,
-) -> bool
-    requires visit { MayVisit (R.context resources.now) stacks.old }
-    requires taken { Valid (R.context resources.now) taken }
-    requires given { Valid (R.context resources.now) given }
-    ensures { MeetsAtOnce (R.context resources.now)
-        (λ cx. row_operator (plain_row (taken ∷ []) (given ∷ []))) stacks.old result stacks.new }
-{
-    let answer: Result<(), NotAtOnce> = unary(stacks, resources, taken, given);
-    answer.is_ok()
-}
-
-/// [`taken`], where it passes at once.
-#[inline(always)]
-pub fn taken_at_once<R: WasmModuleResources>(
-    stacks: &mut Stacks,
-    resources: &R,
-    low: ValType,
-    top: ValType,
-) -> bool
-    requires visit { MayVisit (R.context resources.now) stacks.old }
-    requires low { Valid (R.context resources.now) low }
-    requires top { Valid (R.context resources.now) top }
-    ensures { MeetsAtOnce (R.context resources.now)
-        (λ cx. row_operator (plain_row (low ∷ top ∷ []) [])) stacks.old result stacks.new }
-{
-    let answer: Result<(), NotAtOnce> = taken(stacks, resources, low, top);
-    answer.is_ok()
-}
-
 /// `[types] -> [types above]`: operands of these types stay, and another comes above them.
 pub fn check_onto<R: WasmModuleResources>(
     stacks: &mut Stacks,
@@ -204,24 +187,4 @@ pub fn check_onto<R: WasmModuleResources>(
     stacks.pop_types(resources, offset, types)?;
     stacks.push_types(offset, types)?;
     stacks.push_types(offset, &[above])
-}
-
-/// `[types] -> []`, and the live part of the frame ends. It takes no memory but for the text of a refusal:
-/// it is refused only where its row doesn't hold.
-pub fn check_ending<R: WasmModuleResources>(
-    stacks: &mut Stacks,
-    resources: &R,
-    offset: u64,
-    types: &[ValType],
-) -> Result<(), Error>
-    requires visit { MayVisit (R.context resources.now) stacks.old }
-    requires types { AllByRecursion (Valid (R.context resources.now)) types.now }
-    ensures row { Meets (R.context resources.now) (λ cx. row_operator (ending_row types.now)) offset
-        stacks.old.body result stacks.new.body }
-    ensures memory { stacks.old.body.undone ≡ None
-        → OnErr result (step_body (R.context resources.now) (λ cx. row_operator (ending_row types.now))
-        stacks.old.body ≡ None) }
-{
-    stacks.pop_types(resources, offset, types)?;
-    stacks.unreachable(offset)
 }

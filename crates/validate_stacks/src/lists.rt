@@ -168,31 +168,6 @@ impl Stacks {
         true
     }
 
-    /// The same of the values of fields.
-    #[inline(always)]
-    pub(crate) fn has_fitting_fields<R: WasmModuleResources>(
-        &self,
-        resources: &R,
-        own: usize,
-        fields: &[FieldType],
-    ) -> bool
-        requires own { own ≡ length (innermost_operands self.now.body.present.frames) }
-        requires types { AllByRecursion (Valid (R.context resources.now)) (unpacked_fields fields.now) }
-        requires state { IsValidBody (R.context resources.now) self.now.body }
-        ensures { result ≡ has_operands_fitting (body_context (R.context resources.now) self.now.body)
-            (unpacked_fields fields.now) self.now.body }
-    {
-        let mut left = fields.len();
-        while left > 0 {
-            left -= 1;
-            let wanted = fields[left].element_type.unpack();
-            if !self.is_fitting_at(resources, own, fields.len() - 1 - left, &wanted) {
-                return false;
-            }
-        }
-        true
-    }
-
     /// Whether the top own operands of the innermost frame, which has so many at least, are known to be of these
     /// number or vector types, the last of the list on top. Nothing else is asked, so that no call is made.
     #[inline(always)]

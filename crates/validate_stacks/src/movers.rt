@@ -1,13 +1,15 @@
 //! The moves of operators: each is made whole, or changes nothing.
 
-ghost use Rattle.std.specs.Prelude.{◌≡◌, ◌≢◌, ◌<◌, ◌≤◌, [], None, true, length, IsOk, MatchResult};
+ghost use Rattle.std.specs.Prelude.{◌≡◌, ◌≢◌, ◌<◌, ◌≤◌, [], None, Some, true, length, slice_get, IsOk, MatchResult};
+ghost use Rattle.validate_types.specs.declared.types.ValType.{ValType};
+ghost use Rattle.validation_rules.specs.Fits.{Known};
 ghost use Rattle.validate_stacks.specs.AtOnce.{body_dropped};
 ghost use Rattle.validate_stacks.specs.Attempts.{may_frame, may_set, may_unset};
 ghost use Rattle.validate_stacks.specs.Pops.{body_pushed_each};
 ghost use Rattle.validate_stacks.specs.Steps.{innermost_operands, body_pushed, body_unreachable, body_with_frame, body_with_local_set, body_without_frame};
 
 use crate::change::Change;
-use crate::stacks::Stacks;
+use crate::stacks::{Stacks, prepare_push};
 use validate_types::{MaybeType, OutOfMemory, ValType};
 use validate_visit::{BlockType, FrameKind};
 
@@ -55,6 +57,23 @@ impl Stacks {
         })
     }
 
+    /// Gives an operand of the type of this local, which is declared. Want of memory changes nothing.
+    #[inline(always)]
+    pub fn push_local(&mut self, local_index: u32) -> Result<(), OutOfMemory>
+        requires { local_index < length self.old.body.locals }
+        ensures { MatchResult result
+            (λ _. (t : ValType) → slice_get self.old.body.locals local_index ≡ Some t
+            → self.new.body ≡ body_pushed (Known t) self.old.body) (λ _. self.new ≡ self.old) }
+    {
+        // The type is copied to its place from where it lies.
+        let Some(ty) = self.locals.find(local_index) else {
+            unreachable!()
+        };
+        prepare_push(&mut self.operands, &mut self.transaction)?;
+        self.operands.put(MaybeType::Known(*ty));
+        Ok(())
+    }
+
     /// [`Stacks::exchange`] with one operand that comes, of which less may be known.
     #[inline(always)]
     pub fn replace(&mut self, taken: usize, ty: MaybeType) -> Result<(), OutOfMemory>
@@ -91,6 +110,28 @@ impl Stacks {
         })
     }
 
+    /// [`Stacks::exchange`], and above what is given comes one operand more, of which less may be known.
+    pub fn exchange_topped(
+        &mut self,
+        taken: usize,
+        given: &[ValType],
+        top: MaybeType,
+    ) -> Result<(), OutOfMemory>
+        requires { taken ≤ length (innermost_operands self.old.body.present.frames) }
+        ensures { MatchResult result
+            (λ _. self.new.body ≡ body_pushed top (body_pushed_each given.now (body_dropped taken self.old.body)))
+            (λ _. self.new ≡ self.old) }
+    {
+        self.change(Change {
+            taken,
+            closes: false,
+            sets: None,
+            opens: None,
+            given,
+            top: Some(top),
+        })
+    }
+
     /// [`Stacks::exchange`], and a declared local is set: where it wasn't, it joins those first set in the innermost frame.
     /// Want of memory changes nothing.
     #[inline(always)]
@@ -122,6 +163,33 @@ impl Stacks {
     /// these types, the last on top. Want of memory changes nothing.
     #[inline(always)]
     pub fn open(
+        &mut self,
+        taken: usize,
+        kind: FrameKind,
+        block_type: BlockType,
+        given: &[ValType],
+    ) -> Result<(), OutOfMemory>
+        requires own { taken ≤ length (innermost_operands self.old.body.present.frames) }
+        requires frames { may_frame self.old ≡ true }
+        ensures { MatchResult result (λ _. self.new.body
+            ≡ body_pushed_each given.now (body_with_frame kind block_type (body_dropped taken self.old.body)))
+            (λ _. self.new ≡ self.old) }
+    {
+        // Where no attempt is pending, one goes at most, and nothing is given, the frame is put in place.
+        if given.is_empty() {
+            if taken == 0 && self.open_at_once(kind, block_type) {
+                return Ok(());
+            }
+            if taken == 1 && self.open_over_top(kind, block_type) {
+                return Ok(());
+            }
+        }
+        self.open_any(taken, kind, block_type, given)
+    }
+
+    /// [`Stacks::open`], over any number of operands, and recorded where an attempt is pending.
+    #[inline(never)]
+    fn open_any(
         &mut self,
         taken: usize,
         kind: FrameKind,

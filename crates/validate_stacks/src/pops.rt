@@ -1,6 +1,6 @@
 //! Pops of operands against what is wanted.
 
-ghost use Rattle.std.specs.Prelude.{◌≡◌, ◌⊎◌, true, false, None, Some, OnOk, OnErr, IfOk, IfErr, MatchOption};
+ghost use Rattle.std.specs.Prelude.{◌≡◌, true, false, None, Some, OnOk, OnErr, IfOk, IfErr, MatchOption};
 ghost use Rattle.std.specs.Option.{ForSome};
 ghost use Rattle.validate_resources.specs.Context.{Valid};
 ghost use Rattle.validate_types.specs.Refs.{non_null_reference};
@@ -9,7 +9,7 @@ ghost use Rattle.validation_rules.specs.Valid.{IsValidOperand};
 ghost use Rattle.validate_stacks.specs.Attempts.{phase_moved};
 ghost use Rattle.validate_stacks.specs.State.{IsValidBody, body_context};
 ghost use Rattle.validate_stacks.specs.Names.{place_of, type_name};
-ghost use Rattle.validate_stacks.specs.Pops.{may_pop, FitsAtOnce};
+ghost use Rattle.validate_stacks.specs.Pops.{may_pop, FitsAtOnce, Popped};
 ghost use Rattle.validate_stacks.specs.Steps.{found_in_body, body_popped};
 
 use crate::stacks::Stacks;
@@ -172,7 +172,8 @@ fn place_of(ty: ValType) -> u8
 impl Stacks {
     /// Pops an operand that fits what is wanted, if anything is. It refuses, at the offset handed in,
     /// where nothing is found or where what is found doesn't fit (and is popped). Memory is wanted for
-    /// the text of a refusal and the log of an attempt alone.
+    /// the text of a refusal and the log of an attempt alone: where no attempt is pending it is refused only
+    /// where nothing fits, and a pop of any type takes no memory.
     #[inline(always)]
     pub fn pop_operand<R: WasmModuleResources>(
         &mut self,
@@ -182,25 +183,7 @@ impl Stacks {
     ) -> Result<MaybeType, Error>
         requires wanted { ForSome expected (Valid (R.context resources.now)) }
         requires state { IsValidBody (R.context resources.now) self.old.body }
-        ensures value { IfOk result (λ t. found_in_body self.old.body ≡ Some t) }
-        ensures passed { OnOk result (may_pop (body_context (R.context resources.now) self.old.body)
-            (found_in_body self.old.body) expected ≡ true) }
-        ensures popped { OnOk result (self.new.body ≡ body_popped self.old.body) }
-        ensures refused { IfErr result (λ e. e.wants_memory ≡ false
-            → may_pop (body_context (R.context resources.now) self.old.body) (found_in_body self.old.body)
-            expected ≡ false) }
-        ensures left { OnErr result ((self.new.body ≡ self.old.body)
-            ⊎ (self.new.body ≡ body_popped self.old.body)) }
-        ensures phase { phase_moved self.new.phase ≡ phase_moved self.old.phase }
-        ensures offset { IfErr result (λ e. e.offset ≡ offset) }
-
-        // Where no attempt is pending it is refused only where nothing fits, and a pop of any type
-        // takes no memory.
-        ensures idle { self.old.body.undone ≡ None
-            → OnErr result (may_pop (body_context (R.context resources.now) self.old.body)
-            (found_in_body self.old.body) expected ≡ false) }
-        ensures memory { self.old.body.undone ≡ None → expected ≡ None
-            → IfErr result (λ e. e.wants_memory ≡ false) }
+        ensures { Popped (R.context resources.now) expected offset self.old result self.new }
     {
         match self.pop_at_once(resources, expected) {
             Some(found) => Ok(found),
@@ -246,22 +229,7 @@ impl Stacks {
     ) -> Result<MaybeType, Error>
         requires wanted { ForSome expected (Valid (R.context resources.now)) }
         requires state { IsValidBody (R.context resources.now) self.old.body }
-        ensures value { IfOk result (λ t. found_in_body self.old.body ≡ Some t) }
-        ensures passed { OnOk result (may_pop (body_context (R.context resources.now) self.old.body)
-            (found_in_body self.old.body) expected ≡ true) }
-        ensures popped { OnOk result (self.new.body ≡ body_popped self.old.body) }
-        ensures refused { IfErr result (λ e. e.wants_memory ≡ false
-            → may_pop (body_context (R.context resources.now) self.old.body) (found_in_body self.old.body)
-            expected ≡ false) }
-        ensures left { OnErr result ((self.new.body ≡ self.old.body)
-            ⊎ (self.new.body ≡ body_popped self.old.body)) }
-        ensures phase { phase_moved self.new.phase ≡ phase_moved self.old.phase }
-        ensures offset { IfErr result (λ e. e.offset ≡ offset) }
-        ensures idle { self.old.body.undone ≡ None
-            → OnErr result (may_pop (body_context (R.context resources.now) self.old.body)
-            (found_in_body self.old.body) expected ≡ false) }
-        ensures memory { self.old.body.undone ≡ None → expected ≡ None
-            → IfErr result (λ e. e.wants_memory ≡ false) }
+        ensures { Popped (R.context resources.now) expected offset self.old result self.new }
     {
         match self.pop_any() {
             Ok(found) => self.check_found(resources, offset, found, expected),

@@ -12,7 +12,9 @@ use crate::stacks::Stacks;
 use std::alloc::{AllocError, Global};
 use validate_resources::WasmModuleResources;
 use validate_resources::kinds::func_type_of;
-use validate_types::{Error, MaybeType, OutOfMemory, Refusal, Told, ValType};
+use validate_types::{
+    AbstractHeapType, Error, HeapType, MaybeType, OutOfMemory, RefType, Refusal, Told, ValType,
+};
 
 impl Stacks {
     /// The refusal, at this offset, with its text. The operands go that upstream takes before it refuses: those above one that
@@ -40,6 +42,19 @@ impl Stacks {
                     Err(OutOfMemory) => Error::out_of_memory(offset),
                 }
             }
+        }
+    }
+
+    /// The refusal of a look-up, at this offset, with its text. Nothing is taken.
+    #[cold]
+    #[inline(never)]
+    pub fn refusal<R: WasmModuleResources>(&self, resources: &R, told: Told, offset: u64) -> Error
+        ensures offset { result.offset ≡ offset }
+        ensures told { result.wants_memory ≡ false → IsRowRefused told }
+    {
+        match told {
+            Told::LookUp(error) => error.at(offset),
+            Told::Rule(refusal) => self.error(resources, refusal, offset),
         }
     }
 
@@ -91,6 +106,7 @@ impl Stacks {
             Refusal::NoStructType(index) => declared_text(resources, alloc, "struct", index),
             Refusal::NoArrayType(index) => declared_text(resources, alloc, "array", index),
             Refusal::OtherResults(index) => self.results_text(resources, index),
+            Refusal::NotBelow { wanted, found } => below_text(resources, alloc, wanted, found),
             _ => operand_text(alloc, refusal),
         }
     }
@@ -122,6 +138,35 @@ fn declared_text<R: WasmModuleResources>(
             format!(in alloc; "expected {kind} type at index {type_index}, found {found}")
         }
         None => format!(in alloc; "unknown type: type index out of bounds"),
+    }
+}
+
+/// The text of a reference that isn't below an abstract type of its own sharedness.
+fn below_text<R: WasmModuleResources>(
+    resources: &R,
+    alloc: Global,
+    wanted: AbstractHeapType,
+    found: MaybeType,
+) -> Result<String, AllocError> {
+    match found {
+        MaybeType::Known(ValType::Ref(found)) => {
+            let shared = resources.is_shared(found);
+            let wanted = RefType {
+                nullable: true,
+                heap_type: HeapType::Abstract { shared, ty: wanted },
+            };
+            format!(in alloc; "type mismatch: expected subtype of {wanted}, found {found}")
+        }
+        MaybeType::UnknownRef(Some(found)) => {
+            let wanted = wanted.as_str(false);
+            let found = found.as_str(false);
+            format!(in alloc; "type mismatch: expected subtype of {wanted}, found {found}")
+        }
+        // Any of these fits, or is no reference.
+        MaybeType::Known(_) | MaybeType::UnknownRef(None) | MaybeType::Bottom => {
+            let wanted = wanted.as_str(false);
+            format!(in alloc; "type mismatch: expected subtype of {wanted}")
+        }
     }
 }
 

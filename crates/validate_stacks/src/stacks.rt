@@ -28,7 +28,7 @@ use validate_visit::{BlockType, Frame, FrameKind};
 pub struct Stacks {
     pub(crate) operands: Pile<MaybeType>,
     pub(crate) control: Pile<Frame>,
-    locals: Locals,
+    pub(crate) locals: Locals,
     pub(crate) inits: LocalInits,
     pub(crate) transaction: Transaction,
     shared: bool,
@@ -653,7 +653,7 @@ impl Stacks {
 /// Room for one more operand, and its entry in the log of an attempt, if one is pending. Want of memory changes nothing
 /// but room.
 #[inline(always)]
-fn prepare_push(
+pub(crate) fn prepare_push(
     operands: &mut Pile<MaybeType>,
     transaction: &mut Transaction,
 ) -> Result<(), OutOfMemory>

@@ -15,7 +15,7 @@ returns-in_err-check_enabled-clause-memory g c =
     let md = g.R.WasmModuleResources.context c.args.resources.now in
     let v = c.args.stacks.now.body in
     let none = shut md v (Control c.args.op) (ap (is_open v.features) (sym c.gate.ensures) ∙ c.in_err-check_enabled.ensures.closed) in
-    refused_alone md c.args.op v _ (search (rules, none))
+    refused_alone md (Control c.args.op) v _ (search (rules, none))
 
 pub returns-clause-row : goal.returns-clause-row
 returns-clause-row g c =

@@ -1,5 +1,4 @@
-use Rattle.std.proofs.Common.{rules, ◌≡◌, true, [], ◌∷◌, ◌&&◌, sym, ap, ◌∙◌, subst}
-use Rattle.validate_resources.specs.Context.{Valid}
+use Rattle.std.proofs.Common.{rules, true, [], ◌∷◌, ◌&&◌, sym, ap, ◌∙◌}
 use Rattle.validate_types.specs.Types.{address_type_of_table}
 use Rattle.validate_visit.specs.declared.shared.FieldAccess.TheVariants.{Whole}
 use Rattle.validate_visit.specs.declared.shared.GlobalAccess.TheVariants.{Value}

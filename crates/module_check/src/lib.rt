@@ -17,6 +17,6 @@ pub use crate::constant::ConstantPlace;
 pub use crate::loaded::LoadedModule;
 pub use crate::report::{Failure, Item, Verdict};
 pub use crate::summary::{ModuleVerdict, NO_BODY, NOT_LOADED, OUT_OF_MEMORY, VALID};
-pub use crate::whole::{check_module, validate};
+pub use crate::whole::check_module;
 pub use binary_modules::{ConstantExpression, FunctionNames};
 pub use module_rules::{ModuleFeatures, Place};

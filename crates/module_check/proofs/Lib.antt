@@ -1,5 +1,4 @@
 pub mod Begun
 pub mod Behind
 pub mod Counted
-pub mod Locals
 pub mod Unplaced

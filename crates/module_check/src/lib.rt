@@ -4,6 +4,7 @@
 
 mod body;
 mod buffers;
+mod code;
 mod constant;
 mod loaded;
 mod operators;
@@ -13,10 +14,12 @@ mod whole;
 
 pub use crate::body::check_body;
 pub use crate::buffers::BodyBuffers;
+pub use crate::code::CodeReader;
 pub use crate::constant::ConstantPlace;
 pub use crate::loaded::LoadedModule;
 pub use crate::report::{Failure, Item, Verdict};
 pub use crate::summary::{ModuleVerdict, NO_BODY, NOT_LOADED, OUT_OF_MEMORY, VALID};
 pub use crate::whole::check_module;
 pub use binary_modules::{ConstantExpression, FunctionNames};
+pub use binary_operators::{OperatorLists, ReadError};
 pub use module_rules::{ModuleFeatures, Place};

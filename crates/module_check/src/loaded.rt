@@ -8,10 +8,11 @@ ghost use Rattle.module_rules.specs.Declarations.{declarations_of};
 ghost use Rattle.module_rules.specs.Lookup.{lookup_lists};
 ghost use Rattle.module_rules.specs.Validity.{IsValidModule, is_valid_module};
 ghost use Rattle.validate_resources.specs.Kept.{declared_lists};
-ghost use Rattle.validate_resources.specs.Lists.{module_of};
+ghost use Rattle.validate_resources.specs.Lists.{context_of, module_of};
 
 use crate::body::check_body;
 use crate::buffers::BodyBuffers;
+use crate::code::CodeReader;
 use crate::constant::ConstantPlace;
 use crate::report::Verdict;
 use binary_modules::{ConstantExpression, FunctionNames, Module, read_function_names, read_module};
@@ -111,12 +112,34 @@ impl<'a> LoadedModule<'a> {
         }
     }
 
+    /// The bytes that it was read of.
+    pub fn bytes(&self) -> &'a [u8]
+        ensures { result.now ≡ bytes_of self.now }
+    {
+        self.bytes
+    }
+
     /// What it declares, which is valid.
     pub fn declarations(&self) -> &DeclaredModule
         ensures declared { declarations_of result.now ≡ declarations self.now }
         ensures valid { IsValidModule (features_of self.now) (declarations_of result.now) }
     {
         &self.declared
+    }
+
+    /// The lookup in which its bodies are checked: it is made of what it declares.
+    pub fn resources(&self) -> &ModuleLists
+        ensures context { context_of (declared_lists result.now) ≡ declared self.now }
+        ensures lookup { module_of (lookup_lists (declarations self.now)) ≡ Some (declared_lists result.now) }
+    {
+        &self.lists
+    }
+
+    /// The proposals that are on.
+    pub fn features(&self) -> ModuleFeatures
+        ensures { result ≡ features_of self.now }
+    {
+        self.features
     }
 
     /// How many bodies it has.
@@ -165,10 +188,28 @@ impl<'a> LoadedModule<'a> {
     }
 
     /// The index of the type of the function at this index, or None where the module has no such function.
-    fn type_of(&self, function: u32) -> Option<u32>
+    pub fn type_of(&self, function: u32) -> Option<u32>
         ensures { result ≡ (declared self.now).type_index_of function }
     {
         self.lists.type_index_of_function(function)
+    }
+
+    /// A reader of the code of the function at this index, or None where the module has none for it.
+    pub fn code_of(&self, function: u32) -> Option<CodeReader<'_>>
+        ensures body { IfSome result (λ code. body_at self.now function ≡ Some code.reader) }
+        ensures own { OnSome result (self.now.declared.imports.functions ≤ function) }
+        ensures types { IfSome result (λ code. AreTypesOf self.now code.types) }
+    {
+        let body = self.body_of(function)?;
+        Some(CodeReader::new(body.again(), self.types()))
+    }
+
+    /// A reader of the code of a constant expression of this module.
+    pub fn code_of_expression<'m>(&'m self, expression: &ConstantExpression<'m>) -> CodeReader<'m>
+        ensures code { result.reader ≡ expression.now.bytes }
+        ensures types { AreTypesOf self.now result.types }
+    {
+        CodeReader::new(expression.bytes.again(), self.types())
     }
 
     /// The types of the module, by which indices in its bodies are read.

@@ -1,6 +1,7 @@
 //! The operators of a body, which are read and handed to its validator one by one.
 
-ghost use Rattle.std.specs.Prelude.{◌≡◌, ◌≢◌, [], OnOk};
+ghost use Rattle.std.specs.Prelude.{◌≡◌, ◌≢◌, [], Some, None, OnOk, IfOk, OnErr};
+ghost use Rattle.binary_operators.specs.Functions.{locals};
 ghost use Rattle.validate_stacks.specs.State.{IsStarting};
 ghost use Rattle.validate_body.specs.Start.{state};
 ghost use Rattle.module_check.specs.Begin.{DefinesGroup, DefinesRead};
@@ -15,7 +16,23 @@ use binary_operators::{
 };
 use validate_body::OperatorValidator;
 use validate_resources::WasmModuleResources;
+use validate_types::ValType;
 use validate_visit::{NumericOp, Op};
+
+/// Reads a group of locals: how many there are, and of which type.
+#[tactic(auto, unfolding(binary_operators::specs::Functions::locals))]
+pub(crate) fn read_group(
+    reader: &mut BinaryReader<'_>,
+    canonical: CanonicalTypes<'_>,
+) -> Result<(u32, ValType), ReadError>
+    ensures read { IfOk result (λ group. locals canonical.entry reader.old.left
+        ≡ Some (group, reader.new.left)) }
+    ensures refused { OnErr result (locals canonical.entry reader.old.left ≡ None) }
+{
+    let count = reader.read_var_u32()?;
+    let ty = read_value_type(reader, canonical)?;
+    Ok((count, ty))
+}
 
 /// Reads a group of locals, and defines them in a body that starts.
 fn define_group<R: WasmModuleResources>(
@@ -30,9 +47,8 @@ fn define_group<R: WasmModuleResources>(
         reader.new.left (state v.old) (state v.new)) }
 {
     let offset = reader.offset();
-    let count = reader.read_var_u32()?;
-    let ty = read_value_type(reader, canonical)?;
-    v.define_locals(offset, count, ty, resources)?;
+    let group = read_group(reader, canonical)?;
+    v.define_locals(offset, group.0, group.1, resources)?;
     Ok(())
 }
 

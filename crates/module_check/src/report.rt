@@ -19,8 +19,8 @@ pub enum Item {
 }
 
 impl Item {
-    /// What it belongs to, the index of that, and which part of it.
-    fn words(self) -> (&'static str, u32, &'static str) {
+    /// What it belongs to, the index of that, and which part of it, behind a space.
+    pub fn words(self) -> (&'static str, u32, &'static str) {
         match self {
             Item::Function(index) => ("func", index, ""),
             Item::Expression(Place::Table(index)) => ("table", index, " init"),

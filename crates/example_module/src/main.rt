@@ -1,0 +1,141 @@
+//! Reads a binary module from standard input, and prints the body of its first function that isn't imported, operator by
+//! operator: where each begins, its name, and the types of the operands behind it, the lowest first.
+#![tactic(auto)]
+
+ghost use Rattle.std.specs.Prelude.{◌≡◌, None, IfOk};
+ghost use Rattle.wasmparser_validate.specs.Start.{state};
+ghost use Rattle.wasmparser_validate.specs.State.{IsStarting, IsValidBody};
+
+use module_check::{CodeReader, Failure, LoadedModule, ModuleFeatures, OperatorLists, Verdict};
+use operator_names::operator_name;
+use std::alloc::Global;
+use std::io;
+use std::io::Read;
+use wasmparser_validate::operators::{OperatorValidator, OperatorValidatorAllocations};
+use wasmparser_validate::resources::WasmModuleResources;
+use wasmparser_validate::types::{Error, WasmFeatures};
+
+/// Prints where an operator of the module begins, and its name.
+fn print_name(rt: &HostRuntime, bytes: &[u8], offset: u64) -> io::Result<()> {
+    let behind = bytes.get(offset as usize..).unwrap_or(&[]);
+    let name = operator_name(behind).unwrap_or("?");
+    print!(rt; "{offset:#x} {name}:")
+}
+
+/// Prints the types of the operands, `?` for one that isn't known.
+fn print_operands(rt: &HostRuntime, v: &OperatorValidator) -> io::Result<()> {
+    for depth in (0..v.operand_stack_height()).rev() {
+        match v.peek_operand_at(depth) {
+            Some(Some(ty)) => print!(rt; " {ty}")?,
+            _ => print!(rt; " ?")?,
+        }
+    }
+    println!(rt; "")
+}
+
+/// A validator of the body of a function of this type, with the locals that its code begins with.
+fn start<R: WasmModuleResources>(
+    alloc: Global,
+    resources: &R,
+    features: &WasmFeatures,
+    ty: u32,
+    code: &mut CodeReader<'_>,
+) -> Result<OperatorValidator, Failure>
+    ensures { IfOk result (λ v. IsStarting (R.context resources.now) (state v)) }
+{
+    let buffers = OperatorValidatorAllocations::new(alloc);
+    let mut v = OperatorValidator::new_func(ty, code.offset(), features, resources, buffers)?;
+    code.define_locals(&mut v, resources)?;
+    Ok(v)
+}
+
+/// Reads an operator, and checks it.
+fn step<R: WasmModuleResources>(
+    v: &mut OperatorValidator,
+    resources: &R,
+    code: &mut CodeReader<'_>,
+    lists: &mut OperatorLists,
+) -> Result<(), Failure>
+    requires valid { IsValidBody (R.context resources.now) (state v.old) }
+    requires idle { (state v.old).undone ≡ None }
+    ensures valid { IsValidBody (R.context resources.now) (state v.new) }
+    ensures idle { (state v.new).undone ≡ None }
+{
+    let offset = code.offset();
+    let op = code.read_operator(lists)?;
+    if v.control_stack_height() == 0 {
+        let refusal = Error::new("operators remaining after end of function", offset);
+        return Err(Failure::Refused(refusal));
+    }
+    v.check(resources, offset, op)?;
+    Ok(())
+}
+
+/// Prints each operator up to the end of the code, or to one that isn't accepted, and answers what they come to.
+fn print_operators<R: WasmModuleResources>(
+    rt: &HostRuntime,
+    v: &mut OperatorValidator,
+    resources: &R,
+    bytes: &[u8],
+    code: &mut CodeReader<'_>,
+) -> io::Result<Verdict>
+    requires { IsStarting (R.context resources.now) (state v.old) }
+{
+    let mut lists = OperatorLists::new(rt.alloc());
+    for _ in 0..code.bytes_left() {
+        if code.is_at_end() {
+            break;
+        }
+        let offset = code.offset();
+        if let Err(failure) = step(v, resources, code, &mut lists) {
+            return Ok(Verdict::of_check(Err(failure)));
+        }
+        print_name(rt, bytes, offset)?;
+        print_operands(rt, v)?;
+    }
+    Ok(verdict_at_end(v, code.offset()))
+}
+
+/// What a body whose operators are all accepted comes to: no frame may be open.
+fn verdict_at_end(v: &OperatorValidator, offset: u64) -> Verdict {
+    if v.control_stack_height() == 0 {
+        Verdict::Accepted
+    } else {
+        Verdict::Refused(Error::new("control frames remain at end of function", offset))
+    }
+}
+
+/// Prints the body of a function, and answers what it comes to.
+fn print_body(rt: &HostRuntime, module: &LoadedModule<'_>, function: u32) -> io::Result<Verdict> {
+    let (Some(mut code), Some(ty)) = (module.code_of(function), module.type_of(function)) else {
+        return Ok(Verdict::Refused(Error::new("the module has no such body", 0)));
+    };
+    let features = module.features().operator_features();
+    let resources = module.resources();
+    match start(rt.alloc(), resources, &features, ty, &mut code) {
+        Ok(mut v) => print_operators(rt, &mut v, resources, module.bytes(), &mut code),
+        Err(failure) => Ok(Verdict::of_check(Err(failure))),
+    }
+}
+
+/// Prints what a body or a module comes to.
+fn print_verdict(rt: &HostRuntime, verdict: &Verdict) -> io::Result<()> {
+    match verdict {
+        Verdict::Accepted => println!(rt; "accepted"),
+        Verdict::Refused(refusal) | Verdict::Malformed(refusal) => println!(rt; "{refusal}"),
+        Verdict::NotCovered(offset) => println!(rt; "a vector operator (at offset {offset:#x})"),
+        Verdict::OutOfMemory => println!(rt; "out of memory"),
+    }
+}
+
+fn main(rt: HostRuntime) -> io::Result<()> {
+    let mut bytes = Vec::new(rt.alloc());
+    rt.reader().read_to_end(&mut bytes)?;
+    match LoadedModule::new(rt.alloc(), &bytes, ModuleFeatures::DEFAULT) {
+        Ok(module) => {
+            let verdict = print_body(&rt, &module, module.function_of(0))?;
+            print_verdict(&rt, &verdict)
+        }
+        Err(verdict) => print_verdict(&rt, &verdict),
+    }
+}

@@ -1,11 +1,19 @@
-//! Says whether a binary module, which is read from the file that is named, or from standard input, is valid, and
-//! why not: what it declares, the bodies of its functions, and its constant expressions.
+//! Says of binary modules, which are read from the files that are named, or from standard input, whether they are valid,
+//! and why not: what they declare, the bodies of their functions, and their constant expressions.
 #![tactic(auto)]
 
+mod json;
+mod lines;
+mod module;
+mod operators;
 mod options;
-mod print;
+mod outcome;
 mod program;
+mod report;
+mod text;
+mod usage;
 
+use crate::outcome::Outcome;
 use std::io::Write;
 use std::process::ExitCode;
 
@@ -15,7 +23,7 @@ fn main(rt: HostRuntime) -> ExitCode {
         Err(error) => {
             let mut err = rt.stderr();
             let _ = writeln!(err, "wasmcheck: {error}");
-            ExitCode::from(program::FAILED)
+            ExitCode::from(Outcome::OutOfMemory.status())
         }
     }
 }

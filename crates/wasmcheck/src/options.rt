@@ -1,32 +1,41 @@
 //! What the program's words choose.
 
+use crate::usage::Misuse;
 use module_check::ModuleFeatures;
-use std::{env, io};
+use std::alloc::Global;
+use std::env;
 use validate_types::Flags;
 
 /// What is asked for.
 #[derive(Clone, Copy)]
 pub enum Wish {
-    /// To check a module.
+    /// To check modules.
     Check,
     /// To say how the program is used.
     Help,
     /// To say which version it is.
     Version,
-    /// Nothing that it knows.
-    Unknown,
 }
 
 /// How much is printed.
 #[derive(Clone, Copy)]
 pub enum Detail {
-    /// The last line, which says whether the module is valid.
-    Last,
-    /// Why it isn't valid, ahead of that: a line for each body and expression that isn't accepted, or one for the
+    /// Nothing: the status says it.
+    Status,
+    /// Whether the module is valid, and why not: a line for each body and expression that isn't accepted, or one for the
     /// module.
     Others,
     /// A line for each body and expression, and how many came to what.
     Each,
+}
+
+/// How it is printed.
+#[derive(Clone, Copy)]
+pub enum Format {
+    /// In words.
+    Text,
+    /// Each line an object of JSON.
+    Json,
 }
 
 /// What the words choose.
@@ -36,100 +45,164 @@ pub struct Options {
     pub wish: Wish,
     /// How much is printed.
     pub detail: Detail,
+    /// How it is printed.
+    pub format: Format,
     /// The proposals that are on.
     pub features: ModuleFeatures,
-    /// The file to read, or standard input.
-    pub file: Option<String>,
+    /// The files to read, `-` for standard input.
+    pub files: Vec<String>,
+}
+
+/// The words as they are taken, one after another.
+#[derive(Drop)]
+struct Words {
+    alloc: Global,
+    options: Options,
     /// Whether the next word is a list of proposals.
     awaits_list: bool,
+    /// Whether all that follows are files.
+    is_behind_options: bool,
 }
 
-/// The proposals of a list of names: `all`, `default`, which are upstream's, those of proposals, and names to be
-/// taken off, behind a `-`. A list that begins with one of these begins from all proposals.
-fn read_features(list: &str) -> Option<ModuleFeatures> {
-    let mut features = if list.starts_with('-') {
-        ModuleFeatures::all()
-    } else {
-        ModuleFeatures::empty()
-    };
-    for word in list.split(',') {
-        features = with_word(features, word)?;
+/// The proposals that a name stands for: all, those that upstream has on, none, or one.
+fn named_features(name: &str) -> Option<ModuleFeatures> {
+    match name {
+        "all" => Some(ModuleFeatures::all()),
+        "default" => Some(ModuleFeatures::DEFAULT),
+        "none" => Some(ModuleFeatures::empty()),
+        _ => ModuleFeatures::from_name(name),
     }
-    Some(features)
 }
 
-/// The proposals with those that a word adds, or without those that it takes off.
+/// The proposals with those that a word of a list adds, or, behind a `-`, without those that it takes off. None where
+/// nothing has that name.
 fn with_word(features: ModuleFeatures, word: &str) -> Option<ModuleFeatures> {
-    let taken = word.strip_prefix('-');
-    let named = match taken.unwrap_or(word) {
-        "all" => ModuleFeatures::all(),
-        "default" => ModuleFeatures::DEFAULT,
-        "none" => ModuleFeatures::empty(),
-        name => ModuleFeatures::from_name(name)?,
-    };
-    if taken.is_some() {
-        Some(features.difference(named))
-    } else {
-        Some(features.union(named))
+    match word.strip_prefix('-') {
+        Some(name) => Some(features.difference(named_features(name)?)),
+        None => Some(features.union(named_features(word)?)),
     }
 }
 
-impl Options {
+impl Words {
     /// Takes a word.
-    fn take(&mut self, word: String) {
+    fn take(&mut self, word: String) -> Result<(), Misuse> {
         if self.awaits_list {
-            return self.take_features(word.as_str());
+            self.awaits_list = false;
+            return self.take_list(word.as_str());
         }
+        let is_option = word.as_str().starts_with('-') && word.as_str() != "-";
+        if is_option && !self.is_behind_options {
+            self.take_option(word)
+        } else {
+            self.take_file(word)
+        }
+    }
+
+    /// Takes the name of a file.
+    fn take_file(&mut self, word: String) -> Result<(), Misuse> {
+        match self.options.files.push(word) {
+            Ok(()) => Ok(()),
+            Err(_) => Err(Misuse::out_of_memory()),
+        }
+    }
+
+    /// Takes an option: a long word, or letters that may be joined.
+    fn take_option(&mut self, word: String) -> Result<(), Misuse> {
         match word.as_str() {
+            "--" => self.is_behind_options = true,
             "--features" => self.awaits_list = true,
-            "-q" | "--quiet" => self.detail = Detail::Last,
-            "-v" | "--verbose" => {
-                if !matches!(self.detail, Detail::Last) {
-                    self.detail = Detail::Each;
+            "--quiet" => self.take_quiet(),
+            "--verbose" => self.take_verbose(),
+            "--json" => self.options.format = Format::Json,
+            "--help" => self.options.wish = Wish::Help,
+            "--version" => self.options.wish = Wish::Version,
+            other => {
+                return match other.strip_prefix("--features=") {
+                    Some(list) => self.take_list(list),
+                    None => self.take_letters(other),
+                };
+            }
+        }
+        Ok(())
+    }
+
+    /// Takes the letters behind a `-`.
+    fn take_letters(&mut self, word: &str) -> Result<(), Misuse> {
+        for letter in word.chars().skip(1) {
+            match letter {
+                'q' => self.take_quiet(),
+                'v' => self.take_verbose(),
+                'h' => self.options.wish = Wish::Help,
+                'V' => self.options.wish = Wish::Version,
+                _ => return Err(Misuse::unknown_word(self.alloc, word)),
+            }
+        }
+        Ok(())
+    }
+
+    fn take_quiet(&mut self) {
+        self.options.detail = Detail::Status;
+    }
+
+    /// Lets each line be printed, unless none is to be.
+    fn take_verbose(&mut self) {
+        if !matches!(self.options.detail, Detail::Status) {
+            self.options.detail = Detail::Each;
+        }
+    }
+
+    /// Takes a list of proposals. One that begins by taking some off begins from all.
+    fn take_list(&mut self, list: &str) -> Result<(), Misuse> {
+        let mut features = if list.starts_with('-') {
+            ModuleFeatures::all()
+        } else {
+            ModuleFeatures::empty()
+        };
+        for word in list.split(',') {
+            match with_word(features, word) {
+                Some(more) => features = more,
+                None => {
+                    let name = word.strip_prefix('-').unwrap_or(word);
+                    return Err(Misuse::unknown_proposal(self.alloc, name));
                 }
             }
-            "-h" | "--help" => self.wish = Wish::Help,
-            "-V" | "--version" => self.wish = Wish::Version,
-            _ => self.take_file(word),
         }
+        self.options.features = features;
+        Ok(())
     }
 
-    /// Takes the name of the file, of which there is one.
-    fn take_file(&mut self, word: String) {
-        let is_option = word.as_str().starts_with('-') && word.as_str() != "-";
-        if is_option || self.file.is_some() {
-            self.wish = Wish::Unknown;
-        } else {
-            self.file = Some(word);
+    /// The options, once all words are taken.
+    fn end(self) -> Result<Options, Misuse> {
+        if self.awaits_list {
+            return Err(Misuse::NoList);
         }
+        Ok(self.options)
     }
+}
 
-    /// Takes a list of proposals.
-    fn take_features(&mut self, list: &str) {
-        self.awaits_list = false;
-        match read_features(list) {
-            Some(features) => self.features = features,
-            None => self.wish = Wish::Unknown,
-        }
+/// The options where nothing is said.
+fn default_options(alloc: Global) -> Options {
+    Options {
+        wish: Wish::Check,
+        detail: Detail::Others,
+        format: Format::Text,
+        features: ModuleFeatures::all(),
+        files: Vec::new(alloc),
     }
 }
 
 /// Reads the program's words.
-pub fn read_options(rt: &HostRuntime) -> io::Result<Options> {
-    let mut options = Options {
-        wish: Wish::Check,
-        detail: Detail::Others,
-        features: ModuleFeatures::all(),
-        file: None,
+pub fn read_options(rt: &HostRuntime) -> Result<Options, Misuse> {
+    let mut words = Words {
+        alloc: rt.alloc(),
+        options: default_options(rt.alloc()),
         awaits_list: false,
+        is_behind_options: false,
     };
-    let mut words = env::args(rt)?;
-    let _program = words.next();
-    for word in words {
-        options.take(word);
+    let mut args = env::args(rt)?;
+    let _program = args.next();
+    for word in args {
+        words.take(word)?;
     }
-    if options.awaits_list {
-        options.wish = Wish::Unknown;
-    }
-    Ok(options)
+    words.end()
 }

@@ -109,10 +109,12 @@ def fill(text, row):
 
 
 def bad_lines(head, lines):
-    """Yields the scripts that each of these lines makes behind these first ones, before an `end`."""
+    """Yields the scripts that each of these lines makes behind these first ones, before an `end`. What is said of one ends
+    in a colon where any reason may follow."""
     first = [Line(line) for line in lines_of(head)]
-    for line in filter(None, lines_of(lines)):
-        yield Script((*first, Line(line), Line("end")), f"bad script: line {len(first) + 1}")
+    for line in map(parts_of, filter(None, lines_of(lines))):
+        said = f"bad script: line {len(first) + 1}: {line.answer}".rstrip()
+        yield Script((*first, Line(line.written), Line("end")), said)
 
 
 class Section(NamedTuple):

@@ -1,5 +1,5 @@
 -- The statuses of the program (the crate's own).
-use Rattle.std.specs.Prelude.{ℕ, Bool, true, false, Result, Ok, Err}
+use Rattle.std.specs.Prelude.{◌≡◌, ℕ, Bool, true, false, Result, Ok, Err, ⊤}
 use Rattle.script_parts.specs.declared.failure.ScriptError.{ScriptError}
 use Rattle.script_parts.specs.declared.failure.ScriptError.TheVariants.{BadLine, OutOfMemory as NoMemory}
 use Rattle.opcheck_script.specs.declared.failure.BadScript.TheVariants.{Line}
@@ -23,7 +23,10 @@ verdict_of (Ok true) = Accepted
 verdict_of (Ok false) = Open
 verdict_of (Err refusal) = Refused
 
--- why a run ends whose script isn't read
-abbrev pub failure_of : ScriptError → Failure
-failure_of (BadLine number) = BadScript (Line number)
-failure_of NoMemory = OutOfMemory
+-- Why a run ends whose script isn't read: for the line that the reader names, or for want of memory, which the
+-- explanation of the line may meet too.
+abbrev pub IsFailureOf : ScriptError → Failure → Type 0
+IsFailureOf (BadLine number) (BadScript (Line named reason)) = named ≡ number
+IsFailureOf (BadLine number) OutOfMemory = ⊤
+IsFailureOf NoMemory OutOfMemory = ⊤
+IsFailureOf _ _ = ⊥

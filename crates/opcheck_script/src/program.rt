@@ -2,6 +2,7 @@
 
 ghost use Rattle.std.specs.Prelude.{◌≤◌, IfSome, IsErr};
 ghost use Rattle.std.specs.Str.{IsUtf8};
+ghost use Rattle.opcheck_script.specs.Status.{IsFailureOf};
 
 use crate::failure::{BadScript, Failure};
 use crate::input::read_input;
@@ -9,7 +10,7 @@ use crate::print::{print_failure, print_report};
 use crate::report::Report;
 use crate::script::check_script;
 use crate::verdict::{Verdict, status_of};
-use script_reader::read_script;
+use script_reader::{ScriptError, explain, read_script};
 use std::alloc::Global;
 use std::io::{BufWriter, Read, Write};
 use std::str;
@@ -60,8 +61,24 @@ fn check_input<R: Read>(alloc: Global, reader: &mut R) -> Result<Report, Failure
         return Err(Failure::BadScript(BadScript::Input));
     };
     let mut listed = Vec::new(alloc);
-    let script = read_script(alloc, &mut listed, text)?;
+    let script = read_script(alloc, &mut listed, text).map_err(|error| why_unread(
+        alloc, text, error,
+    ))?;
     // The check needs no text.
     drop(input);
     check_script(alloc, script)
+}
+
+/// Why a run ends whose text isn't read: a bad line is explained, which may want memory in its turn.
+#[inline(never)]
+fn why_unread(alloc: Global, text: &str, error: ScriptError) -> Failure
+    ensures { IsFailureOf error result }
+{
+    match error {
+        ScriptError::BadLine(number) => match explain(alloc, text, number) {
+            Ok(reason) => Failure::BadScript(BadScript::Line(number, reason)),
+            Err(_) => Failure::OutOfMemory,
+        },
+        ScriptError::OutOfMemory => Failure::OutOfMemory,
+    }
 }

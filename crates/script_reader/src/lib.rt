@@ -11,10 +11,13 @@ mod memory;
 mod numeric;
 mod operators;
 mod plain;
+mod reasons;
 mod script;
 mod shared;
+mod types;
 
 pub use crate::operators::read_operator;
+pub use crate::reasons::{Reason, explain};
 pub use crate::script::read_script;
 pub use script_parts::{
     BodyLine, LineError, ListedOperator, OperatorList, Operators, Script, ScriptError,

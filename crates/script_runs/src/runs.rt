@@ -10,7 +10,7 @@ use std::alloc::{AllocError, Global};
 pub struct Outcome<'a> {
     /// What it prints.
     pub out: &'a str,
-    /// What it says on the error output.
+    /// What it says on the error output, or, where this is no whole line, the beginning of that.
     pub err: &'a str,
     pub status: u8,
 }
@@ -31,6 +31,14 @@ pub enum Way {
     Places,
 }
 
+/// What is to be compared of what is said: so much as is wanted, where this is no whole line, and else all.
+fn beginning<'a>(said: &'a [u8], wanted: &str) -> &'a [u8] {
+    if wanted.ends_with(':') {
+        return said.get(..wanted.len()).unwrap_or(said);
+    }
+    said
+}
+
 /// Compares both outputs and the status.
 fn compare_outcome(
     report: &mut Report,
@@ -39,7 +47,7 @@ fn compare_outcome(
     wanted: Outcome<'_>,
 ) -> Result<(), AllocError> {
     report.compare_output(script, "prints", printed, wanted.out)?;
-    report.compare_output(script, "says", said, wanted.err)?;
+    report.compare_output(script, "says", beginning(said, wanted.err), wanted.err)?;
     report.compare_number(script, "ends with", status as usize, wanted.status as usize)
 }
 

@@ -44,9 +44,10 @@ impl<'a> Case<'a> {
         add_line(&mut self.printed, answer)
     }
 
-    /// Runs the script, which is bad, and says this.
+    /// Runs the script, which is bad, and says this: a whole line, or what one begins with, up to a colon.
     fn run_bad(&self, alloc: Global, report: &mut Report, cause: &str) -> Result<(), AllocError> {
-        let said = format!(in alloc; "{cause}\n")?;
+        let end = if cause.ends_with(':') { "" } else { "\n" };
+        let said = format!(in alloc; "{cause}{end}")?;
         let wanted = Outcome {
             out: &self.printed,
             err: &said,
@@ -187,8 +188,8 @@ fn run_bad_line(
     run_script(alloc, report, &script, wanted)
 }
 
-/// Runs each of these lines behind these first lines and before an `end`: it is a bad line. Blank lines stand
-/// for nothing.
+/// Runs each of these lines behind these first lines and before an `end`: it is a bad line, for the reason behind its
+/// `=>`, or, where it has none, for any. Blank lines stand for nothing.
 pub fn run_bad_lines(
     alloc: Global,
     report: &mut Report,
@@ -196,11 +197,20 @@ pub fn run_bad_lines(
     lines: &str,
 ) -> Result<(), AllocError> {
     let number = head.lines().count().saturating_add(1);
-    let said = format!(in alloc; "bad script: line {number}\n")?;
     for line in lines.lines() {
         if !line.is_empty() {
-            run_bad_line(alloc, report, head, line, &said)?;
+            let (written, reason) = parts_of(line);
+            let said = said_of_bad_line(alloc, number, reason)?;
+            run_bad_line(alloc, report, head, written, &said)?;
         }
     }
     Ok(())
+}
+
+/// What is said of the bad line of this number: the whole, where the reason is given, and else its beginning.
+fn said_of_bad_line(alloc: Global, number: usize, reason: &str) -> Result<String, AllocError> {
+    if reason.is_empty() {
+        return format!(in alloc; "bad script: line {number}:");
+    }
+    format!(in alloc; "bad script: line {number}: {reason}\n")
 }

@@ -19,13 +19,13 @@ use Rattle.validate_visit.specs.declared.op.Op.{Op}
 use Rattle.validate_visit.specs.declared.op.Op.TheVariants.{Atomic}
 use Rattle.validate_visit.specs.declared.shared.FieldAccess.{FieldAccess}
 use Rattle.validate_visit.specs.declared.shared.FieldAccess.TheVariants.{Whole as WholeField, GetPacked}
-use Rattle.validate_visit.specs.declared.shared.GlobalAccess.{GlobalAccess}
-use Rattle.validate_visit.specs.declared.shared.GlobalAccess.TheVariants.{Value, Rmw}
+use Rattle.validate_visit.specs.declared.shared.Update.{Update}
+use Rattle.validate_visit.specs.declared.shared.Update.TheVariants.{Value, Rmw}
 use Rattle.validate_visit.specs.declared.shared.SharedRmwOp.TheVariants.{Add as AddS, Sub as SubS}
 use Rattle.validate_visit.specs.declared.shared.SharedRmwOp.TheVariants.{And as AndS}
 use Rattle.validate_visit.specs.declared.shared.SharedRmwOp.TheVariants.{Or as OrS, Xor as XorS}
-use Rattle.validate_visit.specs.declared.shared.TableAccess.{TableAccess}
-use Rattle.validate_visit.specs.declared.shared.TableAccess.TheVariants.{Get, Set, Xchg as XchgS, Cmpxchg}
+use Rattle.validate_visit.specs.declared.shared.Exchange.{Exchange}
+use Rattle.validate_visit.specs.declared.shared.Exchange.TheVariants.{Get, Set, Xchg as XchgS, Cmpxchg}
 
 -- what is done with a memory, from code 0xfe10 on: seven codes for each
 abbrev pub atomic_families : List (ℕ × (AtomicAccess → MemArg → AtomicOp))
@@ -48,13 +48,13 @@ atomic_at place m = do
   Some (Atomic (family access.0 (natural access.1 m)))
 
 -- what is done with a global, from code 0xfe4f on
-unfoldable pub global_accesses : List GlobalAccess
+unfoldable pub global_accesses : List Update
 global_accesses =
     Value Get ∷ Value Set ∷ Rmw AddS ∷ Rmw SubS ∷ Rmw AndS ∷ Rmw OrS ∷ Rmw XorS
     ∷ Value XchgS ∷ Value Cmpxchg ∷ []
 
 -- what is done with an element of a table, from code 0xfe58 on
-unfoldable pub table_accesses : List TableAccess
+unfoldable pub table_accesses : List Exchange
 table_accesses = Get ∷ Set ∷ XchgS ∷ Cmpxchg ∷ []
 
 -- what is done with a field, from code 0xfe5c on, and with a place of an array, from code 0xfe67 on

@@ -11,8 +11,8 @@ use crate::error::{Fault, ReadError};
 use crate::forms::item;
 use crate::reader::BinaryReader;
 use validate_visit::{
-    AtomicAccess, AtomicOp, AtomicRmwOp, FieldAccess, GlobalAccess, IntegerType, MemArg, Op,
-    Ordering, PackedInteger, SharedRmwOp, Sign, TableAccess,
+    AtomicAccess, AtomicOp, AtomicRmwOp, Exchange, FieldAccess, IntegerType, MemArg, Op, Ordering,
+    PackedInteger, SharedRmwOp, Sign, Update,
 };
 
 /// What is accessed in a memory, by the order of the codes, and its natural alignment.
@@ -27,39 +27,39 @@ static ACCESSED: [(AtomicAccess, u8); 7] = [
 ];
 
 /// What is done with a table's element, by the order of the codes.
-static TABLE_ACCESSES: [TableAccess; 4] = [
-    TableAccess::Get,
-    TableAccess::Set,
-    TableAccess::Xchg,
-    TableAccess::Cmpxchg,
+static TABLE_ACCESSES: [Exchange; 4] = [
+    Exchange::Get,
+    Exchange::Set,
+    Exchange::Xchg,
+    Exchange::Cmpxchg,
 ];
 
 /// What is done with a global, by the order of the codes.
-static GLOBAL_ACCESSES: [GlobalAccess; 9] = [
-    GlobalAccess::Value(TableAccess::Get),
-    GlobalAccess::Value(TableAccess::Set),
-    GlobalAccess::Rmw(SharedRmwOp::Add),
-    GlobalAccess::Rmw(SharedRmwOp::Sub),
-    GlobalAccess::Rmw(SharedRmwOp::And),
-    GlobalAccess::Rmw(SharedRmwOp::Or),
-    GlobalAccess::Rmw(SharedRmwOp::Xor),
-    GlobalAccess::Value(TableAccess::Xchg),
-    GlobalAccess::Value(TableAccess::Cmpxchg),
+static GLOBAL_ACCESSES: [Update; 9] = [
+    Update::Value(Exchange::Get),
+    Update::Value(Exchange::Set),
+    Update::Rmw(SharedRmwOp::Add),
+    Update::Rmw(SharedRmwOp::Sub),
+    Update::Rmw(SharedRmwOp::And),
+    Update::Rmw(SharedRmwOp::Or),
+    Update::Rmw(SharedRmwOp::Xor),
+    Update::Value(Exchange::Xchg),
+    Update::Value(Exchange::Cmpxchg),
 ];
 
 /// What is done with a field or with a place of an array, by the order of the codes.
 static FIELD_ACCESSES: [FieldAccess; 11] = [
-    FieldAccess::Whole(GlobalAccess::Value(TableAccess::Get)),
+    FieldAccess::Whole(Update::Value(Exchange::Get)),
     FieldAccess::GetPacked(Sign::Signed),
     FieldAccess::GetPacked(Sign::Unsigned),
-    FieldAccess::Whole(GlobalAccess::Value(TableAccess::Set)),
-    FieldAccess::Whole(GlobalAccess::Rmw(SharedRmwOp::Add)),
-    FieldAccess::Whole(GlobalAccess::Rmw(SharedRmwOp::Sub)),
-    FieldAccess::Whole(GlobalAccess::Rmw(SharedRmwOp::And)),
-    FieldAccess::Whole(GlobalAccess::Rmw(SharedRmwOp::Or)),
-    FieldAccess::Whole(GlobalAccess::Rmw(SharedRmwOp::Xor)),
-    FieldAccess::Whole(GlobalAccess::Value(TableAccess::Xchg)),
-    FieldAccess::Whole(GlobalAccess::Value(TableAccess::Cmpxchg)),
+    FieldAccess::Whole(Update::Value(Exchange::Set)),
+    FieldAccess::Whole(Update::Rmw(SharedRmwOp::Add)),
+    FieldAccess::Whole(Update::Rmw(SharedRmwOp::Sub)),
+    FieldAccess::Whole(Update::Rmw(SharedRmwOp::And)),
+    FieldAccess::Whole(Update::Rmw(SharedRmwOp::Or)),
+    FieldAccess::Whole(Update::Rmw(SharedRmwOp::Xor)),
+    FieldAccess::Whole(Update::Value(Exchange::Xchg)),
+    FieldAccess::Whole(Update::Value(Exchange::Cmpxchg)),
 ];
 
 /// The operator that accesses this place, whose code is so many above 0xfe10.
@@ -86,7 +86,7 @@ pub(crate) fn atomic_op<'l>(place: u32, m: MemArg) -> Option<Op<'l>>
 
 /// What the operator of this code does with a global.
 #[tactic(auto, unfolding(crate::specs::Atomics::global_accesses))]
-pub(crate) fn global_access(code: u32) -> Option<GlobalAccess>
+pub(crate) fn global_access(code: u32) -> Option<Update>
     ensures { result ≡ from 0xfe4f global_accesses code }
 {
     item(&GLOBAL_ACCESSES, 0xfe4f, code)
@@ -94,7 +94,7 @@ pub(crate) fn global_access(code: u32) -> Option<GlobalAccess>
 
 /// What the operator of this code does with an element of a table.
 #[tactic(auto, unfolding(crate::specs::Atomics::table_accesses))]
-pub(crate) fn table_access(code: u32) -> Option<TableAccess>
+pub(crate) fn table_access(code: u32) -> Option<Exchange>
     ensures { result ≡ from 0xfe58 table_accesses code }
 {
     item(&TABLE_ACCESSES, 0xfe58, code)

@@ -4,9 +4,9 @@
 
 use validate_visit::{
     ArrayOp, AtomicAccess, AtomicOp, Catch, ContinuationOp, ControlOp, ConvertOp, ExceptionOp,
-    FieldAccess, FieldIndex, GlobalAccess, Handle, IntegerBinaryOp, IntegerComparisonOp, MemArg,
-    MemArgTarget, MemoryOp, NumericOp, Op, Ordering, ReferenceOp, SharedOp, StructOp, TableAccess,
-    TableOp,
+    Exchange, FieldAccess, FieldIndex, Handle, IntegerBinaryOp, IntegerComparisonOp, MemArg,
+    MemArgTarget, MemoryOp, NumericOp, Op, Ordering, ReferenceOp, SharedOp, StructOp, TableOp,
+    Update,
 };
 
 /// A code, and numbers behind it.
@@ -353,20 +353,20 @@ fn continuation(op: ContinuationOp<'_>) -> Code {
 }
 
 /// Where an access to a global stands among those.
-fn global_access(access: GlobalAccess) -> u32 {
+fn global_access(access: Update) -> u32 {
     match access {
-        GlobalAccess::Value(TableAccess::Get) => 0,
-        GlobalAccess::Value(TableAccess::Set) => 1,
-        GlobalAccess::Rmw(op) => place(2, 0, 0, op as u32),
-        GlobalAccess::Value(TableAccess::Xchg) => 7,
-        GlobalAccess::Value(TableAccess::Cmpxchg) => 8,
+        Update::Value(Exchange::Get) => 0,
+        Update::Value(Exchange::Set) => 1,
+        Update::Rmw(op) => place(2, 0, 0, op as u32),
+        Update::Value(Exchange::Xchg) => 7,
+        Update::Value(Exchange::Cmpxchg) => 8,
     }
 }
 
 /// Where an access to a field or a place stands among those: `get_s` and `get_u` come behind `get`.
 fn field_access(access: FieldAccess) -> u32 {
     match access {
-        FieldAccess::Whole(GlobalAccess::Value(TableAccess::Get)) => 0,
+        FieldAccess::Whole(Update::Value(Exchange::Get)) => 0,
         FieldAccess::GetPacked(sign) => place(1, 0, 0, sign as u32),
         FieldAccess::Whole(access) => global_access(access).saturating_add(2),
     }

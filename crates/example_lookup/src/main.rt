@@ -10,7 +10,7 @@ use std::process::ExitCode;
 use wasmparser_validate::operators::{OperatorValidator, OperatorValidatorAllocations, check_ops};
 use wasmparser_validate::resources::{ModuleDeclarations, ModuleLists, WasmModuleResources};
 use wasmparser_validate::types::{Error, Flags, FuncType, SubType, ValType, WasmFeatures};
-use wasmparser_validate::visit::{ControlOp, Op, have_module_immediates, is_well_ordered};
+use wasmparser_validate::visit::{ControlOp, Op, all_have_module_immediates, is_well_ordered};
 
 /// An instance of a module that declares the type `[] -> [i32]`, with a variable that holds an i32 and one that
 /// holds an i64. None where memory is wanting.
@@ -34,7 +34,7 @@ fn check_list<R: WasmModuleResources>(
     resources: &R,
     ops: &[(Op<'_>, u64)],
 ) -> Result<bool, Error> {
-    if !is_well_ordered(ops) || !have_module_immediates(ops) {
+    if !is_well_ordered(ops) || !all_have_module_immediates(ops) {
         return Err(Error::new("no body has these operators", 0));
     }
     let buffers = OperatorValidatorAllocations::new(alloc);

@@ -13,6 +13,8 @@ mod lookups;
 #[cfg(test)]
 mod module;
 #[cfg(test)]
+mod reasons;
+#[cfg(test)]
 mod refused;
 #[cfg(test)]
 mod sides;

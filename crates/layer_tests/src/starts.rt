@@ -19,7 +19,8 @@ use validate_resources::{ModuleLists, WasmModuleResources};
 use validate_stacks::OperatorValidatorAllocations;
 use validate_types::{Error, ValType, WasmFeatures};
 use validate_visit::{
-    BlockType, ControlOp, Frame, FrameKind, NumericOp, Op, have_module_immediates, is_well_ordered,
+    BlockType, ControlOp, Frame, FrameKind, NumericOp, Op, all_have_module_immediates,
+    is_well_ordered,
 };
 
 /// A module with the type of a body that takes nothing and gives nothing.
@@ -202,7 +203,7 @@ fn accepted_heights<R: WasmModuleResources>(
 {
     let mut heights = Vec::new(rt.alloc());
     expect(rt, is_well_ordered(ops));
-    expect(rt, have_module_immediates(ops));
+    expect(rt, all_have_module_immediates(ops));
     let closed = check_any(v, ops, lists, &mut heights);
     expect(rt, closed.is_ok_and(|closed| closed));
     heights

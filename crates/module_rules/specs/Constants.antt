@@ -26,11 +26,11 @@ use Rattle.validate_visit.specs.declared.op.ReferenceOp.TheVariants.{AnyConvertE
 use Rattle.validate_visit.specs.declared.op.StructOp.{StructOp}
 use Rattle.validate_visit.specs.declared.op.StructOp.TheVariants.{StructNew, StructNewDefault}
 use Rattle.validate_visit.specs.declared.op.StructOp.TheVariants.{StructNewDesc, StructNewDefaultDesc}
-use Rattle.validate_visit.specs.declared.shared.GlobalAccess.{GlobalAccess}
-use Rattle.validate_visit.specs.declared.shared.GlobalAccess.TheVariants.{Value}
+use Rattle.validate_visit.specs.declared.shared.Update.{Update}
+use Rattle.validate_visit.specs.declared.shared.Update.TheVariants.{Value}
 use Rattle.validate_visit.specs.declared.shared.SharedOp.{SharedOp}
 use Rattle.validate_visit.specs.declared.shared.SharedOp.TheVariants.{Global as GlobalAtomic, RefI31Shared}
-use Rattle.validate_visit.specs.declared.shared.TableAccess.TheVariants.{Get}
+use Rattle.validate_visit.specs.declared.shared.Exchange.TheVariants.{Get}
 use Rattle.module_rules.specs.Declarations.{Declarations}
 use Rattle.module_rules.specs.Features.{is_on, gc, extended_const}
 use Rattle.module_rules.specs.Segments.{item_type}
@@ -95,7 +95,7 @@ is_constant_array (ArrayNewFixed i size) = true
 is_constant_array _ = false
 
 -- (a proposal, "Shared-Everything Threads")
-abbrev pub is_read : GlobalAccess → Bool
+abbrev pub is_read : Update → Bool
 is_read (Value Get) = true
 is_read _ = false
 

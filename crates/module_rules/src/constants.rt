@@ -12,8 +12,8 @@ use crate::segments::{DataKind, ElementKind};
 use std::alloc::Global;
 use validate_types::{Error, ValType};
 use validate_visit::{
-    ArrayOp, ControlOp, GlobalAccess, IntegerBinaryOp, NumericOp, Op, ReferenceOp, SharedOp,
-    StructOp, TableAccess,
+    ArrayOp, ControlOp, Exchange, IntegerBinaryOp, NumericOp, Op, ReferenceOp, SharedOp, StructOp,
+    Update,
 };
 
 /// Whether an operator on two integers is constant.
@@ -80,10 +80,10 @@ fn is_constant_array(op: ArrayOp) -> bool
 }
 
 /// Whether it reads a global, and no more.
-fn is_read(access: GlobalAccess) -> bool
+fn is_read(access: Update) -> bool
     ensures { result ≡ is_read access }
 {
-    matches!(&access, GlobalAccess::Value(TableAccess::Get))
+    matches!(&access, Update::Value(Exchange::Get))
 }
 
 /// Whether a global is one of the first so many that can't be written, and is imported where collected types

@@ -19,7 +19,7 @@ use validate_body::{OperatorValidator, begin_body, check_ops, try_op};
 use validate_resources::{ModuleLists, WasmModuleResources};
 use validate_stacks::OperatorValidatorAllocations;
 use validate_types::WasmFeatures;
-use validate_visit::{LocalGroup, Op, have_module_immediates, is_well_ordered};
+use validate_visit::{LocalGroup, Op, all_have_module_immediates, is_well_ordered};
 
 /// A body, in its module.
 #[derive(Clone, Copy)]
@@ -68,7 +68,7 @@ pub fn best_time(
     subject: Subject<'_>,
     runs: u32,
 ) -> Result<u128, Failure> {
-    if !is_well_ordered(subject.ops) || !have_module_immediates(subject.ops) {
+    if !is_well_ordered(subject.ops) || !all_have_module_immediates(subject.ops) {
         return Err(Failure::Script);
     }
     let mut heights = Vec::new(subject.alloc);

@@ -2,7 +2,7 @@
 use Rattle.std.proofs.Common.{◌≡◌, ◌≢◌, ◌<◌, drop, ℕ, zero, suc, Bool, true, false, not, ◌&&◌, ◌||◌, List, [], ◌∷◌, ◌++◌, map, length, slice_get, Some, None, Result, Ok, Err, IfOk, IfErr, refl, sym, ap, ◌∙◌, subst, arith}
 use Rattle.std.specs.Option.{option_and_then}
 use Rattle.std.specs.Result.{is_ok, OnOk}
-use Rattle.validate_types.specs.Refusal.{Refusal}
+use Rattle.validate_types.specs.ErrorValue.{ErrorValue}
 use Rattle.validate_visit.specs.Order.{Nesting, nesting, Stays, may_stand, parts_after, is_ordered_from}
 use Rattle.validate_visit.specs.declared.op.Op.{Op}
 use Rattle.validation_rules.specs.Context.{Context}
@@ -120,10 +120,10 @@ attempted_flat (q ∷ ops) (c ∷ bs) (suc i) p b h g k e = attempted_flat ops b
 -- ---- the end
 
 -- the run ends at a place
-pub ends_at : (cx : Context) (ops : List (Op × ℕ)) (bs : List Bool) (rs : List Answer) (i : ℕ) (p : Op × ℕ) (b : Bool) (e : Refusal) (s : State) → length rs ≡ i → slice_get ops i ≡ Some p → slice_get bs i ≡ Some b → EndsRun cx p b e s → RunEnds cx (record { ops = ops; attempts = bs }) rs s (Err e)
+pub ends_at : (cx : Context) (ops : List (Op × ℕ)) (bs : List Bool) (rs : List Answer) (i : ℕ) (p : Op × ℕ) (b : Bool) (e : ErrorValue) (s : State) → length rs ≡ i → slice_get ops i ≡ Some p → slice_get bs i ≡ Some b → EndsRun cx p b e s → RunEnds cx (record { ops = ops; attempts = bs }) rs s (Err e)
 ends_at cx ops bs rs i p b e s n g k x = (p, b, ap (slice_get ops) n ∙ g, ap (slice_get bs) n ∙ k, x)
 
-pub short_of_memory : (cx : Context) (p : Op × ℕ) (b : Bool) (e : Refusal) (s : State) → e.offset ≡ p.1 → e.wants_memory ≡ true → EndsRun cx p b e s
+pub short_of_memory : (cx : Context) (p : Op × ℕ) (b : Bool) (e : ErrorValue) (s : State) → e.offset ≡ p.1 → e.wants_memory ≡ true → EndsRun cx p b e s
 short_of_memory cx p b e s o m =
     let never : (X : Type 0) → e.wants_memory ≡ false → X = λ X f. (let clash : true ≡ false = sym m ∙ f in absurd cc) in
     record { at_offset = o; is_plain = never (b ≡ false); row = never (step cx (operator cx p.0) s ≡ None) }

@@ -4,7 +4,7 @@ use Rattle.std.specs.Prelude.{Result, Ok, Err, length, slice_get}
 use Rattle.std.specs.Option.{option_map}
 use Rattle.std.specs.Global.{Vec}
 use Rattle.validate_types.specs.declared.types.ValType.{ValType}
-use Rattle.validate_types.specs.Refusal.{Refusal}
+use Rattle.validate_types.specs.ErrorValue.{ErrorValue}
 use Rattle.validate_resources.specs.Context.{ModuleContext}
 use Rattle.validate_visit.specs.declared.op.Op.{Op}
 use Rattle.validation_rules.specs.Context.{Context}
@@ -33,7 +33,7 @@ pub record IsThere (shows : Bool) (after : After) (s : State) : Type 0 where
 
 -- what is answered at one operator: what is there after it, or the refusal of an attempt
 abbrev pub Answer : Type 0
-Answer = Result After Refusal
+Answer = Result After ErrorValue
 
 -- The answer at an operator, from the state s to the state t: its row holds, and that is there after it; or
 -- it was attempted, its row doesn't hold, and it left no trace.
@@ -63,14 +63,14 @@ accepted_of _ _ = []
 
 -- why the run ends at an operator, in the state s: no memory, or it isn't attempted and its row doesn't hold
 pub record EndsRun
-    (cx : Context) (p : Op × ℕ) (attempted : Bool) (refusal : Refusal) (s : State) : Type 0 where
+    (cx : Context) (p : Op × ℕ) (attempted : Bool) (refusal : ErrorValue) (s : State) : Type 0 where
   pub at_offset : refusal.offset ≡ p.1
   pub is_plain : refusal.wants_memory ≡ false → attempted ≡ false
   pub row : refusal.wants_memory ≡ false → step cx (operator cx p.0) s ≡ None
 
 -- How the run ends: with an answer at each operator, and then whether the outermost frame is closed; or
 -- with a refusal at the next one.
-abbrev pub RunEnds : Context → Attempted → List Answer → State → Result Bool Refusal → Type 0
+abbrev pub RunEnds : Context → Attempted → List Answer → State → Result Bool ErrorValue → Type 0
 RunEnds cx body answers s (Ok closed) =
     (length answers ≡ length body.ops) × (IsTrue closed ↔ (s.frames ≡ []))
 RunEnds cx body answers s (Err refusal) =
@@ -81,7 +81,7 @@ RunEnds cx body answers s (Err refusal) =
 -- operators alone.
 pub record RunsEach
     (md : ModuleContext) (v : BodyState) (shows : Bool) (body : Attempted) (answers : List Answer)
-    (outcome : Result Bool Refusal) : Type 0 where
+    (outcome : Result Bool ErrorValue) : Type 0 where
   pub last : State
   pub answered : AreAnswers (body_context md v) shows v.present body.ops body.attempts answers last
   pub rows :

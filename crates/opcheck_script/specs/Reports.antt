@@ -2,7 +2,7 @@
 use Rattle.std.specs.Prelude.{◌≡◌, ◌⊎◌, ◌↔◌, ℕ, Bool, true, false, IsTrue, List, [], Some, Result, Ok, Err}
 use Rattle.std.specs.Prelude.{length, ◌&&◌, ◌||◌, None, IsSome, IfSome, OnOk, IfOk, IfErr}
 use Rattle.std.specs.List.{list_all, list_any}
-use Rattle.validate_types.specs.Refusal.{Refusal}
+use Rattle.validate_types.specs.ErrorValue.{ErrorValue}
 use Rattle.validate_types.specs.declared.features.WasmFeatures.{WasmFeatures}
 use Rattle.validate_resources.specs.Context.{ModuleContext}
 use Rattle.validate_resources.specs.Lists.{Declared, context_of, module_of}
@@ -34,7 +34,7 @@ may_be_body ops =
 -- rows hold; or the refusal of the first operator whose row doesn't. The heights are those after each
 -- operator before that.
 abbrev pub RunsThrough :
-    ModuleContext → BodyState → List (Op × ℕ) → List (ℕ × ℕ) → Result Bool Refusal → Type 0
+    ModuleContext → BodyState → List (Op × ℕ) → List (ℕ × ℕ) → Result Bool ErrorValue → Type 0
 RunsThrough md v ops heights (Ok closed) =
     (s : State) × (body_before md v ops (length ops) ≡ Some s) × (IsTrue closed ↔ (s.frames ≡ []))
     × AreHeightsAfter md v ops (length ops) heights
@@ -49,7 +49,7 @@ abbrev pub is_run_each : Bool → Attempted → Bool
 is_run_each shows body = shows || list_any is_attempted body.attempts
 
 -- what the run of the operators from this state answers
-abbrev pub Runs : ModuleContext → BodyState → Bool → Attempted → Answers → Result Bool Refusal → Type 0
+abbrev pub Runs : ModuleContext → BodyState → Bool → Attempted → Answers → Result Bool ErrorValue → Type 0
 Runs md v shows body (Heights heights) outcome =
     (is_run_each shows body ≡ false) × RunsThrough md v body.ops heights.items outcome
 Runs md v shows body (Each answers) outcome =
@@ -98,7 +98,7 @@ HasNone (Each answers) = answers.items ≡ []
 
 -- the body is refused before its operators
 pub record IsRefusedBefore (md : ModuleContext) (body : ScriptBody) (report : Report) : Type 0 where
-  pub refusal : Refusal
+  pub refusal : ErrorValue
   pub is_outcome : report.outcome ≡ Err refusal
   pub cause :
       refusal.wants_memory ≡ false →

@@ -20,7 +20,7 @@ use validate_body::begin_body;
 use validate_resources::{ModuleDeclarations, ModuleLists};
 use validate_stacks::OperatorValidatorAllocations;
 use validate_types::WasmFeatures;
-use validate_visit::{LocalGroup, Op, have_module_immediates, is_well_ordered};
+use validate_visit::{LocalGroup, Op, all_have_module_immediates, is_well_ordered};
 
 /// Checks a script: first its order, then its module, then its body.
 pub fn check_script(alloc: Global, script: Script<'_>) -> Result<Report, Failure>
@@ -88,7 +88,7 @@ fn check_operators(
 fn may_be_body(operators: &[(Op<'_>, u64)]) -> bool
     ensures { result ≡ may_be_body operators.now }
 {
-    is_well_ordered(operators) && have_module_immediates(operators)
+    is_well_ordered(operators) && all_have_module_immediates(operators)
 }
 
 /// The module of these declarations, in its canonical form.

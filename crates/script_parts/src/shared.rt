@@ -6,15 +6,15 @@ ghost use Rattle.script_parts.specs.Indices.{shared_indices};
 
 use crate::names::named_in;
 use crate::numbers::read_index;
-use validate_visit::{FieldAccess, FieldIndex, GlobalAccess, Ordering, SharedOp, TableAccess};
+use validate_visit::{Exchange, FieldAccess, FieldIndex, Ordering, SharedOp, Update};
 
 /// What such an operator does, and to what.
 #[derive(Clone, Copy)]
 pub enum SharedAccess {
     /// To a global.
-    Global(GlobalAccess),
+    Global(Update),
     /// To a place of a table.
-    Table(TableAccess),
+    Table(Exchange),
     /// To a field of a struct.
     Struct(FieldAccess),
     /// To an element of an array.

@@ -1,10 +1,11 @@
 //! Reading a whole script.
 
+use crate::failure::ScriptError;
 use crate::lines::{read_locals, read_module_line};
 use crate::operators::read_flat_operator;
+use crate::reasons::Reason;
 use script_parts::{
-    Draft, LineError, ListedOperator, Operators, Script, ScriptError, has_list, read_list,
-    read_words,
+    Draft, LineError, ListedOperator, Operators, Script, has_list, read_list, read_words,
 };
 use std::alloc::Global;
 use validate_visit::{ControlOp, Op};
@@ -23,11 +24,14 @@ pub fn read_script<'a>(
     for line in text.lines() {
         if !line.starts_with('#') {
             read_words(&mut words, line).map_err(|_| ScriptError::OutOfMemory)?;
-            add_words(alloc, listed, &mut draft, &words, number).map_err(|error| error.at(number))?;
+            add_words(alloc, listed, &mut draft, &words, number).map_err(
+                |error| ScriptError::at_line(error, number, &words),
+            )?;
         }
         number = number.saturating_add(1);
     }
-    let mut script = draft.finish().ok_or(ScriptError::BadLine(number))?;
+    let no_body = ScriptError::BadLine(number, Reason::NoBody);
+    let mut script = draft.finish().ok_or(no_body)?;
     lend(listed, &mut script.operators);
     Ok(script)
 }

@@ -1,15 +1,15 @@
 //! Atomic operators on globals, tables, structs and arrays by their names.
 
 use script_parts::{SharedAccess, named_in};
+use validate_visit::Exchange::{Cmpxchg, Get, Set, Xchg};
 use validate_visit::FieldAccess::{GetPacked, Whole};
-use validate_visit::GlobalAccess::{Rmw, Value};
 use validate_visit::SharedRmwOp::{Add, And, Or, Sub, Xor};
 use validate_visit::Sign::{Signed, Unsigned};
-use validate_visit::TableAccess::{Cmpxchg, Get, Set, Xchg};
-use validate_visit::{FieldAccess, GlobalAccess, TableAccess};
+use validate_visit::Update::{Rmw, Value};
+use validate_visit::{Exchange, FieldAccess, Update};
 
 /// The accesses to globals.
-const GLOBAL_ACCESSES: &[(&str, GlobalAccess)] = &[
+const GLOBAL_ACCESSES: &[(&str, Update)] = &[
     ("global.atomic.get", Value(Get)),
     ("global.atomic.set", Value(Set)),
     ("global.atomic.rmw.add", Rmw(Add)),
@@ -22,7 +22,7 @@ const GLOBAL_ACCESSES: &[(&str, GlobalAccess)] = &[
 ];
 
 /// The accesses to tables.
-const TABLE_ACCESSES: &[(&str, TableAccess)] = &[
+const TABLE_ACCESSES: &[(&str, Exchange)] = &[
     ("table.atomic.get", Get),
     ("table.atomic.set", Set),
     ("table.atomic.rmw.xchg", Xchg),

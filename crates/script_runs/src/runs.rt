@@ -1,13 +1,13 @@
 //! Runs of a script, and what they are to come to.
 
 use crate::bodies::{Lookup, Task, run_body};
-use crate::report::Report;
+use crate::tally::Tally;
 use opcheck_script::run;
 use std::alloc::{AllocError, Global};
 
 /// What a script comes to.
 #[derive(Clone, Copy)]
-pub struct Outcome<'a> {
+pub struct Output<'a> {
     /// What it prints.
     pub out: &'a str,
     /// What it says on the error output.
@@ -32,46 +32,46 @@ pub enum Way {
 }
 
 /// Compares both outputs and the status.
-fn compare_outcome(
-    report: &mut Report,
+fn compare_outputs(
+    tally: &mut Tally,
     script: &str,
     (printed, said, status): (&[u8], &[u8], u8),
-    wanted: Outcome<'_>,
+    wanted: Output<'_>,
 ) -> Result<(), AllocError> {
-    report.compare_output(script, "prints", printed, wanted.out)?;
-    report.compare_output(script, "says", said, wanted.err)?;
-    report.compare_number(script, "ends with", status as usize, wanted.status as usize)
+    tally.compare_output(script, "prints", printed, wanted.out)?;
+    tally.compare_output(script, "says", said, wanted.err)?;
+    tally.compare_number(script, "ends with", status as usize, wanted.status as usize)
 }
 
 /// Runs a script, and compares both outputs and the status.
 fn compare_run(
     alloc: Global,
-    report: &mut Report,
+    tally: &mut Tally,
     script: &str,
-    wanted: Outcome<'_>,
+    wanted: Output<'_>,
 ) -> Result<(), AllocError> {
     let mut printed = Vec::new(alloc);
     let mut said = Vec::new(alloc);
     let status = run(alloc, script.as_bytes(), &mut printed, &mut said);
-    compare_outcome(report, script, (&printed, &said, status), wanted)
+    compare_outputs(tally, script, (&printed, &said, status), wanted)
 }
 
 /// Runs a script.
 pub fn run_script(
     alloc: Global,
-    report: &mut Report,
+    tally: &mut Tally,
     script: &str,
-    wanted: Outcome<'_>,
+    wanted: Output<'_>,
 ) -> Result<(), AllocError> {
-    report.count();
-    match report.way {
-        Way::Once => compare_run(alloc, report, script, wanted),
+    tally.count();
+    match tally.way {
+        Way::Once => compare_run(alloc, tally, script, wanted),
         Way::Checked => {
-            compare_run(alloc, report, script, wanted)?;
-            run_body(alloc, report, script, Lookup::Own, Task::Attempts)
+            compare_run(alloc, tally, script, wanted)?;
+            run_body(alloc, tally, script, Lookup::Own, Task::Attempts)
         }
-        Way::Paired => run_body(alloc, report, script, Lookup::Paired, Task::Printed),
-        Way::Shown => run_body(alloc, report, script, Lookup::Own, Task::Printed),
-        Way::Places => run_body(alloc, report, script, Lookup::Own, Task::Places),
+        Way::Paired => run_body(alloc, tally, script, Lookup::Paired, Task::Printed),
+        Way::Shown => run_body(alloc, tally, script, Lookup::Own, Task::Printed),
+        Way::Places => run_body(alloc, tally, script, Lookup::Own, Task::Places),
     }
 }

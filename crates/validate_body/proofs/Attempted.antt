@@ -3,7 +3,7 @@ use Rattle.std.proofs.Common.{◌≡◌, ℕ, Bool, true, false, Option, Some, N
 use Rattle.std.specs.Result.{is_ok, OnOk, OnErr, IfErr}
 use Rattle.std.specs.Option.{option_map}
 use Rattle.validate_resources.specs.Context.{ModuleContext}
-use Rattle.validate_types.specs.Refusal.{Refusal}
+use Rattle.validate_types.specs.ErrorValue.{ErrorValue}
 use Rattle.validation_rules.specs.Context.{Context}
 use Rattle.validation_rules.specs.Rows.{Operator}
 use Rattle.validation_rules.specs.Static.{State, step}
@@ -29,12 +29,12 @@ some_unpended v w None h = absurd cc
 some_unpended v w (Some s) h = refl
 
 -- whether the row holds, by what the visit within an attempt answers
-pub accepted_begun : (md : ModuleContext) (op : Context → Operator) (offset : ℕ) (v : Stacked) (w : BodyState) (r : Result (Unit {0}) Refusal) → Meets md op offset (stacks_begun v).body r w → OnOk r (IsSome (step_body md op v.body))
+pub accepted_begun : (md : ModuleContext) (op : Context → Operator) (offset : ℕ) (v : Stacked) (w : BodyState) (r : Result (Unit {0}) ErrorValue) → Meets md op offset (stacks_begun v).body r w → OnOk r (IsSome (step_body md op v.body))
 unfolding Meets
 accepted_begun md op offset v w (Ok x) m = some_unpended v w (step (body_context md v.body) (op (body_context md v.body)) v.body.present) m.accepted
 accepted_begun md op offset v w (Err e) m = tt
 
-pub refused_begun : (md : ModuleContext) (op : Context → Operator) (offset : ℕ) (v : Stacked) (w : BodyState) (r : Result (Unit {0}) Refusal) → Meets md op offset (stacks_begun v).body r w → IfErr r (λ e. e.wants_memory ≡ false → step_body md op v.body ≡ None)
+pub refused_begun : (md : ModuleContext) (op : Context → Operator) (offset : ℕ) (v : Stacked) (w : BodyState) (r : Result (Unit {0}) ErrorValue) → Meets md op offset (stacks_begun v).body r w → IfErr r (λ e. e.wants_memory ≡ false → step_body md op v.body ≡ None)
 unfolding Meets
 refused_begun md op offset v w (Ok x) m = tt
 refused_begun md op offset v w (Err e) m = λ f. unpended_none v (step (body_context md v.body) (op (body_context md v.body)) v.body.present) (m.refused f)
@@ -52,7 +52,7 @@ module _ (md : ModuleContext) (op : Context → Operator) (offset : ℕ) (v w : 
   }
 
   -- a refused one is taken back
-  pub meets_rolled_back : (e : Refusal) → IsValidBody md v.body → Meets md op offset (stacks_begun v).body (Err e) w.body → Meets md op offset v.body (Err e) (stacks_rolled_back w).body
+  pub meets_rolled_back : (e : ErrorValue) → IsValidBody md v.body → Meets md op offset (stacks_begun v).body (Err e) w.body → Meets md op offset v.body (Err e) (stacks_rolled_back w).body
   unfolding Meets
   meets_rolled_back e valid m =
       let same : (stacks_rolled_back w).body ≡ v.body = undone_whole v w idle m.kept in
@@ -65,10 +65,10 @@ module _ (md : ModuleContext) (op : Context → Operator) (offset : ℕ) (v w : 
       }
 
   -- what ends it is told by the answer
-  pub meets_ended : (x : Stacked) (r : Result (Unit {0}) Refusal) (b : Bool) → IsValidBody md v.body → Meets md op offset (stacks_begun v).body r w.body → b ≡ is_ok r → (b ≡ true → x ≡ stacks_committed w) → (b ≡ false → x ≡ stacks_rolled_back w) → Meets md op offset v.body r x.body
+  pub meets_ended : (x : Stacked) (r : Result (Unit {0}) ErrorValue) (b : Bool) → IsValidBody md v.body → Meets md op offset (stacks_begun v).body r w.body → b ≡ is_ok r → (b ≡ true → x ≡ stacks_committed w) → (b ≡ false → x ≡ stacks_rolled_back w) → Meets md op offset v.body r x.body
   meets_ended x (Ok u) b valid m e stays goes = subst (λ (y : Stacked). Meets md op offset v.body (Ok u) y.body) (sym (stays e)) (meets_committed u m)
   meets_ended x (Err f) b valid m e stays goes = subst (λ (y : Stacked). Meets md op offset v.body (Err f) y.body) (sym (goes e)) (meets_rolled_back f valid m)
 
-  pub back_ended : (x : Stacked) (r : Result (Unit {0}) Refusal) (b : Bool) → IsKept (stacks_begun v).body w.body → b ≡ is_ok r → (b ≡ false → x ≡ stacks_rolled_back w) → OnErr r (x.body ≡ v.body)
+  pub back_ended : (x : Stacked) (r : Result (Unit {0}) ErrorValue) (b : Bool) → IsKept (stacks_begun v).body w.body → b ≡ is_ok r → (b ≡ false → x ≡ stacks_rolled_back w) → OnErr r (x.body ≡ v.body)
   back_ended x (Ok u) b k e goes = tt
   back_ended x (Err f) b k e goes = ap body_of (goes e) ∙ undone_whole v w idle k

@@ -3,7 +3,7 @@ use Rattle.std.proofs.Common.{add-one, is_none, ◌||◌, ◌&&◌, ◌≡◌, �
 use Rattle.std.specs.Option.{option_map}
 use Rattle.std.proofs.lemmas.List.{drop_more}
 use Rattle.validate_resources.specs.Context.{ModuleContext, IsLawful}
-use Rattle.validate_types.specs.Refusal.{Refusal}
+use Rattle.validate_types.specs.ErrorValue.{ErrorValue}
 use Rattle.validate_visit.specs.Order.{nesting, is_if, is_try, may_catch, is_ordered_from, may_stand, parts_after}
 use Rattle.validate_visit.specs.declared.frame.BlockType.{BlockType}
 use Rattle.validate_visit.specs.declared.frame.FrameKind.{FrameKind}
@@ -79,32 +79,32 @@ pub visited : (md : ModuleContext) (op : Op) (offset : ℕ) (v w : BodyState) (u
 unfolding Meets
 visited md op offset v w u m = step_some v w (step (body_context md v) (operator (body_context md v) op) v.present) m.accepted
 
-pub not_visited : (md : ModuleContext) (op : Op) (offset : ℕ) (v w : BodyState) (e : Refusal) → Meets md (λ cx. operator cx op) offset v (Err e) w → e.wants_memory ≡ false → step (body_context md v) (operator (body_context md v) op) v.present ≡ None
+pub not_visited : (md : ModuleContext) (op : Op) (offset : ℕ) (v w : BodyState) (e : ErrorValue) → Meets md (λ cx. operator cx op) offset v (Err e) w → e.wants_memory ≡ false → step (body_context md v) (operator (body_context md v) op) v.present ≡ None
 unfolding Meets
 not_visited md op offset v w e m f = step_none v (step (body_context md v) (operator (body_context md v) op) v.present) (m.refused f)
 
-pub visit_offset : (md : ModuleContext) (op : Op) (offset : ℕ) (v w : BodyState) (e : Refusal) → Meets md (λ cx. operator cx op) offset v (Err e) w → e.offset ≡ offset
+pub visit_offset : (md : ModuleContext) (op : Op) (offset : ℕ) (v w : BodyState) (e : ErrorValue) → Meets md (λ cx. operator cx op) offset v (Err e) w → e.offset ≡ offset
 unfolding Meets
 visit_offset md op offset v w e m = m.at_offset
 
-pub visit_at : (md : ModuleContext) (op : Context → Operator) (offset : ℕ) (v w : BodyState) (r : Result (Unit {0}) Refusal) → Meets md op offset v r w → IfErr r (λ e. e.offset ≡ offset)
+pub visit_at : (md : ModuleContext) (op : Context → Operator) (offset : ℕ) (v w : BodyState) (r : Result (Unit {0}) ErrorValue) → Meets md op offset v r w → IfErr r (λ e. e.offset ≡ offset)
 unfolding Meets
 visit_at md op offset v w r m = m.at_offset
 
-pub visit_valid : (md : ModuleContext) (op : Context → Operator) (offset : ℕ) (v w : BodyState) (r : Result (Unit {0}) Refusal) → Meets md op offset v r w → IsValidBody md w
+pub visit_valid : (md : ModuleContext) (op : Context → Operator) (offset : ℕ) (v w : BodyState) (r : Result (Unit {0}) ErrorValue) → Meets md op offset v r w → IsValidBody md w
 unfolding Meets
 visit_valid md op offset v w r m = m.valid
 
-pub visit_kept : (md : ModuleContext) (op : Context → Operator) (offset : ℕ) (v w : BodyState) (r : Result (Unit {0}) Refusal) → Meets md op offset v r w → IsKept v w
+pub visit_kept : (md : ModuleContext) (op : Context → Operator) (offset : ℕ) (v w : BodyState) (r : Result (Unit {0}) ErrorValue) → Meets md op offset v r w → IsKept v w
 unfolding Meets
 visit_kept md op offset v w r m = m.kept
 
 -- where nothing passed at once, the check is of the state before
-pub row_before : (md : ModuleContext) (op : Context → Operator) (offset : ℕ) (v w : Stacked) (b : Bool) (r : Result (Unit {0}) Refusal) (u : BodyState) → MeetsAtOnce md op v b w → b ≡ false → Meets md op offset w.body r u → Meets md op offset v.body r u
+pub row_before : (md : ModuleContext) (op : Context → Operator) (offset : ℕ) (v w : Stacked) (b : Bool) (r : Result (Unit {0}) ErrorValue) (u : BodyState) → MeetsAtOnce md op v b w → b ≡ false → Meets md op offset w.body r u → Meets md op offset v.body r u
 row_before md op offset v w b r u m h row = subst (λ (x : Stacked). Meets md op offset x.body r u) (same_at_once md op v w b m h) row
 
 -- the state after it, by another name
-pub row_after : (md : ModuleContext) (op : Context → Operator) (offset : ℕ) (v u w : BodyState) (r : Result (Unit {0}) Refusal) → w ≡ u → Meets md op offset v r u → Meets md op offset v r w
+pub row_after : (md : ModuleContext) (op : Context → Operator) (offset : ℕ) (v u w : BodyState) (r : Result (Unit {0}) ErrorValue) → w ≡ u → Meets md op offset v r u → Meets md op offset v r w
 row_after md op offset v u w r e row = subst (Meets md op offset v r) (sym e) row
 
 -- ---- the operator at a place
@@ -136,7 +136,7 @@ module _ (md : ModuleContext) (v : BodyState) (ops : List (Op × ℕ)) (i : ℕ)
   row_there s r = before_then (body_context md v) (body_operators md v ops) v.present i (operator (body_context md v) (get_or ops i d).0) s r (code_at (body_context md v) ops i d h)
 
   -- no memory was found at it
-  pub refused_memory : (s : State) (e : Refusal) → body_before md v ops i ≡ Some s → e.offset ≡ (get_or ops i d).1 → e.wants_memory ≡ true → IsRefusedAt md v ops i e
+  pub refused_memory : (s : State) (e : ErrorValue) → body_before md v ops i ≡ Some s → e.offset ≡ (get_or ops i d).1 → e.wants_memory ≡ true → IsRefusedAt md v ops i e
   refused_memory s e r o m = record {
     operator = (get_or ops i d).0;
     at_offset = at_place ops i d h ∙ ap Some (pair_is (get_or ops i d) e.offset o);
@@ -146,7 +146,7 @@ module _ (md : ModuleContext) (v : BodyState) (ops : List (Op × ℕ)) (i : ℕ)
   }
 
   -- it was visited and refused
-  pub refused_row : (u w : BodyState) (e : Refusal) → IsKept v u → body_before md v ops i ≡ Some u.present → Meets md (λ cx. operator cx (get_or ops i d).0) (get_or ops i d).1 u (Err e) w → IsRefusedAt md v ops i e
+  pub refused_row : (u w : BodyState) (e : ErrorValue) → IsKept v u → body_before md v ops i ≡ Some u.present → Meets md (λ cx. operator cx (get_or ops i d).0) (get_or ops i d).1 u (Err e) w → IsRefusedAt md v ops i e
   refused_row u w e k r m = record {
     operator = (get_or ops i d).0;
     at_offset = at_place ops i d h ∙ ap Some (pair_is (get_or ops i d) e.offset (visit_offset md (get_or ops i d).0 (get_or ops i d).1 u w e m));

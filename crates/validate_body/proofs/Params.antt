@@ -2,7 +2,7 @@
 use Rattle.std.proofs.Common.{◌≡◌, ℕ, refl, sym, ap, subst, Some, is_some, Result, Ok, Err, IfOk}
 use Rattle.validate_resources.specs.Context.{ModuleContext, IsLawful, Valid, signature_of}
 use Rattle.validate_types.specs.Types.{Signature}
-use Rattle.validate_types.specs.Refusal.{Refusal}
+use Rattle.validate_types.specs.ErrorValue.{ErrorValue}
 use Rattle.validate_types.specs.declared.features.WasmFeatures.{WasmFeatures}
 use Rattle.validate_types.specs.declared.types.SubType.{SubType}
 use Rattle.validate_types.specs.declared.types.ValType.{ValType}
@@ -26,7 +26,7 @@ func_starts md features i s f laws h k =
       };
     }
 
-pub starting_func : (md : ModuleContext) (features : WasmFeatures) (i : ℕ) (s : SubType) (f : Signature) (r : Result OperatorValidator Refusal) → IsLawful md → md.type_at i ≡ Some s → signature_of s ≡ Some f
+pub starting_func : (md : ModuleContext) (features : WasmFeatures) (i : ℕ) (s : SubType) (f : Signature) (r : Result OperatorValidator ErrorValue) → IsLawful md → md.type_at i ≡ Some s → signature_of s ≡ Some f
     → IfOk r (λ v. state v ≡ func_start features i s.composite_type.shared f) → IfOk r (λ v. IsStarting md (state v))
 starting_func md features i s f (Err e) laws h j k = tt
 starting_func md features i s f (Ok v) laws h j k = subst (IsStarting md) (sym k) (func_starts md features i s f laws h j)

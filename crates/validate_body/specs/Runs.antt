@@ -2,7 +2,7 @@
 -- own).
 use Rattle.std.specs.Prelude.{◌≡◌, ℕ, suc, ◌<◌, false, List, Option, Some, None, length, map, slice_get}
 use Rattle.validate_resources.specs.Context.{ModuleContext}
-use Rattle.validate_types.specs.Refusal.{Refusal}
+use Rattle.validate_types.specs.ErrorValue.{ErrorValue}
 use Rattle.validate_visit.specs.declared.frame.BlockType.{BlockType}
 use Rattle.validate_visit.specs.declared.op.Op.{Op}
 use Rattle.validation_rules.specs.Rows.{Operator}
@@ -43,7 +43,7 @@ pub record AreHeightsAfter
 -- Operator k was refused: the rows of all operators before it hold, its own doesn't, memory aside, and
 -- the refusal carries its offset.
 pub record IsRefusedAt
-    (md : ModuleContext) (v : BodyState) (ops : List (Op × ℕ)) (k : ℕ) (refusal : Refusal) : Type 0 where
+    (md : ModuleContext) (v : BodyState) (ops : List (Op × ℕ)) (k : ℕ) (refusal : ErrorValue) : Type 0 where
   pub operator : Op
   pub at_offset : slice_get ops k ≡ Some (operator, refusal.offset)
   pub state : State

@@ -25,7 +25,7 @@ use validate_visit::Op;
 ///
 /// Conditions: the validator is in a starting state for this lookup, the list is well ordered
 /// ([`validate_visit::is_well_ordered`]), its immediates are those of a module
-/// ([`validate_visit::have_module_immediates`]), and `heights` is empty.
+/// ([`validate_visit::all_have_module_immediates`]), and `heights` is empty.
 pub fn check_ops<R: WasmModuleResources>(
     v: &mut OperatorValidator,
     ops: &[(Op, u64)],

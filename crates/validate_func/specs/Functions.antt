@@ -1,7 +1,7 @@
 -- What a function validator stands for, and what becomes of it at an operator (the crate's own).
 use Rattle.std.specs.Prelude.{◌≡◌, ℕ, Bool, true, false, List, [], ◌∷◌, ◌++◌, Some, None, length}
 use Rattle.validate_resources.specs.Context.{ModuleContext}
-use Rattle.validate_types.specs.Refusal.{Refusal}
+use Rattle.validate_types.specs.ErrorValue.{ErrorValue}
 use Rattle.validate_visit.specs.declared.frame.Frame.{Frame as FlatFrame}
 use Rattle.validate_visit.specs.declared.op.Op.{Op}
 use Rattle.validation_rules.specs.Operators.{operator}
@@ -49,7 +49,7 @@ pub record Accepts {R : Type 0} (md : ModuleContext) (p : Op × ℕ) (f g : Func
 -- An operator is refused in f: one was refused before, memory is wanting, or its row doesn't hold. The
 -- refusal carries its offset.
 pub record Refuses
-    {R : Type 0} (md : ModuleContext) (p : Op × ℕ) (f : FunctionState R) (refusal : Refusal) : Type 0 where
+    {R : Type 0} (md : ModuleContext) (p : Op × ℕ) (f : FunctionState R) (refusal : ErrorValue) : Type 0 where
   pub row :
       let cx = body_context md f.starting in
       f.failed ≡ false → refusal.wants_memory ≡ false → RowFails cx (operator cx p.0) f.present

@@ -1,51 +1,24 @@
--- A refusal for the row alone is one that takes no memory.
-use Rattle.std.proofs.Common.{◌≡◌, None, Result, OnErr}
+-- What takes no memory, and its refusals.
+use Rattle.std.proofs.Common.{◌≡◌, None, Result, Ok, Err, OnErr, is_ok}
 use Rattle.validate_resources.specs.Context.{ModuleContext}
-use Rattle.validate_types.specs.Refusal.{Refusal}
-use Rattle.validate_visit.specs.declared.op.ControlOp.{ControlOp}
-use Rattle.validate_visit.specs.declared.op.ControlOp.TheVariants.{Unreachable, Nop, Block, Loop, If, Else, End, Br, BrIf, BrTable, Return, Call, ReturnCall, CallIndirect, ReturnCallIndirect, CallRef, ReturnCallRef, Drop, Select, TypedSelect, TypedSelectMulti, LocalGet, LocalSet, LocalTee, GlobalGet, GlobalSet}
-use Rattle.validate_visit.specs.declared.op.Op.TheVariants.{Control, Exception}
-use Rattle.validate_visit.specs.declared.op.ExceptionOp.{ExceptionOp}
-use Rattle.validate_visit.specs.declared.op.ExceptionOp.TheVariants.{TryTable, Throw, ThrowRef, Try, Catch, CatchAll, Delegate, Rethrow}
-use Rattle.validation_rules.specs.Operators.{operator}
+use Rattle.validate_visit.specs.declared.op.Op.{Op}
+use Rattle.validation_rules.specs.Operators.{operator, ungated_operator}
 use Rattle.validate_stacks.specs.State.{BodyState}
 use Rattle.validate_stacks.specs.Visits.{step_body}
 use Rattle.validate_operators.specs.Memory.{TakesNoMemory}
+use Rattle.validate_operators.proofs.Gated.{none_behind, refused_as}
 
-pub refused_alone : (md : ModuleContext) (op : ControlOp) (v : BodyState) (r : Result (Unit {0}) Refusal) → OnErr r (step_body md (λ c. operator c (Control op)) v ≡ None) → TakesNoMemory md (Control op) v r
-refused_alone md Unreachable v r h = λ _. h
-refused_alone md Nop v r h = λ _. h
-refused_alone md (Block bt) v r h = tt
-refused_alone md (Loop bt) v r h = tt
-refused_alone md (If bt) v r h = tt
-refused_alone md Else v r h = tt
-refused_alone md End v r h = tt
-refused_alone md (Br d) v r h = λ _. h
-refused_alone md (BrIf d) v r h = tt
-refused_alone md (BrTable table) v r h = λ _. h
-refused_alone md Return v r h = λ _. h
-refused_alone md (Call f) v r h = tt
-refused_alone md (ReturnCall f) v r h = tt
-refused_alone md (CallIndirect type table) v r h = tt
-refused_alone md (ReturnCallIndirect type table) v r h = tt
-refused_alone md (CallRef type) v r h = tt
-refused_alone md (ReturnCallRef type) v r h = tt
-refused_alone md Drop v r h = λ _. h
-refused_alone md Select v r h = tt
-refused_alone md (TypedSelect t) v r h = tt
-refused_alone md (TypedSelectMulti ts) v r h = tt
-refused_alone md (LocalGet i) v r h = tt
-refused_alone md (LocalSet i) v r h = tt
-refused_alone md (LocalTee i) v r h = tt
-refused_alone md (GlobalGet i) v r h = tt
-refused_alone md (GlobalSet i) v r h = tt
+-- a refusal for the row alone
+pub refused_alone : {E : Type 0} (md : ModuleContext) (op : Op) (v : BodyState) (r : Result (Unit {0}) E) → OnErr r (step_body md (λ c. operator c op) v ≡ None) → TakesNoMemory md op v r
+refused_alone md op v r h = λ none idle. h
 
-pub exception_refused_alone : (md : ModuleContext) (op : ExceptionOp) (v : BodyState) (r : Result (Unit {0}) Refusal) → OnErr r (step_body md (λ c. operator c (Exception op)) v ≡ None) → TakesNoMemory md (Exception op) v r
-exception_refused_alone md (TryTable t) v r h = tt
-exception_refused_alone md (Throw tag) v r h = λ _. h
-exception_refused_alone md ThrowRef v r h = λ _. h
-exception_refused_alone md (Try bt) v r h = tt
-exception_refused_alone md (Catch tag) v r h = tt
-exception_refused_alone md CatchAll v r h = tt
-exception_refused_alone md (Delegate d) v r h = tt
-exception_refused_alone md (Rethrow d) v r h = λ _. h
+-- what a body answers, as what its check does
+pub takes_none_as : {E F : Type 0} (md : ModuleContext) (op : Op) (v : BodyState) (a : Result (Unit {0}) E) (r : Result (Unit {0}) F) → is_ok r ≡ is_ok a → TakesNoMemory md op v a → TakesNoMemory md op v r
+takes_none_as md op v a r same h = λ none idle. refused_as (step_body md (λ c. operator c op) v ≡ None) a r same (h none idle)
+
+-- what a body answers without its gate
+pub refused_behind : {E F : Type 0} (md : ModuleContext) (op : Op) (v : BodyState) (a : Result (Unit {0}) E) (r : Result (Unit {0}) F) → is_ok r ≡ is_ok a → (v.undone ≡ None → OnErr a (step_body md (λ c. ungated_operator c op) v ≡ None)) → TakesNoMemory md op v r
+refused_behind md op v (Ok u) (Ok x) same h = λ none idle. tt
+refused_behind md op v (Err e) (Err x) same h = λ none idle. none_behind md v op (h idle)
+refused_behind md op v (Ok u) (Err x) same h = cc
+refused_behind md op v (Err e) (Ok x) same h = λ none idle. tt

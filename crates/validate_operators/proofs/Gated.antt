@@ -2,7 +2,7 @@
 use Rattle.std.proofs.Common.{◌≡◌, ℕ, Bool, true, false, ◌&&◌, List, [], ◌∷◌, None, Result, Ok, Err, IsOk, is_ok, OnOk, OnErr, IfErr, refl, sym, ap, ◌∙◌}
 use Rattle.std.specs.Option.{option_map}
 use Rattle.validate_resources.specs.Context.{ModuleContext}
-use Rattle.validate_types.specs.Refusal.{Refusal}
+use Rattle.validate_types.specs.ErrorValue.{ErrorValue}
 use Rattle.validate_types.specs.Gates.{is_open}
 use Rattle.validate_types.specs.declared.gate.Gate.{Gate}
 use Rattle.validate_visit.specs.Gates.{gate_of}
@@ -38,14 +38,22 @@ module _ (md : ModuleContext) (v : BodyState) where
     pub shut : is_open v.features (gate_of op) ≡ false → step_body md (λ c. operator c op) v ≡ None
     shut h = let o = ungated_operator (body_context md v) op in gated_as false h ∙ not_under o.form o.row v.present.frames
 
+    -- without its gate it has no step
+    pub none_behind : step_body md (λ c. ungated_operator c op) v ≡ None → step_body md (λ c. operator c op) v ≡ None
+    none_behind n = by (is_open v.features (gate_of op)) refl
+      where
+        by : (b : Bool) → is_open v.features (gate_of op) ≡ b → step_body md (λ c. operator c op) v ≡ None
+        by true e = gated_as true e ∙ n
+        by false e = shut e
+
     module _ (gate : Gate) (same : gate ≡ gate_of op) (offset : ℕ) where
       -- the gate is closed
-      pub meets_shut : (r : Result (Unit {0}) Refusal) → OnOk r ⊥ → OnErr r (is_open v.features gate ≡ false) → IfErr r (λ e. e.offset ≡ offset) → IsValidBody md v → Meets md (λ c. operator c op) offset v r v
+      pub meets_shut : (r : Result (Unit {0}) ErrorValue) → OnOk r ⊥ → OnErr r (is_open v.features gate ≡ false) → IfErr r (λ e. e.offset ≡ offset) → IsValidBody md v → Meets md (λ c. operator c op) offset v r v
       meets_shut (Ok u) n h o valid = absurd n
       meets_shut (Err e) n h o valid = meets_none md (λ c. operator c op) offset v v (Err e) tt (shut (ap (is_open v.features) (sym same) ∙ h)) o valid refl
 
       -- it is open
-      pub meets_open : (w : BodyState) (r : Result (Unit {0}) Refusal) → is_open v.features gate ≡ true → Meets md (λ c. ungated_operator c op) offset v r w → Meets md (λ c. operator c op) offset v r w
+      pub meets_open : (w : BodyState) (r : Result (Unit {0}) ErrorValue) → is_open v.features gate ≡ true → Meets md (λ c. ungated_operator c op) offset v r w → Meets md (λ c. operator c op) offset v r w
       meets_open w r h m = meets_as md (λ c. ungated_operator c op) (λ c. operator c op) offset v w r (sym (gated_as true (ap (is_open v.features) (sym same) ∙ h))) m
 
 -- ---- the same of a body

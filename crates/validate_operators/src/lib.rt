@@ -5,6 +5,7 @@ mod at_once;
 mod groups;
 mod one_body;
 mod operator;
+mod taken;
 
 pub use crate::at_once::operator_at_once;
 pub use crate::operator::check_operator;

@@ -1,6 +1,6 @@
 -- Locals that are set already, and the innermost frame, for what passes at once.
 use Rattle.std.proofs.Common.{◌==◌, ◌<◌, ◌≤◌, get_or, ◌≡◌, ℕ, [], ◌∷◌, length, arith, Bool, true, false, Option, Some, None, IsSome, is_none, is_some, ◌||◌, refl, sym, ap, ◌∙◌, if◌then◌else◌, ap₂, subst}
-use Rattle.std.specs.Option.{ForSome}
+use Rattle.std.specs.Option.{ForSome, option_and_then}
 use Rattle.validate_resources.specs.Context.{ModuleContext}
 use Rattle.validate_visit.specs.declared.frame.Frame.{Frame as FlatFrame}
 use Rattle.validation_rules.proofs.Steps.{some_injective}
@@ -13,7 +13,8 @@ use Rattle.validation_rules.specs.Static.{is_local_set, locals_set}
 use Rattle.std.specs.Prelude.{List}
 use Rattle.validate_stacks.specs.Pops.{body_popped_each}
 use Rattle.validate_stacks.specs.Attempts.{Stacked, is_unmarked, may_frame}
-use Rattle.validate_stacks.specs.State.{BodyState, body_with_frames}
+use Rattle.validate_stacks.specs.State.{BodyState, IsValidBody, body_with_frames}
+use Rattle.validate_rows.proofs.SelectSteps.{found_valid}
 use Rattle.validation_rules.specs.Pops.{found_by_pop}
 use Rattle.validation_rules.specs.Static.{Frame}
 use Rattle.validate_stacks.specs.Steps.{frame_at, body_with_local_set, found_in_body, found_in_frames, frames_first_setting, innermost_operands}
@@ -86,3 +87,11 @@ own_found v h = by v.present.frames h
     by : (fs : List Frame) → 0 < length (innermost_operands fs) → (t : MaybeType) × (found_in_frames fs ≡ Some t)
     by [] h = absurd (omega (arith, h))
     by (f ∷ fs) h = in_frame f.dead f.operands h
+
+-- a reference that is found is valid without its null
+pub reference_valid : (md : ModuleContext) (v : BodyState) (t : MaybeType) → IsValidBody md v → option_and_then operand_without_null (found_in_body v) ≡ Some t → IsValidOperand md t
+reference_valid md v t valid e = by (found_in_body v) refl e
+  where
+    by : (o : Option MaybeType) → found_in_body v ≡ o → option_and_then operand_without_null o ≡ Some t → IsValidOperand md t
+    by None q e = absurd cc
+    by (Some x) q e = without_null_valid md x t (found_valid md v x valid q) e

@@ -1,18 +1,19 @@
 //! Atomic operators on memories, by shape (the threads proposal).
 
-ghost use Rattle.std.specs.Prelude.{◌≡◌, true, false, OnOk, OnErr, IfErr};
+ghost use Rattle.std.specs.Prelude.{◌≡◌, true, false, OnOk, OnErr};
 ghost use Rattle.validation_rules.specs.Access.{allows_ordering};
 ghost use Rattle.validation_rules.specs.Atomic.{atomic_row};
 ghost use Rattle.validation_rules.specs.Operators.{row_operator};
-ghost use Rattle.validate_stacks.specs.Visits.{MayVisit, Meets};
-ghost use Rattle.validate_shapes.specs.Operands.{FindsOperands};
+ghost use Rattle.validate_stacks.specs.Moves.{Moves};
+ghost use Rattle.validate_stacks.specs.Visits.{MayVisit};
+ghost use Rattle.validate_shapes.specs.Operands.{Finds};
 
 use validate_resources::WasmModuleResources;
 use validate_shapes::accesses::check_shared_memarg;
 use validate_shapes::numbers::{accessed, integer};
-use validate_shapes::operands::{Few, Operands, check_operands};
+use validate_shapes::operands::{Few, Given, Operands, exchange_found};
 use validate_stacks::Stacks;
-use validate_types::{Error, Gate, ValType, WasmFeatures};
+use validate_types::{Gate, Refusal, Refused, ValType, WasmFeatures};
 use validate_visit::{AtomicOp, Ordering};
 
 /// Whether an operator may be ordered so.
@@ -26,77 +27,75 @@ fn allows_ordering(features: WasmFeatures, ordering: Ordering) -> bool
 }
 
 /// Refuses a fence that only acquires and releases where `acquire_release_atomics` is off.
-fn check_ordering(stacks: &Stacks, offset: u64, ordering: Ordering) -> Result<(), Error>
+fn check_ordering<A: Refused>(stacks: &Stacks, ordering: Ordering) -> Result<(), A>
     ensures allowed { OnOk result (allows_ordering stacks.now.body.features ordering ≡ true) }
     ensures refused { OnErr result (allows_ordering stacks.now.body.features ordering ≡ false) }
-    ensures offset { IfErr result (λ e. e.offset ≡ offset) }
 {
     if allows_ordering(stacks.features(), ordering) {
         Ok(())
     } else {
-        Err(Error::new("acquire-release atomics are not enabled", offset))
+        Err(A::of(Refusal::AcquireReleaseOff))
     }
 }
 
 /// What an atomic operator takes and gives, by the memory that it names.
-fn atomic_types<R: WasmModuleResources>(
+fn atomic_types<A: Refused, R: WasmModuleResources>(
     stacks: &Stacks,
     resources: &R,
-    offset: u64,
     op: AtomicOp,
-) -> Result<Operands<'static>, Error>
-    ensures { FindsOperands (R.context resources.now) (λ cx. atomic_row cx op) offset stacks.now.body result }
+) -> Result<Operands<'static>, A>
+    ensures { Finds (R.context resources.now) A.tells (λ cx. atomic_row cx op) stacks.now.body result }
 {
-    let (wanted, pushed) = match op {
+    let (wanted, given) = match op {
         AtomicOp::AtomicNotify(memarg) => {
-            let address = check_shared_memarg(stacks, resources, offset, memarg)?;
-            (Few::Two(address, ValType::I32), Few::One(ValType::I32))
+            let address = check_shared_memarg(resources, memarg)?;
+            (Few::Two(address, ValType::I32), Given::One(ValType::I32))
         }
         AtomicOp::AtomicWait(ty, memarg) => {
-            let address = check_shared_memarg(stacks, resources, offset, memarg)?;
+            let address = check_shared_memarg(resources, memarg)?;
             (
                 Few::Three(address, integer(ty), ValType::I64),
-                Few::One(ValType::I32),
+                Given::One(ValType::I32),
             )
         }
         AtomicOp::AtomicFence(ordering) => {
-            check_ordering(stacks, offset, ordering)?;
-            (Few::Zero, Few::Zero)
+            check_ordering(stacks, ordering)?;
+            (Few::Zero, Given::Nothing)
         }
         AtomicOp::AtomicLoad(access, memarg) => {
-            let address = check_shared_memarg(stacks, resources, offset, memarg)?;
-            (Few::One(address), Few::One(accessed(access)))
+            let address = check_shared_memarg(resources, memarg)?;
+            (Few::One(address), Given::One(accessed(access)))
         }
         AtomicOp::AtomicStore(access, memarg) => {
-            let address = check_shared_memarg(stacks, resources, offset, memarg)?;
-            (Few::Two(address, accessed(access)), Few::Zero)
+            let address = check_shared_memarg(resources, memarg)?;
+            (Few::Two(address, accessed(access)), Given::Nothing)
         }
         AtomicOp::AtomicRmw(access, _, memarg) => {
-            let address = check_shared_memarg(stacks, resources, offset, memarg)?;
+            let address = check_shared_memarg(resources, memarg)?;
             let ty = accessed(access);
-            (Few::Two(address, ty), Few::One(ty))
+            (Few::Two(address, ty), Given::One(ty))
         }
         AtomicOp::AtomicCmpxchg(access, memarg) => {
-            let address = check_shared_memarg(stacks, resources, offset, memarg)?;
+            let address = check_shared_memarg(resources, memarg)?;
             let ty = accessed(access);
-            (Few::Three(address, ty, ty), Few::One(ty))
+            (Few::Three(address, ty, ty), Given::One(ty))
         }
-        AtomicOp::Pause => (Few::Zero, Few::Zero),
+        AtomicOp::Pause => (Few::Zero, Given::Nothing),
     };
-    Ok(Operands::few(wanted, pushed))
+    Ok(Operands::few(wanted, given))
 }
 
-/// The check of an atomic operator, its gate aside.
-pub fn check_atomic_row<R: WasmModuleResources>(
+/// An atomic operator, its gate aside.
+#[inline(never)]
+pub fn atomic_operator<A: Refused, R: WasmModuleResources>(
     stacks: &mut Stacks,
     resources: &R,
-    offset: u64,
     op: AtomicOp,
-) -> Result<(), Error>
+) -> Result<(), A>
     requires { MayVisit (R.context resources.now) stacks.old }
-    ensures { Meets (R.context resources.now) (λ cx. row_operator (atomic_row cx op)) offset
-        stacks.old.body result stacks.new.body }
+    ensures { Moves (R.context resources.now) A.tells (λ cx. row_operator (atomic_row cx op)) stacks.old result
+        stacks.new }
 {
-    let types = atomic_types(stacks, resources, offset, op)?;
-    check_operands(stacks, resources, offset, types)
+    let found = atomic_types(stacks, resources, op);
+    exchange_found(stacks, resources, found)
 }

@@ -18,7 +18,7 @@ ghost use Rattle.validate_stacks.specs.Visits.{MayVisit, Meets};
 use validate_resources::WasmModuleResources;
 use validate_stacks::Stacks;
 use validate_stacks::blocks::{params, results};
-use validate_types::{Error, Refused, grown};
+use validate_types::{Error, Refusal, Refused, grown};
 use validate_visit::{BlockType, Frame, FrameKind};
 
 /// `nop`: nothing. It is never refused, and takes no memory.
@@ -65,7 +65,8 @@ pub fn check_else<R: WasmModuleResources>(
 {
     let frame = stacks.pop_ctrl(resources, offset)?;
     if !is_if_part(frame.kind) {
-        return Err(Error::new("else found outside of an `if` block", offset));
+        let error = Error::new("else found outside of an `if` block", offset);
+        return Err(error.because(Refusal::ElseOutsideIf));
     }
     stacks.push_ctrl(resources, offset, FrameKind::Else, frame.block_type)
 }

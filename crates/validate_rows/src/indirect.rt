@@ -1,184 +1,141 @@
 //! Calls of a function that an operand names: by its place in a table, or by a reference (WebAssembly core
 //! specification, "Control Instructions").
 
-ghost use Rattle.std.specs.Prelude.{◌≡◌, None, Some, IfOk, OnErr, IfErr};
+ghost use Rattle.std.specs.Prelude.{◌≡◌, None, Some, IfOk, OnErr};
 ghost use Rattle.validate_resources.specs.Context.{Valid};
 ghost use Rattle.validation_rules.specs.Indirect.{call_operand_row, return_call_operand_row, call_indirect_row, return_call_indirect_row, call_ref_row, return_call_ref_row};
 ghost use Rattle.validation_rules.specs.Indirect as rule;
 ghost use Rattle.validation_rules.specs.Operators.{row_operator, staying_operator};
-ghost use Rattle.validate_stacks.specs.AtOnce.{MeetsAtOnce};
+ghost use Rattle.validate_stacks.specs.Moves.{Moves};
 ghost use Rattle.validate_stacks.specs.State.{body_context};
-ghost use Rattle.validate_stacks.specs.Visits.{MayVisit, Meets};
+ghost use Rattle.validate_stacks.specs.Visits.{MayVisit};
 
-use crate::calls::check_return_call_ty;
+use crate::calls::find_same_results;
 use validate_resources::WasmModuleResources;
 use validate_shapes::aggregates::type_reference;
-use validate_shapes::functions::func_type_at;
-use validate_shapes::plain::{check_plain, plain_at_once};
+use validate_shapes::functions::find_func_type;
 use validate_shapes::tables::table_type_at;
 use validate_stacks::Stacks;
-use validate_types::{Error, ValType};
-
-/// How many operands an indirect call that passes at once takes at the most.
-const MOST_TAKEN: usize = 8;
+use validate_types::{Refusal, Refused, ValType, grown};
 
 /// The type of a place in a table, which has to be one of functions.
-fn function_place<R: WasmModuleResources>(
+fn function_place<A: Refused, R: WasmModuleResources>(
     stacks: &Stacks,
     resources: &R,
-    offset: u64,
     table_index: u32,
-) -> Result<ValType, Error>
+) -> Result<ValType, A>
     ensures found { IfOk result (λ t. rule.function_place
         (body_context (R.context resources.now) stacks.now.body) table_index ≡ Some t) }
     ensures valid { IfOk result (λ t. Valid (R.context resources.now) t) }
     ensures refused { OnErr result (rule.function_place
         (body_context (R.context resources.now) stacks.now.body) table_index ≡ None) }
-    ensures offset { IfErr result (λ e. e.offset ≡ offset) }
 {
-    let table = table_type_at(stacks, resources, offset, table_index)?;
+    let table = table_type_at(stacks, resources, table_index)?;
     if !resources.is_subtype(ValType::Ref(table.element_type), ValType::FUNCREF) {
-        return Err(Error::new(
-            "type mismatch: indirect calls must go through a table with type <= funcref",
-            offset,
-        ));
+        return Err(A::of(Refusal::NoFunctionTable));
     }
     Ok(table.index_type())
 }
 
 /// A call of a function of the type at this index. The operand on top, of the type `names`, names the
 /// function, and what it takes lies below.
-fn check_call_operand<R: WasmModuleResources>(
+fn call_operand<A: Refused, R: WasmModuleResources>(
     stacks: &mut Stacks,
     resources: &R,
-    offset: u64,
     type_index: u32,
     names: ValType,
-) -> Result<(), Error>
+) -> Result<(), A>
     requires visit { MayVisit (R.context resources.now) stacks.old }
     requires names { Valid (R.context resources.now) names }
-    ensures { Meets (R.context resources.now)
-        (λ cx. row_operator (call_operand_row cx (Some names) type_index)) offset stacks.old.body result
-        stacks.new.body }
+    ensures { Moves (R.context resources.now) A.tells (λ cx. row_operator (call_operand_row cx (Some names) type_index)) stacks.old result
+        stacks.new }
 {
-    stacks.pop_types(resources, offset, &[names])?;
-    let func_type = func_type_at(stacks, resources, offset, type_index)?;
-    let (params, results) = (func_type.params(), func_type.results());
-    check_plain(stacks, resources, offset, params, results)
+    stacks.find_operands(resources, 0, &[names])?;
+    let func_type = find_func_type(stacks, resources, type_index)?;
+    stacks.exchange_under(resources, func_type.params(), names, func_type.results())
 }
 
 /// The same in the place of the rest of the body.
-fn check_return_call_operand<R: WasmModuleResources>(
+fn return_call_operand<A: Refused, R: WasmModuleResources>(
     stacks: &mut Stacks,
     resources: &R,
-    offset: u64,
     type_index: u32,
     names: ValType,
-) -> Result<(), Error>
+) -> Result<(), A>
     requires visit { MayVisit (R.context resources.now) stacks.old }
     requires names { Valid (R.context resources.now) names }
-    ensures { Meets (R.context resources.now) (λ cx. staying_operator
-        (λ hs. return_call_operand_row cx hs (Some names) type_index)) offset stacks.old.body result
-        stacks.new.body }
+    ensures { Moves (R.context resources.now) A.tells (λ cx. staying_operator
+        (λ hs. return_call_operand_row cx hs (Some names) type_index)) stacks.old result
+        stacks.new }
 {
-    stacks.pop_types(resources, offset, &[names])?;
-    let func_type = func_type_at(stacks, resources, offset, type_index)?;
-    check_return_call_ty(stacks, resources, offset, func_type)
+    stacks.find_operands(resources, 0, &[names])?;
+    let func_type = find_func_type(stacks, resources, type_index)?;
+    find_same_results(stacks, resources, type_index, func_type.results())?;
+    stacks.find_under(resources, 0, func_type.params(), names)?;
+    grown(stacks.end_live())
 }
 
 /// `call_indirect`: `[params it] -> [results]` of a function of the type at this index in a table of
 /// functions.
-pub fn check_call_indirect<R: WasmModuleResources>(
-    stacks: &mut Stacks,
-    resources: &R,
-    offset: u64,
-    type_index: u32,
-    table_index: u32,
-) -> Result<(), Error>
-    requires { MayVisit (R.context resources.now) stacks.old }
-    ensures { Meets (R.context resources.now)
-        (λ cx. row_operator (call_indirect_row cx type_index table_index)) offset stacks.old.body result
-        stacks.new.body }
-{
-    let place = function_place(stacks, resources, offset, table_index)?;
-    check_call_operand(stacks, resources, offset, type_index, place)
-}
-
-/// [`check_call_indirect`], where it passes at once: the function takes seven parameters at most, for which there is a place
-/// with the operand above them. False, with nothing changed, where it doesn't.
 #[inline(never)]
-pub fn call_indirect_at_once<R: WasmModuleResources>(
+pub fn call_indirect<A: Refused, R: WasmModuleResources>(
     stacks: &mut Stacks,
     resources: &R,
     type_index: u32,
     table_index: u32,
-) -> bool
+) -> Result<(), A>
     requires { MayVisit (R.context resources.now) stacks.old }
-    ensures { MeetsAtOnce (R.context resources.now)
-        (λ cx. row_operator (call_indirect_row cx type_index table_index)) stacks.old result stacks.new }
+    ensures { Moves (R.context resources.now) A.tells (λ cx. row_operator (call_indirect_row cx type_index table_index)) stacks.old result
+        stacks.new }
 {
-    let Ok(place) = function_place(stacks, resources, 0, table_index) else {
-        return false;
-    };
-    let Ok(func_type) = func_type_at(stacks, resources, 0, type_index) else {
-        return false;
-    };
-    let (params, results) = (func_type.params(), func_type.results());
-    let count = params.len();
-    if count >= MOST_TAKEN {
-        return false;
-    }
-    let mut taken = [place; MOST_TAKEN];
-    taken[..count].copy_from_slice(params);
-    plain_at_once(stacks, resources, &taken[..=count], results)
+    let place = function_place(stacks, resources, table_index)?;
+    call_operand(stacks, resources, type_index, place)
 }
 
 /// `return_call_indirect`: what `call_indirect` takes. The body returns the results of the function, and
 /// the live part of the frame ends.
-pub fn check_return_call_indirect<R: WasmModuleResources>(
+#[inline(never)]
+pub fn return_call_indirect<A: Refused, R: WasmModuleResources>(
     stacks: &mut Stacks,
     resources: &R,
-    offset: u64,
     type_index: u32,
     table_index: u32,
-) -> Result<(), Error>
+) -> Result<(), A>
     requires { MayVisit (R.context resources.now) stacks.old }
-    ensures { Meets (R.context resources.now)
-        (λ cx. staying_operator (λ hs. return_call_indirect_row cx hs type_index table_index)) offset
-        stacks.old.body result stacks.new.body }
+    ensures { Moves (R.context resources.now) A.tells (λ cx. staying_operator (λ hs. return_call_indirect_row cx hs type_index table_index)) stacks.old result
+        stacks.new }
 {
-    let place = function_place(stacks, resources, offset, table_index)?;
-    check_return_call_operand(stacks, resources, offset, type_index, place)
+    let place = function_place(stacks, resources, table_index)?;
+    return_call_operand(stacks, resources, type_index, place)
 }
 
 /// `call_ref`: `[params (ref null t)] -> [results]` of a function of the type t at this index.
-pub fn check_call_ref<R: WasmModuleResources>(
+#[inline(never)]
+pub fn call_ref<A: Refused, R: WasmModuleResources>(
     stacks: &mut Stacks,
     resources: &R,
-    offset: u64,
     type_index: u32,
-) -> Result<(), Error>
+) -> Result<(), A>
     requires { MayVisit (R.context resources.now) stacks.old }
-    ensures { Meets (R.context resources.now)
-        (λ cx. row_operator (call_ref_row cx type_index)) offset stacks.old.body result stacks.new.body }
+    ensures { Moves (R.context resources.now) A.tells (λ cx. row_operator (call_ref_row cx type_index)) stacks.old result
+        stacks.new }
 {
-    let reference = type_reference(stacks, resources, offset, true, type_index)?;
-    check_call_operand(stacks, resources, offset, type_index, reference)
+    let reference = type_reference(stacks, resources, true, type_index)?;
+    call_operand(stacks, resources, type_index, reference)
 }
 
 /// `return_call_ref`: what `call_ref` takes. The body returns the results of the function, and the live
 /// part of the frame ends.
-pub fn check_return_call_ref<R: WasmModuleResources>(
+#[inline(never)]
+pub fn return_call_ref<A: Refused, R: WasmModuleResources>(
     stacks: &mut Stacks,
     resources: &R,
-    offset: u64,
     type_index: u32,
-) -> Result<(), Error>
+) -> Result<(), A>
     requires { MayVisit (R.context resources.now) stacks.old }
-    ensures { Meets (R.context resources.now)
-        (λ cx. staying_operator (λ hs. return_call_ref_row cx hs type_index)) offset stacks.old.body result
-        stacks.new.body }
+    ensures { Moves (R.context resources.now) A.tells (λ cx. staying_operator (λ hs. return_call_ref_row cx hs type_index)) stacks.old result
+        stacks.new }
 {
-    let reference = type_reference(stacks, resources, offset, true, type_index)?;
-    check_return_call_operand(stacks, resources, offset, type_index, reference)
+    let reference = type_reference(stacks, resources, true, type_index)?;
+    return_call_operand(stacks, resources, type_index, reference)
 }

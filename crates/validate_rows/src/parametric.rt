@@ -1,15 +1,15 @@
 //! Operators on operands of any type (WebAssembly core specification, "Parametric Instructions").
 
-ghost use Rattle.std.specs.Prelude.{◌≡◌, false, None, Some, IfOk, OnErr, IfErr};
+ghost use Rattle.std.specs.Prelude.{◌≡◌, false, None, Some, IfOk, OnErr};
 ghost use Rattle.validate_resources.specs.Context.{is_number_or_vector};
 ghost use Rattle.validation_rules.specs.Operators.{never_row, looking_row, drop_pushes, is_selectable, select_result, select_pushes, typed_select_row, row_operator};
 ghost use Rattle.validate_stacks.specs.Moves.{Moves};
-ghost use Rattle.validate_stacks.specs.Visits.{step_body, MayVisit, Meets};
+ghost use Rattle.validate_stacks.specs.Visits.{step_body, MayVisit};
 
 use validate_resources::WasmModuleResources;
-use validate_shapes::plain::check_plain;
+use validate_shapes::plain::plain;
 use validate_stacks::Stacks;
-use validate_types::{Error, MaybeType, Refusal, Refused, ValType, grown};
+use validate_types::{MaybeType, Refusal, Refused, ValType, grown};
 
 /// `drop`: any one operand. Where no attempt is pending it is refused only where its row doesn't hold.
 #[inline(never)]
@@ -114,34 +114,39 @@ fn any_select<A: Refused, R: WasmModuleResources>(
 }
 
 /// `select` with its type: `[t t i32] -> [t]` of the checked type.
-pub fn check_typed_select<R: WasmModuleResources>(
+#[inline(never)]
+pub fn typed_select<A: Refused, R: WasmModuleResources>(
     stacks: &mut Stacks,
     resources: &R,
-    offset: u64,
-    ty: ValType,
-) -> Result<(), Error>
+    ty: &ValType,
+) -> Result<(), A>
     requires { MayVisit (R.context resources.now) stacks.old }
-    ensures { Meets (R.context resources.now)
-        (λ cx. row_operator (typed_select_row cx ty)) offset stacks.old.body result stacks.new.body }
+    ensures { Moves (R.context resources.now) A.tells (λ cx. row_operator (typed_select_row cx ty.now)) stacks.old result
+        stacks.new }
 {
-    let mut checked = ty;
-    resources.check_value_type(&mut checked, &stacks.features(), offset)?;
-    let wanted = [checked, checked, ValType::I32];
-    check_plain(stacks, resources, offset, &wanted, &[checked])
+    let mut checked = *ty;
+    if let Err(error) = resources.check_value_type(&mut checked, &stacks.features(), 0) {
+        return Err(A::by_look_up(error));
+    }
+    plain(
+        stacks,
+        resources,
+        &[checked, checked, ValType::I32],
+        &[checked],
+    )
 }
 
 /// `select` with several types: it is never accepted.
-pub fn check_typed_select_multi<R: WasmModuleResources>(
+#[inline(never)]
+pub fn typed_select_multi<A: Refused, R: WasmModuleResources>(
     stacks: &mut Stacks,
     resources: &R,
-    offset: u64,
-) -> Result<(), Error>
+) -> Result<(), A>
     requires { MayVisit (R.context resources.now) stacks.old }
-    ensures visit { Meets (R.context resources.now)
-        (λ cx. row_operator never_row) offset stacks.old.body result stacks.new.body }
-    ensures memory { IfErr result (λ e. e.wants_memory ≡ false) }
+    ensures { Moves (R.context resources.now) A.tells (λ cx. row_operator never_row) stacks.old result stacks.new }
 {
-    // The contract alone reads it.
+    // The contracts alone read them.
+    let _stacks = stacks;
     let _resources = resources;
-    Err(Error::new("invalid result arity", offset))
+    Err(A::of(Refusal::SelectArity))
 }

@@ -5,63 +5,64 @@ ghost use Rattle.std.specs.Prelude.{◌≡◌, true, false, [], ◌∷◌, None,
 ghost use Rattle.validate_resources.specs.Context.{ModuleContext, Valid};
 ghost use Rattle.validate_types.specs.declared.heap.UnpackedIndex.{UnpackedIndex};
 ghost use Rattle.validation_rules.specs.Exact as exact_rule;
-ghost use Rattle.validation_rules.specs.References.{is_null_gate_open, ref_null_row, ref_func_row, null_test_pushes, non_null_pushes, br_on_null_row, br_on_non_null_row};
+ghost use Rattle.std.specs.Option.{option_and_then};
+ghost use Rattle.validation_rules.specs.References.{is_null_gate_open, operand_without_null, ref_null_row, ref_func_row, null_test_pushes, non_null_pushes, br_on_null_row, br_on_non_null_row};
 ghost use Rattle.validation_rules.specs.References as reference_rule;
 ghost use Rattle.validation_rules.specs.Operators.{looking_row, plain_row, row_operator, staying_operator};
-ghost use Rattle.validate_stacks.specs.AtOnce.{MeetsAtOnce};
+ghost use Rattle.validate_stacks.specs.Moves.{Moves};
 ghost use Rattle.validate_stacks.specs.State.{body_context};
-ghost use Rattle.validate_stacks.specs.Visits.{MayVisit, Meets};
+ghost use Rattle.validate_stacks.specs.Steps.{found_in_body};
+ghost use Rattle.validate_stacks.specs.Visits.{MayVisit};
 
 use validate_resources::WasmModuleResources;
 use validate_resources::uses::laws;
 use validate_shapes::aggregates::declared_heap;
-use validate_shapes::functions::unknown_function;
-use validate_shapes::labels::label;
-use validate_shapes::plain::{check_plain, plain_at_once};
-use validate_shapes::references::{pop_non_null_ref, push_found, without_null};
+use validate_shapes::plain::constant;
+use validate_shapes::references::without_null;
 use validate_stacks::Stacks;
 use validate_stacks::blocks::label_types;
-use validate_types::{CoreTypeId, Error, HeapType, MaybeType, RefType, UnpackedIndex, ValType};
+use validate_types::{
+    CoreTypeId, HeapType, MaybeType, RefType, Refusal, Refused, UnpackedIndex, ValType, grown,
+};
 
 /// The gate of the type of null. A type index of 2^20 or more, to which no reference can be made, has none:
 /// a lookup of at most 1,000,000 types refuses it later on.
 #[inline(always)]
-fn check_null_gate(stacks: &Stacks, offset: u64, heap_type: HeapType) -> Result<(), Error>
+fn find_null_open<A: Refused>(stacks: &Stacks, heap_type: HeapType) -> Result<(), A>
     ensures open { OnOk result ((md : ModuleContext)
         → is_null_gate_open (body_context md stacks.now.body) heap_type ≡ true) }
     ensures closed { OnErr result ((md : ModuleContext)
         → is_null_gate_open (body_context md stacks.now.body) heap_type ≡ false) }
-    ensures offset { IfErr result (λ e. e.offset ≡ offset) }
-    ensures memory { IfErr result (λ e. e.wants_memory ≡ false) }
 {
     let Some(ty) = RefType::new(true, heap_type) else {
         return Ok(());
     };
     match stacks.features().check_ref_type(ty) {
         Ok(()) => Ok(()),
-        Err(text) => Err(Error::new(text, offset)),
+        Err(text) => Err(A::of(Refusal::ReferenceOff(text))),
     }
 }
 
 /// The type of null, of a heap type whose gate is open and that is known.
 #[inline(always)]
-fn null_type<R: WasmModuleResources>(
+fn find_null_type<A: Refused, R: WasmModuleResources>(
     stacks: &Stacks,
     resources: &R,
-    offset: u64,
     heap_type: HeapType,
-) -> Result<ValType, Error>
+) -> Result<ValType, A>
     ensures found { IfOk result (λ t. ref_null_row
         (body_context (R.context resources.now) stacks.now.body) heap_type ≡ plain_row [] (t ∷ [])) }
     ensures valid { IfOk result (λ t. Valid (R.context resources.now) t) }
-    ensures refused { IfErr result (λ e. e.wants_memory ≡ false → (ref_null_row
+    ensures refused { IfErr result (λ e. A.tells e → (ref_null_row
         (body_context (R.context resources.now) stacks.now.body) heap_type).premise ≡ false) }
-    ensures offset { IfErr result (λ e. e.offset ≡ offset) }
 {
     laws(resources);
-    check_null_gate(stacks, offset, heap_type)?;
+    find_null_open(stacks, heap_type)?;
     let mut checked = heap_type;
-    resources.check_heap_type(&mut checked, offset)?;
+    match resources.check_heap_type(&mut checked, 0) {
+        Ok(()) => {}
+        Err(error) => return Err(A::by_look_up(error)),
+    }
     let Some(ty) = RefType::new(true, checked) else {
         unreachable!()
     };
@@ -69,18 +70,18 @@ fn null_type<R: WasmModuleResources>(
 }
 
 /// `ref.null`: `[] -> [(ref null h)]` of a heap type h whose gate is open and that is known.
-pub fn check_ref_null<R: WasmModuleResources>(
+#[inline(never)]
+pub fn ref_null<A: Refused, R: WasmModuleResources>(
     stacks: &mut Stacks,
     resources: &R,
-    offset: u64,
     heap_type: HeapType,
-) -> Result<(), Error>
+) -> Result<(), A>
     requires { MayVisit (R.context resources.now) stacks.old }
-    ensures { Meets (R.context resources.now)
-        (λ cx. row_operator (ref_null_row cx heap_type)) offset stacks.old.body result stacks.new.body }
+    ensures { Moves (R.context resources.now) A.tells (λ cx. row_operator (ref_null_row cx heap_type)) stacks.old
+        result stacks.new }
 {
-    let ty = null_type(stacks, resources, offset, heap_type)?;
-    check_plain(stacks, resources, offset, &[], &[ty])
+    let ty = find_null_type(stacks, resources, heap_type)?;
+    constant(stacks, resources, ty)
 }
 
 /// What a reference to a function points to, whose type this id names.
@@ -100,170 +101,129 @@ fn function_heap<R: WasmModuleResources>(
 
 /// `ref.func`: `[] -> [(ref t)]` of a function that the module lets be referred to, of the type t; exact, where
 /// references can be and the module says so.
-pub fn check_ref_func<R: WasmModuleResources>(
+#[inline(never)]
+pub fn ref_func<A: Refused, R: WasmModuleResources>(
     stacks: &mut Stacks,
     resources: &R,
-    offset: u64,
     function_index: u32,
-) -> Result<(), Error>
+) -> Result<(), A>
     requires { MayVisit (R.context resources.now) stacks.old }
-    ensures { Meets (R.context resources.now)
-        (λ cx. row_operator (ref_func_row cx function_index)) offset stacks.old.body result
-        stacks.new.body }
+    ensures { Moves (R.context resources.now) A.tells (λ cx. row_operator (ref_func_row cx function_index)) stacks.old
+        result stacks.new }
 {
     laws(resources);
     let Some(id) = resources.type_id_of_function(function_index) else {
-        return Err(unknown_function(stacks.allocator(), offset, function_index));
+        return Err(A::of(Refusal::UnknownFunction(function_index)));
     };
     if !resources.is_function_referenced(function_index) {
-        return Err(Error::new("undeclared function reference", offset));
+        return Err(A::of(Refusal::UndeclaredFunction));
     }
     let heap_type = function_heap(stacks, resources, function_index, id);
     let Some(ty) = RefType::new(false, heap_type) else {
         unreachable!()
     };
-    check_plain(stacks, resources, offset, &[], &[ValType::Ref(ty)])
+    constant(stacks, resources, ValType::Ref(ty))
+}
+
+/// The operand that a pop finds, without its null: it has to be a reference.
+#[inline(always)]
+fn find_reference<A: Refused>(stacks: &Stacks) -> Result<MaybeType, A>
+    ensures given { IfOk result (λ t. option_and_then operand_without_null (found_in_body stacks.now.body)
+        ≡ Some t) }
+    ensures refused { OnErr result (option_and_then operand_without_null (found_in_body stacks.now.body) ≡ None) }
+{
+    let found = *stacks.find_any(0)?;
+    if let Some(reference) = without_null(found) {
+        return Ok(reference);
+    }
+    match found {
+        MaybeType::Known(ty) => Err(A::of(Refusal::NoReference(ty))),
+        MaybeType::Bottom | MaybeType::UnknownRef(_) => unreachable!(),
+    }
 }
 
 /// `ref.is_null`: `[r] -> [i32]` of any reference r.
-pub fn check_ref_is_null<R: WasmModuleResources>(
+#[inline(never)]
+pub fn ref_is_null<A: Refused, R: WasmModuleResources>(
     stacks: &mut Stacks,
     resources: &R,
-    offset: u64,
-) -> Result<(), Error>
+) -> Result<(), A>
     requires { MayVisit (R.context resources.now) stacks.old }
-    ensures { Meets (R.context resources.now)
-        (λ cx. row_operator (looking_row 1 null_test_pushes)) offset stacks.old.body result
-        stacks.new.body }
+    ensures { Moves (R.context resources.now) A.tells (λ cx. row_operator (looking_row 1 null_test_pushes)) stacks.old
+        result stacks.new }
 {
-    pop_non_null_ref(stacks, resources, offset)?;
-    stacks.push_types(offset, &[ValType::I32])
+    // The contract alone reads it.
+    let _resources = resources;
+    find_reference(stacks)?;
+    let own = stacks.own_len();
+    grown(stacks.replace(own.min(1), MaybeType::Known(ValType::I32)))
 }
 
 /// `ref.as_non_null`: `[r] -> [r]` of any reference r, without its null.
-pub fn check_ref_as_non_null<R: WasmModuleResources>(
+#[inline(never)]
+pub fn ref_as_non_null<A: Refused, R: WasmModuleResources>(
     stacks: &mut Stacks,
     resources: &R,
-    offset: u64,
-) -> Result<(), Error>
+) -> Result<(), A>
     requires { MayVisit (R.context resources.now) stacks.old }
-    ensures { Meets (R.context resources.now)
-        (λ cx. row_operator (looking_row 1 (non_null_pushes cx []))) offset stacks.old.body result
-        stacks.new.body }
+    ensures { Moves (R.context resources.now) A.tells (λ cx. row_operator (looking_row 1 (non_null_pushes cx [])))
+        stacks.old result stacks.new }
 {
-    let reference = pop_non_null_ref(stacks, resources, offset)?;
-    push_found(stacks, offset, reference)
+    // The contract alone reads it.
+    let _resources = resources;
+    let reference = find_reference(stacks)?;
+    let own = stacks.own_len();
+    grown(stacks.replace(own.min(1), reference))
 }
 
 /// `br_on_null`: `[t r] -> [t r]` of any reference r, which goes on without its null, with the types t of
 /// the label.
-pub fn check_br_on_null<R: WasmModuleResources>(
+#[inline(never)]
+pub fn br_on_null<A: Refused, R: WasmModuleResources>(
     stacks: &mut Stacks,
     resources: &R,
-    offset: u64,
     relative_depth: u32,
-) -> Result<(), Error>
+) -> Result<(), A>
     requires { MayVisit (R.context resources.now) stacks.old }
-    ensures { Meets (R.context resources.now)
-        (λ cx. staying_operator (λ hs. br_on_null_row cx hs relative_depth)) offset stacks.old.body result
-        stacks.new.body }
+    ensures { Moves (R.context resources.now) A.tells
+        (λ cx. staying_operator (λ hs. br_on_null_row cx hs relative_depth)) stacks.old result stacks.new }
 {
-    let reference = pop_non_null_ref(stacks, resources, offset)?;
-    let (block_type, kind) = label(stacks, offset, relative_depth)?;
+    let reference = find_reference(stacks)?;
+    let (block_type, kind) = stacks.find_label(relative_depth)?;
     let types = label_types(resources, &block_type, kind);
-    stacks.pop_types(resources, offset, types)?;
-    stacks.push_types(offset, types)?;
-    push_found(stacks, offset, reference)
+    stacks.find_operands(resources, 1, types)?;
+    let own = stacks.own_len();
+    grown(stacks.exchange_topped(own.min(types.len() + 1), types, reference))
 }
 
 /// The types of a label but its last, and its last, which has to be a reference.
-fn last_reference(types: &[ValType], offset: u64) -> Result<(&[ValType], RefType), Error>
+fn last_reference<A: Refused>(types: &[ValType]) -> Result<(&[ValType], RefType), A>
     ensures found { IfOk result (λ p. reference_rule.last_reference types.now ≡ Some (p.0.now, p.1)) }
     ensures refused { OnErr result (reference_rule.last_reference types.now ≡ None) }
-    ensures offset { IfErr result (λ e. e.offset ≡ offset) }
-    ensures memory { IfErr result (λ e. e.wants_memory ≡ false) }
 {
     let Some((last, others)) = types.split_last() else {
-        return Err(Error::new(
-            "type mismatch: br_on_non_null target has no label types",
-            offset,
-        ));
+        return Err(A::of(Refusal::NonNullLabelEmpty));
     };
     let ValType::Ref(ty) = *last else {
-        return Err(Error::new(
-            "type mismatch: br_on_non_null target does not end with heap type",
-            offset,
-        ));
+        return Err(A::of(Refusal::NonNullLabel));
     };
     Ok((others, ty))
 }
 
 /// `br_on_non_null`: `[t (ref null h)] -> [t]`, with the types t of the label but its last, which is a
 /// reference to h.
-pub fn check_br_on_non_null<R: WasmModuleResources>(
+#[inline(never)]
+pub fn br_on_non_null<A: Refused, R: WasmModuleResources>(
     stacks: &mut Stacks,
     resources: &R,
-    offset: u64,
     relative_depth: u32,
-) -> Result<(), Error>
+) -> Result<(), A>
     requires { MayVisit (R.context resources.now) stacks.old }
-    ensures { Meets (R.context resources.now)
-        (λ cx. staying_operator (λ hs. br_on_non_null_row cx hs relative_depth)) offset
-        stacks.old.body result stacks.new.body }
+    ensures { Moves (R.context resources.now) A.tells
+        (λ cx. staying_operator (λ hs. br_on_non_null_row cx hs relative_depth)) stacks.old result stacks.new }
 {
-    let (block_type, kind) = label(stacks, offset, relative_depth)?;
+    let (block_type, kind) = stacks.find_label(relative_depth)?;
     let types = label_types(resources, &block_type, kind);
-    let (others, last) = last_reference(types, offset)?;
-    stacks.pop_types(resources, offset, &[ValType::Ref(last.nullable())])?;
-    check_plain(stacks, resources, offset, others, others)
-}
-
-/// [`check_ref_null`], where it passes at once. False, with nothing changed, where it doesn't.
-#[inline(never)]
-pub fn ref_null_at_once<R: WasmModuleResources>(
-    stacks: &mut Stacks,
-    resources: &R,
-    heap_type: HeapType,
-) -> bool
-    requires { MayVisit (R.context resources.now) stacks.old }
-    ensures { MeetsAtOnce (R.context resources.now) (λ cx. row_operator (ref_null_row cx heap_type))
-        stacks.old result stacks.new }
-{
-    let Ok(ty) = null_type(stacks, resources, 0, heap_type) else {
-        return false;
-    };
-    plain_at_once(stacks, resources, &[], &[ty])
-}
-
-/// [`check_ref_is_null`], where it passes at once. False, with nothing changed, where it doesn't.
-#[inline(never)]
-pub fn ref_is_null_at_once<R: WasmModuleResources>(stacks: &mut Stacks, resources: &R) -> bool
-    requires { MayVisit (R.context resources.now) stacks.old }
-    ensures { MeetsAtOnce (R.context resources.now) (λ cx. row_operator (looking_row 1 null_test_pushes))
-        stacks.old result stacks.new }
-{
-    // The contract alone reads it.
-    let _resources = resources;
-    let Some(found) = stacks.found_at(0) else {
-        return false;
-    };
-    without_null(found).is_some() && stacks.replace_at_once(MaybeType::Known(ValType::I32))
-}
-
-/// [`check_ref_as_non_null`], where it passes at once. False, with nothing changed, where it doesn't.
-#[inline(never)]
-pub fn ref_as_non_null_at_once<R: WasmModuleResources>(stacks: &mut Stacks, resources: &R) -> bool
-    requires { MayVisit (R.context resources.now) stacks.old }
-    ensures { MeetsAtOnce (R.context resources.now)
-        (λ cx. row_operator (looking_row 1 (non_null_pushes cx []))) stacks.old result stacks.new }
-{
-    // The contract alone reads it.
-    let _resources = resources;
-    let Some(found) = stacks.found_at(0) else {
-        return false;
-    };
-    match without_null(found) {
-        Some(reference) => stacks.replace_at_once(reference),
-        None => false,
-    }
+    let (others, last) = last_reference(types)?;
+    stacks.exchange_under(resources, others, ValType::Ref(last.nullable()), others)
 }

@@ -1,215 +1,196 @@
 //! Operators on tables and element segments (WebAssembly core specification, "Table Instructions").
 
-ghost use Rattle.std.specs.Prelude.{◌≡◌, true, false, OnOk, OnErr, IfErr};
+ghost use Rattle.std.specs.Prelude.{◌≡◌, true, false, OnOk, OnErr};
 ghost use Rattle.validate_resources.specs.Context.{Valid};
 ghost use Rattle.validation_rules.specs.Operators.{row_operator};
 ghost use Rattle.validation_rules.specs.Tables.{table_get_row, table_set_row, table_grow_row, table_size_row, table_fill_row, table_init_row, elem_drop_row, table_copy_row, table_row};
-ghost use Rattle.validate_stacks.specs.Visits.{MayVisit, Meets};
-ghost use Rattle.validate_shapes.specs.Operands.{FindsOperands};
+ghost use Rattle.validate_stacks.specs.Moves.{Moves};
+ghost use Rattle.validate_stacks.specs.Visits.{MayVisit};
+ghost use Rattle.validate_shapes.specs.Operands.{Finds};
 
 use validate_resources::WasmModuleResources;
 use validate_shapes::memories::narrower_of;
-use validate_shapes::operands::{Few, Operands, check_operands};
+use validate_shapes::operands::{Few, Given, Operands, exchange_found};
 use validate_shapes::tables::{element_type_at, table_type_at};
 use validate_stacks::Stacks;
-use validate_types::{Error, RefType, ValType};
+use validate_types::{RefType, Refusal, Refused, ValType};
 use validate_visit::TableOp;
 
 /// Elements of this type can be put into a table of that type.
-fn check_elements<R: WasmModuleResources>(
+fn check_elements<A: Refused, R: WasmModuleResources>(
     resources: &R,
-    offset: u64,
     from: RefType,
     to: RefType,
-) -> Result<(), Error>
+) -> Result<(), A>
     requires from { Valid (R.context resources.now) (ValType.Ref from) }
     requires to { Valid (R.context resources.now) (ValType.Ref to) }
     ensures below { OnOk result ((R.context resources.now).below (ValType.Ref from) (ValType.Ref to) ≡ true) }
     ensures refused { OnErr result ((R.context resources.now).below (ValType.Ref from) (ValType.Ref to)
         ≡ false) }
-    ensures offset { IfErr result (λ e. e.offset ≡ offset) }
-    ensures memory { IfErr result (λ e. e.wants_memory ≡ false) }
 {
     if resources.is_subtype(ValType::Ref(from), ValType::Ref(to)) {
         Ok(())
     } else {
-        Err(Error::new("type mismatch", offset))
+        Err(A::of(Refusal::OtherTable))
     }
 }
 
 /// What `table.get` takes and gives: `[it] -> [e]`.
-fn get_types<R: WasmModuleResources>(
+fn get_types<A: Refused, R: WasmModuleResources>(
     stacks: &Stacks,
     resources: &R,
-    offset: u64,
     table: u32,
-) -> Result<Operands<'static>, Error>
-    ensures { FindsOperands (R.context resources.now)
-        (λ cx. table_get_row cx table) offset stacks.now.body result }
+) -> Result<Operands<'static>, A>
+    ensures { Finds (R.context resources.now) A.tells (λ cx. table_get_row cx table) stacks.now.body result }
 {
-    let ty = table_type_at(stacks, resources, offset, table)?;
+    let ty = table_type_at(stacks, resources, table)?;
     Ok(Operands::few(
         Few::One(ty.index_type()),
-        Few::One(ValType::Ref(ty.element_type)),
+        Given::One(ValType::Ref(ty.element_type)),
     ))
 }
 
 /// What `table.set` takes: `[it e] -> []`.
-fn set_types<R: WasmModuleResources>(
+fn set_types<A: Refused, R: WasmModuleResources>(
     stacks: &Stacks,
     resources: &R,
-    offset: u64,
     table: u32,
-) -> Result<Operands<'static>, Error>
-    ensures { FindsOperands (R.context resources.now)
-        (λ cx. table_set_row cx table) offset stacks.now.body result }
+) -> Result<Operands<'static>, A>
+    ensures { Finds (R.context resources.now) A.tells (λ cx. table_set_row cx table) stacks.now.body result }
 {
-    let ty = table_type_at(stacks, resources, offset, table)?;
+    let ty = table_type_at(stacks, resources, table)?;
     Ok(Operands::few(
         Few::Two(ty.index_type(), ValType::Ref(ty.element_type)),
-        Few::Zero,
+        Given::Nothing,
     ))
 }
 
 /// What `table.grow` takes and gives: `[e it] -> [it]`.
-fn grow_types<R: WasmModuleResources>(
+fn grow_types<A: Refused, R: WasmModuleResources>(
     stacks: &Stacks,
     resources: &R,
-    offset: u64,
     table: u32,
-) -> Result<Operands<'static>, Error>
-    ensures { FindsOperands (R.context resources.now)
-        (λ cx. table_grow_row cx table) offset stacks.now.body result }
+) -> Result<Operands<'static>, A>
+    ensures { Finds (R.context resources.now) A.tells (λ cx. table_grow_row cx table) stacks.now.body result }
 {
-    let ty = table_type_at(stacks, resources, offset, table)?;
+    let ty = table_type_at(stacks, resources, table)?;
     let index = ty.index_type();
     Ok(Operands::few(
         Few::Two(ValType::Ref(ty.element_type), index),
-        Few::One(index),
+        Given::One(index),
     ))
 }
 
 /// What `table.size` gives: `[] -> [it]`.
-fn size_types<R: WasmModuleResources>(
+fn size_types<A: Refused, R: WasmModuleResources>(
     stacks: &Stacks,
     resources: &R,
-    offset: u64,
     table: u32,
-) -> Result<Operands<'static>, Error>
-    ensures { FindsOperands (R.context resources.now)
-        (λ cx. table_size_row cx table) offset stacks.now.body result }
+) -> Result<Operands<'static>, A>
+    ensures { Finds (R.context resources.now) A.tells (λ cx. table_size_row cx table) stacks.now.body result }
 {
-    let ty = table_type_at(stacks, resources, offset, table)?;
-    Ok(Operands::few(Few::Zero, Few::One(ty.index_type())))
+    let ty = table_type_at(stacks, resources, table)?;
+    Ok(Operands::few(Few::Zero, Given::One(ty.index_type())))
 }
 
 /// What `table.fill` takes: `[it e it] -> []`.
-fn fill_types<R: WasmModuleResources>(
+fn fill_types<A: Refused, R: WasmModuleResources>(
     stacks: &Stacks,
     resources: &R,
-    offset: u64,
     table: u32,
-) -> Result<Operands<'static>, Error>
-    ensures { FindsOperands (R.context resources.now)
-        (λ cx. table_fill_row cx table) offset stacks.now.body result }
+) -> Result<Operands<'static>, A>
+    ensures { Finds (R.context resources.now) A.tells (λ cx. table_fill_row cx table) stacks.now.body result }
 {
-    let ty = table_type_at(stacks, resources, offset, table)?;
+    let ty = table_type_at(stacks, resources, table)?;
     let index = ty.index_type();
     Ok(Operands::few(
         Few::Three(index, ValType::Ref(ty.element_type), index),
-        Few::Zero,
+        Given::Nothing,
     ))
 }
 
 /// What `table.init` takes: `[it i32 i32] -> []`.
-fn init_types<R: WasmModuleResources>(
+fn init_types<A: Refused, R: WasmModuleResources>(
     stacks: &Stacks,
     resources: &R,
-    offset: u64,
     elem_index: u32,
     table: u32,
-) -> Result<Operands<'static>, Error>
-    ensures { FindsOperands (R.context resources.now)
-        (λ cx. table_init_row cx elem_index table) offset stacks.now.body result }
+) -> Result<Operands<'static>, A>
+    ensures { Finds (R.context resources.now) A.tells (λ cx. table_init_row cx elem_index table) stacks.now.body result }
 {
-    let ty = table_type_at(stacks, resources, offset, table)?;
-    let segment = element_type_at(stacks, resources, offset, elem_index)?;
-    check_elements(resources, offset, segment, ty.element_type)?;
+    let ty = table_type_at(stacks, resources, table)?;
+    let segment = element_type_at(resources, elem_index)?;
+    check_elements(resources, segment, ty.element_type)?;
     Ok(Operands::few(
         Few::Three(ty.index_type(), ValType::I32, ValType::I32),
-        Few::Zero,
+        Given::Nothing,
     ))
 }
 
 /// `elem.drop` takes nothing and gives nothing.
-fn drop_types<R: WasmModuleResources>(
+fn drop_types<A: Refused, R: WasmModuleResources>(
     stacks: &Stacks,
     resources: &R,
-    offset: u64,
     elem_index: u32,
-) -> Result<Operands<'static>, Error>
-    ensures { FindsOperands (R.context resources.now)
-        (λ cx. elem_drop_row cx elem_index) offset stacks.now.body result }
+) -> Result<Operands<'static>, A>
+    ensures { Finds (R.context resources.now) A.tells (λ cx. elem_drop_row cx elem_index) stacks.now.body result }
 {
-    element_type_at(stacks, resources, offset, elem_index)?;
-    Ok(Operands::few(Few::Zero, Few::Zero))
+    element_type_at(resources, elem_index)?;
+    Ok(Operands::few(Few::Zero, Given::Nothing))
 }
 
 /// What `table.copy` takes: `[it(dst) it(src) it] -> []`, with the narrower of the two.
-fn copy_types<R: WasmModuleResources>(
+fn copy_types<A: Refused, R: WasmModuleResources>(
     stacks: &Stacks,
     resources: &R,
-    offset: u64,
     dst_table: u32,
     src_table: u32,
-) -> Result<Operands<'static>, Error>
-    ensures { FindsOperands (R.context resources.now)
-        (λ cx. table_copy_row cx dst_table src_table) offset stacks.now.body result }
+) -> Result<Operands<'static>, A>
+    ensures { Finds (R.context resources.now) A.tells (λ cx. table_copy_row cx dst_table src_table) stacks.now.body result }
 {
-    let src = table_type_at(stacks, resources, offset, src_table)?;
-    let dst = table_type_at(stacks, resources, offset, dst_table)?;
-    check_elements(resources, offset, src.element_type, dst.element_type)?;
+    let src = table_type_at(stacks, resources, src_table)?;
+    let dst = table_type_at(stacks, resources, dst_table)?;
+    check_elements(resources, src.element_type, dst.element_type)?;
     let (to, from) = (dst.index_type(), src.index_type());
-    Ok(Operands::few(Few::Three(to, from, narrower_of(to, from)), Few::Zero))
+    Ok(Operands::few(Few::Three(to, from, narrower_of(to, from)), Given::Nothing))
 }
 
 /// What an operator on tables takes and gives, by the tables and segments that it names.
-fn table_types<R: WasmModuleResources>(
+fn table_types<A: Refused, R: WasmModuleResources>(
     stacks: &Stacks,
     resources: &R,
-    offset: u64,
     op: TableOp,
-) -> Result<Operands<'static>, Error>
-    ensures { FindsOperands (R.context resources.now) (λ cx. table_row cx op) offset stacks.now.body result }
+) -> Result<Operands<'static>, A>
+    ensures { Finds (R.context resources.now) A.tells (λ cx. table_row cx op) stacks.now.body result }
 {
     match op {
-        TableOp::TableGet(table) => get_types(stacks, resources, offset, table),
-        TableOp::TableSet(table) => set_types(stacks, resources, offset, table),
-        TableOp::TableGrow(table) => grow_types(stacks, resources, offset, table),
-        TableOp::TableSize(table) => size_types(stacks, resources, offset, table),
-        TableOp::TableFill(table) => fill_types(stacks, resources, offset, table),
+        TableOp::TableGet(table) => get_types(stacks, resources, table),
+        TableOp::TableSet(table) => set_types(stacks, resources, table),
+        TableOp::TableGrow(table) => grow_types(stacks, resources, table),
+        TableOp::TableSize(table) => size_types(stacks, resources, table),
+        TableOp::TableFill(table) => fill_types(stacks, resources, table),
         TableOp::TableInit { elem_index, table } => {
-            init_types(stacks, resources, offset, elem_index, table)
+            init_types(stacks, resources, elem_index, table)
         }
-        TableOp::ElemDrop(elem_index) => drop_types(stacks, resources, offset, elem_index),
+        TableOp::ElemDrop(elem_index) => drop_types(stacks, resources, elem_index),
         TableOp::TableCopy {
             dst_table,
             src_table,
-        } => copy_types(stacks, resources, offset, dst_table, src_table),
+        } => copy_types(stacks, resources, dst_table, src_table),
     }
 }
 
-/// The check of an operator on tables, its gate aside.
-pub fn check_table_row<R: WasmModuleResources>(
+/// An operator on tables, its gate aside.
+#[inline(never)]
+pub fn table_operator<A: Refused, R: WasmModuleResources>(
     stacks: &mut Stacks,
     resources: &R,
-    offset: u64,
     op: TableOp,
-) -> Result<(), Error>
+) -> Result<(), A>
     requires { MayVisit (R.context resources.now) stacks.old }
-    ensures { Meets (R.context resources.now) (λ cx. row_operator (table_row cx op)) offset
-        stacks.old.body result stacks.new.body }
+    ensures { Moves (R.context resources.now) A.tells (λ cx. row_operator (table_row cx op)) stacks.old result
+        stacks.new }
 {
-    let types = table_types(stacks, resources, offset, op)?;
-    check_operands(stacks, resources, offset, types)
+    let found = table_types(stacks, resources, op);
+    exchange_found(stacks, resources, found)
 }

@@ -1,12 +1,12 @@
 -- The row of an access, by what it takes and gives.
-use Rattle.std.proofs.Common.{◌≡◌, ℕ, Bool, true, false, ◌&&◌, ◌||◌, List, [], ◌∷◌, ◌++◌, refl, sym, ap, ◌∙◌, subst}
+use Rattle.std.proofs.Common.{◌≡◌, Bool, true, false, ◌||◌, List, [], ◌∷◌, ◌++◌, refl, sym, ap, ◌∙◌, subst}
 use Rattle.std.specs.List.{AllByRecursion}
 use Rattle.validate_resources.specs.Context.{ModuleContext, Valid}
 use Rattle.validate_types.specs.declared.types.FieldType.{FieldType}
 use Rattle.validate_visit.specs.declared.shared.FieldAccess.{FieldAccess}
 use Rattle.validate_visit.specs.declared.shared.FieldAccess.TheVariants.{Whole, GetPacked}
-use Rattle.validate_visit.specs.declared.shared.GlobalAccess.TheVariants.{Value, Rmw}
-use Rattle.validate_visit.specs.declared.shared.TableAccess.TheVariants.{Get, Set, Xchg, Cmpxchg}
+use Rattle.validate_visit.specs.declared.shared.Update.TheVariants.{Value, Rmw}
+use Rattle.validate_visit.specs.declared.shared.Exchange.TheVariants.{Get, Set, Xchg, Cmpxchg}
 use Rattle.validation_rules.specs.Context.{ValType, Context}
 use Rattle.validation_rules.specs.Shapes.{plain_row_if}
 use Rattle.validation_rules.specs.Shared.{is_accessible, wanted_by, given_by, place_row}

@@ -1,10 +1,9 @@
 -- The steps of operators that make a struct with a descriptor, read one, or cast by one, by their pops: once the
 -- descriptor is popped, a struct is made, or a cast is one, like others.
-use Rattle.std.proofs.Common.{◌≡◌, ◌≢◌, ℕ, Bool, true, false, ◌||◌, is_none, subst, List, [], ◌∷◌, ◌++◌, reverse, Option, Some, None, Result, Ok, Err, OnOk, refl, sym, ap, ap₂, ◌∙◌}
+use Rattle.std.proofs.Common.{◌≡◌, ◌≢◌, ℕ, Bool, true, false, not, ◌&&◌, ◌||◌, List, [], ◌∷◌, ◌++◌, reverse, Option, Some, None, refl, sym, ap, ap₂, ◌∙◌}
 use Rattle.std.specs.Option.{option_map, option_and_then}
 use Rattle.std.proofs.lemmas.List.{reverse-append}
 use Rattle.validate_resources.specs.Context.{ModuleContext}
-use Rattle.validate_types.specs.Refusal.{Refusal}
 use Rattle.validate_types.specs.Refs.{nullable_reference, non_null_reference, is_exact}
 use Rattle.validate_types.specs.declared.heap.HeapType.{HeapType}
 use Rattle.validate_types.specs.declared.heap.HeapType.TheVariants.{Exact}
@@ -16,21 +15,24 @@ use Rattle.validate_visit.specs.declared.op.BranchCast.{BranchCast}
 use Rattle.validation_rules.specs.Branches.{has_label, label_types_at}
 use Rattle.validation_rules.specs.Casts.{CastTypes, cast_type, cast_operand, checked_cast, split_last, with_last, cast_branch_row_for, cast_branch_row}
 use Rattle.validation_rules.specs.Context.{ValType, Ref, Context}
-use Rattle.validation_rules.specs.Descriptors.{descriptor_at, descriptor, descriptor_in, is_found_exact, get_desc_pushes, ref_get_desc_row, tested_row_if, is_cast_descriptor, ref_cast_desc_eq_row, without_last, descriptor_branch_row_for, descriptor_branch_row, cast_desc_eq_branch_row}
+use Rattle.validation_rules.specs.Descriptors.{descriptor_at, descriptor, descriptor_in, is_found_exact, get_desc_pushes, ref_get_desc_row, tested_row_if, is_below_if_known, is_cast_descriptor, ref_cast_desc_eq_row, without_last, descriptor_branch_row_for, descriptor_branch_row, cast_desc_eq_branch_row}
 use Rattle.validation_rules.specs.Exact.{declared_heap, allocated_reference}
 use Rattle.validation_rules.specs.Fits.{MaybeType, Known, fits}
 use Rattle.validation_rules.specs.Indirect.{type_reference}
 use Rattle.validation_rules.specs.Operators.{plain_row, plain_row_if, lookup_row, lookups_row, never_row, looking_row, row_operator, staying_operator}
 use Rattle.validation_rules.specs.Rows.{Head, Row, guard}
-use Rattle.validation_rules.specs.Static.{Frame, State, heads}
+use Rattle.validation_rules.specs.Static.{Frame, heads}
 use Rattle.validation_rules.specs.Structs.{struct_type, described_row_for}
-use Rattle.validate_stacks.specs.Pops.{may_pop, body_popped_each, body_pushed_each, IsKept}
-use Rattle.validate_stacks.specs.Attempts.{Phase, Clean, Moved, Set, Framed, Unset, Marked, Stacked, phase_moved, is_quiet, may_step}
-use Rattle.validate_stacks.specs.State.{BodyState, IsValidBody, body_context}
+use Rattle.validate_stacks.specs.AtOnce.{body_dropped}
+use Rattle.validate_stacks.specs.Pops.{may_pop, body_popped_each, body_pushed_each, has_operands_fitting}
+use Rattle.validate_stacks.specs.State.{BodyState, body_context}
 use Rattle.validate_stacks.specs.Steps.{found_in_body, body_popped, body_pushed}
-use Rattle.validate_stacks.specs.Visits.{step_body, MayVisit}
+use Rattle.validate_stacks.specs.Visits.{step_body}
+use Rattle.validation_rules.proofs.Steps.{some_injective}
 use Rattle.validate_stacks.proofs.Validity.{popped_kept}
-use Rattle.validate_stacks.proofs.Whole.{popped_next}
+use Rattle.validate_stacks.proofs.AtOnce.{popped_dropped}
+use Rattle.validate_stacks.proofs.Moves.{not_popped, fits_now}
+use Rattle.validate_stacks.proofs.Whole.{popped_none, popped_next}
 use Rattle.validate_shapes.proofs.BranchSteps.{popped_heads, pushes_is}
 use Rattle.validate_shapes.proofs.LookupRows.{at_labels, barred}
 use Rattle.validate_shapes.proofs.ReferenceSteps.{one_is, tested_types, tested_is}
@@ -46,25 +48,6 @@ guard_none : {A : Type 0} (b : Bool) → guard {A = A} b None ≡ None
 guard_none true = refl
 guard_none false = refl
 
--- where two facts of what is answered give a third
-pub on_both : {A B C : Type 0} (r : Result (Unit {0}) Refusal) → OnOk r A → OnOk r B → (A → B → C) → OnOk r C
-on_both (Ok u) a b f = f a b
-on_both (Err e) a b f = tt
-
--- what is left of an operator after a pop may still be done
-quiet_moved : (p : Phase) → is_quiet (phase_moved p) ≡ is_quiet p
-quiet_moved Clean = refl
-quiet_moved Moved = refl
-quiet_moved Set = refl
-quiet_moved Framed = refl
-quiet_moved Unset = refl
-quiet_moved Marked = refl
-
-step_after : (v w : Stacked) → IsKept v.body w.body → phase_moved w.phase ≡ phase_moved v.phase → may_step v ≡ true → may_step w ≡ true
-step_after v w k e h =
-    ap (λ b. (is_none w.body.undone || b)) (sym (quiet_moved w.phase) ∙ ap is_quiet e ∙ quiet_moved v.phase)
-    ∙ ap (λ (u : Option State). (is_none u || is_quiet v.phase)) (ap (λ x. x.undone) k) ∙ h
-
 -- a pop leaves a frame open
 popped_open : (v : BodyState) → v.present.frames ≢ [] → (body_popped v).present.frames ≢ []
 popped_open v o e = by v.present.frames refl (sym (popped_heads v) ∙ ap heads e)
@@ -73,13 +56,46 @@ popped_open v o e = by v.present.frames refl (sym (popped_heads v) ∙ ap heads 
     by [] k q = o k
     by (f ∷ fs) k q = cc
 
-pub visit_after : (md : ModuleContext) (v w : Stacked) → MayVisit md v → w.body ≡ body_popped v.body → phase_moved w.phase ≡ phase_moved v.phase → IsValidBody md w.body → IsKept v.body w.body → MayVisit md w
-visit_after md v w m popped phase valid kept =
-    record {
-      open_frame = subst (λ (u : BodyState). u.present.frames ≢ []) (sym popped) (popped_open v.body m.open_frame);
-      valid = valid;
-      attempt = step_after v w kept phase m.attempt;
-    }
+-- the row of what is made with a descriptor, by the type of that
+pub described_as : (md : ModuleContext) (v : BodyState) (i : ℕ) (d : ValType) → option_map (descriptor true) (descriptor_at md i) ≡ Some d → (row : ValType → List FieldType → ValType → Row) → described_row_for (body_context md v) i row ≡ lookups_row (struct_type (body_context md v) i) (allocated_reference (body_context md v) i) (row d)
+described_as md v i d e row = by (descriptor_at md i) e
+  where
+    under : ValType → Row
+    under t = lookups_row (struct_type (body_context md v) i) (allocated_reference (body_context md v) i) (row t)
+
+    by : (q : Option UnpackedIndex) → option_map (descriptor true) q ≡ Some d → lookup_row q (λ u. under (descriptor true u)) ≡ under d
+    by None k = absurd cc
+    by (Some u) k = ap under (some_injective (descriptor true u) d k)
+
+-- an operand that fits can be popped, and one that doesn't can't
+pub is_there : (md : ModuleContext) (v : BodyState) (w : ValType) → has_operands_fitting (body_context md v) (w ∷ []) (body_dropped 0 v) ≡ true → may_pop (body_context md v) (found_in_body v) (Some w) ≡ true
+is_there md v w h = passed _ _ _ (sym (popped_next md w [] v) ∙ popped_dropped md (w ∷ []) v (fits_now md (w ∷ []) v true h))
+  where
+    passed : (b : Bool) (q : Option BodyState) (x : BodyState) → guard b q ≡ Some x → b ≡ true
+    passed true q x e = refl
+    passed false q x e = absurd cc
+
+pub not_there : (md : ModuleContext) (v : BodyState) → v.present.frames ≢ [] → (w : ValType) → has_operands_fitting (body_context md v) (w ∷ []) (body_dropped 0 v) ≡ false → may_pop (body_context md v) (found_in_body v) (Some w) ≡ false
+not_there md v o w h =
+    let b = may_pop (body_context md v) (found_in_body v) (Some w) in
+    shut b (body_popped v) (sym (popped_next md w [] v ∙ ap (guard b) (popped_none md (body_popped v))) ∙ not_popped md (w ∷ []) v o (fits_now md (w ∷ []) v false h))
+  where
+    shut : (b : Bool) (x : BodyState) → guard b (Some x) ≡ None → b ≡ false
+    shut true x e = absurd cc
+    shut false x e = refl
+
+-- ---- the descriptor by which something is cast
+
+module _ (cx : Context) (exact : Bool) (d : UnpackedIndex) where
+  pub another_descriptor : (f : Option MaybeType) → may_pop cx f (Some (descriptor false d)) ≡ false → found_descriptor cx exact d f ≡ false
+  another_descriptor None h = refl
+  another_descriptor (Some x) h = ap (λ b. b && (not exact || is_below_if_known cx.of_module (descriptor true d) x)) h
+
+  -- one of its type, which is asked to be exact
+  pub that_descriptor : (f : Option MaybeType) (x : MaybeType) → f ≡ Some x → may_pop cx f (Some (descriptor false d)) ≡ true → found_descriptor cx exact d f ≡ (not exact || is_below_if_known cx.of_module (descriptor true d) x)
+  that_descriptor f x e h =
+      ap (found_descriptor cx exact d) e
+      ∙ ap (λ b. b && (not exact || is_below_if_known cx.of_module (descriptor true d) x)) (sym (ap (λ g. may_pop cx g (Some (descriptor false d))) e) ∙ h)
 
 module _ (md : ModuleContext) (v : BodyState) (o : v.present.frames ≢ []) where
   abbrev cx : Context
@@ -140,15 +156,6 @@ module _ (md : ModuleContext) (v : BodyState) (o : v.present.frames ≢ []) wher
         by None e k =
             barred md v (λ c hs. described_row_for c i with_descriptor)
             (ap (λ q. (lookup_row q (λ d. lookups_row (struct_type cx i) (allocated_reference cx i) (with_descriptor (descriptor true d)))).premise) e)
-        by (Some d) e k =
-            by_descriptor d e
-            ∙ ap (λ b. guard b (step_body md (λ c. row_operator (lookups_row (struct_type c i) (allocated_reference c i) under_row)) (body_popped v))) k
-
-    pub made_rest : (u : BodyState) → found_new_descriptor cx (descriptor_at md i) (found_in_body v) ≡ true → u ≡ body_popped v → step_body md (λ c. row_operator (described_row_for c i with_descriptor)) v ≡ step_body md (λ c. row_operator (lookups_row (struct_type c i) (allocated_reference c i) under_row)) u
-    made_rest u h popped = by (descriptor_at md i) refl h ∙ ap (λ (w : BodyState). step_body md (λ c. row_operator (lookups_row (struct_type c i) (allocated_reference c i) under_row)) w) (sym popped)
-      where
-        by : (q : Option UnpackedIndex) → descriptor_at md i ≡ q → found_new_descriptor cx q (found_in_body v) ≡ true → step_body md (λ c. row_operator (described_row_for c i with_descriptor)) v ≡ step_body md (λ c. row_operator (lookups_row (struct_type c i) (allocated_reference c i) under_row)) (body_popped v)
-        by None e k = absurd cc
         by (Some d) e k =
             by_descriptor d e
             ∙ ap (λ b. guard b (step_body md (λ c. row_operator (lookups_row (struct_type c i) (allocated_reference c i) under_row)) (body_popped v))) k

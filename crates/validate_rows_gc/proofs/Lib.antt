@@ -1,5 +1,5 @@
+pub mod Below
 pub mod FoundSteps
 pub mod CastBranches
 pub mod DescriptorSteps
-pub mod LateTests
 pub mod AccessRows

@@ -1,16 +1,13 @@
--- A descriptor that is found, and the rows of what is left to do once it is popped (the crate's own).
+-- A descriptor that is found, and the row of what is made with it (the crate's own).
 use Rattle.std.specs.Prelude.{ℕ, Bool, true, false, [], ◌∷◌, Option, Some, None}
-use Rattle.validate_types.specs.Types.{unpacked_fields}
 use Rattle.validate_types.specs.declared.heap.UnpackedIndex.{UnpackedIndex}
-use Rattle.validate_visit.specs.declared.op.StructOp.{StructOp}
-use Rattle.validate_visit.specs.declared.op.StructOp.TheVariants.{StructNewDesc, StructNewDefaultDesc}
-use Rattle.validation_rules.specs.Context.{Context}
+use Rattle.validation_rules.specs.Context.{Context, ValType}
 use Rattle.validation_rules.specs.Descriptors.{descriptor, is_cast_descriptor}
 use Rattle.validation_rules.specs.Exact.{allocated_reference}
 use Rattle.validation_rules.specs.Fits.{MaybeType}
-use Rattle.validation_rules.specs.Operators.{plain_row, plain_row_if, lookups_row}
+use Rattle.validation_rules.specs.Operators.{plain_row_if, lookups_row}
 use Rattle.validation_rules.specs.Rows.{Row}
-use Rattle.validation_rules.specs.Structs.{struct_type, have_defaults, struct_row}
+use Rattle.validation_rules.specs.Structs.{struct_type, have_defaults}
 use Rattle.validate_stacks.specs.Pops.{may_pop}
 
 -- something is found, and it is a descriptor by which such a cast is made
@@ -23,20 +20,8 @@ abbrev pub found_new_descriptor : Context → Option UnpackedIndex → Option Ma
 found_new_descriptor cx None found = false
 found_new_descriptor cx (Some d) found = may_pop cx found (Some (descriptor true d))
 
--- a struct is made of a value for each field
-abbrev pub fields_row : Context → ℕ → Row
-fields_row cx i =
+-- a struct is made of defaults, with a descriptor of this type
+abbrev pub defaults_row : Context → ℕ → ValType → Row
+defaults_row cx i d =
     lookups_row (struct_type cx i) (allocated_reference cx i)
-    (λ fields t. plain_row (unpacked_fields fields) (t ∷ []))
-
--- each field has a default value
-abbrev pub defaults_row : Context → ℕ → Row
-defaults_row cx i =
-    lookups_row (struct_type cx i) (allocated_reference cx i)
-    (λ fields t. plain_row_if (have_defaults fields) [] (t ∷ []))
-
--- the row of an operator on structs, once the descriptor is popped with which it makes one
-abbrev pub row_under_descriptor : Context → StructOp → Row
-row_under_descriptor cx (StructNewDesc i) = fields_row cx i
-row_under_descriptor cx (StructNewDefaultDesc i) = defaults_row cx i
-row_under_descriptor cx op = struct_row cx op
+    (λ fields t. plain_row_if (have_defaults fields) (d ∷ []) (t ∷ []))

@@ -4,13 +4,13 @@ ghost use Rattle.std.specs.Prelude.{◌≡◌, ◌++◌};
 ghost use Rattle.validate_resources.specs.Context.{Valid};
 ghost use Rattle.validate_types.specs.Types.{unpacked_type};
 ghost use Rattle.validation_rules.specs.Shared as rule;
-ghost use Rattle.validate_shapes.specs.Operands.{few_types};
+ghost use Rattle.validate_shapes.specs.Operands.{few_types, given_types};
 ghost use Rattle.validate_rows_gc.specs.Accesses.{place_types};
 
 use validate_resources::WasmModuleResources;
-use validate_shapes::operands::Few;
+use validate_shapes::operands::{Few, Given};
 use validate_types::{AbstractHeapType, HeapType, RefType, StorageType, ValType};
-use validate_visit::{FieldAccess, GlobalAccess, SharedRmwOp, Sign, TableAccess};
+use validate_visit::{Exchange, FieldAccess, SharedRmwOp, Sign, Update};
 
 /// The operands that name a place, beside the indices of its operator.
 #[derive(Clone, Copy)]
@@ -71,16 +71,16 @@ pub fn is_allowed<R: WasmModuleResources>(
 {
     match access {
         FieldAccess::GetPacked(_) => held.is_packed(),
-        FieldAccess::Whole(GlobalAccess::Rmw(_)) => is_integer(held),
-        FieldAccess::Whole(GlobalAccess::Value(access)) => match access {
-            TableAccess::Get | TableAccess::Xchg => {
+        FieldAccess::Whole(Update::Rmw(_)) => is_integer(held),
+        FieldAccess::Whole(Update::Value(access)) => match access {
+            Exchange::Get | Exchange::Xchg => {
                 is_integer_or_below(resources, shared, AbstractHeapType::Any, held)
             }
-            TableAccess::Set => {
+            Exchange::Set => {
                 held.is_packed()
                     || is_integer_or_below(resources, shared, AbstractHeapType::Any, held)
             }
-            TableAccess::Cmpxchg => {
+            Exchange::Cmpxchg => {
                 is_integer_or_below(resources, shared, AbstractHeapType::Eq, held)
             }
         },
@@ -93,7 +93,7 @@ pub fn is_read(access: FieldAccess) -> bool
 {
     matches!(
         access,
-        FieldAccess::Whole(GlobalAccess::Value(TableAccess::Get)) | FieldAccess::GetPacked(_)
+        FieldAccess::Whole(Update::Value(Exchange::Get)) | FieldAccess::GetPacked(_)
     )
 }
 
@@ -102,14 +102,14 @@ pub fn wanted_by(place: Place, access: FieldAccess, value: ValType) -> Few
     ensures { few_types result ≡ place_types place ++ rule.wanted_by access value }
 {
     match access {
-        FieldAccess::Whole(GlobalAccess::Value(TableAccess::Get)) | FieldAccess::GetPacked(_) => {
+        FieldAccess::Whole(Update::Value(Exchange::Get)) | FieldAccess::GetPacked(_) => {
             match place {
                 Place::Named => Few::Zero,
                 Place::One(a) => Few::One(a),
                 Place::Two(a, b) => Few::Two(a, b),
             }
         }
-        FieldAccess::Whole(GlobalAccess::Value(TableAccess::Cmpxchg)) => match place {
+        FieldAccess::Whole(Update::Value(Exchange::Cmpxchg)) => match place {
             Place::Named => Few::Two(value, value),
             Place::One(a) => Few::Three(a, value, value),
             Place::Two(a, b) => Few::Four(a, b, value, value),
@@ -123,12 +123,12 @@ pub fn wanted_by(place: Place, access: FieldAccess, value: ValType) -> Few
 }
 
 /// What it gives.
-pub fn given_by(access: FieldAccess, value: ValType) -> Few
-    ensures { few_types result ≡ rule.given_by access value }
+pub fn given_by(access: FieldAccess, value: ValType) -> Given<'static>
+    ensures { given_types result ≡ rule.given_by access value }
 {
     match access {
-        FieldAccess::Whole(GlobalAccess::Value(TableAccess::Set)) => Few::Zero,
-        _ => Few::One(value),
+        FieldAccess::Whole(Update::Value(Exchange::Set)) => Given::Nothing,
+        _ => Given::One(value),
     }
 }
 
@@ -137,14 +137,14 @@ pub fn name_of(access: FieldAccess) -> &'static str {
     match access {
         FieldAccess::GetPacked(Sign::Signed) => "get_s",
         FieldAccess::GetPacked(Sign::Unsigned) => "get_u",
-        FieldAccess::Whole(GlobalAccess::Value(TableAccess::Get)) => "get",
-        FieldAccess::Whole(GlobalAccess::Value(TableAccess::Set)) => "set",
-        FieldAccess::Whole(GlobalAccess::Value(TableAccess::Xchg)) => "rmw.xchg",
-        FieldAccess::Whole(GlobalAccess::Value(TableAccess::Cmpxchg)) => "rmw.cmpxchg",
-        FieldAccess::Whole(GlobalAccess::Rmw(SharedRmwOp::Add)) => "rmw.add",
-        FieldAccess::Whole(GlobalAccess::Rmw(SharedRmwOp::Sub)) => "rmw.sub",
-        FieldAccess::Whole(GlobalAccess::Rmw(SharedRmwOp::And)) => "rmw.and",
-        FieldAccess::Whole(GlobalAccess::Rmw(SharedRmwOp::Or)) => "rmw.or",
-        FieldAccess::Whole(GlobalAccess::Rmw(SharedRmwOp::Xor)) => "rmw.xor",
+        FieldAccess::Whole(Update::Value(Exchange::Get)) => "get",
+        FieldAccess::Whole(Update::Value(Exchange::Set)) => "set",
+        FieldAccess::Whole(Update::Value(Exchange::Xchg)) => "rmw.xchg",
+        FieldAccess::Whole(Update::Value(Exchange::Cmpxchg)) => "rmw.cmpxchg",
+        FieldAccess::Whole(Update::Rmw(SharedRmwOp::Add)) => "rmw.add",
+        FieldAccess::Whole(Update::Rmw(SharedRmwOp::Sub)) => "rmw.sub",
+        FieldAccess::Whole(Update::Rmw(SharedRmwOp::And)) => "rmw.and",
+        FieldAccess::Whole(Update::Rmw(SharedRmwOp::Or)) => "rmw.or",
+        FieldAccess::Whole(Update::Rmw(SharedRmwOp::Xor)) => "rmw.xor",
     }
 }

@@ -1,94 +1,86 @@
 //! Casts, tests of casts, and branches by a cast (WebAssembly core specification, "Reference Instructions"
 //! and "Control Instructions").
 
-ghost use Rattle.std.specs.Prelude.{◌≡◌, true, false, None, Some, IfOk, OnOk, OnErr, IfErr};
+ghost use Rattle.std.specs.Prelude.{◌≡◌, ◌≤◌, true, false, None, Some, IfOk, OnOk, OnErr, IfErr};
 ghost use Rattle.validate_resources.specs.Context.{Valid};
-ghost use Rattle.validation_rules.specs.Casts.{is_castable, cast_operand, ref_test_row, ref_cast_row, may_cast, cast_branch_row, types_on_cast, types_on_cast_fail, br_on_cast_row, br_on_cast_fail_row};
+ghost use Rattle.validation_rules.specs.Casts.{is_castable, cast_operand, ref_test_row, ref_cast_row, may_cast, cast_branch_row, br_on_cast_row, br_on_cast_fail_row};
 ghost use Rattle.validation_rules.specs.Casts as rule;
 ghost use Rattle.validation_rules.specs.Operators.{row_operator, staying_operator};
-ghost use Rattle.validate_stacks.specs.AtOnce.{MeetsAtOnce};
+ghost use Rattle.validate_stacks.specs.Moves.{Moves};
 ghost use Rattle.validate_stacks.specs.State.{body_context};
-ghost use Rattle.validate_stacks.specs.Visits.{MayVisit, Meets};
-ghost use Rattle.validate_rows_gc.specs.Casts.{cast_types};
+ghost use Rattle.validate_stacks.specs.Visits.{MayVisit};
+ghost use Rattle.validate_rows_gc.specs.Casts.{branch_row, branch_types, cast_types, MovesBelow};
 
 use validate_resources::WasmModuleResources;
 use validate_resources::uses::laws;
-use validate_shapes::labels::label;
-use validate_shapes::plain::{check_onto, check_plain, plain_at_once};
+use validate_shapes::plain::plain;
 use validate_stacks::Stacks;
 use validate_stacks::blocks::label_types;
-use validate_types::{AbstractHeapType, Error, HeapType, RefType, ValType};
+use validate_types::{
+    AbstractHeapType, HeapType, MaybeType, RefType, Refusal, Refused, ValType, grown,
+};
 use validate_visit::BranchCast;
 
 /// A reference type whose gates are open and whose indices are known, in canonical form (wasmparser's
 /// `check_ref_type`).
 #[inline(always)]
-fn checked_ref<R: WasmModuleResources>(
+fn checked_ref<A: Refused, R: WasmModuleResources>(
     stacks: &Stacks,
     resources: &R,
-    offset: u64,
     ty: RefType,
-) -> Result<RefType, Error>
+) -> Result<RefType, A>
     ensures found { IfOk result (λ r. rule.checked_ref
         (body_context (R.context resources.now) stacks.now.body) ty ≡ Some r) }
     ensures valid { IfOk result (λ r. Valid (R.context resources.now) (ValType.Ref r)) }
-    ensures refused { IfErr result (λ e. e.wants_memory ≡ false
+    ensures refused { IfErr result (λ e. A.tells e
         → rule.checked_ref (body_context (R.context resources.now) stacks.now.body) ty ≡ None) }
-    ensures offset { IfErr result (λ e. e.offset ≡ offset) }
 {
     laws(resources);
-    match stacks.features().check_ref_type(ty) {
-        Ok(()) => {
-            let mut checked = ty;
-            resources.check_ref_type(&mut checked, offset)?;
-            Ok(checked)
-        }
-        Err(text) => Err(Error::new(text, offset)),
+    if let Err(text) = stacks.features().check_ref_type(ty) {
+        return Err(A::of(Refusal::ReferenceOff(text)));
+    }
+    let mut checked = ty;
+    match resources.check_ref_type(&mut checked, 0) {
+        Ok(()) => Ok(checked),
+        Err(error) => Err(A::by_look_up(error)),
     }
 }
 
 /// Refuses a type that no cast leads to (wasmparser's `check_cast_to_allowed`).
 #[inline(always)]
-fn check_castable<R: WasmModuleResources>(
-    resources: &R,
-    offset: u64,
-    ty: RefType,
-) -> Result<(), Error>
+fn check_castable<A: Refused, R: WasmModuleResources>(resources: &R, ty: RefType) -> Result<(), A>
     requires { Valid (R.context resources.now) (ValType.Ref ty) }
     ensures passed { OnOk result (is_castable (R.context resources.now) ty ≡ true) }
     ensures refused { OnErr result (is_castable (R.context resources.now) ty ≡ false) }
-    ensures offset { IfErr result (λ e. e.offset ≡ offset) }
 {
     match resources.top_type(&ty.heap_type()) {
         HeapType::Abstract {
             ty: AbstractHeapType::Cont,
             ..
-        } => { Err(Error::new("invalid cast: cannot cast to a continuation type", offset)) }
+        } => Err(A::of(Refusal::CastToContinuation)),
         _ => Ok(()),
     }
 }
 
 /// The type of a test or a cast to a heap type, which may be cast to (wasmparser's `check_downcast`).
 #[inline(always)]
-pub fn cast_type<R: WasmModuleResources>(
+pub fn cast_type<A: Refused, R: WasmModuleResources>(
     stacks: &Stacks,
     resources: &R,
-    offset: u64,
     nullable: bool,
     heap_type: HeapType,
-) -> Result<RefType, Error>
+) -> Result<RefType, A>
     ensures found { IfOk result (λ r. rule.cast_type (body_context (R.context resources.now) stacks.now.body)
         nullable heap_type ≡ Some r) }
     ensures valid { IfOk result (λ r. Valid (R.context resources.now) (ValType.Ref r)) }
-    ensures refused { IfErr result (λ e. e.wants_memory ≡ false → rule.cast_type
+    ensures refused { IfErr result (λ e. A.tells e → rule.cast_type
         (body_context (R.context resources.now) stacks.now.body) nullable heap_type ≡ None) }
-    ensures offset { IfErr result (λ e. e.offset ≡ offset) }
 {
     let Some(ty) = RefType::new(nullable, heap_type) else {
-        return Err(Error::new("implementation limit: type index too large", offset));
+        return Err(A::of(Refusal::TypeIndexTooLarge));
     };
-    let checked = checked_ref(stacks, resources, offset, ty)?;
-    check_castable(resources, offset, checked)?;
+    let checked = checked_ref(stacks, resources, ty)?;
+    check_castable(resources, checked)?;
     Ok(checked)
 }
 
@@ -107,75 +99,37 @@ pub fn operand_of_cast<R: WasmModuleResources>(resources: &R, ty: RefType) -> Va
 }
 
 /// `ref.test`: `[(ref null top)] -> [i32]`, with the top type of the hierarchy of the type tested.
-pub fn check_ref_test<R: WasmModuleResources>(
+#[inline(never)]
+pub fn ref_test<A: Refused, R: WasmModuleResources>(
     stacks: &mut Stacks,
     resources: &R,
-    offset: u64,
     nullable: bool,
-    heap_type: HeapType,
-) -> Result<(), Error>
+    heap_type: &HeapType,
+) -> Result<(), A>
     requires { MayVisit (R.context resources.now) stacks.old }
-    ensures { Meets (R.context resources.now) (λ cx. row_operator (ref_test_row cx nullable heap_type))
-        offset stacks.old.body result stacks.new.body }
+    ensures { Moves (R.context resources.now) A.tells (λ cx. row_operator (ref_test_row cx nullable heap_type.now))
+        stacks.old result stacks.new }
 {
-    let ty = cast_type(stacks, resources, offset, nullable, heap_type)?;
+    let ty = cast_type(stacks, resources, nullable, *heap_type)?;
     let operand = operand_of_cast(resources, ty);
-    check_plain(stacks, resources, offset, &[operand], &[ValType::I32])
+    plain(stacks, resources, &[operand], &[ValType::I32])
 }
 
 /// `ref.cast`: `[(ref null top)] -> [t]`, with the top type of the hierarchy of the type t cast to.
-pub fn check_ref_cast<R: WasmModuleResources>(
-    stacks: &mut Stacks,
-    resources: &R,
-    offset: u64,
-    nullable: bool,
-    heap_type: HeapType,
-) -> Result<(), Error>
-    requires { MayVisit (R.context resources.now) stacks.old }
-    ensures { Meets (R.context resources.now) (λ cx. row_operator (ref_cast_row cx nullable heap_type))
-        offset stacks.old.body result stacks.new.body }
-{
-    let ty = cast_type(stacks, resources, offset, nullable, heap_type)?;
-    let operand = operand_of_cast(resources, ty);
-    check_plain(stacks, resources, offset, &[operand], &[ValType::Ref(ty)])
-}
-
-/// [`check_ref_test`], where it passes at once. False, with nothing changed, where it doesn't.
 #[inline(never)]
-pub fn ref_test_at_once<R: WasmModuleResources>(
+pub fn ref_cast<A: Refused, R: WasmModuleResources>(
     stacks: &mut Stacks,
     resources: &R,
     nullable: bool,
-    heap_type: HeapType,
-) -> bool
+    heap_type: &HeapType,
+) -> Result<(), A>
     requires { MayVisit (R.context resources.now) stacks.old }
-    ensures { MeetsAtOnce (R.context resources.now) (λ cx. row_operator (ref_test_row cx nullable heap_type))
+    ensures { Moves (R.context resources.now) A.tells (λ cx. row_operator (ref_cast_row cx nullable heap_type.now))
         stacks.old result stacks.new }
 {
-    let Ok(ty) = cast_type(stacks, resources, 0, nullable, heap_type) else {
-        return false;
-    };
+    let ty = cast_type(stacks, resources, nullable, *heap_type)?;
     let operand = operand_of_cast(resources, ty);
-    plain_at_once(stacks, resources, &[operand], &[ValType::I32])
-}
-
-/// [`check_ref_cast`], where it passes at once. False, with nothing changed, where it doesn't.
-#[inline(never)]
-pub fn ref_cast_at_once<R: WasmModuleResources>(
-    stacks: &mut Stacks,
-    resources: &R,
-    nullable: bool,
-    heap_type: HeapType,
-) -> bool
-    requires { MayVisit (R.context resources.now) stacks.old }
-    ensures { MeetsAtOnce (R.context resources.now) (λ cx. row_operator (ref_cast_row cx nullable heap_type))
-        stacks.old result stacks.new }
-{
-    let Ok(ty) = cast_type(stacks, resources, 0, nullable, heap_type) else {
-        return false;
-    };
-    let operand = operand_of_cast(resources, ty);
-    plain_at_once(stacks, resources, &[operand], &[ValType::Ref(ty)])
+    plain(stacks, resources, &[operand], &[ValType::Ref(ty)])
 }
 
 /// Whether both are one abstract type, as top types are.
@@ -196,337 +150,205 @@ fn is_same_top(a: HeapType, b: HeapType) -> bool
 
 /// Refuses a cast to a type that doesn't lie below the one cast from, or, where references can be exact, is of
 /// another hierarchy; and one that no cast leads to (wasmparser's `check_br_on_cast_type_hierarchy`).
-fn check_may_cast<R: WasmModuleResources>(
+fn check_may_cast<A: Refused, R: WasmModuleResources>(
     stacks: &Stacks,
     resources: &R,
-    offset: u64,
     from: RefType,
     to: RefType,
-) -> Result<(), Error>
+) -> Result<(), A>
     requires from { Valid (R.context resources.now) (ValType.Ref from) }
     requires to { Valid (R.context resources.now) (ValType.Ref to) }
     ensures passed { OnOk result (may_cast (body_context (R.context resources.now) stacks.now.body)
         from to ≡ true) }
     ensures refused { OnErr result (may_cast (body_context (R.context resources.now) stacks.now.body)
         from to ≡ false) }
-    ensures offset { IfErr result (λ e. e.offset ≡ offset) }
 {
-    check_castable(resources, offset, to)?;
+    check_castable(resources, to)?;
     if stacks.features().custom_descriptors() {
         let from_top = resources.top_type(&from.heap_type());
         let to_top = resources.top_type(&to.heap_type());
         if is_same_top(from_top, to_top) {
             Ok(())
         } else {
-            Err(other_hierarchy(stacks, offset, from, to))
+            Err(A::of(Refusal::OtherHierarchy { from, into: to }))
         }
     } else if resources.is_subtype(ValType::Ref(to), ValType::Ref(from)) {
         Ok(())
     } else {
-        Err(not_below(stacks, offset, from, to))
+        Err(A::of(Refusal::CastNotBelow { from, into: to }))
     }
 }
 
-/// The refusal of a cast to a type of another hierarchy.
-#[cold]
-#[inline(never)]
-fn other_hierarchy(stacks: &Stacks, offset: u64, from: RefType, to: RefType) -> Error
-    ensures { result.offset ≡ offset }
-{
-    Error::from_text(
-        format!(in stacks.allocator();
-            "type mismatch: {from} and {to} have different heap type hierarchies"
-        ),
-        offset,
-    )
-}
-
-/// The refusal of a cast to a type that doesn't lie below the one cast from.
-#[cold]
-#[inline(never)]
-fn not_below(stacks: &Stacks, offset: u64, from: RefType, to: RefType) -> Error
-    ensures { result.offset ≡ offset }
-{
-    Error::from_text(
-        format!(in stacks.allocator(); "type mismatch: expected {from}, found {to}"),
-        offset,
-    )
-}
-
 /// Both types of a branch by a cast, in canonical form; the one may be cast to the other.
-pub fn checked_cast<R: WasmModuleResources>(
+pub fn checked_cast<A: Refused, R: WasmModuleResources>(
     stacks: &Stacks,
     resources: &R,
-    offset: u64,
     cast: BranchCast,
-) -> Result<(RefType, RefType), Error>
+) -> Result<(RefType, RefType), A>
     ensures found { IfOk result (λ p. rule.checked_cast (body_context (R.context resources.now) stacks.now.body)
         cast ≡ Some p) }
     ensures from { IfOk result (λ p. Valid (R.context resources.now) (ValType.Ref p.0)) }
     ensures to { IfOk result (λ p. Valid (R.context resources.now) (ValType.Ref p.1)) }
-    ensures refused { IfErr result (λ e. e.wants_memory ≡ false
+    ensures refused { IfErr result (λ e. A.tells e
         → rule.checked_cast (body_context (R.context resources.now) stacks.now.body) cast ≡ None) }
-    ensures offset { IfErr result (λ e. e.offset ≡ offset) }
 {
-    let from = checked_ref(stacks, resources, offset, cast.from_ref_type)?;
-    let to = checked_ref(stacks, resources, offset, cast.to_ref_type)?;
-    check_may_cast(stacks, resources, offset, from, to)?;
+    let from = checked_ref(stacks, resources, cast.from_ref_type)?;
+    let to = checked_ref(stacks, resources, cast.to_ref_type)?;
+    check_may_cast(stacks, resources, from, to)?;
     Ok((from, to))
 }
 
-/// Where a branch by a cast is taken.
+/// A branch by a cast: which of the two it is.
 #[derive(Clone, Copy)]
-pub enum Taken {
-    /// Where the operand is of the type cast to: `br_on_cast`.
+pub(crate) enum CastBranch {
+    /// `br_on_cast`, taken where the operand is of the type cast to.
     OnCast,
-    /// Where it isn't: `br_on_cast_fail`.
+    /// `br_on_cast_fail`, taken where it isn't.
     OnCastFail,
-}
-
-/// The types of a label but its last, and its last.
-fn split_last(types: &[ValType], offset: u64, taken: Taken) -> Result<(&[ValType], ValType), Error>
-    ensures found { IfOk result (λ p. rule.split_last types.now ≡ Some (p.0.now, p.1)) }
-    ensures refused { OnErr result (rule.split_last types.now ≡ None) }
-    ensures offset { IfErr result (λ e. e.offset ≡ offset) }
-{
-    match types.split_last() {
-        Some((last, others)) => Ok((others, *last)),
-        None => Err(Error::new(
-            match taken {
-                Taken::OnCast => {
-                    "type mismatch: br_on_cast to label with empty types, must have a reference type"
-                }
-                Taken::OnCastFail => "type mismatch: expected a reference type, found nothing",
-            },
-            offset,
-        )),
-    }
-}
-
-/// The refusal of a label whose last type doesn't lie above what is carried there.
-#[cold]
-#[inline(never)]
-fn label_not_above(
-    stacks: &Stacks,
-    offset: u64,
-    taken: Taken,
-    label: ValType,
-    carried: RefType,
-) -> Error
-    ensures { result.offset ≡ offset }
-{
-    let text = match taken {
-        Taken::OnCast => {
-            format!(in stacks.allocator();
-                "type mismatch: casting to type {carried}, but it does not match label result type {label}"
-            )
-        }
-        Taken::OnCastFail => {
-            format!(in stacks.allocator();
-                "type mismatch: expected label result type {label}, found {carried}"
-            )
-        }
-    };
-    Error::from_text(text, offset)
-}
-
-/// What is carried to a label lies below its last type.
-fn check_carried<R: WasmModuleResources>(
-    stacks: &Stacks,
-    resources: &R,
-    offset: u64,
-    taken: Taken,
-    label: ValType,
-    carried: RefType,
-) -> Result<(), Error>
-    requires label { Valid (R.context resources.now) label }
-    requires carried { Valid (R.context resources.now) (ValType.Ref carried) }
-    ensures passed { OnOk result ((R.context resources.now).below (ValType.Ref carried) label ≡ true) }
-    ensures refused { OnErr result ((R.context resources.now).below (ValType.Ref carried) label ≡ false) }
-    ensures offset { IfErr result (λ e. e.offset ≡ offset) }
-{
-    if resources.is_subtype(ValType::Ref(carried), label) {
-        Ok(())
-    } else {
-        Err(label_not_above(stacks, offset, taken, label, carried))
-    }
 }
 
 /// The types of a branch by a cast.
 #[derive(Clone, Copy)]
-pub struct CastTypes {
+struct CastTypes {
     /// That of the operand.
-    pub from: RefType,
+    from: RefType,
     /// What is carried to the label.
-    pub carried: RefType,
+    carried: RefType,
     /// What is left where the branch isn't taken.
-    pub left: RefType,
+    left: RefType,
 }
 
-impl CastTypes {
-    /// Those of `br_on_cast`, from the one type to the other.
+impl CastBranch {
+    /// Its types, by those of the cast.
     #[inline(always)]
-    fn on_cast(from: RefType, to: RefType) -> CastTypes
-        ensures { cast_types result ≡ types_on_cast (from, to) }
+    fn types(self, cast: (RefType, RefType)) -> CastTypes
+        ensures { cast_types result ≡ branch_types self cast }
     {
-        CastTypes {
-            from,
-            carried: to,
-            left: RefType::difference(from, to),
+        let (from, to) = cast;
+        let rest = RefType::difference(from, to);
+        match self {
+            CastBranch::OnCast => CastTypes {
+                from,
+                carried: to,
+                left: rest,
+            },
+            CastBranch::OnCastFail => CastTypes {
+                from,
+                carried: rest,
+                left: to,
+            },
         }
     }
 
-    /// Those of `br_on_cast_fail`.
+    /// The types of its label but the last, and the last.
     #[inline(always)]
-    fn on_cast_fail(from: RefType, to: RefType) -> CastTypes
-        ensures { cast_types result ≡ types_on_cast_fail (from, to) }
+    fn last_type<A: Refused>(self, types: &[ValType]) -> Result<(&[ValType], ValType), A>
+        ensures found { IfOk result (λ p. rule.split_last types.now ≡ Some (p.0.now, p.1)) }
+        ensures refused { OnErr result (rule.split_last types.now ≡ None) }
     {
-        CastTypes {
-            from,
-            carried: RefType::difference(from, to),
-            left: to,
+        match types.split_last() {
+            Some((last, others)) => Ok((others, *last)),
+            None => Err(A::of(match self {
+                CastBranch::OnCast => Refusal::CastLabelEmpty,
+                CastBranch::OnCastFail => Refusal::CastFailLabelEmpty,
+            })),
         }
     }
-}
 
-/// A branch by a cast, of types that are checked: `[t from] -> [t left]`, with the types t of the label but
-/// its last, which lies above what is carried there. A label is refused that isn't there or has no types, or whose
-/// last type isn't above what is carried, and so are operands that don't fit.
-pub fn check_cast_branch<R: WasmModuleResources>(
-    stacks: &mut Stacks,
-    resources: &R,
-    offset: u64,
-    relative_depth: u32,
-    taken: Taken,
-    cast: CastTypes,
-) -> Result<(), Error>
-    requires visit { MayVisit (R.context resources.now) stacks.old }
-    requires from { Valid (R.context resources.now) (ValType.Ref cast.from) }
-    requires carried { Valid (R.context resources.now) (ValType.Ref cast.carried) }
-    requires left { Valid (R.context resources.now) (ValType.Ref cast.left) }
-    ensures { Meets (R.context resources.now) (λ cx. staying_operator
-        (λ hs. cast_branch_row cx hs relative_depth (cast_types cast))) offset stacks.old.body result
-        stacks.new.body }
-{
-    let (block_type, kind) = label(stacks, offset, relative_depth)?;
-    let types = label_types(resources, &block_type, kind);
-    let (others, last) = split_last(types, offset, taken)?;
-    check_carried(stacks, resources, offset, taken, last, cast.carried)?;
-    stacks.pop_types(resources, offset, &[ValType::Ref(cast.from)])?;
-    check_onto(stacks, resources, offset, others, ValType::Ref(cast.left))
-}
-
-/// [`check_cast_branch`], where it passes at once, and the label has one type. False, with nothing changed, where it
-/// doesn't.
-fn cast_branch_at_once<R: WasmModuleResources>(
-    stacks: &mut Stacks,
-    resources: &R,
-    relative_depth: u32,
-    cast: &CastTypes,
-) -> bool
-    requires visit { MayVisit (R.context resources.now) stacks.old }
-    requires from { Valid (R.context resources.now) (ValType.Ref cast.now.from) }
-    requires carried { Valid (R.context resources.now) (ValType.Ref cast.now.carried) }
-    requires left { Valid (R.context resources.now) (ValType.Ref cast.now.left) }
-    ensures { MeetsAtOnce (R.context resources.now) (λ cx. staying_operator
-        (λ hs. cast_branch_row cx hs relative_depth (cast_types cast.now))) stacks.old result stacks.new }
-{
-    let Some((block_type, kind)) = stacks.jump(relative_depth) else {
-        return false;
-    };
-    let types = label_types(resources, &block_type, kind);
-    if types.len() != 1 || !resources.is_subtype(ValType::Ref(cast.carried), types[0]) {
-        return false;
+    /// Refuses a label whose last type doesn't lie above what is carried there.
+    #[inline(always)]
+    fn check_carried<A: Refused, R: WasmModuleResources>(
+        self,
+        resources: &R,
+        label: ValType,
+        carried: RefType,
+    ) -> Result<(), A>
+        requires label { Valid (R.context resources.now) label }
+        requires carried { Valid (R.context resources.now) (ValType.Ref carried) }
+        ensures passed { OnOk result ((R.context resources.now).below (ValType.Ref carried) label ≡ true) }
+        ensures refused { OnErr result ((R.context resources.now).below (ValType.Ref carried) label ≡ false) }
+    {
+        if resources.is_subtype(ValType::Ref(carried), label) {
+            return Ok(());
+        }
+        Err(A::of(match self {
+            CastBranch::OnCast => Refusal::CastLabel { label, carried },
+            CastBranch::OnCastFail => Refusal::CastFailLabel { label, carried },
+        }))
     }
-    plain_at_once(
-        stacks,
-        resources,
-        &[ValType::Ref(cast.from)],
-        &[ValType::Ref(cast.left)],
-    )
+}
+
+/// A branch by a cast of types that are checked, below so many operands, which go too: `[t from] -> [t left]`, with the
+/// types t of the label but its last, which lies above what is carried there.
+#[inline(always)]
+pub(crate) fn cast_branch<A: Refused, R: WasmModuleResources>(
+    stacks: &mut Stacks,
+    resources: &R,
+    above: usize,
+    branch: CastBranch,
+    relative_depth: u32,
+    cast: (RefType, RefType),
+) -> Result<(), A>
+    requires visit { MayVisit (R.context resources.now) stacks.old }
+    requires above { above ≤ 1 }
+    requires from { Valid (R.context resources.now) (ValType.Ref cast.0) }
+    requires to { Valid (R.context resources.now) (ValType.Ref cast.1) }
+    ensures { MovesBelow (R.context resources.now) A.tells above
+        (λ cx. staying_operator (λ hs. cast_branch_row cx hs relative_depth (branch_types branch cast)))
+        stacks.old result stacks.new }
+{
+    let (block_type, kind) = stacks.find_label(relative_depth)?;
+    let types = label_types(resources, &block_type, kind);
+    let (others, last) = branch.last_type(types)?;
+    let cast = branch.types(cast);
+    branch.check_carried(resources, last, cast.carried)?;
+    stacks.find_under(resources, above, others, ValType::Ref(cast.from))?;
+    let taken = stacks.own_len().min(others.len() + 1 + above);
+    grown(stacks.exchange_topped(taken, others, MaybeType::Known(ValType::Ref(cast.left))))
+}
+
+/// A branch by a cast: what is carried to the label is of the type cast to, or isn't.
+#[inline(always)]
+fn branch_by_cast<A: Refused, R: WasmModuleResources>(
+    stacks: &mut Stacks,
+    resources: &R,
+    branch: CastBranch,
+    cast: BranchCast,
+) -> Result<(), A>
+    requires { MayVisit (R.context resources.now) stacks.old }
+    ensures { Moves (R.context resources.now) A.tells
+        (λ cx. staying_operator (λ hs. branch_row branch cx hs cast)) stacks.old result stacks.new }
+{
+    let types = checked_cast(stacks, resources, cast)?;
+    cast_branch(stacks, resources, 0, branch, cast.relative_depth, types)
 }
 
 /// `br_on_cast`: `[t from] -> [t left]`, with the types t of the label but its last. What is cast is carried
 /// to the label, and goes on without what it was cast to.
-pub fn check_br_on_cast<R: WasmModuleResources>(
+#[inline(never)]
+pub fn br_on_cast<A: Refused, R: WasmModuleResources>(
     stacks: &mut Stacks,
     resources: &R,
-    offset: u64,
-    cast: BranchCast,
-) -> Result<(), Error>
+    cast: &BranchCast,
+) -> Result<(), A>
     requires { MayVisit (R.context resources.now) stacks.old }
-    ensures { Meets (R.context resources.now) (λ cx. staying_operator (λ hs. br_on_cast_row cx hs cast))
-        offset stacks.old.body result stacks.new.body }
+    ensures { Moves (R.context resources.now) A.tells
+        (λ cx. staying_operator (λ hs. br_on_cast_row cx hs cast.now)) stacks.old result stacks.new }
 {
-    let (from, to) = checked_cast(stacks, resources, offset, cast)?;
-    let types = CastTypes::on_cast(from, to);
-    check_cast_branch(
-        stacks,
-        resources,
-        offset,
-        cast.relative_depth,
-        Taken::OnCast,
-        types,
-    )
+    branch_by_cast(stacks, resources, CastBranch::OnCast, *cast)
 }
 
 /// `br_on_cast_fail`: `[t from] -> [t to]`, with the types t of the label but its last. What isn't cast is
 /// carried to the label.
-pub fn check_br_on_cast_fail<R: WasmModuleResources>(
-    stacks: &mut Stacks,
-    resources: &R,
-    offset: u64,
-    cast: BranchCast,
-) -> Result<(), Error>
-    requires { MayVisit (R.context resources.now) stacks.old }
-    ensures { Meets (R.context resources.now)
-        (λ cx. staying_operator (λ hs. br_on_cast_fail_row cx hs cast)) offset stacks.old.body result
-        stacks.new.body }
-{
-    let (from, to) = checked_cast(stacks, resources, offset, cast)?;
-    let types = CastTypes::on_cast_fail(from, to);
-    check_cast_branch(
-        stacks,
-        resources,
-        offset,
-        cast.relative_depth,
-        Taken::OnCastFail,
-        types,
-    )
-}
-
-/// [`check_br_on_cast`], where it passes at once. False, with nothing changed, where it doesn't.
 #[inline(never)]
-pub fn br_on_cast_at_once<R: WasmModuleResources>(
+pub fn br_on_cast_fail<A: Refused, R: WasmModuleResources>(
     stacks: &mut Stacks,
     resources: &R,
     cast: &BranchCast,
-) -> bool
+) -> Result<(), A>
     requires { MayVisit (R.context resources.now) stacks.old }
-    ensures { MeetsAtOnce (R.context resources.now)
-        (λ cx. staying_operator (λ hs. br_on_cast_row cx hs cast.now)) stacks.old result stacks.new }
-{
-    let Ok((from, to)) = checked_cast(stacks, resources, 0, *cast) else {
-        return false;
-    };
-    let types = CastTypes::on_cast(from, to);
-    cast_branch_at_once(stacks, resources, cast.relative_depth, &types)
-}
-
-/// [`check_br_on_cast_fail`], where it passes at once. False, with nothing changed, where it doesn't.
-#[inline(never)]
-pub fn br_on_cast_fail_at_once<R: WasmModuleResources>(
-    stacks: &mut Stacks,
-    resources: &R,
-    cast: &BranchCast,
-) -> bool
-    requires { MayVisit (R.context resources.now) stacks.old }
-    ensures { MeetsAtOnce (R.context resources.now)
+    ensures { Moves (R.context resources.now) A.tells
         (λ cx. staying_operator (λ hs. br_on_cast_fail_row cx hs cast.now)) stacks.old result stacks.new }
 {
-    let Ok((from, to)) = checked_cast(stacks, resources, 0, *cast) else {
-        return false;
-    };
-    let types = CastTypes::on_cast_fail(from, to);
-    cast_branch_at_once(stacks, resources, cast.relative_depth, &types)
+    branch_by_cast(stacks, resources, CastBranch::OnCastFail, *cast)
 }

@@ -2,6 +2,7 @@
 //! "shared-everything-threads").
 
 ghost use Rattle.std.specs.Prelude.{◌≡◌, ◌≢◌, ◌||◌, true, false, IfOk, OnOk, OnErr, IfErr};
+ghost use Rattle.std.specs.List.{AllByRecursion};
 ghost use Rattle.validate_resources.specs.Context.{ModuleContext, Valid};
 ghost use Rattle.validate_visit.specs.declared.shared.FieldAccess.{FieldAccess};
 ghost use Rattle.validate_visit.specs.declared.shared.SharedOp.{SharedOp};
@@ -10,33 +11,37 @@ ghost use Rattle.validation_rules.specs.Operators.{row_operator, conversion_row}
 ghost use Rattle.validation_rules.specs.Shared.{is_accessible, shared_global_row, shared_table_row, shared_struct_row, shared_array_row, shared_i31, shared_row};
 ghost use Rattle.validation_rules.specs.Shared as rule;
 ghost use Rattle.validation_rules.specs.Structs.{field_value};
-ghost use Rattle.validate_stacks.specs.State.{body_context};
-ghost use Rattle.validate_stacks.specs.Visits.{MayVisit, Meets};
-ghost use Rattle.validate_shapes.specs.Operands.{AreValidOperands};
-ghost use Rattle.validate_rows_gc.specs.Accesses.{tested_row};
+ghost use Rattle.validate_stacks.specs.Moves.{Moves};
+ghost use Rattle.validate_stacks.specs.State.{IsValidBody, body_context};
+ghost use Rattle.validate_stacks.specs.Visits.{MayVisit};
+ghost use Rattle.validate_shapes.specs.Operands.{few_types};
+ghost use Rattle.validate_rows_gc.specs.Accesses.{AreValidTested, tested_row};
 
 use crate::accesses::{Place, given_by, is_allowed, is_read, name_of, wanted_by};
 use validate_resources::WasmModuleResources;
 use validate_shapes::aggregates::{
-    array_field_at, check_mutable_array, check_mutable_field, struct_field_at, type_reference,
-    wrong_array_packing, wrong_field_packing,
+    array_field_at, check_mutable_array, check_mutable_field, packing, struct_field_at,
+    type_reference,
 };
-use validate_shapes::globals::global_type_at;
-use validate_shapes::operands::{Operands, Pushed, Wanted, check_operands};
-use validate_shapes::plain::check_plain;
+use validate_shapes::globals::find_global;
+use validate_shapes::operands::{Few, Given, Operands, exchange_operands};
+use validate_shapes::plain::unary;
 use validate_shapes::tables::table_type_at;
 use validate_stacks::Stacks;
 use validate_types::{
-    AbstractHeapType, Error, FieldType, GlobalType, HeapType, RefType, StorageType, ValType,
+    AbstractHeapType, FieldType, GlobalType, HeapType, RefType, Refusal, Refused, StorageType,
+    ValType,
 };
-use validate_visit::{FieldAccess, FieldIndex, GlobalAccess, SharedOp, TableAccess};
+use validate_visit::{Exchange, FieldAccess, FieldIndex, SharedOp, Update};
 
 /// What an operator takes and gives, and whether its place can be accessed so: where it can't, that is tested
 /// after the operands.
 #[derive(Clone, Copy)]
 pub struct TestedOperands {
-    /// What it takes and gives.
-    pub operands: Operands<'static>,
+    /// What it takes.
+    pub wanted: Few,
+    /// What it gives.
+    pub given: Given<'static>,
     /// Whether its place can be accessed so.
     pub allowed: bool,
 }
@@ -50,29 +55,11 @@ enum Aggregate {
     Array,
 }
 
-/// The refusal of an access to what doesn't allow it.
-#[cold]
-#[inline(never)]
-fn not_allowed(
-    stacks: &Stacks,
-    offset: u64,
-    place: &'static str,
-    name: &'static str,
-    types: &'static str,
-) -> Error
-    ensures { result.offset ≡ offset }
-{
-    Error::from_text(
-        format!(in stacks.allocator(); "invalid type: `{place}.atomic.{name}` only allows {types}"),
-        offset,
-    )
-}
-
 /// The types that this can be done with, where a value is held as it is.
 fn allowed_types(access: FieldAccess) -> &'static str {
     match access {
-        FieldAccess::Whole(GlobalAccess::Rmw(_)) => "`i32` and `i64`",
-        FieldAccess::Whole(GlobalAccess::Value(TableAccess::Cmpxchg)) => {
+        FieldAccess::Whole(Update::Rmw(_)) => "`i32` and `i64`",
+        FieldAccess::Whole(Update::Value(Exchange::Cmpxchg)) => {
             "`i32`, `i64` and subtypes of `eqref`"
         }
         _ => "`i32`, `i64` and subtypes of `anyref`",
@@ -82,70 +69,65 @@ fn allowed_types(access: FieldAccess) -> &'static str {
 /// The refusal of a global that doesn't allow this.
 #[cold]
 #[inline(never)]
-fn global_not_allowed(stacks: &Stacks, offset: u64, access: GlobalAccess) -> Error
-    ensures { result.offset ≡ offset }
-{
+fn global_not_allowed<A: Refused>(access: Update) -> A {
     let access = FieldAccess::Whole(access);
     let name = match access {
-        FieldAccess::Whole(GlobalAccess::Rmw(_)) => "rmw.*",
+        FieldAccess::Whole(Update::Rmw(_)) => "rmw.*",
         _ => name_of(access),
     };
-    not_allowed(stacks, offset, "global", name, allowed_types(access))
+    A::of(Refusal::NotAllowed {
+        place: "global",
+        name,
+        types: allowed_types(access),
+    })
 }
 
 /// The refusal of a table that doesn't allow this.
 #[cold]
 #[inline(never)]
-fn table_not_allowed(stacks: &Stacks, offset: u64, access: TableAccess) -> Error
-    ensures { result.offset ≡ offset }
-{
+fn table_not_allowed<A: Refused>(access: Exchange) -> A {
     let types = match access {
-        TableAccess::Cmpxchg => "subtypes of `eqref`",
+        Exchange::Cmpxchg => "subtypes of `eqref`",
         _ => "subtypes of `anyref`",
     };
-    let name = name_of(FieldAccess::Whole(GlobalAccess::Value(access)));
-    not_allowed(stacks, offset, "table", name, types)
+    A::of(Refusal::NotAllowed {
+        place: "table",
+        name: name_of(FieldAccess::Whole(Update::Value(access))),
+        types,
+    })
 }
 
 /// The refusal of a field that doesn't allow this.
 #[cold]
 #[inline(never)]
-fn field_not_allowed(
-    stacks: &Stacks,
-    offset: u64,
-    aggregate: Aggregate,
-    access: FieldAccess,
-) -> Error
-    ensures { result.offset ≡ offset }
-{
+fn field_not_allowed<A: Refused>(aggregate: Aggregate, access: FieldAccess) -> A {
     let place = match aggregate {
         Aggregate::Struct => "struct",
         Aggregate::Array => "array",
     };
     let types = match access {
-        FieldAccess::Whole(GlobalAccess::Value(TableAccess::Set)) => {
+        FieldAccess::Whole(Update::Value(Exchange::Set)) => {
             "`i8`, `i16`, `i32`, `i64` and subtypes of `anyref`"
         }
         _ => allowed_types(access),
     };
-    not_allowed(stacks, offset, place, name_of(access), types)
+    A::of(Refusal::NotAllowed {
+        place,
+        name: name_of(access),
+        types,
+    })
 }
 
 /// The refusal where what doesn't allow this is known after the operands alone.
-fn not_allowed_late(stacks: &Stacks, offset: u64, op: SharedOp) -> Error
+fn not_allowed_late<A: Refused>(op: SharedOp) -> A
     requires { op ≢ SharedOp.RefI31Shared }
-    ensures { result.offset ≡ offset }
 {
     match op {
         SharedOp::RefI31Shared => unreachable!(),
-        SharedOp::Global { access, .. } => global_not_allowed(stacks, offset, access),
-        SharedOp::Table { access, .. } => table_not_allowed(stacks, offset, access),
-        SharedOp::Struct { access, .. } => {
-            field_not_allowed(stacks, offset, Aggregate::Struct, access)
-        }
-        SharedOp::Array { access, .. } => {
-            field_not_allowed(stacks, offset, Aggregate::Array, access)
-        }
+        SharedOp::Global { access, .. } => global_not_allowed(access),
+        SharedOp::Table { access, .. } => table_not_allowed(access),
+        SharedOp::Struct { access, .. } => field_not_allowed(Aggregate::Struct, access),
+        SharedOp::Array { access, .. } => field_not_allowed(Aggregate::Array, access),
     }
 }
 
@@ -154,111 +136,97 @@ fn not_allowed_late(stacks: &Stacks, offset: u64, op: SharedOp) -> Error
 fn is_tested_late(access: FieldAccess) -> bool {
     matches!(
         access,
-        FieldAccess::Whole(GlobalAccess::Value(TableAccess::Get | TableAccess::Set))
+        FieldAccess::Whole(Update::Value(Exchange::Get | Exchange::Set))
     )
 }
 
-/// The refusal of a global that can't be written.
-fn immutable_global(offset: u64, access: GlobalAccess) -> Error
-    ensures { result.offset ≡ offset }
-{
-    let text = match access {
-        GlobalAccess::Value(TableAccess::Xchg) => {
-            "global is immutable: cannot modify it with `global.atomic.rmw.xchg`"
-        }
-        GlobalAccess::Value(TableAccess::Cmpxchg) => {
-            "global is immutable: cannot modify it with `global.atomic.rmw.cmpxchg`"
-        }
-        GlobalAccess::Value(_) => "global is immutable: cannot modify it with `global.set`",
-        GlobalAccess::Rmw(_) => "global is immutable: cannot modify it with `global.atomic.rmw.*`",
-    };
-    Error::new(text, offset)
+/// The name by which an operator that writes a global is refused.
+fn writing_name(access: Update) -> &'static str {
+    match access {
+        Update::Value(Exchange::Xchg) => "global.atomic.rmw.xchg",
+        Update::Value(Exchange::Cmpxchg) => "global.atomic.rmw.cmpxchg",
+        Update::Value(_) => "global.set",
+        Update::Rmw(_) => "global.atomic.rmw.*",
+    }
 }
 
 /// A global that is written can be.
-fn check_global_written(offset: u64, access: GlobalAccess, global: GlobalType) -> Result<(), Error>
+fn check_global_written<A: Refused>(access: Update, global: GlobalType) -> Result<(), A>
     ensures passed { OnOk result ((rule.is_read (FieldAccess.Whole access) || global.mutable) ≡ true) }
     ensures refused { OnErr result ((rule.is_read (FieldAccess.Whole access) || global.mutable) ≡ false) }
-    ensures offset { IfErr result (λ e. e.offset ≡ offset) }
 {
     if is_read(FieldAccess::Whole(access)) || global.mutable {
         Ok(())
     } else {
-        Err(immutable_global(offset, access))
+        Err(A::of(Refusal::ImmutableGlobal(writing_name(access))))
     }
 }
 
 /// What an operator on globals takes and gives.
-fn global_access_types<R: WasmModuleResources>(
+fn global_access_types<A: Refused, R: WasmModuleResources>(
     stacks: &Stacks,
     resources: &R,
-    offset: u64,
-    access: GlobalAccess,
+    access: Update,
     global_index: u32,
-) -> Result<TestedOperands, Error>
+) -> Result<TestedOperands, A>
     ensures row { IfOk result (λ t. shared_global_row (body_context (R.context resources.now)
         stacks.now.body) access global_index ≡ tested_row t) }
-    ensures valid { IfOk result (λ t. AreValidOperands (R.context resources.now) t.operands) }
-    ensures refused { IfErr result (λ e. e.wants_memory ≡ false → (shared_global_row
+    ensures valid { IfOk result (AreValidTested (R.context resources.now)) }
+    ensures refused { IfErr result (λ e. A.tells e → (shared_global_row
         (body_context (R.context resources.now) stacks.now.body) access global_index).premise ≡ false) }
-    ensures offset { IfErr result (λ e. e.offset ≡ offset) }
 {
-    let global = global_type_at(stacks, resources, offset, global_index)?;
+    let global = find_global(stacks, resources, global_index)?;
     let whole = FieldAccess::Whole(access);
-    check_global_written(offset, access, global)?;
+    check_global_written(access, global)?;
     let value = global.content_type;
     let allowed = is_allowed(resources, false, whole, StorageType::Val(value));
     if !allowed && !is_tested_late(whole) {
-        return Err(global_not_allowed(stacks, offset, access));
+        return Err(global_not_allowed(access));
     }
-    let operands = Operands {
-        wanted: Wanted::Few(wanted_by(Place::Named, whole, value)),
-        pushed: Pushed::Few(given_by(whole, value)),
-    };
-    Ok(TestedOperands { operands, allowed })
+    Ok(TestedOperands {
+        wanted: wanted_by(Place::Named, whole, value),
+        given: given_by(whole, value),
+        allowed,
+    })
 }
 
 /// What an operator on tables takes and gives.
-fn table_access_types<R: WasmModuleResources>(
+fn table_access_types<A: Refused, R: WasmModuleResources>(
     stacks: &Stacks,
     resources: &R,
-    offset: u64,
-    access: TableAccess,
+    access: Exchange,
     table_index: u32,
-) -> Result<TestedOperands, Error>
+) -> Result<TestedOperands, A>
     ensures row { IfOk result (λ t. shared_table_row (body_context (R.context resources.now)
         stacks.now.body) access table_index ≡ tested_row t) }
-    ensures valid { IfOk result (λ t. AreValidOperands (R.context resources.now) t.operands) }
-    ensures refused { IfErr result (λ e. e.wants_memory ≡ false → (shared_table_row
+    ensures valid { IfOk result (AreValidTested (R.context resources.now)) }
+    ensures refused { IfErr result (λ e. A.tells e → (shared_table_row
         (body_context (R.context resources.now) stacks.now.body) access table_index).premise ≡ false) }
-    ensures offset { IfErr result (λ e. e.offset ≡ offset) }
 {
-    let table = table_type_at(stacks, resources, offset, table_index)?;
-    let whole = FieldAccess::Whole(GlobalAccess::Value(access));
+    let table = table_type_at(stacks, resources, table_index)?;
+    let whole = FieldAccess::Whole(Update::Value(access));
     let value = ValType::Ref(table.element_type);
     let allowed = is_allowed(resources, true, whole, StorageType::Val(value));
     if !allowed && !is_tested_late(whole) {
-        return Err(table_not_allowed(stacks, offset, access));
+        return Err(table_not_allowed(access));
     }
-    let operands = Operands {
-        wanted: Wanted::Few(wanted_by(Place::One(table.index_type()), whole, value)),
-        pushed: Pushed::Few(given_by(whole, value)),
-    };
-    Ok(TestedOperands { operands, allowed })
+    Ok(TestedOperands {
+        wanted: wanted_by(Place::One(table.index_type()), whole, value),
+        given: given_by(whole, value),
+        allowed,
+    })
 }
 
 /// A field isn't packed where it is read as it is, and is packed where so many bits of it are read.
-fn check_packing(
-    offset: u64,
+fn check_packing<A: Refused>(
     aggregate: Aggregate,
     access: FieldAccess,
     held: StorageType,
-) -> Result<(), Error>
+) -> Result<(), A>
     ensures refused { (md : ModuleContext) → OnErr result (rule.is_allowed md true access held ≡ false) }
-    ensures offset { IfErr result (λ e. e.offset ≡ offset) }
 {
     let sign = match access {
-        FieldAccess::Whole(GlobalAccess::Value(TableAccess::Get)) => None,
+        FieldAccess::Whole(Update::Value(Exchange::Get)) => None,
         FieldAccess::GetPacked(sign) => Some(sign),
         FieldAccess::Whole(_) => return Ok(()),
     };
@@ -266,121 +234,110 @@ fn check_packing(
         return Ok(());
     }
     match aggregate {
-        Aggregate::Struct => Err(wrong_field_packing(offset, sign)),
-        Aggregate::Array => Err(wrong_array_packing(offset, sign)),
+        Aggregate::Struct => Err(A::of(Refusal::FieldPacking(packing(sign)))),
+        Aggregate::Array => Err(A::of(Refusal::ArrayPacking(packing(sign)))),
     }
 }
 
 /// A field that is written can be.
-fn check_written(
-    offset: u64,
+fn check_written<A: Refused>(
     aggregate: Aggregate,
     access: FieldAccess,
     held: FieldType,
-) -> Result<(), Error>
+) -> Result<(), A>
     ensures passed { OnOk result ((rule.is_read access || held.mutable) ≡ true) }
     ensures refused { OnErr result ((rule.is_read access || held.mutable) ≡ false) }
-    ensures offset { IfErr result (λ e. e.offset ≡ offset) }
 {
     if is_read(access) {
         return Ok(());
     }
     match aggregate {
-        Aggregate::Struct => check_mutable_field(offset, held),
-        Aggregate::Array => check_mutable_array(offset, held),
+        Aggregate::Struct => check_mutable_field(held),
+        Aggregate::Array => check_mutable_array(held),
     }
 }
 
 /// Whether a field can be accessed so, which is refused where it isn't tested after the operands.
-fn check_field<R: WasmModuleResources>(
-    stacks: &Stacks,
+fn check_field<A: Refused, R: WasmModuleResources>(
     resources: &R,
-    offset: u64,
     aggregate: Aggregate,
     access: FieldAccess,
     held: FieldType,
-) -> Result<bool, Error>
+) -> Result<bool, A>
     requires { Valid (R.context resources.now) (field_value held) }
     ensures known { IfOk result (λ b. is_accessible (R.context resources.now) true access held ≡ b) }
     ensures refused { OnErr result (is_accessible (R.context resources.now) true access held ≡ false) }
-    ensures offset { IfErr result (λ e. e.offset ≡ offset) }
 {
-    check_packing(offset, aggregate, access, held.element_type)?;
-    check_written(offset, aggregate, access, held)?;
+    check_packing(aggregate, access, held.element_type)?;
+    check_written(aggregate, access, held)?;
     let allowed = is_allowed(resources, true, access, held.element_type);
     if allowed || is_tested_late(access) {
         Ok(allowed)
     } else {
-        Err(field_not_allowed(stacks, offset, aggregate, access))
+        Err(field_not_allowed(aggregate, access))
     }
 }
 
 /// What an operator on structs takes and gives.
-fn struct_access_types<R: WasmModuleResources>(
+fn struct_access_types<A: Refused, R: WasmModuleResources>(
     stacks: &Stacks,
     resources: &R,
-    offset: u64,
     access: FieldAccess,
     field: FieldIndex,
-) -> Result<TestedOperands, Error>
+) -> Result<TestedOperands, A>
     ensures row { IfOk result (λ t. shared_struct_row (body_context (R.context resources.now)
         stacks.now.body) access field ≡ tested_row t) }
-    ensures valid { IfOk result (λ t. AreValidOperands (R.context resources.now) t.operands) }
-    ensures refused { IfErr result (λ e. e.wants_memory ≡ false → (shared_struct_row
+    ensures valid { IfOk result (AreValidTested (R.context resources.now)) }
+    ensures refused { IfErr result (λ e. A.tells e → (shared_struct_row
         (body_context (R.context resources.now) stacks.now.body) access field).premise ≡ false) }
-    ensures offset { IfErr result (λ e. e.offset ≡ offset) }
 {
-    let held = struct_field_at(stacks, resources, offset, field)?;
-    let allowed = check_field(stacks, resources, offset, Aggregate::Struct, access, held)?;
-    let holder = type_reference(stacks, resources, offset, true, field.struct_type_index)?;
+    let held = struct_field_at(stacks, resources, field)?;
+    let allowed = check_field(resources, Aggregate::Struct, access, held)?;
+    let holder = type_reference(stacks, resources, true, field.struct_type_index)?;
     let value = held.element_type.unpack();
-    let operands = Operands {
-        wanted: Wanted::Few(wanted_by(Place::One(holder), access, value)),
-        pushed: Pushed::Few(given_by(access, value)),
-    };
-    Ok(TestedOperands { operands, allowed })
+    Ok(TestedOperands {
+        wanted: wanted_by(Place::One(holder), access, value),
+        given: given_by(access, value),
+        allowed,
+    })
 }
 
 /// What an atomic access of an array takes and gives.
-fn array_access_types<R: WasmModuleResources>(
+fn array_access_types<A: Refused, R: WasmModuleResources>(
     stacks: &Stacks,
     resources: &R,
-    offset: u64,
     access: FieldAccess,
     type_index: u32,
-) -> Result<TestedOperands, Error>
+) -> Result<TestedOperands, A>
     ensures row { IfOk result (λ t. shared_array_row (body_context (R.context resources.now)
         stacks.now.body) access type_index ≡ tested_row t) }
-    ensures valid { IfOk result (λ t. AreValidOperands (R.context resources.now) t.operands) }
-    ensures refused { IfErr result (λ e. e.wants_memory ≡ false → (shared_array_row
+    ensures valid { IfOk result (AreValidTested (R.context resources.now)) }
+    ensures refused { IfErr result (λ e. A.tells e → (shared_array_row
         (body_context (R.context resources.now) stacks.now.body) access type_index).premise ≡ false) }
-    ensures offset { IfErr result (λ e. e.offset ≡ offset) }
 {
-    let held = array_field_at(stacks, resources, offset, type_index)?;
-    let allowed = check_field(stacks, resources, offset, Aggregate::Array, access, held)?;
-    let holder = type_reference(stacks, resources, offset, true, type_index)?;
+    let held = array_field_at(stacks, resources, type_index)?;
+    let allowed = check_field(resources, Aggregate::Array, access, held)?;
+    let holder = type_reference(stacks, resources, true, type_index)?;
     let value = held.element_type.unpack();
-    let operands = Operands {
-        wanted: Wanted::Few(wanted_by(Place::Two(holder, ValType::I32), access, value)),
-        pushed: Pushed::Few(given_by(access, value)),
-    };
-    Ok(TestedOperands { operands, allowed })
+    Ok(TestedOperands {
+        wanted: wanted_by(Place::Two(holder, ValType::I32), access, value),
+        given: given_by(access, value),
+        allowed,
+    })
 }
 
 /// What an atomic operator takes and gives, by the place that it names.
-fn access_types<R: WasmModuleResources>(
+fn access_types<A: Refused, R: WasmModuleResources>(
     stacks: &Stacks,
     resources: &R,
-    offset: u64,
     op: SharedOp,
-) -> Result<TestedOperands, Error>
+) -> Result<TestedOperands, A>
     requires { op ≢ SharedOp.RefI31Shared }
     ensures row { IfOk result (λ t. shared_row (body_context (R.context resources.now) stacks.now.body) op
         ≡ tested_row t) }
-    ensures valid { IfOk result (λ t. AreValidOperands (R.context resources.now) t.operands) }
-    ensures refused { IfErr result (λ e. e.wants_memory ≡ false
+    ensures valid { IfOk result (AreValidTested (R.context resources.now)) }
+    ensures refused { IfErr result (λ e. A.tells e
         → (shared_row (body_context (R.context resources.now) stacks.now.body) op).premise ≡ false) }
-    ensures offset { IfErr result (λ e. e.offset ≡ offset) }
 {
     match op {
         SharedOp::RefI31Shared => unreachable!(),
@@ -388,53 +345,74 @@ fn access_types<R: WasmModuleResources>(
             access,
             global_index,
             ..
-        } => global_access_types(stacks, resources, offset, access, global_index),
+        } => global_access_types(stacks, resources, access, global_index),
         SharedOp::Table {
             access,
             table_index,
             ..
-        } => table_access_types(stacks, resources, offset, access, table_index),
+        } => table_access_types(stacks, resources, access, table_index),
         SharedOp::Struct { access, field, .. } => {
-            struct_access_types(stacks, resources, offset, access, field)
+            struct_access_types(stacks, resources, access, field)
         }
         SharedOp::Array {
             access,
             type_index,
             ..
-        } => array_access_types(stacks, resources, offset, access, type_index),
+        } => array_access_types(stacks, resources, access, type_index),
     }
 }
 
-/// The check of an atomic operator, its gate aside.
-fn check_access<R: WasmModuleResources>(
+/// That pops of these types would pass, the last on top. It refuses as [`Stacks::find_operands`] does.
+fn find_few<A: Refused, R: WasmModuleResources>(
+    stacks: &Stacks,
+    resources: &R,
+    wanted: Few,
+) -> Result<(), A>
+    requires types { AllByRecursion (Valid (R.context resources.now)) (few_types wanted) }
+    requires state { IsValidBody (R.context resources.now) stacks.now.body }
+{
+    match wanted {
+        Few::Zero => Ok(()),
+        Few::One(a) => stacks.find_operands(resources, 0, &[a]),
+        Few::Two(a, b) => stacks.find_operands(resources, 0, &[a, b]),
+        Few::Three(a, b, c) => stacks.find_operands(resources, 0, &[a, b, c]),
+        Few::Four(a, b, c, d) => stacks.find_operands(resources, 0, &[a, b, c, d]),
+        Few::Five(a, b, c, d, e) => stacks.find_operands(resources, 0, &[a, b, c, d, e]),
+    }
+}
+
+/// An atomic operator. What its place doesn't allow is refused after operands that aren't there or don't fit.
+fn access<A: Refused, R: WasmModuleResources>(
     stacks: &mut Stacks,
     resources: &R,
-    offset: u64,
     op: SharedOp,
-) -> Result<(), Error>
+) -> Result<(), A>
     requires visit { MayVisit (R.context resources.now) stacks.old }
     requires access { op ≢ SharedOp.RefI31Shared }
-    ensures { Meets (R.context resources.now) (λ cx. row_operator (shared_row cx op)) offset
-        stacks.old.body result stacks.new.body }
+    ensures { Moves (R.context resources.now) A.tells (λ cx. row_operator (shared_row cx op)) stacks.old result
+        stacks.new }
 {
-    let access = access_types(stacks, resources, offset, op)?;
-    check_operands(stacks, resources, offset, access.operands)?;
+    let access = access_types(stacks, resources, op)?;
     if access.allowed {
-        Ok(())
+        exchange_operands(
+            stacks,
+            resources,
+            Operands::few(access.wanted, access.given),
+        )
     } else {
-        Err(not_allowed_late(stacks, offset, op))
+        find_few(stacks, resources, access.wanted)?;
+        Err(not_allowed_late(op))
     }
 }
 
 /// `ref.i31_shared`: `[i32] -> [(ref (shared i31))]`.
-fn check_ref_i31_shared<R: WasmModuleResources>(
+fn ref_i31_shared<A: Refused, R: WasmModuleResources>(
     stacks: &mut Stacks,
     resources: &R,
-    offset: u64,
-) -> Result<(), Error>
+) -> Result<(), A>
     requires { MayVisit (R.context resources.now) stacks.old }
-    ensures { Meets (R.context resources.now) (λ cx. row_operator (conversion_row shared_i31 I32)) offset
-        stacks.old.body result stacks.new.body }
+    ensures { Moves (R.context resources.now) A.tells (λ cx. row_operator (conversion_row shared_i31 I32)) stacks.old
+        result stacks.new }
 {
     let made = RefType {
         nullable: false,
@@ -443,28 +421,22 @@ fn check_ref_i31_shared<R: WasmModuleResources>(
             ty: AbstractHeapType::I31,
         },
     };
-    check_plain(
-        stacks,
-        resources,
-        offset,
-        &[ValType::I32],
-        &[ValType::Ref(made)],
-    )
+    unary(stacks, resources, ValType::I32, ValType::Ref(made))
 }
 
-/// The check of an operator of shared-everything threads, its gate aside.
-pub fn check_shared_row<R: WasmModuleResources>(
+/// An operator of shared-everything threads, its gate aside.
+#[inline(never)]
+pub fn shared_operator<A: Refused, R: WasmModuleResources>(
     stacks: &mut Stacks,
     resources: &R,
-    offset: u64,
     op: SharedOp,
-) -> Result<(), Error>
+) -> Result<(), A>
     requires { MayVisit (R.context resources.now) stacks.old }
-    ensures { Meets (R.context resources.now) (λ cx. row_operator (shared_row cx op)) offset
-        stacks.old.body result stacks.new.body }
+    ensures { Moves (R.context resources.now) A.tells (λ cx. row_operator (shared_row cx op)) stacks.old result
+        stacks.new }
 {
     match op {
-        SharedOp::RefI31Shared => check_ref_i31_shared(stacks, resources, offset),
-        _ => check_access(stacks, resources, offset, op),
+        SharedOp::RefI31Shared => ref_i31_shared(stacks, resources),
+        _ => access(stacks, resources, op),
     }
 }

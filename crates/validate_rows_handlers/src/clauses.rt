@@ -6,6 +6,7 @@ ghost use Rattle.validate_resources.specs.Context.{Valid};
 ghost use Rattle.validation_rules.specs.Context.{Context};
 ghost use Rattle.validation_rules.specs.Exceptions.{clause_to, exception_reference, try_table_operator};
 ghost use Rattle.validation_rules.specs.Fits.{Known, all_fit};
+ghost use Rattle.validation_rules.specs.Operators.{checked_block};
 ghost use Rattle.validation_rules.specs.Static.{heads, clause_fits};
 ghost use Rattle.validate_rows_handlers.specs.Clauses.{is_fitting_catch, are_fitting_catches};
 ghost use Rattle.validate_stacks.specs.State.{IsValidBody, body_context};
@@ -13,13 +14,14 @@ ghost use Rattle.validate_stacks.specs.Visits.{MayVisit, Meets};
 
 use validate_resources::WasmModuleResources;
 use validate_shapes::blocks::check_block_type;
+use validate_shapes::checked::placed;
 use validate_shapes::labels::label;
 use validate_shapes::tags::exception_types_at;
 use validate_stacks::Stacks;
 use validate_stacks::blocks::{label_types, params};
 use validate_stacks::pops::mismatch;
-use validate_types::{Error, RefType, ValType};
-use validate_visit::{Catch, FrameKind, TryTable};
+use validate_types::{ClauseKind, Error, RefType, Refusal, ValType};
+use validate_visit::{BlockType, Catch, FrameKind, TryTable};
 
 /// What each clause carries to its label, one by one from the first: types below those of the label.
 fn check_types<R: WasmModuleResources>(
@@ -66,7 +68,7 @@ fn check_carried<R: WasmModuleResources>(
     let (block_type, kind) = label(stacks, offset, label_index)?;
     let wanted = label_types(resources, &block_type, kind);
     if wanted.len() != types.len() {
-        return Err(Error::new(other_count(catch), offset));
+        return Err(other_count(catch, offset));
     }
     check_types(stacks, resources, offset, types, wanted)
 }
@@ -94,10 +96,10 @@ fn check_carried_with_reference<R: WasmModuleResources>(
     let (block_type, kind) = label(stacks, offset, label_index)?;
     let wanted = label_types(resources, &block_type, kind);
     let Some((last, others)) = wanted.split_last() else {
-        return Err(Error::new(other_count(catch), offset));
+        return Err(other_count(catch, offset));
     };
     if others.len() != types.len() {
-        return Err(Error::new(other_count(catch), offset));
+        return Err(other_count(catch, offset));
     }
     check_types(stacks, resources, offset, types, others)?;
     if !resources.is_subtype(ValType::Ref(RefType::EXN), *last) {
@@ -106,18 +108,36 @@ fn check_carried_with_reference<R: WasmModuleResources>(
     Ok(())
 }
 
-/// The text where a label hasn't as many types as the clause carries.
-fn other_count(catch: Catch) -> &'static str {
+/// The kind of a clause.
+fn kind_of(catch: Catch) -> ClauseKind {
     match catch {
-        Catch::One { .. } => { "type mismatch: catch label must have same number of types as tag" }
-        Catch::OneRef { .. } => {
+        Catch::One { .. } => ClauseKind::Catch,
+        Catch::OneRef { .. } => ClauseKind::CatchRef,
+        Catch::All { .. } => ClauseKind::CatchAll,
+        Catch::AllRef { .. } => ClauseKind::CatchAllRef,
+    }
+}
+
+/// The text where a label hasn't as many types as the clause carries.
+fn count_text(kind: ClauseKind) -> &'static str {
+    match kind {
+        ClauseKind::Catch => "type mismatch: catch label must have same number of types as tag",
+        ClauseKind::CatchRef => {
             "type mismatch: catch_ref label must have one more type than tag types"
         }
-        Catch::All { .. } => "type mismatch: catch_all label must have no result types",
-        Catch::AllRef { .. } => {
+        ClauseKind::CatchAll => "type mismatch: catch_all label must have no result types",
+        ClauseKind::CatchAllRef => {
             "type mismatch: catch_all_ref label must have exactly one result type"
         }
     }
+}
+
+/// The refusal where a label hasn't as many types as the clause carries.
+fn other_count(catch: Catch, offset: u64) -> Error
+    ensures { result.offset ≡ offset }
+{
+    let kind = kind_of(catch);
+    Error::new(count_text(kind), offset).because(Refusal::ClauseArity(kind))
 }
 
 /// The refusal where the last type of a label isn't above the references to exceptions.
@@ -125,10 +145,10 @@ fn other_reference(stacks: &Stacks, offset: u64, catch: Catch, wanted: ValType) 
     ensures { result.offset ≡ offset }
 {
     match catch {
-        Catch::AllRef { .. } => Error::new(
-            "type mismatch: catch_all_ref label must a subtype of (ref exn)",
-            offset,
-        ),
+        Catch::AllRef { .. } => {
+            let text = "type mismatch: catch_all_ref label must a subtype of (ref exn)";
+            Error::new(text, offset).because(Refusal::ClauseReference)
+        }
         _ => mismatch(
             stacks.allocator(),
             wanted,
@@ -155,11 +175,21 @@ fn check_clause<R: WasmModuleResources>(
 {
     match catch {
         Catch::One { tag, label } => {
-            let types = exception_types_at(stacks, resources, offset, tag)?;
+            let types = placed(
+                stacks,
+                resources,
+                offset,
+                exception_types_at(resources, tag),
+            )?;
             check_carried(stacks, resources, offset, catch, label, types)
         }
         Catch::OneRef { tag, label } => {
-            let types = exception_types_at(stacks, resources, offset, tag)?;
+            let types = placed(
+                stacks,
+                resources,
+                offset,
+                exception_types_at(resources, tag),
+            )?;
             check_carried_with_reference(stacks, resources, offset, catch, label, types)
         }
         Catch::All { label } => check_carried(stacks, resources, offset, catch, label, &[]),
@@ -189,6 +219,27 @@ fn check_clauses<R: WasmModuleResources>(
     Ok(())
 }
 
+/// [`check_block_type`], with the text and the place of a refusal.
+fn placed_block_type<R: WasmModuleResources>(
+    stacks: &Stacks,
+    resources: &R,
+    offset: u64,
+    block_type: BlockType,
+) -> Result<BlockType, Error>
+    ensures checked { IfOk result (λ bt. checked_block
+        (body_context (R.context resources.now) stacks.now.body) block_type ≡ Some bt) }
+    ensures refused { IfErr result (λ e. e.wants_memory ≡ false
+        → checked_block (body_context (R.context resources.now) stacks.now.body) block_type ≡ None) }
+    ensures offset { IfErr result (λ e. e.offset ≡ offset) }
+{
+    placed(
+        stacks,
+        resources,
+        offset,
+        check_block_type(stacks, resources, block_type),
+    )
+}
+
 /// `try_table`: takes the parameters of its block type, and opens a frame over them. The labels of its
 /// clauses are counted outside that frame.
 pub fn check_try_table<R: WasmModuleResources>(
@@ -201,7 +252,7 @@ pub fn check_try_table<R: WasmModuleResources>(
     ensures { Meets (R.context resources.now) (λ cx. try_table_operator cx table.entry) offset
         stacks.old.body result stacks.new.body }
 {
-    let block_type = check_block_type(stacks, resources, offset, table.ty)?;
+    let block_type = placed_block_type(stacks, resources, offset, table.ty)?;
     stacks.pop_types(resources, offset, params(resources, &block_type))?;
     check_clauses(stacks, resources, offset, table.catches)?;
     stacks.push_ctrl(resources, offset, FrameKind::TryTable, block_type)

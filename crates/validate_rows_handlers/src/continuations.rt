@@ -9,8 +9,9 @@ ghost use Rattle.validation_rules.specs.Indirect as rule;
 ghost use Rattle.validation_rules.specs.Operators.{staying_operator};
 ghost use Rattle.validation_rules.specs.Static.{heads};
 ghost use Rattle.validate_stacks.specs.State.{IsValidBody, body_context};
-ghost use Rattle.validate_shapes.specs.Operands.{FindsOperands};
-ghost use Rattle.validate_stacks.specs.Visits.{MayVisit, Meets};
+ghost use Rattle.validate_shapes.specs.Operands.{Finds};
+ghost use Rattle.validate_stacks.specs.Moves.{Moves};
+ghost use Rattle.validate_stacks.specs.Visits.{MayVisit};
 ghost use Rattle.validate_rows_handlers.specs.Handlers.{are_fitting_handlers, IsNeverResumed};
 ghost use Rattle.validate_rows_handlers.specs.Targets.{without_targets};
 
@@ -21,10 +22,10 @@ use crate::lookups::{
 };
 use validate_resources::WasmModuleResources;
 use validate_shapes::aggregates::type_reference;
-use validate_shapes::operands::{Few, Operands, Pushed, Wanted, check_operands};
+use validate_shapes::operands::{Few, Given, Operands, Wanted, exchange_operands};
 use validate_shapes::tags::{exception_types_at, tag_at};
-use validate_stacks::{Stacks, ty_to_str};
-use validate_types::{Error, FuncType, RefType, ValType};
+use validate_stacks::Stacks;
+use validate_types::{FuncType, RefType, Refusal, Refused, ValType};
 use validate_visit::{ContinuationOp, Handle};
 
 /// What a `resume` names: what is resumed, and the reference to it.
@@ -38,13 +39,12 @@ struct Resumed<'a> {
 
 /// What is resumed by the continuation type at an index and these handlers, each of which has to fit it
 /// (wasmparser's `check_resume_table`).
-fn check_resume_table<'a, R: WasmModuleResources>(
+fn check_resume_table<'a, A: Refused, R: WasmModuleResources>(
     stacks: &Stacks,
     resources: &'a R,
-    offset: u64,
     cont_type_index: u32,
     handlers: &[Handle],
-) -> Result<Resumed<'a>, Error>
+) -> Result<Resumed<'a>, A>
     requires { IsValidBody (R.context resources.now) stacks.now.body }
     ensures found { IfOk result (λ r. continuation_signature
         (body_context (R.context resources.now) stacks.now.body) cont_type_index
@@ -60,14 +60,13 @@ fn check_resume_table<'a, R: WasmModuleResources>(
     ensures handlers { IfOk result (λ r. are_fitting_handlers
         (body_context (R.context resources.now) stacks.now.body) (heads stacks.now.body.present.frames)
         r.func_type.now handlers.now ≡ true) }
-    ensures refused { IfErr result (λ e. e.wants_memory ≡ false
+    ensures refused { IfErr result (λ e. A.tells e
         → IsNeverResumed (body_context (R.context resources.now) stacks.now.body)
         (heads stacks.now.body.present.frames) cont_type_index handlers.now) }
-    ensures offset { IfErr result (λ e. e.offset ≡ offset) }
 {
-    let func_type = func_type_of_cont_at(stacks, resources, offset, cont_type_index)?;
-    check_handlers(stacks, resources, offset, func_type, handlers)?;
-    let reference = type_reference(stacks, resources, offset, true, cont_type_index)?;
+    let func_type = func_type_of_cont_at(stacks, resources, cont_type_index)?;
+    check_handlers(stacks, resources, func_type, handlers)?;
+    let reference = type_reference(stacks, resources, true, cont_type_index)?;
     Ok(Resumed {
         func_type,
         reference,
@@ -75,213 +74,188 @@ fn check_resume_table<'a, R: WasmModuleResources>(
 }
 
 /// `cont.new`: from a function, or null, a continuation that starts it.
-fn cont_new_types<'a, R: WasmModuleResources>(
+fn cont_new_types<'a, A: Refused, R: WasmModuleResources>(
     stacks: &Stacks,
     resources: &'a R,
-    offset: u64,
     cont_type_index: u32,
-) -> Result<Operands<'a>, Error>
-    ensures { FindsOperands (R.context resources.now)
-        (λ cx. cont_new_row cx cont_type_index) offset stacks.now.body result }
+) -> Result<Operands<'a>, A>
+    ensures { Finds (R.context resources.now) A.tells
+        (λ cx. cont_new_row cx cont_type_index)
+        stacks.now.body result }
 {
-    let cont_type = cont_type_at(stacks, resources, offset, cont_type_index)?;
+    let cont_type = cont_type_at(stacks, resources, cont_type_index)?;
     let from = ValType::Ref(RefType::concrete(true, cont_type.0));
-    let made = type_reference(stacks, resources, offset, false, cont_type_index)?;
-    Ok(Operands::few(Few::One(from), Few::One(made)))
+    let made = type_reference(stacks, resources, false, cont_type_index)?;
+    Ok(Operands::few(Few::One(from), Given::One(made)))
 }
 
 /// `cont.bind`: binds the first parameters of a continuation, of which the second type leaves the others.
-fn cont_bind_types<'a, R: WasmModuleResources>(
+fn cont_bind_types<'a, A: Refused, R: WasmModuleResources>(
     stacks: &Stacks,
     resources: &'a R,
-    offset: u64,
     argument_index: u32,
     result_index: u32,
-) -> Result<Operands<'a>, Error>
-    ensures { FindsOperands (R.context resources.now)
-        (λ cx. cont_bind_row cx argument_index result_index) offset stacks.now.body result }
+) -> Result<Operands<'a>, A>
+    ensures { Finds (R.context resources.now) A.tells
+        (λ cx. cont_bind_row cx argument_index result_index)
+        stacks.now.body result }
 {
-    let argument = func_type_of_cont_at(stacks, resources, offset, argument_index)?;
-    let result = func_type_of_cont_at(stacks, resources, offset, result_index)?;
+    let argument = func_type_of_cont_at(stacks, resources, argument_index)?;
+    let result = func_type_of_cont_at(stacks, resources, result_index)?;
     let (params, left) = (argument.params(), result.params());
     if params.len() < left.len() {
-        return Err(Error::new("type mismatch in continuation arguments", offset));
+        return Err(A::of(Refusal::OtherArguments));
     }
     let (bound, rest) = params.split_at(params.len() - left.len());
     if !is_func_subtype(resources, rest, argument.results(), left, result.results()) {
-        return Err(Error::new("type mismatch in continuation types", offset));
+        return Err(A::of(Refusal::OtherContinuations));
     }
-    let from = type_reference(stacks, resources, offset, true, argument_index)?;
-    let made = type_reference(stacks, resources, offset, false, result_index)?;
+    let from = type_reference(stacks, resources, true, argument_index)?;
+    let made = type_reference(stacks, resources, false, result_index)?;
     Ok(Operands {
-        wanted: Wanted::Under(bound, Few::One(from)),
-        pushed: Pushed::Few(Few::One(made)),
+        wanted: Wanted::Under(bound, from),
+        given: Given::One(made),
     })
 }
 
 /// `suspend`: takes what the tag carries, and gives what is given back for it.
-fn suspend_types<'a, R: WasmModuleResources>(
+fn suspend_types<'a, A: Refused, R: WasmModuleResources>(
     stacks: &Stacks,
     resources: &'a R,
-    offset: u64,
     tag_index: u32,
-) -> Result<Operands<'a>, Error>
-    ensures { FindsOperands (R.context resources.now)
-        (λ cx. suspend_row cx tag_index) offset stacks.now.body result }
+) -> Result<Operands<'a>, A>
+    ensures { Finds (R.context resources.now) A.tells
+        (λ cx. suspend_row cx tag_index)
+        stacks.now.body result }
 {
-    let tag_type = tag_at(stacks, resources, offset, tag_index)?;
+    let tag_type = tag_at(resources, tag_index)?;
     Ok(Operands {
-        wanted: Wanted::Under(tag_type.params(), Few::Zero),
-        pushed: Pushed::Listed(tag_type.results()),
+        wanted: Wanted::Listed(tag_type.params()),
+        given: Given::Listed(tag_type.results()),
     })
 }
 
 /// `resume`: takes what a continuation still takes, and it above that, and gives what it gives.
-fn resume_types<'a, R: WasmModuleResources>(
+fn resume_types<'a, A: Refused, R: WasmModuleResources>(
     stacks: &Stacks,
     resources: &'a R,
-    offset: u64,
     cont_type_index: u32,
     handlers: &[Handle],
-) -> Result<Operands<'a>, Error>
+) -> Result<Operands<'a>, A>
     requires { IsValidBody (R.context resources.now) stacks.now.body }
-    ensures { FindsOperands (R.context resources.now)
+    ensures { Finds (R.context resources.now) A.tells
         (λ cx. without_targets (resume_row cx (heads stacks.now.body.present.frames) cont_type_index
-        handlers.now)) offset stacks.now.body result }
+        handlers.now))
+        stacks.now.body result }
 {
-    let resumed = check_resume_table(stacks, resources, offset, cont_type_index, handlers)?;
+    let resumed = check_resume_table(stacks, resources, cont_type_index, handlers)?;
     Ok(Operands {
-        wanted: Wanted::Under(resumed.func_type.params(), Few::One(resumed.reference)),
-        pushed: Pushed::Listed(resumed.func_type.results()),
+        wanted: Wanted::Under(resumed.func_type.params(), resumed.reference),
+        given: Given::Listed(resumed.func_type.results()),
     })
 }
 
 /// `resume_throw`: takes what an exception with the tag carries, and a continuation above that.
-fn resume_throw_types<'a, R: WasmModuleResources>(
+fn resume_throw_types<'a, A: Refused, R: WasmModuleResources>(
     stacks: &Stacks,
     resources: &'a R,
-    offset: u64,
     cont_type_index: u32,
     tag_index: u32,
     handlers: &[Handle],
-) -> Result<Operands<'a>, Error>
+) -> Result<Operands<'a>, A>
     requires { IsValidBody (R.context resources.now) stacks.now.body }
-    ensures { FindsOperands (R.context resources.now)
+    ensures { Finds (R.context resources.now) A.tells
         (λ cx. without_targets (resume_throw_row cx (heads stacks.now.body.present.frames) cont_type_index
-        tag_index handlers.now)) offset stacks.now.body result }
+        tag_index handlers.now))
+        stacks.now.body result }
 {
-    let resumed = check_resume_table(stacks, resources, offset, cont_type_index, handlers)?;
-    let thrown = exception_types_at(stacks, resources, offset, tag_index)?;
+    let resumed = check_resume_table(stacks, resources, cont_type_index, handlers)?;
+    let thrown = exception_types_at(resources, tag_index)?;
     Ok(Operands {
-        wanted: Wanted::Under(thrown, Few::One(resumed.reference)),
-        pushed: Pushed::Listed(resumed.func_type.results()),
+        wanted: Wanted::Under(thrown, resumed.reference),
+        given: Given::Listed(resumed.func_type.results()),
     })
 }
 
 /// `resume_throw_ref`: takes a reference to an exception, and a continuation above that.
-fn resume_throw_ref_types<'a, R: WasmModuleResources>(
+fn resume_throw_ref_types<'a, A: Refused, R: WasmModuleResources>(
     stacks: &Stacks,
     resources: &'a R,
-    offset: u64,
     cont_type_index: u32,
     handlers: &[Handle],
-) -> Result<Operands<'a>, Error>
+) -> Result<Operands<'a>, A>
     requires { IsValidBody (R.context resources.now) stacks.now.body }
-    ensures { FindsOperands (R.context resources.now)
+    ensures { Finds (R.context resources.now) A.tells
         (λ cx. without_targets (resume_throw_ref_row cx (heads stacks.now.body.present.frames) cont_type_index
-        handlers.now)) offset stacks.now.body result }
+        handlers.now))
+        stacks.now.body result }
 {
-    let resumed = check_resume_table(stacks, resources, offset, cont_type_index, handlers)?;
+    let resumed = check_resume_table(stacks, resources, cont_type_index, handlers)?;
     Ok(Operands {
         wanted: Wanted::Few(Few::Two(ValType::EXNREF, resumed.reference)),
-        pushed: Pushed::Listed(resumed.func_type.results()),
+        given: Given::Listed(resumed.func_type.results()),
     })
-}
-
-/// The refusal of a last parameter that is no reference to a type of the module.
-#[cold]
-#[inline(never)]
-fn no_continuation_reference(stacks: &Stacks, offset: u64, found: ValType) -> Error
-    ensures { result.offset ≡ offset }
-{
-    let found = ty_to_str(found);
-    Error::from_text(
-        format!(in stacks.allocator();
-            "type mismatch: expected a continuation reference, found {found}"
-        ),
-        offset,
-    )
 }
 
 /// `switch`: takes what a continuation still takes but for the one that leads back, which is made here,
 /// and gives what that takes.
-fn switch_types<'a, R: WasmModuleResources>(
+fn switch_types<'a, A: Refused, R: WasmModuleResources>(
     stacks: &Stacks,
     resources: &'a R,
-    offset: u64,
     cont_type_index: u32,
     tag_index: u32,
-) -> Result<Operands<'a>, Error>
-    ensures { FindsOperands (R.context resources.now)
-        (λ cx. switch_row cx cont_type_index tag_index) offset stacks.now.body result }
+) -> Result<Operands<'a>, A>
+    ensures { Finds (R.context resources.now) A.tells
+        (λ cx. switch_row cx cont_type_index tag_index)
+        stacks.now.body result }
 {
-    let func_type = func_type_of_cont_at(stacks, resources, offset, cont_type_index)?;
-    let tag_type = tag_at(stacks, resources, offset, tag_index)?;
+    let func_type = func_type_of_cont_at(stacks, resources, cont_type_index)?;
+    let tag_type = tag_at(resources, tag_index)?;
     if tag_type.params().len() != 0 {
-        return Err(Error::new("type mismatch: non-empty tag parameter type", offset));
+        return Err(A::of(Refusal::TagWithParameters));
     }
     let Some((last, others)) = func_type.params().split_last() else {
-        return Err(Error::new(
-            "type mismatch: instruction requires a continuation reference",
-            offset,
-        ));
+        return Err(A::of(Refusal::WantsContinuation));
     };
     if !is_concrete_reference(*last) {
-        return Err(no_continuation_reference(stacks, offset, *last));
+        return Err(A::of(Refusal::NoContinuationReference(*last)));
     }
     let Some(other) = referenced_continuation(resources, *last) else {
-        return Err(Error::new("non-continuation type", offset));
+        return Err(A::of(Refusal::NoContinuation));
     };
     let (given, back) = (tag_type.results(), func_type.results());
     if !is_func_subtype(resources, given, given, back, other.results()) {
-        return Err(Error::new("type mismatch in continuation types", offset));
+        return Err(A::of(Refusal::OtherContinuations));
     }
-    let from = type_reference(stacks, resources, offset, true, cont_type_index)?;
+    let from = type_reference(stacks, resources, true, cont_type_index)?;
     Ok(Operands {
-        wanted: Wanted::Under(others, Few::One(from)),
-        pushed: Pushed::Listed(other.params()),
+        wanted: Wanted::Under(others, from),
+        given: Given::Listed(other.params()),
     })
 }
 
 /// What an operator on continuations takes and gives, by the types, the tags and the labels that it names.
-fn continuation_types<'a, R: WasmModuleResources>(
+fn continuation_types<'a, A: Refused, R: WasmModuleResources>(
     stacks: &Stacks,
     resources: &'a R,
-    offset: u64,
     op: ContinuationOp<'_>,
-) -> Result<Operands<'a>, Error>
+) -> Result<Operands<'a>, A>
     requires { IsValidBody (R.context resources.now) stacks.now.body }
-    ensures { FindsOperands (R.context resources.now)
-        (λ cx. without_targets (continuation_row cx (heads stacks.now.body.present.frames) op.entry)) offset
+    ensures { Finds (R.context resources.now) A.tells
+        (λ cx. without_targets (continuation_row cx (heads stacks.now.body.present.frames) op.entry))
         stacks.now.body result }
 {
     match op {
-        ContinuationOp::ContNew(index) => cont_new_types(stacks, resources, offset, index),
+        ContinuationOp::ContNew(index) => cont_new_types(stacks, resources, index),
         ContinuationOp::ContBind {
             argument_index,
             result_index,
-        } => cont_bind_types(stacks, resources, offset, argument_index, result_index),
-        ContinuationOp::Suspend(tag) => suspend_types(stacks, resources, offset, tag),
+        } => cont_bind_types(stacks, resources, argument_index, result_index),
+        ContinuationOp::Suspend(tag) => suspend_types(stacks, resources, tag),
         ContinuationOp::Resume {
             cont_type_index,
             resume_table,
-        } => resume_types(
-            stacks,
-            resources,
-            offset,
-            cont_type_index,
-            resume_table.handlers,
-        ),
+        } => resume_types(stacks, resources, cont_type_index, resume_table.handlers),
         ContinuationOp::ResumeThrow {
             cont_type_index,
             tag_index,
@@ -289,7 +263,6 @@ fn continuation_types<'a, R: WasmModuleResources>(
         } => resume_throw_types(
             stacks,
             resources,
-            offset,
             cont_type_index,
             tag_index,
             resume_table.handlers,
@@ -297,32 +270,25 @@ fn continuation_types<'a, R: WasmModuleResources>(
         ContinuationOp::ResumeThrowRef {
             cont_type_index,
             resume_table,
-        } => resume_throw_ref_types(
-            stacks,
-            resources,
-            offset,
-            cont_type_index,
-            resume_table.handlers,
-        ),
+        } => resume_throw_ref_types(stacks, resources, cont_type_index, resume_table.handlers),
         ContinuationOp::Switch {
             cont_type_index,
             tag_index,
-        } => switch_types(stacks, resources, offset, cont_type_index, tag_index),
+        } => switch_types(stacks, resources, cont_type_index, tag_index),
     }
 }
 
-/// The check of an operator on continuations, its gate aside.
-pub fn check_continuation_row<R: WasmModuleResources>(
+/// An operator on continuations, its gate aside.
+#[inline(never)]
+pub fn continuation_operator<A: Refused, R: WasmModuleResources>(
     stacks: &mut Stacks,
     resources: &R,
-    offset: u64,
     op: ContinuationOp<'_>,
-) -> Result<(), Error>
+) -> Result<(), A>
     requires { MayVisit (R.context resources.now) stacks.old }
-    ensures { Meets (R.context resources.now)
-        (λ cx. staying_operator (λ hs. continuation_row cx hs op.entry)) offset stacks.old.body result
-        stacks.new.body }
+    ensures { Moves (R.context resources.now) A.tells
+        (λ cx. staying_operator (λ hs. continuation_row cx hs op.entry)) stacks.old result stacks.new }
 {
-    let types = continuation_types(stacks, resources, offset, op)?;
-    check_operands(stacks, resources, offset, types)
+    let found = continuation_types(stacks, resources, op)?;
+    exchange_operands(stacks, resources, found)
 }

@@ -9,11 +9,12 @@ ghost use Rattle.validate_stacks.specs.State.{IsValidBody};
 ghost use Rattle.validate_stacks.specs.Visits.{step_body, MayVisit, Meets};
 
 use validate_resources::WasmModuleResources;
+use validate_shapes::checked::placed;
 use validate_shapes::labels::label;
 use validate_shapes::tags::exception_types_at;
 use validate_stacks::Stacks;
 use validate_stacks::blocks::results;
-use validate_types::Error;
+use validate_types::{Error, Refusal};
 use validate_visit::FrameKind;
 
 /// `catch`: closes a part of a `try`, which has to have exactly its results, and begins one with what an
@@ -31,7 +32,12 @@ pub fn check_catch<R: WasmModuleResources>(
         stacks.new.body }
 {
     begin_catch_part(stacks, resources, offset, false)?;
-    let types = exception_types_at(stacks, resources, offset, tag_index)?;
+    let types = placed(
+        stacks,
+        resources,
+        offset,
+        exception_types_at(resources, tag_index),
+    )?;
     stacks.push_types(offset, types)
 }
 
@@ -68,7 +74,7 @@ fn begin_catch_part<R: WasmModuleResources>(
 {
     let frame = stacks.pop_ctrl(resources, offset)?;
     if !may_catch(frame.kind) {
-        return Err(Error::new(outside_of_try(catches_all), offset));
+        return Err(outside_of_try(catches_all, offset));
     }
     match stacks.push_bare_ctrl(catch_kind(catches_all), frame.block_type) {
         Ok(()) => Ok(()),
@@ -76,12 +82,17 @@ fn begin_catch_part<R: WasmModuleResources>(
     }
 }
 
-/// The text where a `catch` or a `catch_all` stands in no part of a `try`.
-fn outside_of_try(catches_all: bool) -> &'static str {
+/// The refusal of a `catch` or a `catch_all` that stands in no part of a `try`.
+fn outside_of_try(catches_all: bool, offset: u64) -> Error
+    ensures offset { result.offset ≡ offset }
+    ensures memory { result.wants_memory ≡ false }
+{
     if catches_all {
-        "catch_all found outside of a `try` block"
+        let error = Error::new("catch_all found outside of a `try` block", offset);
+        error.because(Refusal::CatchAllOutsideTry)
     } else {
-        "catch found outside of an `try` block"
+        let error = Error::new("catch found outside of an `try` block", offset);
+        error.because(Refusal::CatchOutsideTry)
     }
 }
 
@@ -118,7 +129,8 @@ pub fn check_delegate<R: WasmModuleResources>(
 {
     let frame = stacks.pop_ctrl(resources, offset)?;
     if !is_try(frame.kind) {
-        return Err(Error::new("delegate found outside of an `try` block", offset));
+        let error = Error::new("delegate found outside of an `try` block", offset);
+        return Err(error.because(Refusal::DelegateOutsideTry));
     }
     label(stacks, offset, relative_depth)?;
     stacks.push_types(offset, results(resources, &frame.block_type))

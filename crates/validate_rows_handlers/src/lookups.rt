@@ -1,6 +1,6 @@
 //! Continuation types, looked up (a proposal, "Stack Switching": continuation types).
 
-ghost use Rattle.std.specs.Prelude.{◌≡◌, true, false, None, Some, IfOk, OnErr, IfErr};
+ghost use Rattle.std.specs.Prelude.{◌≡◌, true, false, None, Some, IfOk, OnErr};
 ghost use Rattle.std.specs.List.{AllByRecursion};
 ghost use Rattle.std.specs.Option.{option_copied};
 ghost use Rattle.validate_resources.specs.Context.{ModuleContext, Valid, IsContinuation, continued_signature};
@@ -9,53 +9,36 @@ ghost use Rattle.validation_rules.specs.Continuations.{continuation_type, contin
 ghost use Rattle.validation_rules.specs.Continuations as rule;
 ghost use Rattle.validate_stacks.specs.State.{body_context};
 
-use std::alloc::Global;
 use validate_resources::WasmModuleResources;
 use validate_resources::kinds::{continuation_of, func_type_of};
 use validate_stacks::Stacks;
 use validate_types::{
-    ContType, Error, FuncType, HeapType, UnpackedIndex, ValType, func_signature_matches,
+    ContType, FuncType, HeapType, Refusal, Refused, UnpackedIndex, ValType, func_signature_matches,
 };
 
-/// The continuation type at an index, which has to be declared, and in a shared function has to be shared
-/// (wasmparser's `cont_type_at`). It refuses a type of another kind.
-pub fn cont_type_at<R: WasmModuleResources>(
+/// The continuation type at an index (wasmparser's `cont_type_at`). It refuses one that isn't declared, a type of another kind,
+/// and in a shared function one that isn't shared.
+pub fn cont_type_at<A: Refused, R: WasmModuleResources>(
     stacks: &Stacks,
     resources: &R,
-    offset: u64,
     type_index: u32,
-) -> Result<ContType, Error>
+) -> Result<ContType, A>
     ensures found { IfOk result (λ c. continuation_type
         (body_context (R.context resources.now) stacks.now.body) type_index ≡ Some c.0) }
     ensures continuation { IfOk result (λ c. IsContinuation (R.context resources.now) c.0) }
     ensures refused { OnErr result (continuation_type
         (body_context (R.context resources.now) stacks.now.body) type_index ≡ None) }
-    ensures offset { IfErr result (λ e. e.offset ≡ offset) }
 {
     let Some(sub_type) = resources.sub_type_at(type_index) else {
-        return Err(Error::new("unknown type: type index out of bounds", offset));
+        return Err(A::of(Refusal::UnknownType));
     };
     let Some(index) = continuation_of(sub_type) else {
-        return Err(no_continuation(stacks.allocator(), offset, type_index));
+        return Err(A::of(Refusal::NoContinuationType(type_index)));
     };
     if stacks.is_shared() && !sub_type.composite_type.shared {
-        return Err(Error::new(
-            "shared continuations cannot access unshared continuations",
-            offset,
-        ));
+        return Err(A::of(Refusal::UnsharedContinuation));
     }
     Ok(ContType(index))
-}
-
-#[cold]
-#[inline(never)]
-fn no_continuation(alloc: Global, offset: u64, type_index: u32) -> Error
-    ensures { result.offset ≡ offset }
-{
-    Error::from_text(
-        format!(in alloc; "non-continuation type {type_index}"),
-        offset,
-    )
 }
 
 /// The function type of a continuation: what it still takes and gives (wasmparser's
@@ -79,21 +62,19 @@ pub fn func_type_of_cont_type<'a, R: WasmModuleResources>(
 }
 
 /// What a continuation of the type at an index still takes and gives. It refuses as [`cont_type_at`] does.
-pub fn func_type_of_cont_at<'a, R: WasmModuleResources>(
+pub fn func_type_of_cont_at<'a, A: Refused, R: WasmModuleResources>(
     stacks: &Stacks,
     resources: &'a R,
-    offset: u64,
     type_index: u32,
-) -> Result<&'a FuncType, Error>
+) -> Result<&'a FuncType, A>
     ensures found { IfOk result (λ f. continuation_signature
         (body_context (R.context resources.now) stacks.now.body) type_index ≡ Some f.now) }
     ensures params { IfOk result (λ f. AllByRecursion (Valid (R.context resources.now)) f.now.params) }
     ensures results { IfOk result (λ f. AllByRecursion (Valid (R.context resources.now)) f.now.results) }
     ensures refused { OnErr result (continuation_signature
         (body_context (R.context resources.now) stacks.now.body) type_index ≡ None) }
-    ensures offset { IfErr result (λ e. e.offset ≡ offset) }
 {
-    let cont_type = cont_type_at(stacks, resources, offset, type_index)?;
+    let cont_type = cont_type_at(stacks, resources, type_index)?;
     Ok(func_type_of_cont_type(resources, cont_type))
 }
 

@@ -163,7 +163,7 @@ module _ (md : ModuleContext) (v : BodyState) (o : v.present.frames ≢ []) (row
 -- ---- operators that take what they want, and end the live part
 
 module _ (md : ModuleContext) (v : BodyState) (o : v.present.frames ≢ []) (wanted : List ValType) where
-  ending_is : step_body md (λ c. staying_operator (λ hs. ending_row wanted)) v ≡ option_map body_unreachable (body_popped_each md (reverse wanted) v)
+  pub ending_is : step_body md (λ c. staying_operator (λ hs. ending_row wanted)) v ≡ option_map body_unreachable (body_popped_each md (reverse wanted) v)
   ending_is = ends_is md v o (λ c hs. ending_row wanted) true wanted [] [] refl ∙ only v.present.frames refl
     where
       only : (fs : List Frame) → v.present.frames ≡ fs → guard (each_fits (body_context md v) (length wanted) v.present.frames []) (option_map body_unreachable (body_popped_each md (reverse wanted) v)) ≡ option_map body_unreachable (body_popped_each md (reverse wanted) v)

@@ -2,7 +2,7 @@
 use Rattle.std.proofs.Common.{◌≡◌, ℕ, zero, suc, Bool, true, false, not, if◌then◌else◌, List, [], ◌∷◌, ◌++◌, slice_get, Some, None, Result, Ok, Err, OnOk, OnErr, IfErr, refl, sym, ◌∙◌, subst}
 use Rattle.std.specs.List.{AllByRecursion}
 use Rattle.validate_resources.specs.Context.{ModuleContext}
-use Rattle.validate_types.specs.Refusal.{Refusal}
+use Rattle.validate_types.specs.ErrorValue.{ErrorValue}
 use Rattle.validation_rules.specs.Context.{Context}
 use Rattle.validation_rules.specs.Rows.{Operator}
 use Rattle.validate_stacks.specs.Pops.{IsKept}
@@ -10,16 +10,15 @@ use Rattle.validate_stacks.specs.State.{BodyState, IsValidBody, body_with_frames
 use Rattle.validation_rules.specs.Static.{Frame, is_local_set, locals_set}
 use Rattle.validate_stacks.specs.Steps.{frames_first_setting, body_with_local_set}
 use Rattle.validate_stacks.specs.Visits.{step_body, Meets}
-use Rattle.validate_stacks.proofs.Validity.{kept_on}
 
 -- the last step can fail for want of memory alone
-pub meets_last : (md : ModuleContext) (op : Context → Operator) (offset : ℕ) (v w w' : BodyState) (r : Result (Unit {0}) Refusal) → (w ≡ w' → step_body md op v ≡ Some w) → OnOk r (w ≡ w') → IfErr r (λ e. e.wants_memory ≡ true) → IfErr r (λ e. e.offset ≡ offset) → IsValidBody md w → IsKept v w → Meets md op offset v r w
+pub meets_last : (md : ModuleContext) (op : Context → Operator) (offset : ℕ) (v w w' : BodyState) (r : Result (Unit {0}) ErrorValue) → (w ≡ w' → step_body md op v ≡ Some w) → OnOk r (w ≡ w') → IfErr r (λ e. e.wants_memory ≡ true) → IfErr r (λ e. e.offset ≡ offset) → IsValidBody md w → IsKept v w → Meets md op offset v r w
 unfolding Meets
 meets_last md op offset v w w' (Ok u) k p m o x y = record { accepted = k p; refused = tt; at_offset = tt; valid = x; kept = y }
 meets_last md op offset v w w' (Err e) k p m o x y = record { accepted = tt; refused = λ f. (let clash : true ≡ false = sym m ∙ f in absurd cc); at_offset = o; valid = x; kept = y }
 
 -- a step was refused, memory aside because the row doesn't hold
-pub meets_refused : (md : ModuleContext) (op : Context → Operator) (offset : ℕ) (v w : BodyState) (r : Result (Unit {0}) Refusal) → OnOk r ⊥ → IfErr r (λ e. e.wants_memory ≡ false → step_body md op v ≡ None) → IfErr r (λ e. e.offset ≡ offset) → IsValidBody md w → IsKept v w → Meets md op offset v r w
+pub meets_refused : (md : ModuleContext) (op : Context → Operator) (offset : ℕ) (v w : BodyState) (r : Result (Unit {0}) ErrorValue) → OnOk r ⊥ → IfErr r (λ e. e.wants_memory ≡ false → step_body md op v ≡ None) → IfErr r (λ e. e.offset ≡ offset) → IsValidBody md w → IsKept v w → Meets md op offset v r w
 unfolding Meets
 meets_refused md op offset v w (Ok u) b n o x y = absurd b
 meets_refused md op offset v w (Err e) b n o x y = record { accepted = tt; refused = n; at_offset = o; valid = x; kept = y }
@@ -55,13 +54,13 @@ pub set_valid : (md : ModuleContext) (i : ℕ) (v : BodyState) → IsValidBody m
 set_valid md i v h = set_valid_in md (is_local_set v.set_at_entry (locals_set v.present.frames) i) i v.present.frames v refl h
 
 -- another row with the same step
-pub meets_as : (md : ModuleContext) (op op' : Context → Operator) (offset : ℕ) (v w : BodyState) (r : Result (Unit {0}) Refusal) → step_body md op v ≡ step_body md op' v → Meets md op offset v r w → Meets md op' offset v r w
+pub meets_as : (md : ModuleContext) (op op' : Context → Operator) (offset : ℕ) (v w : BodyState) (r : Result (Unit {0}) ErrorValue) → step_body md op v ≡ step_body md op' v → Meets md op offset v r w → Meets md op' offset v r w
 unfolding Meets
 meets_as md op op' offset v w (Ok u) same m = record { accepted = sym same ∙ m.accepted; refused = tt; at_offset = tt; valid = m.valid; kept = m.kept }
 meets_as md op op' offset v w (Err e) same m = record { accepted = tt; refused = λ f. sym same ∙ m.refused f; at_offset = m.at_offset; valid = m.valid; kept = m.kept }
 
 -- a step was refused, which happens only where the row doesn't hold
-pub meets_none : (md : ModuleContext) (op : Context → Operator) (offset : ℕ) (v w : BodyState) (r : Result (Unit {0}) Refusal) → OnOk r ⊥ → OnErr r (step_body md op v ≡ None) → IfErr r (λ e. e.offset ≡ offset) → IsValidBody md w → IsKept v w → Meets md op offset v r w
+pub meets_none : (md : ModuleContext) (op : Context → Operator) (offset : ℕ) (v w : BodyState) (r : Result (Unit {0}) ErrorValue) → OnOk r ⊥ → OnErr r (step_body md op v ≡ None) → IfErr r (λ e. e.offset ≡ offset) → IsValidBody md w → IsKept v w → Meets md op offset v r w
 unfolding Meets
 meets_none md op offset v w (Ok u) b n o x y = absurd b
 meets_none md op offset v w (Err e) b n o x y = record { accepted = tt; refused = λ _. n; at_offset = o; valid = x; kept = y }
@@ -72,19 +71,13 @@ unfolding Meets
 meets_done md op offset v w e x y = record { accepted = e; refused = tt; at_offset = tt; valid = x; kept = y }
 
 -- a step was refused for want of memory
-pub meets_starved : (md : ModuleContext) (op : Context → Operator) (offset : ℕ) (v w : BodyState) (r : Result (Unit {0}) Refusal) → OnOk r ⊥ → IfErr r (λ e. e.wants_memory ≡ true) → IfErr r (λ e. e.offset ≡ offset) → IsValidBody md w → IsKept v w → Meets md op offset v r w
+pub meets_starved : (md : ModuleContext) (op : Context → Operator) (offset : ℕ) (v w : BodyState) (r : Result (Unit {0}) ErrorValue) → OnOk r ⊥ → IfErr r (λ e. e.wants_memory ≡ true) → IfErr r (λ e. e.offset ≡ offset) → IsValidBody md w → IsKept v w → Meets md op offset v r w
 unfolding Meets
 meets_starved md op offset v w (Ok u) b m o x y = absurd b
 meets_starved md op offset v w (Err e) b m o x y = record { accepted = tt; refused = λ f. (let clash : true ≡ false = sym m ∙ f in absurd cc); at_offset = o; valid = x; kept = y }
 
--- what is left to do in the state u is the step of another row
-pub meets_from : (md : ModuleContext) (op op' : Context → Operator) (offset : ℕ) (v u w : BodyState) (r : Result (Unit {0}) Refusal) → step_body md op v ≡ step_body md op' u → IsKept v u → Meets md op' offset u r w → Meets md op offset v r w
-unfolding Meets
-meets_from md op op' offset v u w (Ok x) same k m = record { accepted = same ∙ m.accepted; refused = tt; at_offset = tt; valid = m.valid; kept = kept_on v u w k m.kept }
-meets_from md op op' offset v u w (Err e) same k m = record { accepted = tt; refused = λ f. same ∙ m.refused f; at_offset = m.at_offset; valid = m.valid; kept = kept_on v u w k m.kept }
-
 -- what a visit answers, said clause by clause
-pub meets_stated : (md : ModuleContext) (op : Context → Operator) (offset : ℕ) (v w : BodyState) (r : Result (Unit {0}) Refusal) → OnOk r (step_body md op v ≡ Some w) → IfErr r (λ e. e.wants_memory ≡ false → step_body md op v ≡ None) → IfErr r (λ e. e.offset ≡ offset) → IsValidBody md w → IsKept v w → Meets md op offset v r w
+pub meets_stated : (md : ModuleContext) (op : Context → Operator) (offset : ℕ) (v w : BodyState) (r : Result (Unit {0}) ErrorValue) → OnOk r (step_body md op v ≡ Some w) → IfErr r (λ e. e.wants_memory ≡ false → step_body md op v ≡ None) → IfErr r (λ e. e.offset ≡ offset) → IsValidBody md w → IsKept v w → Meets md op offset v r w
 unfolding Meets
 meets_stated md op offset v w (Ok u) p n o x y = record { accepted = p; refused = tt; at_offset = tt; valid = x; kept = y }
 meets_stated md op offset v w (Err e) p n o x y = record { accepted = tt; refused = n; at_offset = o; valid = x; kept = y }

@@ -3,7 +3,7 @@ use Rattle.std.proofs.Common.{◌≡◌, ◌≢◌, ℕ, Bool, true, false, List
 use Rattle.std.specs.List.{AllByRecursion}
 use Rattle.std.specs.Option.{option_map}
 use Rattle.validate_resources.specs.Context.{ModuleContext, Valid}
-use Rattle.validate_types.specs.Refusal.{Refusal as Placed}
+use Rattle.validate_types.specs.ErrorValue.{ErrorValue}
 use Rattle.validate_types.specs.declared.error.OutOfMemory.{OutOfMemory}
 use Rattle.validate_types.specs.declared.types.ValType.{ValType}
 use Rattle.validation_rules.specs.Context.{Context}
@@ -65,7 +65,7 @@ module _ {E : Type 0} (md : ModuleContext) (tells : E → Type 0) (op : Context 
   moves_at_once (Err x) false e m = m.0
 
   -- with a refusal at its place, and what upstream leaves then
-  pub moves_placed : (offset : ℕ) (e : E) (f : Placed) (x : BodyState) → Moves md tells op s (Err e) w → IsValidBody md s.body → f.offset ≡ offset → (f.wants_memory ≡ false → tells e) → (IsValidBody md w.body → IsValidBody md x) → IsKept w.body x → Meets md op offset s.body (Err f) x
+  pub moves_placed : (offset : ℕ) (e : E) (f : ErrorValue) (x : BodyState) → Moves md tells op s (Err e) w → IsValidBody md s.body → f.offset ≡ offset → (f.wants_memory ≡ false → tells e) → (IsValidBody md w.body → IsValidBody md x) → IsKept w.body x → Meets md op offset s.body (Err f) x
   unfolding Moves
   moves_placed offset e f x m state at told valid kept =
       meets_stated md op offset s.body x (Err f) tt (λ h. m.1 (told h)) at (valid (subst (λ (y : Stacked). IsValidBody md y.body) (sym m.0) state)) (subst (λ (y : Stacked). IsKept y.body x) m.0 kept)

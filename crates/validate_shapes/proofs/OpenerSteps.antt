@@ -1,5 +1,5 @@
 -- The step of an operator that opens a frame.
-use Rattle.std.proofs.Common.{◌≡◌, ◌≢◌, ℕ, Bool, true, false, ◌&&◌, List, [], ◌∷◌, ◌++◌, reverse, length, Option, Some, None, Ok, refl, sym, ap, subst, ◌∙◌}
+use Rattle.std.proofs.Common.{◌≡◌, ◌≢◌, ℕ, Bool, true, false, ◌&&◌, List, [], ◌∷◌, ◌++◌, reverse, length, Option, Some, None, Result, Ok, Err, IsOk, refl, sym, ap, subst, ◌∙◌}
 use Rattle.std.specs.Option.{option_map}
 use Rattle.std.proofs.lemmas.List.{append-nil}
 use Rattle.validate_resources.specs.Context.{ModuleContext, IsLawful}
@@ -15,11 +15,12 @@ use Rattle.validate_stacks.specs.Blocks.{body_with_block}
 use Rattle.validate_stacks.specs.Steps.{head_of, body_with_frame}
 use Rattle.validate_stacks.specs.Pops.{IsKept, body_popped_each, body_pushed_each}
 use Rattle.validate_stacks.specs.State.{BodyState, IsValidBody, body_context, body_with_frames}
-use Rattle.validate_stacks.specs.Visits.{step_body, Meets}
+use Rattle.validate_stacks.specs.Attempts.{Stacked}
+use Rattle.validate_stacks.specs.Moves.{Moved, Moves}
+use Rattle.validate_stacks.specs.Visits.{step_body}
 use Rattle.validate_stacks.proofs.AtOnce.{mapped_some, popped_each_kept, pushed_each_kept}
 use Rattle.validate_stacks.proofs.ClosedFrames.{entered_is, opened_valid, takes_valid}
 use Rattle.validate_stacks.proofs.Validity.{kept_on}
-use Rattle.validate_shapes.proofs.LastSteps.{meets_done}
 use Rattle.validate_stacks.proofs.Whole.{with_frame, popped_whole}
 
 module _ (md : ModuleContext) (v : BodyState) (kind : FrameKind) (above : List ValType) (bt : BlockType) where
@@ -62,45 +63,30 @@ module _ (md : ModuleContext) (v : BodyState) (kind : FrameKind) (above : List V
 pub by_check : (md : ModuleContext) (v : BodyState) (kind : FrameKind) (above : List ValType) (declared : BlockType) (o : Option BlockType) → checked_block (body_context md v) declared ≡ o → step_body md (λ c. opener c kind above declared (checked_block c declared)) v ≡ step_body md (λ c. opener c kind above declared o) v
 by_check md v kind above declared o e = ap (λ r. step_body md (λ c. opener c kind above declared r) v) e
 
--- ---- a block without parameters, opened at once
+-- ---- what was wanted is taken, and a frame stands over the parameters
 
-module _ (md : ModuleContext) (v : BodyState) (kind : FrameKind) (above : List ValType) (bt : BlockType) (o : v.present.frames ≢ []) (plain : (block_signature md bt).params ≡ []) where
-  abbrev over : List ValType → BodyState → BodyState
-  over qs u = body_with_frames (opened_frame (head_of kind bt) qs ∷ u.present.frames) u
+module _ (md : ModuleContext) (v : BodyState) (kind : FrameKind) (above : List ValType) (bt : BlockType) (o : v.present.frames ≢ []) (laws : IsLawful md) (valid : IsValidBody md v) (block : IsValidBlock md v.shared bt) where
+  pub opened_moved : (u : BodyState) → body_popped_each md (reverse ((block_signature md bt).params ++ above)) v ≡ Some u → Moved md (λ c. opening_operator c kind above bt) v (body_with_block md kind bt u)
+  opened_moved u p =
+      let taken : List ValType = (block_signature md bt).params in
+      let down = popped_each_kept md (reverse (taken ++ above)) v u p in
+      let shared : u.shared ≡ v.shared = ap (λ (x : BodyState). x.shared) down.0 in
+      let block_in_u = subst (λ s. IsValidBlock md s bt) (sym shared) block in
+      let bare = body_with_frame kind bt u in
+      let up = pushed_each_kept md taken bare in
+      let entered = entered_is md kind bt u bare taken refl refl in
+      record {
+        step = opened_is md v kind above bt o ∙ ap (option_map (λ w. body_with_block md kind bt w)) p;
+        valid = subst (IsValidBody md) entered (up.1 (takes_valid md u.shared bt taken laws block_in_u refl) (opened_valid md kind bt u bare refl block_in_u (down.1 valid)));
+        kept = subst (IsKept v) entered (kept_on v u (body_pushed_each taken bare) down.0 (kept_on u bare (body_pushed_each taken bare) refl up.0));
+      }
 
-  plainly_opened : (u w : BodyState) → body_popped_each md (reverse above) v ≡ Some u → w ≡ body_with_frame kind bt u → step_body md (λ c. opening_operator c kind above bt) v ≡ Some w
-  plainly_opened u w p e =
-      opened_is md v kind above bt o
-      ∙ ap (λ (qs : List ValType). option_map (λ u. over qs u) (body_popped_each md (reverse (qs ++ above)) v)) plain
-      ∙ ap (option_map (over [])) p
-      ∙ ap Some (sym e)
-
-  module _ (valid : IsValidBody md v) (block : IsValidBlock md v.shared bt) (offset : ℕ) where
-    pub meets_opened : (u w : BodyState) → body_popped_each md (reverse above) v ≡ Some u → w ≡ body_with_frame kind bt u → Meets md (λ c. opening_operator c kind above bt) offset v (Ok tt) w
-    meets_opened u w p e =
-        let k = popped_each_kept md (reverse above) v u p in
-        let shared : u.shared ≡ v.shared = ap (λ (x : BodyState). x.shared) k.0 in
-        meets_done md _ offset v w (plainly_opened u w p e)
-        (opened_valid md kind bt u w e (subst (λ s. IsValidBlock md s bt) (sym shared) block) (k.1 valid))
-        (subst (IsKept v) (sym e) (kept_on v u (body_with_frame kind bt u) k.0 refl))
-
-    -- over what was taken
-    pub meets_opened_over : (w : BodyState) → option_map (body_with_frame kind bt) (body_popped_each md (reverse above) v) ≡ Some w → Meets md (λ c. opening_operator c kind above bt) offset v (Ok tt) w
-    meets_opened_over w h = let parts = mapped_some (body_with_frame kind bt) (body_popped_each md (reverse above) v) w h in meets_opened parts.0 w parts.1 (sym parts.2)
-
--- a frame opened over its parameters, at once
-pub meets_entered : (md : ModuleContext) (v : BodyState) (kind : FrameKind) (bt : BlockType) → v.present.frames ≢ [] → IsLawful md → IsValidBody md v → IsValidBlock md v.shared bt → (offset : ℕ) (w : BodyState) → option_map (body_with_block md kind bt) (body_popped_each md (reverse (block_signature md bt).params) v) ≡ Some w → Meets md (λ c. opening_operator c kind [] bt) offset v (Ok tt) w
-meets_entered md v kind bt o laws valid block offset w h =
+-- over parameters that stand there
+pub entered_moves : {E : Type 0} (md : ModuleContext) (tells : E → Type 0) (s w : Stacked) (kind : FrameKind) (above : List ValType) (bt : BlockType) → above ≡ [] → s.body.present.frames ≢ [] → IsLawful md → IsValidBody md s.body → IsValidBlock md s.body.shared bt → (r : Result (Unit {0}) E) → IsOk r → option_map (body_with_block md kind bt) (body_popped_each md (reverse (block_signature md bt).params) s.body) ≡ Some w.body → Moves md tells (λ c. opening_operator c kind above bt) s r w
+unfolding Moves
+entered_moves md tells s w kind above bt none o laws valid block (Ok x) ok h =
     let taken : List ValType = (block_signature md bt).params in
-    let parts = mapped_some (body_with_block md kind bt) (body_popped_each md (reverse taken) v) w h in
-    let u = parts.0 in
-    let down = popped_each_kept md (reverse taken) v u parts.1 in
-    let shared : u.shared ≡ v.shared = ap (λ (x : BodyState). x.shared) down.0 in
-    let block_in_u = subst (λ s. IsValidBlock md s bt) (sym shared) block in
-    let bare = body_with_frame kind bt u in
-    let up = pushed_each_kept md taken bare in
-    let entered = entered_is md kind bt u bare taken refl refl ∙ parts.2 in
-    meets_done md _ offset v w
-    (opened_is md v kind [] bt o ∙ ap (λ ts. option_map (body_with_block md kind bt) (body_popped_each md (reverse ts) v)) (append-nil taken) ∙ h)
-    (subst (IsValidBody md) entered (up.1 (takes_valid md u.shared bt taken laws block_in_u refl) (opened_valid md kind bt u bare refl block_in_u (down.1 valid))))
-    (subst (IsKept v) entered (kept_on v u (body_pushed_each taken bare) down.0 (kept_on u bare (body_pushed_each taken bare) refl up.0)))
+    let parts = mapped_some (body_with_block md kind bt) (body_popped_each md (reverse taken) s.body) w.body h in
+    let whole = ap (λ ts. body_popped_each md (reverse ts) s.body) (ap (λ ts. taken ++ ts) none ∙ append-nil taken) ∙ parts.1 in
+    subst (Moved md (λ c. opening_operator c kind above bt) s.body) parts.2 (opened_moved md s.body kind above bt o laws valid block parts.0 whole)
+entered_moves md tells s w kind above bt none o laws valid block (Err e) ok h = absurd cc

@@ -325,7 +325,7 @@ module _ (md : ModuleContext) (v : BodyState) (o : v.present.frames ≢ []) (d :
   abbrev targets_of : List Target
   targets_of = record { depth = d; carried = last_without_null } ∷ []
 
-  on_non_null_is : step_body md (λ c. staying_operator (λ hs. br_on_non_null_row c hs d)) v ≡ option_map (λ u. body_pushed_each others u) (body_popped_each md (reverse (others ++ Ref with ∷ [])) v)
+  pub on_non_null_is : step_body md (λ c. staying_operator (λ hs. br_on_non_null_row c hs d)) v ≡ option_map (λ u. body_pushed_each others u) (body_popped_each md (reverse (others ++ Ref with ∷ [])) v)
   on_non_null_is =
       let cx = body_context md v in
       let hs = heads v.present.frames in
@@ -333,12 +333,3 @@ module _ (md : ModuleContext) (v : BodyState) (o : v.present.frames ≢ []) (d :
       (ap (λ q. lookup_row q (br_on_non_null_row_for cx hs d)) ends
       ∙ (ap (λ b. row_with b None (others ++ Ref (with_null last) ∷ []) [] others None targets_of [] false) there
       ∙ ap (λ r. row_with true None (others ++ Ref r ∷ []) [] others None targets_of [] false) (sym null)))
-
-  pub on_non_null_missing : body_popped_each md (reverse (Ref with ∷ [])) v ≡ None → step_body md (λ c. staying_operator (λ hs. br_on_non_null_row c hs d)) v ≡ None
-  on_non_null_missing n = on_non_null_is ∙ ap (option_map (λ u. body_pushed_each others u)) (none_above md others (Ref with ∷ []) v n)
-
-  pub on_non_null_rest : (u : BodyState) → body_popped_each md (reverse (Ref with ∷ [])) v ≡ Some u → step_body md (λ c. staying_operator (λ hs. br_on_non_null_row c hs d)) v ≡ step_body md (λ c. row_operator (plain_row others others)) u
-  on_non_null_rest u p =
-      on_non_null_is
-      ∙ (ap (option_map (λ u. body_pushed_each others u)) (some_above md others (Ref with ∷ []) v u p)
-      ∙ sym (row_then md u None None others others (still_open md (reverse (Ref with ∷ [])) v u p o)))

@@ -1,8 +1,7 @@
 -- What an operator takes and gives, as a value (the crate's own).
-use Rattle.std.specs.Prelude.{◌≡◌, ℕ, false, List, [], ◌∷◌, ◌++◌, replicate, Result, IfOk, IfErr}
+use Rattle.std.specs.Prelude.{◌≡◌, false, List, [], ◌∷◌, ◌++◌, replicate, Result, IfOk, IfErr}
 use Rattle.std.specs.List.{AllByRecursion}
 use Rattle.validate_resources.specs.Context.{ModuleContext, Valid}
-use Rattle.validate_types.specs.Refusal.{Refusal}
 use Rattle.validate_types.specs.Types.{unpacked_fields}
 use Rattle.validation_rules.specs.Context.{Context, ValType}
 use Rattle.validation_rules.specs.Rows.{Row}
@@ -11,10 +10,10 @@ use Rattle.validate_stacks.specs.State.{BodyState, body_context}
 use Rattle.validate_shapes.specs.declared.operands.Few.{Few as FewTypes}
 use Rattle.validate_shapes.specs.declared.operands.Few.TheVariants.{Zero, One, Two, Three, Four, Five}
 use Rattle.validate_shapes.specs.declared.operands.Operands.{Operands}
-use Rattle.validate_shapes.specs.declared.operands.Pushed.{Pushed}
-use Rattle.validate_shapes.specs.declared.operands.Pushed.TheVariants.{Few as FewPushed, Listed}
+use Rattle.validate_shapes.specs.declared.operands.Given.{Given}
+use Rattle.validate_shapes.specs.declared.operands.Given.TheVariants.{Nothing, One as OneGiven, Listed as ListGiven}
 use Rattle.validate_shapes.specs.declared.operands.Wanted.{Wanted}
-use Rattle.validate_shapes.specs.declared.operands.Wanted.TheVariants.{Few, Fields, Run, Under}
+use Rattle.validate_shapes.specs.declared.operands.Wanted.TheVariants.{Few, Fields, Run, Listed, Under}
 
 abbrev pub few_types : FewTypes → List ValType
 few_types Zero = []
@@ -28,33 +27,34 @@ abbrev pub wanted_types : Wanted → List ValType
 wanted_types (Few types) = few_types types
 wanted_types (Fields fields) = unpacked_fields fields.now
 wanted_types (Run t count) = replicate count t
-wanted_types (Under list above) = list.now ++ few_types above
+wanted_types (Listed types) = types.now
+wanted_types (Under types above) = types.now ++ above ∷ []
 
-abbrev pub pushed_types : Pushed → List ValType
-pushed_types (FewPushed types) = few_types types
-pushed_types (Listed types) = types.now
+abbrev pub given_types : Given → List ValType
+given_types Nothing = []
+given_types (OneGiven t) = t ∷ []
+given_types (ListGiven types) = types.now
 
 -- the row that takes and gives them
 abbrev pub operands_row : Operands → Row
-operands_row t = plain_row (wanted_types t.wanted) (pushed_types t.pushed)
+operands_row t = plain_row (wanted_types t.wanted) (given_types t.given)
 
 -- each type in it is valid
 abbrev pub AreValidWanted : ModuleContext → Wanted → Type 0
 AreValidWanted md (Few types) = AllByRecursion (Valid md) (few_types types)
 AreValidWanted md (Fields fields) = AllByRecursion (Valid md) (unpacked_fields fields.now)
 AreValidWanted md (Run t count) = Valid md t
-AreValidWanted md (Under list above) =
-    AllByRecursion (Valid md) list.now × AllByRecursion (Valid md) (few_types above)
+AreValidWanted md (Listed types) = AllByRecursion (Valid md) types.now
+AreValidWanted md (Under types above) = AllByRecursion (Valid md) types.now × Valid md above
 
 abbrev pub AreValidOperands : ModuleContext → Operands → Type 0
-AreValidOperands md t = AreValidWanted md t.wanted × AllByRecursion (Valid md) (pushed_types t.pushed)
+AreValidOperands md t = AreValidWanted md t.wanted × AllByRecursion (Valid md) (given_types t.given)
 
 -- The answer of a look-up for an operator, in the state v: what its row takes and gives, of valid types; or a
--- refusal at the offset, memory aside where the row's premise doesn't hold.
-pub record FindsOperands
-    (md : ModuleContext) (row : Context → Row) (offset : ℕ) (v : BodyState)
-    (answer : Result Operands Refusal) : Type 0 where
+-- refusal, which tells that the row's premise doesn't hold.
+pub record Finds
+    {E : Type 0} (md : ModuleContext) (tells : E → Type 0) (row : Context → Row) (v : BodyState)
+    (answer : Result Operands E) : Type 0 where
   pub found : IfOk answer (λ t. row (body_context md v) ≡ operands_row t)
   pub valid : IfOk answer (AreValidOperands md)
-  pub refused : IfErr answer (λ e. e.wants_memory ≡ false → (row (body_context md v)).premise ≡ false)
-  pub at_offset : IfErr answer (λ e. e.offset ≡ offset)
+  pub refused : IfErr answer (λ e. tells e → (row (body_context md v)).premise ≡ false)

@@ -1,6 +1,6 @@
 //! What a body answers, as the answer of a check.
 
-ghost use Rattle.std.specs.Prelude.{◌≡◌, is_ok};
+ghost use Rattle.std.specs.Prelude.{◌≡◌, false, Ok, is_ok, IfOk, IfErr};
 ghost use Rattle.validate_types.specs.Told.{IsRowRefused};
 ghost use Rattle.validation_rules.specs.Context.{Context};
 ghost use Rattle.validation_rules.specs.Rows.{Operator};
@@ -48,5 +48,23 @@ pub fn checked_after<R: WasmModuleResources>(
     match answer {
         Ok(()) => Ok(()),
         Err(told) => Err(stacks.refuse(resources, told, taken, offset)),
+    }
+}
+
+/// What a look-up answers, with the text and the place of a refusal.
+pub fn placed<R: WasmModuleResources, T>(
+    stacks: &Stacks,
+    resources: &R,
+    offset: u64,
+    answer: Result<T, Told>,
+) -> Result<T, Error>
+    ensures found { IfOk answer (λ t. result ≡ Ok t) }
+    ensures refused { IfErr answer (λ told. IfErr result (λ e. e.wants_memory ≡ false → IsRowRefused told)) }
+    ensures same { is_ok result ≡ is_ok answer }
+    ensures offset { IfErr result (λ e. e.offset ≡ offset) }
+{
+    match answer {
+        Ok(found) => Ok(found),
+        Err(told) => Err(stacks.refusal(resources, told, offset)),
     }
 }

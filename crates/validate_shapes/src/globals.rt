@@ -1,6 +1,6 @@
 //! The types of globals, looked up (WebAssembly core specification, "Variable Instructions").
 
-ghost use Rattle.std.specs.Prelude.{◌≡◌, false, None, Some, IfOk, OnErr, IfErr};
+ghost use Rattle.std.specs.Prelude.{◌≡◌, None, Some, IfOk, OnErr};
 ghost use Rattle.validate_resources.specs.Context.{Valid};
 ghost use Rattle.validation_rules.specs.Calls.{global_type};
 ghost use Rattle.validate_stacks.specs.State.{body_context};
@@ -8,7 +8,7 @@ ghost use Rattle.validate_stacks.specs.State.{body_context};
 use validate_resources::WasmModuleResources;
 use validate_resources::uses::laws;
 use validate_stacks::Stacks;
-use validate_types::{Error, GlobalType, Refusal, Refused};
+use validate_types::{GlobalType, Refusal, Refused};
 
 /// The type of a global. It refuses one that isn't declared, and in a shared function one that isn't shared.
 #[inline(always)]
@@ -29,32 +29,6 @@ pub fn find_global<A: Refused, R: WasmModuleResources>(
     };
     if stacks.is_shared() && !global.shared {
         return Err(A::of(Refusal::UnsharedGlobal));
-    }
-    Ok(global)
-}
-
-/// The type of a global, which has to be declared, and in a shared function has to be shared
-/// (wasmparser's `global_type_at`).
-pub fn global_type_at<R: WasmModuleResources>(
-    stacks: &Stacks,
-    resources: &R,
-    offset: u64,
-    global_index: u32,
-) -> Result<GlobalType, Error>
-    ensures found { IfOk result (λ g. global_type (body_context (R.context resources.now) stacks.now.body)
-        global_index ≡ Some g) }
-    ensures valid { IfOk result (λ g. Valid (R.context resources.now) g.content_type) }
-    ensures refused { OnErr result (global_type (body_context (R.context resources.now) stacks.now.body)
-        global_index ≡ None) }
-    ensures offset { IfErr result (λ e. e.offset ≡ offset) }
-    ensures memory { IfErr result (λ e. e.wants_memory ≡ false) }
-{
-    laws(resources);
-    let Some(global) = resources.global_at(global_index) else {
-        return Err(Error::new("unknown global: global index out of bounds", offset));
-    };
-    if stacks.is_shared() && !global.shared {
-        return Err(Error::new("shared functions cannot access unshared globals", offset));
     }
     Ok(global)
 }

@@ -1,18 +1,16 @@
 //! Operators whose wanted and pushed types don't depend on what is found.
 
-ghost use Rattle.std.specs.Prelude.{◌≡◌, None, true, [], ◌∷◌, ◌++◌, OnErr};
+ghost use Rattle.std.specs.Prelude.{◌≡◌, None, true, [], ◌∷◌, OnErr};
 ghost use Rattle.std.specs.List.{AllByRecursion};
 ghost use Rattle.validate_resources.specs.Context.{Valid, is_number_or_vector};
 ghost use Rattle.validation_rules.specs.Operators.{plain_row, ending_row, row_operator};
-ghost use Rattle.validate_stacks.specs.AtOnce.{MeetsAtOnce};
 ghost use Rattle.validate_stacks.specs.Moves.{Moves};
-ghost use Rattle.validate_stacks.specs.Visits.{step_body, MayVisit, Meets};
+ghost use Rattle.validate_stacks.specs.Visits.{step_body, MayVisit};
 
-use crate::checked::checked;
 use crate::numbers::{once, twice};
 use validate_resources::WasmModuleResources;
 use validate_stacks::Stacks;
-use validate_types::{Error, MaybeType, NotAtOnce, Refused, ValType, grown};
+use validate_types::{MaybeType, Refused, ValType, grown};
 
 /// `[wanted] -> [given]`, the last of each on top. It is called, so that what stands in each visit stays short.
 #[inline(never)]
@@ -110,118 +108,21 @@ pub fn taken<A: Refused, R: WasmModuleResources>(
     plain(stacks, resources, &[low, top], &[])
 }
 
-// ---- what is still called by its old name
-
-/// [`plain`], with the text and the place of a refusal.
-#[inline(always)]
-pub fn check_plain<R: WasmModuleResources>(
+/// `[types] -> []`, and the live part of the frame ends. Where no attempt is pending it is refused only where its row doesn't
+/// hold.
+pub fn ending<A: Refused, R: WasmModuleResources>(
     stacks: &mut Stacks,
     resources: &R,
-    offset: u64,
-    wanted: &[ValType],
-    pushed: &[ValType],
-) -> Result<(), Error>
-    requires visit { MayVisit (R.context resources.now) stacks.old }
-    requires wanted { AllByRecursion (Valid (R.context resources.now)) wanted.now }
-    requires pushed { AllByRecursion (Valid (R.context resources.now)) pushed.now }
-    ensures { Meets (R.context resources.now)
-        (λ cx. row_operator (plain_row wanted.now pushed.now)) offset stacks.old.body result
-        stacks.new.body }
-{
-    let answer = plain(stacks, resources, wanted, pushed);
-    checked(stacks, resources, offset, answer)
-}
-
-/// [`plain`], where it passes at once. False, with nothing changed, where it doesn't.
-#[inline(always)]
-pub fn plain_at_once<R: WasmModuleResources>(
-    stacks: &mut Stacks,
-    resources: &R,
-    wanted: &[ValType],
-    pushed: &[ValType],
-) -> bool
-    requires visit { MayVisit (R.context resources.now) stacks.old }
-    requires wanted { AllByRecursion (Valid (R.context resources.now)) wanted.now }
-    requires pushed { AllByRecursion (Valid (R.context resources.now)) pushed.now }
-    ensures { MeetsAtOnce (R.context resources.now)
-        (λ cx. row_operator (plain_row wanted.now pushed.now)) stacks.old result stacks.new }
-{
-    let answer: Result<(), NotAtOnce> = plain(stacks, resources, wanted, pushed);
-    answer.is_ok()
-}
-
-/// [`unary`], where it passes at once.
-#[inline(always)]
-pub fn unary_at_once<R: WasmModuleResources>(
-    stacks: &mut Stacks,
-    resources: &R,
-    taken: ValType,
-    given: ValType,
-) -> bool
-    requires visit { MayVisit (R.context resources.now) stacks.old }
-    requires taken { Valid (R.context resources.now) taken }
-    requires given { Valid (R.context resources.now) given }
-    ensures { MeetsAtOnce (R.context resources.now)
-        (λ cx. row_operator (plain_row (taken ∷ []) (given ∷ []))) stacks.old result stacks.new }
-{
-    let answer: Result<(), NotAtOnce> = unary(stacks, resources, taken, given);
-    answer.is_ok()
-}
-
-/// [`taken`], where it passes at once.
-#[inline(always)]
-pub fn taken_at_once<R: WasmModuleResources>(
-    stacks: &mut Stacks,
-    resources: &R,
-    low: ValType,
-    top: ValType,
-) -> bool
-    requires visit { MayVisit (R.context resources.now) stacks.old }
-    requires low { Valid (R.context resources.now) low }
-    requires top { Valid (R.context resources.now) top }
-    ensures { MeetsAtOnce (R.context resources.now)
-        (λ cx. row_operator (plain_row (low ∷ top ∷ []) [])) stacks.old result stacks.new }
-{
-    let answer: Result<(), NotAtOnce> = taken(stacks, resources, low, top);
-    answer.is_ok()
-}
-
-/// `[types] -> [types above]`: operands of these types stay, and another comes above them.
-pub fn check_onto<R: WasmModuleResources>(
-    stacks: &mut Stacks,
-    resources: &R,
-    offset: u64,
     types: &[ValType],
-    above: ValType,
-) -> Result<(), Error>
+) -> Result<(), A>
     requires visit { MayVisit (R.context resources.now) stacks.old }
     requires types { AllByRecursion (Valid (R.context resources.now)) types.now }
-    requires above { Valid (R.context resources.now) above }
-    ensures { Meets (R.context resources.now)
-        (λ cx. row_operator (plain_row types.now (types.now ++ above ∷ []))) offset stacks.old.body result
-        stacks.new.body }
-{
-    stacks.pop_types(resources, offset, types)?;
-    stacks.push_types(offset, types)?;
-    stacks.push_types(offset, &[above])
-}
-
-/// `[types] -> []`, and the live part of the frame ends. It takes no memory but for the text of a refusal:
-/// it is refused only where its row doesn't hold.
-pub fn check_ending<R: WasmModuleResources>(
-    stacks: &mut Stacks,
-    resources: &R,
-    offset: u64,
-    types: &[ValType],
-) -> Result<(), Error>
-    requires visit { MayVisit (R.context resources.now) stacks.old }
-    requires types { AllByRecursion (Valid (R.context resources.now)) types.now }
-    ensures row { Meets (R.context resources.now) (λ cx. row_operator (ending_row types.now)) offset
-        stacks.old.body result stacks.new.body }
-    ensures memory { stacks.old.body.undone ≡ None
+    ensures row { Moves (R.context resources.now) A.tells (λ cx. row_operator (ending_row types.now)) stacks.old result
+        stacks.new }
+    ensures idle { stacks.old.body.undone ≡ None
         → OnErr result (step_body (R.context resources.now) (λ cx. row_operator (ending_row types.now))
         stacks.old.body ≡ None) }
 {
-    stacks.pop_types(resources, offset, types)?;
-    stacks.unreachable(offset)
+    stacks.find_operands(resources, 0, types)?;
+    grown(stacks.end_live())
 }

@@ -5,7 +5,7 @@ use Rattle.std.specs.Option.{option_map}
 use Rattle.std.proofs.lemmas.List.{at_drop_more, append-nil, drop_all, drop_min, drop-drop, length-drop, length-map, length-reverse, length-take-le, take_all, take-append-drop, take-append-le, take-take}
 use Rattle.std.proofs.Math.Seq.{take-add}
 use Rattle.validate_resources.specs.Context.{ModuleContext, Valid, IsLawful}
-use Rattle.validate_types.specs.Refusal.{Refusal}
+use Rattle.validate_types.specs.ErrorValue.{ErrorValue}
 use Rattle.validate_types.specs.declared.features.WasmFeatures.{WasmFeatures}
 use Rattle.validate_types.specs.declared.types.ValType.{ValType}
 use Rattle.validate_visit.specs.declared.frame.BlockType.{BlockType}
@@ -375,7 +375,7 @@ pub may_visit_then : (md : ModuleContext) (op : Context → Operator) (v w : Sta
 may_visit_then md op v w b m h k = subst (MayVisit md) (sym (same_at_once md op v w b m h)) k
 
 -- and what is answered there
-pub meets_then : (md : ModuleContext) (op : Context → Operator) (v w : Stacked) (b : Bool) → MeetsAtOnce md op v b w → b ≡ false → (offset : ℕ) (r : Result (Unit {0}) Refusal) (x : BodyState) → Meets md op offset w.body r x → Meets md op offset v.body r x
+pub meets_then : (md : ModuleContext) (op : Context → Operator) (v w : Stacked) (b : Bool) → MeetsAtOnce md op v b w → b ≡ false → (offset : ℕ) (r : Result (Unit {0}) ErrorValue) (x : BodyState) → Meets md op offset w.body r x → Meets md op offset v.body r x
 meets_then md op v w b m h offset r x k = subst (λ (s : Stacked). Meets md op offset s.body r x) (same_at_once md op v w b m h) k
 
 -- one that was made, and one that wasn't

@@ -1,6 +1,6 @@
 -- Operands matched in place, from the top, are the wanted list taken whole.
-use Rattle.std.proofs.Common.{◌≡◌, ℕ, zero, suc, ◌+◌, ◌-◌, ◌<◌, List, [], ◌∷◌, Bool, true, false, ◌&&◌, Option, Some, Result, Ok, Err, length, subst, take, drop, reverse, get_or, refl, sym, ◌∙◌, ap, ap₂, arith}
-use Rattle.std.proofs.lemmas.List.{take_more, reverse-append, length-reverse, take_all}
+use Rattle.std.proofs.Common.{◌≡◌, ℕ, zero, suc, ◌+◌, ◌-◌, ◌<◌, List, [], ◌∷◌, ◌++◌, Bool, true, false, ◌&&◌, Option, Some, Result, Ok, Err, length, subst, take, drop, reverse, get_or, refl, sym, ◌∙◌, ap, ap₂, arith}
+use Rattle.std.proofs.lemmas.List.{take_more, reverse-append, length-append, length-reverse, take_all}
 use Rattle.std.specs.Result.{IsErr, OnOk}
 use Rattle.validate_resources.specs.Context.{ModuleContext}
 use Rattle.validate_types.specs.declared.types.ValType.{ValType}
@@ -8,6 +8,7 @@ use Rattle.validation_rules.specs.Context.{Context}
 use Rattle.validation_rules.specs.Fits.{MaybeType, all_fit}
 use Rattle.validation_rules.specs.Static.{Frame, operands_on_top, operands_found}
 use Rattle.validation_rules.proofs.Pops.{fit_turned}
+use Rattle.validate_stacks.specs.AtOnce.{frames_dropped, body_dropped}
 use Rattle.validate_stacks.specs.Pops.{may_pop, body_popped_each, operands_found_in, has_operands_fitting}
 use Rattle.validate_stacks.specs.State.{BodyState, body_context}
 use Rattle.validation_rules.specs.Pops.{found_by_pop}
@@ -45,6 +46,34 @@ module _ (cx : Context) where
   next_left n k (f ∷ fs) w ws =
       next_in n (drop k f.operands) f.dead w ws
       ∙ ap (λ l. may_pop cx (found_by_pop f.dead (drop k f.operands)) (Some w) && all_fit cx (operands_on_top n f.dead l) ws) (sym (drop_next k f.operands))
+
+  -- one wanted on top of others
+  pub under_next : (under : List ValType) (above : ValType) (v : BodyState) → has_operands_fitting cx (under ++ above ∷ []) v ≡ has_operands_fitting cx (above ∷ []) v && has_operands_fitting cx under (body_dropped 1 v)
+  under_next under above v =
+      sym (all_left (under ++ above ∷ []) v)
+      ∙ ap₂ (λ n ws. all_fit cx (after_in n 0 v.present.frames) ws) longer (reverse-append under (above ∷ []))
+      ∙ next_left (length under) 0 v.present.frames above (reverse under)
+      ∙ ap₂ (λ p q. p && q) (alone v.present.frames) (below v.present.frames)
+    where
+      longer : length (under ++ above ∷ []) ≡ suc (length under)
+      longer = length-append under (above ∷ []) ∙ omega arith
+
+      and_true : (b : Bool) → b ≡ b && true
+      and_true true = refl
+      and_true false = refl
+
+      on_top : (dead : Bool) (own : List MaybeType) → may_pop cx (found_by_pop dead own) (Some above) ≡ all_fit cx (operands_on_top 1 dead own) (above ∷ [])
+      on_top dead (x ∷ own) = and_true (may_pop cx (Some x) (Some above))
+      on_top true [] = refl
+      on_top false [] = refl
+
+      alone : (fs : List Frame) → may_pop cx (found_after_pops_in_frames 0 fs) (Some above) ≡ all_fit cx (operands_found_in 1 fs) (above ∷ [])
+      alone [] = refl
+      alone (f ∷ fs) = on_top f.dead f.operands ∙ sym (fit_turned cx (operands_on_top 1 f.dead f.operands) (above ∷ []))
+
+      below : (fs : List Frame) → all_fit cx (after_in (length under) 1 fs) (reverse under) ≡ all_fit cx (operands_found_in (length under) (frames_dropped 1 fs)) under
+      below [] = sym (fit_turned cx [] under)
+      below (f ∷ fs) = sym (fit_turned cx (operands_on_top (length under) f.dead (drop 1 f.operands)) under)
 
   pub last_next : (wanted : List ValType) (i : ℕ) (d : ValType) → i < length wanted → reverse (take (suc i) wanted) ≡ get_or wanted i d ∷ reverse (take i wanted)
   last_next wanted i d h = ap reverse (ap (λ k. take k wanted) plus ∙ take_more wanted i d h) ∙ reverse-append (take i wanted) (get_or wanted i d ∷ [])

@@ -2,7 +2,7 @@
 use Rattle.std.specs.Prelude.{◌≡◌, ◌≢◌, ℕ, true, false, [], Option, Some, None, Result, OnOk, IfErr}
 use Rattle.std.specs.Option.{option_map}
 use Rattle.validate_resources.specs.Context.{ModuleContext}
-use Rattle.validate_types.specs.Refusal.{Refusal}
+use Rattle.validate_types.specs.ErrorValue.{ErrorValue}
 use Rattle.validation_rules.specs.Context.{Context}
 use Rattle.validation_rules.specs.Rows.{Operator}
 use Rattle.validation_rules.specs.Static.{State, step}
@@ -29,7 +29,7 @@ RowFails md op v = step_body md op v ≡ None
 -- nothing but the static state changes, whatever the answer.
 pub record Answers
     (md : ModuleContext) (op : Context → Operator) (offset : ℕ) (v : BodyState)
-    (answer : Result (Unit {0}) Refusal) (w : BodyState) : Type 0 where
+    (answer : Result (Unit {0}) ErrorValue) (w : BodyState) : Type 0 where
   pub accepted : OnOk answer (RowHolds md op v w)
   pub refused : IfErr answer (λ e. e.wants_memory ≡ false → RowFails md op v)
   pub at_offset : IfErr answer (λ e. e.offset ≡ offset)
@@ -45,5 +45,5 @@ pub record MayVisit (md : ModuleContext) (v : Stacked) : Type 0 where
 
 -- `Answers`, closed: a visit passes it on from the check that it calls
 unfoldable pub Meets :
-    ModuleContext → (Context → Operator) → ℕ → BodyState → Result (Unit {0}) Refusal → BodyState → Type 0
+    ModuleContext → (Context → Operator) → ℕ → BodyState → Result (Unit {0}) ErrorValue → BodyState → Type 0
 Meets md op offset v answer w = Answers md op offset v answer w

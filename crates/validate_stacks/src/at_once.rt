@@ -104,7 +104,7 @@ impl Stacks {
     /// Takes so many own operands of the innermost frame, while no attempt is pending, and pushes one, where there is
     /// room, if none goes. False, with nothing changed, where there is none. It takes no memory.
     #[inline(always)]
-    pub(crate) fn push_over(&mut self, count: usize, pushed: MaybeType) -> bool
+    pub(crate) fn replace_own(&mut self, count: usize, pushed: MaybeType) -> bool
         requires idle { self.old.body.undone ≡ None }
         requires own { count ≤ length (innermost_operands self.old.body.present.frames) }
         ensures exact { MatchBool result
@@ -118,59 +118,6 @@ impl Stacks {
         self.drop_operands(count - 1);
         self.replace_operand(pushed);
         true
-    }
-
-    /// Pops so many operands of one type and pushes another, where no attempt is pending, the operands fit, and the innermost
-    /// frame has as many own ones, or none. False, with nothing changed, where that isn't so. It takes the time of its own
-    /// operands at most, and no memory.
-    pub fn exchange_run_at_once<R: WasmModuleResources>(
-        &mut self,
-        resources: &R,
-        elem: ValType,
-        n: u32,
-        pushed: ValType,
-    ) -> bool
-        requires element { Valid (R.context resources.now) elem }
-        requires state { IsValidBody (R.context resources.now) self.old.body }
-        ensures exact { MatchBool result (option_map (body_pushed_each (pushed ∷ []))
-            (body_popped_each (R.context resources.now) (reverse (replicate n elem)) self.old.body)
-            ≡ Some self.new.body) (self.new ≡ self.old) }
-        ensures phase { phase_moved self.new.phase ≡ phase_moved self.old.phase }
-    {
-        let own = self.own_len();
-        if self.is_pending() {
-            return false;
-        }
-        if own == 0 {
-            return self.is_fitting_at(resources, own, 0, &elem)
-                && self.push_over(0, MaybeType::Known(pushed));
-        }
-        let count = n as usize;
-        if own < count || !self.has_fitting_run(resources, elem, count) {
-            return false;
-        }
-        self.push_over(count, MaybeType::Known(pushed))
-    }
-
-    /// The same of the values of fields.
-    pub fn exchange_fields_at_once<R: WasmModuleResources>(
-        &mut self,
-        resources: &R,
-        fields: &[FieldType],
-        pushed: ValType,
-    ) -> bool
-        requires types { AllByRecursion (Valid (R.context resources.now)) (unpacked_fields fields.now) }
-        requires state { IsValidBody (R.context resources.now) self.old.body }
-        ensures exact { MatchBool result (option_map (body_pushed_each (pushed ∷ []))
-            (body_popped_each (R.context resources.now) (reverse (unpacked_fields fields.now)) self.old.body)
-            ≡ Some self.new.body) (self.new ≡ self.old) }
-        ensures phase { phase_moved self.new.phase ≡ phase_moved self.old.phase }
-    {
-        let own = self.own_len();
-        if self.is_pending() || !self.has_fitting_fields(resources, own, fields) {
-            return false;
-        }
-        self.push_over(fields.len().min(own), MaybeType::Known(pushed))
     }
 
     /// Pops the operand that is found, whatever its type, and pushes another: where no attempt is pending, one is found,
@@ -270,13 +217,14 @@ impl Stacks {
         if results.len() == 1 {
             self.replace_operand(MaybeType::Known(results[0]));
         }
-        self.give_operands();
+        self.close_over_operands();
         true
     }
 
     /// Takes the parameters of a block type, and opens a frame over them: where no attempt is pending, there is room, and
     /// the innermost frame has own operands that are known to be of these number or vector types. False, with nothing
     /// changed, where that isn't so. It takes no memory.
+    #[inline(always)]
     pub fn open_over_params_at_once<R: WasmModuleResources>(
         &mut self,
         resources: &R,
@@ -295,30 +243,5 @@ impl Stacks {
             return false;
         }
         self.open_over_own(kind, block_type, taken.len())
-    }
-
-    /// Takes an operand of this type, and opens a frame: where no attempt is pending, there is room, and the innermost
-    /// frame has an own operand, which fits. False, with nothing changed, where that isn't so. It takes no memory.
-    #[inline(always)]
-    pub fn open_over_at_once<R: WasmModuleResources>(
-        &mut self,
-        resources: &R,
-        taken: ValType,
-        kind: FrameKind,
-        block_type: BlockType,
-    ) -> bool
-        requires taken { Valid (R.context resources.now) taken }
-        requires state { IsValidBody (R.context resources.now) self.old.body }
-        ensures { MatchBool result (option_map (body_with_frame kind block_type)
-            (body_popped_each (R.context resources.now) (taken ∷ []) self.old.body) ≡ Some self.new.body)
-            (self.new ≡ self.old) }
-    {
-        if self.is_pending()
-            || self.own_len() == 0
-            || !self.has_operands_fitting(resources, &[taken])
-        {
-            return false;
-        }
-        self.open_over_top(kind, block_type)
     }
 }

@@ -16,7 +16,7 @@ use crate::stacks::Stacks;
 use std::slice;
 use validate_resources::WasmModuleResources;
 use validate_resources::kinds::func_type_of;
-use validate_types::{Error, ValType};
+use validate_types::{Error, Refusal, ValType};
 use validate_visit::{BlockType, Frame, FrameKind};
 
 /// What a block of this type takes; nothing, where it names no function type.
@@ -132,10 +132,11 @@ impl Stacks {
         let frame = *innermost;
         self.pop_types(resources, offset, results(resources, &frame.block_type))?;
         if self.own_len() > 0 {
-            return Err(Error::new(
+            let error = Error::new(
                 "type mismatch: values remaining on stack at end of block",
                 offset,
-            ));
+            );
+            return Err(error.because(Refusal::OperandsLeft));
         }
         match self.pop_bare_ctrl() {
             Ok(()) => Ok(frame),

@@ -1,14 +1,15 @@
 //! Operands exchanged: found, then moved.
 
-ghost use Rattle.std.specs.Prelude.{◌<◌, [], ◌∷◌, length};
+ghost use Rattle.std.specs.Prelude.{◌<◌, [], ◌∷◌, ◌++◌, length, replicate};
 ghost use Rattle.std.specs.List.{AllByRecursion};
 ghost use Rattle.validate_resources.specs.Context.{Valid};
+ghost use Rattle.validate_types.specs.Types.{unpacked_fields};
 ghost use Rattle.validate_stacks.specs.Moves.{Exchanges, Takes, body_set_then};
 ghost use Rattle.validate_stacks.specs.Visits.{MayVisit};
 
 use crate::stacks::Stacks;
 use validate_resources::WasmModuleResources;
-use validate_types::{Refused, ValType, grown};
+use validate_types::{FieldType, Refused, ValType, grown};
 
 impl Stacks {
     /// Takes an operand of each of the wanted types, and gives one of each of the others, the last on top. It refuses where
@@ -27,6 +28,64 @@ impl Stacks {
         let own = self.own_len();
         self.find_among(resources, own, 0, wanted)?;
         grown(self.exchange(wanted.len().min(own), given))
+    }
+
+    /// [`Stacks::exchange_types`], where the values of these fields are wanted.
+    #[inline(always)]
+    pub fn exchange_fields<A: Refused, R: WasmModuleResources>(
+        &mut self,
+        resources: &R,
+        fields: &[FieldType],
+        given: &[ValType],
+    ) -> Result<(), A>
+        requires visit { MayVisit (R.context resources.now) self.old }
+        requires types { AllByRecursion (Valid (R.context resources.now)) (unpacked_fields fields.now) }
+        ensures { Exchanges (R.context resources.now) A.tells (unpacked_fields fields.now) given.now self.old result
+            self.new }
+    {
+        self.find_fields(resources, 0, fields)?;
+        let own = self.own_len();
+        grown(self.exchange(fields.len().min(own), given))
+    }
+
+    /// [`Stacks::exchange_types`], where so many operands of one type are wanted. It takes the time of the own operands of
+    /// the innermost frame at most.
+    #[inline(always)]
+    pub fn exchange_run<A: Refused, R: WasmModuleResources>(
+        &mut self,
+        resources: &R,
+        elem: ValType,
+        count: u32,
+        given: &[ValType],
+    ) -> Result<(), A>
+        requires visit { MayVisit (R.context resources.now) self.old }
+        requires element { Valid (R.context resources.now) elem }
+        ensures { Exchanges (R.context resources.now) A.tells (replicate count elem) given.now self.old result
+            self.new }
+    {
+        let own = self.own_len();
+        let count = count as usize;
+        self.find_run(resources, own, elem, count)?;
+        grown(self.exchange(count.min(own), given))
+    }
+
+    /// [`Stacks::exchange_types`], where the types of a list are wanted, and one more above them.
+    pub fn exchange_under<A: Refused, R: WasmModuleResources>(
+        &mut self,
+        resources: &R,
+        under: &[ValType],
+        above: ValType,
+        given: &[ValType],
+    ) -> Result<(), A>
+        requires visit { MayVisit (R.context resources.now) self.old }
+        requires under { AllByRecursion (Valid (R.context resources.now)) under.now }
+        requires above { Valid (R.context resources.now) above }
+        ensures { Exchanges (R.context resources.now) A.tells (under.now ++ above ∷ []) given.now self.old result
+            self.new }
+    {
+        self.find_under(resources, 0, under, above)?;
+        let own = self.own_len();
+        grown(self.exchange(under.len().saturating_add(1).min(own), given))
     }
 
     /// Takes an operand of this type, sets a declared local, and gives an operand of each of the given types, the last on top.

@@ -1,8 +1,9 @@
 //! What operators look for before anything moves: each look answers what it found, or why it refuses. None takes memory.
 
-ghost use Rattle.std.specs.Prelude.{◌≡◌, ◌<◌, ◌≤◌, true, false, None, Some, length, slice_get, OnOk, OnErr, IfOk};
+ghost use Rattle.std.specs.Prelude.{◌≡◌, ◌<◌, ◌≤◌, [], ◌∷◌, ◌++◌, true, false, None, Some, length, replicate, slice_get, OnOk, OnErr, IfOk};
 ghost use Rattle.std.specs.List.{AllByRecursion};
 ghost use Rattle.validate_resources.specs.Context.{Valid};
+ghost use Rattle.validate_types.specs.Types.{unpacked_fields};
 ghost use Rattle.validation_rules.specs.Static.{is_local_set, locals_set};
 ghost use Rattle.validate_stacks.specs.AtOnce.{body_dropped};
 ghost use Rattle.validate_stacks.specs.Pops.{has_operands_fitting};
@@ -12,7 +13,7 @@ ghost use Rattle.validate_stacks.specs.Steps.{found_after_pops_in_body, innermos
 use crate::pops::unknown_reference;
 use crate::stacks::Stacks;
 use validate_resources::WasmModuleResources;
-use validate_types::{MaybeType, Refusal, Refused, ValType};
+use validate_types::{FieldType, MaybeType, Refusal, Refused, ValType};
 use validate_visit::{BlockType, FrameKind};
 
 impl Stacks {
@@ -96,7 +97,7 @@ impl Stacks {
         wanted: &[ValType],
     ) -> Result<(), A>
         requires own { own ≡ length (innermost_operands self.now.body.present.frames) }
-        requires above { above ≤ 1 }
+        requires above { above ≤ 2 }
         requires types { AllByRecursion (Valid (R.context resources.now)) wanted.now }
         requires state { IsValidBody (R.context resources.now) self.now.body }
         ensures fit { OnOk result (has_operands_fitting (body_context (R.context resources.now) self.now.body)
@@ -114,6 +115,105 @@ impl Stacks {
             }
         }
         Ok(())
+    }
+
+    /// [`Stacks::find_operands`] of the types of a list, and of one more on top of them.
+    pub fn find_under<A: Refused, R: WasmModuleResources>(
+        &self,
+        resources: &R,
+        above: usize,
+        under: &[ValType],
+        top: ValType,
+    ) -> Result<(), A>
+        requires above { above ≤ 1 }
+        requires under { AllByRecursion (Valid (R.context resources.now)) under.now }
+        requires top { Valid (R.context resources.now) top }
+        requires state { IsValidBody (R.context resources.now) self.now.body }
+        ensures fit { OnOk result (has_operands_fitting (body_context (R.context resources.now) self.now.body)
+            (under.now ++ top ∷ []) (body_dropped above self.now.body) ≡ true) }
+        ensures unfit { OnErr result (has_operands_fitting
+            (body_context (R.context resources.now) self.now.body) (under.now ++ top ∷ [])
+            (body_dropped above self.now.body) ≡ false) }
+    {
+        let own = self.own_len();
+        self.find_among(resources, own, above, &[top])?;
+        self.find_among(resources, own, above + 1, under)
+    }
+
+    /// [`Stacks::find_operands`] of the values of these fields, the last on top.
+    pub fn find_fields<A: Refused, R: WasmModuleResources>(
+        &self,
+        resources: &R,
+        above: usize,
+        fields: &[FieldType],
+    ) -> Result<(), A>
+        requires above { above ≤ 1 }
+        requires types { AllByRecursion (Valid (R.context resources.now)) (unpacked_fields fields.now) }
+        requires state { IsValidBody (R.context resources.now) self.now.body }
+        ensures fit { OnOk result (has_operands_fitting (body_context (R.context resources.now) self.now.body)
+            (unpacked_fields fields.now) (body_dropped above self.now.body) ≡ true) }
+        ensures unfit { OnErr result (has_operands_fitting
+            (body_context (R.context resources.now) self.now.body) (unpacked_fields fields.now)
+            (body_dropped above self.now.body) ≡ false) }
+    {
+        let own = self.own_len();
+        let mut left = fields.len();
+        while left > 0 {
+            left -= 1;
+            let wanted = fields[left].element_type.unpack();
+            let depth = fields.len() - 1 - left + above;
+            if !self.is_fitting_at(resources, own, depth, &wanted) {
+                return Err(self.misfit(resources, depth, &wanted));
+            }
+        }
+        Ok(())
+    }
+
+    /// [`Stacks::find_operands`] of so many operands of one type, where the innermost frame has so many own operands. Below
+    /// those each pop finds the same, so one is looked for there.
+    pub(crate) fn find_run<A: Refused, R: WasmModuleResources>(
+        &self,
+        resources: &R,
+        own: usize,
+        elem: ValType,
+        count: usize,
+    ) -> Result<(), A>
+        requires own { own ≡ length (innermost_operands self.now.body.present.frames) }
+        requires element { Valid (R.context resources.now) elem }
+        requires state { IsValidBody (R.context resources.now) self.now.body }
+        ensures fit { OnOk result (has_operands_fitting (body_context (R.context resources.now) self.now.body)
+            (replicate count elem) self.now.body ≡ true) }
+        ensures unfit { OnErr result (has_operands_fitting
+            (body_context (R.context resources.now) self.now.body) (replicate count elem) self.now.body
+            ≡ false) }
+    {
+        if !self.has_fitting_run(resources, elem, count.min(own)) {
+            return Err(self.first_misfit(resources, own, elem));
+        }
+        if own < count && !self.is_fitting_at(resources, own, own, &elem) {
+            return Err(self.misfit(resources, own, &elem));
+        }
+        Ok(())
+    }
+
+    /// The refusal of the first own operand of the innermost frame, which has so many, that isn't of this type.
+    #[cold]
+    #[inline(never)]
+    fn first_misfit<A: Refused, R: WasmModuleResources>(
+        &self,
+        resources: &R,
+        own: usize,
+        elem: ValType,
+    ) -> A
+        requires own { own ≡ length (innermost_operands self.now.body.present.frames) }
+        requires element { Valid (R.context resources.now) elem }
+        requires state { IsValidBody (R.context resources.now) self.now.body }
+    {
+        let mut depth = 0;
+        while depth < own && self.is_fitting_at(resources, own, depth, &elem) {
+            depth += 1;
+        }
+        self.misfit(resources, depth, &elem)
     }
 
     /// The refusal where an operand of this type isn't found below so many others. It is made here, so that nothing of it

@@ -160,33 +160,8 @@ impl Stacks {
         ensures { result ≡ true
             → take count (innermost_operands self.now.body.present.frames) ≡ replicate count (Known elem) }
     {
-        for operand in self.own_top(count) {
+        for operand in self.top_operands(count) {
             if !is_known_number(operand, elem) {
-                return false;
-            }
-        }
-        true
-    }
-
-    /// The same of the values of fields.
-    #[inline(always)]
-    pub(crate) fn has_fitting_fields<R: WasmModuleResources>(
-        &self,
-        resources: &R,
-        own: usize,
-        fields: &[FieldType],
-    ) -> bool
-        requires own { own ≡ length (innermost_operands self.now.body.present.frames) }
-        requires types { AllByRecursion (Valid (R.context resources.now)) (unpacked_fields fields.now) }
-        requires state { IsValidBody (R.context resources.now) self.now.body }
-        ensures { result ≡ has_operands_fitting (body_context (R.context resources.now) self.now.body)
-            (unpacked_fields fields.now) self.now.body }
-    {
-        let mut left = fields.len();
-        while left > 0 {
-            left -= 1;
-            let wanted = fields[left].element_type.unpack();
-            if !self.is_fitting_at(resources, own, fields.len() - 1 - left, &wanted) {
                 return false;
             }
         }
@@ -275,7 +250,7 @@ impl Stacks {
     {
         // The contract alone reads it.
         let _resources = resources;
-        match self.found_among(own, depth) {
+        match self.operand_found_of(own, depth) {
             Some(found) => fits_at_once(found, Some(*wanted)),
             None => false,
         }

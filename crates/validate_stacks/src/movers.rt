@@ -1,6 +1,7 @@
 //! The moves of operators: each is made whole, or changes nothing.
 
 ghost use Rattle.std.specs.Prelude.{◌≡◌, ◌≢◌, ◌<◌, ◌≤◌, [], None, true, length, IsOk, MatchResult};
+ghost use Rattle.validation_rules.specs.Fits.{Known};
 ghost use Rattle.validate_stacks.specs.AtOnce.{body_dropped};
 ghost use Rattle.validate_stacks.specs.Attempts.{may_frame, may_set, may_unset};
 ghost use Rattle.validate_stacks.specs.Pops.{body_pushed_each};
@@ -29,7 +30,7 @@ impl Stacks {
                 self.drop_operands(taken);
                 return Ok(());
             };
-            if self.push_over(taken, MaybeType::Known(*ty)) {
+            if self.replace_own(taken, MaybeType::Known(*ty)) {
                 return Ok(());
             }
         }
@@ -65,7 +66,7 @@ impl Stacks {
         ensures idle { self.old.body.undone ≡ None → 0 < taken → IsOk result }
     {
         if !self.is_pending() {
-            if self.push_over(taken, ty) {
+            if self.replace_own(taken, ty) {
                 return Ok(());
             }
         }
@@ -88,6 +89,48 @@ impl Stacks {
             opens: None,
             given: &[],
             top: Some(ty),
+        })
+    }
+
+    /// [`Stacks::exchange`], and above what is given comes one operand more, of which less may be known.
+    #[inline(always)]
+    pub fn exchange_topped(
+        &mut self,
+        taken: usize,
+        given: &[ValType],
+        top: MaybeType,
+    ) -> Result<(), OutOfMemory>
+        requires { taken ≤ length (innermost_operands self.old.body.present.frames) }
+        ensures { MatchResult result
+            (λ _. self.new.body ≡ body_pushed top (body_pushed_each given.now (body_dropped taken self.old.body)))
+            (λ _. self.new ≡ self.old) }
+    {
+        if given.is_empty() {
+            return self.replace(taken, top);
+        }
+        self.exchange_topped_any(taken, given, top)
+    }
+
+    /// [`Stacks::exchange_topped`], whatever is given, and recorded where an attempt is pending.
+    #[inline(never)]
+    fn exchange_topped_any(
+        &mut self,
+        taken: usize,
+        given: &[ValType],
+        top: MaybeType,
+    ) -> Result<(), OutOfMemory>
+        requires { taken ≤ length (innermost_operands self.old.body.present.frames) }
+        ensures { MatchResult result
+            (λ _. self.new.body ≡ body_pushed top (body_pushed_each given.now (body_dropped taken self.old.body)))
+            (λ _. self.new ≡ self.old) }
+    {
+        self.change(Change {
+            taken,
+            closes: false,
+            sets: None,
+            opens: None,
+            given,
+            top: Some(top),
         })
     }
 
@@ -122,6 +165,33 @@ impl Stacks {
     /// these types, the last on top. Want of memory changes nothing.
     #[inline(always)]
     pub fn open(
+        &mut self,
+        taken: usize,
+        kind: FrameKind,
+        block_type: BlockType,
+        given: &[ValType],
+    ) -> Result<(), OutOfMemory>
+        requires own { taken ≤ length (innermost_operands self.old.body.present.frames) }
+        requires frames { may_frame self.old ≡ true }
+        ensures { MatchResult result (λ _. self.new.body
+            ≡ body_pushed_each given.now (body_with_frame kind block_type (body_dropped taken self.old.body)))
+            (λ _. self.new ≡ self.old) }
+    {
+        // Where no attempt is pending, one goes at most, and nothing is given, the frame is put in place.
+        if given.is_empty() {
+            if taken == 0 && self.open_at_once(kind, block_type) {
+                return Ok(());
+            }
+            if taken == 1 && self.open_over_top(kind, block_type) {
+                return Ok(());
+            }
+        }
+        self.open_any(taken, kind, block_type, given)
+    }
+
+    /// [`Stacks::open`], over any number of operands, and recorded where an attempt is pending.
+    #[inline(never)]
+    fn open_any(
         &mut self,
         taken: usize,
         kind: FrameKind,

@@ -1,6 +1,6 @@
 //! Pops of operands against what is wanted.
 
-ghost use Rattle.std.specs.Prelude.{◌≡◌, ◌⊎◌, true, false, None, Some, OnOk, OnErr, IfOk, IfErr, MatchOption};
+ghost use Rattle.std.specs.Prelude.{◌≡◌, true, false, None, Some, OnOk, OnErr, IfOk, IfErr, MatchOption};
 ghost use Rattle.std.specs.Option.{ForSome};
 ghost use Rattle.validate_resources.specs.Context.{Valid};
 ghost use Rattle.validate_types.specs.Refs.{non_null_reference};
@@ -9,13 +9,13 @@ ghost use Rattle.validation_rules.specs.Valid.{IsValidOperand};
 ghost use Rattle.validate_stacks.specs.Attempts.{phase_moved};
 ghost use Rattle.validate_stacks.specs.State.{IsValidBody, body_context};
 ghost use Rattle.validate_stacks.specs.Names.{place_of, type_name};
-ghost use Rattle.validate_stacks.specs.Pops.{may_pop, FitsAtOnce};
+ghost use Rattle.validate_stacks.specs.Pops.{may_pop, FitsAtOnce, Popped};
 ghost use Rattle.validate_stacks.specs.Steps.{found_in_body, body_popped};
 
 use crate::stacks::Stacks;
 use std::alloc::Global;
 use validate_resources::WasmModuleResources;
-use validate_types::{AbstractHeapType, Error, HeapType, MaybeType, RefType, ValType};
+use validate_types::{AbstractHeapType, Error, HeapType, MaybeType, RefType, Refusal, ValType};
 
 /// The name of a type in a refusal (wasmparser's `ty_to_str`).
 pub fn ty_to_str(ty: ValType) -> &'static str
@@ -39,16 +39,17 @@ fn nothing_there(alloc: Global, expected: Option<ValType>, offset: u64) -> Error
     ensures memory { expected ≡ None → result.wants_memory ≡ false }
 {
     let Some(wanted) = expected else {
-        return Error::new(
+        let error = Error::new(
             "type mismatch: expected a type but nothing on stack",
             offset,
         );
+        return error.because(Refusal::NothingFound(None));
     };
-    let wanted = ty_to_str(wanted);
-    Error::from_text(
-        format!(in alloc; "type mismatch: expected {wanted} but nothing on stack"),
-        offset,
-    )
+    let name = ty_to_str(wanted);
+    match format!(in alloc; "type mismatch: expected {name} but nothing on stack") {
+        Ok(text) => Error::with_text(text, offset).because(Refusal::NothingFound(expected)),
+        Err(_) => Error::out_of_memory(offset),
+    }
 }
 
 /// The refusal of an operand of another type.
@@ -57,12 +58,17 @@ fn nothing_there(alloc: Global, expected: Option<ValType>, offset: u64) -> Error
 pub fn mismatch(alloc: Global, expected: ValType, found: ValType, offset: u64) -> Error
     ensures { result.offset ≡ offset }
 {
+    let refusal = Refusal::Mismatch {
+        depth: 0,
+        wanted: expected,
+        found: MaybeType::Known(found),
+    };
     let expected = ty_to_str(expected);
     let found = ty_to_str(found);
-    Error::from_text(
-        format!(in alloc; "type mismatch: expected {expected}, found {found}"),
-        offset,
-    )
+    match format!(in alloc; "type mismatch: expected {expected}, found {found}") {
+        Ok(text) => Error::with_text(text, offset).because(refusal),
+        Err(_) => Error::out_of_memory(offset),
+    }
 }
 
 /// The refusal of a reference where a number or a vector is wanted.
@@ -71,11 +77,16 @@ pub fn mismatch(alloc: Global, expected: ValType, found: ValType, offset: u64) -
 fn reference_found(alloc: Global, expected: ValType, offset: u64) -> Error
     ensures { result.offset ≡ offset }
 {
+    let refusal = Refusal::Mismatch {
+        depth: 0,
+        wanted: expected,
+        found: MaybeType::UnknownRef(None),
+    };
     let expected = ty_to_str(expected);
-    Error::from_text(
-        format!(in alloc; "type mismatch: expected {expected}, found heap type"),
-        offset,
-    )
+    match format!(in alloc; "type mismatch: expected {expected}, found heap type") {
+        Ok(text) => Error::with_text(text, offset).because(refusal),
+        Err(_) => Error::out_of_memory(offset),
+    }
 }
 
 /// An unknown reference of which this abstract type is known, with the sharedness of the wanted one.
@@ -172,7 +183,8 @@ fn place_of(ty: ValType) -> u8
 impl Stacks {
     /// Pops an operand that fits what is wanted, if anything is. It refuses, at the offset handed in,
     /// where nothing is found or where what is found doesn't fit (and is popped). Memory is wanted for
-    /// the text of a refusal and the log of an attempt alone.
+    /// the text of a refusal and the log of an attempt alone: where no attempt is pending it is refused only
+    /// where nothing fits, and a pop of any type takes no memory.
     #[inline(always)]
     pub fn pop_operand<R: WasmModuleResources>(
         &mut self,
@@ -182,25 +194,7 @@ impl Stacks {
     ) -> Result<MaybeType, Error>
         requires wanted { ForSome expected (Valid (R.context resources.now)) }
         requires state { IsValidBody (R.context resources.now) self.old.body }
-        ensures value { IfOk result (λ t. found_in_body self.old.body ≡ Some t) }
-        ensures passed { OnOk result (may_pop (body_context (R.context resources.now) self.old.body)
-            (found_in_body self.old.body) expected ≡ true) }
-        ensures popped { OnOk result (self.new.body ≡ body_popped self.old.body) }
-        ensures refused { IfErr result (λ e. e.wants_memory ≡ false
-            → may_pop (body_context (R.context resources.now) self.old.body) (found_in_body self.old.body)
-            expected ≡ false) }
-        ensures left { OnErr result ((self.new.body ≡ self.old.body)
-            ⊎ (self.new.body ≡ body_popped self.old.body)) }
-        ensures phase { phase_moved self.new.phase ≡ phase_moved self.old.phase }
-        ensures offset { IfErr result (λ e. e.offset ≡ offset) }
-
-        // Where no attempt is pending it is refused only where nothing fits, and a pop of any type
-        // takes no memory.
-        ensures idle { self.old.body.undone ≡ None
-            → OnErr result (may_pop (body_context (R.context resources.now) self.old.body)
-            (found_in_body self.old.body) expected ≡ false) }
-        ensures memory { self.old.body.undone ≡ None → expected ≡ None
-            → IfErr result (λ e. e.wants_memory ≡ false) }
+        ensures { Popped (R.context resources.now) expected offset self.old result self.new }
     {
         match self.pop_at_once(resources, expected) {
             Some(found) => Ok(found),
@@ -246,22 +240,7 @@ impl Stacks {
     ) -> Result<MaybeType, Error>
         requires wanted { ForSome expected (Valid (R.context resources.now)) }
         requires state { IsValidBody (R.context resources.now) self.old.body }
-        ensures value { IfOk result (λ t. found_in_body self.old.body ≡ Some t) }
-        ensures passed { OnOk result (may_pop (body_context (R.context resources.now) self.old.body)
-            (found_in_body self.old.body) expected ≡ true) }
-        ensures popped { OnOk result (self.new.body ≡ body_popped self.old.body) }
-        ensures refused { IfErr result (λ e. e.wants_memory ≡ false
-            → may_pop (body_context (R.context resources.now) self.old.body) (found_in_body self.old.body)
-            expected ≡ false) }
-        ensures left { OnErr result ((self.new.body ≡ self.old.body)
-            ⊎ (self.new.body ≡ body_popped self.old.body)) }
-        ensures phase { phase_moved self.new.phase ≡ phase_moved self.old.phase }
-        ensures offset { IfErr result (λ e. e.offset ≡ offset) }
-        ensures idle { self.old.body.undone ≡ None
-            → OnErr result (may_pop (body_context (R.context resources.now) self.old.body)
-            (found_in_body self.old.body) expected ≡ false) }
-        ensures memory { self.old.body.undone ≡ None → expected ≡ None
-            → IfErr result (λ e. e.wants_memory ≡ false) }
+        ensures { Popped (R.context resources.now) expected offset self.old result self.new }
     {
         match self.pop_any() {
             Ok(found) => self.check_found(resources, offset, found, expected),

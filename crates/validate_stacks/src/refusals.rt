@@ -1,9 +1,10 @@
 //! The refusals of operators, as a caller is told them: with a text and a place.
 
-ghost use Rattle.std.specs.Prelude.{◌≡◌, false};
+ghost use Rattle.std.specs.Prelude.{◌≡◌, ◌≤◌, false, length};
 ghost use Rattle.validate_resources.specs.Context.{ModuleContext};
 ghost use Rattle.validate_stacks.specs.Pops.{IsKept};
 ghost use Rattle.validate_stacks.specs.State.{IsValidBody};
+ghost use Rattle.validate_stacks.specs.Steps.{innermost_operands};
 ghost use Rattle.validate_types.specs.Told.{IsRowRefused, IsTold};
 
 use crate::blocks::label_types;
@@ -12,7 +13,9 @@ use crate::stacks::Stacks;
 use std::alloc::{AllocError, Global};
 use validate_resources::WasmModuleResources;
 use validate_resources::kinds::func_type_of;
-use validate_types::{Error, MaybeType, OutOfMemory, Refusal, Told, ValType};
+use validate_types::{
+    AbstractHeapType, Error, HeapType, MaybeType, OutOfMemory, RefType, Refusal, Told, ValType,
+};
 
 impl Stacks {
     /// The refusal, at this offset, with its text. The operands go that upstream takes before it refuses: those above one that
@@ -31,29 +34,45 @@ impl Stacks {
         ensures valid { (md : ModuleContext) → IsValidBody md self.old.body → IsValidBody md self.new.body }
         ensures kept { IsKept self.old.body self.new.body }
     {
-        match told {
-            Told::LookUp(error) => error.at(offset),
-            Told::Rule(refusal) => {
-                let error = self.error(resources, refusal, offset);
-                match self.take_refused(refusal, taken) {
-                    Ok(()) => error,
-                    Err(OutOfMemory) => Error::out_of_memory(offset),
-                }
-            }
+        let taken = self.count_taken(&told, taken);
+        let error = self.refusal(resources, told, offset);
+        match self.take_refused(taken) {
+            Ok(()) => error,
+            Err(OutOfMemory) => Error::out_of_memory(offset),
         }
     }
 
-    /// Takes the operands that upstream has taken by then. Where there is no memory for the log of an attempt, they stay.
-    fn take_refused(&mut self, refusal: Refusal, taken: usize) -> Result<(), OutOfMemory>
+    /// The refusal of a look-up, at this offset, with its text. Nothing is taken.
+    #[cold]
+    #[inline(never)]
+    pub fn refusal<R: WasmModuleResources>(&self, resources: &R, told: Told, offset: u64) -> Error
+        ensures offset { result.offset ≡ offset }
+        ensures told { result.wants_memory ≡ false → IsRowRefused told }
+    {
+        match told {
+            Told::LookUp(error) => error.at(offset),
+            Told::Rule(refusal) => self.error(resources, refusal, offset),
+        }
+    }
+
+    /// How many own operands of the innermost frame upstream has taken by then: so many, if an operand isn't the reason.
+    fn count_taken(&self, told: &Told, taken: usize) -> usize
+        ensures { result ≤ length (innermost_operands self.now.body.present.frames) }
+    {
+        let own = self.own_len();
+        match told {
+            Told::Rule(Refusal::NothingFound(_)) => own,
+            Told::Rule(Refusal::Mismatch { depth, .. }) => own.min(depth.saturating_add(1)),
+            Told::Rule(_) | Told::LookUp(_) => own.min(taken),
+        }
+    }
+
+    /// Takes so many operands. Where there is no memory for the log of an attempt, they stay.
+    fn take_refused(&mut self, taken: usize) -> Result<(), OutOfMemory>
+        requires { taken ≤ length (innermost_operands self.old.body.present.frames) }
         ensures valid { (md : ModuleContext) → IsValidBody md self.old.body → IsValidBody md self.new.body }
         ensures kept { IsKept self.old.body self.new.body }
     {
-        let own = self.own_len();
-        let taken = match refusal {
-            Refusal::NothingFound(_) => own,
-            Refusal::Mismatch { depth, .. } => own.min(depth.saturating_add(1)),
-            _ => own.min(taken),
-        };
         self.exchange(taken, &[])
     }
 
@@ -73,9 +92,12 @@ impl Stacks {
         if let Refusal::OutOfMemory = refusal {
             return Error::out_of_memory(offset);
         }
-        match refusal.fixed_text() {
-            Some(text) => Error::new(text, offset),
-            None => Error::from_text(self.made_text(resources, refusal), offset),
+        if let Some(text) = refusal.fixed_text() {
+            return Error::new(text, offset).because(refusal);
+        }
+        match self.made_text(resources, refusal) {
+            Ok(text) => Error::with_text(text, offset).because(refusal),
+            Err(_) => Error::out_of_memory(offset),
         }
     }
 
@@ -91,6 +113,7 @@ impl Stacks {
             Refusal::NoStructType(index) => declared_text(resources, alloc, "struct", index),
             Refusal::NoArrayType(index) => declared_text(resources, alloc, "array", index),
             Refusal::OtherResults(index) => self.results_text(resources, index),
+            Refusal::NotBelow { wanted, found } => below_text(resources, alloc, wanted, found),
             _ => operand_text(alloc, refusal),
         }
     }
@@ -125,6 +148,35 @@ fn declared_text<R: WasmModuleResources>(
     }
 }
 
+/// The text of a reference that isn't below an abstract type of its own sharedness.
+fn below_text<R: WasmModuleResources>(
+    resources: &R,
+    alloc: Global,
+    wanted: AbstractHeapType,
+    found: MaybeType,
+) -> Result<String, AllocError> {
+    match found {
+        MaybeType::Known(ValType::Ref(found)) => {
+            let shared = resources.is_shared(found);
+            let wanted = RefType {
+                nullable: true,
+                heap_type: HeapType::Abstract { shared, ty: wanted },
+            };
+            format!(in alloc; "type mismatch: expected subtype of {wanted}, found {found}")
+        }
+        MaybeType::UnknownRef(Some(found)) => {
+            let wanted = wanted.as_str(false);
+            let found = found.as_str(false);
+            format!(in alloc; "type mismatch: expected subtype of {wanted}, found {found}")
+        }
+        // Any of these fits, or is no reference.
+        MaybeType::Known(_) | MaybeType::UnknownRef(None) | MaybeType::Bottom => {
+            let wanted = wanted.as_str(false);
+            format!(in alloc; "type mismatch: expected subtype of {wanted}")
+        }
+    }
+}
+
 /// The results of the function type at this index; nothing, where there is none.
 fn results_of<R: WasmModuleResources>(resources: &R, type_index: u32) -> &[ValType] {
     match resources.sub_type_at(type_index) {
@@ -154,6 +206,9 @@ fn operand_text(alloc: Global, refusal: Refusal) -> Result<String, AllocError> {
             format!(in alloc; "type mismatch: expected {wanted} but nothing on stack")
         }
         Refusal::Mismatch { wanted, found, .. } => mismatch_text(alloc, wanted, found),
+        Refusal::ClauseType { wanted, given } => {
+            mismatch_text(alloc, wanted, MaybeType::Known(given))
+        }
         Refusal::NoReference(found) => {
             let found = ty_to_str(found);
             format!(in alloc; "type mismatch: expected ref but found {found}")

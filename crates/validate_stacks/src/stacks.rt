@@ -28,7 +28,7 @@ use validate_visit::{BlockType, Frame, FrameKind};
 pub struct Stacks {
     pub(crate) operands: Pile<MaybeType>,
     pub(crate) control: Pile<Frame>,
-    locals: Locals,
+    pub(crate) locals: Locals,
     pub(crate) inits: LocalInits,
     pub(crate) transaction: Transaction,
     shared: bool,
@@ -421,7 +421,7 @@ impl Stacks {
 
     /// Closes the innermost frame, whose own operands pass to the next outer one. It takes no memory.
     #[inline(always)]
-    pub(crate) fn give_operands(&mut self)
+    pub(crate) fn close_over_operands(&mut self)
         requires { self.old.body.undone ≡ None }
         ensures { self.new.body ≡ body_given self.old.body }
     {
@@ -470,7 +470,7 @@ impl Stacks {
 
     /// So many own operands of the innermost frame, which has them, the top last.
     #[inline(always)]
-    pub(crate) fn own_top(&self, count: usize) -> &[MaybeType]
+    pub(crate) fn top_operands(&self, count: usize) -> &[MaybeType]
         requires { count ≤ length (innermost_operands self.now.body.present.frames) }
         ensures { result.now ≡ reverse (take count (innermost_operands self.now.body.present.frames)) }
     {
@@ -481,7 +481,7 @@ impl Stacks {
 
     /// What a pop would find below so many others, where the innermost frame has so many own operands.
     #[inline(always)]
-    pub(crate) fn found_among(&self, own: usize, depth: usize) -> Option<MaybeType>
+    pub(crate) fn operand_found_of(&self, own: usize, depth: usize) -> Option<MaybeType>
         requires { own ≡ length (innermost_operands self.now.body.present.frames) }
         ensures { result ≡ found_after_pops_in_body depth self.now.body }
     {
@@ -653,7 +653,7 @@ impl Stacks {
 /// Room for one more operand, and its entry in the log of an attempt, if one is pending. Want of memory changes nothing
 /// but room.
 #[inline(always)]
-fn prepare_push(
+pub(crate) fn prepare_push(
     operands: &mut Pile<MaybeType>,
     transaction: &mut Transaction,
 ) -> Result<(), OutOfMemory>

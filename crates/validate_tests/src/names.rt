@@ -4,17 +4,17 @@ ghost use Rattle.validation_rules.specs.Operators.{operator};
 ghost use Rattle.validate_stacks.specs.Visits.{MayVisit, Meets};
 ghost use Rattle.wasmparser_validate.specs.Start.{state, stacks_of};
 
-use crate::lack::Lack;
 use crate::lines::{Way, expect_lines};
 use crate::setting::{HEAD, Setting};
 use crate::tables::GROUPS;
+use crate::test_error::TestError;
 use std::process::Abort;
 use wasmparser_validate::operators::{OperatorValidator, OperatorValidatorAllocations};
 use wasmparser_validate::resources::WasmModuleResources;
 use wasmparser_validate::types::Error;
 use wasmparser_validate::visit::{
-    ArrayOp, AtomicOp, ContinuationOp, ControlOp, ConvertOp, ExceptionOp, GlobalAccess, MemoryOp,
-    NumericOp, Op, ReferenceOp, SharedOp, StructOp, TableAccess, TableOp, VisitOperator,
+    ArrayOp, AtomicOp, ContinuationOp, ControlOp, ConvertOp, ExceptionOp, Exchange, MemoryOp,
+    NumericOp, Op, ReferenceOp, SharedOp, StructOp, TableOp, Update, VisitOperator,
 };
 
 /// The visit of the operator by its own name, where it has an arm here.
@@ -35,7 +35,7 @@ fn visit_by_name<'a, V: VisitOperator<'a>>(v: &mut V, op: Op<'a>) -> V::Output
         Op::Array(ArrayOp::ArrayLen) => v.visit_array_len(),
         Op::Shared(
             SharedOp::Global {
-                access: GlobalAccess::Value(TableAccess::Set),
+                access: Update::Value(Exchange::Set),
                 ordering,
                 global_index,
             },
@@ -59,7 +59,7 @@ pub fn visit_named<R: WasmModuleResources>(
 }
 
 /// A body of a table.
-fn expect_body(rt: &(impl Abort + AllocGlobal), body: &str) -> Result<(), Lack> {
+fn expect_body(rt: &(impl Abort + AllocGlobal), body: &str) -> Result<(), TestError> {
     let (head, lines) = body.split_once("\n--\n").unwrap_or((HEAD, body));
     let setting = Setting::read(rt, head)?;
     let mut v = setting.validator(OperatorValidatorAllocations::new(rt.alloc()))?;
@@ -67,7 +67,7 @@ fn expect_body(rt: &(impl Abort + AllocGlobal), body: &str) -> Result<(), Lack> 
 }
 
 #[test]
-fn groups_of_operators_by_their_names(rt: HostRuntime) -> Result<(), Lack> {
+fn groups_of_operators_by_their_names(rt: HostRuntime) -> Result<(), TestError> {
     for body in GROUPS.split("\n\n") {
         expect_body(&rt, body)?;
     }

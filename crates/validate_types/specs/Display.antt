@@ -16,7 +16,7 @@ use Rattle.validate_types.specs.declared.types.ValType.{ValType}
 use Rattle.validate_types.specs.declared.types.ValType.TheVariants.{I32, I64, F32, F64, V128, Ref}
 use Rattle.validate_types.specs.Abstract.{heap_name}
 use Rattle.validate_types.specs.Refs.{wat_of}
-use Rattle.validate_types.specs.Refusal.{Refusal}
+use Rattle.validate_types.specs.ErrorValue.{ErrorValue}
 
 abbrev pub index_text : UnpackedIndex → List ℕ
 index_text (Module n) = codes "(module " ++ decimal n ++ codes ")"
@@ -61,5 +61,5 @@ kind_text (Struct fields) = codes "struct"
 kind_text (Cont c) = codes "cont"
 
 -- a refusal's text, and its offset
-abbrev pub refusal_text : Refusal → List ℕ
+abbrev pub refusal_text : ErrorValue → List ℕ
 refusal_text e = e.text ++ codes " (at offset 0x" ++ digits 16 false e.offset ++ codes ")"

@@ -3,6 +3,7 @@
 ghost use Rattle.std.specs.Prelude.{◌≡◌, true, false, codes, IfOk, OnErr};
 ghost use Rattle.std.specs.String.{string_bytes};
 
+use crate::refusal::Refusal;
 use std::alloc::{AllocError, AllocFailed};
 use std::marker::Model;
 
@@ -30,7 +31,8 @@ enum Message {
 }
 
 /// A refusal: its text, and the offset that was handed in to the call that refused. Want of memory
-/// is a refusal of its own kind. Contracts see a [`Refusal`] of `specs/`. No call takes memory.
+/// is a refusal of its own kind. Contracts see an `ErrorValue` of `specs/`, which leaves the reason out. No call takes
+/// memory.
 ///
 /// wasmparser's `BinaryReaderError`, there named `Error` inside the validator.
 #[derive(Debug, Drop)]
@@ -38,12 +40,13 @@ pub struct Error {
     // In this order of the fields an answer is copied faster.
     message: Message,
     offset: u64,
+    reason: Option<Refusal>,
 }
 
 impl Model for Error {
-    ghost use Rattle.validate_types.specs.Refusal.{Refusal};
+    ghost use Rattle.validate_types.specs.ErrorValue.{ErrorValue};
 
-    ghost Value = { Refusal };
+    ghost Value = { ErrorValue };
 
     ghost use Rattle.validate_types.specs.Messages.{text_of, wants_memory};
 
@@ -62,6 +65,7 @@ impl Error {
         Error {
             offset,
             message: Message::Fixed(message),
+            reason: None,
         }
     }
 
@@ -72,6 +76,7 @@ impl Error {
         Error {
             offset,
             message: Message::Owned(text),
+            reason: None,
         }
     }
 
@@ -97,6 +102,7 @@ impl Error {
         Error {
             offset,
             message: Message::OutOfMemory,
+            reason: None,
         }
     }
 
@@ -105,6 +111,22 @@ impl Error {
         ensures { result ≡ record self { offset = offset } }
     {
         Error { offset, ..self }
+    }
+
+    /// The same refusal, and why it is one.
+    pub fn because(self, reason: Refusal) -> Error
+        ensures { result ≡ self }
+    {
+        Error {
+            reason: Some(reason),
+            ..self
+        }
+    }
+
+    /// Why an operator was refused, to be matched on in place of the text. `None` where no rule of an operator refused, as
+    /// for want of memory, or a look-up of the caller's own.
+    pub fn reason(&self) -> Option<Refusal> {
+        self.reason
     }
 
     /// The offset that was handed in to the call that refused.

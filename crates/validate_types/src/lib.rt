@@ -18,7 +18,7 @@ pub use crate::features::WasmFeatures;
 pub use crate::gate::Gate;
 pub use crate::heap::{AbstractHeapType, CoreTypeId, HeapType, PackedIndex, UnpackedIndex};
 pub use crate::refs::RefType;
-pub use crate::refusal::{ClauseKind, NotAtOnce, Packing, Refusal, Refused, Told, grown};
+pub use crate::refusal::{ClauseKind, NotDone, Packing, Refusal, Refused, Told, grown};
 pub use crate::signature::func_signature_matches;
 pub use crate::types::{
     ArrayType, CompositeInnerType, CompositeType, ContType, FieldType, FuncType, GlobalType,

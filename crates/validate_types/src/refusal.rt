@@ -228,6 +228,8 @@ pub enum Refusal {
     ElseOutsideIf,
     /// `catch` in what is no `try`.
     CatchOutsideTry,
+    /// `catch_all` in what is no `try`.
+    CatchAllOutsideTry,
     /// `delegate` in what is no `try`.
     DelegateOutsideTry,
     /// The label of `rethrow` is no `catch`.
@@ -244,6 +246,11 @@ pub enum Refusal {
     OtherResults(u32),
     /// A clause's label takes another number of types than it is given.
     ClauseArity(ClauseKind),
+    /// A clause's label takes another type than it is given.
+    ClauseType {
+        wanted: ValType,
+        given: ValType,
+    },
     /// The label of a clause takes no reference to an exception.
     ClauseReference,
 
@@ -304,21 +311,21 @@ pub trait Refused {
         ensures { tells result → error.wants_memory ≡ false };
 }
 
-/// Nothing is told: the operator didn't pass at once.
+/// Nothing is told: the operator wasn't done. It has no field, so nothing of a refusal lies in memory.
 #[derive(Clone, Copy, Debug, PartialEq, Eq)]
-pub struct NotAtOnce;
+pub struct NotDone;
 
-impl Refused for NotAtOnce {
+impl Refused for NotDone {
     ghost tells = { λ _. ⊥ };
 
     #[inline(always)]
-    fn of(_refusal: Refusal) -> NotAtOnce {
-        NotAtOnce
+    fn of(_refusal: Refusal) -> NotDone {
+        NotDone
     }
 
     #[inline(always)]
-    fn by_look_up(_error: Error) -> NotAtOnce {
-        NotAtOnce
+    fn by_look_up(_error: Error) -> NotDone {
+        NotDone
     }
 }
 

@@ -86,8 +86,9 @@ impl Refusal {
                 Some("type mismatch: expected a reference type, found nothing")
             }
             Refusal::ElseOutsideIf => Some("else found outside of an `if` block"),
-            Refusal::CatchOutsideTry => Some("catch found outside of a `try` block"),
-            Refusal::DelegateOutsideTry => Some("delegate found outside of a `try` block"),
+            Refusal::CatchOutsideTry => Some("catch found outside of an `try` block"),
+            Refusal::CatchAllOutsideTry => Some("catch_all found outside of a `try` block"),
+            Refusal::DelegateOutsideTry => Some("delegate found outside of an `try` block"),
             Refusal::RethrowOutsideCatch => {
                 Some("invalid rethrow label: target was not a `catch` block")
             }
@@ -153,6 +154,7 @@ impl Refusal {
             | Refusal::CastLabel { .. }
             | Refusal::CastFailLabel { .. }
             | Refusal::NotExact { .. }
+            | Refusal::ClauseType { .. }
             | Refusal::OtherResults(_) => None,
         }
     }

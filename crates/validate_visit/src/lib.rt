@@ -26,7 +26,7 @@ pub use crate::catch::{Catch, TryTable};
 pub use crate::frame::{BlockType, Frame, FrameKind};
 pub use crate::frame_stack::FrameStack;
 pub use crate::ieee::{Ieee32, Ieee64};
-pub use crate::immediates::{has_module_immediates, have_module_immediates};
+pub use crate::immediates::{all_have_module_immediates, has_module_immediates};
 pub use crate::memory::{AtomicAccess, AtomicRmwOp, MemArg, MemArgTarget, Ordering};
 pub use crate::module_arity::ModuleArity;
 pub use crate::numbers::{FloatType, IntegerType, NumberType, PackedInteger, Sign};
@@ -41,4 +41,4 @@ pub use crate::op::{
 pub use crate::operator_checks::OperatorChecks;
 pub use crate::order::is_well_ordered;
 pub use crate::resume::{Handle, ResumeTable};
-pub use crate::shared::{FieldAccess, GlobalAccess, SharedOp, SharedRmwOp, TableAccess};
+pub use crate::shared::{Exchange, FieldAccess, SharedOp, SharedRmwOp, Update};

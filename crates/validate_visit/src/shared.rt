@@ -11,7 +11,7 @@ pub enum SharedOp {
     /// `global.atomic.get` and its kin.
     Global {
         /// What is done.
-        access: GlobalAccess,
+        access: Update,
         /// How it is ordered among others.
         ordering: Ordering,
         /// The global at this index.
@@ -20,7 +20,7 @@ pub enum SharedOp {
     /// `table.atomic.get` and its kin.
     Table {
         /// What is done with an element.
-        access: TableAccess,
+        access: Exchange,
         /// How it is ordered among others.
         ordering: Ordering,
         /// The table at this index.
@@ -50,7 +50,7 @@ pub enum SharedOp {
 
 /// What is done with an element of a table, and may be done with whatever is accessed.
 #[derive(Clone, Copy, Debug, PartialEq, Eq)]
-pub enum TableAccess {
+pub enum Exchange {
     /// `get`
     Get,
     /// `set`
@@ -63,9 +63,9 @@ pub enum TableAccess {
 
 /// What is done with a global.
 #[derive(Clone, Copy, Debug, PartialEq, Eq)]
-pub enum GlobalAccess {
+pub enum Update {
     /// What may be done with whatever is accessed.
-    Value(TableAccess),
+    Value(Exchange),
     /// A number is replaced by the outcome of this operation.
     Rmw(SharedRmwOp),
 }
@@ -74,7 +74,7 @@ pub enum GlobalAccess {
 #[derive(Clone, Copy, Debug, PartialEq, Eq)]
 pub enum FieldAccess {
     /// What may be done with a global.
-    Whole(GlobalAccess),
+    Whole(Update),
     /// `get_s` or `get_u`
     GetPacked(Sign),
 }

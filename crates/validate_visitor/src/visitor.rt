@@ -11,10 +11,10 @@ ghost use Rattle.validate_visit.specs.declared.numbers.Sign.TheVariants.{Signed,
 use validate_types::{HeapType, RefType, ValType};
 use validate_visit::{
     ArrayOp, AtomicRmwOp, BlockType, BrTable, ContinuationOp, ControlOp, ConvertOp, ExceptionOp,
-    FieldAccess, FloatBinaryOp, FloatComparisonOp, FloatType, FloatUnaryOp, GlobalAccess, Ieee32,
+    Exchange, FieldAccess, FloatBinaryOp, FloatComparisonOp, FloatType, FloatUnaryOp, Ieee32,
     Ieee64, IntegerBinaryOp, IntegerComparisonOp, IntegerType, IntegerUnaryOp, MemArg, MemoryOp,
-    NumberType, Op, Ordering, ReferenceOp, ResumeTable, SharedOp, SharedRmwOp, StructOp,
-    TableAccess, TableOp, TryTable,
+    NumberType, Op, Ordering, ReferenceOp, ResumeTable, SharedOp, SharedRmwOp, StructOp, TableOp,
+    TryTable, Update,
 };
 
 /// Visits operators (wasmparser's `VisitOperator`): one call for each operator, with its immediates. Whatever
@@ -2337,50 +2337,50 @@ pub trait VisitOperator<'a> {
     /// shared-everything-threads. Refuses a global that isn't there, and a type that isn't `i32`, `i64`
     /// or below `(ref null any)`.
     fn visit_global_atomic_get(&mut self, ordering: Ordering, global_index: u32) -> Self::Output
-        requires { can_visit self.old (Op.Shared (SharedOp.Global (GlobalAccess.Value TableAccess.Get) ordering global_index)) }
-        ensures { visits self.old (Op.Shared (SharedOp.Global (GlobalAccess.Value TableAccess.Get) ordering global_index)) result self.new };
+        requires { can_visit self.old (Op.Shared (SharedOp.Global (Update.Value Exchange.Get) ordering global_index)) }
+        ensures { visits self.old (Op.Shared (SharedOp.Global (Update.Value Exchange.Get) ordering global_index)) result self.new };
 
     /// `global.atomic.set`: `[t] -> []`, where t is the type of the global. Proposal:
     /// shared-everything-threads. Refuses a global that isn't there, one that isn't mutable, and a type
     /// that isn't `i32`, `i64` or below `(ref null any)`.
     fn visit_global_atomic_set(&mut self, ordering: Ordering, global_index: u32) -> Self::Output
-        requires { can_visit self.old (Op.Shared (SharedOp.Global (GlobalAccess.Value TableAccess.Set) ordering global_index)) }
-        ensures { visits self.old (Op.Shared (SharedOp.Global (GlobalAccess.Value TableAccess.Set) ordering global_index)) result self.new };
+        requires { can_visit self.old (Op.Shared (SharedOp.Global (Update.Value Exchange.Set) ordering global_index)) }
+        ensures { visits self.old (Op.Shared (SharedOp.Global (Update.Value Exchange.Set) ordering global_index)) result self.new };
 
     /// `global.atomic.rmw.add`: `[t] -> [t]`, where t is the type of the global. Proposal:
     /// shared-everything-threads. Refuses a global that isn't there, one that isn't mutable, and a type
     /// that isn't `i32` or `i64`.
     fn visit_global_atomic_rmw_add(&mut self, ordering: Ordering, global_index: u32) -> Self::Output
-        requires { can_visit self.old (Op.Shared (SharedOp.Global (GlobalAccess.Rmw SharedRmwOp.Add) ordering global_index)) }
-        ensures { visits self.old (Op.Shared (SharedOp.Global (GlobalAccess.Rmw SharedRmwOp.Add) ordering global_index)) result self.new };
+        requires { can_visit self.old (Op.Shared (SharedOp.Global (Update.Rmw SharedRmwOp.Add) ordering global_index)) }
+        ensures { visits self.old (Op.Shared (SharedOp.Global (Update.Rmw SharedRmwOp.Add) ordering global_index)) result self.new };
 
     /// `global.atomic.rmw.sub`: `[t] -> [t]`, where t is the type of the global. Proposal:
     /// shared-everything-threads. Refuses a global that isn't there, one that isn't mutable, and a type
     /// that isn't `i32` or `i64`.
     fn visit_global_atomic_rmw_sub(&mut self, ordering: Ordering, global_index: u32) -> Self::Output
-        requires { can_visit self.old (Op.Shared (SharedOp.Global (GlobalAccess.Rmw SharedRmwOp.Sub) ordering global_index)) }
-        ensures { visits self.old (Op.Shared (SharedOp.Global (GlobalAccess.Rmw SharedRmwOp.Sub) ordering global_index)) result self.new };
+        requires { can_visit self.old (Op.Shared (SharedOp.Global (Update.Rmw SharedRmwOp.Sub) ordering global_index)) }
+        ensures { visits self.old (Op.Shared (SharedOp.Global (Update.Rmw SharedRmwOp.Sub) ordering global_index)) result self.new };
 
     /// `global.atomic.rmw.and`: `[t] -> [t]`, where t is the type of the global. Proposal:
     /// shared-everything-threads. Refuses a global that isn't there, one that isn't mutable, and a type
     /// that isn't `i32` or `i64`.
     fn visit_global_atomic_rmw_and(&mut self, ordering: Ordering, global_index: u32) -> Self::Output
-        requires { can_visit self.old (Op.Shared (SharedOp.Global (GlobalAccess.Rmw SharedRmwOp.And) ordering global_index)) }
-        ensures { visits self.old (Op.Shared (SharedOp.Global (GlobalAccess.Rmw SharedRmwOp.And) ordering global_index)) result self.new };
+        requires { can_visit self.old (Op.Shared (SharedOp.Global (Update.Rmw SharedRmwOp.And) ordering global_index)) }
+        ensures { visits self.old (Op.Shared (SharedOp.Global (Update.Rmw SharedRmwOp.And) ordering global_index)) result self.new };
 
     /// `global.atomic.rmw.or`: `[t] -> [t]`, where t is the type of the global. Proposal:
     /// shared-everything-threads. Refuses a global that isn't there, one that isn't mutable, and a type
     /// that isn't `i32` or `i64`.
     fn visit_global_atomic_rmw_or(&mut self, ordering: Ordering, global_index: u32) -> Self::Output
-        requires { can_visit self.old (Op.Shared (SharedOp.Global (GlobalAccess.Rmw SharedRmwOp.Or) ordering global_index)) }
-        ensures { visits self.old (Op.Shared (SharedOp.Global (GlobalAccess.Rmw SharedRmwOp.Or) ordering global_index)) result self.new };
+        requires { can_visit self.old (Op.Shared (SharedOp.Global (Update.Rmw SharedRmwOp.Or) ordering global_index)) }
+        ensures { visits self.old (Op.Shared (SharedOp.Global (Update.Rmw SharedRmwOp.Or) ordering global_index)) result self.new };
 
     /// `global.atomic.rmw.xor`: `[t] -> [t]`, where t is the type of the global. Proposal:
     /// shared-everything-threads. Refuses a global that isn't there, one that isn't mutable, and a type
     /// that isn't `i32` or `i64`.
     fn visit_global_atomic_rmw_xor(&mut self, ordering: Ordering, global_index: u32) -> Self::Output
-        requires { can_visit self.old (Op.Shared (SharedOp.Global (GlobalAccess.Rmw SharedRmwOp.Xor) ordering global_index)) }
-        ensures { visits self.old (Op.Shared (SharedOp.Global (GlobalAccess.Rmw SharedRmwOp.Xor) ordering global_index)) result self.new };
+        requires { can_visit self.old (Op.Shared (SharedOp.Global (Update.Rmw SharedRmwOp.Xor) ordering global_index)) }
+        ensures { visits self.old (Op.Shared (SharedOp.Global (Update.Rmw SharedRmwOp.Xor) ordering global_index)) result self.new };
 
     /// `global.atomic.rmw.xchg`: `[t] -> [t]`, where t is the type of the global. Proposal:
     /// shared-everything-threads. Refuses a global that isn't there, one that isn't mutable, and a type
@@ -2390,8 +2390,8 @@ pub trait VisitOperator<'a> {
         ordering: Ordering,
         global_index: u32,
     ) -> Self::Output
-        requires { can_visit self.old (Op.Shared (SharedOp.Global (GlobalAccess.Value TableAccess.Xchg) ordering global_index)) }
-        ensures { visits self.old (Op.Shared (SharedOp.Global (GlobalAccess.Value TableAccess.Xchg) ordering global_index)) result self.new };
+        requires { can_visit self.old (Op.Shared (SharedOp.Global (Update.Value Exchange.Xchg) ordering global_index)) }
+        ensures { visits self.old (Op.Shared (SharedOp.Global (Update.Value Exchange.Xchg) ordering global_index)) result self.new };
 
     /// `global.atomic.rmw.cmpxchg`: `[t t] -> [t]`, where t is the type of the global. Proposal:
     /// shared-everything-threads. Refuses a global that isn't there, one that isn't mutable, and a type
@@ -2401,36 +2401,36 @@ pub trait VisitOperator<'a> {
         ordering: Ordering,
         global_index: u32,
     ) -> Self::Output
-        requires { can_visit self.old (Op.Shared (SharedOp.Global (GlobalAccess.Value TableAccess.Cmpxchg) ordering global_index)) }
-        ensures { visits self.old (Op.Shared (SharedOp.Global (GlobalAccess.Value TableAccess.Cmpxchg) ordering global_index)) result self.new };
+        requires { can_visit self.old (Op.Shared (SharedOp.Global (Update.Value Exchange.Cmpxchg) ordering global_index)) }
+        ensures { visits self.old (Op.Shared (SharedOp.Global (Update.Value Exchange.Cmpxchg) ordering global_index)) result self.new };
 
     /// `table.atomic.get`: `[a] -> [t]`, where a is the address type of the table and t the type of its
     /// elements. Proposal: shared-everything-threads. Refuses a table that isn't there, and elements that
     /// aren't below `(ref null (shared any))`.
     fn visit_table_atomic_get(&mut self, ordering: Ordering, table: u32) -> Self::Output
-        requires { can_visit self.old (Op.Shared (SharedOp.Table TableAccess.Get ordering table)) }
-        ensures { visits self.old (Op.Shared (SharedOp.Table TableAccess.Get ordering table)) result self.new };
+        requires { can_visit self.old (Op.Shared (SharedOp.Table Exchange.Get ordering table)) }
+        ensures { visits self.old (Op.Shared (SharedOp.Table Exchange.Get ordering table)) result self.new };
 
     /// `table.atomic.set`: `[a t] -> []`, where a is the address type of the table and t the type of its
     /// elements. Proposal: shared-everything-threads. Refuses a table that isn't there, and elements that
     /// aren't below `(ref null (shared any))`.
     fn visit_table_atomic_set(&mut self, ordering: Ordering, table: u32) -> Self::Output
-        requires { can_visit self.old (Op.Shared (SharedOp.Table TableAccess.Set ordering table)) }
-        ensures { visits self.old (Op.Shared (SharedOp.Table TableAccess.Set ordering table)) result self.new };
+        requires { can_visit self.old (Op.Shared (SharedOp.Table Exchange.Set ordering table)) }
+        ensures { visits self.old (Op.Shared (SharedOp.Table Exchange.Set ordering table)) result self.new };
 
     /// `table.atomic.rmw.xchg`: `[a t] -> [t]`, where a is the address type of the table and t the type
     /// of its elements. Proposal: shared-everything-threads. Refuses a table that isn't there, and
     /// elements that aren't below `(ref null (shared any))`.
     fn visit_table_atomic_rmw_xchg(&mut self, ordering: Ordering, table: u32) -> Self::Output
-        requires { can_visit self.old (Op.Shared (SharedOp.Table TableAccess.Xchg ordering table)) }
-        ensures { visits self.old (Op.Shared (SharedOp.Table TableAccess.Xchg ordering table)) result self.new };
+        requires { can_visit self.old (Op.Shared (SharedOp.Table Exchange.Xchg ordering table)) }
+        ensures { visits self.old (Op.Shared (SharedOp.Table Exchange.Xchg ordering table)) result self.new };
 
     /// `table.atomic.rmw.cmpxchg`: `[a t t] -> [t]`, where a is the address type of the table and t the
     /// type of its elements. Proposal: shared-everything-threads. Refuses a table that isn't there, and
     /// elements that aren't below `(ref null (shared eq))`.
     fn visit_table_atomic_rmw_cmpxchg(&mut self, ordering: Ordering, table: u32) -> Self::Output
-        requires { can_visit self.old (Op.Shared (SharedOp.Table TableAccess.Cmpxchg ordering table)) }
-        ensures { visits self.old (Op.Shared (SharedOp.Table TableAccess.Cmpxchg ordering table)) result self.new };
+        requires { can_visit self.old (Op.Shared (SharedOp.Table Exchange.Cmpxchg ordering table)) }
+        ensures { visits self.old (Op.Shared (SharedOp.Table Exchange.Cmpxchg ordering table)) result self.new };
 
     /// `struct.atomic.get`: `[(ref null N)] -> [t]`, where t is the type of the field of N. Proposal:
     /// shared-everything-threads. Refuses an index that names no such field, and a type that isn't `i32`,
@@ -2441,8 +2441,8 @@ pub trait VisitOperator<'a> {
         struct_type_index: u32,
         field_index: u32,
     ) -> Self::Output
-        requires { can_visit self.old (Op.Shared (SharedOp.Struct (FieldAccess.Whole (GlobalAccess.Value TableAccess.Get)) ordering (record { struct_type_index = struct_type_index; field_index = field_index }))) }
-        ensures { visits self.old (Op.Shared (SharedOp.Struct (FieldAccess.Whole (GlobalAccess.Value TableAccess.Get)) ordering (record { struct_type_index = struct_type_index; field_index = field_index }))) result self.new };
+        requires { can_visit self.old (Op.Shared (SharedOp.Struct (FieldAccess.Whole (Update.Value Exchange.Get)) ordering (record { struct_type_index = struct_type_index; field_index = field_index }))) }
+        ensures { visits self.old (Op.Shared (SharedOp.Struct (FieldAccess.Whole (Update.Value Exchange.Get)) ordering (record { struct_type_index = struct_type_index; field_index = field_index }))) result self.new };
 
     /// `struct.atomic.get_s`: `[(ref null N)] -> [i32]`, where N is the struct type. Proposal:
     /// shared-everything-threads. Refuses an index that names no such field, and one that isn't packed.
@@ -2475,8 +2475,8 @@ pub trait VisitOperator<'a> {
         struct_type_index: u32,
         field_index: u32,
     ) -> Self::Output
-        requires { can_visit self.old (Op.Shared (SharedOp.Struct (FieldAccess.Whole (GlobalAccess.Value TableAccess.Set)) ordering (record { struct_type_index = struct_type_index; field_index = field_index }))) }
-        ensures { visits self.old (Op.Shared (SharedOp.Struct (FieldAccess.Whole (GlobalAccess.Value TableAccess.Set)) ordering (record { struct_type_index = struct_type_index; field_index = field_index }))) result self.new };
+        requires { can_visit self.old (Op.Shared (SharedOp.Struct (FieldAccess.Whole (Update.Value Exchange.Set)) ordering (record { struct_type_index = struct_type_index; field_index = field_index }))) }
+        ensures { visits self.old (Op.Shared (SharedOp.Struct (FieldAccess.Whole (Update.Value Exchange.Set)) ordering (record { struct_type_index = struct_type_index; field_index = field_index }))) result self.new };
 
     /// `struct.atomic.rmw.add`: `[(ref null N) t] -> [t]`, where t is the type of the field of N.
     /// Proposal: shared-everything-threads. Refuses an index that names no such field, one that isn't
@@ -2487,8 +2487,8 @@ pub trait VisitOperator<'a> {
         struct_type_index: u32,
         field_index: u32,
     ) -> Self::Output
-        requires { can_visit self.old (Op.Shared (SharedOp.Struct (FieldAccess.Whole (GlobalAccess.Rmw SharedRmwOp.Add)) ordering (record { struct_type_index = struct_type_index; field_index = field_index }))) }
-        ensures { visits self.old (Op.Shared (SharedOp.Struct (FieldAccess.Whole (GlobalAccess.Rmw SharedRmwOp.Add)) ordering (record { struct_type_index = struct_type_index; field_index = field_index }))) result self.new };
+        requires { can_visit self.old (Op.Shared (SharedOp.Struct (FieldAccess.Whole (Update.Rmw SharedRmwOp.Add)) ordering (record { struct_type_index = struct_type_index; field_index = field_index }))) }
+        ensures { visits self.old (Op.Shared (SharedOp.Struct (FieldAccess.Whole (Update.Rmw SharedRmwOp.Add)) ordering (record { struct_type_index = struct_type_index; field_index = field_index }))) result self.new };
 
     /// `struct.atomic.rmw.sub`: `[(ref null N) t] -> [t]`, where t is the type of the field of N.
     /// Proposal: shared-everything-threads. Refuses an index that names no such field, one that isn't
@@ -2499,8 +2499,8 @@ pub trait VisitOperator<'a> {
         struct_type_index: u32,
         field_index: u32,
     ) -> Self::Output
-        requires { can_visit self.old (Op.Shared (SharedOp.Struct (FieldAccess.Whole (GlobalAccess.Rmw SharedRmwOp.Sub)) ordering (record { struct_type_index = struct_type_index; field_index = field_index }))) }
-        ensures { visits self.old (Op.Shared (SharedOp.Struct (FieldAccess.Whole (GlobalAccess.Rmw SharedRmwOp.Sub)) ordering (record { struct_type_index = struct_type_index; field_index = field_index }))) result self.new };
+        requires { can_visit self.old (Op.Shared (SharedOp.Struct (FieldAccess.Whole (Update.Rmw SharedRmwOp.Sub)) ordering (record { struct_type_index = struct_type_index; field_index = field_index }))) }
+        ensures { visits self.old (Op.Shared (SharedOp.Struct (FieldAccess.Whole (Update.Rmw SharedRmwOp.Sub)) ordering (record { struct_type_index = struct_type_index; field_index = field_index }))) result self.new };
 
     /// `struct.atomic.rmw.and`: `[(ref null N) t] -> [t]`, where t is the type of the field of N.
     /// Proposal: shared-everything-threads. Refuses an index that names no such field, one that isn't
@@ -2511,8 +2511,8 @@ pub trait VisitOperator<'a> {
         struct_type_index: u32,
         field_index: u32,
     ) -> Self::Output
-        requires { can_visit self.old (Op.Shared (SharedOp.Struct (FieldAccess.Whole (GlobalAccess.Rmw SharedRmwOp.And)) ordering (record { struct_type_index = struct_type_index; field_index = field_index }))) }
-        ensures { visits self.old (Op.Shared (SharedOp.Struct (FieldAccess.Whole (GlobalAccess.Rmw SharedRmwOp.And)) ordering (record { struct_type_index = struct_type_index; field_index = field_index }))) result self.new };
+        requires { can_visit self.old (Op.Shared (SharedOp.Struct (FieldAccess.Whole (Update.Rmw SharedRmwOp.And)) ordering (record { struct_type_index = struct_type_index; field_index = field_index }))) }
+        ensures { visits self.old (Op.Shared (SharedOp.Struct (FieldAccess.Whole (Update.Rmw SharedRmwOp.And)) ordering (record { struct_type_index = struct_type_index; field_index = field_index }))) result self.new };
 
     /// `struct.atomic.rmw.or`: `[(ref null N) t] -> [t]`, where t is the type of the field of N.
     /// Proposal: shared-everything-threads. Refuses an index that names no such field, one that isn't
@@ -2523,8 +2523,8 @@ pub trait VisitOperator<'a> {
         struct_type_index: u32,
         field_index: u32,
     ) -> Self::Output
-        requires { can_visit self.old (Op.Shared (SharedOp.Struct (FieldAccess.Whole (GlobalAccess.Rmw SharedRmwOp.Or)) ordering (record { struct_type_index = struct_type_index; field_index = field_index }))) }
-        ensures { visits self.old (Op.Shared (SharedOp.Struct (FieldAccess.Whole (GlobalAccess.Rmw SharedRmwOp.Or)) ordering (record { struct_type_index = struct_type_index; field_index = field_index }))) result self.new };
+        requires { can_visit self.old (Op.Shared (SharedOp.Struct (FieldAccess.Whole (Update.Rmw SharedRmwOp.Or)) ordering (record { struct_type_index = struct_type_index; field_index = field_index }))) }
+        ensures { visits self.old (Op.Shared (SharedOp.Struct (FieldAccess.Whole (Update.Rmw SharedRmwOp.Or)) ordering (record { struct_type_index = struct_type_index; field_index = field_index }))) result self.new };
 
     /// `struct.atomic.rmw.xor`: `[(ref null N) t] -> [t]`, where t is the type of the field of N.
     /// Proposal: shared-everything-threads. Refuses an index that names no such field, one that isn't
@@ -2535,8 +2535,8 @@ pub trait VisitOperator<'a> {
         struct_type_index: u32,
         field_index: u32,
     ) -> Self::Output
-        requires { can_visit self.old (Op.Shared (SharedOp.Struct (FieldAccess.Whole (GlobalAccess.Rmw SharedRmwOp.Xor)) ordering (record { struct_type_index = struct_type_index; field_index = field_index }))) }
-        ensures { visits self.old (Op.Shared (SharedOp.Struct (FieldAccess.Whole (GlobalAccess.Rmw SharedRmwOp.Xor)) ordering (record { struct_type_index = struct_type_index; field_index = field_index }))) result self.new };
+        requires { can_visit self.old (Op.Shared (SharedOp.Struct (FieldAccess.Whole (Update.Rmw SharedRmwOp.Xor)) ordering (record { struct_type_index = struct_type_index; field_index = field_index }))) }
+        ensures { visits self.old (Op.Shared (SharedOp.Struct (FieldAccess.Whole (Update.Rmw SharedRmwOp.Xor)) ordering (record { struct_type_index = struct_type_index; field_index = field_index }))) result self.new };
 
     /// `struct.atomic.rmw.xchg`: `[(ref null N) t] -> [t]`, where t is the type of the field of N.
     /// Proposal: shared-everything-threads. Refuses an index that names no such field, one that isn't
@@ -2547,8 +2547,8 @@ pub trait VisitOperator<'a> {
         struct_type_index: u32,
         field_index: u32,
     ) -> Self::Output
-        requires { can_visit self.old (Op.Shared (SharedOp.Struct (FieldAccess.Whole (GlobalAccess.Value TableAccess.Xchg)) ordering (record { struct_type_index = struct_type_index; field_index = field_index }))) }
-        ensures { visits self.old (Op.Shared (SharedOp.Struct (FieldAccess.Whole (GlobalAccess.Value TableAccess.Xchg)) ordering (record { struct_type_index = struct_type_index; field_index = field_index }))) result self.new };
+        requires { can_visit self.old (Op.Shared (SharedOp.Struct (FieldAccess.Whole (Update.Value Exchange.Xchg)) ordering (record { struct_type_index = struct_type_index; field_index = field_index }))) }
+        ensures { visits self.old (Op.Shared (SharedOp.Struct (FieldAccess.Whole (Update.Value Exchange.Xchg)) ordering (record { struct_type_index = struct_type_index; field_index = field_index }))) result self.new };
 
     /// `struct.atomic.rmw.cmpxchg`: `[(ref null N) t t] -> [t]`, where t is the type of the field of N.
     /// Proposal: shared-everything-threads. Refuses an index that names no such field, one that isn't
@@ -2559,15 +2559,15 @@ pub trait VisitOperator<'a> {
         struct_type_index: u32,
         field_index: u32,
     ) -> Self::Output
-        requires { can_visit self.old (Op.Shared (SharedOp.Struct (FieldAccess.Whole (GlobalAccess.Value TableAccess.Cmpxchg)) ordering (record { struct_type_index = struct_type_index; field_index = field_index }))) }
-        ensures { visits self.old (Op.Shared (SharedOp.Struct (FieldAccess.Whole (GlobalAccess.Value TableAccess.Cmpxchg)) ordering (record { struct_type_index = struct_type_index; field_index = field_index }))) result self.new };
+        requires { can_visit self.old (Op.Shared (SharedOp.Struct (FieldAccess.Whole (Update.Value Exchange.Cmpxchg)) ordering (record { struct_type_index = struct_type_index; field_index = field_index }))) }
+        ensures { visits self.old (Op.Shared (SharedOp.Struct (FieldAccess.Whole (Update.Value Exchange.Cmpxchg)) ordering (record { struct_type_index = struct_type_index; field_index = field_index }))) result self.new };
 
     /// `array.atomic.get`: `[(ref null N) i32] -> [t]`, where t is the type of the elements of N.
     /// Proposal: shared-everything-threads. Refuses an index that names no array type, and a type that
     /// isn't `i32`, `i64` or below `(ref null (shared any))`.
     fn visit_array_atomic_get(&mut self, ordering: Ordering, type_index: u32) -> Self::Output
-        requires { can_visit self.old (Op.Shared (SharedOp.Array (FieldAccess.Whole (GlobalAccess.Value TableAccess.Get)) ordering type_index)) }
-        ensures { visits self.old (Op.Shared (SharedOp.Array (FieldAccess.Whole (GlobalAccess.Value TableAccess.Get)) ordering type_index)) result self.new };
+        requires { can_visit self.old (Op.Shared (SharedOp.Array (FieldAccess.Whole (Update.Value Exchange.Get)) ordering type_index)) }
+        ensures { visits self.old (Op.Shared (SharedOp.Array (FieldAccess.Whole (Update.Value Exchange.Get)) ordering type_index)) result self.new };
 
     /// `array.atomic.get_s`: `[(ref null N) i32] -> [i32]`, where N is the array type. Proposal:
     /// shared-everything-threads. Refuses an index that names no array type, and elements that aren't
@@ -2587,50 +2587,50 @@ pub trait VisitOperator<'a> {
     /// N. Proposal: shared-everything-threads. Refuses an index that names no array type, elements that
     /// aren't mutable, and what isn't `i8`, `i16`, `i32`, `i64` or below `(ref null (shared any))`.
     fn visit_array_atomic_set(&mut self, ordering: Ordering, type_index: u32) -> Self::Output
-        requires { can_visit self.old (Op.Shared (SharedOp.Array (FieldAccess.Whole (GlobalAccess.Value TableAccess.Set)) ordering type_index)) }
-        ensures { visits self.old (Op.Shared (SharedOp.Array (FieldAccess.Whole (GlobalAccess.Value TableAccess.Set)) ordering type_index)) result self.new };
+        requires { can_visit self.old (Op.Shared (SharedOp.Array (FieldAccess.Whole (Update.Value Exchange.Set)) ordering type_index)) }
+        ensures { visits self.old (Op.Shared (SharedOp.Array (FieldAccess.Whole (Update.Value Exchange.Set)) ordering type_index)) result self.new };
 
     /// `array.atomic.rmw.add`: `[(ref null N) i32 t] -> [t]`, where t is the type of the elements of N.
     /// Proposal: shared-everything-threads. Refuses an index that names no array type, elements that
     /// aren't mutable, and a type that isn't `i32` or `i64`.
     fn visit_array_atomic_rmw_add(&mut self, ordering: Ordering, type_index: u32) -> Self::Output
-        requires { can_visit self.old (Op.Shared (SharedOp.Array (FieldAccess.Whole (GlobalAccess.Rmw SharedRmwOp.Add)) ordering type_index)) }
-        ensures { visits self.old (Op.Shared (SharedOp.Array (FieldAccess.Whole (GlobalAccess.Rmw SharedRmwOp.Add)) ordering type_index)) result self.new };
+        requires { can_visit self.old (Op.Shared (SharedOp.Array (FieldAccess.Whole (Update.Rmw SharedRmwOp.Add)) ordering type_index)) }
+        ensures { visits self.old (Op.Shared (SharedOp.Array (FieldAccess.Whole (Update.Rmw SharedRmwOp.Add)) ordering type_index)) result self.new };
 
     /// `array.atomic.rmw.sub`: `[(ref null N) i32 t] -> [t]`, where t is the type of the elements of N.
     /// Proposal: shared-everything-threads. Refuses an index that names no array type, elements that
     /// aren't mutable, and a type that isn't `i32` or `i64`.
     fn visit_array_atomic_rmw_sub(&mut self, ordering: Ordering, type_index: u32) -> Self::Output
-        requires { can_visit self.old (Op.Shared (SharedOp.Array (FieldAccess.Whole (GlobalAccess.Rmw SharedRmwOp.Sub)) ordering type_index)) }
-        ensures { visits self.old (Op.Shared (SharedOp.Array (FieldAccess.Whole (GlobalAccess.Rmw SharedRmwOp.Sub)) ordering type_index)) result self.new };
+        requires { can_visit self.old (Op.Shared (SharedOp.Array (FieldAccess.Whole (Update.Rmw SharedRmwOp.Sub)) ordering type_index)) }
+        ensures { visits self.old (Op.Shared (SharedOp.Array (FieldAccess.Whole (Update.Rmw SharedRmwOp.Sub)) ordering type_index)) result self.new };
 
     /// `array.atomic.rmw.and`: `[(ref null N) i32 t] -> [t]`, where t is the type of the elements of N.
     /// Proposal: shared-everything-threads. Refuses an index that names no array type, elements that
     /// aren't mutable, and a type that isn't `i32` or `i64`.
     fn visit_array_atomic_rmw_and(&mut self, ordering: Ordering, type_index: u32) -> Self::Output
-        requires { can_visit self.old (Op.Shared (SharedOp.Array (FieldAccess.Whole (GlobalAccess.Rmw SharedRmwOp.And)) ordering type_index)) }
-        ensures { visits self.old (Op.Shared (SharedOp.Array (FieldAccess.Whole (GlobalAccess.Rmw SharedRmwOp.And)) ordering type_index)) result self.new };
+        requires { can_visit self.old (Op.Shared (SharedOp.Array (FieldAccess.Whole (Update.Rmw SharedRmwOp.And)) ordering type_index)) }
+        ensures { visits self.old (Op.Shared (SharedOp.Array (FieldAccess.Whole (Update.Rmw SharedRmwOp.And)) ordering type_index)) result self.new };
 
     /// `array.atomic.rmw.or`: `[(ref null N) i32 t] -> [t]`, where t is the type of the elements of N.
     /// Proposal: shared-everything-threads. Refuses an index that names no array type, elements that
     /// aren't mutable, and a type that isn't `i32` or `i64`.
     fn visit_array_atomic_rmw_or(&mut self, ordering: Ordering, type_index: u32) -> Self::Output
-        requires { can_visit self.old (Op.Shared (SharedOp.Array (FieldAccess.Whole (GlobalAccess.Rmw SharedRmwOp.Or)) ordering type_index)) }
-        ensures { visits self.old (Op.Shared (SharedOp.Array (FieldAccess.Whole (GlobalAccess.Rmw SharedRmwOp.Or)) ordering type_index)) result self.new };
+        requires { can_visit self.old (Op.Shared (SharedOp.Array (FieldAccess.Whole (Update.Rmw SharedRmwOp.Or)) ordering type_index)) }
+        ensures { visits self.old (Op.Shared (SharedOp.Array (FieldAccess.Whole (Update.Rmw SharedRmwOp.Or)) ordering type_index)) result self.new };
 
     /// `array.atomic.rmw.xor`: `[(ref null N) i32 t] -> [t]`, where t is the type of the elements of N.
     /// Proposal: shared-everything-threads. Refuses an index that names no array type, elements that
     /// aren't mutable, and a type that isn't `i32` or `i64`.
     fn visit_array_atomic_rmw_xor(&mut self, ordering: Ordering, type_index: u32) -> Self::Output
-        requires { can_visit self.old (Op.Shared (SharedOp.Array (FieldAccess.Whole (GlobalAccess.Rmw SharedRmwOp.Xor)) ordering type_index)) }
-        ensures { visits self.old (Op.Shared (SharedOp.Array (FieldAccess.Whole (GlobalAccess.Rmw SharedRmwOp.Xor)) ordering type_index)) result self.new };
+        requires { can_visit self.old (Op.Shared (SharedOp.Array (FieldAccess.Whole (Update.Rmw SharedRmwOp.Xor)) ordering type_index)) }
+        ensures { visits self.old (Op.Shared (SharedOp.Array (FieldAccess.Whole (Update.Rmw SharedRmwOp.Xor)) ordering type_index)) result self.new };
 
     /// `array.atomic.rmw.xchg`: `[(ref null N) i32 t] -> [t]`, where t is the type of the elements of N.
     /// Proposal: shared-everything-threads. Refuses an index that names no array type, elements that
     /// aren't mutable, and a type that isn't `i32`, `i64` or below `(ref null (shared any))`.
     fn visit_array_atomic_rmw_xchg(&mut self, ordering: Ordering, type_index: u32) -> Self::Output
-        requires { can_visit self.old (Op.Shared (SharedOp.Array (FieldAccess.Whole (GlobalAccess.Value TableAccess.Xchg)) ordering type_index)) }
-        ensures { visits self.old (Op.Shared (SharedOp.Array (FieldAccess.Whole (GlobalAccess.Value TableAccess.Xchg)) ordering type_index)) result self.new };
+        requires { can_visit self.old (Op.Shared (SharedOp.Array (FieldAccess.Whole (Update.Value Exchange.Xchg)) ordering type_index)) }
+        ensures { visits self.old (Op.Shared (SharedOp.Array (FieldAccess.Whole (Update.Value Exchange.Xchg)) ordering type_index)) result self.new };
 
     /// `array.atomic.rmw.cmpxchg`: `[(ref null N) i32 t t] -> [t]`, where t is the type of the elements
     /// of N. Proposal: shared-everything-threads. Refuses an index that names no array type, elements
@@ -2640,8 +2640,8 @@ pub trait VisitOperator<'a> {
         ordering: Ordering,
         type_index: u32,
     ) -> Self::Output
-        requires { can_visit self.old (Op.Shared (SharedOp.Array (FieldAccess.Whole (GlobalAccess.Value TableAccess.Cmpxchg)) ordering type_index)) }
-        ensures { visits self.old (Op.Shared (SharedOp.Array (FieldAccess.Whole (GlobalAccess.Value TableAccess.Cmpxchg)) ordering type_index)) result self.new };
+        requires { can_visit self.old (Op.Shared (SharedOp.Array (FieldAccess.Whole (Update.Value Exchange.Cmpxchg)) ordering type_index)) }
+        ensures { visits self.old (Op.Shared (SharedOp.Array (FieldAccess.Whole (Update.Value Exchange.Cmpxchg)) ordering type_index)) result self.new };
 
     /// `ref.i31_shared`: `[i32] -> [(ref (shared i31))]`. Proposal: shared-everything-threads.
     fn visit_ref_i31_shared(&mut self) -> Self::Output

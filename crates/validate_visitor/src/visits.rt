@@ -6,11 +6,11 @@ use validate_visit::AtomicAccess::{Packed, Whole};
 use validate_visit::Sign::{Signed, Unsigned};
 use validate_visit::{
     ArrayOp, AtomicOp, AtomicRmwOp, BlockType, BrTable, BranchCast, ContinuationOp, ControlOp,
-    ConvertOp, ExceptionOp, FieldAccess, FieldIndex, FloatBinaryOp, FloatComparisonOp, FloatType,
-    FloatUnaryOp, GlobalAccess, Ieee32, Ieee64, IntegerBinaryOp, IntegerComparisonOp, IntegerType,
+    ConvertOp, ExceptionOp, Exchange, FieldAccess, FieldIndex, FloatBinaryOp, FloatComparisonOp,
+    FloatType, FloatUnaryOp, Ieee32, Ieee64, IntegerBinaryOp, IntegerComparisonOp, IntegerType,
     IntegerUnaryOp, MemArg, MemoryOp, NumberType, NumericOp, Op, OperatorChecks, Ordering,
-    PackedInteger, ReferenceOp, ResumeTable, SharedOp, SharedRmwOp, StructOp, TableAccess, TableOp,
-    TryTable,
+    PackedInteger, ReferenceOp, ResumeTable, SharedOp, SharedRmwOp, StructOp, TableOp, TryTable,
+    Update,
 };
 
 impl<'a, V: OperatorChecks<'a>> VisitOperator<'a> for V {
@@ -1662,7 +1662,7 @@ impl<'a, V: OperatorChecks<'a>> VisitOperator<'a> for V {
 
     fn visit_global_atomic_get(&mut self, ordering: Ordering, global_index: u32) -> V::Output {
         self.check_shared(SharedOp::Global {
-            access: GlobalAccess::Value(TableAccess::Get),
+            access: Update::Value(Exchange::Get),
             ordering,
             global_index,
         })
@@ -1670,7 +1670,7 @@ impl<'a, V: OperatorChecks<'a>> VisitOperator<'a> for V {
 
     fn visit_global_atomic_set(&mut self, ordering: Ordering, global_index: u32) -> V::Output {
         self.check_shared(SharedOp::Global {
-            access: GlobalAccess::Value(TableAccess::Set),
+            access: Update::Value(Exchange::Set),
             ordering,
             global_index,
         })
@@ -1678,7 +1678,7 @@ impl<'a, V: OperatorChecks<'a>> VisitOperator<'a> for V {
 
     fn visit_global_atomic_rmw_add(&mut self, ordering: Ordering, global_index: u32) -> V::Output {
         self.check_shared(SharedOp::Global {
-            access: GlobalAccess::Rmw(SharedRmwOp::Add),
+            access: Update::Rmw(SharedRmwOp::Add),
             ordering,
             global_index,
         })
@@ -1686,7 +1686,7 @@ impl<'a, V: OperatorChecks<'a>> VisitOperator<'a> for V {
 
     fn visit_global_atomic_rmw_sub(&mut self, ordering: Ordering, global_index: u32) -> V::Output {
         self.check_shared(SharedOp::Global {
-            access: GlobalAccess::Rmw(SharedRmwOp::Sub),
+            access: Update::Rmw(SharedRmwOp::Sub),
             ordering,
             global_index,
         })
@@ -1694,7 +1694,7 @@ impl<'a, V: OperatorChecks<'a>> VisitOperator<'a> for V {
 
     fn visit_global_atomic_rmw_and(&mut self, ordering: Ordering, global_index: u32) -> V::Output {
         self.check_shared(SharedOp::Global {
-            access: GlobalAccess::Rmw(SharedRmwOp::And),
+            access: Update::Rmw(SharedRmwOp::And),
             ordering,
             global_index,
         })
@@ -1702,7 +1702,7 @@ impl<'a, V: OperatorChecks<'a>> VisitOperator<'a> for V {
 
     fn visit_global_atomic_rmw_or(&mut self, ordering: Ordering, global_index: u32) -> V::Output {
         self.check_shared(SharedOp::Global {
-            access: GlobalAccess::Rmw(SharedRmwOp::Or),
+            access: Update::Rmw(SharedRmwOp::Or),
             ordering,
             global_index,
         })
@@ -1710,7 +1710,7 @@ impl<'a, V: OperatorChecks<'a>> VisitOperator<'a> for V {
 
     fn visit_global_atomic_rmw_xor(&mut self, ordering: Ordering, global_index: u32) -> V::Output {
         self.check_shared(SharedOp::Global {
-            access: GlobalAccess::Rmw(SharedRmwOp::Xor),
+            access: Update::Rmw(SharedRmwOp::Xor),
             ordering,
             global_index,
         })
@@ -1718,7 +1718,7 @@ impl<'a, V: OperatorChecks<'a>> VisitOperator<'a> for V {
 
     fn visit_global_atomic_rmw_xchg(&mut self, ordering: Ordering, global_index: u32) -> V::Output {
         self.check_shared(SharedOp::Global {
-            access: GlobalAccess::Value(TableAccess::Xchg),
+            access: Update::Value(Exchange::Xchg),
             ordering,
             global_index,
         })
@@ -1730,7 +1730,7 @@ impl<'a, V: OperatorChecks<'a>> VisitOperator<'a> for V {
         global_index: u32,
     ) -> V::Output {
         self.check_shared(SharedOp::Global {
-            access: GlobalAccess::Value(TableAccess::Cmpxchg),
+            access: Update::Value(Exchange::Cmpxchg),
             ordering,
             global_index,
         })
@@ -1738,7 +1738,7 @@ impl<'a, V: OperatorChecks<'a>> VisitOperator<'a> for V {
 
     fn visit_table_atomic_get(&mut self, ordering: Ordering, table: u32) -> V::Output {
         self.check_shared(SharedOp::Table {
-            access: TableAccess::Get,
+            access: Exchange::Get,
             ordering,
             table_index: table,
         })
@@ -1746,7 +1746,7 @@ impl<'a, V: OperatorChecks<'a>> VisitOperator<'a> for V {
 
     fn visit_table_atomic_set(&mut self, ordering: Ordering, table: u32) -> V::Output {
         self.check_shared(SharedOp::Table {
-            access: TableAccess::Set,
+            access: Exchange::Set,
             ordering,
             table_index: table,
         })
@@ -1754,7 +1754,7 @@ impl<'a, V: OperatorChecks<'a>> VisitOperator<'a> for V {
 
     fn visit_table_atomic_rmw_xchg(&mut self, ordering: Ordering, table: u32) -> V::Output {
         self.check_shared(SharedOp::Table {
-            access: TableAccess::Xchg,
+            access: Exchange::Xchg,
             ordering,
             table_index: table,
         })
@@ -1762,7 +1762,7 @@ impl<'a, V: OperatorChecks<'a>> VisitOperator<'a> for V {
 
     fn visit_table_atomic_rmw_cmpxchg(&mut self, ordering: Ordering, table: u32) -> V::Output {
         self.check_shared(SharedOp::Table {
-            access: TableAccess::Cmpxchg,
+            access: Exchange::Cmpxchg,
             ordering,
             table_index: table,
         })
@@ -1775,7 +1775,7 @@ impl<'a, V: OperatorChecks<'a>> VisitOperator<'a> for V {
         field_index: u32,
     ) -> V::Output {
         self.check_shared(SharedOp::Struct {
-            access: FieldAccess::Whole(GlobalAccess::Value(TableAccess::Get)),
+            access: FieldAccess::Whole(Update::Value(Exchange::Get)),
             ordering,
             field: FieldIndex {
                 struct_type_index,
@@ -1823,7 +1823,7 @@ impl<'a, V: OperatorChecks<'a>> VisitOperator<'a> for V {
         field_index: u32,
     ) -> V::Output {
         self.check_shared(SharedOp::Struct {
-            access: FieldAccess::Whole(GlobalAccess::Value(TableAccess::Set)),
+            access: FieldAccess::Whole(Update::Value(Exchange::Set)),
             ordering,
             field: FieldIndex {
                 struct_type_index,
@@ -1839,7 +1839,7 @@ impl<'a, V: OperatorChecks<'a>> VisitOperator<'a> for V {
         field_index: u32,
     ) -> V::Output {
         self.check_shared(SharedOp::Struct {
-            access: FieldAccess::Whole(GlobalAccess::Rmw(SharedRmwOp::Add)),
+            access: FieldAccess::Whole(Update::Rmw(SharedRmwOp::Add)),
             ordering,
             field: FieldIndex {
                 struct_type_index,
@@ -1855,7 +1855,7 @@ impl<'a, V: OperatorChecks<'a>> VisitOperator<'a> for V {
         field_index: u32,
     ) -> V::Output {
         self.check_shared(SharedOp::Struct {
-            access: FieldAccess::Whole(GlobalAccess::Rmw(SharedRmwOp::Sub)),
+            access: FieldAccess::Whole(Update::Rmw(SharedRmwOp::Sub)),
             ordering,
             field: FieldIndex {
                 struct_type_index,
@@ -1871,7 +1871,7 @@ impl<'a, V: OperatorChecks<'a>> VisitOperator<'a> for V {
         field_index: u32,
     ) -> V::Output {
         self.check_shared(SharedOp::Struct {
-            access: FieldAccess::Whole(GlobalAccess::Rmw(SharedRmwOp::And)),
+            access: FieldAccess::Whole(Update::Rmw(SharedRmwOp::And)),
             ordering,
             field: FieldIndex {
                 struct_type_index,
@@ -1887,7 +1887,7 @@ impl<'a, V: OperatorChecks<'a>> VisitOperator<'a> for V {
         field_index: u32,
     ) -> V::Output {
         self.check_shared(SharedOp::Struct {
-            access: FieldAccess::Whole(GlobalAccess::Rmw(SharedRmwOp::Or)),
+            access: FieldAccess::Whole(Update::Rmw(SharedRmwOp::Or)),
             ordering,
             field: FieldIndex {
                 struct_type_index,
@@ -1903,7 +1903,7 @@ impl<'a, V: OperatorChecks<'a>> VisitOperator<'a> for V {
         field_index: u32,
     ) -> V::Output {
         self.check_shared(SharedOp::Struct {
-            access: FieldAccess::Whole(GlobalAccess::Rmw(SharedRmwOp::Xor)),
+            access: FieldAccess::Whole(Update::Rmw(SharedRmwOp::Xor)),
             ordering,
             field: FieldIndex {
                 struct_type_index,
@@ -1919,7 +1919,7 @@ impl<'a, V: OperatorChecks<'a>> VisitOperator<'a> for V {
         field_index: u32,
     ) -> V::Output {
         self.check_shared(SharedOp::Struct {
-            access: FieldAccess::Whole(GlobalAccess::Value(TableAccess::Xchg)),
+            access: FieldAccess::Whole(Update::Value(Exchange::Xchg)),
             ordering,
             field: FieldIndex {
                 struct_type_index,
@@ -1935,7 +1935,7 @@ impl<'a, V: OperatorChecks<'a>> VisitOperator<'a> for V {
         field_index: u32,
     ) -> V::Output {
         self.check_shared(SharedOp::Struct {
-            access: FieldAccess::Whole(GlobalAccess::Value(TableAccess::Cmpxchg)),
+            access: FieldAccess::Whole(Update::Value(Exchange::Cmpxchg)),
             ordering,
             field: FieldIndex {
                 struct_type_index,
@@ -1946,7 +1946,7 @@ impl<'a, V: OperatorChecks<'a>> VisitOperator<'a> for V {
 
     fn visit_array_atomic_get(&mut self, ordering: Ordering, type_index: u32) -> V::Output {
         self.check_shared(SharedOp::Array {
-            access: FieldAccess::Whole(GlobalAccess::Value(TableAccess::Get)),
+            access: FieldAccess::Whole(Update::Value(Exchange::Get)),
             ordering,
             type_index,
         })
@@ -1970,7 +1970,7 @@ impl<'a, V: OperatorChecks<'a>> VisitOperator<'a> for V {
 
     fn visit_array_atomic_set(&mut self, ordering: Ordering, type_index: u32) -> V::Output {
         self.check_shared(SharedOp::Array {
-            access: FieldAccess::Whole(GlobalAccess::Value(TableAccess::Set)),
+            access: FieldAccess::Whole(Update::Value(Exchange::Set)),
             ordering,
             type_index,
         })
@@ -1978,7 +1978,7 @@ impl<'a, V: OperatorChecks<'a>> VisitOperator<'a> for V {
 
     fn visit_array_atomic_rmw_add(&mut self, ordering: Ordering, type_index: u32) -> V::Output {
         self.check_shared(SharedOp::Array {
-            access: FieldAccess::Whole(GlobalAccess::Rmw(SharedRmwOp::Add)),
+            access: FieldAccess::Whole(Update::Rmw(SharedRmwOp::Add)),
             ordering,
             type_index,
         })
@@ -1986,7 +1986,7 @@ impl<'a, V: OperatorChecks<'a>> VisitOperator<'a> for V {
 
     fn visit_array_atomic_rmw_sub(&mut self, ordering: Ordering, type_index: u32) -> V::Output {
         self.check_shared(SharedOp::Array {
-            access: FieldAccess::Whole(GlobalAccess::Rmw(SharedRmwOp::Sub)),
+            access: FieldAccess::Whole(Update::Rmw(SharedRmwOp::Sub)),
             ordering,
             type_index,
         })
@@ -1994,7 +1994,7 @@ impl<'a, V: OperatorChecks<'a>> VisitOperator<'a> for V {
 
     fn visit_array_atomic_rmw_and(&mut self, ordering: Ordering, type_index: u32) -> V::Output {
         self.check_shared(SharedOp::Array {
-            access: FieldAccess::Whole(GlobalAccess::Rmw(SharedRmwOp::And)),
+            access: FieldAccess::Whole(Update::Rmw(SharedRmwOp::And)),
             ordering,
             type_index,
         })
@@ -2002,7 +2002,7 @@ impl<'a, V: OperatorChecks<'a>> VisitOperator<'a> for V {
 
     fn visit_array_atomic_rmw_or(&mut self, ordering: Ordering, type_index: u32) -> V::Output {
         self.check_shared(SharedOp::Array {
-            access: FieldAccess::Whole(GlobalAccess::Rmw(SharedRmwOp::Or)),
+            access: FieldAccess::Whole(Update::Rmw(SharedRmwOp::Or)),
             ordering,
             type_index,
         })
@@ -2010,7 +2010,7 @@ impl<'a, V: OperatorChecks<'a>> VisitOperator<'a> for V {
 
     fn visit_array_atomic_rmw_xor(&mut self, ordering: Ordering, type_index: u32) -> V::Output {
         self.check_shared(SharedOp::Array {
-            access: FieldAccess::Whole(GlobalAccess::Rmw(SharedRmwOp::Xor)),
+            access: FieldAccess::Whole(Update::Rmw(SharedRmwOp::Xor)),
             ordering,
             type_index,
         })
@@ -2018,7 +2018,7 @@ impl<'a, V: OperatorChecks<'a>> VisitOperator<'a> for V {
 
     fn visit_array_atomic_rmw_xchg(&mut self, ordering: Ordering, type_index: u32) -> V::Output {
         self.check_shared(SharedOp::Array {
-            access: FieldAccess::Whole(GlobalAccess::Value(TableAccess::Xchg)),
+            access: FieldAccess::Whole(Update::Value(Exchange::Xchg)),
             ordering,
             type_index,
         })
@@ -2026,7 +2026,7 @@ impl<'a, V: OperatorChecks<'a>> VisitOperator<'a> for V {
 
     fn visit_array_atomic_rmw_cmpxchg(&mut self, ordering: Ordering, type_index: u32) -> V::Output {
         self.check_shared(SharedOp::Array {
-            access: FieldAccess::Whole(GlobalAccess::Value(TableAccess::Cmpxchg)),
+            access: FieldAccess::Whole(Update::Value(Exchange::Cmpxchg)),
             ordering,
             type_index,
         })

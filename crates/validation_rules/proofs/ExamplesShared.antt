@@ -20,12 +20,12 @@ use Rattle.validate_visit.specs.declared.op.Op.{Op}
 use Rattle.validate_visit.specs.declared.op.Op.TheVariants.{Shared}
 use Rattle.validate_visit.specs.declared.shared.FieldAccess.{FieldAccess}
 use Rattle.validate_visit.specs.declared.shared.FieldAccess.TheVariants.{Whole, GetPacked}
-use Rattle.validate_visit.specs.declared.shared.GlobalAccess.{GlobalAccess}
-use Rattle.validate_visit.specs.declared.shared.GlobalAccess.TheVariants.{Value, Rmw}
+use Rattle.validate_visit.specs.declared.shared.Update.{Update}
+use Rattle.validate_visit.specs.declared.shared.Update.TheVariants.{Value, Rmw}
 use Rattle.validate_visit.specs.declared.shared.SharedOp.TheVariants.{Global, Table, Struct, Array, RefI31Shared}
 use Rattle.validate_visit.specs.declared.shared.SharedRmwOp.TheVariants.{Add, Xor}
-use Rattle.validate_visit.specs.declared.shared.TableAccess.{TableAccess}
-use Rattle.validate_visit.specs.declared.shared.TableAccess.TheVariants.{Get, Set, Xchg, Cmpxchg}
+use Rattle.validate_visit.specs.declared.shared.Exchange.{Exchange}
+use Rattle.validate_visit.specs.declared.shared.Exchange.TheVariants.{Get, Set, Xchg, Cmpxchg}
 use Rattle.validation_rules.specs.Context.{SubType, ValType, I32, I64, F64, Ref, Context}
 use Rattle.validation_rules.specs.Operators.{row_operator, plain_row, operator}
 use Rattle.validation_rules.proofs.ExampleWords.{null, null_to, a_type, written, fixed, an_array, every, within}
@@ -85,10 +85,10 @@ under bits shared = within declared bits shared
 
 -- ---- operators
 
-abbrev on_global : GlobalAccess → ℕ → Op
+abbrev on_global : Update → ℕ → Op
 on_global access i = Shared (Global access SeqCst i)
 
-abbrev on_table : TableAccess → ℕ → Op
+abbrev on_table : Exchange → ℕ → Op
 on_table access i = Shared (Table access AcqRel i)
 
 abbrev on_field : FieldAccess → ℕ → Op
@@ -97,7 +97,7 @@ on_field access k = Shared (Struct access SeqCst (record { struct_type_index = 0
 abbrev on_array : FieldAccess → ℕ → Op
 on_array access i = Shared (Array access AcqRel i)
 
-abbrev whole : TableAccess → FieldAccess
+abbrev whole : Exchange → FieldAccess
 whole access = Whole (Value access)
 
 abbrev premise : Context → Op → Bool

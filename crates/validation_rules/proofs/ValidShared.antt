@@ -7,10 +7,10 @@ use Rattle.validate_types.specs.Types.{address_type_of_table}
 use Rattle.validate_types.specs.declared.types.FieldType.{FieldType}
 use Rattle.validate_visit.specs.declared.shared.FieldAccess.{FieldAccess}
 use Rattle.validate_visit.specs.declared.shared.FieldAccess.TheVariants.{Whole, GetPacked}
-use Rattle.validate_visit.specs.declared.shared.GlobalAccess.TheVariants.{Value, Rmw}
+use Rattle.validate_visit.specs.declared.shared.Update.TheVariants.{Value, Rmw}
 use Rattle.validate_visit.specs.declared.shared.SharedOp.{SharedOp}
 use Rattle.validate_visit.specs.declared.shared.SharedOp.TheVariants.{Global, Table, Struct, Array, RefI31Shared}
-use Rattle.validate_visit.specs.declared.shared.TableAccess.TheVariants.{Get, Set, Xchg, Cmpxchg}
+use Rattle.validate_visit.specs.declared.shared.Exchange.TheVariants.{Get, Set, Xchg, Cmpxchg}
 use Rattle.validation_rules.specs.Arrays.{array_type}
 use Rattle.validation_rules.specs.Calls.{global_type}
 use Rattle.validation_rules.specs.Context.{ValType, I32, Context}

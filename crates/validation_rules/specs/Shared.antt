@@ -17,13 +17,13 @@ use Rattle.validate_types.specs.declared.types.TableType.{TableType}
 use Rattle.validate_visit.specs.declared.shared.FieldAccess.{FieldAccess}
 use Rattle.validate_visit.specs.declared.shared.FieldAccess.TheVariants.{Whole, GetPacked}
 use Rattle.validate_visit.specs.declared.op.FieldIndex.{FieldIndex}
-use Rattle.validate_visit.specs.declared.shared.GlobalAccess.{GlobalAccess}
-use Rattle.validate_visit.specs.declared.shared.GlobalAccess.TheVariants.{Value, Rmw}
+use Rattle.validate_visit.specs.declared.shared.Update.{Update}
+use Rattle.validate_visit.specs.declared.shared.Update.TheVariants.{Value, Rmw}
 use Rattle.validate_visit.specs.declared.shared.SharedOp.{SharedOp}
 use Rattle.validate_visit.specs.declared.shared.SharedOp.TheVariants.{Global, Table, Struct, Array}
 use Rattle.validate_visit.specs.declared.shared.SharedOp.TheVariants.{RefI31Shared}
-use Rattle.validate_visit.specs.declared.shared.TableAccess.{TableAccess}
-use Rattle.validate_visit.specs.declared.shared.TableAccess.TheVariants.{Get, Set, Xchg, Cmpxchg}
+use Rattle.validate_visit.specs.declared.shared.Exchange.{Exchange}
+use Rattle.validate_visit.specs.declared.shared.Exchange.TheVariants.{Get, Set, Xchg, Cmpxchg}
 use Rattle.validation_rules.specs.Arrays.{array_row_for}
 use Rattle.validation_rules.specs.Calls.{global_type}
 use Rattle.validation_rules.specs.Context.{ModuleContext, ValType, I32, I64, Ref, Context}
@@ -105,11 +105,11 @@ held_by_table t = record { element_type = Val (element_of_table t); mutable = tr
 
 -- The references of a global are unshared ones, whether it is shared or not; those of other places are
 -- shared.
-abbrev pub shared_global_row : Context → GlobalAccess → ℕ → Row
+abbrev pub shared_global_row : Context → Update → ℕ → Row
 shared_global_row cx access i =
     lookup_row (global_type cx i) (λ g. place_row cx false (Whole access) [] (held_by_global g))
 
-abbrev pub shared_table_row : Context → TableAccess → ℕ → Row
+abbrev pub shared_table_row : Context → Exchange → ℕ → Row
 shared_table_row cx access i =
     lookup_row (table_type cx i)
     (λ t. place_row cx true (Whole (Value access)) (address_type_of_table t ∷ []) (held_by_table t))

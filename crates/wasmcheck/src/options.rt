@@ -1,19 +1,19 @@
 //! What the program's words choose.
 
-use crate::usage::Misuse;
+use crate::usage::UsageError;
 use module_check::ModuleFeatures;
 use std::alloc::Global;
 use std::env;
 use validate_types::Flags;
 
-/// What is asked for.
+/// What the program does.
 #[derive(Clone, Copy)]
-pub enum Wish {
-    /// To check modules.
+pub enum Action {
+    /// It checks modules.
     Check,
-    /// To say how the program is used.
+    /// It says how it is used.
     Help,
-    /// To say which version it is.
+    /// It says which version it is.
     Version,
 }
 
@@ -21,12 +21,12 @@ pub enum Wish {
 #[derive(Clone, Copy)]
 pub enum Detail {
     /// Nothing: the status says it.
-    Status,
+    Quiet,
     /// Whether the module is valid, and why not: a line for each body and expression that isn't accepted, or one for the
     /// module.
-    Others,
+    Normal,
     /// A line for each body and expression, and how many came to what.
-    Each,
+    Verbose,
 }
 
 /// How it is printed.
@@ -41,8 +41,8 @@ pub enum Format {
 /// What the words choose.
 #[derive(Drop)]
 pub struct Options {
-    /// What is asked for.
-    pub wish: Wish,
+    /// What the program does.
+    pub action: Action,
     /// How much is printed.
     pub detail: Detail,
     /// How it is printed.
@@ -85,7 +85,7 @@ fn with_word(features: ModuleFeatures, word: &str) -> Option<ModuleFeatures> {
 
 impl Words {
     /// Takes a word.
-    fn take(&mut self, word: String) -> Result<(), Misuse> {
+    fn take(&mut self, word: String) -> Result<(), UsageError> {
         if self.awaits_list {
             self.awaits_list = false;
             return self.take_list(word.as_str());
@@ -99,23 +99,23 @@ impl Words {
     }
 
     /// Takes the name of a file.
-    fn take_file(&mut self, word: String) -> Result<(), Misuse> {
+    fn take_file(&mut self, word: String) -> Result<(), UsageError> {
         match self.options.files.push(word) {
             Ok(()) => Ok(()),
-            Err(_) => Err(Misuse::out_of_memory()),
+            Err(_) => Err(UsageError::out_of_memory()),
         }
     }
 
     /// Takes an option: a long word, or letters that may be joined.
-    fn take_option(&mut self, word: String) -> Result<(), Misuse> {
+    fn take_option(&mut self, word: String) -> Result<(), UsageError> {
         match word.as_str() {
             "--" => self.is_behind_options = true,
             "--features" => self.awaits_list = true,
             "--quiet" => self.take_quiet(),
             "--verbose" => self.take_verbose(),
             "--json" => self.options.format = Format::Json,
-            "--help" => self.options.wish = Wish::Help,
-            "--version" => self.options.wish = Wish::Version,
+            "--help" => self.options.action = Action::Help,
+            "--version" => self.options.action = Action::Version,
             other => {
                 return match other.strip_prefix("--features=") {
                     Some(list) => self.take_list(list),
@@ -127,32 +127,32 @@ impl Words {
     }
 
     /// Takes the letters behind a `-`.
-    fn take_letters(&mut self, word: &str) -> Result<(), Misuse> {
+    fn take_letters(&mut self, word: &str) -> Result<(), UsageError> {
         for letter in word.chars().skip(1) {
             match letter {
                 'q' => self.take_quiet(),
                 'v' => self.take_verbose(),
-                'h' => self.options.wish = Wish::Help,
-                'V' => self.options.wish = Wish::Version,
-                _ => return Err(Misuse::unknown_word(self.alloc, word)),
+                'h' => self.options.action = Action::Help,
+                'V' => self.options.action = Action::Version,
+                _ => return Err(UsageError::unknown_word(self.alloc, word)),
             }
         }
         Ok(())
     }
 
     fn take_quiet(&mut self) {
-        self.options.detail = Detail::Status;
+        self.options.detail = Detail::Quiet;
     }
 
     /// Lets each line be printed, unless none is to be.
     fn take_verbose(&mut self) {
-        if !matches!(self.options.detail, Detail::Status) {
-            self.options.detail = Detail::Each;
+        if !matches!(self.options.detail, Detail::Quiet) {
+            self.options.detail = Detail::Verbose;
         }
     }
 
     /// Takes a list of proposals. One that begins by taking some off begins from all.
-    fn take_list(&mut self, list: &str) -> Result<(), Misuse> {
+    fn take_list(&mut self, list: &str) -> Result<(), UsageError> {
         let mut features = if list.starts_with('-') {
             ModuleFeatures::all()
         } else {
@@ -163,7 +163,7 @@ impl Words {
                 Some(more) => features = more,
                 None => {
                     let name = word.strip_prefix('-').unwrap_or(word);
-                    return Err(Misuse::unknown_proposal(self.alloc, name));
+                    return Err(UsageError::unknown_proposal(self.alloc, name));
                 }
             }
         }
@@ -172,9 +172,9 @@ impl Words {
     }
 
     /// The options, once all words are taken.
-    fn end(self) -> Result<Options, Misuse> {
+    fn end(self) -> Result<Options, UsageError> {
         if self.awaits_list {
-            return Err(Misuse::NoList);
+            return Err(UsageError::NoList);
         }
         Ok(self.options)
     }
@@ -183,8 +183,8 @@ impl Words {
 /// The options where nothing is said.
 fn default_options(alloc: Global) -> Options {
     Options {
-        wish: Wish::Check,
-        detail: Detail::Others,
+        action: Action::Check,
+        detail: Detail::Normal,
         format: Format::Text,
         features: ModuleFeatures::all(),
         files: Vec::new(alloc),
@@ -192,7 +192,7 @@ fn default_options(alloc: Global) -> Options {
 }
 
 /// Reads the program's words.
-pub fn read_options(rt: &HostRuntime) -> Result<Options, Misuse> {
+pub fn read_options(rt: &HostRuntime) -> Result<Options, UsageError> {
     let mut words = Words {
         alloc: rt.alloc(),
         options: default_options(rt.alloc()),

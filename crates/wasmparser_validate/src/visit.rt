@@ -3,12 +3,12 @@
 
 pub use validate_visit::{
     ArrayOp, AtomicAccess, AtomicOp, AtomicRmwOp, BlockType, BodyKind, BrTable, BrTableTargets,
-    BranchCast, Catch, ContinuationOp, ControlOp, ConvertOp, ExceptionOp, FieldAccess, FieldIndex,
-    FloatBinaryOp, FloatComparisonOp, FloatType, FloatUnaryOp, Frame, FrameKind, FrameStack,
-    GlobalAccess, Handle, Ieee32, Ieee64, IncompleteTable, IntegerBinaryOp, IntegerComparisonOp,
+    BranchCast, Catch, ContinuationOp, ControlOp, ConvertOp, ExceptionOp, Exchange, FieldAccess,
+    FieldIndex, FloatBinaryOp, FloatComparisonOp, FloatType, FloatUnaryOp, Frame, FrameKind,
+    FrameStack, Handle, Ieee32, Ieee64, IncompleteTable, IntegerBinaryOp, IntegerComparisonOp,
     IntegerType, IntegerUnaryOp, LocalGroup, MemArg, MemArgTarget, MemoryOp, ModuleArity,
     NumberType, NumericOp, Op, OperatorChecks, Ordering, PackedInteger, ReferenceOp, ResumeTable,
-    SharedOp, SharedRmwOp, Sign, StructOp, TableAccess, TableOp, TryTable, has_module_immediates,
-    have_module_immediates, is_well_ordered,
+    SharedOp, SharedRmwOp, Sign, StructOp, TableOp, TryTable, Update, all_have_module_immediates,
+    has_module_immediates, is_well_ordered,
 };
 pub use validate_visitor::VisitOperator;

@@ -1,7 +1,7 @@
 use Rattle.std.proofs.Common.{◌≡◌, true, false, List, [], ◌∷◌, ◌++◌, ◌+◌, ℕ, length, drop, get_or, slice_get, Some, Err, sym, ap, ◌∙◌, subst, arith, length-append}
 use Rattle.std.proofs.lemmas.List.{drop_more}
 use Rattle.validate_resources.specs.Context.{ModuleContext}
-use Rattle.validate_types.specs.Refusal.{Refusal}
+use Rattle.validate_types.specs.ErrorValue.{ErrorValue}
 use Rattle.validate_visit.specs.declared.op.Op.{Op}
 use Rattle.validate_stacks.specs.State.{body_context}
 use Rattle.validation_rules.specs.Context.{Context}
@@ -30,7 +30,7 @@ module _ (g : Over) (c : After-reserve g) where
   operator_there : (d : Op × ℕ) → slice_get c.args.ops.now c.loop-index.index ≡ Some (get_or c.args.ops.now c.loop-index.index d)
   operator_there d = at_place c.args.ops.now c.loop-index.index d (omega arith)
 
-  ends_here : (d : Op × ℕ) (refusal : Refusal) → EndsRun (cx g start) (get_or c.args.ops.now c.loop-index.index d) c.is_attempted_at-attempted.result refusal c.loop-index.function.present → RunsEach (md g start) c.args.function.now.starting c.args.shows (record { ops = c.args.ops.now; attempts = c.args.attempts.now }) c.reserve.new.self.items (Err refusal)
+  ends_here : (d : Op × ℕ) (refusal : ErrorValue) → EndsRun (cx g start) (get_or c.args.ops.now c.loop-index.index d) c.is_attempted_at-attempted.result refusal c.loop-index.function.present → RunsEach (md g start) c.args.function.now.starting c.args.shows (record { ops = c.args.ops.now; attempts = c.args.attempts.now }) c.reserve.new.self.items (Err refusal)
   ends_here d refusal ended =
       let ops = c.args.ops.now in
       let marks = c.args.attempts.now in
@@ -60,7 +60,7 @@ pub returns-then-is_err-clause-runs : goal.returns-then-is_err-clause-runs
 returns-then-is_err-clause-runs g c =
     let at = goal.at.returns-then-is_err-clause-runs g c in
     ends_here g at.After-reserve _ c.out_of_memory.result
-    (short_of_memory (cx g at.Start) (get_or c.args.ops.now c.loop-index.index _) _ _ _ (ap (λ (e : Refusal). e.offset) c.out_of_memory.ensures) (ap (λ (e : Refusal). e.wants_memory) c.out_of_memory.ensures))
+    (short_of_memory (cx g at.Start) (get_or c.args.ops.now c.loop-index.index _) _ _ _ (ap (λ (e : ErrorValue). e.offset) c.out_of_memory.ensures) (ap (λ (e : ErrorValue). e.wants_memory) c.out_of_memory.ensures))
 
 pub returns-in-Err-clause-runs : goal.returns-in-Err-clause-runs
 returns-in-Err-clause-runs g c =

@@ -1,15 +1,4 @@
-use Rattle.std.proofs.Common.{rules, refl}
-use Rattle.validate_types.specs.declared.gate.Gate.TheVariants.{StackSwitching}
-use Rattle.validate_visit.specs.declared.op.Op.TheVariants.{Continuation}
-use Rattle.validate_operators.proofs.Gated.{meets_shut, meets_open}
 use Rattle.validate_operators.proofs.groups.check_continuation.Goals as goal
 
-pub returns-in_err-check_enabled : goal.returns-in_err-check_enabled
-returns-in_err-check_enabled g c =
-    let md = g.R.WasmModuleResources.context c.args.resources.now in
-    meets_shut md c.args.stacks.now.body (Continuation c.args.op) StackSwitching refl c.args.offset _ (search rules) (search rules) (search rules) c.requires.valid
-
 pub returns : goal.returns
-returns g c =
-    let md = g.R.WasmModuleResources.context c.args.resources.now in
-    meets_open md c.args.stacks.now.body (Continuation c.args.op) StackSwitching refl c.args.offset _ _ c.in_ok-check_enabled.ensures.open c.check_continuation_row.ensures
+returns g c = c.checked.ensures.row _ _ c.gated_continuation-answer.ensures c.requires.valid

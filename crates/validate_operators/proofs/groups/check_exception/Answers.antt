@@ -1,7 +1,7 @@
 use Rattle.std.proofs.Common.{rules, sym, ap, ◌∙◌}
 use Rattle.validate_types.specs.Gates.{is_open}
 use Rattle.validate_visit.specs.declared.op.Op.TheVariants.{Exception}
-use Rattle.validate_operators.proofs.Alone.{exception_refused_alone}
+use Rattle.validate_operators.proofs.Alone.{refused_alone}
 use Rattle.validate_operators.proofs.Gated.{meets_shut, meets_open, shut}
 use Rattle.validate_operators.proofs.groups.check_exception.Goals as goal
 
@@ -15,7 +15,7 @@ returns-in_err-check_enabled-clause-memory g c =
     let md = g.R.WasmModuleResources.context c.args.resources.now in
     let v = c.args.stacks.now.body in
     let none = shut md v (Exception c.args.op) (ap (is_open v.features) (sym c.gate.ensures) ∙ c.in_err-check_enabled.ensures.closed) in
-    exception_refused_alone md c.args.op v _ (search (rules, none))
+    refused_alone md (Exception c.args.op) v _ (search (rules, none))
 
 pub returns-clause-row : goal.returns-clause-row
 returns-clause-row g c =

@@ -1,4 +1,4 @@
-use Rattle.std.proofs.Common.{rules, [], ◌∷◌, refl, sym, subst}
+use Rattle.std.proofs.Common.{[], ◌∷◌, refl, sym, subst}
 use Rattle.validate_resources.specs.Context.{Valid}
 use Rattle.validation_rules.specs.Context.{I32}
 use Rattle.validate_rows_gc.proofs.AccessRows.{types_valid}

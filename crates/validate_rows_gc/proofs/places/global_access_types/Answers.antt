@@ -1,4 +1,4 @@
-use Rattle.std.proofs.Common.{◌≡◌, false, [], ◌&&◌, sym, ap, ◌∙◌}
+use Rattle.std.proofs.Common.{false, [], ◌&&◌, sym, ap, ◌∙◌}
 use Rattle.validate_visit.specs.declared.shared.FieldAccess.TheVariants.{Whole}
 use Rattle.validation_rules.specs.Operators.{lookup_row}
 use Rattle.validation_rules.specs.Shared.{is_allowed, place_row, held_by_global}

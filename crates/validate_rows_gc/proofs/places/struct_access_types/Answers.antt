@@ -1,4 +1,4 @@
-use Rattle.std.proofs.Common.{rules, [], ◌∷◌, refl, sym, subst}
+use Rattle.std.proofs.Common.{[], ◌∷◌, sym, subst}
 use Rattle.validate_resources.specs.Context.{Valid}
 use Rattle.validate_rows_gc.proofs.AccessRows.{types_valid}
 use Rattle.validate_rows_gc.proofs.places.struct_access_types.Goals as goal

@@ -1,8 +1,7 @@
-use Rattle.std.proofs.Common.{rules, ◌≡◌, true, [], ◌∷◌, ◌&&◌, sym, ap, ◌∙◌, subst}
-use Rattle.validate_resources.specs.Context.{Valid}
+use Rattle.std.proofs.Common.{rules, true, [], ◌∷◌, ◌&&◌, sym, ap, ◌∙◌}
 use Rattle.validate_types.specs.Types.{address_type_of_table}
 use Rattle.validate_visit.specs.declared.shared.FieldAccess.TheVariants.{Whole}
-use Rattle.validate_visit.specs.declared.shared.GlobalAccess.TheVariants.{Value}
+use Rattle.validate_visit.specs.declared.shared.Update.TheVariants.{Value}
 use Rattle.validation_rules.specs.Operators.{lookup_row}
 use Rattle.validation_rules.specs.Shared.{is_read, is_allowed, place_row, held_by_table}
 use Rattle.validation_rules.specs.Tables.{element_of_table}

@@ -18,7 +18,7 @@ returns-in_err-resumed g c =
     let hs = heads v.present.frames in
     let never : IsNeverResumed cx hs c.args.cont_type_index c.args.handlers.now → (resume_throw_ref_row cx hs c.args.cont_type_index c.args.handlers.now).premise ≡ false =
     λ n. n.barred (λ (f : Signature). Some (Ref (nullable_reference exception) ∷ [])) in
-    record { found = search rules; valid = search rules; refused = search (rules, never); at_offset = search rules }
+    record { found = search rules; valid = search rules; refused = search (rules, never) }
 
 pub returns : goal.returns
 returns g c =
@@ -34,5 +34,4 @@ returns g c =
           ∙ ap (λ (rs : List ValType). plain_row (Ref (nullable_reference exception) ∷ t ∷ []) rs) (sym c.results.ensures);
       valid = search rules;
       refused = tt;
-      at_offset = tt;
     }

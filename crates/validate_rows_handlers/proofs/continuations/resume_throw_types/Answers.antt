@@ -17,7 +17,7 @@ returns-in_err-resumed g c =
     let hs = heads v.present.frames in
     let never : IsNeverResumed cx hs c.args.cont_type_index c.args.handlers.now → (resume_throw_row cx hs c.args.cont_type_index c.args.tag_index c.args.handlers.now).premise ≡ false =
     λ n. n.barred (λ (f : Signature). exception_types cx.of_module c.args.tag_index) in
-    record { found = search rules; valid = search rules; refused = search (rules, never); at_offset = search rules }
+    record { found = search rules; valid = search rules; refused = search (rules, never) }
 
 pub returns : goal.returns
 returns g c =
@@ -33,5 +33,4 @@ returns g c =
           ∙ ap (λ (rs : List ValType). plain_row (c.in_ok-thrown.thrown.now ++ t ∷ []) rs) (sym c.results.ensures);
       valid = search rules;
       refused = tt;
-      at_offset = tt;
     }

@@ -16,7 +16,7 @@ returns-in_err-resumed g c =
     let hs = heads v.present.frames in
     let never : IsNeverResumed cx hs c.args.cont_type_index c.args.handlers.now → (resume_row cx hs c.args.cont_type_index c.args.handlers.now).premise ≡ false =
     λ n. n.barred (λ (f : Signature). Some f.params) in
-    record { found = search rules; valid = search rules; refused = search (rules, never); at_offset = search rules }
+    record { found = search rules; valid = search rules; refused = search (rules, never) }
 
 pub returns : goal.returns
 returns g c =
@@ -32,5 +32,4 @@ returns g c =
           ∙ ap₂ (λ (ps rs : List ValType). plain_row (ps ++ t ∷ []) rs) (sym c.params.ensures) (sym c.results.ensures);
       valid = search rules;
       refused = tt;
-      at_offset = tt;
     }

@@ -50,7 +50,7 @@ switches_as_told g c = rw (sym c.results-given.ensures, sym c.results-back.ensur
 pub returns-then-not-is_concrete_reference : goal.returns-then-not-is_concrete_reference
 returns-then-not-is_concrete_reference g c =
     let none = barred_without_other g (goal.at.returns-then-not-is_concrete_reference g c).In-Some in
-    record { found = tt; valid = tt; refused = λ _. none (c.is_concrete_reference.ensures (g.R.WasmModuleResources.context c.args.resources.now) c.if-not-is_concrete_reference.true); at_offset = search rules }
+    record { found = tt; valid = tt; refused = λ _. none (c.is_concrete_reference.ensures (g.R.WasmModuleResources.context c.args.resources.now) c.if-not-is_concrete_reference.true) }
 
 pub referenced_continuation-requires : goal.referenced_continuation-requires
 referenced_continuation-requires g c = (others_and_last_valid g (goal.at.referenced_continuation-requires g c).In-Some).1
@@ -58,7 +58,7 @@ referenced_continuation-requires g c = (others_and_last_valid g (goal.at.referen
 pub returns-in_default-referenced_continuation : goal.returns-in_default-referenced_continuation
 returns-in_default-referenced_continuation g c =
     let none = barred_without_other g (goal.at.returns-in_default-referenced_continuation g c).In-Some in
-    record { found = tt; valid = tt; refused = λ _. none (sym c.referenced_continuation.ensures ∙ ap option_copied c.in_default-referenced_continuation.is); at_offset = search rules }
+    record { found = tt; valid = tt; refused = λ _. none (sym c.referenced_continuation.ensures ∙ ap option_copied c.in_default-referenced_continuation.is) }
 
 pub is_func_subtype-requires-clause-r2 : goal.is_func_subtype-requires-clause-r2
 is_func_subtype-requires-clause-r2 g c =
@@ -73,7 +73,6 @@ returns-then-not-is_func_subtype g c =
       refused = λ _.
           not_leading_back (cx g at.In-Some) c.args.cont_type_index c.args.tag_index c.in_ok-func_type.func_type.now c.in_ok-tag_type.tag_type.now c.in_ok-func_type.ensures.found c.in_ok-tag_type.ensures.found (takes_nothing g at.In-Some) _ _ (ends_in_last g at.In-Some) c.in-Some-referenced_continuation.other.now (refers_to_other g at.In-Some-referenced_continuation)
           (switches_as_told g at.After-is_func_subtype ∙ c.if-not-is_func_subtype.true);
-      at_offset = search rules;
     }
 
 pub returns : goal.returns
@@ -85,7 +84,6 @@ returns g c =
       found =
           leading_back (cx g at.In-Some) c.args.cont_type_index c.args.tag_index c.in_ok-func_type.func_type.now c.in_ok-tag_type.tag_type.now c.in_ok-func_type.ensures.found c.in_ok-tag_type.ensures.found (takes_nothing g at.In-Some) _ _ (ends_in_last g at.In-Some) c.in-Some-referenced_continuation.other.now (refers_to_other g at.In-Some-referenced_continuation) c.in_ok-from.from c.in_ok-from.ensures.found switches
           ∙ ap (λ (ps : List ValType). plain_row (c.in-Some.others.now ++ c.in_ok-from.from ∷ []) ps) (sym c.params-3.ensures);
-      valid = ((valid.0, (c.in_ok-from.ensures.valid, tt)), subst (AllByRecursion (Valid (g.R.WasmModuleResources.context c.args.resources.now))) (sym c.params-3.ensures) (other_valid g at.In-Some-referenced_continuation).0);
+      valid = ((valid.0, c.in_ok-from.ensures.valid), subst (AllByRecursion (Valid (g.R.WasmModuleResources.context c.args.resources.now))) (sym c.params-3.ensures) (other_valid g at.In-Some-referenced_continuation).0);
       refused = tt;
-      at_offset = tt;
     }

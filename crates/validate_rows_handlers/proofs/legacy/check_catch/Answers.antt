@@ -1,4 +1,7 @@
-use Rattle.std.proofs.Common.{rules}
+use Rattle.std.proofs.Common.{rules, ◌≡◌, Some}
+use Rattle.std.specs.List.{AllByRecursion}
+use Rattle.validate_resources.specs.Context.{Valid}
+use Rattle.validation_rules.specs.Exceptions.{exception_types}
 use Rattle.validate_stacks.specs.Pops.{body_pushed_each}
 use Rattle.validate_stacks.proofs.Validity.{kept_on}
 use Rattle.validate_shapes.proofs.LastSteps.{meets_none, meets_last, meets_refused}
@@ -21,7 +24,9 @@ returns g c =
     let u = c.begin_catch_part.new.stacks.body in
     let w = c.push_types.new.self.body in
     let types = c.in_ok-types.types.now in
+    let found : exception_types md c.args.tag_index ≡ Some types = search (rules, c.exception_types_at.ensures.found) in
+    let all_valid : AllByRecursion (Valid md) types = search (rules, c.exception_types_at.ensures.valid) in
     meets_last _ _ _ _ _ (body_pushed_each types u) _
-    (λ q. catch_passes md c.args.stacks.now.body c.args.tag_index types u w c.in_ok-types.ensures.found c.in_ok-begin_catch_part.ensures.begun q) c.push_types.ensures.pushed c.push_types.ensures.memory c.push_types.ensures.offset
-    (c.push_types.ensures.valid md c.in_ok-types.ensures.valid c.begin_catch_part.ensures.valid)
+    (λ q. catch_passes md c.args.stacks.now.body c.args.tag_index types u w found c.in_ok-begin_catch_part.ensures.begun q) c.push_types.ensures.pushed c.push_types.ensures.memory c.push_types.ensures.offset
+    (c.push_types.ensures.valid md all_valid c.begin_catch_part.ensures.valid)
     (kept_on c.args.stacks.now.body u w c.begin_catch_part.ensures.kept c.push_types.ensures.kept)

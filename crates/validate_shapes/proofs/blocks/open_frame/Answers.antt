@@ -1,68 +1,82 @@
-use Rattle.std.proofs.Common.{rules, ◌≡◌, reverse, Option, None, Some, sym, ap, ◌∙◌}
+use Rattle.std.proofs.Common.{rules, ◌≡◌, ◌++◌, ◌+◌, true, false, List, [], length, reverse, None, Some, MatchResult, refl, sym, ap, ◌∙◌, subst, arith}
+use Rattle.std.specs.List.{AllByRecursion}
 use Rattle.std.specs.Option.{option_map}
-use Rattle.validate_resources.specs.Context.{ModuleContext}
+use Rattle.validate_resources.specs.Context.{ModuleContext, Valid}
+use Rattle.validate_types.specs.declared.types.ValType.{ValType}
 use Rattle.validation_rules.specs.Context.{block_signature}
 use Rattle.validation_rules.specs.Operators.{opening_operator}
+use Rattle.validate_stacks.specs.AtOnce.{body_dropped}
 use Rattle.validate_stacks.specs.Blocks.{body_with_block}
-use Rattle.validate_stacks.specs.Pops.{body_popped_each, IsKept}
+use Rattle.validate_stacks.specs.Pops.{body_popped_each, body_pushed_each}
 use Rattle.validate_stacks.specs.State.{BodyState}
+use Rattle.validate_stacks.specs.Steps.{body_with_frame}
 use Rattle.validate_stacks.specs.Visits.{step_body}
-use Rattle.validate_stacks.proofs.ClosedFrames.{takes_valid}
-use Rattle.validate_stacks.proofs.Validity.{kept_on}
+use Rattle.validate_stacks.proofs.AtOnce.{dropped_open, dropped_within, popped_dropped}
+use Rattle.validate_stacks.proofs.ClosedFrames.{entered_is, takes_valid}
+use Rattle.validate_stacks.proofs.Moves.{dropped_below, fits_now, not_popped}
+use Rattle.validate_stacks.proofs.Phases.{step_frame}
 use Rattle.validate_stacks.proofs.Whole.{none_above, some_above}
-use Rattle.validate_shapes.proofs.OpenerSteps.{opened_is}
-use Rattle.validate_shapes.proofs.LastSteps.{meets_last, meets_refused}
+use Rattle.validate_shapes.proofs.OpenerSteps.{opened_is, opened_moved}
+use Rattle.validate_shapes.proofs.Moves.{unmoved, made_moves}
 use Rattle.validate_shapes.proofs.blocks.open_frame.Given.{Over}
-use Rattle.validate_shapes.proofs.blocks.open_frame.Goals.{After-params, After-pop_types-2}
+use Rattle.validate_shapes.proofs.blocks.open_frame.Goals.{In_ok-find_operands}
 use Rattle.validate_shapes.proofs.blocks.open_frame.Goals as goal
 
-module _ (g : Over) (c : After-params g) where
+module _ (g : Over) (c : In_ok-find_operands g) where
   abbrev md : ModuleContext
   md = g.R.WasmModuleResources.context c.args.resources.now
 
-  abbrev opened : Option BodyState
-  opened = step_body md (λ cx. opening_operator cx c.args.kind c.args.above.now c.args.block_type) c.args.stacks.now.body
+  abbrev below : BodyState
+  below = body_dropped (length c.args.above.now) c.args.stacks.now.body
 
-  opens_over_params : opened ≡ option_map (λ u. body_with_block md c.args.kind c.args.block_type u) (body_popped_each md (reverse c.params.result.now) c.pop_types.new.self.body)
-  opens_over_params =
+  -- what lies above goes, and then the parameters
+  popped_above : body_popped_each md (reverse ((block_signature md c.args.block_type).params ++ c.args.above.now)) c.args.stacks.now.body ≡ body_popped_each md (reverse c.params-params.result.now) below
+  popped_above =
       let v = c.args.stacks.now.body in
-      let u = c.pop_types.new.self.body in
-      opened_is md v c.args.kind c.args.above.now c.args.block_type c.requires.visit.open_frame
-      ∙ ap (option_map (λ u. body_with_block md c.args.kind c.args.block_type u)) (some_above md (block_signature md c.args.block_type).params c.args.above.now v u c.in_ok-pop_types.ensures.passed ∙ ap (λ l. body_popped_each md (reverse l) u) (sym c.params.ensures))
+      let above = c.args.above.now in
+      some_above md (block_signature md c.args.block_type).params above v below (popped_dropped md above v (fits_now md above v true c.in_ok-find_operands.ensures.fit))
+      ∙ ap (λ (l : List ValType). body_popped_each md (reverse l) below) (sym c.params-params.ensures)
 
-  refused_at_other_params : body_popped_each md (reverse c.params.result.now) c.pop_types.new.self.body ≡ None → opened ≡ None
-  refused_at_other_params n = opens_over_params ∙ ap (option_map (λ u. body_with_block md c.args.kind c.args.block_type u)) n
-
-  opens_with_params : (w : BodyState) → body_popped_each md (reverse c.params.result.now) c.pop_types.new.self.body ≡ Some w → opened ≡ Some (body_with_block md c.args.kind c.args.block_type w)
-  opens_with_params w p = opens_over_params ∙ ap (option_map (λ u. body_with_block md c.args.kind c.args.block_type u)) p
-
-kept_by_pops : (g : Over) (c : After-pop_types-2 g) → IsKept c.args.stacks.now.body c.pop_types-2.new.self.body
-kept_by_pops g c = kept_on c.args.stacks.now.body c.pop_types.new.self.body c.pop_types-2.new.self.body c.pop_types.ensures.kept c.pop_types-2.ensures.kept
-
-pub returns-in_err-pop_types : goal.returns-in_err-pop_types
-returns-in_err-pop_types g c =
+pub returns-in_err-find_operands : goal.returns-in_err-find_operands
+returns-in_err-find_operands g c =
     let md = g.R.WasmModuleResources.context c.args.resources.now in
     let v = c.args.stacks.now.body in
-    let ps = (block_signature md c.args.block_type).params in
     let above = c.args.above.now in
-    let none : body_popped_each md (reverse above) v ≡ None → step_body md (λ cx. opening_operator cx c.args.kind above c.args.block_type) v ≡ None =
-    λ n. opened_is md v c.args.kind above c.args.block_type c.requires.visit.open_frame ∙ ap (option_map (λ u. body_with_block md c.args.kind c.args.block_type u)) (none_above md ps above v n) in
-    meets_refused _ _ _ _ _ _ (search rules) (search (rules, none)) (search rules) c.pop_types.ensures.valid c.pop_types.ensures.kept
+    let bt = c.args.block_type in
+    let missing = not_popped md above v c.requires.visit.open_frame (fits_now md above v false c.in_err-find_operands.ensures.unfit) in
+    let none = opened_is md v c.args.kind above bt c.requires.visit.open_frame ∙ ap (option_map (λ u. body_with_block md c.args.kind bt u)) (none_above md (block_signature md bt).params above v missing) in
+    unmoved _ _ _ _ _ _ (search rules) refl (search (rules, none))
 
-pub pop_types-requires-2-clause-types : goal.pop_types-requires-2-clause-types
-pop_types-requires-2-clause-types g c =
-    takes_valid (g.R.WasmModuleResources.context c.args.resources.now) c.args.stacks.now.body.shared c.args.block_type c.params.result.now
-    (g.met.R.WasmModuleResources.lawful c.args.resources.now) c.requires.block c.params.ensures
+pub find_operands-requires-2-clause-types : goal.find_operands-requires-2-clause-types
+find_operands-requires-2-clause-types g c =
+    takes_valid (g.R.WasmModuleResources.context c.args.resources.now) c.args.stacks.now.body.shared c.args.block_type c.params-params.result.now (g.met.R.WasmModuleResources.lawful c.args.resources.now) c.requires.block c.params-params.ensures
 
-pub returns-in_err-pop_types-2 : goal.returns-in_err-pop_types-2
-returns-in_err-pop_types-2 g c =
-    let none = refused_at_other_params g (goal.at.returns-in_err-pop_types-2 g c).After-params in
-    meets_refused _ _ _ _ _ _ (search rules) (search (rules, none)) (search rules) c.pop_types-2.ensures.valid (kept_by_pops g (goal.at.returns-in_err-pop_types-2 g c).After-pop_types-2)
+pub returns-in_err-find_operands-2 : goal.returns-in_err-find_operands-2
+returns-in_err-find_operands-2 g c =
+    let at = (goal.at.returns-in_err-find_operands-2 g c).In_ok-find_operands in
+    let m = md g at in
+    let v = c.args.stacks.now.body in
+    let missing = not_popped m c.params-params.result.now (below g at) (dropped_open (length c.args.above.now) v c.requires.visit.open_frame) c.in_err-find_operands-2.ensures.unfit in
+    let none = opened_is m v c.args.kind c.args.above.now c.args.block_type c.requires.visit.open_frame ∙ ap (option_map (λ u. body_with_block m c.args.kind c.args.block_type u)) (popped_above g at ∙ missing) in
+    unmoved _ _ _ _ _ _ (search rules) refl (search (rules, none))
+
+pub open-requires-clause-frames : goal.open-requires-clause-frames
+open-requires-clause-frames g c = step_frame c.args.stacks.now c.requires.visit.attempt
 
 pub returns : goal.returns
 returns g c =
-    let at = goal.at.returns g c in
-    let w = c.pop_types-2.new.self.body in
-    let passes = opens_with_params g at.After-params w c.in_ok-pop_types-2.ensures.passed in
-    meets_last _ _ _ _ _ (body_with_block (md g at.After-params) c.args.kind c.args.block_type w) _ (λ q. passes ∙ ap Some (sym q)) c.push_ctrl.ensures.entered c.push_ctrl.ensures.memory c.push_ctrl.ensures.offset
-    c.push_ctrl.ensures.valid (kept_on c.args.stacks.now.body w _ (kept_by_pops g at.After-pop_types-2) c.push_ctrl.ensures.kept)
+    let at = (goal.at.returns g c).In_ok-find_operands in
+    let m = md g at in
+    let laws = g.met.R.WasmModuleResources.lawful c.args.resources.now in
+    let v = c.args.stacks.now.body in
+    let kind = c.args.kind in
+    let bt = c.args.block_type in
+    let ps = c.params-params.result.now in
+    let k = length c.args.above.now in
+    let u = body_dropped (length ps) (below g at) in
+    let popped = popped_above g at ∙ popped_dropped m ps (below g at) c.in_ok-find_operands-2.ensures.fit in
+    let whole : body_dropped c.min-taken.result v ≡ u = sym (dropped_below (length ps) k v ∙ dropped_within (k + length ps) c.min-taken.result v (omega (arith, c.min-taken.ensures, c.own_len-own.ensures, c.saturating_add.ensures))) in
+    let entered = ap (λ (x : BodyState). body_pushed_each ps (body_with_frame kind bt x)) whole ∙ entered_is m kind bt u (body_with_frame kind bt u) ps c.params-params.ensures refl in
+    let moved = opened_moved m v kind c.args.above.now bt c.requires.visit.open_frame laws c.requires.visit.valid c.requires.block u popped in
+    made_moves m _ _ c.args.stacks.now _ (body_with_block m kind bt u) moved.step moved.valid moved.kept c.open.result _ c.grown.ensures.same c.grown.ensures.told
+    (subst (λ (x : BodyState). MatchResult c.open.result (λ _. c.open.new.self.body ≡ x) (λ _. c.open.new.self ≡ c.args.stacks.now)) entered c.open.ensures)

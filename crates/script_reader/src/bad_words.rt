@@ -1,0 +1,69 @@
+//! What is wrong with a word of a bad line.
+
+use crate::features::read_feature;
+use crate::reasons::Reason;
+use script_parts::{
+    read_access, read_catch, read_field, read_handler, read_heap_type, read_index, read_ordering,
+    read_packed_index, read_reference, read_value_type,
+};
+
+/// The reason, where a word isn't read.
+fn unless(is_read: bool, reason: Reason) -> Option<Reason> {
+    if is_read { None } else { Some(reason) }
+}
+
+/// What is wrong with a word where another of this sample's kind has to stand, if something is.
+///
+/// Most samples stand for all words of their kind: `0` for an index or a count, `-1` for a constant, `i32` for a value
+/// type, and so on. The others are marks, each of which stands for itself.
+pub fn wrong_word(sample: &str, word: &str) -> Option<Reason> {
+    match sample {
+        "0" => unless(read_index(word).is_some(), number_reason(word)),
+        "-1" => Some(number_reason(word.strip_prefix('-').unwrap_or(word))),
+        "i32" => unless(read_value_type(word).is_some(), Reason::NoValueType),
+        "anyref" => unless(read_reference(word).is_some(), Reason::NoReferenceType),
+        "func" => unless(read_heap_type(word).is_some(), Reason::NoHeapType),
+        "i8" => unless(read_field(word).is_some(), Reason::NoField),
+        "catch_all:0" => unless(read_catch(word).is_some(), Reason::NoClause),
+        "switch:0" => unless(read_handler(word).is_some(), Reason::NoHandler),
+        "seq_cst" => unless(read_ordering(word).is_some(), Reason::NoOrdering),
+        "none" => unless(read_feature(word).is_some(), Reason::NoProposal),
+        "offset=0" | "align=0" | "mem=0" => wrong_access(word),
+        _ => unless(sample == word, Reason::WordOutOfPlace),
+    }
+}
+
+/// What is wrong with the first of these words that isn't of this sample's kind, if one isn't.
+pub fn wrong_in_list(sample: &str, words: &[&str]) -> Option<Reason> {
+    words.iter().find_map(|word| wrong_word(sample, word))
+}
+
+/// Why a word isn't read that has to be a number: digits alone are one that is out of range.
+fn number_reason(word: &str) -> Reason {
+    if !word.is_empty() && word.bytes().all(|byte| byte.is_ascii_digit()) {
+        Reason::NumberOutOfRange
+    } else {
+        Reason::MalformedNumber
+    }
+}
+
+/// What is wrong with the index of a type that has to be packed, if something is.
+pub fn wrong_packed_index(word: &str) -> Option<Reason> {
+    unless(read_packed_index(word).is_some(), number_reason(word))
+}
+
+/// What is wrong with a word that says a part of an access, if something is.
+fn wrong_access(word: &str) -> Option<Reason> {
+    let number = number_behind(&["offset=", "align=", "mem=", "array="], word);
+    unless(read_access(&[word], 0).is_some(), reason_behind(number))
+}
+
+/// What stands in a word behind one of these names, if it begins with one.
+pub fn number_behind<'a>(names: &[&str], word: &'a str) -> Option<&'a str> {
+    names.iter().find_map(|name| word.strip_prefix(*name))
+}
+
+/// Why a word isn't read that has to be a name with this number behind it, or has no such name.
+pub fn reason_behind(number: Option<&str>) -> Reason {
+    number.map_or(Reason::WordOutOfPlace, number_reason)
+}

@@ -103,11 +103,11 @@ enum tansyattic_kind {
      TANSYATTIC_FEATURE_FUNCTION_REFERENCES | TANSYATTIC_FEATURE_GC | TANSYATTIC_FEATURE_MUTABLE_GLOBAL | \
      TANSYATTIC_FEATURE_MEMORY64 | TANSYATTIC_FEATURE_MULTI_MEMORY | TANSYATTIC_FEATURE_EXTENDED_CONST)
 
-/* What a check comes to. What is reported is the first of those that weigh most: want of memory, then what is
- * malformed, then what is invalid, then what isn't covered. Of a valid module nothing is. */
+/* What a check comes to. What is told is the first of those that weigh most: want of memory, then what is malformed,
+ * then what is invalid, then what isn't covered. Of a valid module nothing is. */
 struct tansyattic_verdict {
     uint32_t status;              /* a tansyattic_status */
-    uint32_t kind;                /* what is reported: a tansyattic_kind */
+    uint32_t kind;                /* what is told: a tansyattic_kind */
     uint64_t index;               /* the index of the function, table, global or segment */
     uint64_t offset;              /* where, from the first byte of the module */
     size_t text_length;           /* so many bytes of the text were written */
@@ -122,7 +122,7 @@ struct tansyattic_module {
 };
 #define TANSYATTIC_NONE {NULL}
 
-/* Each call below that has a text writes that of what is reported: UTF-8 with no zero behind it, cut where there is no
+/* Each call below that has a text writes that of what is told: UTF-8 with no zero behind it, cut where there is no
  * more room (100 bytes hold most texts). It answers the status of the verdict that it writes. */
 
 /* Checks a module: what it declares, each body and each constant expression. */
@@ -158,8 +158,8 @@ static inline uint32_t tansyattic_validate_module(struct tansyattic_module *modu
                                                   size_t text_length, struct tansyattic_verdict *out);
 
 /* Checks them one after another, the constant expressions first, from the one at `*position` on, up to one that isn't
- * accepted, which it reports, and behind which it leaves `*position`. Call by call, from 0 on, it reports each, until
- * it answers TANSYATTIC_VALID: then none is left. */
+ * accepted, which it tells, and behind which it leaves `*position`. Call by call, from 0 on, it tells of each, until it
+ * answers TANSYATTIC_VALID: then none is left. */
 static inline uint32_t tansyattic_validate_next(struct tansyattic_module *module, size_t *position,
                                                 uint8_t *text, size_t text_length, struct tansyattic_verdict *out);
 

@@ -6,7 +6,7 @@ ghost use Rattle.std.specs.Prelude.{◌≡◌, None, IfOk};
 ghost use Rattle.wasmparser_validate.specs.Start.{state};
 ghost use Rattle.wasmparser_validate.specs.State.{IsStarting, IsValidBody};
 
-use module_check::{CheckError, CodeReader, LoadedModule, ModuleFeatures, OperatorLists, Verdict};
+use module_check::{CodeReader, Failure, LoadedModule, ModuleFeatures, OperatorLists, Verdict};
 use operator_names::operator_name;
 use std::alloc::Global;
 use std::io;
@@ -40,7 +40,7 @@ fn start<R: WasmModuleResources>(
     features: &WasmFeatures,
     ty: u32,
     code: &mut CodeReader<'_>,
-) -> Result<OperatorValidator, CheckError>
+) -> Result<OperatorValidator, Failure>
     ensures { IfOk result (λ v. IsStarting (R.context resources.now) (state v)) }
 {
     let buffers = OperatorValidatorAllocations::new(alloc);
@@ -55,7 +55,7 @@ fn step<R: WasmModuleResources>(
     resources: &R,
     code: &mut CodeReader<'_>,
     lists: &mut OperatorLists,
-) -> Result<(), CheckError>
+) -> Result<(), Failure>
     requires valid { IsValidBody (R.context resources.now) (state v.old) }
     requires idle { (state v.old).undone ≡ None }
     ensures valid { IsValidBody (R.context resources.now) (state v.new) }
@@ -65,7 +65,7 @@ fn step<R: WasmModuleResources>(
     let op = code.read_operator(lists)?;
     if v.control_stack_height() == 0 {
         let refusal = Error::new("operators remaining after end of function", offset);
-        return Err(CheckError::Refused(refusal));
+        return Err(Failure::Refused(refusal));
     }
     v.check(resources, offset, op)?;
     Ok(())
@@ -87,8 +87,8 @@ fn print_operators<R: WasmModuleResources>(
             break;
         }
         let offset = code.offset();
-        if let Err(error) = step(v, resources, code, &mut lists) {
-            return Ok(Verdict::of_check(Err(error)));
+        if let Err(failure) = step(v, resources, code, &mut lists) {
+            return Ok(Verdict::of_check(Err(failure)));
         }
         print_name(rt, bytes, offset)?;
         print_operands(rt, v)?;
@@ -114,7 +114,7 @@ fn print_body(rt: &HostRuntime, module: &LoadedModule<'_>, function: u32) -> io:
     let resources = module.resources();
     match start(rt.alloc(), resources, &features, ty, &mut code) {
         Ok(mut v) => print_operators(rt, &mut v, resources, module.bytes(), &mut code),
-        Err(error) => Ok(Verdict::of_check(Err(error))),
+        Err(failure) => Ok(Verdict::of_check(Err(failure))),
     }
 }
 

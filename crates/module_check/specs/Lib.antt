@@ -2,4 +2,4 @@ pub mod Begin
 pub mod Constant
 pub mod Loaded
 pub mod Safe
-pub mod Verdicts
+pub mod Told

@@ -6,13 +6,13 @@ ghost use Rattle.validate_stacks.specs.State.{IsStarting};
 ghost use Rattle.validate_body.specs.Begin.{IsBodyStart};
 ghost use Rattle.module_check.specs.Constant.{may_stand};
 ghost use Rattle.module_check.specs.Safe.{IsScopedCode};
-ghost use Rattle.module_check.specs.declared.verdict.Verdict.TheVariants.{Accepted};
+ghost use Rattle.module_check.specs.declared.report.Verdict.TheVariants.{Accepted};
 ghost use Rattle.validate_types.specs.declared.features.WasmFeatures.{WasmFeatures};
 
 use crate::buffers::BodyBuffers;
 use crate::constant::ConstantPlace;
 use crate::operators::{check_operators, define_locals};
-use crate::verdict::{CheckError, Verdict};
+use crate::report::{Failure, Verdict};
 use binary_operators::{BinaryReader, CanonicalTypes, OperatorLists};
 use validate_body::{OperatorValidator, start_body};
 use validate_resources::WasmModuleResources;
@@ -29,7 +29,7 @@ fn check_begun<R: WasmModuleResources>(
     lists: &mut OperatorLists,
     kind: BodyKind,
     constant: Option<ConstantPlace<'_>>,
-) -> Result<(), CheckError>
+) -> Result<(), Failure>
     requires { IsStarting (R.context resources.now) (state v.old) }
     ensures { OnOk result ((features : WasmFeatures)
         → IsBodyStart (R.context resources.now) features kind (state v.old)

@@ -11,7 +11,7 @@ ghost use Rattle.validate_body.specs.Start.{state};
 ghost use Rattle.validate_stacks.specs.State.{IsStarting};
 
 use crate::operators::{define_locals, read_group};
-use crate::verdict::CheckError;
+use crate::report::Failure;
 use binary_operators::{BinaryReader, CanonicalTypes, OperatorLists, ReadError, read_operator};
 use validate_body::OperatorValidator;
 use validate_resources::WasmModuleResources;
@@ -80,7 +80,7 @@ impl<'m> CodeReader<'m> {
         &mut self,
         v: &mut OperatorValidator,
         resources: &R,
-    ) -> Result<(), CheckError>
+    ) -> Result<(), Failure>
         requires { IsStarting (R.context resources.now) (state v.old) }
         ensures starting { OnOk result (IsStarting (R.context resources.now) (state v.new)) }
         ensures defined { OnOk result (DefinesRead (R.context resources.now) self.old.types self.old.reader.left

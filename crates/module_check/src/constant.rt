@@ -3,7 +3,7 @@
 ghost use Rattle.std.specs.Prelude.{◌≡◌, true, Some, OnOk};
 ghost use Rattle.module_check.specs.Constant.{may_stand};
 
-use crate::verdict::CheckError;
+use crate::report::Failure;
 use module_rules::{DeclaredModule, ModuleFeatures, Place, check_constant_operator};
 use std::alloc::Global;
 use validate_visit::Op;
@@ -28,7 +28,7 @@ pub(crate) fn check_place(
     constant: &Option<ConstantPlace<'_>>,
     op: &Op<'_>,
     offset: u64,
-) -> Result<(), CheckError>
+) -> Result<(), Failure>
     ensures { OnOk result (may_stand constant.now op.now ≡ true) }
 {
     match constant {
@@ -38,7 +38,7 @@ pub(crate) fn check_place(
 }
 
 /// Refuses an operator that isn't constant in this place, at its offset.
-fn check_constant(at: &ConstantPlace<'_>, op: &Op<'_>, offset: u64) -> Result<(), CheckError>
+fn check_constant(at: &ConstantPlace<'_>, op: &Op<'_>, offset: u64) -> Result<(), Failure>
     ensures { OnOk result (may_stand (Some at.now) op.now ≡ true) }
 {
     check_constant_operator(at.alloc, at.features, at.declared, at.place, *op, offset)?;

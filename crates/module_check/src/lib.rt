@@ -1,5 +1,5 @@
 //! The check of a binary module: what it declares is to be valid, each body of a function and each constant
-//! expression is read and handed to the validator, and what comes of it is reported.
+//! expression is read and handed to the validator, and what comes of it is told.
 #![tactic(auto)]
 
 mod body;
@@ -7,9 +7,9 @@ mod buffers;
 mod code;
 mod constant;
 mod loaded;
-mod module_verdict;
 mod operators;
-mod verdict;
+mod report;
+mod summary;
 mod whole;
 
 pub use crate::body::check_body;
@@ -17,8 +17,8 @@ pub use crate::buffers::BodyBuffers;
 pub use crate::code::CodeReader;
 pub use crate::constant::ConstantPlace;
 pub use crate::loaded::LoadedModule;
-pub use crate::module_verdict::{ModuleVerdict, NO_BODY, NOT_LOADED, OUT_OF_MEMORY, VALID};
-pub use crate::verdict::{CheckError, Item, Verdict};
+pub use crate::report::{Failure, Item, Verdict};
+pub use crate::summary::{ModuleVerdict, NO_BODY, NOT_LOADED, OUT_OF_MEMORY, VALID};
 pub use crate::whole::check_module;
 pub use binary_modules::{ConstantExpression, FunctionNames};
 pub use binary_operators::{OperatorLists, ReadError};

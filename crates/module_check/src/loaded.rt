@@ -14,7 +14,7 @@ use crate::body::check_body;
 use crate::buffers::BodyBuffers;
 use crate::code::CodeReader;
 use crate::constant::ConstantPlace;
-use crate::verdict::Verdict;
+use crate::report::Verdict;
 use binary_modules::{ConstantExpression, FunctionNames, Module, read_function_names, read_module};
 use binary_operators::{BinaryReader, CanonicalTypes, ReadError};
 use module_rules::{
@@ -49,7 +49,7 @@ impl<'a> LoadedModule<'a> {
     ghost use Rattle.module_check.specs.Loaded.{body_at, AreTypesOf};
     ghost use Rattle.module_check.specs.Loaded.{IsSafeFunction, IsSafeExpression};
     ghost use Rattle.module_check.specs.Safe.{IsScopedCode};
-    ghost use Rattle.module_check.specs.declared.verdict.Verdict.TheVariants.{Accepted, Refused};
+    ghost use Rattle.module_check.specs.declared.report.Verdict.TheVariants.{Accepted, Refused};
     ghost use Rattle.module_rules.specs.Features.{operator_features};
     ghost use Rattle.validate_types.specs.declared.error.Error.{Error};
 
@@ -143,7 +143,7 @@ impl<'a> LoadedModule<'a> {
     }
 
     /// How many bodies it has.
-    pub fn body_count(&self) -> usize
+    pub fn bodies(&self) -> usize
         ensures { result ≡ length self.now.bodies.items }
     {
         self.bodies.len()

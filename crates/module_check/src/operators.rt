@@ -9,7 +9,7 @@ ghost use Rattle.module_check.specs.Constant.{may_stand};
 ghost use Rattle.module_check.specs.Safe.{AreSafeOperators};
 
 use crate::constant::{ConstantPlace, check_place};
-use crate::verdict::CheckError;
+use crate::report::Failure;
 use binary_operators::{
     BinaryReader, CanonicalTypes, Fault, OperatorLists, ReadError, read_operator,
     read_operator_into, read_value_type,
@@ -40,7 +40,7 @@ fn define_group<R: WasmModuleResources>(
     resources: &R,
     reader: &mut BinaryReader<'_>,
     canonical: CanonicalTypes<'_>,
-) -> Result<(), CheckError>
+) -> Result<(), Failure>
     requires { IsStarting (R.context resources.now) (state v.old) }
     ensures starting { OnOk result (IsStarting (R.context resources.now) (state v.new)) }
     ensures defined { OnOk result (DefinesGroup (R.context resources.now) canonical.entry reader.old.left
@@ -59,7 +59,7 @@ pub(crate) fn define_locals<R: WasmModuleResources>(
     resources: &R,
     reader: &mut BinaryReader<'_>,
     canonical: CanonicalTypes<'_>,
-) -> Result<(), CheckError>
+) -> Result<(), Failure>
     requires { IsStarting (R.context resources.now) (state v.old) }
     ensures starting { OnOk result (IsStarting (R.context resources.now) (state v.new)) }
     ensures defined { OnOk result (DefinesRead (R.context resources.now) canonical.entry reader.old.left
@@ -82,7 +82,7 @@ pub(crate) fn check_operators<R: WasmModuleResources>(
     canonical: CanonicalTypes<'_>,
     lists: &mut OperatorLists,
     constant: Option<ConstantPlace<'_>>,
-) -> Result<(), CheckError>
+) -> Result<(), Failure>
     requires { IsStarting (R.context resources.now) (state v.old) }
     ensures { OnOk result (AreSafeOperators (R.context resources.now) canonical.entry (may_stand constant.entry)
         (state v.old) reader.old.left) }
@@ -90,7 +90,7 @@ pub(crate) fn check_operators<R: WasmModuleResources>(
     for _ in 0..=reader.bytes_left() {
         let offset = reader.offset();
         if reader.is_at_end() {
-            return Err(CheckError::refused(
+            return Err(Failure::refused(
                 "control frames remain at end of function body or expression",
                 offset,
             ));
@@ -103,7 +103,7 @@ pub(crate) fn check_operators<R: WasmModuleResources>(
             return check_end(reader, canonical, lists);
         }
     }
-    Err(CheckError::Unread(ReadError::malformed(Fault::UnexpectedEnd, reader.offset())))
+    Err(Failure::Unread(ReadError::malformed(Fault::UnexpectedEnd, reader.offset())))
 }
 
 /// Whether nothing is left behind the operator that closes a body. It refuses an operator that is, or what can't be
@@ -112,7 +112,7 @@ fn check_end(
     reader: &mut BinaryReader<'_>,
     canonical: CanonicalTypes<'_>,
     lists: &mut OperatorLists,
-) -> Result<(), CheckError>
+) -> Result<(), Failure>
     ensures { OnOk result (reader.old.left ≡ []) }
 {
     if reader.is_at_end() {
@@ -120,5 +120,5 @@ fn check_end(
     }
     let offset = reader.offset();
     let _op = read_operator(reader, canonical, lists)?;
-    Err(CheckError::refused("operators remaining after end of function", offset))
+    Err(Failure::refused("operators remaining after end of function", offset))
 }

@@ -2,12 +2,12 @@
 
 ghost use Rattle.std.specs.Prelude.{◌≡◌, length};
 ghost use Rattle.module_check.specs.Loaded.{AreSafeExpressions, IsSafeFunction, IsValid};
-ghost use Rattle.module_check.specs.Verdicts.{IsConsistent};
+ghost use Rattle.module_check.specs.Told.{IsTold};
 
 use crate::buffers::BodyBuffers;
 use crate::loaded::LoadedModule;
-use crate::module_verdict::ModuleVerdict;
-use crate::verdict::Item;
+use crate::report::Item;
+use crate::summary::ModuleVerdict;
 
 /// Checks each constant expression.
 fn check_expressions(
@@ -16,8 +16,8 @@ fn check_expressions(
     text: &mut [u8],
     out: &mut ModuleVerdict,
 )
-    requires { IsConsistent (length text.old) out.old }
-    ensures consistent { IsConsistent (length text.new) out.new }
+    requires { IsTold (length text.old) out.old }
+    ensures told { IsTold (length text.new) out.new }
     ensures accepted { out.new.status ≡ 0 → (out.old.status ≡ 0)
         × AreSafeExpressions module.now (length module.now.expressions.items) }
 {
@@ -35,8 +35,8 @@ fn check_body(
     text: &mut [u8],
     out: &mut ModuleVerdict,
 )
-    requires { IsConsistent (length text.old) out.old }
-    ensures consistent { IsConsistent (length text.new) out.new }
+    requires { IsTold (length text.old) out.old }
+    ensures told { IsTold (length text.new) out.new }
     ensures accepted { out.new.status ≡ 0 → (out.old.status ≡ 0)
         × IsSafeFunction module.now function }
 {
@@ -55,12 +55,12 @@ pub fn check_module(
     text: &mut [u8],
     out: &mut ModuleVerdict,
 )
-    requires { IsConsistent (length text.old) out.old }
-    ensures consistent { IsConsistent (length text.new) out.new }
+    requires { IsTold (length text.old) out.old }
+    ensures told { IsTold (length text.new) out.new }
     ensures accepted { out.new.status ≡ 0 → IsValid module.now }
 {
     check_expressions(module, buffers, text, out);
-    for index in 0..module.body_count() {
+    for index in 0..module.bodies() {
         let function = module.function_of(index);
         check_body(module, function, buffers, text, out);
     }

@@ -4,7 +4,7 @@ use Rattle.std.specs.Int.RustNames.{bit_and}
 use Rattle.std.specs.Prelude.{Result, Ok, Err, IsOk, IfOk}
 use Rattle.module_check.specs.Loaded.{bytes_of, features_of, IsValid}
 use Rattle.module_check.specs.declared.loaded.LoadedModule.{LoadedModule}
-use Rattle.module_check.specs.declared.verdict.Verdict.{Verdict}
+use Rattle.module_check.specs.declared.report.Verdict.{Verdict}
 use Rattle.module_rules.specs.declared.features.ModuleFeatures.{ModuleFeatures}
 use Rattle.module_handles.specs.Calls.{all_features, IsLoadedFrom, IsValidModuleOf}
 

@@ -2,8 +2,8 @@
 
 ghost use Rattle.std.specs.Prelude.{◌≡◌, ◌≢◌, ◌<◌, ◌-◌, length, true, false, None, Some, IsOk, IfOk, IfErr, IfSome};
 ghost use Rattle.module_check.specs.Loaded.{IsSafeFunction, IsValid};
-ghost use Rattle.module_check.specs.Verdicts.{IsConsistent};
-ghost use Rattle.module_check.specs.declared.verdict.Verdict.TheVariants.{Accepted};
+ghost use Rattle.module_check.specs.Told.{IsTold};
+ghost use Rattle.module_check.specs.declared.report.Verdict.TheVariants.{Accepted};
 ghost use Rattle.module_handles.specs.Calls.{OnModule, OfModule, HaveTheSame, IsLoadedFrom, IsValidModuleOf};
 ghost use Rattle.module_handles.specs.Items.{AreSafeBetween, AreSafeFrom};
 
@@ -36,8 +36,8 @@ fn read<'a>(alloc: Global, bytes: &'a [u8], features: u32) -> Result<LoadedModul
 
 /// Checks each body and each constant expression of a module.
 fn check_all(alloc: Global, module: &LoadedModule<'_>, text: &mut [u8], out: &mut ModuleVerdict)
-    requires { IsConsistent (length text.old) out.old }
-    ensures consistent { IsConsistent (length text.new) out.new }
+    requires { IsTold (length text.old) out.old }
+    ensures told { IsTold (length text.new) out.new }
     ensures valid { out.new.status ≡ 0 → IsValid «module».now }
 {
     check_module(module, &mut BodyBuffers::new(alloc), text, out);
@@ -50,9 +50,9 @@ fn check_read(
     text: &mut [u8],
     out: &mut ModuleVerdict,
 )
-    requires consistent { IsConsistent (length text.old) out.old }
+    requires told { IsTold (length text.old) out.old }
     requires refused { IfErr read.now (λ verdict. verdict ≢ Accepted) }
-    ensures consistent { IsConsistent (length text.new) out.new }
+    ensures told { IsTold (length text.new) out.new }
     ensures read { out.new.status ≡ 0 → IsOk read.now }
     ensures valid { out.new.status ≡ 0 → IfOk read.now IsValid }
 {
@@ -72,7 +72,7 @@ pub fn validate(
     out: &mut ModuleVerdict,
 ) -> u32
     ensures status { result ≡ out.new.status }
-    ensures consistent { IsConsistent (length text.new) out.new }
+    ensures told { IsTold (length text.new) out.new }
     ensures valid { result ≡ 0 → IsValidModuleOf bytes.now features }
 {
     *out = ModuleVerdict::new();
@@ -113,7 +113,7 @@ pub fn load(
     out: &mut ModuleVerdict,
 ) -> u32
     ensures status { result ≡ out.new.status }
-    ensures consistent { IsConsistent (length text.new) out.new }
+    ensures told { IsTold (length text.new) out.new }
     ensures loaded { result ≡ 0 → OnModule handle.new.held (IsLoadedFrom bytes.now features) }
     ensures unchanged { result ≢ 0 → handle.new.held ≡ handle.old.held }
 {
@@ -121,7 +121,7 @@ pub fn load(
     match read(alloc, bytes, features) {
         Ok(module) => {
             if !keep_new(alloc, module, handle) {
-                out.report(OUT_OF_MEMORY, None, 0, "out of memory", text);
+                out.tell(OUT_OF_MEMORY, None, 0, "out of memory", text);
             }
         }
         Err(verdict) => out.note(&verdict, None, text),
@@ -178,7 +178,7 @@ pub fn share(alloc: Global, handle: &mut ModuleHandle, other: &mut ModuleHandle)
 
 /// The index behind that of the last function of a module.
 fn function_count(module: &LoadedModule<'_>) -> u32 {
-    module.function_of(module.body_count())
+    module.function_of(module.bodies())
 }
 
 /// The index behind that of the last function, or 0 where there is no module.
@@ -205,21 +205,21 @@ pub fn imported_functions(alloc: Global, handle: &mut ModuleHandle) -> u32
     count
 }
 
-/// Takes the module of a handle for a call, and begins its verdict, which reports where there is none.
+/// Takes the module of a handle for a call, and begins its verdict, which tells where there is none.
 fn begin(
     alloc: Global,
     handle: &mut ModuleHandle,
     text: &mut [u8],
     out: &mut ModuleVerdict,
 ) -> Option<Box<SharedModule>>
-    ensures consistent { IsConsistent (length text.new) out.new }
+    ensures told { IsTold (length text.new) out.new }
     ensures some { IfSome result (λ b. (handle.old.held ≡ Some b.value) × (out.new.status ≡ 0)) }
     ensures none { result ≡ None → (handle.old.held ≡ None) × (handle.new.held ≡ None) × (out.new.status ≢ 0) }
 {
     *out = ModuleVerdict::new();
     let shared = handle.take(alloc);
     if shared.is_none() {
-        out.report(NOT_LOADED, None, 0, "there is no module", text);
+        out.tell(NOT_LOADED, None, 0, "there is no module", text);
     }
     shared
 }
@@ -232,15 +232,15 @@ fn check_one(
     text: &mut [u8],
     out: &mut ModuleVerdict,
 )
-    requires { IsConsistent (length text.old) out.old }
-    ensures consistent { IsConsistent (length text.new) out.new }
+    requires { IsTold (length text.old) out.old }
+    ensures told { IsTold (length text.new) out.new }
     ensures safe { out.new.status ≡ 0 → IsSafeFunction «module».now function }
 {
     if module.body_of(function).is_some() {
         check_function(module, function, &mut BodyBuffers::new(alloc), text, out);
     } else {
         let item = Some(Item::Function(function));
-        out.report(
+        out.tell(
             NO_BODY,
             item,
             0,
@@ -259,7 +259,7 @@ pub fn validate_function(
     out: &mut ModuleVerdict,
 ) -> u32
     ensures status { result ≡ out.new.status }
-    ensures consistent { IsConsistent (length text.new) out.new }
+    ensures told { IsTold (length text.new) out.new }
     ensures safe { result ≡ 0 → OnModule handle.old.held (λ m. IsSafeFunction m function) }
     ensures kept { handle.new.held ≡ handle.old.held }
 {
@@ -278,7 +278,7 @@ pub fn validate_module(
     out: &mut ModuleVerdict,
 ) -> u32
     ensures status { result ≡ out.new.status }
-    ensures consistent { IsConsistent (length text.new) out.new }
+    ensures told { IsTold (length text.new) out.new }
     ensures valid { result ≡ 0 → OnModule handle.old.held IsValid }
     ensures kept { handle.new.held ≡ handle.old.held }
 {
@@ -290,7 +290,7 @@ pub fn validate_module(
 }
 
 /// Checks them one after another, the constant expressions first, from the one at the position on, up to one that isn't
-/// accepted: that is reported, and the position is behind it. The status is 0 where there is none.
+/// accepted: that is told, and the position is behind it. The status is 0 where there is none.
 pub fn validate_next(
     alloc: Global,
     handle: &mut ModuleHandle,
@@ -299,7 +299,7 @@ pub fn validate_next(
     out: &mut ModuleVerdict,
 ) -> u32
     ensures status { result ≡ out.new.status }
-    ensures consistent { IsConsistent (length text.new) out.new }
+    ensures told { IsTold (length text.new) out.new }
     ensures rest { result ≡ 0 → OnModule handle.old.held (λ m. AreSafeFrom m position.old) }
     ensures before { result ≢ 0 → OfModule handle.old.held (λ m.
         AreSafeBetween m position.old (position.new - 1)) }

@@ -2,7 +2,7 @@
 
 ghost use Rattle.std.specs.Prelude.{◌≡◌, ◌≢◌, ◌≤◌, ◌<◌, ◌-◌, length};
 ghost use Rattle.module_check.specs.Loaded.{IsSafeFunction};
-ghost use Rattle.module_check.specs.Verdicts.{IsConsistent};
+ghost use Rattle.module_check.specs.Told.{IsTold};
 ghost use Rattle.module_handles.specs.Items.{IsSafeAt, AreSafeBetween, AreSafeFrom, item_count};
 
 use module_check::{BodyBuffers, Item, LoadedModule, ModuleVerdict, VALID};
@@ -15,8 +15,8 @@ pub(crate) fn check_function(
     text: &mut [u8],
     out: &mut ModuleVerdict,
 )
-    requires { IsConsistent (length text.old) out.old }
-    ensures consistent { IsConsistent (length text.new) out.new }
+    requires { IsTold (length text.old) out.old }
+    ensures told { IsTold (length text.new) out.new }
     ensures accepted { out.new.status ≡ 0 → (out.old.status ≡ 0)
         × IsSafeFunction module.now function }
 {
@@ -28,10 +28,7 @@ pub(crate) fn check_function(
 fn count_of(module: &LoadedModule<'_>) -> usize
     ensures { item_count module.now ≤ result }
 {
-    module
-        .expressions()
-        .len()
-        .saturating_add(module.body_count())
+    module.expressions().len().saturating_add(module.bodies())
 }
 
 /// Checks what stands at this place, the constant expressions first, and notes what it comes to.
@@ -42,8 +39,8 @@ fn check_at(
     text: &mut [u8],
     out: &mut ModuleVerdict,
 )
-    requires { IsConsistent (length text.old) out.old }
-    ensures consistent { IsConsistent (length text.new) out.new }
+    requires { IsTold (length text.old) out.old }
+    ensures told { IsTold (length text.new) out.new }
     ensures accepted { out.new.status ≡ 0 → (out.old.status ≡ 0)
         × IsSafeAt module.now place }
 {
@@ -68,9 +65,9 @@ pub(crate) fn check_from(
     text: &mut [u8],
     out: &mut ModuleVerdict,
 )
-    requires consistent { IsConsistent (length text.old) out.old }
+    requires told { IsTold (length text.old) out.old }
     requires accepted { out.old.status ≡ 0 }
-    ensures consistent { IsConsistent (length text.new) out.new }
+    ensures told { IsTold (length text.new) out.new }
     ensures rest { out.new.status ≡ 0 → AreSafeFrom module.now position.old }
     ensures before { out.new.status ≢ 0 → AreSafeBetween module.now position.old (position.new - 1) }
     ensures further { out.new.status ≢ 0 → position.old < position.new }

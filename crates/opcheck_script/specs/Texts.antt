@@ -1,21 +1,20 @@
 -- The texts that a run prints (the crate's own).
 use Rattle.std.specs.Prelude.{◌++◌, ℕ, List, [], codes, decimal}
-use Rattle.script_reader.specs.Reasons.{reason_text}
 use Rattle.opcheck_script.specs.declared.failure.BadScript.{BadScript}
 use Rattle.opcheck_script.specs.declared.failure.BadScript.TheVariants.{Input, Line, Order, Module}
 use Rattle.opcheck_script.specs.declared.failure.Failure.{Failure}
 use Rattle.opcheck_script.specs.declared.failure.Failure.TheVariants.{BadScript as OfBadScript, OutOfMemory}
 use Rattle.opcheck_script.specs.declared.failure.Failure.TheVariants.{Output}
-use Rattle.opcheck_script.specs.declared.verdict.ScriptVerdict.{ScriptVerdict}
-use Rattle.opcheck_script.specs.declared.verdict.ScriptVerdict.TheVariants.{Accepted, Refused, Open}
+use Rattle.opcheck_script.specs.declared.verdict.Verdict.{Verdict}
+use Rattle.opcheck_script.specs.declared.verdict.Verdict.TheVariants.{Accepted, Refused, Open}
 
 abbrev pub cause_text : BadScript → List ℕ
 cause_text Input = codes "input"
-cause_text (Line number reason) = codes "line " ++ decimal number ++ codes ": " ++ reason_text reason
+cause_text (Line number) = codes "line " ++ decimal number
 cause_text Order = codes "order"
 cause_text Module = codes "module"
 
-abbrev pub verdict_text : ScriptVerdict → List ℕ
+abbrev pub verdict_text : Verdict → List ℕ
 verdict_text Accepted = codes "accepted"
 verdict_text Refused = codes "refused"
 verdict_text Open = codes "open"

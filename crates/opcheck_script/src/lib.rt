@@ -18,4 +18,4 @@ pub use print::print_report;
 pub use program::run;
 pub use report::{Answers, Report};
 pub use script::module_lists;
-pub use verdict::ScriptVerdict;
+pub use verdict::Verdict;

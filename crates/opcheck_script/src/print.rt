@@ -9,14 +9,14 @@ ghost use Rattle.opcheck_script.specs.Texts.{failure_text};
 
 use crate::failure::Failure;
 use crate::report::{After, Answers, Report};
-use crate::verdict::ScriptVerdict;
+use crate::verdict::Verdict;
 use std::io;
 use std::io::Write;
 use validate_types::{Error, ValType};
 
 /// Prints a line for each operator that is accepted or attempted, the refusal that ended the run if
 /// there is one, and the verdict. A report that ends in want of memory has no verdict.
-pub fn print_report<W: Write>(out: &mut W, report: &Report) -> Result<ScriptVerdict, Failure>
+pub fn print_report<W: Write>(out: &mut W, report: &Report) -> Result<Verdict, Failure>
     ensures verdict { IfOk result (λ verdict. verdict ≡ verdict_of report.now.outcome) }
     ensures memory { IfErr report.now.outcome (λ e. e.wants_memory ≡ true → IsErr result) }
     ensures cause { IfErr result (λ failure. (failure ≡ Failure.Output)
@@ -27,12 +27,12 @@ pub fn print_report<W: Write>(out: &mut W, report: &Report) -> Result<ScriptVerd
         Answers::Each(answers) => print_answers(out, answers)?,
     }
     let verdict = match &report.outcome {
-        Ok(true) => ScriptVerdict::Accepted,
-        Ok(false) => ScriptVerdict::Open,
+        Ok(true) => Verdict::Accepted,
+        Ok(false) => Verdict::Open,
         Err(refusal) if refusal.is_out_of_memory() => return Err(Failure::OutOfMemory),
         Err(refusal) => {
             print_refusal(out, refusal)?;
-            ScriptVerdict::Refused
+            Verdict::Refused
         }
     };
     printed(writeln!(out, "{verdict}"))?;

@@ -8,7 +8,7 @@ use crate::input::read_input;
 use crate::print::{print_failure, print_report};
 use crate::report::Report;
 use crate::script::check_script;
-use crate::verdict::{ScriptVerdict, status_of};
+use crate::verdict::{Verdict, status_of};
 use script_reader::read_script;
 use std::alloc::Global;
 use std::io::{BufWriter, Read, Write};
@@ -39,7 +39,7 @@ fn run_script<R: Read, O: Write + Drop>(
     alloc: Global,
     reader: &mut R,
     out: O,
-) -> Result<ScriptVerdict, Failure>
+) -> Result<Verdict, Failure>
     ensures text { IfSome (R.remaining reader.old) (λ bytes. ¬ (IsUtf8 bytes) → IsErr result) }
 {
     // The buffer is taken first, so that printing takes no memory.

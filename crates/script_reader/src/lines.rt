@@ -13,14 +13,14 @@ use validate_visit::BodyKind;
 pub fn read_module_line(alloc: Global, words: &[&str]) -> Result<Line, LineError> {
     match words.split_first() {
         Some((&"type", rest)) => Ok(Line::SubType(read_type(alloc, rest)?)),
-        Some((keyword, rest)) => read_keyword(keyword, rest).ok_or(LineError::Bad),
-        None => Err(LineError::Bad),
+        _ => read_flat_line(words).ok_or(LineError::Bad),
     }
 }
 
-/// Reads a line of the module that takes no memory, from this keyword and the words behind it.
-pub fn read_keyword(keyword: &str, rest: &[&str]) -> Option<Line> {
-    match keyword {
+/// Reads the words of a line of the module that takes no memory.
+fn read_flat_line(words: &[&str]) -> Option<Line> {
+    let (keyword, rest) = words.split_first()?;
+    match *keyword {
         "memory" => Some(Line::Memory(read_memory_type(rest)?)),
         "show" if rest.is_empty() => Some(Line::Show),
         "fn" | "table" | "global" => read_marked(keyword, rest),

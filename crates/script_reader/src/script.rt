@@ -1,11 +1,10 @@
 //! Reading a whole script.
 
-use crate::failure::ScriptError;
 use crate::lines::{read_locals, read_module_line};
 use crate::operators::read_flat_operator;
-use crate::reasons::Reason;
 use script_parts::{
-    Draft, LineError, ListedOperator, Operators, Script, has_list, read_list, read_words,
+    Draft, LineError, ListedOperator, Operators, Script, ScriptError, has_list, read_list,
+    read_words,
 };
 use std::alloc::Global;
 use validate_visit::{ControlOp, Op};
@@ -24,14 +23,11 @@ pub fn read_script<'a>(
     for line in text.lines() {
         if !line.starts_with('#') {
             read_words(&mut words, line).map_err(|_| ScriptError::OutOfMemory)?;
-            add_words(alloc, listed, &mut draft, &words, number).map_err(
-                |error| ScriptError::at_line(error, number, &words),
-            )?;
+            add_words(alloc, listed, &mut draft, &words, number).map_err(|error| error.at(number))?;
         }
         number = number.saturating_add(1);
     }
-    let no_body = ScriptError::BadLine(number, Reason::NoBody);
-    let mut script = draft.finish().ok_or(no_body)?;
+    let mut script = draft.finish().ok_or(ScriptError::BadLine(number))?;
     lend(listed, &mut script.operators);
     Ok(script)
 }

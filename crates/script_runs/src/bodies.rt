@@ -8,8 +8,8 @@ ghost use Rattle.validate_stacks.specs.Visits.{MayVisit};
 use crate::left::{Left, check_list};
 use crate::places::add_operands;
 use crate::printed::{add_printed, begun};
-use crate::snapshot::Snapshot;
-use crate::tally::Tally;
+use crate::report::Report;
+use crate::seen::Seen;
 use crate::undone::run_lines;
 use odd_lookups::{Check, PairedLists, WantingLists};
 use opcheck_script::module_lists;
@@ -75,7 +75,7 @@ fn attempt<R: WasmModuleResources>(
 /// refused one all frames and operands are those before it.
 fn attempt_each<R: WasmModuleResources>(
     alloc: Global,
-    tally: &mut Tally,
+    report: &mut Report,
     v: &mut OperatorValidator,
     ops: &[(Op<'_>, u64)],
     resources: &R,
@@ -88,10 +88,10 @@ fn attempt_each<R: WasmModuleResources>(
         if v.control_stack_height() == 0 {
             return Ok(());
         }
-        let before = Snapshot::of(alloc, v)?;
+        let before = Seen::of(alloc, v)?;
         if attempt(v, resources, offset, op).is_err() {
-            if Snapshot::of(alloc, v)? != before {
-                tally.refuse(script, "has an attempt that is refused and leaves a trace")?;
+            if Seen::of(alloc, v)? != before {
+                report.refuse(script, "has an attempt that is refused and leaves a trace")?;
             }
             return Ok(());
         }
@@ -102,7 +102,7 @@ fn attempt_each<R: WasmModuleResources>(
 /// Does this with the validator of a body that has begun, where it is lent.
 fn run_lent<R: WasmModuleResources>(
     alloc: Global,
-    tally: &mut Tally,
+    report: &mut Report,
     v: &mut OperatorValidator,
     ops: &[(Op<'_>, u64)],
     resources: &R,
@@ -111,10 +111,10 @@ fn run_lent<R: WasmModuleResources>(
     requires { IsStarting (R.context resources.now) (state v.old) }
 {
     match work.task {
-        Task::Attempts => attempt_each(alloc, tally, v, ops, resources, work.script),
-        Task::List(left) => check_list(alloc, tally, v, ops, resources, work.script, left),
-        Task::Lines(lines) => run_lines(alloc, tally, v, resources, lines),
-        Task::Place(place) => add_operands(alloc, tally, v, ops, resources, (work.script, place)),
+        Task::Attempts => attempt_each(alloc, report, v, ops, resources, work.script),
+        Task::List(left) => check_list(alloc, report, v, ops, resources, work.script, left),
+        Task::Lines(lines) => run_lines(alloc, report, v, resources, lines),
+        Task::Place(place) => add_operands(alloc, report, v, ops, resources, (work.script, place)),
         Task::Printed | Task::Places => Ok(()),
     }
 }
@@ -122,7 +122,7 @@ fn run_lent<R: WasmModuleResources>(
 /// Begins the body of a script over this lookup, and does this with it, where it is lent.
 fn run_begun<R: WasmModuleResources>(
     alloc: Global,
-    tally: &mut Tally,
+    report: &mut Report,
     resources: &R,
     features: &WasmFeatures,
     begin: (BodyLine, &[LocalGroup]),
@@ -130,29 +130,29 @@ fn run_begun<R: WasmModuleResources>(
     work: Work<'_>,
 ) -> Result<(), AllocError> {
     match begun(alloc, resources, features, begin) {
-        Ok(mut v) => run_lent(alloc, tally, &mut v, ops, resources, work),
-        Err(_) => cannot_begin(tally, work.script, work.task),
+        Ok(mut v) => run_lent(alloc, report, &mut v, ops, resources, work),
+        Err(_) => cannot_begin(report, work.script, work.task),
     }
 }
 
 /// Prints the types of the operands before each operator of a script, and behind the last.
 fn add_places<R: WasmModuleResources>(
     alloc: Global,
-    tally: &mut Tally,
+    report: &mut Report,
     resources: &R,
     features: &WasmFeatures,
     begin: (BodyLine, &[LocalGroup]),
     ops: &[(Op<'_>, u64)],
     work: Work<'_>,
 ) -> Result<(), AllocError> {
-    tally.begin_printed()?;
+    report.begin_printed()?;
     for place in 0..ops.len().saturating_add(1) {
         let work = Work {
             script: work.script,
             shows: work.shows,
             task: Task::Place(place),
         };
-        run_begun(alloc, tally, resources, features, begin, ops, work)?;
+        run_begun(alloc, report, resources, features, begin, ops, work)?;
     }
     Ok(())
 }
@@ -160,7 +160,7 @@ fn add_places<R: WasmModuleResources>(
 /// Does this with the body of a script over this lookup.
 fn run_over<R: WasmModuleResources>(
     alloc: Global,
-    tally: &mut Tally,
+    report: &mut Report,
     resources: &R,
     features: &WasmFeatures,
     begin: (BodyLine, &[LocalGroup]),
@@ -171,17 +171,17 @@ fn run_over<R: WasmModuleResources>(
     match work.task {
         Task::Printed => {
             let shown = (work.script, work.shows);
-            add_printed(alloc, tally, resources, features, begin, operators, shown)
+            add_printed(alloc, report, resources, features, begin, operators, shown)
         }
-        Task::Places => add_places(alloc, tally, resources, features, begin, ops, work),
-        _ => run_begun(alloc, tally, resources, features, begin, ops, work),
+        Task::Places => add_places(alloc, report, resources, features, begin, ops, work),
+        _ => run_begun(alloc, report, resources, features, begin, ops, work),
     }
 }
 
 /// Does this with the body of a script over this lookup, which is made of the lists of its module.
 fn run_in(
     alloc: Global,
-    tally: &mut Tally,
+    report: &mut Report,
     (lists, lookup): (ModuleLists, Lookup),
     features: &WasmFeatures,
     begin: (BodyLine, &[LocalGroup]),
@@ -189,14 +189,14 @@ fn run_in(
     work: Work<'_>,
 ) -> Result<(), AllocError> {
     match lookup {
-        Lookup::Own => run_over(alloc, tally, &lists, features, begin, operators, work),
+        Lookup::Own => run_over(alloc, report, &lists, features, begin, operators, work),
         Lookup::Paired => {
             let paired = PairedLists(lists);
-            run_over(alloc, tally, &paired, features, begin, operators, work)
+            run_over(alloc, report, &paired, features, begin, operators, work)
         }
         Lookup::Wanting(check) => {
             let wanting = WantingLists { lists, check };
-            run_over(alloc, tally, &wanting, features, begin, operators, work)
+            run_over(alloc, report, &wanting, features, begin, operators, work)
         }
     }
 }
@@ -204,14 +204,14 @@ fn run_in(
 /// Does this with the body of a script whose module and body can be made, over this lookup.
 pub fn run_body(
     alloc: Global,
-    tally: &mut Tally,
+    report: &mut Report,
     script: &str,
     lookup: Lookup,
     task: Task<'_>,
 ) -> Result<(), AllocError> {
     let mut listed = Vec::new(alloc);
     let Ok(read) = read_script(alloc, &mut listed, script) else {
-        return cannot_begin(tally, script, task);
+        return cannot_begin(report, script, task);
     };
     let Script {
         features,
@@ -222,7 +222,7 @@ pub fn run_body(
         operators,
     } = read;
     let Ok(lists) = module_lists(alloc, declarations) else {
-        return cannot_begin(tally, script, task);
+        return cannot_begin(report, script, task);
     };
     let begin = (body, locals.as_slice());
     let work = Work {
@@ -232,7 +232,7 @@ pub fn run_body(
     };
     run_in(
         alloc,
-        tally,
+        report,
         (lists, lookup),
         &features,
         begin,
@@ -242,9 +242,9 @@ pub fn run_body(
 }
 
 /// A script whose module or body can't be made: of those alone that are run in other ways too.
-fn cannot_begin(tally: &mut Tally, script: &str, task: Task<'_>) -> Result<(), AllocError> {
+fn cannot_begin(report: &mut Report, script: &str, task: Task<'_>) -> Result<(), AllocError> {
     match task {
         Task::Attempts => Ok(()),
-        _ => tally.refuse(script, "has no body to begin"),
+        _ => report.refuse(script, "has no body to begin"),
     }
 }

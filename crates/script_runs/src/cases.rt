@@ -23,7 +23,7 @@
 use crate::bodies::Lookup;
 use crate::flags::{all_but, is_flag};
 use crate::left::run_left;
-use crate::tally::Tally;
+use crate::report::Report;
 use crate::transcript::{run_bad_lines, run_each, run_transcript};
 use crate::undone::run_undone;
 use odd_lookups::Check;
@@ -66,12 +66,12 @@ impl<'a> Cases<'a> {
     fn begin_without(
         &mut self,
         alloc: Global,
-        tally: &mut Tally,
+        report: &mut Report,
         flag: &str,
         lines: &str,
     ) -> Result<(), AllocError> {
         if !is_flag(flag) {
-            return tally.refuse(flag, "is no flag");
+            return report.refuse(flag, "is no flag");
         }
         let features = all_but(alloc, flag)?;
         self.begin(&features, lines)
@@ -81,23 +81,25 @@ impl<'a> Cases<'a> {
     fn run(
         &self,
         alloc: Global,
-        tally: &mut Tally,
+        report: &mut Report,
         (kind, words): (&str, &str),
         text: &str,
     ) -> Result<(), AllocError> {
         let head = &self.head;
         if let Some(lookup) = lookup_of(kind, words) {
-            return run_undone(alloc, tally, head, text, lookup);
+            return run_undone(alloc, report, head, text, lookup);
         }
         match (kind, words) {
-            ("scripts", "" | "with custom_descriptors") => run_transcript(alloc, tally, head, text),
+            ("scripts", "" | "with custom_descriptors") => run_transcript(
+                alloc, report, head, text,
+            ),
             ("each", "" | "with custom_descriptors") => {
-                run_each(alloc, tally, head, (self.rows, text))
+                run_each(alloc, report, head, (self.rows, text))
             }
-            ("bad", "") => run_bad_lines(alloc, tally, head, text),
-            ("given", "") => run_left(alloc, tally, head, (text, false)),
-            ("left", "") => run_left(alloc, tally, head, (text, true)),
-            _ => tally.refuse(kind, "begins no section"),
+            ("bad", "") => run_bad_lines(alloc, report, head, text),
+            ("given", "") => run_left(alloc, report, head, (text, false)),
+            ("left", "") => run_left(alloc, report, head, (text, true)),
+            _ => report.refuse(kind, "begins no section"),
         }
     }
 
@@ -105,25 +107,25 @@ impl<'a> Cases<'a> {
     fn read(
         &mut self,
         alloc: Global,
-        tally: &mut Tally,
+        report: &mut Report,
         (kind, words): (&str, &str),
         text: &'a str,
     ) -> Result<(), AllocError> {
         match kind {
             "#" => Ok(()),
             "head" => self.begin("", text),
-            "without" => self.begin_without(alloc, tally, words, text),
+            "without" => self.begin_without(alloc, report, words, text),
             "rows" => {
                 self.rows = text;
                 Ok(())
             }
-            _ => self.run(alloc, tally, (kind, words), text),
+            _ => self.run(alloc, report, (kind, words), text),
         }
     }
 }
 
 /// Runs the scripts of a file of cases.
-pub fn run_cases(alloc: Global, tally: &mut Tally, text: &str) -> Result<(), AllocError> {
+pub fn run_cases(alloc: Global, report: &mut Report, text: &str) -> Result<(), AllocError> {
     let mut cases = Cases {
         head: String::new(alloc),
         rows: "",
@@ -133,7 +135,7 @@ pub fn run_cases(alloc: Global, tally: &mut Tally, text: &str) -> Result<(), All
     for section in text.split("\n@") {
         let (title, body) = section.split_once('\n').unwrap_or((section, ""));
         let title = title.split_once(' ').unwrap_or((title, ""));
-        cases.read(alloc, tally, title, body)?;
+        cases.read(alloc, report, title, body)?;
     }
     Ok(())
 }

@@ -9,8 +9,8 @@ ghost use Rattle.validate_visit.specs.Immediates.{is_module_op};
 ghost use Rattle.validate_visit.specs.Order.{is_well_ordered_list};
 
 use crate::bodies::{Lookup, Task, run_body};
-use crate::snapshot::add_operand_types;
-use crate::tally::Tally;
+use crate::report::Report;
+use crate::seen::add_operand_types;
 use crate::transcript::parts_of;
 use std::alloc::{AllocError, Global};
 use validate_body::{OperatorValidator, check_ops};
@@ -31,21 +31,21 @@ pub struct Left<'a> {
 
 /// Compares the place of a refusal, and its words where they are looked at.
 fn compare_refusal(
-    tally: &mut Tally,
+    report: &mut Report,
     script: &str,
     (place, wanted): (usize, usize),
     (found, text): (&str, Option<&str>),
 ) -> Result<(), AllocError> {
-    tally.compare_number(script, "accepts", place, wanted)?;
+    report.compare_number(script, "accepts", place, wanted)?;
     match text {
-        Some(text) => tally.compare(script, "is refused", found, text),
+        Some(text) => report.compare(script, "is refused", found, text),
         None => Ok(()),
     }
 }
 
 /// Compares what the check of so many operators answers.
 fn compare_answer(
-    tally: &mut Tally,
+    report: &mut Report,
     script: &str,
     answer: Result<bool, (usize, Error)>,
     count: usize,
@@ -57,10 +57,10 @@ fn compare_answer(
         count
     };
     match answer {
-        Ok(_) => tally.compare_number(script, "accepts", count, wanted),
+        Ok(_) => report.compare_number(script, "accepts", count, wanted),
         Err((place, refusal)) => {
             compare_refusal(
-                tally,
+                report,
                 script,
                 (place, wanted),
                 (refusal.message(), left.text),
@@ -87,20 +87,20 @@ fn answer_of<R: WasmModuleResources>(
 /// Compares the types of the operands that are left.
 fn compare_operands(
     alloc: Global,
-    tally: &mut Tally,
+    report: &mut Report,
     v: &OperatorValidator,
     script: &str,
     wanted: &str,
 ) -> Result<(), AllocError> {
     let mut operands = String::new(alloc);
     add_operand_types(&mut operands, v)?;
-    tally.compare(script, "leaves", operands.trim(), wanted)
+    report.compare(script, "leaves", operands.trim(), wanted)
 }
 
 /// Checks the operators of a script as one list, and compares what it answers and leaves.
 pub fn check_list<R: WasmModuleResources>(
     alloc: Global,
-    tally: &mut Tally,
+    report: &mut Report,
     v: &mut OperatorValidator,
     ops: &[(Op<'_>, u64)],
     resources: &R,
@@ -110,11 +110,11 @@ pub fn check_list<R: WasmModuleResources>(
     requires { IsStarting (R.context resources.now) (state v.old) }
 {
     if !is_well_ordered(ops) || !all_have_module_immediates(ops) {
-        return tally.refuse(script, "is out of order");
+        return report.refuse(script, "is out of order");
     }
     let answer = answer_of(alloc, v, ops, resources);
-    compare_answer(tally, script, answer, ops.len(), left)?;
-    compare_operands(alloc, tally, v, script, left.operands)
+    compare_answer(report, script, answer, ops.len(), left)?;
+    compare_operands(alloc, report, v, script, left.operands)
 }
 
 /// The script of these operators, parted by commas, behind these first lines.
@@ -130,14 +130,14 @@ fn script_of(alloc: Global, head: &str, operators: &str) -> Result<String, Alloc
 /// Runs the operators of a line as one list, and by attempts.
 fn run_list(
     alloc: Global,
-    tally: &mut Tally,
+    report: &mut Report,
     head: &str,
     operators: &str,
     left: Left<'_>,
 ) -> Result<(), AllocError> {
     let script = script_of(alloc, head, operators)?;
-    run_body(alloc, tally, &script, Lookup::Own, Task::List(left))?;
-    run_body(alloc, tally, &script, Lookup::Own, Task::Attempts)
+    run_body(alloc, report, &script, Lookup::Own, Task::List(left))?;
+    run_body(alloc, report, &script, Lookup::Own, Task::Attempts)
 }
 
 /// What a line has behind its arrow: the types of operands, and perhaps a bar and the words of a refusal.
@@ -156,14 +156,14 @@ fn left_of(answer: &str, is_refused: bool) -> Left<'_> {
 /// Runs the operators of a line behind these first lines.
 fn run_line(
     alloc: Global,
-    tally: &mut Tally,
+    report: &mut Report,
     head: &str,
     line: &str,
     is_refused: bool,
 ) -> Result<(), AllocError> {
-    tally.count();
+    report.count();
     let (operators, answer) = parts_of(line);
-    run_list(alloc, tally, head, operators, left_of(answer, is_refused))
+    run_list(alloc, report, head, operators, left_of(answer, is_refused))
 }
 
 /// Runs the operators of each line, parted by commas, behind these first lines. Of a refused line the last operator
@@ -171,13 +171,13 @@ fn run_line(
 /// `?` being one whose type isn't known; behind a bar perhaps the words of the refusal.
 pub fn run_left(
     alloc: Global,
-    tally: &mut Tally,
+    report: &mut Report,
     head: &str,
     (lines, is_refused): (&str, bool),
 ) -> Result<(), AllocError> {
     for line in lines.lines() {
         if !line.is_empty() {
-            run_line(alloc, tally, head, line, is_refused)?;
+            run_line(alloc, report, head, line, is_refused)?;
         }
     }
     Ok(())

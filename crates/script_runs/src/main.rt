@@ -15,15 +15,15 @@ mod flags;
 mod left;
 mod places;
 mod printed;
+mod report;
 mod runs;
-mod snapshot;
-mod tally;
+mod seen;
 mod transcript;
 mod undone;
 
 use crate::cases::run_cases;
-use crate::runs::{Output, Way, run_script};
-use crate::tally::Tally;
+use crate::report::Report;
+use crate::runs::{Outcome, Way, run_script};
 use std::process::ExitCode;
 use std::{fs, io};
 
@@ -34,57 +34,57 @@ fn read(rt: &HostRuntime, name: &str, ending: &str) -> Option<String> {
 }
 
 /// What the scripts of a file of cases came to.
-fn tally_of_cases(rt: &HostRuntime, name: &str, way: Way) -> Option<Tally> {
+fn report_of_cases(rt: &HostRuntime, name: &str, way: Way) -> Option<Report> {
     let text = read(rt, name, "cases")?;
-    let mut tally = Tally::new(rt.alloc(), way);
-    run_cases(rt.alloc(), &mut tally, &text).ok()?;
-    Some(tally)
+    let mut report = Report::new(rt.alloc(), way);
+    run_cases(rt.alloc(), &mut report, &text).ok()?;
+    Some(report)
 }
 
 /// What a script that is a file came to.
-fn tally_of_script(rt: &HostRuntime, name: &str, way: Way) -> Option<Tally> {
+fn report_of_script(rt: &HostRuntime, name: &str, way: Way) -> Option<Report> {
     let script = read(rt, name, "script")?;
     let expected = read(rt, name, "expected")?;
-    let wanted = Output {
+    let wanted = Outcome {
         out: &expected,
         err: "",
         status: 0,
     };
-    let mut tally = Tally::new(rt.alloc(), way);
-    run_script(rt.alloc(), &mut tally, &script, wanted).ok()?;
-    Some(tally)
+    let mut report = Report::new(rt.alloc(), way);
+    run_script(rt.alloc(), &mut report, &script, wanted).ok()?;
+    Some(report)
 }
 
 /// What the scripts of a file came to, which a line of the input names.
-fn tally_of(rt: &HostRuntime, line: &str, way: Way) -> Option<Tally> {
+fn report_of(rt: &HostRuntime, line: &str, way: Way) -> Option<Report> {
     let (name, rest) = line.split_once('.')?;
     match rest.split_once(' ').unwrap_or((rest, "")) {
-        ("cases", "") => tally_of_cases(rt, name, way),
-        ("script", "" | "with custom_descriptors") => tally_of_script(rt, name, way),
+        ("cases", "") => report_of_cases(rt, name, way),
+        ("script", "" | "with custom_descriptors") => report_of_script(rt, name, way),
         _ => None,
     }
 }
 
 /// Prints what scripts came to, and says whether all was as expected.
-fn print_tally(rt: &HostRuntime, name: &str, tally: &Tally) -> io::Result<bool> {
-    let noun = if tally.scripts == 1 {
+fn print_report(rt: &HostRuntime, name: &str, report: &Report) -> io::Result<bool> {
+    let noun = if report.scripts == 1 {
         "script"
     } else {
         "scripts"
     };
-    println!(rt; "{name}: {} {noun}", tally.scripts)?;
-    print!(rt; "{}", tally.printed)?;
-    if tally.mismatches.is_empty() {
+    println!(rt; "{name}: {} {noun}", report.scripts)?;
+    print!(rt; "{}", report.printed)?;
+    if report.told.is_empty() {
         return Ok(true);
     }
-    println!(rt; "{}", tally.mismatches)?;
+    println!(rt; "{}", report.told)?;
     Ok(false)
 }
 
 /// The same where they could be read.
-fn print_read(rt: &HostRuntime, name: &str, tally: Option<Tally>) -> io::Result<bool> {
-    match tally {
-        Some(tally) => print_tally(rt, name, &tally),
+fn print_read(rt: &HostRuntime, name: &str, report: Option<Report>) -> io::Result<bool> {
+    match report {
+        Some(report) => print_report(rt, name, &report),
         None => {
             println!(rt; "{name}: not read")?;
             Ok(false)
@@ -109,7 +109,7 @@ fn run_files(rt: &HostRuntime, lines: &str) -> io::Result<bool> {
     let mut is_well = true;
     for line in names.lines() {
         let (name, _) = line.split_once('.').unwrap_or((line, ""));
-        is_well &= print_read(rt, name, tally_of(rt, line, way))?;
+        is_well &= print_read(rt, name, report_of(rt, line, way))?;
     }
     Ok(is_well)
 }

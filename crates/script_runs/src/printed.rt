@@ -8,7 +8,7 @@ ghost use Rattle.validate_stacks.specs.State.{IsStarting};
 ghost use Rattle.validate_visit.specs.Immediates.{is_module_op};
 ghost use Rattle.validate_visit.specs.Order.{is_well_ordered_list};
 
-use crate::tally::Tally;
+use crate::report::Report;
 use opcheck_script::{Answers, print_report, run_operators};
 use script_reader::{BodyLine, Operators};
 use std::alloc::{AllocError, Global};
@@ -21,29 +21,29 @@ use validate_visit::{LocalGroup, all_have_module_immediates, is_well_ordered};
 /// Prints what the program prints of a body whose check came to this.
 fn add_report(
     alloc: Global,
-    tally: &mut Tally,
+    report: &mut Report,
     check: &opcheck_script::Report,
 ) -> Result<(), AllocError> {
     let mut printed = Vec::new(alloc);
     match print_report(&mut printed, check) {
-        Ok(_) => tally.add_printed(&printed),
+        Ok(_) => report.add_printed(&printed),
         Err(_) => Err(AllocError),
     }
 }
 
 /// The same of a body that is refused before its operators.
-fn add_refused(alloc: Global, tally: &mut Tally, refusal: Error) -> Result<(), AllocError> {
+fn add_refused(alloc: Global, report: &mut Report, refusal: Error) -> Result<(), AllocError> {
     let check = opcheck_script::Report {
         answers: Answers::Heights(Vec::new(alloc)),
         outcome: Err(refusal),
     };
-    add_report(alloc, tally, &check)
+    add_report(alloc, report, &check)
 }
 
 /// Runs the operators of a body that has begun, and prints what the program prints.
 fn add_run<R: WasmModuleResources>(
     alloc: Global,
-    tally: &mut Tally,
+    report: &mut Report,
     v: OperatorValidator,
     operators: &Operators<'_>,
     shows: bool,
@@ -55,7 +55,7 @@ fn add_run<R: WasmModuleResources>(
 {
     let (ops, attempts) = (operators.ops.as_slice(), operators.attempts.as_slice());
     let check = run_operators(alloc, v, ops, attempts, shows, resources);
-    add_report(alloc, tally, &check)
+    add_report(alloc, report, &check)
 }
 
 /// A validator of the body that the line begins, with these locals.
@@ -75,7 +75,7 @@ pub fn begun<R: WasmModuleResources>(
 /// Runs the operators of a script as the program does, and prints what it prints.
 pub fn add_printed<R: WasmModuleResources>(
     alloc: Global,
-    tally: &mut Tally,
+    report: &mut Report,
     resources: &R,
     features: &WasmFeatures,
     begin: (BodyLine, &[LocalGroup]),
@@ -84,10 +84,10 @@ pub fn add_printed<R: WasmModuleResources>(
 ) -> Result<(), AllocError> {
     let ops = operators.ops.as_slice();
     if !is_well_ordered(ops) || !all_have_module_immediates(ops) {
-        return tally.refuse(script, "is out of order");
+        return report.refuse(script, "is out of order");
     }
     match begun(alloc, resources, features, begin) {
-        Ok(v) => add_run(alloc, tally, v, operators, shows, resources),
-        Err(refusal) => add_refused(alloc, tally, refusal),
+        Ok(v) => add_run(alloc, report, v, operators, shows, resources),
+        Err(refusal) => add_refused(alloc, report, refusal),
     }
 }

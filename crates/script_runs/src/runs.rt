@@ -1,13 +1,13 @@
 //! Runs of a script, and what they are to come to.
 
 use crate::bodies::{Lookup, Task, run_body};
-use crate::tally::Tally;
+use crate::report::Report;
 use opcheck_script::run;
 use std::alloc::{AllocError, Global};
 
 /// What a script comes to.
 #[derive(Clone, Copy)]
-pub struct Output<'a> {
+pub struct Outcome<'a> {
     /// What it prints.
     pub out: &'a str,
     /// What it says on the error output.
@@ -32,46 +32,46 @@ pub enum Way {
 }
 
 /// Compares both outputs and the status.
-fn compare_outputs(
-    tally: &mut Tally,
+fn compare_outcome(
+    report: &mut Report,
     script: &str,
     (printed, said, status): (&[u8], &[u8], u8),
-    wanted: Output<'_>,
+    wanted: Outcome<'_>,
 ) -> Result<(), AllocError> {
-    tally.compare_output(script, "prints", printed, wanted.out)?;
-    tally.compare_output(script, "says", said, wanted.err)?;
-    tally.compare_number(script, "ends with", status as usize, wanted.status as usize)
+    report.compare_output(script, "prints", printed, wanted.out)?;
+    report.compare_output(script, "says", said, wanted.err)?;
+    report.compare_number(script, "ends with", status as usize, wanted.status as usize)
 }
 
 /// Runs a script, and compares both outputs and the status.
 fn compare_run(
     alloc: Global,
-    tally: &mut Tally,
+    report: &mut Report,
     script: &str,
-    wanted: Output<'_>,
+    wanted: Outcome<'_>,
 ) -> Result<(), AllocError> {
     let mut printed = Vec::new(alloc);
     let mut said = Vec::new(alloc);
     let status = run(alloc, script.as_bytes(), &mut printed, &mut said);
-    compare_outputs(tally, script, (&printed, &said, status), wanted)
+    compare_outcome(report, script, (&printed, &said, status), wanted)
 }
 
 /// Runs a script.
 pub fn run_script(
     alloc: Global,
-    tally: &mut Tally,
+    report: &mut Report,
     script: &str,
-    wanted: Output<'_>,
+    wanted: Outcome<'_>,
 ) -> Result<(), AllocError> {
-    tally.count();
-    match tally.way {
-        Way::Once => compare_run(alloc, tally, script, wanted),
+    report.count();
+    match report.way {
+        Way::Once => compare_run(alloc, report, script, wanted),
         Way::Checked => {
-            compare_run(alloc, tally, script, wanted)?;
-            run_body(alloc, tally, script, Lookup::Own, Task::Attempts)
+            compare_run(alloc, report, script, wanted)?;
+            run_body(alloc, report, script, Lookup::Own, Task::Attempts)
         }
-        Way::Paired => run_body(alloc, tally, script, Lookup::Paired, Task::Printed),
-        Way::Shown => run_body(alloc, tally, script, Lookup::Own, Task::Printed),
-        Way::Places => run_body(alloc, tally, script, Lookup::Own, Task::Places),
+        Way::Paired => run_body(alloc, report, script, Lookup::Paired, Task::Printed),
+        Way::Shown => run_body(alloc, report, script, Lookup::Own, Task::Printed),
+        Way::Places => run_body(alloc, report, script, Lookup::Own, Task::Places),
     }
 }

@@ -1,7 +1,7 @@
 //! Transcripts: scripts with what the program prints at each line.
 
-use crate::runs::{Output, run_script};
-use crate::tally::Tally;
+use crate::report::Report;
+use crate::runs::{Outcome, run_script};
 use std::alloc::{AllocError, Global};
 
 /// Adds a line to a text, unless it is empty.
@@ -45,39 +45,39 @@ impl<'a> Case<'a> {
     }
 
     /// Runs the script, which is bad, and says this.
-    fn run_bad(&self, alloc: Global, tally: &mut Tally, cause: &str) -> Result<(), AllocError> {
+    fn run_bad(&self, alloc: Global, report: &mut Report, cause: &str) -> Result<(), AllocError> {
         let said = format!(in alloc; "{cause}\n")?;
-        let wanted = Output {
+        let wanted = Outcome {
             out: &self.printed,
             err: &said,
             status: 2,
         };
-        run_script(alloc, tally, &self.script, wanted)
+        run_script(alloc, report, &self.script, wanted)
     }
 
     /// Runs the script, which comes to this verdict.
-    fn run(&mut self, alloc: Global, tally: &mut Tally, verdict: &str) -> Result<(), AllocError> {
+    fn run(&mut self, alloc: Global, report: &mut Report, verdict: &str) -> Result<(), AllocError> {
         if verdict.starts_with("bad script") {
-            return self.run_bad(alloc, tally, verdict);
+            return self.run_bad(alloc, report, verdict);
         }
         add_line(&mut self.printed, verdict)?;
-        let wanted = Output {
+        let wanted = Outcome {
             out: &self.printed,
             err: "",
             status: if verdict == "accepted" { 0 } else { 1 },
         };
-        run_script(alloc, tally, &self.script, wanted)
+        run_script(alloc, report, &self.script, wanted)
     }
 
     /// Adds a line, or runs the script and begins the next one. Whether it ran.
     fn read(
         &mut self,
         alloc: Global,
-        tally: &mut Tally,
+        report: &mut Report,
         (written, answer): (&str, &str),
     ) -> Result<bool, AllocError> {
         if written.is_empty() && !answer.is_empty() {
-            self.run(alloc, tally, answer)?;
+            self.run(alloc, report, answer)?;
             self.begin()?;
             return Ok(true);
         }
@@ -101,7 +101,7 @@ pub fn parts_of(line: &str) -> (&str, &str) {
 /// out, and blank lines stand for nothing.
 pub fn run_transcript(
     alloc: Global,
-    tally: &mut Tally,
+    report: &mut Report,
     head: &str,
     transcript: &str,
 ) -> Result<(), AllocError> {
@@ -109,10 +109,10 @@ pub fn run_transcript(
     case.begin()?;
     let mut ran = false;
     for line in transcript.lines() {
-        ran |= case.read(alloc, tally, parts_of(line))?;
+        ran |= case.read(alloc, report, parts_of(line))?;
     }
     if !ran || case.script.as_str() != head {
-        return tally.refuse(&case.script, "has no verdict");
+        return report.refuse(&case.script, "has no verdict");
     }
     Ok(())
 }
@@ -147,59 +147,59 @@ fn fill(alloc: Global, text: &str, row: &str) -> Result<String, AllocError> {
 /// Runs a transcript behind these first lines, filled by this row.
 fn run_row(
     alloc: Global,
-    tally: &mut Tally,
+    report: &mut Report,
     head: &str,
     (row, transcript): (&str, &str),
 ) -> Result<(), AllocError> {
     let filled = fill(alloc, transcript, row)?;
-    run_transcript(alloc, tally, head, &filled)
+    run_transcript(alloc, report, head, &filled)
 }
 
 /// Runs a transcript behind these first lines once for each row, filled by it. Blank rows stand for nothing.
 pub fn run_each(
     alloc: Global,
-    tally: &mut Tally,
+    report: &mut Report,
     head: &str,
     (rows, transcript): (&str, &str),
 ) -> Result<(), AllocError> {
     for row in rows.lines() {
         if !row.is_empty() {
-            run_row(alloc, tally, head, (row, transcript))?;
+            run_row(alloc, report, head, (row, transcript))?;
         }
     }
     Ok(())
 }
 
-/// Runs this line, the one of this number, behind these first lines and before an `end`: it is bad for this reason.
+/// Runs this line behind these first lines and before an `end`, which makes a bad script that says this.
 fn run_bad_line(
     alloc: Global,
-    tally: &mut Tally,
+    report: &mut Report,
     head: &str,
-    number: usize,
-    (line, reason): (&str, &str),
+    line: &str,
+    said: &str,
 ) -> Result<(), AllocError> {
     let script = format!(in alloc; "{head}{line}\nend\n")?;
-    let said = format!(in alloc; "bad script: line {number}: {reason}\n")?;
-    let wanted = Output {
+    let wanted = Outcome {
         out: "",
-        err: &said,
+        err: said,
         status: 2,
     };
-    run_script(alloc, tally, &script, wanted)
+    run_script(alloc, report, &script, wanted)
 }
 
-/// Runs each of these lines behind these first lines and before an `end`: it is a bad line, for the reason behind its
-/// `=>`. Blank lines stand for nothing.
+/// Runs each of these lines behind these first lines and before an `end`: it is a bad line. Blank lines stand
+/// for nothing.
 pub fn run_bad_lines(
     alloc: Global,
-    tally: &mut Tally,
+    report: &mut Report,
     head: &str,
     lines: &str,
 ) -> Result<(), AllocError> {
     let number = head.lines().count().saturating_add(1);
+    let said = format!(in alloc; "bad script: line {number}\n")?;
     for line in lines.lines() {
         if !line.is_empty() {
-            run_bad_line(alloc, tally, head, number, parts_of(line))?;
+            run_bad_line(alloc, report, head, line, &said)?;
         }
     }
     Ok(())

@@ -6,8 +6,8 @@ ghost use Rattle.validate_stacks.specs.State.{IsStarting, IsValidBody};
 ghost use Rattle.validate_stacks.specs.Visits.{MayVisit};
 
 use crate::bodies::{Lookup, Task, run_body};
-use crate::snapshot::{Snapshot, add_operand_types, innermost};
-use crate::tally::Tally;
+use crate::report::Report;
+use crate::seen::{Seen, add_operand_types, innermost};
 use crate::transcript::parts_of;
 use script_reader::{LineError, read_operator};
 use std::alloc::{AllocError, Global};
@@ -35,7 +35,7 @@ fn add_answer(
 }
 
 /// Adds what a visit answered, and the innermost frame and the operands behind it.
-fn add_answer_and_state(
+fn add_seen(
     text: &mut String,
     v: &OperatorValidator,
     answer: Result<(), Error>,
@@ -60,7 +60,7 @@ fn visit<R: WasmModuleResources>(
     v.check(resources, OFFSET, op)
 }
 
-/// Attempts an operator, and takes it back. Adds what was found within the attempt to a text.
+/// Attempts an operator, and takes it back. Adds what was seen within the attempt to a text.
 fn undo<R: WasmModuleResources>(
     text: &mut String,
     v: &mut OperatorValidator,
@@ -73,15 +73,15 @@ fn undo<R: WasmModuleResources>(
 {
     v.begin_try_op();
     let answer = v.check(resources, OFFSET, op);
-    let added = add_answer_and_state(text, v, answer);
+    let added = add_seen(text, v, answer);
     v.rollback();
     added
 }
 
-/// Attempts an operator, takes it back, and compares what was found within the attempt.
+/// Attempts an operator, takes it back, and compares what was seen within the attempt.
 fn compare_within<R: WasmModuleResources>(
     alloc: Global,
-    tally: &mut Tally,
+    report: &mut Report,
     v: &mut OperatorValidator,
     op: Op<'_>,
     resources: &R,
@@ -91,30 +91,30 @@ fn compare_within<R: WasmModuleResources>(
     requires visit { MayVisit (R.context resources.now) (stacks_of v.old) }
     ensures same { state v.new ≡ state v.old }
 {
-    let mut found = String::new(alloc);
-    undo(&mut found, v, resources, op)?;
+    let mut seen = String::new(alloc);
+    undo(&mut seen, v, resources, op)?;
     let (_, wanted) = parts_of(line);
-    tally.compare(line, "comes within the attempt to", &found, wanted)
+    report.compare(line, "comes within the attempt to", &seen, wanted)
 }
 
-/// Writes it down where something else is found than before an attempt, or one is pending.
+/// Tells it where something else is seen than before an attempt, or one is pending.
 fn compare_behind(
     alloc: Global,
-    tally: &mut Tally,
+    report: &mut Report,
     v: &OperatorValidator,
-    before: &Snapshot,
+    before: &Seen,
     line: &str,
 ) -> Result<(), AllocError> {
-    if Snapshot::of(alloc, v)? != *before || v.is_pending() || !v.can_attempt() {
-        return tally.refuse(line, "leaves a trace");
+    if Seen::of(alloc, v)? != *before || v.is_pending() || !v.can_attempt() {
+        return report.refuse(line, "leaves a trace");
     }
     Ok(())
 }
 
-/// Attempts an operator, takes it back, and compares what was found within the attempt and what is there behind it.
+/// Attempts an operator, takes it back, and compares what was seen within the attempt and what is there behind it.
 fn compare_undone<R: WasmModuleResources>(
     alloc: Global,
-    tally: &mut Tally,
+    report: &mut Report,
     v: &mut OperatorValidator,
     op: Op<'_>,
     resources: &R,
@@ -124,15 +124,15 @@ fn compare_undone<R: WasmModuleResources>(
     requires visit { MayVisit (R.context resources.now) (stacks_of v.old) }
     ensures same { state v.new ≡ state v.old }
 {
-    let before = Snapshot::of(alloc, v)?;
-    compare_within(alloc, tally, v, op, resources, line)?;
-    compare_behind(alloc, tally, v, &before, line)
+    let before = Seen::of(alloc, v)?;
+    compare_within(alloc, report, v, op, resources, line)?;
+    compare_behind(alloc, report, v, &before, line)
 }
 
 /// Visits an operator, and compares what it answers.
 fn compare_visit<R: WasmModuleResources>(
     alloc: Global,
-    tally: &mut Tally,
+    report: &mut Report,
     v: &mut OperatorValidator,
     op: Op<'_>,
     resources: &R,
@@ -147,13 +147,13 @@ fn compare_visit<R: WasmModuleResources>(
     let mut said = String::new(alloc);
     add_answer(&mut said, v, answer)?;
     let (_, wanted) = parts_of(line);
-    tally.compare(line, "comes to", &said, wanted)
+    report.compare(line, "comes to", &said, wanted)
 }
 
 /// Visits the operator of a line, or attempts it and takes it back.
 fn run_op<R: WasmModuleResources>(
     alloc: Global,
-    tally: &mut Tally,
+    report: &mut Report,
     v: &mut OperatorValidator,
     op: Op<'_>,
     resources: &R,
@@ -165,12 +165,12 @@ fn run_op<R: WasmModuleResources>(
     ensures valid { IsValidBody (R.context resources.now) (state v.new) }
 {
     if v.control_stack_height() == 0 {
-        return tally.refuse(line, "stands behind a closed body");
+        return report.refuse(line, "stands behind a closed body");
     }
     if line.starts_with("try ") {
-        compare_undone(alloc, tally, v, op, resources, line)
+        compare_undone(alloc, report, v, op, resources, line)
     } else {
-        compare_visit(alloc, tally, v, op, resources, line)
+        compare_visit(alloc, report, v, op, resources, line)
     }
 }
 
@@ -182,7 +182,7 @@ fn words_of(alloc: Global, operator: &str) -> Result<Vec<&str>, AllocError> {
 /// Reads the operator of a line, and runs it.
 fn run_line<R: WasmModuleResources>(
     alloc: Global,
-    tally: &mut Tally,
+    report: &mut Report,
     v: &mut OperatorValidator,
     resources: &R,
     line: &str,
@@ -197,8 +197,8 @@ fn run_line<R: WasmModuleResources>(
     let words = words_of(alloc, operator)?;
     let mut list = None;
     match read_operator(alloc, &mut list, &words) {
-        Ok(op) => run_op(alloc, tally, v, op, resources, line),
-        Err(LineError::Bad) => tally.refuse(line, "has no operator"),
+        Ok(op) => run_op(alloc, report, v, op, resources, line),
+        Err(LineError::Bad) => report.refuse(line, "has no operator"),
         Err(LineError::OutOfMemory) => Err(AllocError),
     }
 }
@@ -210,7 +210,7 @@ fn run_line<R: WasmModuleResources>(
 /// a second arrow stand the innermost frame and the operands within the attempt, the top last.
 pub fn run_lines<R: WasmModuleResources>(
     alloc: Global,
-    tally: &mut Tally,
+    report: &mut Report,
     v: &mut OperatorValidator,
     resources: &R,
     lines: &str,
@@ -219,7 +219,7 @@ pub fn run_lines<R: WasmModuleResources>(
 {
     for line in lines.lines() {
         if !line.is_empty() {
-            run_line(alloc, tally, v, resources, line)?;
+            run_line(alloc, report, v, resources, line)?;
         }
     }
     Ok(())
@@ -228,11 +228,11 @@ pub fn run_lines<R: WasmModuleResources>(
 /// Runs such lines behind these first ones, over this lookup.
 pub fn run_undone(
     alloc: Global,
-    tally: &mut Tally,
+    report: &mut Report,
     head: &str,
     lines: &str,
     lookup: Lookup,
 ) -> Result<(), AllocError> {
-    tally.count();
-    run_body(alloc, tally, head, lookup, Task::Lines(lines))
+    report.count();
+    run_body(alloc, report, head, lookup, Task::Lines(lines))
 }

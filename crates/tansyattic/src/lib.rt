@@ -4,7 +4,7 @@
 
 ghost use Rattle.std.specs.Prelude.{◌≡◌, ◌≢◌, ◌<◌, ◌-◌, length, None};
 ghost use Rattle.module_check.specs.Loaded.{IsSafeFunction, IsValid};
-ghost use Rattle.module_check.specs.Verdicts.{IsConsistent};
+ghost use Rattle.module_check.specs.Told.{IsTold};
 ghost use Rattle.module_handles.specs.Calls.{OnModule, OfModule, HaveTheSame, IsLoadedFrom, IsValidModuleOf};
 ghost use Rattle.module_handles.specs.Items.{AreSafeBetween, AreSafeFrom};
 
@@ -33,7 +33,7 @@ pub extern "C" fn tansyattic_raw_validate(
     out: &mut ModuleVerdict,
 ) -> u32
     ensures status { result ≡ out.new.status }
-    ensures consistent { IsConsistent (length text.new) out.new }
+    ensures told { IsTold (length text.new) out.new }
     ensures valid { result ≡ 0 → IsValidModuleOf bytes.now features }
 {
     module_handles::validate(alloc, bytes, features, text, out)
@@ -51,7 +51,7 @@ pub extern "C" fn tansyattic_raw_load(
     out: &mut ModuleVerdict,
 ) -> u32
     ensures status { result ≡ out.new.status }
-    ensures consistent { IsConsistent (length text.new) out.new }
+    ensures told { IsTold (length text.new) out.new }
     ensures loaded { result ≡ 0 → OnModule handle.new.held (IsLoadedFrom bytes.now features) }
     ensures unchanged { result ≢ 0 → handle.new.held ≡ handle.old.held }
 {
@@ -107,7 +107,7 @@ pub extern "C" fn tansyattic_raw_validate_function(
     out: &mut ModuleVerdict,
 ) -> u32
     ensures status { result ≡ out.new.status }
-    ensures consistent { IsConsistent (length text.new) out.new }
+    ensures told { IsTold (length text.new) out.new }
     ensures safe { result ≡ 0 → OnModule handle.old.held (λ m. IsSafeFunction m function) }
     ensures kept { handle.new.held ≡ handle.old.held }
 {
@@ -123,7 +123,7 @@ pub extern "C" fn tansyattic_raw_validate_module(
     out: &mut ModuleVerdict,
 ) -> u32
     ensures status { result ≡ out.new.status }
-    ensures consistent { IsConsistent (length text.new) out.new }
+    ensures told { IsTold (length text.new) out.new }
     ensures valid { result ≡ 0 → OnModule handle.old.held IsValid }
     ensures kept { handle.new.held ≡ handle.old.held }
 {
@@ -131,7 +131,7 @@ pub extern "C" fn tansyattic_raw_validate_module(
 }
 
 /// Checks them one after another, the constant expressions first, from the one at the position on, up to one that isn't
-/// accepted: that is reported, and the position is behind it. The status is 0 where there is none.
+/// accepted: that is told, and the position is behind it. The status is 0 where there is none.
 #[unsafe(no_mangle)]
 pub extern "C" fn tansyattic_raw_validate_next(
     alloc: Global,
@@ -141,7 +141,7 @@ pub extern "C" fn tansyattic_raw_validate_next(
     out: &mut ModuleVerdict,
 ) -> u32
     ensures status { result ≡ out.new.status }
-    ensures consistent { IsConsistent (length text.new) out.new }
+    ensures told { IsTold (length text.new) out.new }
     ensures rest { result ≡ 0 → OnModule handle.old.held (λ m. AreSafeFrom m position.old) }
     ensures before { result ≢ 0 → OfModule handle.old.held (λ m.
         AreSafeBetween m position.old (position.new - 1)) }

@@ -1,15 +1,45 @@
 //! How many operands upstream has taken when it refuses an operator. Where an operand is missing or of another type,
 //! the refusal itself says which.
 
+use validate_resources::WasmModuleResources;
 use validate_stacks::Stacks;
+use validate_stacks::blocks::{params, results};
 use validate_types::{MaybeType, Refusal, Told};
 use validate_visit::{
-    ArrayOp, ControlOp, Exchange, FieldAccess, ReferenceOp, SharedOp, StructOp, Update,
+    ArrayOp, ControlOp, ExceptionOp, Exchange, FieldAccess, Op, ReferenceOp, SharedOp, StructOp,
+    TryTable, Update,
 };
 
-/// How many it has taken of an operator on control, locals or globals.
-pub(crate) fn taken_before(op: &ControlOp, answer: &Result<(), Told>) -> usize {
+/// How many it has taken of an operator, whose body gave this answer. Behind a closed gate it takes none.
+pub(crate) fn taken_before<R: WasmModuleResources>(
+    stacks: &Stacks,
+    resources: &R,
+    op: &Op,
+    answer: &Result<(), Told>,
+) -> usize {
+    if let Err(Told::Rule(Refusal::Closed(_))) = answer {
+        return 0;
+    }
     match op {
+        Op::Control(op) => taken_before_control(stacks, resources, op, answer),
+        Op::Reference(op) => taken_before_reference(stacks, op, answer),
+        Op::Struct(op) => taken_before_struct(op, answer),
+        Op::Array(op) => taken_before_array(op),
+        Op::Exception(op) => taken_before_exception(stacks, resources, op, answer),
+        Op::Shared(op) => taken_before_shared(op, answer),
+        _ => 0,
+    }
+}
+
+/// The same of an operator on control, locals or globals.
+fn taken_before_control<R: WasmModuleResources>(
+    stacks: &Stacks,
+    resources: &R,
+    op: &ControlOp,
+    answer: &Result<(), Told>,
+) -> usize {
+    match op {
+        ControlOp::Else | ControlOp::End => taken_before_end(stacks, resources),
         ControlOp::BrIf(_) | ControlOp::BrTable(_) => 1,
         ControlOp::Select => 3,
         ControlOp::CallIndirect { .. }
@@ -17,6 +47,14 @@ pub(crate) fn taken_before(op: &ControlOp, answer: &Result<(), Told>) -> usize {
         | ControlOp::CallRef(_)
         | ControlOp::ReturnCallRef(_) => taken_before_call(answer),
         _ => 0,
+    }
+}
+
+/// The same where a part ends: its results go before anything else is looked at.
+fn taken_before_end<R: WasmModuleResources>(stacks: &Stacks, resources: &R) -> usize {
+    match stacks.get_frame(0) {
+        Some(frame) => results(resources, &frame.block_type).len(),
+        None => 0,
     }
 }
 
@@ -36,11 +74,7 @@ fn taken_before_call(answer: &Result<(), Told>) -> usize {
 }
 
 /// The same of an operator on references.
-pub(crate) fn taken_before_reference(
-    stacks: &Stacks,
-    op: &ReferenceOp,
-    answer: &Result<(), Told>,
-) -> usize {
+fn taken_before_reference(stacks: &Stacks, op: &ReferenceOp, answer: &Result<(), Told>) -> usize {
     match op {
         ReferenceOp::RefIsNull
         | ReferenceOp::RefAsNonNull
@@ -116,7 +150,7 @@ fn taken_before_label(answer: &Result<(), Told>) -> usize {
 }
 
 /// The same of an operator on structs: the descriptor goes before the struct is looked up.
-pub(crate) fn taken_before_struct(op: &StructOp, answer: &Result<(), Told>) -> usize {
+fn taken_before_struct(op: &StructOp, answer: &Result<(), Told>) -> usize {
     match op {
         StructOp::StructNewDesc(_) | StructOp::StructNewDefaultDesc(_) => {}
         _ => return 0,
@@ -132,7 +166,7 @@ pub(crate) fn taken_before_struct(op: &StructOp, answer: &Result<(), Told>) -> u
 }
 
 /// The same of an operator on arrays.
-pub(crate) fn taken_before_array(op: &ArrayOp) -> usize {
+fn taken_before_array(op: &ArrayOp) -> usize {
     match op {
         ArrayOp::ArrayLen => 1,
         _ => 0,
@@ -140,7 +174,7 @@ pub(crate) fn taken_before_array(op: &ArrayOp) -> usize {
 }
 
 /// The same of an atomic operator: `get` and `set` ask last whether their place allows them.
-pub(crate) fn taken_before_shared(op: &SharedOp, answer: &Result<(), Told>) -> usize {
+fn taken_before_shared(op: &SharedOp, answer: &Result<(), Told>) -> usize {
     match answer {
         Err(Told::Rule(Refusal::NotAllowed { .. })) => {}
         _ => return 0,
@@ -168,6 +202,43 @@ fn taken_by(get: usize, set: usize, access: Exchange) -> usize {
     match access {
         Exchange::Get => get,
         Exchange::Set => set,
+        _ => 0,
+    }
+}
+
+/// The same of an operator on exceptions.
+fn taken_before_exception<R: WasmModuleResources>(
+    stacks: &Stacks,
+    resources: &R,
+    op: &ExceptionOp<'_>,
+    answer: &Result<(), Told>,
+) -> usize {
+    match op {
+        ExceptionOp::TryTable(table) => taken_before_clauses(resources, table, answer),
+        ExceptionOp::Catch(_) | ExceptionOp::CatchAll | ExceptionOp::Delegate(_) => {
+            taken_before_end(stacks, resources)
+        }
+        _ => 0,
+    }
+}
+
+/// The same of `try_table`: its parameters go before its clauses are looked at.
+fn taken_before_clauses<R: WasmModuleResources>(
+    resources: &R,
+    table: &TryTable<'_>,
+    answer: &Result<(), Told>,
+) -> usize {
+    match answer {
+        Err(
+            Told::Rule(
+                Refusal::UnknownTag(_)
+                | Refusal::TagWithResults
+                | Refusal::UnknownLabel
+                | Refusal::ClauseArity(_)
+                | Refusal::ClauseType { .. }
+                | Refusal::ClauseReference,
+            ),
+        ) => params(resources, &table.ty).len(),
         _ => 0,
     }
 }

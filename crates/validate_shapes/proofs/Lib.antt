@@ -12,3 +12,4 @@ pub mod HeapReferences
 pub mod OpenerSteps
 pub mod TypesBelow
 pub mod Parts
+pub mod PartMoves

@@ -4,7 +4,7 @@ ghost use Rattle.std.specs.Prelude.{◌≡◌, None, Some, false, IfOk, OnErr, I
 ghost use Rattle.validate_stacks.specs.Steps.{label_at};
 
 use validate_stacks::Stacks;
-use validate_types::{Error, Refusal};
+use validate_types::Error;
 use validate_visit::{BlockType, FrameKind};
 
 /// The block type and the kind of the frame that a label names, counted from the innermost.
@@ -21,9 +21,6 @@ pub fn label(
 {
     match stacks.jump(relative_depth) {
         Some(found) => Ok(found),
-        None => {
-            let error = Error::new("unknown label: branch depth too large", offset);
-            Err(error.because(Refusal::UnknownLabel))
-        }
+        None => Err(Error::new("unknown label: branch depth too large", offset)),
     }
 }

@@ -21,15 +21,12 @@ use Rattle.validation_rules.specs.Rows.{guard, Operator}
 use Rattle.validate_stacks.specs.Attempts.{Stacked, may_frame}
 use Rattle.validation_rules.specs.Static.{Frame, State, state_with, stack_with, operands_found, opened_frame, locals_set}
 use Rattle.validate_stacks.specs.AtOnce.{frames_dropped, body_dropped, body_with_frame_over, state_given, body_given, pushed_list, MeetsAtOnce}
-use Rattle.validation_rules.specs.Context.{block_signature}
-use Rattle.validate_stacks.specs.Blocks.{closed_body}
 use Rattle.validate_stacks.specs.Flat.{state_from_heights, state_with_frame, stacked_of, HasShape, IsSound, undone_pending}
-use Rattle.validate_stacks.specs.Pops.{FitsAtOnce, may_pop, frames_popped_each, body_popped_each, body_pushed_each, has_operands_fitting, operands_found_in, IsKept}
+use Rattle.validate_stacks.specs.Pops.{FitsAtOnce, may_pop, body_popped_each, body_pushed_each, has_operands_fitting, operands_found_in, IsKept}
 use Rattle.validate_stacks.specs.State.{BodyState, body_context, body_with_frames, IsValidBody}
-use Rattle.validate_stacks.specs.Steps.{head_of, found_in_body, found_after_pops_in_body, found_after_pops_in_frames, frame_at, innermost_operands, body_without_first, body_popped, body_pushed, body_unreachable, body_without_frame}
+use Rattle.validate_stacks.specs.Steps.{head_of, found_in_body, found_after_pops_in_body, found_after_pops_in_frames, innermost_operands, body_without_first, body_popped, body_pushed, body_unreachable, body_without_frame}
 use Rattle.validate_stacks.specs.Visits.{Meets, MayVisit}
 use Rattle.validation_rules.proofs.Steps.{some_injective}
-use Rattle.validate_stacks.proofs.ClosedFrames.{guarded_some, closed_passes, wants_valid}
 use Rattle.validate_stacks.proofs.Cuts.{state_of, own-cut, HasShape-more, above_height}
 use Rattle.validate_stacks.proofs.MatchedOperands.{drop_next}
 use Rattle.validate_stacks.proofs.Undone.{new_flat}
@@ -349,23 +346,6 @@ nothing_left n [] h = drop_nothing n
 nothing_left zero (x ∷ own) h = absurd (omega (arith, h))
 nothing_left (suc n) (x ∷ own) h = nothing_left n own (omega (arith, h))
 
--- no own operand is left, where there were no more than were popped
-pub none_left : (md : ModuleContext) (wanted : List ValType) (v u : BodyState) → length (innermost_operands v.present.frames) ≤ length wanted → body_popped_each md (reverse wanted) v ≡ Some u → innermost_operands u.present.frames ≡ []
-none_left md wanted v u h p = by v.present.frames refl
-  where
-    frameless : (ws : List ValType) (x : BodyState) → x.present.frames ≡ [] → body_popped_each md ws x ≡ Some u → innermost_operands u.present.frames ≡ []
-    frameless [] x e q = ap (λ (w : BodyState). innermost_operands w.present.frames) (some_injective u x (sym q ∙ popped_none md x)) ∙ ap innermost_operands e
-    frameless (w ∷ ws) x e q = absurd (let none : body_popped_each md (w ∷ ws) x ≡ None = ap (λ gs. option_map (λ fs. body_with_frames fs x) (frames_popped_each (body_context md x) (w ∷ ws) gs)) e in clash (sym none ∙ q))
-      where
-        clash : None ≡ Some u → ⊥
-        clash c = cc
-
-    by : (fs : List Frame) → v.present.frames ≡ fs → innermost_operands u.present.frames ≡ []
-    by [] e = frameless (reverse wanted) v e p
-    by (f ∷ fs) e =
-        let s = guarded_some _ _ u (sym (popped_whole md v f fs wanted e) ∙ p) in
-        sym (ap (λ (w : BodyState). innermost_operands w.present.frames) s.1) ∙ nothing_left (length wanted) f.operands (subst (λ gs. length (innermost_operands gs) ≤ length wanted) e h)
-
 pub some_there : {A : Type 0} (o : Option A) → IsSome o → (a : A) × (o ≡ Some a)
 some_there (Some a) h = (a, refl)
 some_there None h = absurd cc
@@ -527,23 +507,6 @@ without_valid md v h = by v.present.frames h
     by : (fs : List Frame) → IsValidBody md (body_with_frames fs v) → IsValidBody md (body_without_frame (body_with_frames fs v))
     by [] k = k
     by (f ∷ fs) k = record { locals_valid = k.locals_valid; frames = k.frames.1; left = k.left }
-
-module _ (md : ModuleContext) (v : BodyState) (r : FlatFrame) (rs : List ValType) (there : frame_at v 0 ≡ Some r) (same : rs ≡ (block_signature md r.block_type).results) (fit : has_operands_fitting (body_context md v) rs v ≡ true) (own : length (innermost_operands v.present.frames) ≡ length rs) where
-  -- it may be closed
-  pub left_closed : closed_body md v ≡ Some (body_without_frame v)
-  left_closed =
-      let popped = popped_dropped md rs v fit in
-      let none = none_left md rs v (body_dropped (length rs) v) (omega (arith, own)) popped in
-      closed_passes md v r rs there same (body_dropped (length rs) v) popped none ∙ ap Some (without_dropped (length rs) v)
-
-  pub left_whole : (w : BodyState) → w ≡ body_pushed_each rs (body_without_frame v) → option_map (body_pushed_each rs) (closed_body md v) ≡ Some w
-  left_whole w e = ap (option_map (body_pushed_each rs)) left_closed ∙ ap Some (sym e)
-
-  pub left_valid : IsLawful md → IsValidBody md v → (w : BodyState) → w ≡ body_pushed_each rs (body_without_frame v) → IsValidBody md w
-  left_valid laws valid w e = subst (IsValidBody md) (sym e) ((pushed_each_kept md rs (body_without_frame v)).1 (wants_valid md v r rs laws there valid same) (without_valid md v valid))
-
-  pub left_kept : (w : BodyState) → w ≡ body_pushed_each rs (body_without_frame v) → IsKept v w
-  left_kept w e = subst (IsKept v) (sym e) (kept_on v (body_without_frame v) (body_pushed_each rs (body_without_frame v)) refl (pushed_each_kept md rs (body_without_frame v)).0)
 
 -- the one type of a list
 pub one_type : (ts : List ValType) (d : ValType) → length ts ≡ 1 → ts ≡ get_or ts 0 d ∷ []

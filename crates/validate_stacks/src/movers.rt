@@ -214,22 +214,45 @@ impl Stacks {
         })
     }
 
-    /// Closes the innermost frame with its own operands, and gives the next outer one an operand of each of these types, the
-    /// last on top: the locals that were first set in the frame aren't set any more. Want of memory changes nothing, and
+    /// Closes the innermost frame with its own operands, so many, and gives the next outer one an operand of each of these
+    /// types, the last on top: the locals that were first set in the frame aren't set any more. Want of memory changes nothing, and
     /// there is none where no attempt is pending and no more come than go.
     #[inline(always)]
-    pub fn close(&mut self, given: &[ValType]) -> Result<(), OutOfMemory>
+    pub fn close(&mut self, taken: usize, given: &[ValType]) -> Result<(), OutOfMemory>
+        requires own { taken ≡ length (innermost_operands self.old.body.present.frames) }
         requires open_frame { self.old.body.present.frames ≢ [] }
         requires frames { may_frame self.old ≡ true }
         requires unsets { may_unset self.old ≡ true }
         ensures exact { MatchResult result
             (λ _. self.new.body ≡ body_pushed_each given.now (body_without_frame self.old.body))
             (λ _. self.new ≡ self.old) }
-        ensures idle { self.old.body.undone ≡ None
-            → length given.now ≤ length (innermost_operands self.old.body.present.frames) → IsOk result }
+        ensures idle { self.old.body.undone ≡ None → length given.now ≤ taken → IsOk result }
+    {
+        // Where no attempt is pending, and one comes at most for as many that go, what lies there passes over.
+        if given.len() <= 1 && taken == given.len() && !self.is_pending() {
+            if let Some(ty) = given.first() {
+                self.replace_operand(MaybeType::Known(*ty));
+            }
+            self.close_over_operands();
+            return Ok(());
+        }
+        self.close_any(taken, given)
+    }
+
+    /// [`Stacks::close`], over any number of operands, and recorded where an attempt is pending.
+    #[inline(never)]
+    fn close_any(&mut self, taken: usize, given: &[ValType]) -> Result<(), OutOfMemory>
+        requires own { taken ≡ length (innermost_operands self.old.body.present.frames) }
+        requires open_frame { self.old.body.present.frames ≢ [] }
+        requires frames { may_frame self.old ≡ true }
+        requires unsets { may_unset self.old ≡ true }
+        ensures exact { MatchResult result
+            (λ _. self.new.body ≡ body_pushed_each given.now (body_without_frame self.old.body))
+            (λ _. self.new ≡ self.old) }
+        ensures idle { self.old.body.undone ≡ None → length given.now ≤ taken → IsOk result }
     {
         self.change(Change {
-            taken: self.own_len(),
+            taken,
             closes: true,
             sets: None,
             opens: None,
@@ -243,10 +266,38 @@ impl Stacks {
     #[inline(always)]
     pub fn reopen_with(
         &mut self,
+        taken: usize,
         kind: FrameKind,
         block_type: BlockType,
         given: &[ValType],
     ) -> Result<(), OutOfMemory>
+        requires own { taken ≡ length (innermost_operands self.old.body.present.frames) }
+        requires open_frame { self.old.body.present.frames ≢ [] }
+        requires frames { may_frame self.old ≡ true }
+        requires unsets { may_unset self.old ≡ true }
+        ensures { MatchResult result (λ _. self.new.body
+            ≡ body_pushed_each given.now (body_with_frame kind block_type (body_without_frame self.old.body)))
+            (λ _. self.new ≡ self.old) }
+    {
+        // Where no attempt is pending, and nothing is given, the frame is put in the place of the other.
+        if given.is_empty() && !self.is_pending() {
+            self.drop_operands(taken);
+            self.reopen(kind, block_type);
+            return Ok(());
+        }
+        self.reopen_any(taken, kind, block_type, given)
+    }
+
+    /// [`Stacks::reopen_with`], with any number of operands, and recorded where an attempt is pending.
+    #[inline(never)]
+    fn reopen_any(
+        &mut self,
+        taken: usize,
+        kind: FrameKind,
+        block_type: BlockType,
+        given: &[ValType],
+    ) -> Result<(), OutOfMemory>
+        requires own { taken ≡ length (innermost_operands self.old.body.present.frames) }
         requires open_frame { self.old.body.present.frames ≢ [] }
         requires frames { may_frame self.old ≡ true }
         requires unsets { may_unset self.old ≡ true }
@@ -255,7 +306,7 @@ impl Stacks {
             (λ _. self.new ≡ self.old) }
     {
         self.change(Change {
-            taken: self.own_len(),
+            taken,
             closes: true,
             sets: None,
             opens: Some((kind, block_type)),

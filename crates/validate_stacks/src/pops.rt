@@ -15,7 +15,7 @@ ghost use Rattle.validate_stacks.specs.Steps.{found_in_body, body_popped};
 use crate::stacks::Stacks;
 use std::alloc::Global;
 use validate_resources::WasmModuleResources;
-use validate_types::{AbstractHeapType, Error, HeapType, MaybeType, RefType, Refusal, ValType};
+use validate_types::{AbstractHeapType, Error, HeapType, MaybeType, RefType, ValType};
 
 /// The name of a type in a refusal (wasmparser's `ty_to_str`).
 pub fn ty_to_str(ty: ValType) -> &'static str
@@ -39,17 +39,16 @@ fn nothing_there(alloc: Global, expected: Option<ValType>, offset: u64) -> Error
     ensures memory { expected ≡ None → result.wants_memory ≡ false }
 {
     let Some(wanted) = expected else {
-        let error = Error::new(
+        return Error::new(
             "type mismatch: expected a type but nothing on stack",
             offset,
         );
-        return error.because(Refusal::NothingFound(None));
     };
-    let name = ty_to_str(wanted);
-    match format!(in alloc; "type mismatch: expected {name} but nothing on stack") {
-        Ok(text) => Error::with_text(text, offset).because(Refusal::NothingFound(expected)),
-        Err(_) => Error::out_of_memory(offset),
-    }
+    let wanted = ty_to_str(wanted);
+    Error::from_text(
+        format!(in alloc; "type mismatch: expected {wanted} but nothing on stack"),
+        offset,
+    )
 }
 
 /// The refusal of an operand of another type.
@@ -58,17 +57,12 @@ fn nothing_there(alloc: Global, expected: Option<ValType>, offset: u64) -> Error
 pub fn mismatch(alloc: Global, expected: ValType, found: ValType, offset: u64) -> Error
     ensures { result.offset ≡ offset }
 {
-    let refusal = Refusal::Mismatch {
-        depth: 0,
-        wanted: expected,
-        found: MaybeType::Known(found),
-    };
     let expected = ty_to_str(expected);
     let found = ty_to_str(found);
-    match format!(in alloc; "type mismatch: expected {expected}, found {found}") {
-        Ok(text) => Error::with_text(text, offset).because(refusal),
-        Err(_) => Error::out_of_memory(offset),
-    }
+    Error::from_text(
+        format!(in alloc; "type mismatch: expected {expected}, found {found}"),
+        offset,
+    )
 }
 
 /// The refusal of a reference where a number or a vector is wanted.
@@ -77,16 +71,11 @@ pub fn mismatch(alloc: Global, expected: ValType, found: ValType, offset: u64) -
 fn reference_found(alloc: Global, expected: ValType, offset: u64) -> Error
     ensures { result.offset ≡ offset }
 {
-    let refusal = Refusal::Mismatch {
-        depth: 0,
-        wanted: expected,
-        found: MaybeType::UnknownRef(None),
-    };
     let expected = ty_to_str(expected);
-    match format!(in alloc; "type mismatch: expected {expected}, found heap type") {
-        Ok(text) => Error::with_text(text, offset).because(refusal),
-        Err(_) => Error::out_of_memory(offset),
-    }
+    Error::from_text(
+        format!(in alloc; "type mismatch: expected {expected}, found heap type"),
+        offset,
+    )
 }
 
 /// An unknown reference of which this abstract type is known, with the sharedness of the wanted one.

@@ -577,32 +577,6 @@ impl Stacks {
         Ok(())
     }
 
-    /// Closes the innermost frame, which has no operands of its own: the locals that were first set in it
-    /// aren't set any more. Want of memory changes nothing, and there is none where no attempt is
-    /// pending.
-    #[inline(always)]
-    pub fn pop_bare_ctrl(&mut self) -> Result<(), OutOfMemory>
-        requires own { innermost_operands self.old.body.present.frames ≡ [] }
-        requires frames { may_frame self.old ≡ true }
-        requires unsets { may_unset self.old ≡ true }
-        ensures exact { MatchResult result (λ _. self.new.body ≡ body_without_frame self.old.body)
-            (λ _. self.new ≡ self.old) }
-        ensures frames { may_frame self.new ≡ true }
-        ensures idle { self.old.body.undone ≡ None → IsOk result }
-    {
-        let Some(innermost) = self.control.get(0) else {
-            return Ok(());
-        };
-        let init_height = innermost.init_height;
-        // The proof takes the invariant of the stacks from this read.
-        let _count = self.control.len();
-        self.transaction
-            .pop_ctrl(innermost, self.inits.set_since(init_height))?;
-        let _ = self.control.pop();
-        self.inits.drop_ctrl(init_height);
-        Ok(())
-    }
-
     /// Whether an attempt is pending.
     pub fn is_pending(&self) -> bool
         ensures { result ≡ is_some self.now.body.undone }

@@ -1,6 +1,6 @@
 //! Lines with an operator and what it answers each: the parts of one, and the script that they come to.
 
-use crate::test_error::TestError;
+use crate::lack::Lack;
 
 /// The operator of a line, and its answer alone.
 pub fn parts_of(line: &str) -> (&str, &str) {
@@ -17,14 +17,14 @@ pub fn answer_in(text: &str) -> &str {
 }
 
 /// The script of a body: its first lines, and its operators without their answers.
-pub fn script_of(rt: &impl AllocGlobal, head: &str, lines: &str) -> Result<String, TestError> {
+pub fn script_of(rt: &impl AllocGlobal, head: &str, lines: &str) -> Result<String, Lack> {
     let mut script = head.to_string(rt.alloc())?;
     add_operators(&mut script, lines)?;
     Ok(script)
 }
 
 /// Adds the operators of these lines, one a line.
-fn add_operators(script: &mut String, lines: &str) -> Result<(), TestError> {
+fn add_operators(script: &mut String, lines: &str) -> Result<(), Lack> {
     for line in lines.lines() {
         let (written, _) = parts_of(line);
         script.push_str("\n")?;

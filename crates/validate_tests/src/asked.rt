@@ -5,8 +5,8 @@ ghost use Rattle.wasmparser_validate.specs.Start.{state};
 ghost use Rattle.wasmparser_validate.specs.State.{IsStarting};
 
 use crate::expectations::{expect, expect_same};
+use crate::lack::Lack;
 use crate::setting::Setting;
-use crate::test_error::TestError;
 use std::process::Abort;
 use wasmparser_validate::operators::{OperatorValidator, OperatorValidatorAllocations};
 use wasmparser_validate::resources::{ModuleLists, WasmModuleResources};
@@ -59,7 +59,7 @@ fn expect_answers(rt: &impl Abort, v: &mut OperatorValidator, lists: &ModuleList
 }
 
 #[test]
-fn what_a_new_body_answers(rt: HostRuntime) -> Result<(), TestError> {
+fn what_a_new_body_answers(rt: HostRuntime) -> Result<(), Lack> {
     let setting = Setting::read(&rt, MODULE)?;
     let mut v = setting.validator(OperatorValidatorAllocations::new(rt.alloc()))?;
     expect_answers(&rt, &mut v, &setting.lists);

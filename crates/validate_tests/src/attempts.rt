@@ -6,9 +6,9 @@ ghost use Rattle.validate_stacks.specs.State.{IsStarting, IsValidBody};
 ghost use Rattle.wasmparser_validate.specs.Start.{state};
 
 use crate::expectations::{expect, expect_same};
+use crate::lack::Lack;
 use crate::lines::{Way, expect_lines, visit};
 use crate::setting::{HEAD, Setting};
-use crate::test_error::TestError;
 use std::process::Abort;
 use validate_body::first_set::inits_of;
 use wasmparser_validate::operators::{
@@ -55,7 +55,7 @@ fn expect_order_kept(
     rt: &(impl Abort + AllocGlobal),
     v: &mut OperatorValidator,
     lists: &ModuleLists,
-) -> Result<(), TestError>
+) -> Result<(), Lack>
     requires { IsStarting (⟦<ModuleLists as WasmModuleResources>⟧.context lists.now) (state v.old) }
 {
     expect_lines(rt, v, lists, BOTH_SET, Way::Visited)?;
@@ -73,7 +73,7 @@ fn expect_order_kept(
 }
 
 #[test]
-fn the_order_of_first_set_locals_comes_back(rt: HostRuntime) -> Result<(), TestError> {
+fn the_order_of_first_set_locals_comes_back(rt: HostRuntime) -> Result<(), Lack> {
     let setting = Setting::read(&rt, "type func ->\nfunc 0\nlocal 2 ref:func")?;
     let mut v = setting.validator(OperatorValidatorAllocations::new(rt.alloc()))?;
     expect_order_kept(&rt, &mut v, &setting.lists)
@@ -102,7 +102,7 @@ fn expect_one_operator<R: WasmModuleResources>(
 
 /// What is pending is not in the buffers of its validator.
 #[test]
-fn an_attempt_is_of_one_operator_and_one_validator(rt: HostRuntime) -> Result<(), TestError> {
+fn an_attempt_is_of_one_operator_and_one_validator(rt: HostRuntime) -> Result<(), Lack> {
     let setting = Setting::read(&rt, HEAD)?;
     let mut allocs = OperatorValidatorAllocations::new(rt.alloc());
     for _ in 0..2 {

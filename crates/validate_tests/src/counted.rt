@@ -7,10 +7,10 @@ ghost use Rattle.wasmparser_validate.specs.Start.{state, stacks_of};
 ghost use Rattle.wasmparser_validate.specs.State.{IsStarting};
 
 use crate::expectations::{expect, expect_same};
+use crate::lack::Lack;
 use crate::lines::{Way, expect_lines};
 use crate::setting::{HEAD, Setting};
-use crate::test_error::TestError;
-use crate::texts::{answer_text, expect_answer_text};
+use crate::texts::{expect_said, said};
 use std::process::Abort;
 use wasmparser_validate::operators::{OperatorValidator, OperatorValidatorAllocations, Pops};
 use wasmparser_validate::resources::WasmModuleResources;
@@ -60,7 +60,7 @@ fn expect_run<R: WasmModuleResources>(
     v: &mut OperatorValidator,
     lists: &R,
     run: Run,
-) -> Result<(), TestError>
+) -> Result<(), Lack>
     requires { IsStarting (R.context lists.now) (state v.old) }
 {
     let (lines, n, tried, wanted) = run;
@@ -69,13 +69,13 @@ fn expect_run<R: WasmModuleResources>(
     let mut pops = Pops::new();
     let answer = pop_run(v, lists, n, &mut pops);
     expect_same(rt, pops.count(), tried);
-    let found = answer_text(rt, v, answer)?;
-    expect_answer_text(rt, &found, wanted);
+    let said = said(rt, v, answer)?;
+    expect_said(rt, &said, wanted);
     Ok(())
 }
 
 /// Each in the buffers of the one before it.
-fn expect_runs(rt: &(impl Abort + AllocGlobal), setting: &Setting) -> Result<(), TestError> {
+fn expect_runs(rt: &(impl Abort + AllocGlobal), setting: &Setting) -> Result<(), Lack> {
     let mut used = OperatorValidatorAllocations::new(rt.alloc());
     for run in RUNS {
         let mut v = setting.validator(used)?;
@@ -87,7 +87,7 @@ fn expect_runs(rt: &(impl Abort + AllocGlobal), setting: &Setting) -> Result<(),
 }
 
 #[test]
-fn runs_of_pops(rt: HostRuntime) -> Result<(), TestError> {
+fn runs_of_pops(rt: HostRuntime) -> Result<(), Lack> {
     let setting = Setting::read(&rt, HEAD)?;
     expect_runs(&rt, &setting)
 }

@@ -7,9 +7,9 @@
 
 use crate::answers::script_of;
 use crate::expectations::{expect, expect_error, expect_same};
+use crate::lack::Lack;
 use crate::setting::{HEAD, Setting};
 use crate::tables::GROUPS;
-use crate::test_error::TestError;
 use script_reader::read_script;
 use std::process::Abort;
 use wasmparser_validate::func::FuncValidator;
@@ -93,10 +93,10 @@ fn accept_script(
     rt: &(impl Abort + AllocGlobal),
     setting: &Setting,
     script: &str,
-) -> Result<(), TestError> {
+) -> Result<(), Lack> {
     let mut listed = Vec::new(rt.alloc());
     let Ok(read) = read_script(rt.alloc(), &mut listed, script) else {
-        return Err(TestError("lines that are no script"));
+        return Err(Lack("lines that are no script"));
     };
     accept_in(rt, setting, &read.operators.ops, false)?;
     accept_in(rt, setting, &read.operators.ops, true)?;
@@ -104,7 +104,7 @@ fn accept_script(
 }
 
 /// A body of a table, visited and attempted.
-fn accept_body(rt: &(impl Abort + AllocGlobal), body: &str) -> Result<(), TestError> {
+fn accept_body(rt: &(impl Abort + AllocGlobal), body: &str) -> Result<(), Lack> {
     let (head, lines) = body.split_once("\n--\n").unwrap_or((HEAD, body));
     let setting = Setting::read(rt, head)?;
     accept_script(rt, &setting, &script_of(rt, head, lines)?)
@@ -113,7 +113,7 @@ fn accept_body(rt: &(impl Abort + AllocGlobal), body: &str) -> Result<(), TestEr
 #[test]
 fn groups_of_operators_in_functions_whichever_request_is_refused(
     rt: HostRuntime,
-) -> Result<(), TestError> {
+) -> Result<(), Lack> {
     for body in GROUPS.split("\n\n") {
         if accept_body(&rt, body).is_err() {
             accept_body(&rt, body)?;
@@ -152,7 +152,7 @@ fn expect_refusals<R: WasmModuleResources>(
 }
 
 #[test]
-fn a_failed_one_refuses_whatever_comes(rt: HostRuntime) -> Result<(), TestError> {
+fn a_failed_one_refuses_whatever_comes(rt: HostRuntime) -> Result<(), Lack> {
     let setting = Setting::read(&rt, HEAD)?;
     let v = setting.validator(OperatorValidatorAllocations::new(rt.alloc()))?;
     expect_refusals(&rt, &mut FuncValidator::new(rt.alloc(), v, &setting.lists));
@@ -192,7 +192,7 @@ fn expect_five_accepted<R: WasmModuleResources>(
 }
 
 #[test]
-fn an_attempt_that_is_refused_leaves_no_trace(rt: HostRuntime) -> Result<(), TestError> {
+fn an_attempt_that_is_refused_leaves_no_trace(rt: HostRuntime) -> Result<(), Lack> {
     let setting = Setting::read(&rt, "type func ->\nfunc 0\nlocal 3 i64")?;
     let v = setting.validator(OperatorValidatorAllocations::new(rt.alloc()))?;
     let mut function = FuncValidator::new(rt.alloc(), v, &setting.lists);

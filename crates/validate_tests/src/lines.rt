@@ -1,6 +1,6 @@
 //! Operators with their answers, one a line, in a body.
 //!
-//! A line is an operator as scripts write it, an arrow, and what `answer_text` gives; what stands there
+//! A line is an operator as scripts write it, an arrow, and what `said` of `texts` gives; what stands there
 //! behind the second arrow may be left out. With a `try` before it the operator is visited within an attempt,
 //! which is taken back: the answer is that within, and behind it everything is as before.
 
@@ -13,9 +13,9 @@ ghost use Rattle.wasmparser_validate.specs.Start.{state, stacks_of};
 
 use crate::answers::answer_in;
 use crate::expectations::{expect, expect_text};
+use crate::lack::Lack;
 use crate::names::visit_named;
-use crate::test_error::TestError;
-use crate::texts::{answer_text, expect_answer_text, snapshot};
+use crate::texts::{expect_said, said, seen};
 use script_parts::{OperatorList, read_words};
 use script_reader::read_operator;
 use std::process::Abort;
@@ -88,14 +88,14 @@ fn expect_visited<R: WasmModuleResources>(
     op: Op<'_>,
     is_named: bool,
     wanted: &str,
-) -> Result<(), TestError>
+) -> Result<(), Lack>
     requires { MayVisit (R.context lists.now) (stacks_of v.old) }
     ensures valid { IsValidBody (R.context lists.now) (state v.new) }
     ensures kept { IsKept (state v.old) (state v.new) }
 {
     let answer = visit_either(v, lists, op, is_named);
-    let found = answer_text(rt, v, answer)?;
-    expect_answer_text(rt, &found, wanted);
+    let said = said(rt, v, answer)?;
+    expect_said(rt, &said, wanted);
     Ok(())
 }
 
@@ -106,31 +106,31 @@ fn expect_undone<R: WasmModuleResources>(
     lists: &R,
     op: Op<'_>,
     wanted: &str,
-) -> Result<(), TestError>
+) -> Result<(), Lack>
     requires idle { (state v.old).undone ≡ None }
     requires visit { MayVisit (R.context lists.now) (stacks_of v.old) }
     ensures same { OnOk result (state v.new ≡ state v.old) }
 {
-    let before = snapshot(rt, v)?;
+    let before = seen(rt, v)?;
     expect(rt, v.can_attempt() && !v.is_pending());
     v.begin_try_op();
     expect(rt, v.can_attempt() && v.is_pending());
     let answer = visit(v, lists, op);
-    let within = answer_text(rt, v, answer);
+    let within = said(rt, v, answer);
     v.rollback();
-    expect_snapshot(rt, v, &before, wanted)?;
-    expect_answer_text(rt, &within?, wanted);
+    expect_seen(rt, v, &before, wanted)?;
+    expect_said(rt, &within?, wanted);
     Ok(())
 }
 
-/// What can be seen is the same as before.
-fn expect_snapshot(
+/// What can be seen is what was seen before.
+fn expect_seen(
     rt: &(impl Abort + AllocGlobal),
     v: &OperatorValidator,
     before: &str,
     wanted: &str,
-) -> Result<(), TestError> {
-    expect_text(rt, &snapshot(rt, v)?, before, wanted);
+) -> Result<(), Lack> {
+    expect_text(rt, &seen(rt, v)?, before, wanted);
     Ok(())
 }
 
@@ -142,20 +142,20 @@ fn expect_attempted<R: WasmModuleResources>(
     lists: &R,
     op: Op<'_>,
     wanted: &str,
-) -> Result<(), TestError>
+) -> Result<(), Lack>
     requires idle { (state v.old).undone ≡ None }
     requires visit { MayVisit (R.context lists.now) (stacks_of v.old) }
     ensures idle { OnOk result ((state v.new).undone ≡ None) }
     ensures valid { OnOk result (IsValidBody (R.context lists.now) (state v.new)) }
 {
-    let before = snapshot(rt, v)?;
+    let before = seen(rt, v)?;
     let _ = try_and_undo(v, lists, 7, op);
-    expect_snapshot(rt, v, &before, wanted)?;
+    expect_seen(rt, v, &before, wanted)?;
     let answer = try_op(v, lists, 7, op);
     if answer.is_err() {
-        expect_snapshot(rt, v, &before, wanted)?;
+        expect_seen(rt, v, &before, wanted)?;
     }
-    expect_answer_text(rt, &answer_text(rt, v, answer)?, answer_in(wanted));
+    expect_said(rt, &said(rt, v, answer)?, answer_in(wanted));
     Ok(())
 }
 
@@ -164,7 +164,7 @@ pub fn read_op<'a>(
     rt: &impl AllocGlobal,
     list: &'a mut Option<OperatorList>,
     text: &str,
-) -> Result<Op<'a>, TestError> {
+) -> Result<Op<'a>, Lack> {
     let mut words = Vec::new(rt.alloc());
     read_words(&mut words, text)?;
     Ok(read_operator(rt.alloc(), list, &words)?)
@@ -178,7 +178,7 @@ fn expect_op<R: WasmModuleResources>(
     op: Op<'_>,
     way: Way,
     wanted: &str,
-) -> Result<(), TestError>
+) -> Result<(), Lack>
     requires idle { (state v.old).undone ≡ None }
     requires visit { MayVisit (R.context lists.now) (stacks_of v.old) }
     ensures idle { OnOk result ((state v.new).undone ≡ None) }
@@ -199,14 +199,14 @@ fn expect_line<R: WasmModuleResources>(
     lists: &R,
     line: &str,
     way: Way,
-) -> Result<(), TestError>
+) -> Result<(), Lack>
     requires idle { (state v.old).undone ≡ None }
     requires valid { IsValidBody (R.context lists.now) (state v.old) }
     ensures idle { OnOk result ((state v.new).undone ≡ None) }
     ensures valid { OnOk result (IsValidBody (R.context lists.now) (state v.new)) }
 {
     if v.control_stack_height() == 0 {
-        return Err(TestError("a line behind a closed body"));
+        return Err(Lack("a line behind a closed body"));
     }
     let (written, wanted) = line.trim().split_once(" => ").unwrap_or((line, ""));
     let (way, written) = match written.strip_prefix("try ") {
@@ -225,7 +225,7 @@ pub fn expect_lines<R: WasmModuleResources>(
     lists: &R,
     text: &str,
     way: Way,
-) -> Result<(), TestError>
+) -> Result<(), Lack>
     requires idle { (state v.old).undone ≡ None }
     requires valid { IsValidBody (R.context lists.now) (state v.old) }
     ensures idle { OnOk result ((state v.new).undone ≡ None) }

@@ -4,10 +4,10 @@ ghost use Rattle.validation_rules.specs.Operators.{operator};
 ghost use Rattle.validate_stacks.specs.Visits.{MayVisit, Meets};
 ghost use Rattle.wasmparser_validate.specs.Start.{state, stacks_of};
 
+use crate::lack::Lack;
 use crate::lines::{Way, expect_lines};
 use crate::setting::{HEAD, Setting};
 use crate::tables::GROUPS;
-use crate::test_error::TestError;
 use std::process::Abort;
 use wasmparser_validate::operators::{OperatorValidator, OperatorValidatorAllocations};
 use wasmparser_validate::resources::WasmModuleResources;
@@ -59,7 +59,7 @@ pub fn visit_named<R: WasmModuleResources>(
 }
 
 /// A body of a table.
-fn expect_body(rt: &(impl Abort + AllocGlobal), body: &str) -> Result<(), TestError> {
+fn expect_body(rt: &(impl Abort + AllocGlobal), body: &str) -> Result<(), Lack> {
     let (head, lines) = body.split_once("\n--\n").unwrap_or((HEAD, body));
     let setting = Setting::read(rt, head)?;
     let mut v = setting.validator(OperatorValidatorAllocations::new(rt.alloc()))?;
@@ -67,7 +67,7 @@ fn expect_body(rt: &(impl Abort + AllocGlobal), body: &str) -> Result<(), TestEr
 }
 
 #[test]
-fn groups_of_operators_by_their_names(rt: HostRuntime) -> Result<(), TestError> {
+fn groups_of_operators_by_their_names(rt: HostRuntime) -> Result<(), Lack> {
     for body in GROUPS.split("\n\n") {
         expect_body(&rt, body)?;
     }

@@ -5,9 +5,9 @@ ghost use Rattle.wasmparser_validate.specs.Start.{state, stacks_of};
 ghost use Rattle.wasmparser_validate.specs.State.{IsStarting};
 
 use crate::expectations::expect;
+use crate::lack::Lack;
 use crate::lines::{Way, expect_lines, read_op, visit};
 use crate::setting::Setting;
-use crate::test_error::TestError;
 use std::process::Abort;
 use wasmparser_validate::operators::{OperatorValidator, OperatorValidatorAllocations};
 use wasmparser_validate::resources::WasmModuleResources;
@@ -49,7 +49,7 @@ fn expect_last<R: WasmModuleResources>(
     lists: &R,
     lines: &str,
     op: Op<'_>,
-) -> Result<(), TestError>
+) -> Result<(), Lack>
     requires { IsStarting (R.context lists.now) (state v.old) }
 {
     expect_lines(rt, v, lists, lines, Way::Visited)?;
@@ -72,11 +72,7 @@ fn expect_accepted<R: WasmModuleResources>(
 }
 
 /// The operators of a body.
-fn expect_body(
-    rt: &(impl Abort + AllocGlobal),
-    setting: &Setting,
-    body: &str,
-) -> Result<(), TestError> {
+fn expect_body(rt: &(impl Abort + AllocGlobal), setting: &Setting, body: &str) -> Result<(), Lack> {
     let (lines, last) = body.rsplit_once("\n").unwrap_or(("", body));
     let mut list = None;
     let op = read_op(rt, &mut list, last)?;
@@ -85,7 +81,7 @@ fn expect_body(
 }
 
 /// Each body in turn.
-fn expect_each(rt: &(impl Abort + AllocGlobal)) -> Result<(), TestError> {
+fn expect_each(rt: &(impl Abort + AllocGlobal)) -> Result<(), Lack> {
     let setting = Setting::read(rt, HEAD)?;
     for body in BODIES.split("\n\n") {
         expect_body(rt, &setting, body)?;
@@ -94,7 +90,7 @@ fn expect_each(rt: &(impl Abort + AllocGlobal)) -> Result<(), TestError> {
 }
 
 #[test]
-fn operators_that_take_none_whichever_request_is_refused(rt: HostRuntime) -> Result<(), TestError> {
+fn operators_that_take_none_whichever_request_is_refused(rt: HostRuntime) -> Result<(), Lack> {
     match expect_each(&rt) {
         Ok(()) => Ok(()),
         Err(_) => expect_each(&rt),

@@ -231,7 +231,7 @@ try end => 0 1 => block:
 nop => 0 2 => if:
 
 legacy_try => 0 2
-try catch 7 => unknown tag 7: tag index out of bounds => catch:
+try catch 7 => unknown tag 7: tag index out of bounds => legacy_try:
 nop => 0 2 => legacy_try:";
 
 /// A body for each group of operators, or two.

@@ -2,7 +2,7 @@
 
 use crate::answers::answer_in;
 use crate::expectations::expect_text;
-use crate::test_error::{NO_MEMORY, TestError};
+use crate::lack::{Lack, NO_MEMORY};
 use std::process::Abort;
 use validate_body::first_set::inits_of;
 use wasmparser_validate::operators::OperatorValidator;
@@ -11,13 +11,13 @@ use wasmparser_validate::visit::{Frame, FrameKind};
 
 /// All that can be seen: the open frames, the innermost first, the locals that were set, in the order in which they
 /// were, and the operands, the top last.
-pub fn snapshot(rt: &impl AllocGlobal, v: &OperatorValidator) -> Result<String, TestError> {
+pub fn seen(rt: &impl AllocGlobal, v: &OperatorValidator) -> Result<String, Lack> {
     let mut text = String::new(rt.alloc());
-    add_snapshot(&mut text, v)?;
+    add_seen(&mut text, v)?;
     Ok(text)
 }
 
-fn add_snapshot(text: &mut String, v: &OperatorValidator) -> Result<(), TestError> {
+fn add_seen(text: &mut String, v: &OperatorValidator) -> Result<(), Lack> {
     for depth in 0..v.control_stack_height() {
         write!(text, "{:?}", v.get_frame(depth))?;
     }
@@ -30,21 +30,21 @@ fn add_snapshot(text: &mut String, v: &OperatorValidator) -> Result<(), TestErro
 
 /// What a visit answered: how many operands and frames there are behind it, or the words of its refusal. Then
 /// an arrow, the innermost frame and the operands, the top last. Want of memory is no answer.
-pub fn answer_text(
+pub fn said(
     rt: &impl AllocGlobal,
     v: &OperatorValidator,
     answer: Result<(), Error>,
-) -> Result<String, TestError> {
+) -> Result<String, Lack> {
     let mut text = String::new(rt.alloc());
-    add_answer_text(&mut text, v, answer)?;
+    add_said(&mut text, v, answer)?;
     Ok(text)
 }
 
-fn add_answer_text(
+fn add_said(
     text: &mut String,
     v: &OperatorValidator,
     answer: Result<(), Error>,
-) -> Result<(), TestError> {
+) -> Result<(), Lack> {
     add_answer(text, v, answer)?;
     add_innermost(text, v)
 }
@@ -53,21 +53,21 @@ fn add_answer(
     text: &mut String,
     v: &OperatorValidator,
     answer: Result<(), Error>,
-) -> Result<(), TestError> {
+) -> Result<(), Lack> {
     match answer {
         Ok(()) => add_heights(text, v),
         Err(refusal) => add_refusal(text, &refusal),
     }
 }
 
-fn add_heights(text: &mut String, v: &OperatorValidator) -> Result<(), TestError> {
+fn add_heights(text: &mut String, v: &OperatorValidator) -> Result<(), Lack> {
     let operands = v.operand_stack_height();
     let frames = v.control_stack_height();
     write!(text, "{operands} {frames}")?;
     Ok(())
 }
 
-fn add_refusal(text: &mut String, refusal: &Error) -> Result<(), TestError> {
+fn add_refusal(text: &mut String, refusal: &Error) -> Result<(), Lack> {
     if refusal.is_out_of_memory() {
         return Err(NO_MEMORY);
     }
@@ -75,7 +75,7 @@ fn add_refusal(text: &mut String, refusal: &Error) -> Result<(), TestError> {
     Ok(())
 }
 
-fn add_innermost(text: &mut String, v: &OperatorValidator) -> Result<(), TestError> {
+fn add_innermost(text: &mut String, v: &OperatorValidator) -> Result<(), Lack> {
     let (dead, kind) = match v.get_frame(0) {
         Some(
             Frame {
@@ -92,7 +92,7 @@ fn add_innermost(text: &mut String, v: &OperatorValidator) -> Result<(), TestErr
 }
 
 /// Adds the types of the operands, `?` for one whose type isn't known.
-fn add_operands(text: &mut String, v: &OperatorValidator) -> Result<(), TestError> {
+fn add_operands(text: &mut String, v: &OperatorValidator) -> Result<(), Lack> {
     for depth in (0..v.operand_stack_height()).rev() {
         match v.peek_operand_at(depth).flatten() {
             Some(ty) => write!(text, " {ty}")?,
@@ -116,11 +116,11 @@ fn kind_name(kind: FrameKind) -> &'static str {
     }
 }
 
-/// What was answered is what a line wants, which may be the answer alone.
-pub fn expect_answer_text(rt: &impl Abort, found: &str, wanted: &str) {
+/// What was said is what a line wants, which may be the answer alone.
+pub fn expect_said(rt: &impl Abort, said: &str, wanted: &str) {
     if wanted.contains("=>") {
-        expect_text(rt, found, wanted, found);
+        expect_text(rt, said, wanted, said);
     } else {
-        expect_text(rt, answer_in(found), wanted, found);
+        expect_text(rt, answer_in(said), wanted, said);
     }
 }

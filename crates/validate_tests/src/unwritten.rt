@@ -5,10 +5,10 @@ ghost use Rattle.wasmparser_validate.specs.Start.{state};
 ghost use Rattle.wasmparser_validate.specs.State.{IsStarting};
 
 use crate::expectations::expect;
+use crate::lack::Lack;
 use crate::lines::visit;
 use crate::setting::Setting;
-use crate::test_error::TestError;
-use crate::texts::{answer_text, expect_answer_text};
+use crate::texts::{expect_said, said};
 use std::process::Abort;
 use wasmparser_validate::operators::{OperatorValidator, OperatorValidatorAllocations};
 use wasmparser_validate::resources::WasmModuleResources;
@@ -68,20 +68,20 @@ fn expect_pair<R: WasmModuleResources>(
     v: &mut OperatorValidator,
     lists: &R,
     row: (Op<'_>, Op<'_>, &str),
-) -> Result<(), TestError>
+) -> Result<(), Lack>
     requires { IsStarting (R.context lists.now) (state v.old) }
 {
     let (first, second, wanted) = row;
     let is_accepted = visit(v, lists, first).is_ok();
     expect(rt, is_accepted && v.control_stack_height() > 0);
     let answer = visit(v, lists, second);
-    let found = answer_text(rt, v, answer)?;
-    expect_answer_text(rt, &found, wanted);
+    let said = said(rt, v, answer)?;
+    expect_said(rt, &said, wanted);
     Ok(())
 }
 
 /// Each in the buffers of the one before it.
-fn expect_rows(rt: &(impl Abort + AllocGlobal), setting: &Setting) -> Result<(), TestError> {
+fn expect_rows(rt: &(impl Abort + AllocGlobal), setting: &Setting) -> Result<(), Lack> {
     let mut allocs = OperatorValidatorAllocations::new(rt.alloc());
     for row in ROWS {
         let mut v = setting.validator(allocs)?;
@@ -93,7 +93,7 @@ fn expect_rows(rt: &(impl Abort + AllocGlobal), setting: &Setting) -> Result<(),
 }
 
 #[test]
-fn operators_that_no_script_writes(rt: HostRuntime) -> Result<(), TestError> {
+fn operators_that_no_script_writes(rt: HostRuntime) -> Result<(), Lack> {
     let setting = Setting::read(&rt, "type func ->\nmemory\nfunc 0")?;
     expect_rows(&rt, &setting)
 }

@@ -1,4 +1,4 @@
-//! The lines that are written of a module, in words or as JSON.
+//! The lines that are told of a module, in words or as JSON.
 
 use crate::options::Format;
 use crate::outcome::Outcome;
@@ -7,7 +7,7 @@ use module_check::{Item, Verdict};
 use std::io;
 use std::io::Write;
 
-/// What is found of an item, or of the module as a whole.
+/// What is told of an item, or of the module as a whole.
 #[derive(Clone, Copy)]
 pub struct Finding<'r> {
     /// The item, or None for the module.
@@ -35,7 +35,7 @@ pub struct Counts {
     pub equal_types: usize,
 }
 
-/// What is found of a module in the end.
+/// What is told of a module in the end.
 #[derive(Clone, Copy)]
 pub struct Summary {
     /// What it comes to.

@@ -9,9 +9,9 @@ mod operators;
 mod options;
 mod outcome;
 mod program;
+mod report;
 mod text;
 mod usage;
-mod verdict_writer;
 
 use crate::outcome::Outcome;
 use std::io::Write;

@@ -4,7 +4,7 @@ use crate::lines::Lines;
 use crate::operators::{Code, refused_operator};
 use crate::options::Detail;
 use crate::outcome::Outcome;
-use crate::verdict_writer::{VerdictWriter, write_module};
+use crate::report::{Report, tell_module};
 use module_check::{BodyBuffers, ConstantExpression, Item, LoadedModule, ModuleFeatures, Verdict};
 use std::alloc::Global;
 use std::io;
@@ -13,12 +13,12 @@ use std::io::{IsTerminal, Write};
 /// After so many bodies it is said how far the check is.
 const MANY: usize = 5_000;
 
-/// How a module is checked, and what is written of it.
+/// What is asked of the check of a module.
 #[derive(Clone, Copy)]
-pub struct CheckOptions<'o> {
+pub struct Asked<'o> {
     /// How its lines are written.
     pub lines: Lines<'o>,
-    /// How much of it is written.
+    /// How much of it is told.
     pub detail: Detail,
     /// The proposals that are on.
     pub features: ModuleFeatures,
@@ -70,12 +70,12 @@ fn check_expression<W: Write>(
     module: &LoadedModule<'_>,
     expression: &ConstantExpression<'_>,
     buffers: &mut BodyBuffers,
-    writer: &mut VerdictWriter<'_>,
+    report: &mut Report<'_>,
 ) -> io::Result<()> {
     let verdict = module.check_expression(expression, buffers);
     let operator = operator_of_expression(alloc, module, expression, &verdict)?;
     let item = Item::Expression(expression.place);
-    writer.write_item(out, lines, item, operator, &verdict)
+    report.tell(out, lines, item, operator, &verdict)
 }
 
 /// Checks the body of a function.
@@ -86,15 +86,15 @@ fn check_function<W: Write>(
     module: &LoadedModule<'_>,
     function: u32,
     buffers: &mut BodyBuffers,
-    writer: &mut VerdictWriter<'_>,
+    report: &mut Report<'_>,
 ) -> io::Result<()> {
     let verdict = module.check_function(function, buffers);
     let operator = operator_of_function(alloc, module, function, &verdict)?;
-    writer.write_item(out, lines, Item::Function(function), operator, &verdict)
+    report.tell(out, lines, Item::Function(function), operator, &verdict)
 }
 
 /// Says how far the check of many bodies is, where standard error is a terminal.
-fn write_progress(rt: &HostRuntime, done: usize, all: usize) {
+fn tell_progress(rt: &HostRuntime, done: usize, all: usize) {
     if done % MANY == MANY - 1 && rt.stderr().is_terminal() {
         let _ = eprint!(rt; "\r{done} of {all} bodies");
         if all.saturating_sub(done) <= MANY {
@@ -110,12 +110,12 @@ fn check_items<W: Write>(
     lines: Lines<'_>,
     module: &LoadedModule<'_>,
     buffers: &mut BodyBuffers,
-    writer: &mut VerdictWriter<'_>,
+    report: &mut Report<'_>,
 ) -> io::Result<()> {
     for expression in module.expressions() {
-        check_expression(rt.alloc(), out, lines, module, expression, buffers, writer)?;
+        check_expression(rt.alloc(), out, lines, module, expression, buffers, report)?;
     }
-    check_bodies(rt, out, lines, module, buffers, writer)
+    check_bodies(rt, out, lines, module, buffers, report)
 }
 
 /// Checks each body.
@@ -125,13 +125,13 @@ fn check_bodies<W: Write>(
     lines: Lines<'_>,
     module: &LoadedModule<'_>,
     buffers: &mut BodyBuffers,
-    writer: &mut VerdictWriter<'_>,
+    report: &mut Report<'_>,
 ) -> io::Result<()> {
-    let all = module.body_count();
+    let all = module.bodies();
     for index in 0..all {
-        write_progress(rt, index, all);
+        tell_progress(rt, index, all);
         let function = module.function_of(index);
-        check_function(rt.alloc(), out, lines, module, function, buffers, writer)?;
+        check_function(rt.alloc(), out, lines, module, function, buffers, report)?;
     }
     Ok(())
 }
@@ -142,36 +142,36 @@ fn check_all<W: Write>(
     out: &mut W,
     lines: Lines<'_>,
     module: &LoadedModule<'_>,
-    writer: &mut VerdictWriter<'_>,
+    report: &mut Report<'_>,
 ) -> io::Result<()> {
     let mut buffers = BodyBuffers::new(rt.alloc());
-    check_items(rt, out, lines, module, &mut buffers, writer)
+    check_items(rt, out, lines, module, &mut buffers, report)
 }
 
 /// Checks a module that was read.
 fn check_module<W: Write>(
     rt: &HostRuntime,
     out: &mut W,
-    options: CheckOptions<'_>,
+    asked: Asked<'_>,
     module: &LoadedModule<'_>,
 ) -> io::Result<Outcome> {
     let Ok(names) = module.names(rt.alloc()) else {
-        return write_module(out, options.lines, options.detail, &Verdict::OutOfMemory);
+        return tell_module(out, asked.lines, asked.detail, &Verdict::OutOfMemory);
     };
-    let mut writer = VerdictWriter::new(names, options.detail, module.merged());
-    check_all(rt, out, options.lines, module, &mut writer)?;
-    writer.end(out, options.lines)
+    let mut report = Report::new(names, asked.detail, module.merged());
+    check_all(rt, out, asked.lines, module, &mut report)?;
+    report.end(out, asked.lines)
 }
 
-/// Checks the module of these bytes, and writes and answers what it comes to.
+/// Checks the module of these bytes, and tells and answers what it comes to.
 pub fn check_bytes<W: Write>(
     rt: &HostRuntime,
     out: &mut W,
-    options: CheckOptions<'_>,
+    asked: Asked<'_>,
     bytes: &[u8],
 ) -> io::Result<Outcome> {
-    match LoadedModule::new(rt.alloc(), bytes, options.features) {
-        Ok(module) => check_module(rt, out, options, &module),
-        Err(verdict) => write_module(out, options.lines, options.detail, &verdict),
+    match LoadedModule::new(rt.alloc(), bytes, asked.features) {
+        Ok(module) => check_module(rt, out, asked, &module),
+        Err(verdict) => tell_module(out, asked.lines, asked.detail, &verdict),
     }
 }

@@ -1,19 +1,19 @@
 //! What the program's words choose.
 
-use crate::usage::UsageError;
+use crate::usage::Misuse;
 use module_check::ModuleFeatures;
 use std::alloc::Global;
 use std::env;
 use validate_types::Flags;
 
-/// What the program does.
+/// What is asked for.
 #[derive(Clone, Copy)]
-pub enum Action {
-    /// It checks modules.
+pub enum Wish {
+    /// To check modules.
     Check,
-    /// It says how it is used.
+    /// To say how the program is used.
     Help,
-    /// It says which version it is.
+    /// To say which version it is.
     Version,
 }
 
@@ -21,12 +21,12 @@ pub enum Action {
 #[derive(Clone, Copy)]
 pub enum Detail {
     /// Nothing: the status says it.
-    Quiet,
+    Status,
     /// Whether the module is valid, and why not: a line for each body and expression that isn't accepted, or one for the
     /// module.
-    Normal,
+    Others,
     /// A line for each body and expression, and how many came to what.
-    Verbose,
+    Each,
 }
 
 /// How it is printed.
@@ -41,8 +41,8 @@ pub enum Format {
 /// What the words choose.
 #[derive(Drop)]
 pub struct Options {
-    /// What the program does.
-    pub action: Action,
+    /// What is asked for.
+    pub wish: Wish,
     /// How much is printed.
     pub detail: Detail,
     /// How it is printed.
@@ -85,7 +85,7 @@ fn with_word(features: ModuleFeatures, word: &str) -> Option<ModuleFeatures> {
 
 impl Words {
     /// Takes a word.
-    fn take(&mut self, word: String) -> Result<(), UsageError> {
+    fn take(&mut self, word: String) -> Result<(), Misuse> {
         if self.awaits_list {
             self.awaits_list = false;
             return self.take_list(word.as_str());
@@ -99,23 +99,23 @@ impl Words {
     }
 
     /// Takes the name of a file.
-    fn take_file(&mut self, word: String) -> Result<(), UsageError> {
+    fn take_file(&mut self, word: String) -> Result<(), Misuse> {
         match self.options.files.push(word) {
             Ok(()) => Ok(()),
-            Err(_) => Err(UsageError::out_of_memory()),
+            Err(_) => Err(Misuse::out_of_memory()),
         }
     }
 
     /// Takes an option: a long word, or letters that may be joined.
-    fn take_option(&mut self, word: String) -> Result<(), UsageError> {
+    fn take_option(&mut self, word: String) -> Result<(), Misuse> {
         match word.as_str() {
             "--" => self.is_behind_options = true,
             "--features" => self.awaits_list = true,
             "--quiet" => self.take_quiet(),
             "--verbose" => self.take_verbose(),
             "--json" => self.options.format = Format::Json,
-            "--help" => self.options.action = Action::Help,
-            "--version" => self.options.action = Action::Version,
+            "--help" => self.options.wish = Wish::Help,
+            "--version" => self.options.wish = Wish::Version,
             other => {
                 return match other.strip_prefix("--features=") {
                     Some(list) => self.take_list(list),
@@ -127,32 +127,32 @@ impl Words {
     }
 
     /// Takes the letters behind a `-`.
-    fn take_letters(&mut self, word: &str) -> Result<(), UsageError> {
+    fn take_letters(&mut self, word: &str) -> Result<(), Misuse> {
         for letter in word.chars().skip(1) {
             match letter {
                 'q' => self.take_quiet(),
                 'v' => self.take_verbose(),
-                'h' => self.options.action = Action::Help,
-                'V' => self.options.action = Action::Version,
-                _ => return Err(UsageError::unknown_word(self.alloc, word)),
+                'h' => self.options.wish = Wish::Help,
+                'V' => self.options.wish = Wish::Version,
+                _ => return Err(Misuse::unknown_word(self.alloc, word)),
             }
         }
         Ok(())
     }
 
     fn take_quiet(&mut self) {
-        self.options.detail = Detail::Quiet;
+        self.options.detail = Detail::Status;
     }
 
     /// Lets each line be printed, unless none is to be.
     fn take_verbose(&mut self) {
-        if !matches!(self.options.detail, Detail::Quiet) {
-            self.options.detail = Detail::Verbose;
+        if !matches!(self.options.detail, Detail::Status) {
+            self.options.detail = Detail::Each;
         }
     }
 
     /// Takes a list of proposals. One that begins by taking some off begins from all.
-    fn take_list(&mut self, list: &str) -> Result<(), UsageError> {
+    fn take_list(&mut self, list: &str) -> Result<(), Misuse> {
         let mut features = if list.starts_with('-') {
             ModuleFeatures::all()
         } else {
@@ -163,7 +163,7 @@ impl Words {
                 Some(more) => features = more,
                 None => {
                     let name = word.strip_prefix('-').unwrap_or(word);
-                    return Err(UsageError::unknown_proposal(self.alloc, name));
+                    return Err(Misuse::unknown_proposal(self.alloc, name));
                 }
             }
         }
@@ -172,9 +172,9 @@ impl Words {
     }
 
     /// The options, once all words are taken.
-    fn end(self) -> Result<Options, UsageError> {
+    fn end(self) -> Result<Options, Misuse> {
         if self.awaits_list {
-            return Err(UsageError::NoList);
+            return Err(Misuse::NoList);
         }
         Ok(self.options)
     }
@@ -183,8 +183,8 @@ impl Words {
 /// The options where nothing is said.
 fn default_options(alloc: Global) -> Options {
     Options {
-        action: Action::Check,
-        detail: Detail::Normal,
+        wish: Wish::Check,
+        detail: Detail::Others,
         format: Format::Text,
         features: ModuleFeatures::all(),
         files: Vec::new(alloc),
@@ -192,7 +192,7 @@ fn default_options(alloc: Global) -> Options {
 }
 
 /// Reads the program's words.
-pub fn read_options(rt: &HostRuntime) -> Result<Options, UsageError> {
+pub fn read_options(rt: &HostRuntime) -> Result<Options, Misuse> {
     let mut words = Words {
         alloc: rt.alloc(),
         options: default_options(rt.alloc()),

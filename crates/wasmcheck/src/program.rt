@@ -1,25 +1,25 @@
 //! The run of the program.
 
 use crate::lines::Lines;
-use crate::module::{CheckOptions, check_bytes};
-use crate::options::{Action, Detail, Options, read_options};
+use crate::module::{Asked, check_bytes};
+use crate::options::{Detail, Options, Wish, read_options};
 use crate::outcome::Outcome;
-use crate::usage::{UsageError, write_help, write_version};
-use crate::verdict_writer::write_summary;
+use crate::report::write_summary;
+use crate::usage::{Misuse, write_help, write_version};
 use std::io::{BufWriter, Read, Write};
 use std::{fs, io};
 
 /// The status of a run that says how the program is used.
-const SUCCESS: u8 = 0;
+const WELL: u8 = 0;
 
 /// The status where the words aren't understood.
-const USAGE_ERROR: u8 = 2;
+const MISUSED: u8 = 2;
 
 /// What stands for standard input among the files.
 const STANDARD_INPUT: &str = "-";
 
 /// What to say of bytes that don't begin as a module does, if anything.
-fn warning_of(input: &[u8]) -> Option<&'static str> {
+fn doubt(input: &[u8]) -> Option<&'static str> {
     if input.is_empty() {
         Some("the input is empty")
     } else if !input.starts_with(b"\0asm".as_slice()) {
@@ -39,12 +39,12 @@ fn begin_message<W: Write>(err: &mut W, lines: Lines<'_>) -> io::Result<()> {
 }
 
 /// Says of bytes that aren't a module's what they look like.
-fn write_warning(rt: &HostRuntime, options: CheckOptions<'_>, input: &[u8]) -> io::Result<()> {
-    match (options.detail, warning_of(input)) {
-        (Detail::Quiet, _) | (_, None) => Ok(()),
+fn tell_doubt(rt: &HostRuntime, asked: Asked<'_>, input: &[u8]) -> io::Result<()> {
+    match (asked.detail, doubt(input)) {
+        (Detail::Status, _) | (_, None) => Ok(()),
         (_, Some(text)) => {
             let mut err = rt.stderr();
-            begin_message(&mut err, options.lines)?;
+            begin_message(&mut err, asked.lines)?;
             writeln!(err, "{text}")
         }
     }
@@ -54,32 +54,26 @@ fn write_warning(rt: &HostRuntime, options: CheckOptions<'_>, input: &[u8]) -> i
 fn check_input<W: Write>(
     rt: &HostRuntime,
     out: &mut W,
-    options: CheckOptions<'_>,
+    asked: Asked<'_>,
     input: &[u8],
 ) -> io::Result<Outcome> {
-    write_warning(rt, options, input)?;
-    check_bytes(rt, out, options, input)
+    tell_doubt(rt, asked, input)?;
+    check_bytes(rt, out, asked, input)
 }
 
 /// Says that a file can't be read, and why. It hands on want of memory.
-fn write_unreadable<W: Write>(
+fn tell_unreadable<W: Write>(
     rt: &HostRuntime,
     out: &mut W,
-    options: CheckOptions<'_>,
+    asked: Asked<'_>,
     error: io::Error,
 ) -> io::Result<Outcome> {
     if error.kind() == io::ErrorKind::OutOfMemory {
         return Err(error);
     }
     let mut err = rt.stderr();
-    writeln!(err, "wasmcheck: {}: {error}", options.lines.file)?;
-    write_summary(
-        out,
-        options.lines,
-        options.detail,
-        Outcome::Unreadable,
-        None,
-    )?;
+    writeln!(err, "wasmcheck: {}: {error}", asked.lines.file)?;
+    write_summary(out, asked.lines, asked.detail, Outcome::Unreadable, None)?;
     Ok(Outcome::Unreadable)
 }
 
@@ -87,31 +81,27 @@ fn write_unreadable<W: Write>(
 fn check_standard_input<W: Write>(
     rt: &HostRuntime,
     out: &mut W,
-    options: CheckOptions<'_>,
+    asked: Asked<'_>,
 ) -> io::Result<Outcome> {
     let mut input = Vec::new(rt.alloc());
     rt.reader().read_to_end(&mut input)?;
-    check_input(rt, out, options, &input)
+    check_input(rt, out, asked, &input)
 }
 
 /// Checks the module in a file.
-fn check_file<W: Write>(
-    rt: &HostRuntime,
-    out: &mut W,
-    options: CheckOptions<'_>,
-) -> io::Result<Outcome> {
-    if options.lines.file == STANDARD_INPUT {
-        return check_standard_input(rt, out, options);
+fn check_file<W: Write>(rt: &HostRuntime, out: &mut W, asked: Asked<'_>) -> io::Result<Outcome> {
+    if asked.lines.file == STANDARD_INPUT {
+        return check_standard_input(rt, out, asked);
     }
-    match fs::read(rt, options.lines.file) {
-        Ok(input) => check_input(rt, out, options, &input),
-        Err(error) => write_unreadable(rt, out, options, error),
+    match fs::read(rt, asked.lines.file) {
+        Ok(input) => check_input(rt, out, asked, &input),
+        Err(error) => tell_unreadable(rt, out, asked, error),
     }
 }
 
-/// How a file is checked, by the words of the program.
-fn check_options<'o>(options: &Options, file: &'o str) -> CheckOptions<'o> {
-    CheckOptions {
+/// What is asked of the check of a file.
+fn asked_of<'o>(options: &Options, file: &'o str) -> Asked<'o> {
+    Asked {
         lines: Lines {
             format: options.format,
             file,
@@ -125,11 +115,11 @@ fn check_options<'o>(options: &Options, file: &'o str) -> CheckOptions<'o> {
 /// Checks each file, or standard input where none is named.
 fn check_files<W: Write>(rt: &HostRuntime, out: &mut W, options: &Options) -> io::Result<Outcome> {
     if options.files.is_empty() {
-        return check_file(rt, out, check_options(options, STANDARD_INPUT));
+        return check_file(rt, out, asked_of(options, STANDARD_INPUT));
     }
     let mut outcome = Outcome::Valid;
     for file in &options.files {
-        outcome = outcome.or(check_file(rt, out, check_options(options, file.as_str()))?);
+        outcome = outcome.or(check_file(rt, out, asked_of(options, file.as_str()))?);
         out.flush()?;
     }
     Ok(outcome)
@@ -145,15 +135,15 @@ fn check(rt: &HostRuntime, options: &Options) -> io::Result<u8> {
 
 /// Does what the words ask for, and answers the status.
 fn run_options(rt: &HostRuntime, options: &Options) -> io::Result<u8> {
-    match options.action {
-        Action::Check => check(rt, options),
-        Action::Help => {
+    match options.wish {
+        Wish::Check => check(rt, options),
+        Wish::Help => {
             write_help(&mut rt.stdout())?;
-            Ok(SUCCESS)
+            Ok(WELL)
         }
-        Action::Version => {
+        Wish::Version => {
             write_version(&mut rt.stdout())?;
-            Ok(SUCCESS)
+            Ok(WELL)
         }
     }
 }
@@ -162,11 +152,11 @@ fn run_options(rt: &HostRuntime, options: &Options) -> io::Result<u8> {
 pub fn run(rt: &HostRuntime) -> io::Result<u8> {
     match read_options(rt) {
         Ok(options) => run_options(rt, &options),
-        Err(UsageError::Unread(error)) => Err(error),
-        Err(error) => {
+        Err(Misuse::Unread(error)) => Err(error),
+        Err(misuse) => {
             let mut err = rt.stderr();
-            writeln!(err, "wasmcheck: {error}")?;
-            Ok(USAGE_ERROR)
+            writeln!(err, "wasmcheck: {misuse}")?;
+            Ok(MISUSED)
         }
     }
 }

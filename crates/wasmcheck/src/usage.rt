@@ -59,7 +59,7 @@ pub fn write_version<W: Write>(out: &mut W) -> io::Result<()> {
 
 /// Why the words aren't understood, or couldn't be read.
 #[derive(Drop)]
-pub enum UsageError {
+pub enum Misuse {
     /// No option is this word.
     Word(String),
     /// No proposal has this name.
@@ -70,40 +70,40 @@ pub enum UsageError {
     Unread(io::Error),
 }
 
-impl UsageError {
+impl Misuse {
     /// Want of memory for the words.
-    pub fn out_of_memory() -> UsageError {
-        UsageError::Unread(io::Error::from(io::ErrorKind::OutOfMemory))
+    pub fn out_of_memory() -> Misuse {
+        Misuse::Unread(io::Error::from(io::ErrorKind::OutOfMemory))
     }
 
     /// A word that is no option.
-    pub fn unknown_word(alloc: Global, word: &str) -> UsageError {
+    pub fn unknown_word(alloc: Global, word: &str) -> Misuse {
         match String::from_str(alloc, word) {
-            Ok(word) => UsageError::Word(word),
-            Err(_) => UsageError::out_of_memory(),
+            Ok(word) => Misuse::Word(word),
+            Err(_) => Misuse::out_of_memory(),
         }
     }
 
     /// A name that no proposal has.
-    pub fn unknown_proposal(alloc: Global, name: &str) -> UsageError {
+    pub fn unknown_proposal(alloc: Global, name: &str) -> Misuse {
         match String::from_str(alloc, name) {
-            Ok(name) => UsageError::Proposal(name),
-            Err(_) => UsageError::out_of_memory(),
+            Ok(name) => Misuse::Proposal(name),
+            Err(_) => Misuse::out_of_memory(),
         }
     }
 }
 
-impl From<io::Error> for UsageError {
-    fn from(error: io::Error) -> UsageError {
-        UsageError::Unread(error)
+impl From<io::Error> for Misuse {
+    fn from(error: io::Error) -> Misuse {
+        Misuse::Unread(error)
     }
 }
 
-impl fmt::Display for UsageError {
+impl fmt::Display for Misuse {
     fn fmt<W: fmt::Write>(&self, f: &mut fmt::Formatter<W>) -> fmt::Result {
         match self {
-            UsageError::Word(word) => write!(f, "no option is {word:?} (--help tells of them)"),
-            UsageError::Proposal(name) => {
+            Misuse::Word(word) => write!(f, "no option is {word:?} (--help tells of them)"),
+            Misuse::Proposal(name) => {
                 write!(
                     f,
                     "no proposal is named {name:?}; there are all, default, none"
@@ -113,8 +113,8 @@ impl fmt::Display for UsageError {
                 }
                 Ok(())
             }
-            UsageError::NoList => write!(f, "no list of proposals stands behind --features"),
-            UsageError::Unread(error) => write!(f, "{error}"),
+            Misuse::NoList => write!(f, "no list of proposals stands behind --features"),
+            Misuse::Unread(error) => write!(f, "{error}"),
         }
     }
 }

@@ -21,7 +21,7 @@ fn status_of(error: &Error) -> u8 {
 }
 
 /// Prints why it isn't accepted, and answers the status.
-fn report(name: &str, error: &Error) -> u8 {
+fn tell(name: &str, error: &Error) -> u8 {
     println!("{name}: {}: {error}", error.item());
     status_of(error)
 }
@@ -31,7 +31,7 @@ fn check_module(name: &str, module: &Module) -> u8 {
     let Summary { accepted, refused, not_covered, error, .. } = module.summary();
     if error.is_some() {
         for error in module.errors() {
-            report(name, &error);
+            tell(name, &error);
         }
     }
     println!("{name}: {accepted} accepted, {refused} refused, {not_covered} not covered");
@@ -47,7 +47,7 @@ fn check(path: &OsStr, function: Option<u32>) -> u8 {
     };
     let module = match Module::parse_with_features(&bytes, Features::all()) {
         Ok(module) => module,
-        Err(error) => return report(name, &error),
+        Err(error) => return tell(name, &error),
     };
     let Some(index) = function else {
         return check_module(name, &module);
@@ -57,7 +57,7 @@ fn check(path: &OsStr, function: Option<u32>) -> u8 {
             println!("{name}: func {index}: accepted");
             0
         }
-        Err(error) => report(name, &error),
+        Err(error) => tell(name, &error),
     }
 }
 

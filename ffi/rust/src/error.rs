@@ -87,7 +87,7 @@ impl Error {
         &self.inner.message
     }
 
-    /// What a verdict reports, unless it is an acceptance. The text stands behind no more than these bytes.
+    /// What a verdict tells, unless it is an acceptance. The text stands behind no more than these bytes.
     pub(crate) fn of_verdict(verdict: &Verdict, text: &[u8]) -> Option<Error> {
         let kind = match verdict.status {
             0 => return None,

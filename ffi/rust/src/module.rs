@@ -14,7 +14,7 @@ use core::ops::Range;
 const TEXT: usize = 256;
 
 /// Makes a call, which writes its verdict and as much of a text as there is room for.
-fn verdict_of(call: impl FnOnce(&mut [u8; TEXT], &mut Verdict)) -> (Verdict, Option<Error>) {
+fn told(call: impl FnOnce(&mut [u8; TEXT], &mut Verdict)) -> (Verdict, Option<Error>) {
     let mut text = [0; TEXT];
     let mut verdict = Verdict::default();
     call(&mut text, &mut verdict);
@@ -83,7 +83,7 @@ impl<'a> Module<'a> {
     /// As of [`Module::parse`].
     pub fn parse_with_features(bytes: &'a [u8], features: Features) -> Result<Module<'a>, Error> {
         let module = Module::none();
-        let (_, error) = verdict_of(|text, out| {
+        let (_, error) = told(|text, out| {
             let (start, length) = (bytes.as_ptr(), bytes.len());
             // SAFETY: each pointer is that of a reference, with the length of its slice; no other call uses the
             // handle, since a module isn't `Sync`. The bytes stay as they are for the lifetime of the module, and of
@@ -120,7 +120,7 @@ impl<'a> Module<'a> {
     ///
     /// The body is malformed, invalid or not covered, the module has none for this function, or there is no memory.
     pub fn validate_function(&self, index: u32) -> Result<(), Error> {
-        let (_, error) = verdict_of(|text, out| {
+        let (_, error) = told(|text, out| {
             // SAFETY: as in `parse_with_features`.
             unsafe {
                 raw::tansyattic_raw_validate_function(
@@ -137,7 +137,7 @@ impl<'a> Module<'a> {
 
     /// Checks each body and each constant expression, and sums up.
     pub fn summary(&self) -> Summary {
-        let (Verdict { accepted, refused, not_covered, .. }, error) = verdict_of(|text, out| {
+        let (Verdict { accepted, refused, not_covered, .. }, error) = told(|text, out| {
             // SAFETY: as in `parse_with_features`.
             unsafe {
                 raw::tansyattic_raw_validate_module(self.handle.get(), text.as_mut_ptr(), text.len(), out);
@@ -151,7 +151,7 @@ impl<'a> Module<'a> {
     /// # Errors
     ///
     /// One of them is malformed, invalid or not covered, or there is no memory. The first of what weighs most is
-    /// reported.
+    /// told.
     pub fn validate(&self) -> Result<(), Error> {
         self.summary().error.map_or(Ok(()), Err)
     }
@@ -208,7 +208,7 @@ impl Iterator for Errors<'_, '_> {
     type Item = Error;
 
     fn next(&mut self) -> Option<Error> {
-        let (_, error) = verdict_of(|text, out| {
+        let (_, error) = told(|text, out| {
             // SAFETY: as in `Module::parse_with_features`.
             unsafe {
                 raw::tansyattic_raw_validate_next(

@@ -4,7 +4,7 @@ use Rattle.module_check.proofs.whole.check_expressions.Goals as goal
 
 pub loop-expression-preserved : goal.loop-expression-preserved
 loop-expression-preserved c = record {
-  consistent = c.note.ensures.consistent;
+  told = c.note.ensures.told;
   before = λ z. c.loop-expression.invariant.before (c.note.ensures.accepted z).0;
   safe = λ z.
       let m = c.args.module.now in

@@ -8,7 +8,7 @@ pub loop-index-preserved : goal.loop-index-preserved
 loop-index-preserved c =
     let m = c.args.module.now in
     record {
-      consistent = c.check_body.ensures.consistent;
+      told = c.check_body.ensures.told;
       expressions = λ z. c.loop-index.invariant.expressions (c.check_body.ensures.accepted z).0;
       bodies = λ z. one_more_body m c.loop-index.index (c.loop-index.invariant.bodies (c.check_body.ensures.accepted z).0)
           (λ small. subst (IsSafeFunction m) (c.function_of-function.ensures small) (c.check_body.ensures.accepted z).1);

@@ -6,7 +6,7 @@ use Rattle.module_handles.proofs.items.check_from.Goals as goal
 pub loop-place-preserved : goal.loop-place-preserved
 loop-place-preserved c =
     let accepted : c.check_at.new.out.status ≡ 0 = search rules in record {
-      consistent = c.check_at.ensures.consistent;
+      told = c.check_at.ensures.told;
       accepted = accepted;
       unmoved = c.loop-place.invariant.unmoved;
       so_far = one_more c.args.module.now c.args.position.now c.loop-place.place c.loop-place.invariant.so_far (c.check_at.ensures.accepted accepted).1;

@@ -1,4 +1,4 @@
-use Rattle.std.proofs.Common.{rules, ◌≡◌, List, None, sym, ap}
+use Rattle.std.proofs.Common.{rules, ◌≡◌, List, None, sym, ap, ◌∙◌}
 use Rattle.validation_rules.specs.Casts.{checked_cast, cast_branch_row}
 use Rattle.validation_rules.specs.Context.{Context}
 use Rattle.validation_rules.specs.Operators.{lookup_row, staying_operator}

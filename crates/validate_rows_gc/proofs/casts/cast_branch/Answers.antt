@@ -1,4 +1,4 @@
-use Rattle.std.proofs.Common.{rules, ◌≡◌, true, false, reverse, List, [], ◌∷◌, ◌++◌, None, Option, Some, MatchResult, refl, sym, ap, ◌∙◌, subst, arith}
+use Rattle.std.proofs.Common.{rules, ◌≡◌, ◌≢◌, ◌+◌, true, List, [], ◌∷◌, ◌++◌, None, Option, Some, MatchResult, length, refl, sym, ap, ◌∙◌, subst, arith}
 use Rattle.std.proofs.lemmas.List.{length-append}
 use Rattle.std.specs.List.{AllByRecursion}
 use Rattle.std.specs.Option.{option_map}
@@ -12,7 +12,7 @@ use Rattle.validation_rules.specs.Static.{heads}
 use Rattle.validation_rules.proofs.Valid.{but_last_valid}
 use Rattle.validate_stacks.specs.AtOnce.{body_dropped}
 use Rattle.validate_stacks.specs.Pops.{body_popped_each, body_pushed_each}
-use Rattle.validate_stacks.specs.State.{BodyState, body_context}
+use Rattle.validate_stacks.specs.State.{BodyState, IsValidBody, body_context}
 use Rattle.validate_stacks.specs.Steps.{label_at}
 use Rattle.validate_stacks.specs.Visits.{step_body}
 use Rattle.validate_stacks.proofs.AtOnce.{dropped_open}
@@ -71,7 +71,7 @@ module _ (g : Over) (c : After-label_types-types g) where
   types_of_label = c.label_types-types.ensures (cx g start) refl ∙ sym (label_there (cx g start) (hs g start) c.args.relative_depth _ _ there).1
 
   types_valid : AllByRecursion (Valid (md g start)) c.label_types-types.result.now
-  types_valid = label_valid (md g start) (below g start) c.args.relative_depth c.label_types-types.result.now (laws g start) (dropped_valid (md g start) c.args.above c.args.stacks.now.body c.requires.visit.valid) types_of_label
+  types_valid = label_valid (md g start) (below g start) _ _ (laws g start) (dropped_valid (md g start) c.args.above _ c.requires.visit.valid) types_of_label
 
 -- it has a last type
 module _ (g : Over) (c : In_ok-others g) where
@@ -115,7 +115,7 @@ module _ (g : Over) (c : After-types-cast g) where
   branches carried whole same =
       let at = goal.at.After-types-cast g c in
       by_types whole same
-      ∙ branch_is (md g first) (below g first) (dropped_open c.args.above c.args.stacks.now.body c.requires.visit.open_frame) c.args.relative_depth types c.in_ok-others.others.now c.in_ok-others.last (has_the_label g at.After-label_types-types) (ends_in_last g at.In_ok-others) carried
+      ∙ branch_is (md g first) (below g first) (dropped_open c.args.above _ c.requires.visit.open_frame) c.args.relative_depth types c.in_ok-others.others.now c.in_ok-others.last (has_the_label g at.After-label_types-types) (ends_in_last g at.In_ok-others) carried
 
 pub returns-in_err-block_type : goal.returns-in_err-block_type
 returns-in_err-block_type g c = λ whole same.
@@ -145,7 +145,7 @@ check_carried-requires-clause-carried g c = carried_is_valid g (goal.at.check_ca
 pub returns-in_err-check_carried : goal.returns-in_err-check_carried
 returns-in_err-check_carried g c = λ whole same.
     let at = goal.at.returns-in_err-check_carried g c in
-    let found : Option (List ValType × ValType) = Some (c.in_ok-others.others.now, c.in_ok-others.last) in
+    let found = Some (c.in_ok-others.others.now, c.in_ok-others.last) in
     let barred_here = barred_at (md g at.Start) (below g at.Start) c.args.relative_depth (types g at.After-types-cast) found (has_the_label g at.After-label_types-types) (ends_in_last g at.In_ok-others) c.in_err-check_carried.ensures.refused in
     let none = none_where_barred g at.Start whole (types g at.After-types-cast) (by_types g at.After-types-cast whole same) barred_here in
     unmoved _ _ whole _ _ _ (search rules) refl (search (rules, none))

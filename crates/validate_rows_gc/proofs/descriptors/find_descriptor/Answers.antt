@@ -1,4 +1,4 @@
-use Rattle.std.proofs.Common.{rules, ◌≡◌, not, ◌||◌, true, Some, sym, ap, ◌∙◌}
+use Rattle.std.proofs.Common.{rules, ◌≡◌, not, ◌||◌, false, true, Some, sym, ap, ◌∙◌}
 use Rattle.validate_types.specs.declared.refs.RefType.{RefType}
 use Rattle.validation_rules.specs.Context.{Context, Ref}
 use Rattle.validation_rules.specs.Descriptors.{descriptor, is_below_if_known}
@@ -17,11 +17,11 @@ module _ (g : Over) (c : In_ok-found g) where
   abbrev cx : Context
   cx = body_context (g.R.WasmModuleResources.context c.args.resources.now) c.args.stacks.now.body
 
-  asked_exact : found_descriptor cx c.args.exact c.args.descriptor (found_in_body c.args.stacks.now.body) ≡ (not c.args.exact || is_below_if_known cx.of_module (descriptor true c.args.descriptor) c.in_ok-found.field-0.now)
+  asked_exact : found_descriptor cx c.args.exact c.args.descriptor (found_in_body c.args.stacks.now.body) ≡ (not c.args.exact || is_below_if_known cx.of_module (descriptor true c.args.descriptor) c.in_ok-found.found)
   asked_exact =
       let v = c.args.stacks.now.body in
       let wanted = ap (λ (r : RefType). may_pop cx (found_in_body v) (Some (Ref r))) (sym c.concrete.ensures) in
-      that_descriptor cx c.args.exact c.args.descriptor (found_in_body v) c.in_ok-found.field-0.now (sym (found_first v) ∙ c.in_ok-found.ensures.found) (wanted ∙ is_there cx.of_module v (Ref c.concrete.result) c.in_ok-find_operands.ensures.fit)
+      that_descriptor cx c.args.exact c.args.descriptor (found_in_body v) c.in_ok-found.found (sym (found_first v) ∙ c.in_ok-found.ensures.found) (wanted ∙ is_there cx.of_module v (Ref c.concrete.result) c.in_ok-find_operands.ensures.fit)
 
 pub returns-in_err-find_operands-clause-refused : goal.returns-in_err-find_operands-clause-refused
 returns-in_err-find_operands-clause-refused g c =
@@ -43,16 +43,16 @@ returns-in_err-found-clause-refused g c =
 pub returns-then-exact-clause-passed : goal.returns-then-exact-clause-passed
 returns-then-exact-clause-passed g c =
     let asked = asked_exact g (goal.at.returns-then-exact-clause-passed g c).In_ok-found in
-    let here = asked ∙ ap (λ b. not b || is_below_if_known (g.R.WasmModuleResources.context c.args.resources.now) (descriptor true c.args.descriptor) c.in_ok-found.field-0.now) c.if-exact.true in
+    let here = asked ∙ ap (λ b. not b || is_below_if_known (g.R.WasmModuleResources.context c.args.resources.now) (descriptor true c.args.descriptor) c.in_ok-found.found) c.if-exact.true in
     search (rules, here, c.check_exact.ensures.passed)
 
 pub returns-then-exact-clause-refused : goal.returns-then-exact-clause-refused
 returns-then-exact-clause-refused g c =
     let asked = asked_exact g (goal.at.returns-then-exact-clause-refused g c).In_ok-found in
-    let here = asked ∙ ap (λ b. not b || is_below_if_known (g.R.WasmModuleResources.context c.args.resources.now) (descriptor true c.args.descriptor) c.in_ok-found.field-0.now) c.if-exact.true in
+    let here = asked ∙ ap (λ b. not b || is_below_if_known (g.R.WasmModuleResources.context c.args.resources.now) (descriptor true c.args.descriptor) c.in_ok-found.found) c.if-exact.true in
     search (rules, here, c.check_exact.ensures.refused)
 
 pub returns-else-exact-clause-passed : goal.returns-else-exact-clause-passed
 returns-else-exact-clause-passed g c =
     let asked = asked_exact g (goal.at.returns-else-exact-clause-passed g c).In_ok-found in
-    asked ∙ ap (λ b. not b || is_below_if_known (g.R.WasmModuleResources.context c.args.resources.now) (descriptor true c.args.descriptor) c.in_ok-found.field-0.now) c.if-exact.false
+    asked ∙ ap (λ b. not b || is_below_if_known (g.R.WasmModuleResources.context c.args.resources.now) (descriptor true c.args.descriptor) c.in_ok-found.found) c.if-exact.false

@@ -1,4 +1,4 @@
-use Rattle.std.proofs.Common.{rules, ◌≡◌, [], ◌∷◌, None, refl, reverse, sym, ap, ◌∙◌, arith}
+use Rattle.std.proofs.Common.{rules, ◌≡◌, ◌+◌, [], ◌∷◌, None, refl, reverse, sym, ap, ◌∙◌, arith}
 use Rattle.std.specs.Option.{option_map}
 use Rattle.validate_resources.specs.Context.{ModuleContext}
 use Rattle.validate_types.specs.Refs.{is_exact}
@@ -66,7 +66,7 @@ returns-in_err-ty g c =
 pub returns-in_err-find_operands : goal.returns-in_err-find_operands
 returns-in_err-find_operands g c =
     let at = goal.at.returns-in_err-find_operands g c in
-    let none = unfit_below (md g at.After-is_exact) g.A.Refused.tells (λ x. row_operator (ref_cast_desc_eq_row x c.args.nullable c.args.heap_type.now)) c.args.stacks.now c.args.stacks.now 1 (c.operand_of_cast-operand.result ∷ []) (Ref c.in_ok-ty.ty ∷ []) (casts_below g at.After-operand_of_cast-operand) c.requires.open_frame c.in_err-find_operands.ensures.unfit in
+    let none = unfit_below (md g at.After-is_exact) g.A.Refused.tells _ c.args.stacks.now c.args.stacks.now 1 (c.operand_of_cast-operand.result ∷ []) (Ref c.in_ok-ty.ty ∷ []) (casts_below g at.After-operand_of_cast-operand) c.requires.open_frame c.in_err-find_operands.ensures.unfit in
     unmoved _ _ _ _ _ _ (search rules) refl (search (rules, none))
 
 pub returns : goal.returns

@@ -1,0 +1,175 @@
+//! What the check of a module comes to.
+
+ghost use Rattle.std.specs.Prelude.{◌≡◌, ◌≢◌, ◌<◌, ◌≤◌, length, take};
+ghost use Rattle.module_check.specs.declared.report.Verdict.TheVariants.{Accepted};
+ghost use Rattle.module_check.specs.Told.{IsTold};
+
+use crate::report::{Item, Verdict};
+use module_rules::Place;
+
+/// The status of a valid module: what it declares is valid, and each body and each constant expression is
+/// accepted.
+pub const VALID: u32 = 0;
+
+/// The status of an invalid module: what it declares isn't valid, or a body or a constant expression is
+/// refused.
+pub const INVALID: u32 = 1;
+
+/// The status where the bytes aren't those of a module.
+pub const MALFORMED: u32 = 2;
+
+/// The status for want of memory.
+pub const OUT_OF_MEMORY: u32 = 3;
+
+/// The status where none is refused, and one isn't covered.
+pub const NOT_COVERED: u32 = 4;
+
+/// The status where the module has no body for the function.
+pub const NO_BODY: u32 = 5;
+
+/// The status where there is no module.
+pub const NOT_LOADED: u32 = 6;
+
+/// The kind of what is told where it is the module as a whole.
+const MODULE: u32 = 6;
+
+/// What the check of a module comes to, as C lays it out. What is told is the first of those that weigh most:
+/// want of memory, then what is malformed, then what isn't valid, then what isn't covered.
+#[repr(C)]
+#[derive(Drop)]
+pub struct ModuleVerdict {
+    /// The status, one of those above.
+    pub status: u32,
+    /// What is told: 0 the body of a function; 1 to 5 a constant expression, that of a table or a global, the
+    /// offset of an element segment, an item of one, the offset of a data segment; 6 the module.
+    pub kind: u32,
+    /// The index of the function, table, global or segment.
+    pub index: u64,
+    /// The offset in the bytes.
+    pub offset: u64,
+    /// How many bytes of the text were written.
+    pub text_length: usize,
+    /// How many bodies and constant expressions are accepted.
+    pub accepted: u64,
+    /// How many are refused, as malformed or not valid; the module as a whole counts for one.
+    pub refused: u64,
+    /// How many aren't covered.
+    pub not_covered: u64,
+}
+
+/// The kind and the index of what is told.
+fn place_of(item: Option<Item>) -> (u32, u64) {
+    match item {
+        Some(Item::Function(index)) => (0, u64::from(index)),
+        Some(Item::Expression(Place::Table(index))) => (1, u64::from(index)),
+        Some(Item::Expression(Place::Global(index))) => (2, u64::from(index)),
+        Some(Item::Expression(Place::ElementOffset(index))) => (3, u64::from(index)),
+        Some(Item::Expression(Place::Element(index))) => (4, u64::from(index)),
+        Some(Item::Expression(Place::DataOffset(index))) => (5, u64::from(index)),
+        None => (MODULE, 0),
+    }
+}
+
+/// Writes the bytes, as many as there is room for, and answers how many.
+fn write_text(message: &[u8], text: &mut [u8]) -> usize
+    ensures fits { result ≤ length text.new }
+    ensures written { take result text.new ≡ take result message.now }
+    ensures room { length text.new ≡ length text.old }
+{
+    let count = message.len().min(text.len());
+    text[..count].copy_from_slice(&message[..count]);
+    count
+}
+
+impl ModuleVerdict {
+    /// The verdict before anything is checked.
+    pub fn new() -> ModuleVerdict
+        ensures accepted { result.status ≡ 0 }
+        ensures refused { result.refused ≡ 0 }
+        ensures not_covered { result.not_covered ≡ 0 }
+        ensures text { result.text_length ≡ 0 }
+    {
+        ModuleVerdict {
+            status: VALID,
+            kind: MODULE,
+            index: 0,
+            offset: 0,
+            text_length: 0,
+            accepted: 0,
+            refused: 0,
+            not_covered: 0,
+        }
+    }
+
+    /// Tells this of the item, or of the module.
+    pub fn tell(
+        &mut self,
+        status: u32,
+        item: Option<Item>,
+        offset: u64,
+        message: &str,
+        text: &mut [u8],
+    )
+        ensures status { self.new.status ≡ status }
+        ensures accepted { self.new.accepted ≡ self.old.accepted }
+        ensures refused { self.new.refused ≡ self.old.refused }
+        ensures not_covered { self.new.not_covered ≡ self.old.not_covered }
+        ensures fits { self.new.text_length ≤ length text.new }
+    {
+        let (kind, index) = place_of(item);
+        self.status = status;
+        self.kind = kind;
+        self.index = index;
+        self.offset = offset;
+        self.text_length = write_text(message.as_bytes(), text);
+    }
+
+    /// Counts what is refused.
+    fn count_refused(&mut self)
+        ensures counted { 0 < self.new.refused }
+        ensures kept { self.new ≡ record self.old { refused = self.new.refused } }
+    {
+        self.refused = self.refused.saturating_add(1);
+    }
+
+    /// Counts what isn't covered, at this offset, and tells it where nothing else is told.
+    fn note_not_covered(&mut self, item: Option<Item>, offset: u64, text: &mut [u8])
+        requires { IsTold (length text.old) self.old }
+        ensures told { IsTold (length text.new) self.new }
+        ensures not_accepted { self.new.status ≢ 0 }
+    {
+        self.not_covered = self.not_covered.saturating_add(1);
+        if self.status == VALID {
+            self.tell(NOT_COVERED, item, offset, "a vector operator", text);
+        }
+    }
+
+    /// Counts a verdict on the item, or on the module, and tells it where it weighs more than what is told.
+    pub fn note(&mut self, verdict: &Verdict, item: Option<Item>, text: &mut [u8])
+        requires { IsTold (length text.old) self.old }
+        ensures told { IsTold (length text.new) self.new }
+        ensures accepted { self.new.status ≡ 0 → (self.old.status ≡ 0) × (verdict.now ≡ Accepted) }
+    {
+        match verdict {
+            Verdict::Accepted => self.accepted = self.accepted.saturating_add(1),
+            Verdict::Refused(refusal) => {
+                self.count_refused();
+                if self.status == VALID || self.status == NOT_COVERED {
+                    self.tell(INVALID, item, refusal.offset(), refusal.message(), text);
+                }
+            }
+            Verdict::Malformed(refusal) => {
+                self.count_refused();
+                if self.status != OUT_OF_MEMORY && self.status != MALFORMED {
+                    self.tell(MALFORMED, item, refusal.offset(), refusal.message(), text);
+                }
+            }
+            Verdict::NotCovered(offset) => self.note_not_covered(item, *offset, text),
+            Verdict::OutOfMemory => {
+                if self.status != OUT_OF_MEMORY {
+                    self.tell(OUT_OF_MEMORY, item, 0, "out of memory", text);
+                }
+            }
+        }
+    }
+}

@@ -1,0 +1,92 @@
+//! What scripts came to.
+
+use crate::runs::Way;
+use std::alloc::{AllocError, Global};
+use std::str;
+
+/// What the scripts of a file came to.
+#[derive(Drop)]
+pub struct Report {
+    /// How many there were.
+    pub scripts: u64,
+    /// What is done with each.
+    pub way: Way,
+    /// What is printed of them, where that is what is done.
+    pub printed: String,
+    /// What is told of those that came to something else than expected.
+    pub told: String,
+}
+
+impl Report {
+    /// Of no script yet.
+    pub fn new(alloc: Global, way: Way) -> Report {
+        Report {
+            scripts: 0,
+            way,
+            printed: String::new(alloc),
+            told: String::new(alloc),
+        }
+    }
+
+    /// A further script.
+    pub fn count(&mut self) {
+        self.scripts = self.scripts.saturating_add(1);
+    }
+
+    /// Begins what is printed of a script.
+    pub fn begin_printed(&mut self) -> Result<(), AllocError> {
+        self.printed.push_str("@\n")
+    }
+
+    /// Prints this of a script.
+    pub fn add_printed(&mut self, bytes: &[u8]) -> Result<(), AllocError> {
+        self.begin_printed()?;
+        let text = str::from_utf8(bytes).unwrap_or("bytes that are no text");
+        self.printed.push_str(text)
+    }
+
+    /// Tells it where what the script does isn't what is expected.
+    pub fn compare(
+        &mut self,
+        script: &str,
+        does: &str,
+        found: &str,
+        wanted: &str,
+    ) -> Result<(), AllocError> {
+        if found == wanted {
+            return Ok(());
+        }
+        writeln!(self.told, "{script}\n{does}:\n{found}\nand not:\n{wanted}")
+    }
+
+    /// The same of an output.
+    pub fn compare_output(
+        &mut self,
+        script: &str,
+        does: &str,
+        found: &[u8],
+        wanted: &str,
+    ) -> Result<(), AllocError> {
+        let found = str::from_utf8(found).unwrap_or("bytes that are no text");
+        self.compare(script, does, found, wanted)
+    }
+
+    /// The same of a number: a status, or a height.
+    pub fn compare_number(
+        &mut self,
+        script: &str,
+        does: &str,
+        found: usize,
+        wanted: usize,
+    ) -> Result<(), AllocError> {
+        if found == wanted {
+            return Ok(());
+        }
+        writeln!(self.told, "{script}\n{does} {found} and not {wanted}")
+    }
+
+    /// A section, or a line of one, can't be read.
+    pub fn refuse(&mut self, text: &str, why: &str) -> Result<(), AllocError> {
+        writeln!(self.told, "{text}\n{why}")
+    }
+}

@@ -3,7 +3,7 @@
    child runs the program with ample memory, and then one child for each fault. Of opcheck:
 
    - a request for memory is refused: one, or all from one on. It ends with status 3, says `out of memory`, and
-     has printed whole lines that begin the ample output; or it answers as with ample memory;
+     has printed whole lines that begin the ample output: no refused request is made good;
    - a read fails: `bad script: input`, status 2, and nothing on standard output;
    - a write to standard output fails: status 3, and nothing on standard error;
    - a write to standard error fails: the status and standard output stay;
@@ -143,13 +143,17 @@ static int is_want_of_memory(int ended) {
 
 static int is_ample(int ended) { return ended == status && is_same(1) && is_same(2); }
 
+static int is_right_without_memory(int ended) {
+    return is_want_of_memory(ended) || (is_of_modules && is_ample(ended));
+}
+
 static void refuse_requests(const char *name) {
     long last = ample->requests;
     for (long k = 1; k <= last; ++k) {
         int ended = run((struct faults){.request = k});
-        expect(name, "request", k, ended, is_want_of_memory(ended) || is_ample(ended));
+        expect(name, "request", k, ended, is_right_without_memory(ended));
         ended = run((struct faults){.requests_from = k});
-        expect(name, "requests from", k, ended, is_want_of_memory(ended) || is_ample(ended));
+        expect(name, "requests from", k, ended, is_right_without_memory(ended));
     }
 }
 

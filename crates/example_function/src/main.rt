@@ -1,5 +1,6 @@
 //! Checks the body `local.get N, i32.const 1, i32.add, end` of a function `[i32] -> [i32]` with one more
-//! local, of type i64, operator by operator: it is accepted for local 0, and refused for local 1.
+//! local, of type i64, operator by operator: it is accepted for local 0, and refused for local 1. Then it makes
+//! a body: it tries one operator after the other, and prints those that are accepted.
 #![tactic(auto)]
 
 ghost use Rattle.std.specs.Prelude.{◌≡◌, [], false};
@@ -21,6 +22,8 @@ fn declare(alloc: Global) -> Option<ModuleLists> {
     declarations.types.push(ty).ok()?;
     ModuleLists::from_declarations(alloc, declarations).ok()
 }
+
+const ADD: NumericOp = NumericOp::IntegerBinary(IntegerType::I32, IntegerBinaryOp::Add);
 
 /// Visits one operator, where a frame is open.
 fn visit<R: WasmModuleResources>(
@@ -45,8 +48,7 @@ fn visit_body<R: WasmModuleResources>(
     function.define_locals(0, 1, ValType::I64)?;
     visit(function, 0, Op::Control(ControlOp::LocalGet(local)))?;
     visit(function, 2, Op::Numeric(NumericOp::I32Const(1)))?;
-    let add = NumericOp::IntegerBinary(IntegerType::I32, IntegerBinaryOp::Add);
-    visit(function, 4, Op::Numeric(add))?;
+    visit(function, 4, Op::Numeric(ADD))?;
     visit(function, 5, Op::Control(ControlOp::End))?;
     function.finish(5)
 }
@@ -59,6 +61,48 @@ fn check<R: WasmModuleResources>(alloc: Global, resources: &R, local: u32) -> Re
     visit_body(&mut function, local)
 }
 
+/// What is tried, in this order.
+const WISHES: &[(&str, Op<'static>)] = &[
+    ("i32.add", Op::Numeric(ADD)),
+    ("local.get 0", Op::Control(ControlOp::LocalGet(0))),
+    ("i32.const 1", Op::Numeric(NumericOp::I32Const(1))),
+    ("end", Op::Control(ControlOp::End)),
+    ("i32.add", Op::Numeric(ADD)),
+    ("end", Op::Control(ControlOp::End)),
+];
+
+/// Attempts one operator, where a frame is open: whether it was accepted, and is kept.
+fn attempt<R: WasmModuleResources>(
+    function: &mut FuncValidator<'static, '_, R>,
+    op: Op<'static>,
+) -> bool {
+    function.control_stack_height() > 0 && function.try_op(0, op).is_ok()
+}
+
+/// Tries each wish in turn, and prints those that are accepted. A refused one leaves no trace, so the next is tried
+/// where that one was.
+fn try_each<R: WasmModuleResources>(
+    rt: &HostRuntime,
+    function: &mut FuncValidator<'static, '_, R>,
+) -> io::Result<()> {
+    for wish in WISHES {
+        let (name, op) = *wish;
+        if attempt(function, op) {
+            println!(rt; "{name}")?;
+        }
+    }
+    Ok(())
+}
+
+/// Makes a body. Where there is no memory for a validator of it, nothing is accepted.
+fn generate<R: WasmModuleResources>(rt: &HostRuntime, resources: &R) -> io::Result<()> {
+    let buffers = OperatorValidatorAllocations::new(rt.alloc());
+    match OperatorValidator::new_func(0, 0, &WasmFeatures::all(), resources, buffers) {
+        Ok(v) => try_each(rt, &mut FuncValidator::new(rt.alloc(), v, resources)),
+        Err(_) => Ok(()),
+    }
+}
+
 fn main(rt: HostRuntime) -> io::Result<()> {
     let module = declare(rt.alloc()).ok_or(io::ErrorKind::OutOfMemory)?;
     for local in [0, 1] {
@@ -67,5 +111,5 @@ fn main(rt: HostRuntime) -> io::Result<()> {
             Err(refusal) => println!(rt; "local.get {local}: {refusal}")?,
         }
     }
-    Ok(())
+    generate(&rt, &module)
 }

@@ -6,8 +6,9 @@ ghost use Rattle.std.specs.Prelude.{◌≡◌, None, IfOk};
 ghost use Rattle.wasmparser_validate.specs.Start.{state};
 ghost use Rattle.wasmparser_validate.specs.State.{IsStarting, IsValidBody};
 
-use module_check::{CheckError, CodeReader, LoadedModule, ModuleFeatures, OperatorLists, Verdict};
-use operator_names::operator_name;
+use module_check::{
+    CheckError, CodeReader, LoadedModule, ModuleFeatures, OperatorLists, Verdict, operator_name,
+};
 use std::alloc::Global;
 use std::io;
 use std::io::Read;

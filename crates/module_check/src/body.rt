@@ -14,7 +14,7 @@ use crate::constant::ConstantPlace;
 use crate::operators::{check_operators, define_locals};
 use crate::verdict::{CheckError, Verdict};
 use binary_operators::{BinaryReader, CanonicalTypes, OperatorLists};
-use validate_body::{OperatorValidator, start_body};
+use validate_body::OperatorValidator;
 use validate_resources::WasmModuleResources;
 use validate_types::WasmFeatures;
 use validate_visit::BodyKind;
@@ -70,11 +70,16 @@ pub fn check_body<R: WasmModuleResources>(
     ensures { result ≡ Accepted → IsScopedCode (R.context resources.now) features.now canonical.entry kind
         (may_stand constant.entry) reader.old.left }
 {
-    match start_body(resources, features, kind, reader.offset(), buffers.take()) {
-        Ok(mut v) => {
-            let lists = &mut buffers.lists;
-            let checked = check_begun(&mut v, resources, reader, canonical, lists, kind, constant);
-            buffers.put_back(v);
+    let BodyBuffers {
+        validator,
+        lists,
+        ..
+    } = buffers;
+    match validator.start_body(resources, features, kind, reader.offset()) {
+        Ok(()) => {
+            let checked = check_begun(
+                validator, resources, reader, canonical, lists, kind, constant,
+            );
             Verdict::of_check(checked)
         }
         Err(refusal) => Verdict::of_refusal(refusal),

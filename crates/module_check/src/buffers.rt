@@ -2,41 +2,34 @@
 
 use binary_operators::OperatorLists;
 use std::alloc::Global;
-use std::mem;
 use validate_body::OperatorValidator;
 use validate_stacks::OperatorValidatorAllocations;
+use validate_types::{Flags, WasmFeatures};
 
 /// The buffers that the check of a body uses, and leaves for the next. What stands in them says nothing.
 #[derive(Drop)]
 pub struct BodyBuffers {
-    /// For the validator.
-    allocations: OperatorValidatorAllocations,
+    /// The validator, which begins anew for each body.
+    pub(crate) validator: OperatorValidator,
     /// For the list of one operator.
     pub(crate) lists: OperatorLists,
+    /// What the buffers are taken by.
+    alloc: Global,
 }
 
 impl BodyBuffers {
     /// Empty buffers. It takes no memory.
     pub fn new(alloc: Global) -> BodyBuffers {
+        let none = OperatorValidatorAllocations::new(alloc);
         BodyBuffers {
-            allocations: OperatorValidatorAllocations::new(alloc),
+            validator: OperatorValidator::new(&WasmFeatures::empty(), none),
             lists: OperatorLists::new(alloc),
+            alloc,
         }
     }
 
     /// What the buffers are taken by.
     pub(crate) fn allocator(&self) -> Global {
-        self.allocations.allocator()
-    }
-
-    /// Takes the buffers for a validator; there are none until it gives them back.
-    pub(crate) fn take(&mut self) -> OperatorValidatorAllocations {
-        let none = OperatorValidatorAllocations::new(self.allocations.allocator());
-        mem::replace(&mut self.allocations, none)
-    }
-
-    /// Takes back the buffers of a validator that has done its work.
-    pub(crate) fn put_back(&mut self, validator: OperatorValidator) {
-        self.allocations = validator.into_allocations();
+        self.alloc
     }
 }

@@ -1,9 +1,11 @@
 //! The operators of a body, which are read and handed to its validator one by one.
 
-ghost use Rattle.std.specs.Prelude.{◌≡◌, ◌≢◌, [], Some, None, OnOk, IfOk, OnErr};
+ghost use Rattle.std.specs.Prelude.{◌≡◌, ◌≢◌, [], true, Ok, Some, None, OnOk, IfOk, OnErr};
 ghost use Rattle.binary_operators.specs.Functions.{locals};
 ghost use Rattle.validate_stacks.specs.State.{IsStarting};
-ghost use Rattle.validate_body.specs.Start.{state};
+ghost use Rattle.validate_stacks.specs.Visits.{MayVisit, Meets};
+ghost use Rattle.validation_rules.specs.Operators.{operator};
+ghost use Rattle.validate_body.specs.Start.{state, stacks_of};
 ghost use Rattle.module_check.specs.Begin.{DefinesGroup, DefinesRead};
 ghost use Rattle.module_check.specs.Constant.{may_stand};
 ghost use Rattle.module_check.specs.Safe.{AreSafeOperators};
@@ -87,6 +89,7 @@ pub(crate) fn check_operators<R: WasmModuleResources>(
     ensures { OnOk result (AreSafeOperators (R.context resources.now) canonical.entry (may_stand constant.entry)
         (state v.old) reader.old.left) }
 {
+    let mut refusal = None;
     for _ in 0..=reader.bytes_left() {
         let offset = reader.offset();
         if reader.is_at_end() {
@@ -97,13 +100,84 @@ pub(crate) fn check_operators<R: WasmModuleResources>(
         }
         let mut op = Op::Numeric(NumericOp::I32Const(0));
         read_operator_into(reader, &canonical, lists, &mut op)?;
-        check_place(&constant, &op, offset)?;
-        v.check_ref(resources, offset, &op)?;
+        if !is_accepted(v, resources, offset, &op, &constant, &mut refusal) {
+            break;
+        }
         if v.control_stack_height() == 0 {
             return check_end(reader, canonical, lists);
         }
     }
-    Err(CheckError::Unread(ReadError::malformed(Fault::UnexpectedEnd, reader.offset())))
+    match refusal {
+        Some(error) => Err(error),
+        None => Err(CheckError::Unread(ReadError::malformed(
+            Fault::UnexpectedEnd,
+            reader.offset(),
+        ))),
+    }
+}
+
+/// Refuses an operator that isn't accepted, or may not stand there.
+fn check_operator<R: WasmModuleResources>(
+    v: &mut OperatorValidator,
+    resources: &R,
+    offset: u64,
+    op: &Op,
+    constant: &Option<ConstantPlace<'_>>,
+) -> Result<(), CheckError>
+    requires { MayVisit (R.context resources.now) (stacks_of v.old) }
+    ensures row { OnOk result (Meets (R.context resources.now) (λ cx. operator cx op.now) offset (state v.old) (Ok tt)
+        (state v.new)) }
+    ensures stands { OnOk result (may_stand constant.now op.now ≡ true) }
+{
+    check_place(constant, op, offset)?;
+    v.check_ref(resources, offset, op)?;
+    Ok(())
+}
+
+/// [`is_accepted`] of an operator that doesn't pass at once, or stands in a constant expression.
+#[inline(never)]
+fn is_accepted_by_check<R: WasmModuleResources>(
+    v: &mut OperatorValidator,
+    resources: &R,
+    offset: u64,
+    op: &Op,
+    constant: &Option<ConstantPlace<'_>>,
+    refusal: &mut Option<CheckError>,
+) -> bool
+    requires { MayVisit (R.context resources.now) (stacks_of v.old) }
+    ensures row { result ≡ true → Meets (R.context resources.now) (λ cx. operator cx op.now) offset (state v.old)
+        (Ok tt) (state v.new) }
+    ensures stands { result ≡ true → may_stand constant.now op.now ≡ true }
+{
+    match check_operator(v, resources, offset, op, constant) {
+        Ok(()) => true,
+        Err(error) => {
+            *refusal = Some(error);
+            false
+        }
+    }
+}
+
+/// Whether an operator is accepted, and may stand there. Where it isn't, the place that is lent holds why: an answer that
+/// is handed back would be written for each operator.
+#[inline(always)]
+fn is_accepted<R: WasmModuleResources>(
+    v: &mut OperatorValidator,
+    resources: &R,
+    offset: u64,
+    op: &Op,
+    constant: &Option<ConstantPlace<'_>>,
+    refusal: &mut Option<CheckError>,
+) -> bool
+    requires { MayVisit (R.context resources.now) (stacks_of v.old) }
+    ensures row { result ≡ true → Meets (R.context resources.now) (λ cx. operator cx op.now) offset (state v.old)
+        (Ok tt) (state v.new) }
+    ensures stands { result ≡ true → may_stand constant.now op.now ≡ true }
+{
+    if constant.is_none() && v.passes_at_once(resources, op) {
+        return true;
+    }
+    is_accepted_by_check(v, resources, offset, op, constant, refusal)
 }
 
 /// Whether nothing is left behind the operator that closes a body. It refuses an operator that is, or what can't be

@@ -1,5 +1,5 @@
 -- Parameters are declared one by one.
-use Rattle.std.proofs.Common.{◌≡◌, ℕ, refl, sym, ap, subst, Some, is_some, Result, Ok, Err, IfOk}
+use Rattle.std.proofs.Common.{◌≡◌, ℕ, refl, sym, ap, ◌∙◌, subst, Some, is_some, Result, Ok, Err, OnOk}
 use Rattle.validate_resources.specs.Context.{ModuleContext, IsLawful, Valid, signature_of}
 use Rattle.validate_types.specs.Types.{Signature}
 use Rattle.validate_types.specs.ErrorValue.{ErrorValue}
@@ -7,12 +7,13 @@ use Rattle.validate_types.specs.declared.features.WasmFeatures.{WasmFeatures}
 use Rattle.validate_types.specs.declared.types.SubType.{SubType}
 use Rattle.validate_types.specs.declared.types.ValType.{ValType}
 use Rattle.validate_visit.specs.declared.frame.BlockType.TheVariants.{Val, FuncType}
+use Rattle.validate_visit.specs.declared.frame.FrameKind.TheVariants.{Block}
 use Rattle.validate_stacks.specs.State.{BodyState, IsStarting}
-use Rattle.validate_body.specs.Start.{state, func_start, const_start}
-use Rattle.validate_body.specs.declared.validator.OperatorValidator.{OperatorValidator}
+use Rattle.validate_stacks.specs.Steps.{body_with_frame, empty_body}
+use Rattle.validate_body.specs.Start.{func_start, const_start}
 
 -- the state that a function's body starts in is a starting one
-pub func_starts : (md : ModuleContext) (features : WasmFeatures) (i : ℕ) (s : SubType) (f : Signature) → IsLawful md → md.type_at i ≡ Some s → signature_of s ≡ Some f
+func_starts : (md : ModuleContext) (features : WasmFeatures) (i : ℕ) (s : SubType) (f : Signature) → IsLawful md → md.type_at i ≡ Some s → signature_of s ≡ Some f
     → IsStarting md (func_start features i s.composite_type.shared f)
 func_starts md features i s f laws h k =
     record {
@@ -26,13 +27,13 @@ func_starts md features i s f laws h k =
       };
     }
 
-pub starting_func : (md : ModuleContext) (features : WasmFeatures) (i : ℕ) (s : SubType) (f : Signature) (r : Result OperatorValidator ErrorValue) → IsLawful md → md.type_at i ≡ Some s → signature_of s ≡ Some f
-    → IfOk r (λ v. state v ≡ func_start features i s.composite_type.shared f) → IfOk r (λ v. IsStarting md (state v))
-starting_func md features i s f (Err e) laws h j k = tt
-starting_func md features i s f (Ok v) laws h j k = subst (IsStarting md) (sym k) (func_starts md features i s f laws h j)
+pub starting_func : (md : ModuleContext) (features : WasmFeatures) (i : ℕ) (s : SubType) (f : Signature) (r : Result (Unit {0}) ErrorValue) (w : BodyState) → IsLawful md → md.type_at i ≡ Some s → signature_of s ≡ Some f
+    → OnOk r (w ≡ func_start features i s.composite_type.shared f) → OnOk r (IsStarting md w)
+starting_func md features i s f (Err e) w laws h j k = tt
+starting_func md features i s f (Ok u) w laws h j k = subst (IsStarting md) (sym k) (func_starts md features i s f laws h j)
 
 -- so is the state that a constant expression starts in
-pub const_starts : (md : ModuleContext) (features : WasmFeatures) (ty : ValType) (w : BodyState) → w ≡ const_start features ty → Valid md ty → IsStarting md w
+const_starts : (md : ModuleContext) (features : WasmFeatures) (ty : ValType) (w : BodyState) → w ≡ const_start features ty → Valid md ty → IsStarting md w
 const_starts md features ty w e h =
     subst (IsStarting md) (sym e)
     (record {
@@ -41,3 +42,7 @@ const_starts md features ty w e h =
       none_pending = refl;
       is_valid = record { locals_valid = tt; frames = (record { block = h; operands = tt }, tt); left = tt };
     })
+
+pub starting_const : (features : WasmFeatures) (ty : ValType) (r : Result (Unit {0}) ErrorValue) (v w : BodyState) → v ≡ empty_body features → OnOk r (w ≡ body_with_frame Block (Val ty) v) → OnOk r ((md : ModuleContext) → Valid md ty → IsStarting md w)
+starting_const features ty (Err e) v w empty k = tt
+starting_const features ty (Ok u) v w empty k = λ md. const_starts md features ty w (k ∙ ap (body_with_frame Block (Val ty)) empty)

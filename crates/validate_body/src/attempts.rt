@@ -1,8 +1,7 @@
 //! One operator that is attempted: kept where it is accepted, or taken back whatever its outcome.
 
-ghost use Rattle.std.specs.Prelude.{◌≡◌, true, false, None, IsSome, OnOk, OnErr, IfErr};
+ghost use Rattle.std.specs.Prelude.{◌≡◌, false, None, IsSome, OnOk, OnErr, IfErr};
 ghost use Rattle.validation_rules.specs.Operators.{operator};
-ghost use Rattle.validate_stacks.specs.Attempts.{stacks_committed, stacks_rolled_back};
 ghost use Rattle.validate_stacks.specs.Pops.{IsKept};
 ghost use Rattle.validate_stacks.specs.State.{IsValidBody};
 ghost use Rattle.validate_stacks.specs.Visits.{step_body, MayVisit, Meets};
@@ -14,7 +13,7 @@ use validate_types::Error;
 use validate_visit::Op;
 
 /// Attempts one operator: where it is accepted it stays, and where it is refused, or no memory is found
-/// for it, it is taken back, and the validator is in the state before. No attempt is pending afterwards.
+/// for it, the validator is in the state before. No attempt is pending afterwards.
 ///
 /// A refusal is the one that the visit answers, with the offset handed in; want of memory is one too.
 ///
@@ -28,7 +27,7 @@ pub fn try_op<R: WasmModuleResources>(
     requires idle { (state v.old).undone ≡ None }
     requires visit { MayVisit (R.context resources.now) (stacks_of v.old) }
 
-    // It answers by the row, as a visit does; the log of the attempt may want memory too.
+    // It answers by the row, as a visit does.
     ensures meets { Meets (R.context resources.now) (λ cx. operator cx op.entry) offset (state v.old)
         result (state v.new) }
 
@@ -39,46 +38,10 @@ pub fn try_op<R: WasmModuleResources>(
     ensures valid { IsValidBody (R.context resources.now) (state v.new) }
     ensures kept { IsKept (state v.old) (state v.new) }
 {
-    // What passes at once leaves nothing to be taken back.
     if v.passes_at_once(resources, &op) {
         return Ok(());
     }
-    attempt(v, resources, offset, op)
-}
-
-/// The same by an attempt that is begun and ended.
-#[inline(never)]
-fn attempt<R: WasmModuleResources>(
-    v: &mut OperatorValidator,
-    resources: &R,
-    offset: u64,
-    op: Op,
-) -> Result<(), Error>
-    requires idle { (state v.old).undone ≡ None }
-    requires visit { MayVisit (R.context resources.now) (stacks_of v.old) }
-    ensures meets { Meets (R.context resources.now) (λ cx. operator cx op.entry) offset (state v.old)
-        result (state v.new) }
-    ensures back { OnErr result (state v.new ≡ state v.old) }
-    ensures valid { IsValidBody (R.context resources.now) (state v.new) }
-    ensures kept { IsKept (state v.old) (state v.new) }
-{
-    v.begin_try_op();
-    let answer = v.check_in_place(resources, offset, &op);
-    end_attempt(v, answer.is_ok());
-    answer
-}
-
-/// Ends the attempt: an accepted operator stays, and a refused one is taken back.
-fn end_attempt(v: &mut OperatorValidator, accepted: bool)
-    requires { IsSome (state v.old).undone }
-    ensures accepted { accepted ≡ true → stacks_of v.new ≡ stacks_committed (stacks_of v.old) }
-    ensures refused { accepted ≡ false → stacks_of v.new ≡ stacks_rolled_back (stacks_of v.old) }
-{
-    if accepted {
-        v.commit();
-    } else {
-        v.rollback();
-    }
+    v.try_slowly(resources, offset, &op)
 }
 
 /// Attempts one operator, and takes it back: whatever its outcome, the state is the one before, with the

@@ -1,6 +1,6 @@
 //! Bodies as they begin: a function's, or a constant expression's, and their locals.
 
-ghost use Rattle.std.specs.Prelude.{◌≡◌, false, None, IfOk, IfErr};
+ghost use Rattle.std.specs.Prelude.{◌≡◌, false, None, IfOk, IfErr, OnOk};
 ghost use Rattle.validate_stacks.specs.State.{IsStarting};
 ghost use Rattle.validate_body.specs.Begin.{IsExpressionStart, IsBodyStart, CannotStart, HasLocals, CannotBegin, without_places};
 ghost use Rattle.validate_body.specs.Start.{state};
@@ -12,8 +12,8 @@ use validate_stacks::OperatorValidatorAllocations;
 use validate_types::{Error, ValType, WasmFeatures};
 use validate_visit::{BodyKind, LocalGroup};
 
-/// A validator of a body of this kind, with all its locals. It refuses what [`start_body`] refuses, at this offset, and
-/// what [`OperatorValidator::define_locals`] refuses, at the offset of the group; or there is no memory.
+/// A validator of a body of this kind, with all its locals. It refuses what [`OperatorValidator::start_body`] refuses, at
+/// this offset, and what [`OperatorValidator::define_locals`] refuses, at the offset of the group; or there is no memory.
 pub fn begin_body<R: WasmModuleResources>(
     resources: &R,
     features: &WasmFeatures,
@@ -28,55 +28,73 @@ pub fn begin_body<R: WasmModuleResources>(
     ensures refused { IfErr result (λ e. e.wants_memory ≡ false
         → CannotBegin (R.context resources.now) features.now kind offset locals.now e.offset) }
 {
-    let mut validator = start_body(resources, features, kind, offset, allocs)?;
-    for local in locals {
-        validator.define_locals(local.offset, local.count, local.ty, resources)?;
-    }
+    let mut validator = OperatorValidator::new(features, allocs);
+    start_with_locals(&mut validator, resources, features, kind, offset, locals)?;
     Ok(validator)
 }
 
-/// A validator of a body of this kind, without locals but for the parameters of a function. It refuses what
-/// [`OperatorValidator::new_func`] refuses, and for a constant expression a type that the lookup refuses, at this
-/// offset; or there is no memory.
-pub fn start_body<R: WasmModuleResources>(
+/// Begins a body of this kind, with all its locals, in the buffers of the body before.
+fn start_with_locals<R: WasmModuleResources>(
+    v: &mut OperatorValidator,
     resources: &R,
     features: &WasmFeatures,
     kind: BodyKind,
     offset: u64,
-    allocs: OperatorValidatorAllocations,
-) -> Result<OperatorValidator, Error>
-    ensures starting { IfOk result (λ validator. IsStarting (R.context resources.now) (state validator)) }
-    ensures made { IfOk result (λ validator. IsBodyStart (R.context resources.now) features.now kind
-        (state validator)) }
+    locals: &[LocalGroup],
+) -> Result<(), Error>
+    ensures starting { OnOk result (IsStarting (R.context resources.now) (state v.new)) }
+    ensures locals { OnOk result (HasLocals (R.context resources.now) features.now kind
+        (without_places locals.now) (state v.new)) }
     ensures refused { IfErr result (λ e. e.wants_memory ≡ false
-        → CannotStart (R.context resources.now) features.now kind) }
-    ensures offset { IfErr result (λ e. e.wants_memory ≡ false → e.offset ≡ offset) }
+        → CannotBegin (R.context resources.now) features.now kind offset locals.now e.offset) }
 {
-    match kind {
-        BodyKind::Function(type_index) => {
-            OperatorValidator::new_func(type_index, offset, features, resources, allocs)
-        }
-        BodyKind::Expression(ty) => start_expression(resources, features, ty, offset, allocs),
+    v.start_body(resources, features, kind, offset)?;
+    for local in locals {
+        v.define_locals(local.offset, local.count, local.ty, resources)?;
     }
+    Ok(())
 }
 
-/// A validator of a constant expression of this type, which is checked first.
-fn start_expression<R: WasmModuleResources>(
-    resources: &R,
-    features: &WasmFeatures,
-    ty: ValType,
-    offset: u64,
-    allocs: OperatorValidatorAllocations,
-) -> Result<OperatorValidator, Error>
-    ensures starting { IfOk result (λ validator. IsStarting (R.context resources.now) (state validator)) }
-    ensures made { IfOk result (λ validator. IsExpressionStart (R.context resources.now) features.now ty
-        (state validator)) }
-    ensures refused { IfErr result (λ e. e.wants_memory ≡ false
-        → (R.context resources.now).canonical_type features.now ty ≡ None) }
-    ensures offset { IfErr result (λ e. e.wants_memory ≡ false → e.offset ≡ offset) }
-{
-    laws(resources);
-    let mut canonical = ty;
-    resources.check_value_type(&mut canonical, features, offset)?;
-    OperatorValidator::new_const_expr(features, canonical, allocs)
+impl OperatorValidator {
+    /// Begins a body of this kind, without locals but for the parameters of a function, in the buffers of the body before. It
+    /// refuses what [`OperatorValidator::start_func`] refuses, and for a constant expression a type that the lookup refuses, at
+    /// this offset; or there is no memory.
+    pub fn start_body<R: WasmModuleResources>(
+        &mut self,
+        resources: &R,
+        features: &WasmFeatures,
+        kind: BodyKind,
+        offset: u64,
+    ) -> Result<(), Error>
+        ensures starting { OnOk result (IsStarting (R.context resources.now) (state self.new)) }
+        ensures made { OnOk result (IsBodyStart (R.context resources.now) features.now kind (state self.new)) }
+        ensures refused { IfErr result (λ e. e.wants_memory ≡ false
+            → CannotStart (R.context resources.now) features.now kind) }
+        ensures offset { IfErr result (λ e. e.wants_memory ≡ false → e.offset ≡ offset) }
+    {
+        match kind {
+            BodyKind::Function(ty) => self.start_func(ty, offset, features, resources),
+            BodyKind::Expression(ty) => self.start_expression(resources, features, ty, offset),
+        }
+    }
+
+    /// Begins a constant expression of this type, which is checked first.
+    fn start_expression<R: WasmModuleResources>(
+        &mut self,
+        resources: &R,
+        features: &WasmFeatures,
+        ty: ValType,
+        offset: u64,
+    ) -> Result<(), Error>
+        ensures starting { OnOk result (IsStarting (R.context resources.now) (state self.new)) }
+        ensures made { OnOk result (IsExpressionStart (R.context resources.now) features.now ty (state self.new)) }
+        ensures refused { IfErr result (λ e. e.wants_memory ≡ false
+            → (R.context resources.now).canonical_type features.now ty ≡ None) }
+        ensures offset { IfErr result (λ e. e.wants_memory ≡ false → e.offset ≡ offset) }
+    {
+        laws(resources);
+        let mut canonical = ty;
+        resources.check_value_type(&mut canonical, features, offset)?;
+        self.start_const_expr(features, canonical)
+    }
 }

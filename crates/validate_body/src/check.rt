@@ -61,7 +61,7 @@ pub fn check_ops<R: WasmModuleResources>(
             return Err((index, Error::out_of_memory(*offset)));
         }
         if !v.passes_at_once(resources, op) {
-            match v.check_in_place(resources, *offset, op) {
+            match v.check_slowly(resources, *offset, op) {
                 Ok(()) => {}
                 Err(refusal) => return Err((index, refusal)),
             }

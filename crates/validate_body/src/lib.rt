@@ -11,7 +11,7 @@ mod safety;
 mod validator;
 
 pub use crate::attempts::{try_and_undo, try_op};
-pub use crate::begin::{begin_body, start_body};
+pub use crate::begin::begin_body;
 pub use crate::check::check_ops;
 pub use crate::proposal::WasmProposalValidator;
 pub use crate::safety::safety_law;

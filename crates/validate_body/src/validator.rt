@@ -5,19 +5,20 @@ ghost use Rattle.std.specs.Option.{option_copied, ForSome};
 ghost use Rattle.validation_rules.specs.Static.{operand_count, frame_count};
 ghost use Rattle.validate_locals.specs.Limit.{max_locals};
 ghost use Rattle.validate_stacks.specs.AtOnce.{MeetsAtOnce};
-ghost use Rattle.validate_stacks.specs.Attempts.{may_attempt, stacks_begun, stacks_committed, stacks_rolled_back};
+ghost use Rattle.validate_stacks.specs.Attempts.{may_attempt, may_frame, stacks_begun, stacks_committed, stacks_rolled_back};
 ghost use Rattle.validate_stacks.specs.Pops.{IsKept};
 ghost use Rattle.validate_stacks.specs.State.{IsStarting, IsValidBody, IsUndoneValid};
 ghost use Rattle.validate_stacks.specs.Visits.{MayVisit, Meets};
 ghost use Rattle.validate_operators.specs.Memory.{TakesNoMemory};
+ghost use Rattle.validate_visit.specs.declared.frame.FrameKind.TheVariants.{Block};
 ghost use Rattle.validate_visit.specs.declared.op.Op.{Op};
 ghost use Rattle.validation_rules.specs.Operators.{operator};
 ghost use Rattle.validate_resources.specs.Context.{ModuleContext, Valid, signature_at};
-ghost use Rattle.validate_stacks.specs.Steps.{type_at_depth, frame_at, label_at};
+ghost use Rattle.validate_stacks.specs.Steps.{body_with_frame, empty_body, type_at_depth, frame_at, label_at};
 ghost use Rattle.validate_body.specs.Start.{state, stacks_of, func_start, const_start, IsFuncStart, HasTooManyParams, DefinesLocals, CannotDefine};
 
 use validate_locals::Locals;
-use validate_operators::{check_operator, operator_at_once};
+use validate_operators::{check_operator, operator_at_once, try_operator};
 use validate_resources::WasmModuleResources;
 use validate_resources::kinds::{expected_func_type, func_type_of};
 use validate_stacks::{OperatorValidatorAllocations, Stacks};
@@ -33,11 +34,17 @@ pub struct OperatorValidator {
 }
 
 impl OperatorValidator {
-    /// A validator of the body of a function whose type is the one at index `ty`: one frame of that
-    /// type is open, and the parameters are locals that are set. It refuses, at the offset handed in:
-    /// `unknown type: type index out of bounds`, `expected func type at index N, found K` for a type of
-    /// another kind K, `too many locals: locals exceed maximum` for more than 50,000 parameters, or want
-    /// of memory. A refusal gives up the buffers.
+    /// A validator of no body, in these buffers: no frame is open, and no local is declared. It takes no memory.
+    pub fn new(features: &WasmFeatures, allocs: OperatorValidatorAllocations) -> OperatorValidator
+        ensures { state result ≡ empty_body features.now }
+    {
+        OperatorValidator {
+            stacks: Stacks::new(*features, allocs),
+        }
+    }
+
+    /// A validator of the body of a function, as [`OperatorValidator::start_func`] begins it. A refusal gives up the
+    /// buffers.
     pub fn new_func<R: WasmModuleResources>(
         ty: u32,
         offset: u64,
@@ -52,20 +59,39 @@ impl OperatorValidator {
             ⊎ HasTooManyParams (R.context resources.now) ty) }
         ensures offset { IfErr result (λ e. e.offset ≡ offset) }
     {
+        let mut v = OperatorValidator::new(features, allocs);
+        v.start_func(ty, offset, features, resources)?;
+        Ok(v)
+    }
+
+    /// Begins the body of a function whose type is the one at index `ty`, in the buffers of the body before: one frame of
+    /// that type is open, and the parameters are locals that are set. It refuses, at the offset handed in:
+    /// `unknown type: type index out of bounds`, `expected func type at index N, found K` for a type of
+    /// another kind K, `too many locals: locals exceed maximum` for more than 50,000 parameters, or want
+    /// of memory.
+    pub fn start_func<R: WasmModuleResources>(
+        &mut self,
+        ty: u32,
+        offset: u64,
+        features: &WasmFeatures,
+        resources: &R,
+    ) -> Result<(), Error>
+        ensures made { OnOk result (IsFuncStart (R.context resources.now) features.now ty (state self.new)) }
+        ensures starting { OnOk result (IsStarting (R.context resources.now) (state self.new)) }
+        ensures refused { IfErr result (λ e. e.wants_memory ≡ false
+            → (signature_at (R.context resources.now) ty ≡ None)
+            ⊎ HasTooManyParams (R.context resources.now) ty) }
+        ensures offset { IfErr result (λ e. e.offset ≡ offset) }
+    {
         let Some(sub_type) = resources.sub_type_at(ty) else {
             return Err(Error::new("unknown type: type index out of bounds", offset));
         };
         let Some(func_type) = func_type_of(sub_type) else {
-            return Err(expected_func_type(allocs.allocator(), offset, ty, sub_type));
+            let alloc = self.stacks.allocator();
+            return Err(expected_func_type(alloc, offset, ty, sub_type));
         };
-        start_func(
-            ty,
-            func_type,
-            sub_type.composite_type.shared,
-            offset,
-            *features,
-            allocs,
-        )
+        let shared = sub_type.composite_type.shared;
+        start(&mut self.stacks, ty, func_type, shared, offset, *features)
     }
 
     /// A validator of a constant expression: one frame that gives a value of this type is open, and
@@ -82,11 +108,21 @@ impl OperatorValidator {
         ensures memory { IfErr result (λ e. e.wants_memory ≡ true) }
         ensures offset { IfErr result (λ e. e.offset ≡ 0) }
     {
-        let mut stacks = Stacks::new(*features, allocs);
-        match stacks.push_bare_ctrl(FrameKind::Block, BlockType::Val(ty)) {
-            Ok(()) => Ok(OperatorValidator { stacks }),
-            Err(_) => Err(Error::out_of_memory(0)),
-        }
+        let mut v = OperatorValidator::new(features, allocs);
+        v.start_const_expr(features, ty)?;
+        Ok(v)
+    }
+
+    /// Begins a constant expression of this type, as [`OperatorValidator::new_const_expr`] does, in the buffers of the body
+    /// before.
+    pub fn start_const_expr(&mut self, features: &WasmFeatures, ty: ValType) -> Result<(), Error>
+        ensures made { OnOk result (state self.new ≡ const_start features.now ty) }
+        ensures starting { OnOk result ((md : ModuleContext) → Valid md ty → IsStarting md (state self.new)) }
+        ensures memory { IfErr result (λ e. e.wants_memory ≡ true) }
+        ensures offset { IfErr result (λ e. e.offset ≡ 0) }
+    {
+        self.stacks.restart(*features);
+        open_outermost(&mut self.stacks, BlockType::Val(ty), 0)
     }
 
     /// Declares `count` more locals of this type, which is checked even for a count of 0. It refuses,
@@ -158,12 +194,13 @@ impl OperatorValidator {
         if self.passes_at_once(resources, op) {
             return Ok(());
         }
-        self.check_in_place(resources, offset, op)
+        self.check_slowly(resources, offset, op)
     }
 
-    /// [`OperatorValidator::check`] of an operator that lies in a list and doesn't pass at once.
+    /// [`OperatorValidator::check`] of an operator that doesn't pass at once ([`OperatorValidator::passes_at_once`]): its
+    /// refusal is told, and memory asked for.
     #[inline(always)]
-    pub(crate) fn check_in_place<R: WasmModuleResources>(
+    pub fn check_slowly<R: WasmModuleResources>(
         &mut self,
         resources: &R,
         offset: u64,
@@ -183,14 +220,32 @@ impl OperatorValidator {
         }
     }
 
-    /// The check of one operator that passes at once. False, with nothing changed, where it takes more.
+    /// Whether one operator passes at once, as most do. True: it is accepted, with the static step. False: nothing is
+    /// changed, and [`OperatorValidator::check_slowly`] tells whether it is accepted, and why not.
     #[inline(always)]
-    pub(crate) fn passes_at_once<R: WasmModuleResources>(&mut self, resources: &R, op: &Op) -> bool
+    pub fn passes_at_once<R: WasmModuleResources>(&mut self, resources: &R, op: &Op) -> bool
         requires { MayVisit (R.context resources.now) (stacks_of self.old) }
         ensures { MeetsAtOnce (R.context resources.now) (λ cx. operator cx op.now) (stacks_of self.old)
             result (stacks_of self.new) }
     {
         operator_at_once(&mut self.stacks, resources, op)
+    }
+
+    /// [`OperatorValidator::check_slowly`], which leaves nothing where it refuses.
+    #[cold]
+    #[inline(never)]
+    pub(crate) fn try_slowly<R: WasmModuleResources>(
+        &mut self,
+        resources: &R,
+        offset: u64,
+        op: &Op,
+    ) -> Result<(), Error>
+        requires { MayVisit (R.context resources.now) (stacks_of self.old) }
+        ensures row { Meets (R.context resources.now) (λ cx. operator cx op.now) offset
+            (state self.old) result (state self.new) }
+        ensures back { OnErr result (state self.new ≡ state self.old) }
+    {
+        try_operator(&mut self.stacks, resources, offset, op)
     }
 
     /// Whether an attempt is pending.
@@ -295,22 +350,22 @@ impl OperatorValidator {
     }
 }
 
-/// A validator of the body of a function of this type, which stands at this index.
-fn start_func(
+/// Begins the body of a function of this type, which stands at this index.
+fn start(
+    stacks: &mut Stacks,
     ty: u32,
     func_type: &FuncType,
     shared: bool,
     offset: u64,
     features: WasmFeatures,
-    allocs: OperatorValidatorAllocations,
-) -> Result<OperatorValidator, Error>
-    ensures made { IfOk result (λ v. state v ≡ func_start features ty shared func_type.now) }
+) -> Result<(), Error>
+    ensures made { OnOk result (stacks.new.body ≡ func_start features ty shared func_type.now) }
     ensures within_limit { OnOk result (length func_type.now.params ≤ max_locals) }
     ensures refused { IfErr result (λ e. e.wants_memory ≡ false
         → max_locals < length func_type.now.params) }
     ensures offset { IfErr result (λ e. e.offset ≡ offset) }
 {
-    let mut stacks = Stacks::new(features, allocs);
+    stacks.restart(features);
     match stacks.define_params(func_type.params()) {
         Ok(true) => {}
         Ok(false) => {
@@ -319,8 +374,18 @@ fn start_func(
         Err(_) => return Err(Error::out_of_memory(offset)),
     }
     stacks.set_shared(shared);
-    match stacks.push_bare_ctrl(FrameKind::Block, BlockType::FuncType(ty)) {
-        Ok(()) => Ok(OperatorValidator { stacks }),
+    open_outermost(stacks, BlockType::FuncType(ty), offset)
+}
+
+/// Opens the outermost frame of a body, with this block type.
+fn open_outermost(stacks: &mut Stacks, block_type: BlockType, offset: u64) -> Result<(), Error>
+    requires { may_frame stacks.old ≡ true }
+    ensures opened { OnOk result (stacks.new.body ≡ body_with_frame Block block_type stacks.old.body) }
+    ensures memory { IfErr result (λ e. e.wants_memory ≡ true) }
+    ensures offset { IfErr result (λ e. e.offset ≡ offset) }
+{
+    match stacks.push_bare_ctrl(FrameKind::Block, block_type) {
+        Ok(()) => Ok(()),
         Err(_) => Err(Error::out_of_memory(offset)),
     }
 }

@@ -1,12 +1,12 @@
 //! Which locals are set, and the order in which they were first set.
 
-ghost use Rattle.std.specs.Prelude.{◌≡◌, ◌+◌, ◌<◌, ◌≤◌, ◌↔◌, [], ◌∷◌, ◌++◌, true, false, length, take, drop, replicate, not, IsTrue, IfOk, OnOk, OnErr, IsOk, MatchOption};
+ghost use Rattle.std.specs.Prelude.{◌≡◌, ◌+◌, ◌<◌, ◌≤◌, ◌↔◌, [], ◌∷◌, ◌++◌, true, false, length, take, drop, replicate, not, IsTrue, IfErr, IfOk, OnOk, OnErr, IsOk, MatchOption};
 ghost use Rattle.validate_types.specs.Types.{is_defaultable};
 ghost use Rattle.validate_locals.specs.Inits.{is_local_set, order_with, AreFresh};
 
 use std::alloc::Global;
 use std::marker::Model;
-use validate_types::{OutOfMemory, ValType};
+use validate_types::{OutOfMemory, Refusal, Refused, ValType};
 
 /// How many marks there is room for at the least, where there is any.
 const LEAST_ROOM: usize = 8;
@@ -232,17 +232,23 @@ impl LocalInits {
         }
     }
 
-    /// Makes room to set one more local. Want of memory changes nothing.
-    pub fn take_room(&mut self) -> Result<(), OutOfMemory>
+    /// Makes room to set one more local. Want of memory changes nothing; no memory is asked for where that may not be.
+    pub fn take_room<A: Refused>(&mut self) -> Result<(), A>
         ensures set_at_entry { self.new.set_at_entry ≡ self.old.set_at_entry }
         ensures order { self.new.order ≡ self.old.order }
         ensures room { self.old.room ≤ self.new.room }
         ensures declared_room { self.new.declared_room ≡ self.old.declared_room }
         ensures ok { OnOk result (length self.new.order < self.new.room) }
+        ensures told { IfErr result (λ e. A.tells e → ⊥) }
         ensures err { OnErr result (self.new ≡ self.old) }
     {
-        self.inits.reserve(1)?;
-        Ok(())
+        if !A::may_grow() && self.inits.len() == self.inits.capacity() {
+            return Err(A::of(Refusal::OutOfMemory));
+        }
+        match self.inits.reserve(1) {
+            Ok(()) => Ok(()),
+            Err(_) => Err(A::of(Refusal::OutOfMemory)),
+        }
     }
 
     /// Sets the local at this index: where it wasn't set, it comes last in the order. Want of memory

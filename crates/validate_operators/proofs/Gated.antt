@@ -1,8 +1,7 @@
 -- An operator behind its gate.
-use Rattle.std.proofs.Common.{◌≡◌, ℕ, Bool, true, false, ◌&&◌, List, [], ◌∷◌, None, Result, Ok, Err, IsOk, is_ok, OnOk, OnErr, IfErr, refl, sym, ap, ◌∙◌}
+use Rattle.std.proofs.Common.{◌≡◌, Bool, true, false, ◌&&◌, List, [], ◌∷◌, None, Result, Ok, Err, OnOk, OnErr, refl, sym, ap, ◌∙◌}
 use Rattle.std.specs.Option.{option_map}
 use Rattle.validate_resources.specs.Context.{ModuleContext}
-use Rattle.validate_types.specs.ErrorValue.{ErrorValue}
 use Rattle.validate_types.specs.Gates.{is_open}
 use Rattle.validate_types.specs.declared.gate.Gate.{Gate}
 use Rattle.validate_visit.specs.Gates.{gate_of}
@@ -12,9 +11,8 @@ use Rattle.validation_rules.specs.Static.{Frame, State, step, step_in}
 use Rattle.validation_rules.specs.Operators.{operator, ungated_operator}
 use Rattle.validate_stacks.specs.Attempts.{Stacked}
 use Rattle.validate_stacks.specs.Moves.{Moves}
-use Rattle.validate_stacks.specs.State.{BodyState, body_context, IsValidBody}
-use Rattle.validate_stacks.specs.Visits.{step_body, Meets}
-use Rattle.validate_shapes.proofs.LastSteps.{meets_none, meets_as}
+use Rattle.validate_stacks.specs.State.{BodyState, body_context}
+use Rattle.validate_stacks.specs.Visits.{step_body}
 use Rattle.validate_shapes.proofs.Moves.{unmoved, moves_as}
 
 -- the operator with another premise before its own
@@ -39,24 +37,18 @@ module _ (md : ModuleContext) (v : BodyState) where
     shut h = let o = ungated_operator (body_context md v) op in gated_as false h ∙ not_under o.form o.row v.present.frames
 
     -- without its gate it has no step
-    pub none_behind : step_body md (λ c. ungated_operator c op) v ≡ None → step_body md (λ c. operator c op) v ≡ None
+    none_behind : step_body md (λ c. ungated_operator c op) v ≡ None → step_body md (λ c. operator c op) v ≡ None
     none_behind n = by (is_open v.features (gate_of op)) refl
       where
         by : (b : Bool) → is_open v.features (gate_of op) ≡ b → step_body md (λ c. operator c op) v ≡ None
         by true e = gated_as true e ∙ n
         by false e = shut e
 
-    module _ (gate : Gate) (same : gate ≡ gate_of op) (offset : ℕ) where
-      -- the gate is closed
-      pub meets_shut : (r : Result (Unit {0}) ErrorValue) → OnOk r ⊥ → OnErr r (is_open v.features gate ≡ false) → IfErr r (λ e. e.offset ≡ offset) → IsValidBody md v → Meets md (λ c. operator c op) offset v r v
-      meets_shut (Ok u) n h o valid = absurd n
-      meets_shut (Err e) n h o valid = meets_none md (λ c. operator c op) offset v v (Err e) tt (shut (ap (is_open v.features) (sym same) ∙ h)) o valid refl
+    pub refused_behind : {E : Type 0} (r : Result (Unit {0}) E) → OnErr r (step_body md (λ c. ungated_operator c op) v ≡ None) → OnErr r (step_body md (λ c. operator c op) v ≡ None)
+    refused_behind (Ok u) h = tt
+    refused_behind (Err e) h = none_behind h
 
-      -- it is open
-      pub meets_open : (w : BodyState) (r : Result (Unit {0}) ErrorValue) → is_open v.features gate ≡ true → Meets md (λ c. ungated_operator c op) offset v r w → Meets md (λ c. operator c op) offset v r w
-      meets_open w r h m = meets_as md (λ c. ungated_operator c op) (λ c. operator c op) offset v w r (sym (gated_as true (ap (is_open v.features) (sym same) ∙ h))) m
-
--- ---- the same of a body
+-- ---- the body of an operator
 
 module _ {E : Type 0} (md : ModuleContext) (tells : E → Type 0) (op : Op) (s : Stacked) (gate : Gate) (same : gate ≡ gate_of op) where
   pub moves_shut : (r : Result (Unit {0}) E) → OnOk r ⊥ → OnErr r (is_open s.body.features gate ≡ false) → Moves md tells (λ c. operator c op) s r s
@@ -65,15 +57,3 @@ module _ {E : Type 0} (md : ModuleContext) (tells : E → Type 0) (op : Op) (s :
 
   pub moves_open : (w : Stacked) (r : Result (Unit {0}) E) → is_open s.body.features gate ≡ true → Moves md tells (λ c. ungated_operator c op) s r w → Moves md tells (λ c. operator c op) s r w
   moves_open w r h m = moves_as md tells (λ c. operator c op) (λ c. ungated_operator c op) s w (gated_as md s.body op true (ap (is_open s.body.features) (sym same) ∙ h)) r m
-
--- the answer of a body is that of its check
-pub refused_as : {E F : Type 0} (P : Type 0) (a : Result (Unit {0}) E) (r : Result (Unit {0}) F) → is_ok r ≡ is_ok a → OnErr a P → OnErr r P
-refused_as P (Ok u) (Ok x) same h = tt
-refused_as P (Err e) (Err x) same h = h
-refused_as P (Ok u) (Err x) same h = cc
-refused_as P (Err e) (Ok x) same h = tt
-
-pub accepted_as : {E F : Type 0} (P : Type 0) (a : Result (Unit {0}) E) (r : Result (Unit {0}) F) → is_ok r ≡ is_ok a → IsOk a → OnErr r P
-accepted_as P a (Ok x) same h = tt
-accepted_as P (Ok u) (Err x) same h = cc
-accepted_as P (Err e) (Err x) same h = absurd cc

@@ -1,3 +1,2 @@
 pub mod Gated
-pub mod Alone
-mod AtOnce
+mod LeftParts

@@ -1,11 +1,9 @@
-//! The check of an operator by its value, group by group: its gate once, then the check of its row.
+//! An operator by its value: its gate, then the body of its row.
 #![tactic(auto)]
 
-mod at_once;
-mod groups;
-mod one_body;
+mod bodies;
 mod operator;
+mod parts;
 mod taken;
 
-pub use crate::at_once::operator_at_once;
-pub use crate::operator::check_operator;
+pub use crate::operator::{check_operator, operator_at_once, try_operator};

@@ -1,46 +1,80 @@
 //! How many operands upstream has taken when it refuses an operator. Where an operand is missing or of another type,
 //! the refusal itself says which.
 
+use validate_resources::WasmModuleResources;
 use validate_stacks::Stacks;
+use validate_stacks::blocks::{params, results};
 use validate_types::{MaybeType, Refusal, Told};
 use validate_visit::{
-    ArrayOp, ControlOp, Exchange, FieldAccess, ReferenceOp, SharedOp, StructOp, Update,
+    ArrayOp, ControlOp, ExceptionOp, Exchange, FieldAccess, Op, ReferenceOp, SharedOp, StructOp,
+    TryTable, Update,
 };
 
-/// How many it has taken of an operator on control, locals or globals.
-pub(crate) fn taken_before(op: &ControlOp, answer: &Result<(), Told>) -> usize {
+/// How many it has taken of an operator, whose body refuses so. Behind a closed gate it takes none.
+pub(crate) fn taken_before<R: WasmModuleResources>(
+    stacks: &Stacks,
+    resources: &R,
+    op: &Op,
+    told: &Told,
+) -> usize {
+    if let Told::Rule(Refusal::Closed(_)) = told {
+        return 0;
+    }
     match op {
+        Op::Control(op) => taken_before_control(stacks, resources, op, told),
+        Op::Reference(op) => taken_before_reference(stacks, op, told),
+        Op::Struct(op) => taken_before_struct(op, told),
+        Op::Array(op) => taken_before_array(op),
+        Op::Exception(op) => taken_before_exception(stacks, resources, op, told),
+        Op::Shared(op) => taken_before_shared(op, told),
+        _ => 0,
+    }
+}
+
+/// The same of an operator on control, locals or globals.
+fn taken_before_control<R: WasmModuleResources>(
+    stacks: &Stacks,
+    resources: &R,
+    op: &ControlOp,
+    told: &Told,
+) -> usize {
+    match op {
+        ControlOp::Else | ControlOp::End => taken_before_end(stacks, resources, told),
         ControlOp::BrIf(_) | ControlOp::BrTable(_) => 1,
         ControlOp::Select => 3,
         ControlOp::CallIndirect { .. }
         | ControlOp::ReturnCallIndirect { .. }
         | ControlOp::CallRef(_)
-        | ControlOp::ReturnCallRef(_) => taken_before_call(answer),
+        | ControlOp::ReturnCallRef(_) => taken_before_call(told),
+        _ => 0,
+    }
+}
+
+/// The same where a part ends: of one with too many operands, its results.
+fn taken_before_end<R: WasmModuleResources>(stacks: &Stacks, resources: &R, told: &Told) -> usize {
+    match (stacks.get_frame(0), told) {
+        (Some(frame), Told::Rule(Refusal::OperandsLeft)) => {
+            results(resources, &frame.block_type).len()
+        }
         _ => 0,
     }
 }
 
 /// The same of a call whose operand on top names the function: it goes before the function's type is looked up.
-fn taken_before_call(answer: &Result<(), Told>) -> usize {
-    match answer {
-        Err(
-            Told::Rule(
-                Refusal::UnknownType
-                | Refusal::NoFunctionType(_)
-                | Refusal::UnsharedFunction
-                | Refusal::OtherResults(_),
-            ),
+fn taken_before_call(told: &Told) -> usize {
+    match told {
+        Told::Rule(
+            Refusal::UnknownType
+            | Refusal::NoFunctionType(_)
+            | Refusal::UnsharedFunction
+            | Refusal::OtherResults(_),
         ) => 1,
         _ => 0,
     }
 }
 
 /// The same of an operator on references.
-pub(crate) fn taken_before_reference(
-    stacks: &Stacks,
-    op: &ReferenceOp,
-    answer: &Result<(), Told>,
-) -> usize {
+fn taken_before_reference(stacks: &Stacks, op: &ReferenceOp, told: &Told) -> usize {
     match op {
         ReferenceOp::RefIsNull
         | ReferenceOp::RefAsNonNull
@@ -48,23 +82,23 @@ pub(crate) fn taken_before_reference(
         | ReferenceOp::I31Get(_)
         | ReferenceOp::AnyConvertExtern
         | ReferenceOp::ExternConvertAny => 1,
-        ReferenceOp::RefGetDesc(_) => taken_before_descriptor(answer),
-        ReferenceOp::RefEq => taken_before_eq(stacks, answer),
+        ReferenceOp::RefGetDesc(_) => taken_before_descriptor(told),
+        ReferenceOp::RefEq => taken_before_eq(stacks, told),
         ReferenceOp::RefCastDescEqNonNull(_) | ReferenceOp::RefCastDescEqNullable(_) => {
-            taken_before_cast(answer)
+            taken_before_cast(told)
         }
         ReferenceOp::BrOnCastDescEq(_) | ReferenceOp::BrOnCastDescEqFail(_) => {
-            taken_before_label(answer)
+            taken_before_label(told)
         }
         _ => 0,
     }
 }
 
 /// The same of `ref.eq`: the top operand alone, where it is refused itself, or both.
-fn taken_before_eq(stacks: &Stacks, answer: &Result<(), Told>) -> usize {
-    let refused = match answer {
-        Err(Told::Rule(Refusal::NotBelow { found, .. })) => Some(*found),
-        Err(Told::Rule(Refusal::NoReference(ty))) => Some(MaybeType::Known(*ty)),
+fn taken_before_eq(stacks: &Stacks, told: &Told) -> usize {
+    let refused = match told {
+        Told::Rule(Refusal::NotBelow { found, .. }) => Some(*found),
+        Told::Rule(Refusal::NoReference(ty)) => Some(MaybeType::Known(*ty)),
         _ => None,
     };
     if refused.is_some() && refused == stacks.found_at(0) {
@@ -75,64 +109,58 @@ fn taken_before_eq(stacks: &Stacks, answer: &Result<(), Told>) -> usize {
 }
 
 /// The same of `ref.get_desc`, which looks for the descriptor last.
-fn taken_before_descriptor(answer: &Result<(), Told>) -> usize {
-    match answer {
-        Err(Told::Rule(Refusal::NoDescriptor)) => 1,
+fn taken_before_descriptor(told: &Told) -> usize {
+    match told {
+        Told::Rule(Refusal::NoDescriptor) => 1,
         _ => 0,
     }
 }
 
 /// The same of a cast by a descriptor: that goes before the type cast to is looked up.
-fn taken_before_cast(answer: &Result<(), Told>) -> usize {
-    match answer {
-        Err(
-            Told::Rule(
-                Refusal::NotExact { .. }
-                | Refusal::TypeIndexTooLarge
-                | Refusal::ReferenceOff(_)
-                | Refusal::CastToContinuation,
-            )
-            | Told::LookUp(_),
-        ) => 1,
+fn taken_before_cast(told: &Told) -> usize {
+    match told {
+        Told::Rule(
+            Refusal::NotExact { .. }
+            | Refusal::TypeIndexTooLarge
+            | Refusal::ReferenceOff(_)
+            | Refusal::CastToContinuation,
+        )
+        | Told::LookUp(_) => 1,
         _ => 0,
     }
 }
 
 /// The same of a branch by a cast with a descriptor: that goes once the types are looked up, before the label is.
-fn taken_before_label(answer: &Result<(), Told>) -> usize {
-    match answer {
-        Err(
-            Told::Rule(
-                Refusal::NotExact { .. }
-                | Refusal::UnknownLabel
-                | Refusal::CastLabelEmpty
-                | Refusal::CastFailLabelEmpty
-                | Refusal::CastLabel { .. }
-                | Refusal::CastFailLabel { .. },
-            ),
+fn taken_before_label(told: &Told) -> usize {
+    match told {
+        Told::Rule(
+            Refusal::NotExact { .. }
+            | Refusal::UnknownLabel
+            | Refusal::CastLabelEmpty
+            | Refusal::CastFailLabelEmpty
+            | Refusal::CastLabel { .. }
+            | Refusal::CastFailLabel { .. },
         ) => 1,
         _ => 0,
     }
 }
 
 /// The same of an operator on structs: the descriptor goes before the struct is looked up.
-pub(crate) fn taken_before_struct(op: &StructOp, answer: &Result<(), Told>) -> usize {
+fn taken_before_struct(op: &StructOp, told: &Told) -> usize {
     match op {
         StructOp::StructNewDesc(_) | StructOp::StructNewDefaultDesc(_) => {}
         _ => return 0,
     }
-    match answer {
-        Err(
-            Told::Rule(
-                Refusal::NoStructType(_) | Refusal::UnsharedStruct | Refusal::NotDefaultable { .. },
-            ),
+    match told {
+        Told::Rule(
+            Refusal::NoStructType(_) | Refusal::UnsharedStruct | Refusal::NotDefaultable { .. },
         ) => 1,
         _ => 0,
     }
 }
 
 /// The same of an operator on arrays.
-pub(crate) fn taken_before_array(op: &ArrayOp) -> usize {
+fn taken_before_array(op: &ArrayOp) -> usize {
     match op {
         ArrayOp::ArrayLen => 1,
         _ => 0,
@@ -140,9 +168,9 @@ pub(crate) fn taken_before_array(op: &ArrayOp) -> usize {
 }
 
 /// The same of an atomic operator: `get` and `set` ask last whether their place allows them.
-pub(crate) fn taken_before_shared(op: &SharedOp, answer: &Result<(), Told>) -> usize {
-    match answer {
-        Err(Told::Rule(Refusal::NotAllowed { .. })) => {}
+fn taken_before_shared(op: &SharedOp, told: &Told) -> usize {
+    match told {
+        Told::Rule(Refusal::NotAllowed { .. }) => {}
         _ => return 0,
     }
     match op {
@@ -168,6 +196,41 @@ fn taken_by(get: usize, set: usize, access: Exchange) -> usize {
     match access {
         Exchange::Get => get,
         Exchange::Set => set,
+        _ => 0,
+    }
+}
+
+/// The same of an operator on exceptions.
+fn taken_before_exception<R: WasmModuleResources>(
+    stacks: &Stacks,
+    resources: &R,
+    op: &ExceptionOp<'_>,
+    told: &Told,
+) -> usize {
+    match op {
+        ExceptionOp::TryTable(table) => taken_before_clauses(resources, table, told),
+        ExceptionOp::Catch(_) | ExceptionOp::CatchAll | ExceptionOp::Delegate(_) => {
+            taken_before_end(stacks, resources, told)
+        }
+        _ => 0,
+    }
+}
+
+/// The same of `try_table`: its parameters go before its clauses are looked at.
+fn taken_before_clauses<R: WasmModuleResources>(
+    resources: &R,
+    table: &TryTable<'_>,
+    told: &Told,
+) -> usize {
+    match told {
+        Told::Rule(
+            Refusal::UnknownTag(_)
+            | Refusal::TagWithResults
+            | Refusal::UnknownLabel
+            | Refusal::ClauseArity(_)
+            | Refusal::ClauseType { .. }
+            | Refusal::ClauseReference,
+        ) => params(resources, &table.ty).len(),
         _ => 0,
     }
 }

@@ -1,5 +1,5 @@
 -- Operators on locals: what is taken, and the local that is set.
-use Rattle.std.proofs.Common.{◌≡◌, ◌≢◌, ℕ, Bool, true, false, [], ◌∷◌, List, Option, Some, None, slice_get, if◌then◌else◌, refl, sym, ap, ◌∙◌}
+use Rattle.std.proofs.Common.{◌≡◌, ◌≢◌, ℕ, Bool, true, false, [], ◌∷◌, List, Option, Some, None, slice_get, if◌then◌else◌, refl, sym, ap, ap₂, ◌∙◌}
 use Rattle.std.specs.List.{AllByRecursion}
 use Rattle.std.specs.Option.{option_map}
 use Rattle.validate_resources.specs.Context.{ModuleContext, Valid}
@@ -12,13 +12,23 @@ use Rattle.validate_stacks.specs.Pops.{IsKept, body_popped_each, body_pushed_eac
 use Rattle.validate_stacks.specs.State.{BodyState, IsValidBody, body_with_frames}
 use Rattle.validate_stacks.specs.Steps.{body_with_local_set, frames_first_setting}
 use Rattle.validate_stacks.specs.Visits.{step_body}
-use Rattle.validate_stacks.proofs.AtOnce.{pushed_each_kept}
+use Rattle.validate_stacks.proofs.AtOnce.{popped_each_kept, popped_each_set, pushed_each_kept}
 use Rattle.validate_stacks.proofs.Validity.{kept_on}
 use Rattle.validate_stacks.proofs.Whole.{popped_none}
 use Rattle.validate_shapes.proofs.LastSteps.{set_valid}
 use Rattle.validate_shapes.proofs.Moves.{plain_is}
 use Rattle.validate_shapes.proofs.Rows.{local_get_is}
-use Rattle.validate_rows.proofs.AtOnce.{set_already}
+
+chosen : (b : Bool) (u w : BodyState) → b ≡ true → (if b then u else w) ≡ u
+chosen true u w h = refl
+chosen false u w h = cc
+
+-- a local that is set is so after pops too
+set_already : (md : ModuleContext) (ws : List ValType) (i : ℕ) (v u : BodyState) → body_popped_each md ws v ≡ Some u → is_local_set v.set_at_entry (locals_set v.present.frames) i ≡ true → body_with_local_set i u ≡ u
+set_already md ws i v u p h =
+    let kept = ap (λ (x : BodyState). x.set_at_entry) (popped_each_kept md ws v u p).0 in
+    chosen (is_local_set u.set_at_entry (locals_set u.present.frames) i) u (body_with_frames (frames_first_setting i u.present.frames) u)
+    (ap₂ (λ e s. is_local_set e s i) kept (popped_each_set md ws v u p) ∙ h)
 
 set_kept : (i : ℕ) (u : BodyState) → IsKept u (body_with_local_set i u)
 set_kept i u = by (is_local_set u.set_at_entry (locals_set u.present.frames) i)

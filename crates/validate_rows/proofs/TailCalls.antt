@@ -1,10 +1,9 @@
 -- Calls in the place of the rest of a body.
-use Rattle.std.proofs.Common.{◌≡◌, ◌≢◌, pred, Bool, true, false, List, [], ◌∷◌, length, reverse, None, Result, Ok, Err, OnOk, IfErr, MatchResult, is_ok, refl, ap, ◌∙◌}
+use Rattle.std.proofs.Common.{◌≡◌, ◌≢◌, pred, Bool, true, false, List, [], ◌∷◌, length, reverse, None, Result, Ok, Err, OnOk, IfErr, MatchResult, refl, ap, ◌∙◌}
 use Rattle.std.specs.Option.{option_map}
 use Rattle.validate_resources.specs.Context.{ModuleContext}
 use Rattle.validate_types.specs.declared.types.ValType.{ValType}
 use Rattle.validation_rules.specs.Calls.{may_return, tail_call_row}
-use Rattle.validate_types.specs.declared.error.OutOfMemory.{OutOfMemory}
 use Rattle.validation_rules.specs.Context.{Context}
 use Rattle.validation_rules.specs.Rows.{Head, Operator, Row, Target, guard}
 use Rattle.validation_rules.specs.Static.{Frame, heads}
@@ -83,7 +82,7 @@ module _ {E : Type 0} (md : ModuleContext) (tells : E → Type 0) (s : Stacked) 
       told (Err e) = λ t. tail_refused md s.body open_frame wanted results (not_popped md wanted s.body open_frame h)
 
   -- the live part ends
-  pub tail_moves : is_tail → (w : Stacked) → comes_back ≡ true → has_operands_fitting (body_context md s.body) wanted s.body ≡ true → IsValidBody md s.body → (r : Result (Unit {0}) OutOfMemory) (a : Result (Unit {0}) E) → is_ok a ≡ is_ok r → IfErr a (λ e. tells e → ⊥) → MatchResult r (λ _. w.body ≡ body_unreachable s.body) (λ _. w ≡ s) → Moves md tells (λ c. staying_operator (row c)) s a w
-  tail_moves is w h fit state r a same told m =
+  pub tail_moves : is_tail → (w : Stacked) → comes_back ≡ true → has_operands_fitting (body_context md s.body) wanted s.body ≡ true → IsValidBody md s.body → (a : Result (Unit {0}) E) → IfErr a (λ e. tells e → ⊥) → MatchResult a (λ _. w.body ≡ body_unreachable s.body) (λ _. w ≡ s) → Moves md tells (λ c. staying_operator (row c)) s a w
+  tail_moves is w h fit state a told m =
       moves_found md tells s row w (λ c hs. tail_call_row c hs wanted results) a is
-      (ended_moves md tells tail s w wanted (tail_with md s.body open_frame wanted results true h) fit state r a same told m)
+      (ended_moves md tells tail s w wanted (tail_with md s.body open_frame wanted results true h) fit state a told m)

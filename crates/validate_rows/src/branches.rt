@@ -12,7 +12,7 @@ ghost use Rattle.validate_rows.specs.Targets.{is_table_target, are_targets};
 use validate_resources::WasmModuleResources;
 use validate_stacks::Stacks;
 use validate_stacks::blocks::label_types;
-use validate_types::{Refusal, Refused, ValType, grown};
+use validate_types::{Refusal, Refused, ValType};
 use validate_visit::BrTable;
 
 /// `br`: the types of the label, and the live part of the frame ends. Where no attempt is pending it is refused only where
@@ -33,7 +33,7 @@ pub fn br<A: Refused, R: WasmModuleResources>(
     let (block_type, kind) = stacks.find_label(relative_depth)?;
     let types = label_types(resources, &block_type, kind);
     stacks.find_operands(resources, 0, types)?;
-    grown(stacks.end_live())
+    stacks.end_live()
 }
 
 /// `br_if`: `[t i32] -> [t]`, with the types t of the label.
@@ -52,7 +52,7 @@ pub fn br_if<A: Refused, R: WasmModuleResources>(
     let types = label_types(resources, &block_type, kind);
     stacks.find_operands(resources, 1, types)?;
     let own = stacks.own_len();
-    grown(stacks.exchange(own.min(types.len() + 1), types))
+    stacks.exchange(own.min(types.len() + 1), types)
 }
 
 /// `return`: a branch to the outermost label, whose types are the results of the body. Where no attempt is pending it is
@@ -75,7 +75,7 @@ pub fn return_results<A: Refused, R: WasmModuleResources>(
     };
     let results = label_types(resources, &frame.block_type, frame.kind);
     stacks.find_operands(resources, 0, results)?;
-    grown(stacks.end_live())
+    stacks.end_live()
 }
 
 /// A target of `br_table`: a label that has as many types as the default one, and the operands under the one that chooses
@@ -145,5 +145,5 @@ pub fn br_table<A: Refused, R: WasmModuleResources>(
     let types = label_types(resources, &block_type, kind);
     find_targets(stacks, resources, table, types.len())?;
     stacks.find_operands(resources, 1, types)?;
-    grown(stacks.end_live())
+    stacks.end_live()
 }

@@ -16,7 +16,7 @@ use validate_shapes::matching::are_below;
 use validate_shapes::plain::plain;
 use validate_stacks::Stacks;
 use validate_stacks::blocks::label_types;
-use validate_types::{Refusal, Refused, ValType, grown};
+use validate_types::{Refusal, Refused, ValType};
 
 /// `call`: what the function takes, and what it gives.
 #[inline(never)]
@@ -78,5 +78,5 @@ pub fn return_call<A: Refused, R: WasmModuleResources>(
     let func_type = find_func_type(stacks, resources, type_index)?;
     find_same_results(stacks, resources, type_index, func_type.results())?;
     stacks.find_operands(resources, 0, func_type.params())?;
-    grown(stacks.end_live())
+    stacks.end_live()
 }

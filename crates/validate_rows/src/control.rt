@@ -1,25 +1,24 @@
 //! Operators that begin and end parts (WebAssembly core specification, "Control Instructions").
 
-ghost use Rattle.std.specs.Prelude.{◌≡◌, true, false, None, [], IsOk, OnOk, IfErr};
-ghost use Rattle.validation_rules.specs.Context.{Context};
+ghost use Rattle.std.specs.Prelude.{◌≡◌, true, false, None, [], map, IsOk, OnOk, OnErr};
+ghost use Rattle.std.specs.List.{AllByRecursion};
+ghost use Rattle.std.specs.Option.{ForSome};
+ghost use Rattle.validate_resources.specs.Context.{Valid};
+ghost use Rattle.validation_rules.specs.Context.{Context, block_signature};
+ghost use Rattle.validation_rules.specs.Fits.{Known, all_fit};
 ghost use Rattle.validation_rules.specs.Rows.{BeginsElse, Ends, is_if};
 ghost use Rattle.validation_rules.specs.Operators.{plain_row, ending_row, row_operator, delimiter_operator};
-ghost use Rattle.validation_rules.specs.Valid.{IsValidBlock};
 ghost use Rattle.validation_rules.specs.Static.{missing_else_fits};
-ghost use Rattle.validate_stacks.specs.AtOnce.{MeetsAtOnce};
-ghost use Rattle.validate_stacks.specs.Attempts.{may_frame};
 ghost use Rattle.validate_stacks.specs.Moves.{Moves};
-ghost use Rattle.validate_stacks.specs.Pops.{IsKept};
-ghost use Rattle.validate_stacks.specs.State.{IsValidBody};
-ghost use Rattle.validate_stacks.specs.Steps.{head_of};
-ghost use Rattle.validate_stacks.specs.Blocks.{may_close_as_if};
-ghost use Rattle.validate_stacks.specs.Visits.{MayVisit, Meets};
+ghost use Rattle.validate_stacks.specs.Steps.{frame_at, head_of};
+ghost use Rattle.validate_stacks.specs.Visits.{MayVisit};
 
 use validate_resources::WasmModuleResources;
+use validate_shapes::matching::are_below;
 use validate_stacks::Stacks;
 use validate_stacks::blocks::{params, results};
-use validate_types::{Error, Refusal, Refused, grown};
-use validate_visit::{BlockType, Frame, FrameKind};
+use validate_types::{MaybeType, Refusal, Refused, ValType};
+use validate_visit::{BlockType, FrameKind};
 
 /// `nop`: nothing. It is never refused, and takes no memory.
 #[inline(always)]
@@ -48,90 +47,153 @@ pub fn unreachable<A: Refused, R: WasmModuleResources>(
 {
     // The contract alone reads it.
     let _resources = resources;
-    grown(stacks.end_live())
+    stacks.end_live()
 }
 
 /// `else`: closes the first part of an `if`, which has to have exactly its results, and begins the
 /// second with the parameters. It refuses after a frame of another kind.
-#[inline(always)]
-pub fn check_else<R: WasmModuleResources>(
+#[inline(never)]
+pub fn else_part<A: Refused, R: WasmModuleResources>(
     stacks: &mut Stacks,
     resources: &R,
-    offset: u64,
-) -> Result<(), Error>
+) -> Result<(), A>
     requires { MayVisit (R.context resources.now) stacks.old }
-    ensures { Meets (R.context resources.now) (λ cx. delimiter_operator BeginsElse) offset
-        stacks.old.body result stacks.new.body }
-{
-    let frame = stacks.pop_ctrl(resources, offset)?;
-    if !is_if_part(frame.kind) {
-        let error = Error::new("else found outside of an `if` block", offset);
-        return Err(error.because(Refusal::ElseOutsideIf));
-    }
-    stacks.push_ctrl(resources, offset, FrameKind::Else, frame.block_type)
-}
-
-/// [`check_else`], where it passes at once: the `if` has no parameters. False, with nothing changed, where it doesn't.
-#[inline(never)]
-pub fn else_at_once<R: WasmModuleResources>(stacks: &mut Stacks, resources: &R) -> bool
-    requires { MayVisit (R.context resources.now) stacks.old }
-    ensures { MeetsAtOnce (R.context resources.now) (λ cx. delimiter_operator BeginsElse) stacks.old result
+    ensures { Moves (R.context resources.now) A.tells (λ cx. delimiter_operator BeginsElse) stacks.old result
         stacks.new }
 {
     let Some(frame) = stacks.get_frame(0) else {
-        return false;
+        unreachable!()
     };
-    let block_type = frame.block_type;
-    if !is_if_part(frame.kind) {
-        return false;
+    let kind = frame.kind;
+    // A frame without types is left apart, since nothing is looked for in it.
+    if let BlockType::Empty = frame.block_type {
+        return else_after(stacks, resources, kind, BlockType::Empty, &[]);
     }
-    if !params(resources, &block_type).is_empty() {
-        return false;
+    else_typed(stacks, resources)
+}
+
+/// [`else_part`] after a frame that has types.
+#[inline(never)]
+fn else_typed<A: Refused, R: WasmModuleResources>(
+    stacks: &mut Stacks,
+    resources: &R,
+) -> Result<(), A>
+    requires { MayVisit (R.context resources.now) stacks.old }
+    ensures { Moves (R.context resources.now) A.tells (λ cx. delimiter_operator BeginsElse) stacks.old result
+        stacks.new }
+{
+    let Some(frame) = stacks.get_frame(0) else {
+        unreachable!()
+    };
+    let (kind, block_type) = (frame.kind, frame.block_type);
+    let results = results(resources, &block_type);
+    else_after(stacks, resources, kind, block_type, results)
+}
+
+/// [`else_part`] after a frame of this kind and type, with these results.
+#[inline(always)]
+fn else_after<A: Refused, R: WasmModuleResources>(
+    stacks: &mut Stacks,
+    resources: &R,
+    kind: FrameKind,
+    block_type: BlockType,
+    results: &[ValType],
+) -> Result<(), A>
+    requires visit { MayVisit (R.context resources.now) stacks.old }
+    requires frame { ForSome (frame_at stacks.old.body 0) (λ f. (f.kind ≡ kind) × (f.block_type ≡ block_type)) }
+    requires results { results.now ≡ (block_signature (R.context resources.now) block_type).results }
+    ensures { Moves (R.context resources.now) A.tells (λ cx. delimiter_operator BeginsElse) stacks.old result
+        stacks.new }
+{
+    let taken = stacks.find_results(resources, results)?;
+    if !is_if_part(kind) {
+        return Err(A::of(Refusal::ElseOutsideIf));
     }
-    stacks.reopen_at_once(resources, FrameKind::Else, block_type)
+    let params = params(resources, &block_type);
+    stacks.reopen_with(taken, FrameKind::Else, block_type, params)
 }
 
 /// `end`: closes the innermost frame, which has to have exactly its results, and gives them to the
 /// next outer one. An `if` without `else` has an empty second part.
-#[inline(always)]
-pub fn check_end<R: WasmModuleResources>(
-    stacks: &mut Stacks,
-    resources: &R,
-    offset: u64,
-) -> Result<(), Error>
-    requires { MayVisit (R.context resources.now) stacks.old }
-    ensures { Meets (R.context resources.now) (λ cx. delimiter_operator Ends) offset
-        stacks.old.body result stacks.new.body }
-{
-    let frame = stacks.pop_ctrl(resources, offset)?;
-    check_empty_else(stacks, resources, offset, frame)?;
-    stacks.push_types(offset, results(resources, &frame.block_type))
-}
-
-/// [`check_end`], where it passes at once: the frame has one result at most, and none where it is the first part of an
-/// `if`. False, with nothing changed, where it doesn't.
 #[inline(never)]
-pub fn end_at_once<R: WasmModuleResources>(stacks: &mut Stacks, resources: &R) -> bool
+pub fn end<A: Refused, R: WasmModuleResources>(stacks: &mut Stacks, resources: &R) -> Result<(), A>
     requires { MayVisit (R.context resources.now) stacks.old }
-    ensures { MeetsAtOnce (R.context resources.now) (λ cx. delimiter_operator Ends) stacks.old result stacks.new }
+    ensures { Moves (R.context resources.now) A.tells (λ cx. delimiter_operator Ends) stacks.old result stacks.new }
 {
     let Some(frame) = stacks.get_frame(0) else {
-        return false;
+        unreachable!()
     };
-    let block_type = frame.block_type;
-    if !may_lack_else(frame.kind, block_type) {
-        return false;
-    }
+    let kind = frame.kind;
     // A frame without types is left apart, since nothing is looked for in it.
-    if let BlockType::Empty = block_type {
-        return stacks.leave_at_once(resources, BlockType::Empty);
+    if let BlockType::Empty = frame.block_type {
+        return end_of(stacks, resources, kind, BlockType::Empty, &[]);
     }
-    stacks.leave_at_once(resources, block_type)
+    end_typed(stacks, resources)
+}
+
+/// [`end`] of a frame that has types: most have one result, and one operand for it.
+#[inline(never)]
+fn end_typed<A: Refused, R: WasmModuleResources>(
+    stacks: &mut Stacks,
+    resources: &R,
+) -> Result<(), A>
+    requires { MayVisit (R.context resources.now) stacks.old }
+    ensures { Moves (R.context resources.now) A.tells (λ cx. delimiter_operator Ends) stacks.old result stacks.new }
+{
+    let Some(frame) = stacks.get_frame(0) else {
+        unreachable!()
+    };
+    let (kind, block_type) = (frame.kind, frame.block_type);
+    let results = results(resources, &block_type);
+    if results.len() == 1 && stacks.own_len() == 1 && !is_if_part(kind) {
+        return end_of(stacks, resources, kind, block_type, results);
+    }
+    end_of_any(stacks, resources, kind, block_type, results)
+}
+
+/// [`end_of`], by a call.
+#[inline(never)]
+fn end_of_any<A: Refused, R: WasmModuleResources>(
+    stacks: &mut Stacks,
+    resources: &R,
+    kind: FrameKind,
+    block_type: BlockType,
+    results: &[ValType],
+) -> Result<(), A>
+    requires visit { MayVisit (R.context resources.now) stacks.old }
+    requires frame { ForSome (frame_at stacks.old.body 0) (λ f. (f.kind ≡ kind) × (f.block_type ≡ block_type)) }
+    requires results { results.now ≡ (block_signature (R.context resources.now) block_type).results }
+    ensures { Moves (R.context resources.now) A.tells (λ cx. delimiter_operator Ends) stacks.old result stacks.new }
+{
+    end_of(stacks, resources, kind, block_type, results)
+}
+
+/// [`end`] of a frame of this kind and type, with these results.
+#[inline(always)]
+fn end_of<A: Refused, R: WasmModuleResources>(
+    stacks: &mut Stacks,
+    resources: &R,
+    kind: FrameKind,
+    block_type: BlockType,
+    results: &[ValType],
+) -> Result<(), A>
+    requires visit { MayVisit (R.context resources.now) stacks.old }
+    requires frame { ForSome (frame_at stacks.old.body 0) (λ f. (f.kind ≡ kind) × (f.block_type ≡ block_type)) }
+    requires results { results.now ≡ (block_signature (R.context resources.now) block_type).results }
+    ensures { Moves (R.context resources.now) A.tells (λ cx. delimiter_operator Ends) stacks.old result stacks.new }
+{
+    let taken = stacks.find_results(resources, results)?;
+    if !may_lack_else(kind, block_type) {
+        find_missing_else(resources, &block_type, results)?;
+    }
+    stacks.close(taken, results)
 }
 
 /// Whether a frame is no first part of an `if`, or one that takes and gives nothing.
+#[inline(always)]
 fn may_lack_else(kind: FrameKind, block_type: BlockType) -> bool
-    ensures { result ≡ true → (cx : Context) → missing_else_fits cx (head_of kind block_type) ≡ true }
+    ensures fits { result ≡ true → (cx : Context) → missing_else_fits cx (head_of kind block_type) ≡ true }
+    ensures asked { result ≡ false → is_if kind ≡ true }
 {
     match kind {
         FrameKind::If => matches!(block_type, BlockType::Empty),
@@ -145,30 +207,51 @@ fn is_if_part(kind: FrameKind) -> bool
     matches!(kind, FrameKind::If)
 }
 
-/// The second part of an `if` without `else`, which gives its parameters as its results. Of a frame
-/// of another kind it asks nothing.
-#[inline(always)]
-fn check_empty_else<R: WasmModuleResources>(
-    stacks: &mut Stacks,
+/// That an `if` of this type, with these results, may be without `else`: an empty second part gives its parameters as
+/// its results.
+#[inline(never)]
+fn find_missing_else<A: Refused, R: WasmModuleResources>(
     resources: &R,
-    offset: u64,
-    frame: Frame,
-) -> Result<(), Error>
-    requires state { IsValidBody (R.context resources.now) stacks.old.body }
-    requires block { IsValidBlock (R.context resources.now) stacks.old.body.shared frame.block_type }
-    requires frames { may_frame stacks.old ≡ true }
-    ensures fits { OnOk result (may_close_as_if (R.context resources.now) frame stacks.old.body ≡ true) }
-    ensures same { OnOk result (stacks.new.body ≡ stacks.old.body) }
-    ensures refused { IfErr result (λ e. e.wants_memory ≡ false
-        → may_close_as_if (R.context resources.now) frame stacks.old.body ≡ false) }
-    ensures offset { IfErr result (λ e. e.offset ≡ offset) }
-    ensures valid { IsValidBody (R.context resources.now) stacks.new.body }
-    ensures kept { IsKept stacks.old.body stacks.new.body }
+    block_type: &BlockType,
+    results: &[ValType],
+) -> Result<(), A>
+    requires params { AllByRecursion (Valid (R.context resources.now))
+        (block_signature (R.context resources.now) block_type.now).params }
+    requires results { AllByRecursion (Valid (R.context resources.now)) results.now }
+    ensures fits { (cx : Context) → cx.of_module ≡ R.context resources.now → OnOk result (all_fit cx
+        (map Known (block_signature (R.context resources.now) block_type.now).params) results.now ≡ true) }
+    ensures refused { (cx : Context) → cx.of_module ≡ R.context resources.now → OnErr result (all_fit cx
+        (map Known (block_signature (R.context resources.now) block_type.now).params) results.now ≡ false) }
 {
-    if !is_if_part(frame.kind) {
+    let params = params(resources, block_type);
+    if are_below(resources, params, results) {
         return Ok(());
     }
-    stacks.push_ctrl(resources, offset, FrameKind::Else, frame.block_type)?;
-    stacks.pop_ctrl(resources, offset)?;
-    Ok(())
+    Err(refuse_params(resources, params, results))
+}
+
+/// Why these parameters, popped as these results from the last on, aren't those.
+#[cold]
+#[inline(never)]
+fn refuse_params<A: Refused, R: WasmModuleResources>(
+    resources: &R,
+    params: &[ValType],
+    results: &[ValType],
+) -> A {
+    for depth in 0..results.len() {
+        let wanted = results[results.len() - 1 - depth];
+        if params.len() <= depth {
+            return A::of(Refusal::NothingFound(Some(wanted)));
+        }
+        let given = params[params.len() - 1 - depth];
+        if !resources.is_subtype(given, wanted) {
+            let found = MaybeType::Known(given);
+            return A::of(Refusal::Mismatch {
+                depth,
+                wanted,
+                found,
+            });
+        }
+    }
+    A::of(Refusal::OperandsLeft)
 }

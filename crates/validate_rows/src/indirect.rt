@@ -16,7 +16,7 @@ use validate_shapes::aggregates::type_reference;
 use validate_shapes::functions::find_func_type;
 use validate_shapes::tables::table_type_at;
 use validate_stacks::Stacks;
-use validate_types::{Refusal, Refused, ValType, grown};
+use validate_types::{Refusal, Refused, ValType};
 
 /// The type of a place in a table, which has to be one of functions.
 fn function_place<A: Refused, R: WasmModuleResources>(
@@ -72,7 +72,7 @@ fn return_call_operand<A: Refused, R: WasmModuleResources>(
     let func_type = find_func_type(stacks, resources, type_index)?;
     find_same_results(stacks, resources, type_index, func_type.results())?;
     stacks.find_under(resources, 0, func_type.params(), names)?;
-    grown(stacks.end_live())
+    stacks.end_live()
 }
 
 /// `call_indirect`: `[params it] -> [results]` of a function of the type at this index in a table of

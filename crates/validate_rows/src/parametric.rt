@@ -9,7 +9,7 @@ ghost use Rattle.validate_stacks.specs.Visits.{step_body, MayVisit};
 use validate_resources::WasmModuleResources;
 use validate_shapes::plain::plain;
 use validate_stacks::Stacks;
-use validate_types::{MaybeType, Refusal, Refused, ValType, grown};
+use validate_types::{MaybeType, Refusal, Refused, ValType};
 
 /// `drop`: any one operand. Where no attempt is pending it is refused only where its row doesn't hold.
 #[inline(never)]
@@ -27,7 +27,7 @@ pub fn drop_operand<A: Refused, R: WasmModuleResources>(
     // The contract alone reads it.
     let _resources = resources;
     if stacks.own_len() > 0 {
-        return grown(stacks.exchange(1, &[]));
+        return stacks.exchange(1, &[]);
     }
     stacks.find_any(0)?;
     Ok(())
@@ -110,7 +110,7 @@ fn any_select<A: Refused, R: WasmModuleResources>(
     let lower = stacks.find_any(2)?;
     let ty = find_selected(lower, upper)?;
     let own = stacks.own_len();
-    grown(stacks.replace(own.min(3), ty))
+    stacks.replace(own.min(3), ty)
 }
 
 /// `select` with its type: `[t t i32] -> [t]` of the checked type.

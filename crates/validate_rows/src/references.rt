@@ -22,7 +22,7 @@ use validate_shapes::references::without_null;
 use validate_stacks::Stacks;
 use validate_stacks::blocks::label_types;
 use validate_types::{
-    CoreTypeId, HeapType, MaybeType, RefType, Refusal, Refused, UnpackedIndex, ValType, grown,
+    CoreTypeId, HeapType, MaybeType, RefType, Refusal, Refused, UnpackedIndex, ValType,
 };
 
 /// The gate of the type of null. A type index of 2^20 or more, to which no reference can be made, has none:
@@ -156,7 +156,7 @@ pub fn ref_is_null<A: Refused, R: WasmModuleResources>(
     let _resources = resources;
     find_reference(stacks)?;
     let own = stacks.own_len();
-    grown(stacks.replace(own.min(1), MaybeType::Known(ValType::I32)))
+    stacks.replace(own.min(1), MaybeType::Known(ValType::I32))
 }
 
 /// `ref.as_non_null`: `[r] -> [r]` of any reference r, without its null.
@@ -173,7 +173,7 @@ pub fn ref_as_non_null<A: Refused, R: WasmModuleResources>(
     let _resources = resources;
     let reference = find_reference(stacks)?;
     let own = stacks.own_len();
-    grown(stacks.replace(own.min(1), reference))
+    stacks.replace(own.min(1), reference)
 }
 
 /// `br_on_null`: `[t r] -> [t r]` of any reference r, which goes on without its null, with the types t of
@@ -193,7 +193,7 @@ pub fn br_on_null<A: Refused, R: WasmModuleResources>(
     let types = label_types(resources, &block_type, kind);
     stacks.find_operands(resources, 1, types)?;
     let own = stacks.own_len();
-    grown(stacks.exchange_topped(own.min(types.len() + 1), types, reference))
+    stacks.exchange_topped(own.min(types.len() + 1), types, reference)
 }
 
 /// The types of a label but its last, and its last, which has to be a reference.

@@ -3,7 +3,6 @@ use Rattle.std.proofs.Common.{◌≡◌, ◌≢◌, ℕ, zero, suc, ◌+◌, min
 use Rattle.std.specs.List.{AllByRecursion}
 use Rattle.std.specs.Option.{option_map}
 use Rattle.validate_resources.specs.Context.{ModuleContext, Valid}
-use Rattle.validate_types.specs.declared.error.OutOfMemory.{OutOfMemory}
 use Rattle.validation_rules.specs.Context.{ValType, Context}
 use Rattle.validation_rules.specs.Rows.{Operator}
 use Rattle.validate_stacks.specs.AtOnce.{body_dropped}
@@ -39,8 +38,8 @@ module _ {E : Type 0} (md : ModuleContext) (tells : E → Type 0) (op : Context 
       is ∙ ap (option_map (λ u. body_pushed_each given u)) (not_popped md wanted (body_dropped above s.body) (dropped_open above s.body there) unfit)
 
   -- where it fits, it goes with those above
-  pub moved_below : has_operands_fitting (body_context md s.body) wanted (body_dropped above s.body) ≡ true → AllByRecursion (Valid md) given → IsValidBody md s.body → (k : ℕ) → k ≡ min (above + length wanted) (length (innermost_operands s.body.present.frames)) → (r : Result (Unit {0}) OutOfMemory) (a : Result (Unit {0}) E) → is_ok a ≡ is_ok r → IfErr a (λ e. tells e → ⊥) → MatchResult r (λ _. w.body ≡ body_pushed_each given (body_dropped k s.body)) (λ _. w ≡ s) → Moves md tells op s a w
-  moved_below fit valid state k least r a same told moved =
+  pub moved_below : has_operands_fitting (body_context md s.body) wanted (body_dropped above s.body) ≡ true → AllByRecursion (Valid md) given → IsValidBody md s.body → (k : ℕ) → k ≡ min (above + length wanted) (length (innermost_operands s.body.present.frames)) → (a : Result (Unit {0}) E) → IfErr a (λ e. tells e → ⊥) → MatchResult a (λ _. w.body ≡ body_pushed_each given (body_dropped k s.body)) (λ _. w ≡ s) → Moves md tells op s a w
+  moved_below fit valid state k least a told moved =
       let v = s.body in
       let u = body_dropped above v in
       let x = body_dropped (length wanted) u in
@@ -51,5 +50,5 @@ module _ {E : Type 0} (md : ModuleContext) (tells : E → Type 0) (op : Context 
       let third = pushed_each_kept md given x in
       made_moves md tells op s w (body_pushed_each given x) (is ∙ ap (option_map (λ u. body_pushed_each given u)) passed)
       (third.1 valid (second.1 (dropped_valid md above v state)))
-      (kept_on v x (body_pushed_each given x) (kept_on v u x first second.0) third.0) r a same told
-      (subst (λ (y : BodyState). MatchResult r (λ _. w.body ≡ body_pushed_each given y) (λ _. w ≡ s)) whole moved)
+      (kept_on v x (body_pushed_each given x) (kept_on v u x first second.0) third.0) a told
+      (subst (λ (y : BodyState). MatchResult a (λ _. w.body ≡ body_pushed_each given y) (λ _. w ≡ s)) whole moved)

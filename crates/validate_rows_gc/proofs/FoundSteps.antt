@@ -4,7 +4,6 @@ use Rattle.std.specs.Option.{option_map, option_and_then}
 use Rattle.validate_resources.specs.Context.{ModuleContext}
 use Rattle.validate_types.specs.declared.heap.AbstractHeapType.{AbstractHeapType}
 use Rattle.validate_types.specs.declared.heap.AbstractHeapType.TheVariants.{Eq}
-use Rattle.validate_types.specs.declared.error.OutOfMemory.{OutOfMemory}
 use Rattle.validation_rules.specs.Context.{I32, Context}
 use Rattle.validation_rules.specs.Fits.{MaybeType, Known}
 use Rattle.validation_rules.specs.Found.{is_found_below, found_pushes, is_same_sharedness, ref_eq_pushes, ref_eq_row}
@@ -43,9 +42,9 @@ pub two_dropped : (k : ℕ) (v : BodyState) → k ≡ min 2 (length (innermost_o
 two_dropped k v e = sym (dropped_within 2 k v e) ∙ (sym (dropped_next 1 v) ∙ ap body_popped (dropped_once v))
 
 -- and another is put in their place
-pub replaced_moves : {E : Type 0} (md : ModuleContext) (tells : E → Type 0) (op : Context → Operator) (s w : Stacked) (k : ℕ) (u : BodyState) (t : MaybeType) → body_dropped k s.body ≡ u → step_body md op s.body ≡ Some (body_pushed t u) → IsValidOperand md t → IsValidBody md u → IsKept s.body u → (r : Result (Unit {0}) OutOfMemory) (a : Result (Unit {0}) E) → is_ok a ≡ is_ok r → IfErr a (λ e. tells e → ⊥) → MatchResult r (λ _. w.body ≡ body_pushed t (body_dropped k s.body)) (λ _. w ≡ s) → Moves md tells op s a w
-replaced_moves md tells op s w k u t whole step operand valid kept r a same told moved =
-    made_moves md tells op s w (body_pushed t u) step (pushed_valid md t u operand valid) (kept_on s.body u (body_pushed t u) kept (pushed_kept t u)) r a same told (subst (λ (x : BodyState). MatchResult r (λ _. w.body ≡ body_pushed t x) (λ _. w ≡ s)) whole moved)
+pub replaced_moves : {E : Type 0} (md : ModuleContext) (tells : E → Type 0) (op : Context → Operator) (s w : Stacked) (k : ℕ) (u : BodyState) (t : MaybeType) → body_dropped k s.body ≡ u → step_body md op s.body ≡ Some (body_pushed t u) → IsValidOperand md t → IsValidBody md u → IsKept s.body u → (a : Result (Unit {0}) E) → IfErr a (λ e. tells e → ⊥) → MatchResult a (λ _. w.body ≡ body_pushed t (body_dropped k s.body)) (λ _. w ≡ s) → Moves md tells op s a w
+replaced_moves md tells op s w k u t whole step operand valid kept a told moved =
+    made_moves md tells op s w (body_pushed t u) step (pushed_valid md t u operand valid) (kept_on s.body u (body_pushed t u) kept (pushed_kept t u)) a told (subst (λ (x : BodyState). MatchResult a (λ _. w.body ≡ body_pushed t x) (λ _. w ≡ s)) whole moved)
 
 module _ (md : ModuleContext) (v : BodyState) (o : v.present.frames ≢ []) where
   -- one operand, found below, and what is pushed for it

@@ -16,9 +16,7 @@ use validate_resources::uses::laws;
 use validate_shapes::plain::plain;
 use validate_stacks::Stacks;
 use validate_stacks::blocks::label_types;
-use validate_types::{
-    AbstractHeapType, HeapType, MaybeType, RefType, Refusal, Refused, ValType, grown,
-};
+use validate_types::{AbstractHeapType, HeapType, MaybeType, RefType, Refusal, Refused, ValType};
 use validate_visit::BranchCast;
 
 /// A reference type whose gates are open and whose indices are known, in canonical form (wasmparser's
@@ -304,7 +302,7 @@ pub(crate) fn cast_branch<A: Refused, R: WasmModuleResources>(
     branch.check_carried(resources, last, cast.carried)?;
     stacks.find_under(resources, above, others, ValType::Ref(cast.from))?;
     let taken = stacks.own_len().min(others.len() + 1 + above);
-    grown(stacks.exchange_topped(taken, others, MaybeType::Known(ValType::Ref(cast.left))))
+    stacks.exchange_topped(taken, others, MaybeType::Known(ValType::Ref(cast.left)))
 }
 
 /// A branch by a cast: what is carried to the label is of the type cast to, or isn't.

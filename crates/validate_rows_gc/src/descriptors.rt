@@ -22,7 +22,7 @@ use validate_resources::uses::laws;
 use validate_shapes::aggregates::{declared_heap, descriptor_at, type_reference};
 use validate_stacks::Stacks;
 use validate_types::{
-    HeapType, MaybeType, PackedIndex, RefType, Refusal, Refused, UnpackedIndex, ValType, grown,
+    HeapType, MaybeType, PackedIndex, RefType, Refusal, Refused, UnpackedIndex, ValType,
 };
 use validate_visit::BranchCast;
 
@@ -90,7 +90,7 @@ pub fn ref_get_desc<A: Refused, R: WasmModuleResources>(
         heap_type: declared_heap(is_found_exact(resources, exact, found), descriptor.unpack()),
     };
     let own = stacks.own_len();
-    grown(stacks.replace(own.min(1), MaybeType::Known(ValType::Ref(given))))
+    stacks.replace(own.min(1), MaybeType::Known(ValType::Ref(given)))
 }
 
 /// The type of the descriptors of the type that a cast leads to, which has to be one of the module and to have
@@ -190,7 +190,7 @@ pub fn ref_cast_desc_eq<A: Refused, R: WasmModuleResources>(
     let operand = operand_of_cast(resources, ty);
     stacks.find_operands(resources, 1, &[operand])?;
     let own = stacks.own_len();
-    grown(stacks.replace(own.min(2), MaybeType::Known(ValType::Ref(ty))))
+    stacks.replace(own.min(2), MaybeType::Known(ValType::Ref(ty)))
 }
 
 /// A branch by a cast with a descriptor above the operand: what is carried to the label is of the type cast to, or isn't.

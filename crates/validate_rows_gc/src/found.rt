@@ -19,9 +19,7 @@ ghost use Rattle.validate_stacks.specs.Visits.{MayVisit};
 use validate_resources::WasmModuleResources;
 use validate_shapes::plain::unary;
 use validate_stacks::Stacks;
-use validate_types::{
-    AbstractHeapType, HeapType, MaybeType, RefType, Refusal, Refused, ValType, grown,
-};
+use validate_types::{AbstractHeapType, HeapType, MaybeType, RefType, Refusal, Refused, ValType};
 
 /// The nullable references to this abstract type, of the sharedness of another.
 #[inline(always)]
@@ -112,7 +110,7 @@ pub fn measure<A: Refused, R: WasmModuleResources>(
 {
     find_below(stacks, resources, 0, wanted)?;
     let own = stacks.own_len();
-    grown(stacks.replace(own.min(1), MaybeType::Known(ValType::I32)))
+    stacks.replace(own.min(1), MaybeType::Known(ValType::I32))
 }
 
 /// A reference to this abstract type, with null and sharedness as the found one has them.
@@ -155,7 +153,7 @@ pub fn convert_ref<A: Refused, R: WasmModuleResources>(
     let found = find_below(stacks, resources, 0, from)?;
     let made = converted(resources, into, found);
     let own = stacks.own_len();
-    grown(stacks.replace(own.min(1), made))
+    stacks.replace(own.min(1), made)
 }
 
 /// Whether two operands are of the same sharedness, where both are known.
@@ -188,7 +186,7 @@ pub fn ref_eq<A: Refused, R: WasmModuleResources>(
         return Err(A::of(Refusal::OtherSharedness));
     }
     let own = stacks.own_len();
-    grown(stacks.replace(own.min(2), MaybeType::Known(ValType::I32)))
+    stacks.replace(own.min(2), MaybeType::Known(ValType::I32))
 }
 
 /// `ref.i31`: `[i32] -> [(ref i31)]`.

@@ -28,7 +28,7 @@ use validate_shapes::aggregates::{
 };
 use validate_shapes::operands::{Few, Given, Operands, Wanted, exchange_found};
 use validate_stacks::Stacks;
-use validate_types::{FieldType, RefType, Refusal, Refused, StructType, ValType, grown};
+use validate_types::{FieldType, RefType, Refusal, Refused, StructType, ValType};
 use validate_visit::{FieldIndex, Sign, StructOp};
 
 /// Refuses the first field without a default value, whichever operator asks, as `struct.new_default` does: ``invalid
@@ -250,7 +250,7 @@ fn new_desc<A: Refused, R: WasmModuleResources>(
     let fields = struct_type.fields.as_slice();
     stacks.find_fields(resources, 1, fields)?;
     let taken = stacks.own_len().min(fields.len() + 1);
-    grown(stacks.exchange(taken, &[made]))
+    stacks.exchange(taken, &[made])
 }
 
 /// `struct.new_default_desc`: `[(ref null d)] -> [(ref s)]`. The descriptor is looked for first here too.

@@ -1,27 +1,31 @@
 -- The steps of `catch`, `catch_all` and `delegate`.
-use Rattle.std.proofs.Common.{◌≡◌, ◌≢◌, ℕ, Bool, true, false, ◌&&◌, List, [], ◌∷◌, Option, Some, None, refl, sym, ap, ap₂, ◌∙◌}
+use Rattle.std.proofs.Common.{◌≡◌, ◌≢◌, ℕ, zero, suc, ◌+◌, Bool, true, false, ◌&&◌, List, [], ◌∷◌, length, slice_get, Option, Some, None, is_some, refl, sym, ap, ap₂, ◌∙◌, arith}
 use Rattle.std.specs.Option.{option_map}
 use Rattle.validate_resources.specs.Context.{ModuleContext}
 use Rattle.validate_types.specs.declared.types.ValType.{ValType}
-use Rattle.validate_visit.specs.declared.frame.BlockType.{BlockType}
 use Rattle.validate_visit.specs.declared.frame.Frame.{Frame as FlatFrame}
 use Rattle.validation_rules.specs.Branches.{has_label}
 use Rattle.validation_rules.specs.Context.{Context, block_signature}
 use Rattle.validation_rules.specs.Exceptions.{exception_types, catch_operator, delegate_operator}
 use Rattle.validation_rules.specs.Operators.{delimiter_operator}
-use Rattle.validation_rules.specs.Rows.{FrameKind, is_try, catch_kind, results, BeginsCatch, guard}
+use Rattle.validation_rules.specs.Rows.{is_try, may_catch, catch_kind, results, BeginsCatch, guard}
 use Rattle.validation_rules.specs.Static.{Frame, State, heads, head_with_kind, opened_frame, may_close, delimiter_fits, state_after_exit, step_in}
 use Rattle.validation_rules.proofs.Pops.{and_false}
 use Rattle.validate_stacks.specs.Blocks.{closed_body, closed_body_in}
+use Rattle.validate_stacks.specs.Flat.{with_heights}
 use Rattle.validate_stacks.specs.Pops.{body_pushed_each}
 use Rattle.validate_stacks.specs.State.{BodyState, body_context}
-use Rattle.validate_stacks.specs.Steps.{frame_at, label_at}
+use Rattle.validate_stacks.specs.Steps.{frame_at}
 use Rattle.validate_stacks.specs.Visits.{step_body}
 use Rattle.validate_stacks.proofs.ClosedFrames.{Innermost, innermost, some_frame, guarded_some, guarded_none}
 use Rattle.validate_stacks.proofs.Whole.{with_frame, pushed_whole, pushed_over}
-use Rattle.validate_shapes.proofs.BranchSteps.{label_there, no_label}
+use Rattle.validate_shapes.proofs.Parts.{BeginsPart}
 
 -- ---- `catch` and `catch_all`
+
+-- each begins a part, with nothing
+pub catch_begins : (all : Bool) → BeginsPart (BeginsCatch all []) may_catch (catch_kind all) (λ cx bt. [])
+catch_begins all = record { delimits = refl; fits = λ cx f. refl; leaves = λ cx o. refl }
 
 module _ (md : ModuleContext) (v : BodyState) where
   abbrev put : Option State → Option BodyState
@@ -70,6 +74,13 @@ module _ (md : ModuleContext) (v : BodyState) where
 
 -- ---- `delegate`
 
+-- a label, and the frame that is found at it
+label_found : (fs : List Frame) (n d : ℕ) → has_label (heads fs) d ≡ is_some (slice_get (with_heights fs n) d)
+label_found [] n zero = refl
+label_found [] n (suc d) = refl
+label_found (f ∷ fs) n zero = refl
+label_found (f ∷ fs) n (suc d) = label_found fs n d
+
 module _ (md : ModuleContext) (v : BodyState) (d : ℕ) (r : FlatFrame) (h : frame_at v 0 ≡ Some r) where
   abbrev cx : Context
   cx = body_context md v
@@ -107,28 +118,32 @@ module _ (md : ModuleContext) (v : BodyState) (d : ℕ) (r : FlatFrame) (h : fra
       ∙ ap (λ b. guard (has_label (heads inner.outer) d && (b && may_close cx inner.frame)) (Some given)) (ap is_try inner.kind ∙ k)
       ∙ ap (λ b. guard b (Some given)) (and_false (has_label (heads inner.outer) d))
 
-  module _ (u : BodyState) (closed : closed_body md v ≡ Some u) where
-    outer_is : record v { present = record { frames = inner.outer; left = v.present.left } } ≡ u
-    outer_is = (guarded_some _ _ u (sym closed_by ∙ closed)).1
+  -- the label is counted outside the frame
+  has_outer : has_label (heads inner.outer) d ≡ is_some (frame_at v (d + 1))
+  has_outer =
+      let n = length v.present.left in
+      let next : suc d ≡ d + 1 = omega arith in
+      label_found inner.outer n d
+      ∙ ap (λ (fs : List Frame). is_some (slice_get (with_heights fs n) (suc d))) (sym inner.is)
+      ∙ ap (λ k. is_some (frame_at v k)) next
 
-    same_heads : heads inner.outer ≡ heads u.present.frames
-    same_heads = ap (λ (w : BodyState). heads w.present.frames) outer_is
+  -- it isn't there
+  pub delegate_nowhere : frame_at v (d + 1) ≡ None → step_body md (λ c. delegate_operator d) v ≡ None
+  delegate_nowhere n =
+      delegate_row
+      ∙ ap (λ b. guard (b && (is_try inner.frame.head.kind && may_close cx inner.frame)) (Some given)) (has_outer ∙ ap is_some n)
 
-    -- the label isn't there
-    pub delegate_nowhere : label_at u d ≡ None → step_body md (λ c. delegate_operator d) v ≡ None
-    delegate_nowhere n =
-        delegate_row
-        ∙ ap (λ b. guard (b && (is_try inner.frame.head.kind && may_close cx inner.frame)) (Some given)) (ap (λ hs. has_label hs d) same_heads ∙ no_label (heads u.present.frames) d n)
-
-    pub delegate_passes : (bt : BlockType) (kind : FrameKind) (rs : List ValType) (w : BodyState) → is_try r.kind ≡ true → label_at u d ≡ Some (bt, kind) → rs ≡ (block_signature md r.block_type).results → w ≡ body_pushed_each rs u → step_body md (λ c. delegate_operator d) v ≡ Some w
-    delegate_passes bt kind rs w k there same p =
-        delegate_row
-        ∙ ap₂ (λ b c. guard (b && (c && may_close cx inner.frame)) (Some given)) (ap (λ hs. has_label hs d) same_heads ∙ (label_there cx (heads u.present.frames) d bt kind there).0) (ap is_try inner.kind ∙ k)
-        ∙ ap (λ b. guard b (Some given)) (guarded_some _ _ u (sym closed_by ∙ closed)).0
-        ∙ ap Some
-        (ap (λ t. record v { present = state_after_exit v.present.left (block_signature md t).results inner.outer }) inner.block_type
-        ∙ ap (λ ts. record v { present = state_after_exit v.present.left ts inner.outer }) (sym same)
-        ∙ sym (p ∙ (ap (λ (x : BodyState). body_pushed_each rs x) (sym outer_is) ∙ pushed_over rs (record v { present = record { frames = inner.outer; left = v.present.left } }) inner.outer refl)))
+  pub delegate_passes : (u w : BodyState) (g : FlatFrame) (rs : List ValType) → closed_body md v ≡ Some u → is_try r.kind ≡ true → frame_at v (d + 1) ≡ Some g → rs ≡ (block_signature md r.block_type).results → w ≡ body_pushed_each rs u → step_body md (λ c. delegate_operator d) v ≡ Some w
+  delegate_passes u w g rs closed k there same p =
+      let s = guarded_some _ _ u (sym closed_by ∙ closed) in
+      let left : BodyState = record v { present = record { frames = inner.outer; left = v.present.left } } in
+      delegate_row
+      ∙ ap₂ (λ b c. guard (b && (c && may_close cx inner.frame)) (Some given)) (has_outer ∙ ap is_some there) (ap is_try inner.kind ∙ k)
+      ∙ ap (λ b. guard b (Some given)) s.0
+      ∙ ap Some
+      (ap (λ t. record v { present = state_after_exit v.present.left (block_signature md t).results inner.outer }) inner.block_type
+      ∙ ap (λ ts. record v { present = state_after_exit v.present.left ts inner.outer }) (sym same)
+      ∙ sym (p ∙ (ap (λ (x : BodyState). body_pushed_each rs x) (sym s.1) ∙ pushed_over rs left inner.outer refl)))
 
 -- without a frame that closes the row doesn't hold
 pub delegate_none : (md : ModuleContext) (v : BodyState) (d : ℕ) → v.present.frames ≢ [] → closed_body md v ≡ None → step_body md (λ c. delegate_operator d) v ≡ None

@@ -1,5 +1,5 @@
 -- From what the last step of a check promises to the answer of the visit.
-use Rattle.std.proofs.Common.{◌≡◌, ℕ, zero, suc, Bool, true, false, not, if◌then◌else◌, List, [], ◌∷◌, ◌++◌, slice_get, Some, None, Result, Ok, Err, OnOk, OnErr, IfErr, refl, sym, ◌∙◌, subst}
+use Rattle.std.proofs.Common.{◌≡◌, ℕ, zero, suc, Bool, true, false, not, if◌then◌else◌, List, [], ◌∷◌, ◌++◌, slice_get, Some, None, Result, Ok, Err, OnOk, IfErr, refl, subst}
 use Rattle.std.specs.List.{AllByRecursion}
 use Rattle.validate_resources.specs.Context.{ModuleContext}
 use Rattle.validate_types.specs.ErrorValue.{ErrorValue}
@@ -10,18 +10,6 @@ use Rattle.validate_stacks.specs.State.{BodyState, IsValidBody, body_with_frames
 use Rattle.validation_rules.specs.Static.{Frame, is_local_set, locals_set}
 use Rattle.validate_stacks.specs.Steps.{frames_first_setting, body_with_local_set}
 use Rattle.validate_stacks.specs.Visits.{step_body, Meets}
-
--- the last step can fail for want of memory alone
-pub meets_last : (md : ModuleContext) (op : Context → Operator) (offset : ℕ) (v w w' : BodyState) (r : Result (Unit {0}) ErrorValue) → (w ≡ w' → step_body md op v ≡ Some w) → OnOk r (w ≡ w') → IfErr r (λ e. e.wants_memory ≡ true) → IfErr r (λ e. e.offset ≡ offset) → IsValidBody md w → IsKept v w → Meets md op offset v r w
-unfolding Meets
-meets_last md op offset v w w' (Ok u) k p m o x y = record { accepted = k p; refused = tt; at_offset = tt; valid = x; kept = y }
-meets_last md op offset v w w' (Err e) k p m o x y = record { accepted = tt; refused = λ f. (let clash : true ≡ false = sym m ∙ f in absurd cc); at_offset = o; valid = x; kept = y }
-
--- a step was refused, memory aside because the row doesn't hold
-pub meets_refused : (md : ModuleContext) (op : Context → Operator) (offset : ℕ) (v w : BodyState) (r : Result (Unit {0}) ErrorValue) → OnOk r ⊥ → IfErr r (λ e. e.wants_memory ≡ false → step_body md op v ≡ None) → IfErr r (λ e. e.offset ≡ offset) → IsValidBody md w → IsKept v w → Meets md op offset v r w
-unfolding Meets
-meets_refused md op offset v w (Ok u) b n o x y = absurd b
-meets_refused md op offset v w (Err e) b n o x y = record { accepted = tt; refused = n; at_offset = o; valid = x; kept = y }
 
 pub all_both : {A : Type 0} (P : A → Type 0) (xs ys : List A) → AllByRecursion P xs → AllByRecursion P ys → AllByRecursion P (xs ++ ys)
 all_both P [] ys a b = b
@@ -53,28 +41,10 @@ set_valid_in md false i (f ∷ fs) v e h =
 pub set_valid : (md : ModuleContext) (i : ℕ) (v : BodyState) → IsValidBody md v → IsValidBody md (body_with_local_set i v)
 set_valid md i v h = set_valid_in md (is_local_set v.set_at_entry (locals_set v.present.frames) i) i v.present.frames v refl h
 
--- another row with the same step
-pub meets_as : (md : ModuleContext) (op op' : Context → Operator) (offset : ℕ) (v w : BodyState) (r : Result (Unit {0}) ErrorValue) → step_body md op v ≡ step_body md op' v → Meets md op offset v r w → Meets md op' offset v r w
-unfolding Meets
-meets_as md op op' offset v w (Ok u) same m = record { accepted = sym same ∙ m.accepted; refused = tt; at_offset = tt; valid = m.valid; kept = m.kept }
-meets_as md op op' offset v w (Err e) same m = record { accepted = tt; refused = λ f. sym same ∙ m.refused f; at_offset = m.at_offset; valid = m.valid; kept = m.kept }
-
--- a step was refused, which happens only where the row doesn't hold
-pub meets_none : (md : ModuleContext) (op : Context → Operator) (offset : ℕ) (v w : BodyState) (r : Result (Unit {0}) ErrorValue) → OnOk r ⊥ → OnErr r (step_body md op v ≡ None) → IfErr r (λ e. e.offset ≡ offset) → IsValidBody md w → IsKept v w → Meets md op offset v r w
-unfolding Meets
-meets_none md op offset v w (Ok u) b n o x y = absurd b
-meets_none md op offset v w (Err e) b n o x y = record { accepted = tt; refused = λ _. n; at_offset = o; valid = x; kept = y }
-
 -- the last step can't fail
 pub meets_done : (md : ModuleContext) (op : Context → Operator) (offset : ℕ) (v w : BodyState) → step_body md op v ≡ Some w → IsValidBody md w → IsKept v w → Meets md op offset v (Ok tt) w
 unfolding Meets
 meets_done md op offset v w e x y = record { accepted = e; refused = tt; at_offset = tt; valid = x; kept = y }
-
--- a step was refused for want of memory
-pub meets_starved : (md : ModuleContext) (op : Context → Operator) (offset : ℕ) (v w : BodyState) (r : Result (Unit {0}) ErrorValue) → OnOk r ⊥ → IfErr r (λ e. e.wants_memory ≡ true) → IfErr r (λ e. e.offset ≡ offset) → IsValidBody md w → IsKept v w → Meets md op offset v r w
-unfolding Meets
-meets_starved md op offset v w (Ok u) b m o x y = absurd b
-meets_starved md op offset v w (Err e) b m o x y = record { accepted = tt; refused = λ f. (let clash : true ≡ false = sym m ∙ f in absurd cc); at_offset = o; valid = x; kept = y }
 
 -- what a visit answers, said clause by clause
 pub meets_stated : (md : ModuleContext) (op : Context → Operator) (offset : ℕ) (v w : BodyState) (r : Result (Unit {0}) ErrorValue) → OnOk r (step_body md op v ≡ Some w) → IfErr r (λ e. e.wants_memory ≡ false → step_body md op v ≡ None) → IfErr r (λ e. e.offset ≡ offset) → IsValidBody md w → IsKept v w → Meets md op offset v r w

@@ -1,7 +1,4 @@
-pub mod AtOnce
 pub mod Rows
-mod Fields
-pub mod Replaced
 pub mod LastSteps
 pub mod LookupRows
 pub mod Moves
@@ -12,3 +9,4 @@ pub mod HeapReferences
 pub mod OpenerSteps
 pub mod TypesBelow
 pub mod Parts
+pub mod PartMoves

@@ -4,7 +4,6 @@ use Rattle.std.specs.List.{AllByRecursion}
 use Rattle.std.specs.Option.{option_map}
 use Rattle.validate_resources.specs.Context.{ModuleContext, Valid}
 use Rattle.validate_types.specs.ErrorValue.{ErrorValue}
-use Rattle.validate_types.specs.declared.error.OutOfMemory.{OutOfMemory}
 use Rattle.validate_types.specs.declared.types.ValType.{ValType}
 use Rattle.validation_rules.specs.Context.{Context}
 use Rattle.validation_rules.specs.Rows.{Operator, Head, Row}
@@ -107,26 +106,18 @@ module _ {E : Type 0} (md : ModuleContext) (tells : E → Type 0) (s : Stacked) 
 
 -- ---- rows whose step is known, and what can't be refused
 
--- a growth that wants no memory
-pub never_refused : {E : Type 0} (P : Type 0) (r : Result (Unit {0}) OutOfMemory) (a : Result (Unit {0}) E) → IsOk r → is_ok a ≡ is_ok r → OnErr a P
-never_refused P r (Ok u) h same = tt
-never_refused P (Ok u) (Err e) h same = cc
-never_refused P (Err e) (Err x) h same = absurd cc
-
-pub always_accepted : {E : Type 0} (r : Result (Unit {0}) OutOfMemory) (a : Result (Unit {0}) E) → IsOk r → is_ok a ≡ is_ok r → IsOk a
-always_accepted r (Ok u) h same = refl
-always_accepted (Ok u) (Err e) h same = cc
-always_accepted (Err e) (Err x) h same = absurd cc
+-- a move that wants no memory
+pub never_refused : {E : Type 0} (P : Type 0) (a : Result (Unit {0}) E) → IsOk a → OnErr a P
+never_refused P (Ok u) h = tt
+never_refused P (Err e) h = absurd cc
 
 module _ {E : Type 0} (md : ModuleContext) (tells : E → Type 0) (op : Context → Operator) (s w : Stacked) where
   -- the move makes the step
-  pub made_moves : (x : BodyState) → step_body md op s.body ≡ Some x → IsValidBody md x → IsKept s.body x → (r : Result (Unit {0}) OutOfMemory) (a : Result (Unit {0}) E) → is_ok a ≡ is_ok r → IfErr a (λ e. tells e → ⊥) → MatchResult r (λ _. w.body ≡ x) (λ _. w ≡ s) → Moves md tells op s a w
+  pub made_moves : (x : BodyState) → step_body md op s.body ≡ Some x → IsValidBody md x → IsKept s.body x → (a : Result (Unit {0}) E) → IfErr a (λ e. tells e → ⊥) → MatchResult a (λ _. w.body ≡ x) (λ _. w ≡ s) → Moves md tells op s a w
   unfolding Moves
-  made_moves x is valid kept (Ok u) (Ok y) same told m = record { step = is ∙ ap Some (sym m); valid = subst (IsValidBody md) (sym m) valid; kept = subst (IsKept s.body) (sym m) kept }
-  made_moves x is valid kept (Err e) (Err y) same told m = (m, λ t. absurd (told t))
-  made_moves x is valid kept (Ok u) (Err y) same told m = cc
-  made_moves x is valid kept (Err e) (Ok y) same told m = cc
+  made_moves x is valid kept (Ok u) told m = record { step = is ∙ ap Some (sym m); valid = subst (IsValidBody md) (sym m) valid; kept = subst (IsKept s.body) (sym m) kept }
+  made_moves x is valid kept (Err e) told m = (m, λ t. absurd (told t))
 
   -- the live part ends, of operands that fit
-  pub ended_moves : (wanted : List ValType) → step_body md op s.body ≡ option_map body_unreachable (body_popped_each md (reverse wanted) s.body) → has_operands_fitting (body_context md s.body) wanted s.body ≡ true → IsValidBody md s.body → (r : Result (Unit {0}) OutOfMemory) (a : Result (Unit {0}) E) → is_ok a ≡ is_ok r → IfErr a (λ e. tells e → ⊥) → MatchResult r (λ _. w.body ≡ body_unreachable s.body) (λ _. w ≡ s) → Moves md tells op s a w
+  pub ended_moves : (wanted : List ValType) → step_body md op s.body ≡ option_map body_unreachable (body_popped_each md (reverse wanted) s.body) → has_operands_fitting (body_context md s.body) wanted s.body ≡ true → IsValidBody md s.body → (a : Result (Unit {0}) E) → IfErr a (λ e. tells e → ⊥) → MatchResult a (λ _. w.body ≡ body_unreachable s.body) (λ _. w ≡ s) → Moves md tells op s a w
   ended_moves wanted is fit state = made_moves (body_unreachable s.body) (is ∙ ended_whole md wanted s.body (body_unreachable s.body) fit refl) (unreachable_valid md s.body state) refl

@@ -1,5 +1,5 @@
 -- The step of an operator that opens a frame.
-use Rattle.std.proofs.Common.{◌≡◌, ◌≢◌, ℕ, Bool, true, false, ◌&&◌, List, [], ◌∷◌, ◌++◌, reverse, length, Option, Some, None, Result, Ok, Err, IsOk, refl, sym, ap, subst, ◌∙◌}
+use Rattle.std.proofs.Common.{◌≡◌, ◌≢◌, Bool, true, false, ◌&&◌, List, [], ◌∷◌, ◌++◌, reverse, length, Option, Some, None, Result, Ok, Err, IsOk, refl, sym, ap, subst, ◌∙◌}
 use Rattle.std.specs.Option.{option_map}
 use Rattle.std.proofs.lemmas.List.{append-nil}
 use Rattle.validate_resources.specs.Context.{ModuleContext, IsLawful}
@@ -8,13 +8,13 @@ use Rattle.validate_visit.specs.declared.frame.BlockType.{BlockType}
 use Rattle.validation_rules.specs.Context.{block_signature}
 use Rattle.validation_rules.specs.Fits.{all_fit}
 use Rattle.validation_rules.specs.Rows.{FrameKind, Opens, guard}
-use Rattle.validation_rules.specs.Static.{Frame, State, operands_found, operands_under, opened_frame, state_after, open_frames, step_in}
+use Rattle.validation_rules.specs.Static.{Frame, State, operands_found, operands_under, state_after, open_frames, step_in}
 use Rattle.validation_rules.specs.Valid.{IsValidBlock}
 use Rattle.validation_rules.specs.Operators.{opening_operator, opening_operator_if, opener, checked_block}
 use Rattle.validate_stacks.specs.Blocks.{body_with_block}
 use Rattle.validate_stacks.specs.Steps.{head_of, body_with_frame}
 use Rattle.validate_stacks.specs.Pops.{IsKept, body_popped_each, body_pushed_each}
-use Rattle.validate_stacks.specs.State.{BodyState, IsValidBody, body_context, body_with_frames}
+use Rattle.validate_stacks.specs.State.{BodyState, IsValidBody, body_context}
 use Rattle.validate_stacks.specs.Attempts.{Stacked}
 use Rattle.validate_stacks.specs.Moves.{Moved, Moves}
 use Rattle.validate_stacks.specs.Visits.{step_body}

@@ -14,7 +14,7 @@ use Rattle.validation_rules.specs.Fits.{MaybeType, Bottom, Known, fits, all_fit}
 use Rattle.validation_rules.specs.References.{operand_without_null, null_test_pushes, non_null_pushes, br_on_null_row, last_reference, last_without_null, br_on_non_null_row_for, br_on_non_null_row}
 use Rattle.validation_rules.specs.Rows.{Head, Stays, Target, guard}
 use Rattle.validation_rules.specs.Static.{Frame, State, heads, stack_with, operands_on_top, state_after, open_frames}
-use Rattle.validation_rules.specs.Operators.{plain_row, lookup_row, looking_row, looking_row_if, row_operator, staying_operator}
+use Rattle.validation_rules.specs.Operators.{lookup_row, looking_row, looking_row_if, row_operator, staying_operator}
 use Rattle.std.proofs.lemmas.List.{append_assoc, reverse-append}
 use Rattle.validation_rules.proofs.Rows.{row_with}
 use Rattle.validation_rules.proofs.Steps.{onto-next}
@@ -23,9 +23,9 @@ use Rattle.validate_stacks.specs.State.{BodyState, body_context}
 use Rattle.validate_stacks.specs.Steps.{body_popped, body_pushed, label_at, type_and_kind}
 use Rattle.validate_stacks.specs.Steps as steps
 use Rattle.validate_stacks.specs.Visits.{step_body}
-use Rattle.validate_stacks.proofs.Whole.{none_above, some_above, popped_whole, pushed_whole}
-use Rattle.validate_shapes.proofs.BranchSteps.{popped_heads, still_open, pushes_is}
-use Rattle.validate_shapes.proofs.Rows.{row_then, same_row}
+use Rattle.validate_stacks.proofs.Whole.{popped_whole, pushed_whole}
+use Rattle.validate_shapes.proofs.BranchSteps.{popped_heads, pushes_is}
+use Rattle.validate_shapes.proofs.Rows.{same_row}
 use Rattle.validate_shapes.proofs.LookupRows.{at_labels}
 
 -- ---- lists

@@ -2,21 +2,19 @@
 use Rattle.std.proofs.Common.{◌≡◌, ◌≢◌, ℕ, suc, Bool, true, false, ◌&&◌, ◌||◌, nat_le, List, [], ◌∷◌, map, reverse, length, slice_get, Option, Some, None, refl, sym, ap, ap₂, ◌∙◌}
 use Rattle.std.specs.Option.{option_map}
 use Rattle.std.proofs.Math.Dec.{leb-suc-suc, leb-suc-zero, leb-zero}
-use Rattle.std.proofs.lemmas.List.{length-reverse, append-nil, reverse-reverse}
 use Rattle.std.specs.Prelude.{if◌then◌else◌, ◌++◌}
 use Rattle.validate_resources.specs.Context.{ModuleContext}
 use Rattle.validate_types.specs.declared.features.WasmFeatures.{WasmFeatures}
 use Rattle.validate_types.specs.declared.types.ValType.{ValType}
-use Rattle.validate_visit.specs.declared.frame.BlockType.{BlockType}
 use Rattle.validate_visit.specs.declared.frame.Frame.{Frame as FlatFrame}
 use Rattle.validation_rules.specs.Context.{Context, block_signature}
 use Rattle.validation_rules.specs.Fits.{MaybeType, Known, fits, all_fit}
-use Rattle.validation_rules.specs.Rows.{FrameKind, Else, is_if, Head, params, results, Stays, Ends, Row, Operator, guard}
-use Rattle.validation_rules.specs.Static.{Frame, State, stack_with, operands_on_top, operands_found, operands_under, may_close, opened_frame, state_after_exit, state_after, open_frames, step, step_in, locals_set, is_local_set, is_read_local_set, first_set_after}
+use Rattle.validation_rules.specs.Rows.{FrameKind, is_if, Head, results, Stays, Ends, Row, Operator, guard}
+use Rattle.validation_rules.specs.Static.{Frame, State, stack_with, operands_on_top, operands_found, operands_under, may_close, state_after_exit, state_after, open_frames, step, step_in, locals_set, is_local_set, is_read_local_set, first_set_after}
 use Rattle.validation_rules.proofs.Steps.{if_fits, joined}
 use Rattle.validation_rules.specs.Operators.{plain_row, plain_row_if, never_row, looking_row, drop_pushes, row_operator, delimiter_operator, lookup_row, local_get_row, local_set_row, local_tee_row}
-use Rattle.validation_rules.proofs.Pops.{and_false, fit_turned}
-use Rattle.validate_stacks.specs.Blocks.{closed_body, closed_body_in, body_with_block, may_close_as_if}
+use Rattle.validation_rules.proofs.Pops.{and_false}
+use Rattle.validate_stacks.specs.Blocks.{closed_body, closed_body_in, may_close_as_if}
 use Rattle.validate_stacks.specs.Steps.{head_of}
 use Rattle.validate_stacks.specs.Pops.{body_popped_each, body_pushed_each, IsKept}
 use Rattle.validate_stacks.specs.State.{BodyState, body_context}
@@ -194,21 +192,6 @@ module _ (cx : Context) where
       ∙ and_pull (nat_le (length own) (length ws)) (fits cx x w) (all_fit cx (operands_on_top (length ws) false own) ws)
       ∙ ap (λ b. fits cx x w && b) (whole_top own ws)
 
-  onto_twice : (xs : List MaybeType) → stack_with (stack_with xs []) [] ≡ xs
-  onto_twice xs = append-nil (reverse (reverse xs ++ [])) ∙ ap reverse (append-nil (reverse xs)) ∙ reverse-reverse xs
-
-  -- an empty part gives its parameters as its results
-  pub else_closes : (h : Head) → may_close cx (opened_frame h (params cx h)) ≡ all_fit cx (map Known (params cx h)) (results cx h)
-  else_closes h =
-      let own = stack_with (map Known (params cx h)) [] in
-      let rs = results cx h in
-      ap (λ n. nat_le (length own) (length rs) && all_fit cx (stack_with (operands_on_top n false own) []) rs) refl
-      ∙ ap (λ b. nat_le (length own) (length rs) && b) (fit_turned cx (operands_on_top (length rs) false own) rs)
-      ∙ ap (λ n. nat_le (length own) n && all_fit cx (operands_on_top n false own) (reverse rs)) (sym (length-reverse rs))
-      ∙ whole_top own (reverse rs)
-      ∙ sym (fit_turned cx own rs)
-      ∙ ap (λ xs. all_fit cx xs rs) (onto_twice (map Known (params cx h)))
-
 module _ (md : ModuleContext) (v : BodyState) (r : FlatFrame) (h : frame_at v 0 ≡ Some r) where
   abbrev inner : Innermost v r
   inner = innermost v r h
@@ -258,18 +241,6 @@ module _ (md : ModuleContext) (v : BodyState) (r : FlatFrame) (h : frame_at v 0 
       (ap (λ t. record v { present = state_after_exit v.present.left (block_signature md t).results inner.outer }) inner.block_type
       ∙ sym (p ∙ (ap (λ (x : BodyState). body_pushed_each rs_now x) (sym s.1) ∙ pushed_over rs_now (record v { present = record { frames = inner.outer; left = v.present.left } }) inner.outer refl)))
 
--- a frame of another kind has no second part
-pub closes_unless_if : (md : ModuleContext) (f : FlatFrame) (v : BodyState) → is_if f.kind ≡ false → may_close_as_if md f v ≡ true
-closes_unless_if md f v k = ap (λ b. if_fits (body_context md v) b (head_of f.kind f.block_type)) k
-
--- an empty second part: it closes exactly where the parameters are the results
-pub else_closed : (md : ModuleContext) (bt : BlockType) (u : BodyState) → closed_body md (body_with_block md Else bt u) ≡ guard (all_fit (body_context md u) (map Known (block_signature md bt).params) (block_signature md bt).results) (Some u)
-else_closed md bt u = ap (λ b. guard b (Some u)) (else_closes (body_context md u) (head_of Else bt))
-
--- as the row of `end` asks it of an `if`
-pub else_is : (md : ModuleContext) (f : FlatFrame) (u : BodyState) → is_if f.kind ≡ true → closed_body md (body_with_block md Else f.block_type u) ≡ guard (may_close_as_if md f u) (Some u)
-else_is md f u k = else_closed md f.block_type u ∙ ap (λ b. guard b (Some u)) (sym (ap (λ b. if_fits (body_context md u) b (head_of f.kind f.block_type)) k))
-
 -- without a frame that closes the row of `end` doesn't hold
 pub end_none : (md : ModuleContext) (v : BodyState) → v.present.frames ≢ [] → closed_body md v ≡ None → step_body md (λ c. delimiter_operator Ends) v ≡ None
 end_none md v o n = by (frame_at v 0) refl
@@ -281,9 +252,6 @@ end_none md v o n = by (frame_at v 0) refl
 -- where only operands and frames changed, the context is the same
 pub same_context : (md : ModuleContext) (v u : BodyState) → IsKept v u → body_context md v ≡ body_context md u
 same_context md v u k = sym (ap (λ (w : BodyState). body_context md w) k)
-
-abbrev pub if_by : Context → FlatFrame → Bool
-if_by cx f = if_fits cx (is_if f.kind) (head_of f.kind f.block_type)
 
 -- pushes of one list, and then of another
 pub pushed_then : (xs ys : List ValType) (v : BodyState) → body_pushed_each (xs ++ ys) v ≡ body_pushed_each ys (body_pushed_each xs v)

@@ -14,7 +14,7 @@ use validate_resources::WasmModuleResources;
 use validate_resources::kinds::func_type_of;
 use validate_stacks::Stacks;
 use validate_stacks::blocks::params;
-use validate_types::{Refusal, Refused, ValType, grown};
+use validate_types::{Refusal, Refused, ValType};
 use validate_visit::{BlockType, FrameKind};
 
 /// A function type that a block names: it needs `multi_value`, has to be declared and of functions, and
@@ -99,7 +99,7 @@ fn open_frame<A: Refused, R: WasmModuleResources>(
     stacks.find_operands(resources, above.len(), params)?;
     let own = stacks.own_len();
     let taken = params.len().saturating_add(above.len()).min(own);
-    grown(stacks.open(taken, kind, block_type, params))
+    stacks.open(taken, kind, block_type, params)
 }
 
 /// [`open_frame`] with nothing above the parameters, by a call.

@@ -8,7 +8,6 @@ pub mod blocks;
 pub mod checked;
 pub mod functions;
 pub mod globals;
-pub mod labels;
 pub mod matching;
 pub mod memories;
 pub mod numbers;

@@ -33,18 +33,6 @@ pub fn integer(ty: IntegerType) -> ValType
     }
 }
 
-/// That of a float.
-#[inline(always)]
-pub fn float(ty: FloatType) -> ValType
-    ensures same { result ≡ float_type ty }
-    ensures number { is_number_or_vector result ≡ true }
-{
-    match ty {
-        FloatType::F32 => ValType::F32,
-        FloatType::F64 => ValType::F64,
-    }
-}
-
 /// That of the whole integer.
 #[inline(always)]
 pub fn packed(part: PackedInteger) -> ValType

@@ -10,7 +10,7 @@ ghost use Rattle.validate_stacks.specs.Visits.{step_body, MayVisit};
 use crate::numbers::{once, twice};
 use validate_resources::WasmModuleResources;
 use validate_stacks::Stacks;
-use validate_types::{MaybeType, Refused, ValType, grown};
+use validate_types::{MaybeType, Refused, ValType};
 
 /// `[wanted] -> [given]`, the last of each on top. It is called, so that what stands in each visit stays short.
 #[inline(never)]
@@ -43,7 +43,7 @@ pub fn constant<A: Refused, R: WasmModuleResources>(
 {
     // The contract alone reads it.
     let _resources = resources;
-    grown(stacks.push_operand(MaybeType::Known(given)))
+    stacks.push_operand(MaybeType::Known(given))
 }
 
 /// `[taken] -> [given]`. The list is written twice, so that nothing of it lies in memory where the first call takes it.
@@ -124,5 +124,5 @@ pub fn ending<A: Refused, R: WasmModuleResources>(
         stacks.old.body ≡ None) }
 {
     stacks.find_operands(resources, 0, types)?;
-    grown(stacks.end_live())
+    stacks.end_live()
 }

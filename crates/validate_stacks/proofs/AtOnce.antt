@@ -1,11 +1,10 @@
 -- Operands put in place or taken where no attempt is pending, and what fits at once.
-use Rattle.std.proofs.Common.{◌≡◌, ◌≢◌, ◌⊎◌, inl, inr, min, reverse, Result, Ok, Err, IsOk, MatchResult, MatchOption, MatchBool, ℕ, zero, suc, ◌+◌, ◌-◌, ◌<◌, ◌≤◌, List, [], ◌∷◌, Bool, true, false, Option, Some, None, is_some, IsSome, length, get_or, map, slice_get, take, drop, refl, sym, ◌∙◌, ap, subst, arith}
+use Rattle.std.proofs.Common.{◌≡◌, ◌≢◌, ◌⊎◌, inl, inr, min, reverse, Ok, MatchOption, MatchBool, ℕ, zero, suc, ◌+◌, ◌-◌, ◌<◌, ◌≤◌, List, [], ◌∷◌, Bool, true, false, Option, Some, None, is_some, length, get_or, map, slice_get, take, drop, refl, sym, ◌∙◌, ap, subst, arith}
 use Rattle.std.specs.List.{AllByRecursion}
 use Rattle.std.specs.Option.{option_map}
 use Rattle.std.proofs.lemmas.List.{at_drop_more, append-nil, drop_all, drop_min, drop-drop, length-drop, length-map, length-reverse, length-take-le, take_all, take-append-drop, take-append-le, take-take}
 use Rattle.std.proofs.Math.Seq.{take-add}
 use Rattle.validate_resources.specs.Context.{ModuleContext, Valid, IsLawful}
-use Rattle.validate_types.specs.ErrorValue.{ErrorValue}
 use Rattle.validate_types.specs.declared.features.WasmFeatures.{WasmFeatures}
 use Rattle.validate_types.specs.declared.types.ValType.{ValType}
 use Rattle.validate_visit.specs.declared.frame.BlockType.{BlockType}
@@ -21,15 +20,12 @@ use Rattle.validation_rules.specs.Rows.{guard, Operator}
 use Rattle.validate_stacks.specs.Attempts.{Stacked, may_frame}
 use Rattle.validation_rules.specs.Static.{Frame, State, state_with, stack_with, operands_found, opened_frame, locals_set}
 use Rattle.validate_stacks.specs.AtOnce.{frames_dropped, body_dropped, body_with_frame_over, state_given, body_given, pushed_list, MeetsAtOnce}
-use Rattle.validation_rules.specs.Context.{block_signature}
-use Rattle.validate_stacks.specs.Blocks.{closed_body}
 use Rattle.validate_stacks.specs.Flat.{state_from_heights, state_with_frame, stacked_of, HasShape, IsSound, undone_pending}
-use Rattle.validate_stacks.specs.Pops.{FitsAtOnce, may_pop, frames_popped_each, body_popped_each, body_pushed_each, has_operands_fitting, operands_found_in, IsKept}
+use Rattle.validate_stacks.specs.Pops.{FitsAtOnce, may_pop, body_popped_each, body_pushed_each, has_operands_fitting, operands_found_in, IsKept}
 use Rattle.validate_stacks.specs.State.{BodyState, body_context, body_with_frames, IsValidBody}
-use Rattle.validate_stacks.specs.Steps.{head_of, found_in_body, found_after_pops_in_body, found_after_pops_in_frames, frame_at, innermost_operands, body_without_first, body_popped, body_pushed, body_unreachable, body_without_frame}
-use Rattle.validate_stacks.specs.Visits.{Meets, MayVisit}
+use Rattle.validate_stacks.specs.Steps.{head_of, found_in_body, found_after_pops_in_body, found_after_pops_in_frames, innermost_operands, body_without_first, body_popped, body_pushed, body_unreachable, body_without_frame}
+use Rattle.validate_stacks.specs.Visits.{Meets}
 use Rattle.validation_rules.proofs.Steps.{some_injective}
-use Rattle.validate_stacks.proofs.ClosedFrames.{guarded_some, closed_passes, wants_valid}
 use Rattle.validate_stacks.proofs.Cuts.{state_of, own-cut, HasShape-more, above_height}
 use Rattle.validate_stacks.proofs.MatchedOperands.{drop_next}
 use Rattle.validate_stacks.proofs.Undone.{new_flat}
@@ -101,11 +97,6 @@ dropped_next n v = by v.present.frames ∙ ap (λ k. body_dropped k v) plus
     by : (fs : List Frame) → body_popped (body_dropped n (body_with_frames fs v)) ≡ body_dropped (suc n) (body_with_frames fs v)
     by [] = refl
     by (f ∷ fs) = one (drop n f.operands) f fs ∙ ap (λ own. body_with_frames (record f { operands = own } ∷ fs) v) (sym (drop_next n f.operands))
-
--- a pop that is not refused
-pub popped_quietly : {A E : Type 0} (P : A → Type 0) {Q : Type 0} (R : E → Type 0) (r : Result A E) → IsOk r → MatchResult r (λ t. P t × Q) R → Q
-popped_quietly P R (Ok t) h m = m.1
-popped_quietly P R (Err e) h m = absurd cc
 
 -- ---- what fits at once
 
@@ -277,11 +268,6 @@ module _ (md : ModuleContext) where
         valid = λ a k. subst (IsValidBody md) parts.2 (up.1 a (down.1 k));
       }
 
--- nothing is done at once
-pub not_at_once : (md : ModuleContext) (op : Context → Operator) (v : Stacked) → MeetsAtOnce md op v false v
-unfolding MeetsAtOnce
-not_at_once md op v = refl
-
 -- it is done
 pub done_at_once : (md : ModuleContext) (op : Context → Operator) (v w : Stacked) (b : Bool) → MeetsAtOnce md op v b w → b ≡ true → (offset : ℕ) → Meets md op offset v.body (Ok tt) w.body
 unfolding MeetsAtOnce
@@ -292,12 +278,6 @@ pub same_at_once : (md : ModuleContext) (op : Context → Operator) (v w : Stack
 unfolding MeetsAtOnce
 same_at_once md op v w true m h = cc
 same_at_once md op v w false m h = m
-
--- what is shown of a step that is done
-pub met_at_once : (md : ModuleContext) (op : Context → Operator) (v w : Stacked) {P : Type 0} (b : Bool) → (P → (offset : ℕ) → Meets md op offset v.body (Ok tt) w.body) → MatchBool b P (w ≡ v) → MeetsAtOnce md op v b w
-unfolding MeetsAtOnce
-met_at_once md op v w true f m = f m
-met_at_once md op v w false f m = m
 
 -- pops set no local
 popped_set : (v : BodyState) → locals_set (body_popped v).present.frames ≡ locals_set v.present.frames
@@ -319,10 +299,6 @@ popped_each_set md [] v u h = sym (ap (λ (x : BodyState). locals_set x.present.
 popped_each_set md (w ∷ ws) v u h =
     popped_each_set md ws (body_popped v) u (guard_some (may_pop (body_context md v) (found_in_body v) (Some w)) (body_popped_each md ws (body_popped v)) u (sym (popped_next md w ws v) ∙ h))
     ∙ popped_set v
-
-pub undone_at_once : (md : ModuleContext) (op : Context → Operator) (v w : Stacked) → w ≡ v → MeetsAtOnce md op v false w
-unfolding MeetsAtOnce
-undone_at_once md op v w e = e
 
 -- ---- the live part ended, and a frame closed
 
@@ -348,35 +324,6 @@ nothing_left n [] h = drop_nothing n
     drop_nothing (suc k) = refl
 nothing_left zero (x ∷ own) h = absurd (omega (arith, h))
 nothing_left (suc n) (x ∷ own) h = nothing_left n own (omega (arith, h))
-
--- no own operand is left, where there were no more than were popped
-pub none_left : (md : ModuleContext) (wanted : List ValType) (v u : BodyState) → length (innermost_operands v.present.frames) ≤ length wanted → body_popped_each md (reverse wanted) v ≡ Some u → innermost_operands u.present.frames ≡ []
-none_left md wanted v u h p = by v.present.frames refl
-  where
-    frameless : (ws : List ValType) (x : BodyState) → x.present.frames ≡ [] → body_popped_each md ws x ≡ Some u → innermost_operands u.present.frames ≡ []
-    frameless [] x e q = ap (λ (w : BodyState). innermost_operands w.present.frames) (some_injective u x (sym q ∙ popped_none md x)) ∙ ap innermost_operands e
-    frameless (w ∷ ws) x e q = absurd (let none : body_popped_each md (w ∷ ws) x ≡ None = ap (λ gs. option_map (λ fs. body_with_frames fs x) (frames_popped_each (body_context md x) (w ∷ ws) gs)) e in clash (sym none ∙ q))
-      where
-        clash : None ≡ Some u → ⊥
-        clash c = cc
-
-    by : (fs : List Frame) → v.present.frames ≡ fs → innermost_operands u.present.frames ≡ []
-    by [] e = frameless (reverse wanted) v e p
-    by (f ∷ fs) e =
-        let s = guarded_some _ _ u (sym (popped_whole md v f fs wanted e) ∙ p) in
-        sym (ap (λ (w : BodyState). innermost_operands w.present.frames) s.1) ∙ nothing_left (length wanted) f.operands (subst (λ gs. length (innermost_operands gs) ≤ length wanted) e h)
-
-pub some_there : {A : Type 0} (o : Option A) → IsSome o → (a : A) × (o ≡ Some a)
-some_there (Some a) h = (a, refl)
-some_there None h = absurd cc
-
--- what is visited where nothing was done at once
-pub may_visit_then : (md : ModuleContext) (op : Context → Operator) (v w : Stacked) (b : Bool) → MeetsAtOnce md op v b w → b ≡ false → MayVisit md v → MayVisit md w
-may_visit_then md op v w b m h k = subst (MayVisit md) (sym (same_at_once md op v w b m h)) k
-
--- and what is answered there
-pub meets_then : (md : ModuleContext) (op : Context → Operator) (v w : Stacked) (b : Bool) → MeetsAtOnce md op v b w → b ≡ false → (offset : ℕ) (r : Result (Unit {0}) ErrorValue) (x : BodyState) → Meets md op offset w.body r x → Meets md op offset v.body r x
-meets_then md op v w b m h offset r x k = subst (λ (s : Stacked). Meets md op offset s.body r x) (same_at_once md op v w b m h) k
 
 -- one that was made, and one that wasn't
 pub was_made : {P : Type 0} (Q : Type 0) (b : Bool) → b ≡ true → MatchBool b P Q → P
@@ -499,51 +446,12 @@ given_none v h = by v.present.frames h
     by [] e = refl
     by (f ∷ fs) e = in_frame f.operands f fs e
 
--- one that has one, which becomes known
-pub given_one : (v : BodyState) (t : ValType) → length (innermost_operands v.present.frames) ≡ 1 → body_given (body_pushed (Known t) (body_popped v)) ≡ body_pushed (Known t) (body_without_frame v)
-given_one v t h = by v.present.frames h
-  where
-    in_frame : (own : List MaybeType) (f : Frame) (fs : List Frame) → length own ≡ 1 → body_given (body_pushed (Known t) (body_popped (body_with_frames (record f { operands = own } ∷ fs) v))) ≡ body_pushed (Known t) (body_with_frames fs v)
-    in_frame [] f fs e = absurd (omega (arith, e))
-    in_frame (x ∷ []) f [] e = refl
-    in_frame (x ∷ []) f (g ∷ gs) e = refl
-    in_frame (x ∷ y ∷ own) f fs e = absurd (omega (arith, e))
-
-    by : (fs : List Frame) → length (innermost_operands fs) ≡ 1 → body_given (body_pushed (Known t) (body_popped (body_with_frames fs v))) ≡ body_pushed (Known t) (body_without_frame (body_with_frames fs v))
-    by [] e = absurd (omega (arith, e))
-    by (f ∷ fs) e = in_frame f.operands f fs e
-
--- what is dropped of a frame goes with it
-pub without_dropped : (n : ℕ) (v : BodyState) → body_without_frame (body_dropped n v) ≡ body_without_frame v
-without_dropped n v = by v.present.frames
-  where
-    by : (fs : List Frame) → body_without_frame (body_dropped n (body_with_frames fs v)) ≡ body_without_frame (body_with_frames fs v)
-    by [] = refl
-    by (f ∷ fs) = refl
-
 pub without_valid : (md : ModuleContext) (v : BodyState) → IsValidBody md v → IsValidBody md (body_without_frame v)
 without_valid md v h = by v.present.frames h
   where
     by : (fs : List Frame) → IsValidBody md (body_with_frames fs v) → IsValidBody md (body_without_frame (body_with_frames fs v))
     by [] k = k
     by (f ∷ fs) k = record { locals_valid = k.locals_valid; frames = k.frames.1; left = k.left }
-
-module _ (md : ModuleContext) (v : BodyState) (r : FlatFrame) (rs : List ValType) (there : frame_at v 0 ≡ Some r) (same : rs ≡ (block_signature md r.block_type).results) (fit : has_operands_fitting (body_context md v) rs v ≡ true) (own : length (innermost_operands v.present.frames) ≡ length rs) where
-  -- it may be closed
-  pub left_closed : closed_body md v ≡ Some (body_without_frame v)
-  left_closed =
-      let popped = popped_dropped md rs v fit in
-      let none = none_left md rs v (body_dropped (length rs) v) (omega (arith, own)) popped in
-      closed_passes md v r rs there same (body_dropped (length rs) v) popped none ∙ ap Some (without_dropped (length rs) v)
-
-  pub left_whole : (w : BodyState) → w ≡ body_pushed_each rs (body_without_frame v) → option_map (body_pushed_each rs) (closed_body md v) ≡ Some w
-  left_whole w e = ap (option_map (body_pushed_each rs)) left_closed ∙ ap Some (sym e)
-
-  pub left_valid : IsLawful md → IsValidBody md v → (w : BodyState) → w ≡ body_pushed_each rs (body_without_frame v) → IsValidBody md w
-  left_valid laws valid w e = subst (IsValidBody md) (sym e) ((pushed_each_kept md rs (body_without_frame v)).1 (wants_valid md v r rs laws there valid same) (without_valid md v valid))
-
-  pub left_kept : (w : BodyState) → w ≡ body_pushed_each rs (body_without_frame v) → IsKept v w
-  left_kept w e = subst (IsKept v) (sym e) (kept_on v (body_without_frame v) (body_pushed_each rs (body_without_frame v)) refl (pushed_each_kept md rs (body_without_frame v)).0)
 
 -- the one type of a list
 pub one_type : (ts : List ValType) (d : ValType) → length ts ≡ 1 → ts ≡ get_or ts 0 d ∷ []
@@ -614,22 +522,6 @@ over_known ts k b v own known = ap (λ q. body_with_frames (record { head = head
         ∙ sym (append-nil top)
 
 -- ---- an operand taken for a frame
-
-pub opened_over : (md : ModuleContext) (t : ValType) (v w : BodyState) (opened : BodyState → BodyState) → has_operands_fitting (body_context md v) (t ∷ []) v ≡ true → w ≡ opened (body_popped v) → option_map opened (body_popped_each md (t ∷ []) v) ≡ Some w
-opened_over md t v w opened fit e =
-    ap (option_map opened) (popped_dropped md (t ∷ []) v fit)
-    ∙ ap (λ u. Some (opened u)) (sym (dropped_next 0 v) ∙ ap body_popped (dropped_none v))
-    ∙ ap Some (sym e)
-
-pub left_one : (v : BodyState) (rs : List ValType) (d : ValType) (x w : BodyState) → length rs ≡ 1 → length (innermost_operands v.present.frames) ≡ length rs → x ≡ body_pushed (Known (get_or rs 0 d)) (body_popped v) → w ≡ body_given x → w ≡ body_pushed_each rs (body_without_frame v)
-left_one v rs d x w one own p g =
-    g ∙ ap body_given p ∙ given_one v (get_or rs 0 d) (own ∙ one)
-    ∙ ap (λ ts. body_pushed_each ts (body_without_frame v)) (sym (one_type rs d one))
-
-pub left_none : (v : BodyState) (rs : List ValType) (w : BodyState) → length rs ≤ 1 → length rs ≢ 1 → length (innermost_operands v.present.frames) ≡ length rs → w ≡ body_given v → w ≡ body_pushed_each rs (body_without_frame v)
-left_none v rs w few not_one own g =
-    let none = no_type rs few not_one in
-    g ∙ given_none v (own ∙ ap length none) ∙ ap (λ ts. body_pushed_each ts (body_without_frame v)) (sym none)
 
 -- what follows from a change that was made
 pub match_made : {P Q : Type 0} (R : Type 0) (b : Bool) → (P → Q) → MatchBool b P R → MatchBool b Q R

@@ -1,5 +1,5 @@
 -- Operands and frames changed in one move, and recorded where an attempt is pending: what it comes back to stays.
-use Rattle.std.proofs.Common.{◌≡◌, ◌≢◌, ℕ, zero, suc, ◌+◌, ◌-◌, ◌<◌, ◌≤◌, inl, inr, List, [], ◌∷◌, ◌++◌, Bool, true, false, Option, Some, None, is_some, if◌then◌else◌, length, take, drop, map, reverse, replicate, refl, sym, ◌∙◌, ap, subst, arith, length-drop}
+use Rattle.std.proofs.Common.{◌≡◌, ◌≢◌, ℕ, zero, suc, ◌+◌, ◌-◌, ◌<◌, ◌≤◌, List, [], ◌∷◌, ◌++◌, Bool, true, false, Option, Some, None, is_some, if◌then◌else◌, length, take, drop, map, reverse, replicate, refl, sym, ◌∙◌, ap, subst, arith, length-drop}
 use Rattle.std.proofs.lemmas.List.{drop_all, append_assoc, append-nil, map-append, reverse-append}
 use Rattle.validate_locals.specs.Inits.{Inits, is_local_set, AreFresh}
 use Rattle.validate_transaction.specs.declared.log.Closed.{Closed}
@@ -17,7 +17,7 @@ use Rattle.validation_rules.specs.Fits.{MaybeType, Known}
 use Rattle.validation_rules.specs.Static.{Frame, State}
 use Rattle.validate_stacks.specs.AtOnce.{body_dropped}
 use Rattle.validate_stacks.specs.Attempts.{Stacked, phase_moved, may_frame, may_set, may_unset, innermost_first_set}
-use Rattle.validate_stacks.specs.Changes.{operands_given, operands_topped, frames_closed, order_closed, order_set, HasRoomToSet, frames_opened, log_popped, log_with_closed, log_closed, log_opened, log_pushed, log_topped, body_closed, body_setting, body_opened, body_topped}
+use Rattle.validate_stacks.specs.Changes.{operands_given, operands_topped, frames_closed, order_closed, order_set, frames_opened, log_popped, log_with_closed, log_closed, log_opened, log_pushed, log_topped, body_closed, body_setting, body_opened, body_topped}
 use Rattle.validate_stacks.specs.Flat.{state_from_heights, stacked_of, IsSound, undone_pending, phase_of}
 use Rattle.validate_stacks.specs.Pops.{IsKept, body_pushed_each}
 use Rattle.validate_stacks.specs.State.{BodyState, body_with_frames}
@@ -135,11 +135,6 @@ one_above (Some x) h = refl
 pub some_flat : (fs : List FlatFrame) (operands : List MaybeType) (is : List ℕ) → (state_from_heights fs operands is).frames ≢ [] → 0 < length fs
 some_flat [] operands is h = absurd (h refl)
 some_flat (f ∷ fs) operands is h = omega arith
-
--- room to set stays, where what it is about does
-pub room_stays : (i : ℕ) (v w : Inits) → w.set_at_entry ≡ v.set_at_entry → w.order ≡ v.order → w.room ≡ v.room → HasRoomToSet i v → HasRoomToSet i w
-room_stays i v w e o r (inl h) = inl (rw (e, o) h)
-room_stays i v w e o r (inr h) = inr (omega (arith, h, ap length o, r))
 
 -- where all own operands are taken, none is left
 pub bare_after : (fs : List FlatFrame) (operands : List MaybeType) (is : List ℕ) (n : ℕ) → length (innermost_operands (state_from_heights fs operands is).frames) ≡ n → innermost_operands (state_from_heights fs (drop n operands) is).frames ≡ []

@@ -1,25 +1,29 @@
--- Closing a frame, by pops, and opening one.
-use Rattle.std.proofs.Common.{◌≡◌, ◌≢◌, ◌<◌, Bool, true, false, ◌&&◌, List, [], ◌∷◌, reverse, length, slice_get, Some, None, refl, sym, ap, ◌∙◌, subst, arith}
+-- Closing a frame whose own operands are its results, and opening one.
+use Rattle.std.proofs.Common.{◌≡◌, ◌≢◌, ◌<◌, ◌≤◌, ◌&&◌, inl, inr, Bool, true, false, List, [], ◌∷◌, length, slice_get, Option, Some, None, refl, sym, ap, ap₂, ◌∙◌, subst, arith}
+use Rattle.std.specs.Prelude.{nat_le}
 use Rattle.std.specs.List.{AllByRecursion}
+use Rattle.std.specs.Option.{ForSome}
+use Rattle.std.proofs.lemmas.Bool.{le-leb}
+use Rattle.std.proofs.lemmas.Bool.Decides.{leb_tells}
 use Rattle.validate_resources.specs.Context.{ModuleContext, IsLawful, Valid}
 use Rattle.validate_types.specs.declared.types.ValType.{ValType}
 use Rattle.validate_visit.specs.declared.frame.BlockType.{BlockType}
 use Rattle.validate_visit.specs.declared.frame.Frame.{Frame as FlatFrame}
 use Rattle.validate_visit.specs.declared.frame.FrameKind.{FrameKind}
-use Rattle.validation_rules.specs.Context.{block_signature}
-use Rattle.validation_rules.specs.Fits.{MaybeType, all_fit}
+use Rattle.validation_rules.specs.Context.{Context, block_signature}
+use Rattle.validation_rules.specs.Fits.{all_fit}
 use Rattle.validation_rules.specs.Rows.{results, guard}
-use Rattle.validation_rules.specs.Static.{Frame, operands_found, operands_under, may_close, opened_frame}
+use Rattle.validation_rules.specs.Static.{Frame, operands_found, opened_frame}
 use Rattle.validation_rules.specs.Valid.{IsValidBlock}
-use Rattle.validation_rules.proofs.Pops.{and_false, is_empty, closes_whole}
+use Rattle.validation_rules.proofs.Pops.{and_false}
+use Rattle.validation_rules.proofs.Steps.{some_injective}
 use Rattle.validation_rules.proofs.Valid.{params_valid, results_valid}
-use Rattle.validate_stacks.specs.Attempts.{innermost_first_set}
 use Rattle.validate_stacks.specs.Blocks.{closed_body_in, closed_body, body_with_block}
 use Rattle.validate_stacks.specs.Flat.{with_heights}
-use Rattle.validate_stacks.specs.Pops.{body_popped_each, body_pushed_each}
-use Rattle.validate_stacks.specs.State.{BodyState, body_context, IsValidBody}
-use Rattle.validate_stacks.specs.Steps.{innermost_operands, head_of, body_with_frame, body_without_frame, frame_at}
-use Rattle.validate_stacks.proofs.Whole.{with_frame, popped_whole, pushed_whole}
+use Rattle.validate_stacks.specs.Pops.{body_pushed_each, has_operands_fitting, operands_found_in}
+use Rattle.validate_stacks.specs.State.{BodyState, body_context, body_with_frames, IsValidBody}
+use Rattle.validate_stacks.specs.Steps.{innermost_operands, outer_frames, head_of, body_with_frame, body_without_frame, frame_at}
+use Rattle.validate_stacks.proofs.Whole.{pushed_whole}
 
 -- an open frame is found
 pub some_frame : (v : BodyState) → v.present.frames ≢ [] → frame_at v 0 ≡ None → ⊥
@@ -30,6 +34,17 @@ some_frame v o h = by v.present.frames refl
     by (f ∷ fs) e =
         let k : slice_get (with_heights (f ∷ fs) (length v.present.left)) 0 ≡ None = subst (λ gs. slice_get (with_heights gs (length v.present.left)) 0 ≡ None) e h in
         cc
+
+pub frame_found : (v : BodyState) → v.present.frames ≢ [] → (r : FlatFrame) × (frame_at v 0 ≡ Some r)
+frame_found v o = by (frame_at v 0) refl
+  where
+    by : (q : Option FlatFrame) → frame_at v 0 ≡ q → (r : FlatFrame) × (frame_at v 0 ≡ Some r)
+    by None e = absurd (some_frame v o e)
+    by (Some r) e = (r, e)
+
+-- what holds of the frame that was found
+pub frame_told : (v : BodyState) (r : FlatFrame) (P : FlatFrame → Type 0) → frame_at v 0 ≡ Some r → P r → ForSome (frame_at v 0) P
+frame_told v r P h p q e = subst P (some_injective r q (sym h ∙ e)) p
 
 -- the innermost frame, and what is found of it
 pub record Innermost (v : BodyState) (operands_found : FlatFrame) : Type 0 where
@@ -61,10 +76,6 @@ block_valid md v r h w =
 pub wants_valid : (md : ModuleContext) (v : BodyState) (r : FlatFrame) (rs : List ValType) → IsLawful md → frame_at v 0 ≡ Some r → IsValidBody md v → rs ≡ (block_signature md r.block_type).results → AllByRecursion (Valid md) rs
 wants_valid md v r rs laws h w e = subst (AllByRecursion (Valid md)) (sym e) (results_valid md laws v.shared r.block_type (block_valid md v r h w))
 
-empty_own : (l : List MaybeType) → 0 < length l → is_empty l ≡ false
-empty_own [] h = absurd (omega (arith, h))
-empty_own (x ∷ l) h = refl
-
 pub guarded_some : {A : Type 0} (b : Bool) (x y : A) → guard b (Some x) ≡ Some y → (b ≡ true) × (x ≡ y)
 guarded_some true x y h = (refl, cc)
 guarded_some false x y h = absurd cc
@@ -73,55 +84,40 @@ pub guarded_none : {A : Type 0} (b : Bool) (x : A) → guard b (Some x) ≡ None
 guarded_none true x h = absurd cc
 guarded_none false x h = refl
 
-module _ (md : ModuleContext) (v : BodyState) (r : FlatFrame) (rs : List ValType) (h : frame_at v 0 ≡ Some r) (e : rs ≡ (block_signature md r.block_type).results) where
-  abbrev inner : Innermost v r
-  inner = innermost v r h
+-- ---- closing
 
-  results_are : rs ≡ results (body_context md v) inner.frame.head
-  results_are = e ∙ ap (λ bt. (block_signature md bt).results) (sym inner.block_type)
+module _ (md : ModuleContext) (v : BodyState) (rs : List ValType) (o : v.present.frames ≢ []) (same : ForSome (frame_at v 0) (λ f. rs ≡ (block_signature md f.block_type).results)) where
+  abbrev cx : Context
+  cx = body_context md v
 
-  close_is : closed_body md v ≡ guard (may_close (body_context md v) inner.frame) (Some (record v { present = record { frames = inner.outer; left = v.present.left } }))
-  close_is = ap (closed_body_in (body_context md v) v) inner.is
+  -- it closes where its own operands are its results
+  closes_by : closed_body md v ≡ guard (nat_le (length (innermost_operands v.present.frames)) (length rs) && has_operands_fitting cx rs v) (Some (body_without_frame v))
+  closes_by =
+      let there = frame_found v o in
+      let i = innermost v there.0 there.1 in
+      let rs_is : rs ≡ results cx i.frame.head = same there.0 there.1 ∙ ap (λ bt. (block_signature md bt).results) (sym i.block_type) in
+      ap (closed_body_in cx v) i.is
+      ∙ ap (λ (ts : List ValType). guard (nat_le (length i.frame.operands) (length ts) && all_fit cx (operands_found (length ts) i.frame) ts) (Some (body_with_frames i.outer v))) (sym rs_is)
+      ∙ ap (λ gs. guard (nat_le (length (innermost_operands gs)) (length rs) && all_fit cx (operands_found_in (length rs) gs) rs) (Some (body_with_frames (outer_frames gs) v))) (sym i.is)
 
-  popped_is : body_popped_each md (reverse rs) v ≡ guard (all_fit (body_context md v) (operands_found (length rs) inner.frame) rs) (Some (with_frame v (record inner.frame { operands = operands_under (length rs) inner.frame }) inner.outer))
-  popped_is = popped_whole md v inner.frame inner.outer rs inner.is
+  pub closes_whole : has_operands_fitting cx rs v ≡ true → length (innermost_operands v.present.frames) ≤ length rs → closed_body md v ≡ Some (body_without_frame v)
+  closes_whole fit within =
+      closes_by ∙ ap₂ (λ a b. guard (a && b) (Some (body_without_frame v))) (le-leb (length (innermost_operands v.present.frames)) (length rs) within) fit
 
-  closes_is : may_close (body_context md v) inner.frame ≡ is_empty (operands_under (length rs) inner.frame) && all_fit (body_context md v) (operands_found (length rs) inner.frame) rs
-  closes_is =
-      closes_whole (body_context md v) inner.frame
-      ∙ ap (λ (ts : List ValType). is_empty (operands_under (length ts) inner.frame) && all_fit (body_context md v) (operands_found (length ts) inner.frame) ts) (sym results_are)
+  -- one of its results isn't there
+  pub stays_unfit : has_operands_fitting cx rs v ≡ false → closed_body md v ≡ None
+  stays_unfit unfit =
+      let few = nat_le (length (innermost_operands v.present.frames)) (length rs) in
+      closes_by
+      ∙ ap (λ b. guard (few && b) (Some (body_without_frame v))) unfit
+      ∙ ap (λ b. guard b (Some (body_without_frame v))) (and_false few)
 
-  -- its results were popped, and nothing is left
-  pub closed_passes : (u : BodyState) → body_popped_each md (reverse rs) v ≡ Some u → innermost_operands u.present.frames ≡ [] → closed_body md v ≡ Some (body_without_frame u)
-  closed_passes u p n =
-      let s = guarded_some _ _ u (sym popped_is ∙ p) in
-      let none : operands_under (length rs) inner.frame ≡ [] = ap (λ (w : BodyState). innermost_operands w.present.frames) s.1 ∙ n in
-      close_is
-      ∙ ap (λ b. guard b (Some (record v { present = record { frames = inner.outer; left = v.present.left } })))
-      (closes_is ∙ ap (λ l. is_empty l && all_fit (body_context md v) (operands_found (length rs) inner.frame) rs) none ∙ s.0)
-      ∙ ap (λ (w : BodyState). Some (body_without_frame w)) s.1
-
-  -- its results were popped: the locals that were first set in it stay
-  pub same_first_set : (u : BodyState) → body_popped_each md (reverse rs) v ≡ Some u → innermost_first_set u.present.frames ≡ innermost_first_set v.present.frames
-  same_first_set u p =
-      let s = guarded_some _ _ u (sym popped_is ∙ p) in
-      sym (ap (λ (w : BodyState). innermost_first_set w.present.frames) s.1) ∙ sym (ap innermost_first_set inner.is)
-
-  -- one of its results was not there
-  pub closed_refused : body_popped_each md (reverse rs) v ≡ None → closed_body md v ≡ None
-  closed_refused p =
-      close_is
-      ∙ ap (λ b. guard b (Some (record v { present = record { frames = inner.outer; left = v.present.left } })))
-      (closes_is ∙ ap (λ b. is_empty (operands_under (length rs) inner.frame) && b) (guarded_none _ _ (sym popped_is ∙ p)) ∙ and_false (is_empty (operands_under (length rs) inner.frame)))
-
-  -- something was left
-  pub closed_left_over : (u : BodyState) → body_popped_each md (reverse rs) v ≡ Some u → 0 < length (innermost_operands u.present.frames) → closed_body md v ≡ None
-  closed_left_over u p n =
-      let s = guarded_some _ _ u (sym popped_is ∙ p) in
-      let some : 0 < length (operands_under (length rs) inner.frame) = subst (λ (w : BodyState). 0 < length (innermost_operands w.present.frames)) (sym s.1) n in
-      close_is
-      ∙ ap (λ b. guard b (Some (record v { present = record { frames = inner.outer; left = v.present.left } })))
-      (closes_is ∙ ap (λ b. b && all_fit (body_context md v) (operands_found (length rs) inner.frame) rs) (empty_own _ some))
+  -- more operands are there
+  pub stays_over : length rs < length (innermost_operands v.present.frames) → closed_body md v ≡ None
+  stays_over over =
+      let own = length (innermost_operands v.present.frames) in
+      let more : nat_le own (length rs) ≡ false = elim (leb_tells own (length rs)) [ inl w ↦ absurd (omega (arith, w.1)) | inr w ↦ w.0 ] in
+      closes_by ∙ ap (λ b. guard (b && has_operands_fitting cx rs v) (Some (body_without_frame v))) more
 
 -- ---- opening
 

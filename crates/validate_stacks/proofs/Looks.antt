@@ -9,8 +9,7 @@ use Rattle.validation_rules.specs.Fits.{MaybeType, Bottom}
 use Rattle.validation_rules.specs.Static.{Frame, State, heads}
 use Rattle.validate_stacks.specs.Flat.{state_from_heights, with_heights}
 use Rattle.validation_rules.specs.Pops.{found_by_pop}
-use Rattle.validate_stacks.specs.Steps.{type_and_kind, found_after_pops_in_frames, innermost_operands, body_without_first, frames_owning, body_popped, body_marked, frames_unreachable, body_unreachable}
-use Rattle.validate_stacks.specs.State.{BodyState}
+use Rattle.validate_stacks.specs.Steps.{type_and_kind, found_after_pops_in_frames, innermost_operands, body_marked}
 use Rattle.validate_stacks.proofs.Cuts.{state_of, own-cut}
 
 -- ---- labels
@@ -73,12 +72,3 @@ mark_dead (g ∷ gs) f operands is s n ls en un h d =
     rw e refl
 
 -- ---- the end of the live part
-
--- a pop leaves what it comes to
-ended_popped_in : (own : List MaybeType) (fs : List Frame) (v : BodyState) → v.present.frames ≡ fs → innermost_operands fs ≡ own → body_unreachable (body_without_first own v) ≡ body_unreachable v
-ended_popped_in [] fs v e h = refl
-ended_popped_in (t ∷ ts) [] v e h = absurd cc
-ended_popped_in (t ∷ ts) (f ∷ fs) v e h = ap (λ gs. record v { present = record { frames = frames_unreachable (frames_owning ts gs); left = v.present.left } }) e ∙ sym (ap (λ gs. record v { present = record { frames = frames_unreachable gs; left = v.present.left } }) e)
-
-pub ended_popped : (v : BodyState) → body_unreachable (body_popped v) ≡ body_unreachable v
-ended_popped v = ended_popped_in (innermost_operands v.present.frames) v.present.frames v refl refl

@@ -1,20 +1,17 @@
 -- Operands matched in place, from the top, are the wanted list taken whole.
-use Rattle.std.proofs.Common.{◌≡◌, ℕ, zero, suc, ◌+◌, ◌-◌, ◌<◌, List, [], ◌∷◌, ◌++◌, Bool, true, false, ◌&&◌, Option, Some, Result, Ok, Err, length, subst, take, drop, reverse, get_or, refl, sym, ◌∙◌, ap, ap₂, arith}
-use Rattle.std.proofs.lemmas.List.{take_more, reverse-append, length-append, length-reverse, take_all}
-use Rattle.std.specs.Result.{IsErr, OnOk}
+use Rattle.std.proofs.Common.{◌≡◌, ℕ, zero, suc, ◌+◌, ◌-◌, ◌<◌, List, [], ◌∷◌, ◌++◌, Bool, true, false, ◌&&◌, Option, Some, length, subst, take, drop, reverse, get_or, refl, sym, ◌∙◌, ap, ap₂, arith}
+use Rattle.std.proofs.lemmas.List.{take_more, reverse-append, length-append, take_all}
 use Rattle.validate_resources.specs.Context.{ModuleContext}
 use Rattle.validate_types.specs.declared.types.ValType.{ValType}
 use Rattle.validation_rules.specs.Context.{Context}
 use Rattle.validation_rules.specs.Fits.{MaybeType, all_fit}
-use Rattle.validation_rules.specs.Static.{Frame, operands_on_top, operands_found}
+use Rattle.validation_rules.specs.Static.{Frame, operands_on_top}
 use Rattle.validation_rules.proofs.Pops.{fit_turned}
 use Rattle.validate_stacks.specs.AtOnce.{frames_dropped, body_dropped}
-use Rattle.validate_stacks.specs.Pops.{may_pop, body_popped_each, operands_found_in, has_operands_fitting}
+use Rattle.validate_stacks.specs.Pops.{may_pop, operands_found_in, has_operands_fitting}
 use Rattle.validate_stacks.specs.State.{BodyState, body_context}
 use Rattle.validation_rules.specs.Pops.{found_by_pop}
 use Rattle.validate_stacks.specs.Steps.{found_after_pops_in_frames, found_after_pops_in_body}
-use Rattle.validate_stacks.proofs.ClosedFrames.{guarded_some}
-use Rattle.validate_stacks.proofs.Whole.{popped_whole}
 
 -- n more operands that pops find, after k others, the top first
 abbrev pub after_in : ℕ → ℕ → List Frame → List MaybeType
@@ -111,29 +108,6 @@ module _ (cx : Context) where
   matching_stops wanted v n d s h found f p e =
       sym e ∙ (matched wanted v n d s h ∙ ap (λ o. may_pop cx o (Some (get_or wanted (n - 1) d)) && all_fit cx (after_in (n - 1) (length wanted - (n - 1)) v.present.frames) (reverse (take (n - 1) wanted))) (sym f) ∙ ap (λ b. b && all_fit cx (after_in (n - 1) (length wanted - (n - 1)) v.present.frames) (reverse (take (n - 1) wanted))) p)
 
--- where no frame is open nothing is popped
-no_pops : (md : ModuleContext) (ws : List ValType) (v w : BodyState) → v.present.frames ≡ [] → body_popped_each md ws v ≡ Some w → ws ≡ []
-no_pops md [] v w n p = refl
-no_pops md (t ∷ ws) v w n p = absurd cc
-
--- pops of all of the list pass only where all of it fits
-pub popped_fit : (md : ModuleContext) (wanted : List ValType) (v w : BodyState) → body_popped_each md (reverse wanted) v ≡ Some w → has_operands_fitting (body_context md v) wanted v ≡ true
-popped_fit md wanted v w p = by v.present.frames refl
-  where
-    none_fit : (ws : List ValType) (fs : List Frame) → fs ≡ [] → ws ≡ [] → all_fit (body_context md v) (operands_found_in (length ws) fs) ws ≡ true
-    none_fit [] fs n e = ap (λ gs. all_fit (body_context md v) (operands_found_in 0 gs) []) n
-    none_fit (t ∷ ws) fs n e = absurd cc
-
-    length_zero : (ws : List ValType) → length ws ≡ 0 → ws ≡ []
-    length_zero [] h = refl
-    length_zero (t ∷ ws) h = absurd cc
-
-    by : (fs : List Frame) → v.present.frames ≡ fs → has_operands_fitting (body_context md v) wanted v ≡ true
-    by [] n = none_fit wanted v.present.frames n (length_zero wanted (sym (length-reverse wanted) ∙ ap length (no_pops md (reverse wanted) v w n p)))
-    by (f ∷ fs) e =
-        ap (λ gs. all_fit (body_context md v) (operands_found_in (length wanted) gs) wanted) e
-        ∙ (guarded_some (all_fit (body_context md v) (operands_found (length wanted) f) wanted) _ w (sym (popped_whole md v f fs wanted e) ∙ p)).0
-
 -- the same of a state u that is the state v
 module _ (md : ModuleContext) (wanted : List ValType) (u v : BodyState) (same : u ≡ v) (n : ℕ) (d : ValType) (some : 0 < n) (within : n - 1 < length wanted) (found : Option MaybeType) (is_found : found ≡ found_after_pops_in_body (length wanted - 1 - (n - 1)) u) where
   there : found ≡ found_after_pops_in_body (length wanted - 1 - (n - 1)) v
@@ -165,8 +139,3 @@ module _ (md : ModuleContext) (wanted : List ValType) (v : BodyState) (n : ℕ) 
 
 pub counted_starts : (cx : Context) (wanted : List ValType) (v : BodyState) (c : ℕ) → length wanted ≡ c → all_fit cx (after_in c (c - c) v.present.frames) (reverse (take c wanted)) ≡ has_operands_fitting cx wanted v
 counted_starts cx wanted v c long = subst (λ k. all_fit cx (after_in k (k - k) v.present.frames) (reverse (take k wanted)) ≡ has_operands_fitting cx wanted v) long (matching_starts cx wanted v)
-
--- pops that pass where not all of it fits: there are none
-pub none_popped : {X : Type 0} (md : ModuleContext) (wanted : List ValType) (u v : BodyState) → u ≡ v → has_operands_fitting (body_context md v) wanted v ≡ false → (r : Result (Unit {0}) X) (w : BodyState) → OnOk r (body_popped_each md (reverse wanted) u ≡ Some w) → IsErr r
-none_popped md wanted u v same other (Ok x) w p = absurd (cc (popped_fit md wanted v w (sym (ap (body_popped_each md (reverse wanted)) same) ∙ p), other))
-none_popped md wanted u v same other (Err e) w p = refl

@@ -1,8 +1,7 @@
 -- What finders and movers show of a body of an operator.
-use Rattle.std.proofs.Common.{◌≡◌, ◌≢◌, ℕ, ◌+◌, min, true, false, List, [], ◌∷◌, Bool, Option, Some, None, Result, Ok, Err, MatchResult, OnOk, IfErr, is_ok, reverse, length, refl, sym, ap, ◌∙◌, subst}
+use Rattle.std.proofs.Common.{◌≡◌, ◌≢◌, ℕ, ◌+◌, min, true, false, List, [], ◌∷◌, Bool, Option, Some, None, Result, Ok, Err, MatchResult, OnOk, IfErr, reverse, length, refl, sym, ap, ◌∙◌}
 use Rattle.std.specs.Option.{option_map}
 use Rattle.validate_resources.specs.Context.{ModuleContext}
-use Rattle.validate_types.specs.declared.error.OutOfMemory.{OutOfMemory}
 use Rattle.validate_types.specs.declared.types.ValType.{ValType}
 use Rattle.validation_rules.specs.Fits.{all_fit}
 use Rattle.validation_rules.specs.Rows.{guard}
@@ -61,16 +60,10 @@ module _ {E : Type 0} (md : ModuleContext) (tells : E → Type 0) (wanted : List
   not_taken s (Err e) there never h = (refl, λ t. not_popped md wanted s.body there h)
 
   -- operands that fit, moved as far as the frame has them
-  pub taken : (s w : Stacked) (k : ℕ) (r : Result (Unit {0}) OutOfMemory) (a : Result (Unit {0}) E) → has_operands_fitting (body_context md s.body) wanted s.body ≡ true → k ≡ min (length wanted) (length (innermost_operands s.body.present.frames)) → is_ok a ≡ is_ok r → IfErr a (λ e. tells e → ⊥) → MatchResult r (λ _. w.body ≡ f (body_dropped k s.body)) (λ _. w ≡ s) → Takes md tells wanted f s a w
+  pub taken : (s w : Stacked) (k : ℕ) (a : Result (Unit {0}) E) → has_operands_fitting (body_context md s.body) wanted s.body ≡ true → k ≡ min (length wanted) (length (innermost_operands s.body.present.frames)) → IfErr a (λ e. tells e → ⊥) → MatchResult a (λ _. w.body ≡ f (body_dropped k s.body)) (λ _. w ≡ s) → Takes md tells wanted f s a w
   unfolding Takes
-  taken s w k (Ok u) (Ok x) fit least same told m = ap (option_map f) (popped_dropped md wanted s.body fit ∙ ap Some (dropped_within (length wanted) k s.body least)) ∙ ap Some (sym m)
-  taken s w k (Err e) (Err x) fit least same told m = (m, λ t. absurd (told t))
-  taken s w k (Ok u) (Err x) fit least same told m = cc
-  taken s w k (Err e) (Ok x) fit least same told m = cc
-
-  -- after a move that was not made
-  pub takes_then : (s t w : Stacked) → t ≡ s → (a : Result (Unit {0}) E) → Takes md tells wanted f t a w → Takes md tells wanted f s a w
-  takes_then s t w same a m = subst (λ (x : Stacked). Takes md tells wanted f x a w) same m
+  taken s w k (Ok u) fit least told m = ap (option_map f) (popped_dropped md wanted s.body fit ∙ ap Some (dropped_within (length wanted) k s.body least)) ∙ ap Some (sym m)
+  taken s w k (Err e) fit least told m = (m, λ t. absurd (told t))
 
   -- after one that was
   pub takes_done : (s w : Stacked) → option_map f (body_popped_each md (reverse wanted) s.body) ≡ Some w.body → Takes md tells wanted f s (Ok tt) w
@@ -78,9 +71,7 @@ module _ {E : Type 0} (md : ModuleContext) (tells : E → Type 0) (wanted : List
   takes_done s w e = e
 
 -- where nothing is wanted, a move alone
-pub given_alone : {E : Type 0} (md : ModuleContext) (tells : E → Type 0) (f : BodyState → BodyState) (s w : Stacked) (r : Result (Unit {0}) OutOfMemory) (a : Result (Unit {0}) E) → is_ok a ≡ is_ok r → IfErr a (λ e. tells e → ⊥) → MatchResult r (λ _. w.body ≡ f s.body) (λ _. w ≡ s) → Takes md tells [] f s a w
+pub given_alone : {E : Type 0} (md : ModuleContext) (tells : E → Type 0) (f : BodyState → BodyState) (s w : Stacked) (a : Result (Unit {0}) E) → IfErr a (λ e. tells e → ⊥) → MatchResult a (λ _. w.body ≡ f s.body) (λ _. w ≡ s) → Takes md tells [] f s a w
 unfolding Takes
-given_alone md tells f s w (Ok u) (Ok x) same told m = ap (option_map f) (popped_none md s.body) ∙ ap Some (sym m)
-given_alone md tells f s w (Err e) (Err x) same told m = (m, λ t. absurd (told t))
-given_alone md tells f s w (Ok u) (Err x) same told m = cc
-given_alone md tells f s w (Err e) (Ok x) same told m = cc
+given_alone md tells f s w (Ok u) told m = ap (option_map f) (popped_none md s.body) ∙ ap Some (sym m)
+given_alone md tells f s w (Err e) told m = (m, λ t. absurd (told t))

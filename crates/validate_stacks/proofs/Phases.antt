@@ -61,9 +61,6 @@ unset_after v w k e s h = by (innermost_first_set v.body.present.frames) s h
     by [] n m = ap (λ l. (is_empty l || ((is_none w.body.undone || (has_none_unset w.phase))))) n
     by (i ∷ l) n m = ap (λ l. (is_empty l || ((is_none w.body.undone || (has_none_unset w.phase))))) n ∙ unclosed_after v w k e m
 
-pub unset_none : (v : Stacked) → innermost_first_set v.body.present.frames ≡ [] → may_unset v ≡ true
-unset_none v n = ap (λ l. (is_empty l || ((is_none v.body.undone || (has_none_unset v.phase))))) n
-
 quiet_is : (u : Option State) (p : Phase) → (is_none u || (is_quiet p)) ≡ true → ((is_none u || (is_unmarked p)) ≡ true) × ((is_none u || (has_none_unset p)) ≡ true) × ((is_none u || (is_setting p)) ≡ true)
 quiet_is None p h = (refl, refl, refl)
 quiet_is (Some u) Clean h = (refl, refl, refl)
@@ -79,9 +76,6 @@ step_frame v h = (quiet_is v.body.undone v.phase h).0
 
 pub step_set : (v : Stacked) → may_step v ≡ true → may_set v ≡ true
 step_set v h = (quiet_is v.body.undone v.phase h).2
-
-pub step_unset : (v : Stacked) → may_step v ≡ true → may_unset v ≡ true
-step_unset v h = split (innermost_first_set v.body.present.frames) _ (quiet_is v.body.undone v.phase h).1
 
 -- ---- a whole attempt
 

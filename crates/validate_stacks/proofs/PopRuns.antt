@@ -72,10 +72,6 @@ module _ (md : ModuleContext) (elem : ValType) (v : BodyState) (none : length (i
           ∙ ap (body_popped_each md (replicate n elem)) (unmoved v none)
           ∙ all n
 
-  -- so that nothing changes
-  pub run_stays : (n : ℕ) → may_pop (body_context md v) (found_in_body v) (Some elem) ≡ true → body_popped_each md (replicate n elem) v ≡ Some v
-  run_stays n p = sym (run_ends n p) ∙ popped_none md (body_popped v) ∙ ap Some (unmoved v none)
-
   -- and it is the last of the run
   pub last_counted : (n : ℕ) (w : BodyState) → 0 < n → 1 + pops_of_run 0 w ≡ pops_of_run n v
   last_counted n w h = omega (arith, h, none)

@@ -220,10 +220,6 @@ sound_open k b fr fr' fs or operands ir set_at_entry is (Inactive a) s n ls m h 
 
 -- ---- closing
 
-pub close_none : (fs : List FlatFrame) (operands : List MaybeType) (is : List ℕ) (s : Bool) (n : WasmFeatures) (ls : List ValType) (en : List Bool) (un : Option State) → slice_get fs 0 ≡ None → state_of fs operands is s n ls en un ≡ body_without_frame (state_of fs operands is s n ls en un)
-close_none [] operands is s n ls en un h = refl
-close_none (g ∷ gs) operands is s n ls en un h = cc
-
 take_comm : (a b : ℕ) (xs : List ℕ) → take a (take b xs) ≡ take b (take a xs)
 take_comm zero zero xs = refl
 take_comm zero (suc b) xs = refl

@@ -1,25 +1,24 @@
 //! Operands and frames, moved at once where that needs no log and no memory.
 
-ghost use Rattle.std.specs.Prelude.{◌≡◌, ◌≤◌, [], ◌∷◌, true, None, Some, length, replicate, reverse, IsSome, MatchBool};
+ghost use Rattle.std.specs.Prelude.{◌≡◌, ◌≤◌, [], ◌∷◌, true, None, Some, length, reverse, IsSome, MatchBool};
 ghost use Rattle.std.specs.List.{AllByRecursion};
-ghost use Rattle.std.specs.Option.{option_map, ForSome};
+ghost use Rattle.std.specs.Option.{option_map};
 ghost use Rattle.validate_resources.specs.Context.{Valid};
-ghost use Rattle.validate_types.specs.Types.{unpacked_fields};
 ghost use Rattle.validation_rules.specs.Context.{block_signature};
 ghost use Rattle.validation_rules.specs.Fits.{Bottom, Known};
 ghost use Rattle.validation_rules.specs.Valid.{IsValidBlock};
 ghost use Rattle.validate_stacks.specs.Attempts.{phase_moved};
 ghost use Rattle.validate_stacks.specs.AtOnce.{body_dropped, pushed_list};
-ghost use Rattle.validate_stacks.specs.Blocks.{body_with_block, closed_body};
-ghost use Rattle.validate_stacks.specs.Pops.{IsKept, body_popped_each, body_pushed_each};
+ghost use Rattle.validate_stacks.specs.Blocks.{body_with_block};
+ghost use Rattle.validate_stacks.specs.Pops.{body_popped_each, body_pushed_each};
 ghost use Rattle.validate_stacks.specs.State.{IsValidBody};
-ghost use Rattle.validate_stacks.specs.Steps.{innermost_operands, found_in_body, body_popped, body_pushed, body_unreachable, body_with_frame, frame_at};
+ghost use Rattle.validate_stacks.specs.Steps.{innermost_operands, found_in_body, body_popped, body_pushed};
 
-use crate::blocks::{params, results};
+use crate::blocks::params;
 use crate::pops::is_same_number;
 use crate::stacks::Stacks;
 use validate_resources::WasmModuleResources;
-use validate_types::{FieldType, MaybeType, ValType};
+use validate_types::{MaybeType, ValType};
 use validate_visit::{BlockType, FrameKind};
 
 impl Stacks {
@@ -117,107 +116,6 @@ impl Stacks {
         }
         self.drop_operands(count - 1);
         self.replace_operand(pushed);
-        true
-    }
-
-    /// Pops the operand that is found, whatever its type, and pushes another: where no attempt is pending, one is found,
-    /// and there is room, where the innermost frame has none that goes. False, with nothing changed, where that isn't
-    /// so. It takes no memory.
-    #[inline(always)]
-    pub fn replace_at_once(&mut self, ty: MaybeType) -> bool
-        ensures exact { MatchBool result (self.new.body ≡ body_pushed ty (body_popped self.old.body))
-            (self.new ≡ self.old) }
-        ensures found { result ≡ true → IsSome (found_in_body self.old.body) }
-        ensures phase { phase_moved self.new.phase ≡ phase_moved self.old.phase }
-    {
-        if self.is_pending() {
-            return false;
-        }
-        if self.own_len() == 0 {
-            return self.found_at(0).is_some() && self.push_at_once(ty);
-        }
-        self.replace_operand(ty);
-        true
-    }
-
-    /// Pops the two operands that are found, whatever their types, and pushes another: where no attempt is pending, and
-    /// both are own ones of the innermost frame. False, with nothing changed, where that isn't so. It takes no memory.
-    #[inline(always)]
-    pub fn replace_two_at_once(&mut self, ty: MaybeType) -> bool
-        ensures exact { MatchBool result (self.new.body ≡ body_pushed ty (body_popped (body_popped self.old.body)))
-            (self.new ≡ self.old) }
-        ensures phase { phase_moved self.new.phase ≡ phase_moved self.old.phase }
-    {
-        if self.is_pending() || !self.has_own(2) {
-            return false;
-        }
-        self.drop_operands(1);
-        self.replace_operand(ty);
-        true
-    }
-
-    /// Closes the innermost frame, which has this block type, and opens another in its place, of this kind and without
-    /// operands: where no attempt is pending, the frame has as many own operands as results, and they fit. False, with
-    /// nothing changed, where that isn't so. It takes no memory.
-    #[inline(always)]
-    pub fn reopen_at_once<R: WasmModuleResources>(
-        &mut self,
-        resources: &R,
-        kind: FrameKind,
-        block_type: BlockType,
-    ) -> bool
-        requires state { IsValidBody (R.context resources.now) self.old.body }
-        requires open { IsSome (frame_at self.old.body 0) }
-        requires frame { ForSome (frame_at self.old.body 0) (λ f. f.block_type ≡ block_type) }
-        ensures exact { MatchBool result (option_map (body_with_frame kind block_type)
-            (closed_body (R.context resources.now) self.old.body) ≡ Some self.new.body)
-            (self.new ≡ self.old) }
-        ensures valid { IsValidBody (R.context resources.now) self.new.body }
-        ensures kept { IsKept self.old.body self.new.body }
-    {
-        let results = results(resources, &block_type);
-        if self.own_len() != results.len()
-            || self.is_pending()
-            || !self.has_operands_fitting(resources, results)
-        {
-            return false;
-        }
-        self.drop_operands(results.len());
-        self.reopen(kind, block_type);
-        true
-    }
-
-    /// Closes the innermost frame, which has this block type, and gives its result to the next outer one: where no
-    /// attempt is pending, the frame has one result at most and so many own operands, and that one fits. False, with
-    /// nothing changed, where that isn't so. It takes no memory.
-    #[inline(always)]
-    pub fn leave_at_once<R: WasmModuleResources>(
-        &mut self,
-        resources: &R,
-        block_type: BlockType,
-    ) -> bool
-        requires state { IsValidBody (R.context resources.now) self.old.body }
-        requires open { IsSome (frame_at self.old.body 0) }
-        requires frame { ForSome (frame_at self.old.body 0) (λ f. f.block_type ≡ block_type) }
-        ensures exact { MatchBool result
-            (option_map (body_pushed_each (block_signature (R.context resources.now) block_type).results)
-            (closed_body (R.context resources.now) self.old.body) ≡ Some self.new.body)
-            (self.new ≡ self.old) }
-        ensures valid { IsValidBody (R.context resources.now) self.new.body }
-        ensures kept { IsKept self.old.body self.new.body }
-    {
-        let results = results(resources, &block_type);
-        if self.is_pending()
-            || self.own_len() != results.len()
-            || results.len() > 1
-            || !self.has_operands_fitting(resources, results)
-        {
-            return false;
-        }
-        if results.len() == 1 {
-            self.replace_operand(MaybeType::Known(results[0]));
-        }
-        self.close_over_operands();
         true
     }
 

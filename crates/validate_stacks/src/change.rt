@@ -1,6 +1,6 @@
 //! What one call does to a body, made whole or not at all.
 
-ghost use Rattle.std.specs.Prelude.{◌≡◌, ◌≢◌, ◌+◌, ◌-◌, ◌^◌, ◌<◌, ◌≤◌, [], None, true, length, slice_get, IfOk, OnOk, IsOk, MatchResult};
+ghost use Rattle.std.specs.Prelude.{◌≡◌, ◌≢◌, ◌+◌, ◌-◌, ◌^◌, ◌<◌, ◌≤◌, [], None, true, length, slice_get, IfErr, IfOk, OnOk, IsOk, MatchResult};
 ghost use Rattle.std.specs.Option.{ForSome};
 ghost use Rattle.validate_locals.specs.Inits.{AreFresh};
 ghost use Rattle.validate_transaction.specs.declared.log.Transaction.{Transaction};
@@ -10,7 +10,7 @@ ghost use Rattle.validate_stacks.specs.Changes.{MayChange, body_changed, given_c
 use crate::stacks::{Stacks, live_frame};
 use validate_locals::LocalInits;
 use validate_transaction::{Closed, Entry, Pile, Transaction};
-use validate_types::{MaybeType, OutOfMemory, ValType};
+use validate_types::{MaybeType, Refusal, Refused, ValType};
 use validate_visit::{BlockType, Frame, FrameKind};
 
 /// What one call does to a body, in this order.
@@ -32,8 +32,9 @@ pub struct Change<'a> {
 
 /// How many operands come. More than can be counted find no memory.
 #[inline(always)]
-fn count_given(change: Change<'_>) -> Result<usize, OutOfMemory>
+fn count_given<A: Refused>(change: Change<'_>) -> Result<usize, A>
     ensures counted { IfOk result (λ count. count ≡ given_count change.entry) }
+    ensures told { IfErr result (λ e. A.tells e → ⊥) }
     ensures only_too_many { given_count change.entry < 2 ^ 64 → IsOk result }
 {
     if change.top.is_none() {
@@ -41,18 +42,19 @@ fn count_given(change: Change<'_>) -> Result<usize, OutOfMemory>
     }
     match change.given.len().checked_add(1) {
         Some(count) => Ok(count),
-        None => Err(OutOfMemory),
+        None => Err(A::of(Refusal::OutOfMemory)),
     }
 }
 
 /// Room to set a local, if one is to be set. Want of memory changes nothing but room.
 #[inline(always)]
-fn make_room_to_set(inits: &mut LocalInits, sets: Option<u32>) -> Result<(), OutOfMemory>
+fn make_room_to_set<A: Refused>(inits: &mut LocalInits, sets: Option<u32>) -> Result<(), A>
     requires { ForSome sets (λ i. i < length inits.old.set_at_entry) }
     ensures order { inits.new.order ≡ inits.old.order }
     ensures set_at_entry { inits.new.set_at_entry ≡ inits.old.set_at_entry }
     ensures room { inits.old.room ≤ inits.new.room }
     ensures ok { OnOk result (ForSome sets (λ i. HasRoomToSet i inits.new)) }
+    ensures told { IfErr result (λ e. A.tells e → ⊥) }
     ensures idle { sets ≡ None → IsOk result }
 {
     match sets {
@@ -63,12 +65,12 @@ fn make_room_to_set(inits: &mut LocalInits, sets: Option<u32>) -> Result<(), Out
 
 /// Room for all that comes, and how many operands that are. Want of memory changes nothing but room.
 #[inline(always)]
-fn make_room(
+fn make_room<A: Refused>(
     operands: &mut Pile<MaybeType>,
     control: &mut Pile<Frame>,
     inits: &mut LocalInits,
     change: Change<'_>,
-) -> Result<usize, OutOfMemory>
+) -> Result<usize, A>
     requires closes { change.closes ≡ true → control.old.items ≢ [] }
     requires declared { ForSome change.sets (λ i. i < length inits.old.set_at_entry) }
     ensures operands { operands.new.items ≡ operands.old.items }
@@ -84,6 +86,7 @@ fn make_room(
     ensures for_frame { OnOk result (change.entry.opens ≢ None
         → length (frames_closed change.entry.closes control.new.items) < control.new.room) }
     ensures counted { IfOk result (λ count. count ≡ given_count change.entry) }
+    ensures told { IfErr result (λ e. A.tells e → ⊥) }
     ensures idle { change.entry.sets ≡ None → change.entry.opens ≡ None → given_count change.entry ≤ change.entry.taken → IsOk result }
 {
     let given = count_given(change)?;
@@ -102,20 +105,21 @@ fn make_room(
 /// Records it in the log of the attempt, if one is pending. Want of memory changes nothing, and there is none where no
 /// attempt is pending.
 #[inline(always)]
-fn record(
+fn record<A: Refused>(
     transaction: &mut Transaction,
     operands: &Pile<MaybeType>,
     control: &Pile<Frame>,
     inits: &LocalInits,
     change: Change<'_>,
     given: usize,
-) -> Result<(), OutOfMemory>
+) -> Result<(), A>
     requires given { given ≡ given_count change }
     requires taken { change.taken ≤ length operands.now.items }
     requires closed { ForSome (slice_get control.now.items 0) (λ f. f.init_height ≤ length inits.now.order) }
     ensures exact { MatchResult result (λ _. transaction.new
         ≡ log_changed change.entry control.now.items operands.now.items inits.now.order transaction.old)
         (λ _. transaction.new ≡ transaction.old) }
+    ensures told { IfErr result (λ e. A.tells e → ⊥) }
     ensures idle { log_of transaction.old ≡ None → IsOk result }
 {
     transaction.record(Entry {
@@ -223,12 +227,13 @@ fn put_top(operands: &mut Pile<MaybeType>, top: Option<MaybeType>)
 
 impl Stacks {
     /// Makes a change whole, or not at all: room for all of it, in the stacks and in the log of an attempt, is taken before
-    /// the first move.
+    /// the first move. Memory is asked for where `A` may grow alone.
     #[inline(always)]
-    pub(crate) fn change(&mut self, change: Change<'_>) -> Result<(), OutOfMemory>
+    pub(crate) fn change<A: Refused>(&mut self, change: Change<'_>) -> Result<(), A>
         requires { MayChange change self.old }
         ensures exact { MatchResult result (λ _. self.new.body ≡ body_changed change.entry self.old.body)
             (λ _. self.new ≡ self.old) }
+        ensures told { IfErr result (λ e. A.tells e → ⊥) }
 
         // Where no attempt is pending, no local is set, no frame is opened, and no more operands come than go, it takes no memory.
         ensures idle { self.old.body.undone ≡ None → change.entry.sets ≡ None → change.entry.opens ≡ None

@@ -55,7 +55,7 @@ impl Stacks {
     /// Pops `n` operands of this type, and ticks for each pop that it tries, also for one that is refused.
     /// It takes the time of the innermost frame's own operands at most: below those of a dead frame one
     /// pop passes as any number of them would, and is the last. Memory is wanted as by
-    /// [`Stacks::pop_types`].
+    /// [`Stacks::pop_operand`].
     pub fn pop_run<R: WasmModuleResources>(
         &mut self,
         resources: &R,

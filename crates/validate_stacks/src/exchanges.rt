@@ -9,7 +9,7 @@ ghost use Rattle.validate_stacks.specs.Visits.{MayVisit};
 
 use crate::stacks::Stacks;
 use validate_resources::WasmModuleResources;
-use validate_types::{FieldType, Refused, ValType, grown};
+use validate_types::{FieldType, Refused, ValType};
 
 impl Stacks {
     /// Takes an operand of each of the wanted types, and gives one of each of the others, the last on top. It refuses where
@@ -27,7 +27,7 @@ impl Stacks {
     {
         let own = self.own_len();
         self.find_among(resources, own, 0, wanted)?;
-        grown(self.exchange(wanted.len().min(own), given))
+        self.exchange(wanted.len().min(own), given)
     }
 
     /// [`Stacks::exchange_types`], where the values of these fields are wanted.
@@ -45,7 +45,7 @@ impl Stacks {
     {
         self.find_fields(resources, 0, fields)?;
         let own = self.own_len();
-        grown(self.exchange(fields.len().min(own), given))
+        self.exchange(fields.len().min(own), given)
     }
 
     /// [`Stacks::exchange_types`], where so many operands of one type are wanted. It takes the time of the own operands of
@@ -66,7 +66,7 @@ impl Stacks {
         let own = self.own_len();
         let count = count as usize;
         self.find_run(resources, own, elem, count)?;
-        grown(self.exchange(count.min(own), given))
+        self.exchange(count.min(own), given)
     }
 
     /// [`Stacks::exchange_types`], where the types of a list are wanted, and one more above them.
@@ -85,7 +85,7 @@ impl Stacks {
     {
         self.find_under(resources, 0, under, above)?;
         let own = self.own_len();
-        grown(self.exchange(under.len().saturating_add(1).min(own), given))
+        self.exchange(under.len().saturating_add(1).min(own), given)
     }
 
     /// Takes an operand of this type, sets a declared local, and gives an operand of each of the given types, the last on top.
@@ -105,6 +105,6 @@ impl Stacks {
     {
         let own = self.own_len();
         self.find_among(resources, own, 0, &[ty])?;
-        grown(self.set_local(local_index, own.min(1), given))
+        self.set_local(local_index, own.min(1), given)
     }
 }

@@ -1,14 +1,17 @@
 //! What operators look for before anything moves: each look answers what it found, or why it refuses. None takes memory.
 
-ghost use Rattle.std.specs.Prelude.{◌≡◌, ◌<◌, ◌≤◌, [], ◌∷◌, ◌++◌, true, false, None, Some, length, replicate, slice_get, OnOk, OnErr, IfOk};
+ghost use Rattle.std.specs.Prelude.{◌≡◌, ◌≢◌, ◌<◌, ◌≤◌, [], ◌∷◌, ◌++◌, true, false, None, Some, length, replicate, slice_get, OnOk, OnErr, IfOk};
 ghost use Rattle.std.specs.List.{AllByRecursion};
+ghost use Rattle.std.specs.Option.{ForSome};
 ghost use Rattle.validate_resources.specs.Context.{Valid};
 ghost use Rattle.validate_types.specs.Types.{unpacked_fields};
+ghost use Rattle.validation_rules.specs.Context.{block_signature};
 ghost use Rattle.validation_rules.specs.Static.{is_local_set, locals_set};
 ghost use Rattle.validate_stacks.specs.AtOnce.{body_dropped};
+ghost use Rattle.validate_stacks.specs.Blocks.{closed_body};
 ghost use Rattle.validate_stacks.specs.Pops.{has_operands_fitting};
 ghost use Rattle.validate_stacks.specs.State.{IsValidBody, body_context};
-ghost use Rattle.validate_stacks.specs.Steps.{found_after_pops_in_body, innermost_operands, label_at};
+ghost use Rattle.validate_stacks.specs.Steps.{body_without_frame, found_after_pops_in_body, frame_at, innermost_operands, label_at};
 
 use crate::pops::unknown_reference;
 use crate::stacks::Stacks;
@@ -138,6 +141,31 @@ impl Stacks {
         let own = self.own_len();
         self.find_among(resources, own, above, &[top])?;
         self.find_among(resources, own, above + 1, under)
+    }
+
+    /// How many own operands the innermost frame has, where they are its results: pops of these types would pass, and leave
+    /// none of them. It refuses where one isn't found, or doesn't fit, or is left over.
+    #[inline(always)]
+    pub fn find_results<A: Refused, R: WasmModuleResources>(
+        &self,
+        resources: &R,
+        results: &[ValType],
+    ) -> Result<usize, A>
+        requires open_frame { self.now.body.present.frames ≢ [] }
+        requires results { ForSome (frame_at self.now.body 0)
+            (λ f. results.now ≡ (block_signature (R.context resources.now) f.block_type).results) }
+        requires state { IsValidBody (R.context resources.now) self.now.body }
+        ensures own { IfOk result (λ own. own ≡ length (innermost_operands self.now.body.present.frames)) }
+        ensures closes { OnOk result (closed_body (R.context resources.now) self.now.body
+            ≡ Some (body_without_frame self.now.body)) }
+        ensures stays { OnErr result (closed_body (R.context resources.now) self.now.body ≡ None) }
+    {
+        let own = self.own_len();
+        self.find_among(resources, own, 0, results)?;
+        if own > results.len() {
+            return Err(A::of(Refusal::OperandsLeft));
+        }
+        Ok(own)
     }
 
     /// [`Stacks::find_operands`] of the values of these fields, the last on top.

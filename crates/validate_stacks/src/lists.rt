@@ -1,128 +1,21 @@
-//! Pops and pushes of lists of types.
+//! Whether operands fit a list of types.
 
-ghost use Rattle.std.specs.Prelude.{◌≡◌, ◌<◌, ◌≤◌, true, false, None, Some, OnOk, OnErr, IfErr, length, replicate, reverse, slice_get, take, ◌-◌};
+ghost use Rattle.std.specs.Prelude.{◌≡◌, ◌<◌, ◌≤◌, true, Some, length, replicate, slice_get, take, ◌-◌};
 ghost use Rattle.std.specs.List.{AllByRecursion};
 ghost use Rattle.std.specs.Option.{option_map};
-ghost use Rattle.validate_resources.specs.Context.{ModuleContext, Valid};
-ghost use Rattle.validate_types.specs.Types.{unpacked_fields};
+ghost use Rattle.validate_resources.specs.Context.{Valid};
 ghost use Rattle.validation_rules.specs.Fits.{Known};
 ghost use Rattle.validate_stacks.specs.AtOnce.{body_dropped};
-ghost use Rattle.validate_stacks.specs.Attempts.{phase_moved};
 ghost use Rattle.validate_stacks.specs.State.{IsValidBody, body_context};
-ghost use Rattle.validate_stacks.specs.Pops.{body_popped_each, body_pushed_each, has_operands_fitting, may_pop, IsKept};
+ghost use Rattle.validate_stacks.specs.Pops.{body_pushed_each, has_operands_fitting, may_pop};
 ghost use Rattle.validate_stacks.specs.Steps.{innermost_operands, found_after_pops_in_body};
 
 use crate::pops::{fits_at_once, is_known_number};
 use crate::stacks::Stacks;
 use validate_resources::WasmModuleResources;
-use validate_types::{Error, FieldType, MaybeType, ValType};
+use validate_types::{MaybeType, ValType};
 
 impl Stacks {
-    /// Pops one operand for each of these types, the last of the list first. Memory is wanted for the
-    /// text of a refusal and the log of an attempt alone.
-    #[inline(always)]
-    pub fn pop_types<R: WasmModuleResources>(
-        &mut self,
-        resources: &R,
-        offset: u64,
-        wanted: &[ValType],
-    ) -> Result<(), Error>
-        requires types { AllByRecursion (Valid (R.context resources.now)) wanted.now }
-        requires state { IsValidBody (R.context resources.now) self.old.body }
-        ensures passed { OnOk result (body_popped_each (R.context resources.now) (reverse wanted.now)
-            self.old.body ≡ Some self.new.body) }
-        ensures refused { IfErr result (λ e. e.wants_memory ≡ false
-            → body_popped_each (R.context resources.now) (reverse wanted.now) self.old.body ≡ None) }
-        ensures idle { self.old.body.undone ≡ None
-            → OnErr result (body_popped_each (R.context resources.now) (reverse wanted.now)
-            self.old.body ≡ None) }
-        ensures phase { phase_moved self.new.phase ≡ phase_moved self.old.phase }
-        ensures offset { IfErr result (λ e. e.offset ≡ offset) }
-        ensures valid { IsValidBody (R.context resources.now) self.new.body }
-        ensures kept { IsKept self.old.body self.new.body }
-    {
-        let mut left = wanted.len();
-        while left > 0 {
-            match self.pop_at_once(resources, Some(wanted[left - 1])) {
-                Some(_) => left -= 1,
-                None => return self.pop_first_types(resources, offset, wanted, left),
-            }
-        }
-        Ok(())
-    }
-
-    /// [`Stacks::pop_types`], of the first so many of these types, by the order of types.
-    #[inline(never)]
-    fn pop_first_types<R: WasmModuleResources>(
-        &mut self,
-        resources: &R,
-        offset: u64,
-        wanted: &[ValType],
-        count: usize,
-    ) -> Result<(), Error>
-        requires within { count ≤ length wanted.now }
-        requires types { AllByRecursion (Valid (R.context resources.now)) wanted.now }
-        requires state { IsValidBody (R.context resources.now) self.old.body }
-        ensures passed { OnOk result (body_popped_each (R.context resources.now)
-            (reverse (take count wanted.now)) self.old.body ≡ Some self.new.body) }
-        ensures refused { IfErr result (λ e. e.wants_memory ≡ false
-            → body_popped_each (R.context resources.now) (reverse (take count wanted.now)) self.old.body
-            ≡ None) }
-        ensures idle { self.old.body.undone ≡ None
-            → OnErr result (body_popped_each (R.context resources.now) (reverse (take count wanted.now))
-            self.old.body ≡ None) }
-        ensures phase { phase_moved self.new.phase ≡ phase_moved self.old.phase }
-        ensures offset { IfErr result (λ e. e.offset ≡ offset) }
-        ensures valid { IsValidBody (R.context resources.now) self.new.body }
-        ensures kept { IsKept self.old.body self.new.body }
-    {
-        let mut left = count;
-        while left > 0 {
-            left -= 1;
-            self.pop_operand(resources, offset, Some(wanted[left]))?;
-        }
-        Ok(())
-    }
-
-    /// Whether pops of these types would pass, the last of the list first.
-    #[inline(always)]
-    pub fn has_operands_fitting<R: WasmModuleResources>(
-        &self,
-        resources: &R,
-        wanted: &[ValType],
-    ) -> bool
-        requires types { AllByRecursion (Valid (R.context resources.now)) wanted.now }
-        requires state { IsValidBody (R.context resources.now) self.now.body }
-        ensures { result ≡ has_operands_fitting (body_context (R.context resources.now) self.now.body)
-            wanted.now self.now.body }
-    {
-        self.has_fitting_among(resources, self.own_len(), wanted)
-    }
-
-    /// The same, where the innermost frame has so many own operands.
-    #[inline(always)]
-    pub(crate) fn has_fitting_among<R: WasmModuleResources>(
-        &self,
-        resources: &R,
-        own: usize,
-        wanted: &[ValType],
-    ) -> bool
-        requires own { own ≡ length (innermost_operands self.now.body.present.frames) }
-        requires types { AllByRecursion (Valid (R.context resources.now)) wanted.now }
-        requires state { IsValidBody (R.context resources.now) self.now.body }
-        ensures { result ≡ has_operands_fitting (body_context (R.context resources.now) self.now.body)
-            wanted.now self.now.body }
-    {
-        let mut left = wanted.len();
-        while left > 0 {
-            left -= 1;
-            if !self.is_fitting_at(resources, own, wanted.len() - 1 - left, &wanted[left]) {
-                return false;
-            }
-        }
-        true
-    }
-
     /// The same of so many operands of one type.
     #[inline(always)]
     pub(crate) fn has_fitting_run<R: WasmModuleResources>(
@@ -276,26 +169,5 @@ impl Stacks {
             }
         }
         self.is_fitting(resources, self.found_at(depth), *wanted)
-    }
-
-    /// Pushes an operand of each of these types, the first of the list first. It refuses for want of
-    /// memory alone.
-    #[inline(always)]
-    pub fn push_types(&mut self, offset: u64, types: &[ValType]) -> Result<(), Error>
-        ensures pushed { OnOk result (self.new.body ≡ body_pushed_each types.now self.old.body) }
-        ensures memory { IfErr result (λ e. e.wants_memory ≡ true) }
-        ensures offset { IfErr result (λ e. e.offset ≡ offset) }
-        ensures valid { (md : ModuleContext) → AllByRecursion (Valid md) types.now
-            → IsValidBody md self.old.body → IsValidBody md self.new.body }
-        ensures kept { IsKept self.old.body self.new.body }
-        ensures phase { phase_moved self.new.phase ≡ phase_moved self.old.phase }
-    {
-        for ty in types {
-            match self.push_operand(MaybeType::Known(*ty)) {
-                Ok(()) => {}
-                Err(_) => return Err(Error::out_of_memory(offset)),
-            }
-        }
-        Ok(())
     }
 }

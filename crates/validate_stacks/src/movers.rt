@@ -1,6 +1,6 @@
 //! The moves of operators: each is made whole, or changes nothing.
 
-ghost use Rattle.std.specs.Prelude.{◌≡◌, ◌≢◌, ◌<◌, ◌≤◌, [], None, true, length, IsOk, MatchResult};
+ghost use Rattle.std.specs.Prelude.{◌≡◌, ◌≢◌, ◌<◌, ◌≤◌, [], None, true, length, IfErr, IsOk, MatchResult};
 ghost use Rattle.validation_rules.specs.Fits.{Known};
 ghost use Rattle.validate_stacks.specs.AtOnce.{body_dropped};
 ghost use Rattle.validate_stacks.specs.Attempts.{may_frame, may_set, may_unset};
@@ -9,7 +9,7 @@ ghost use Rattle.validate_stacks.specs.Steps.{innermost_operands, body_pushed, b
 
 use crate::change::Change;
 use crate::stacks::Stacks;
-use validate_types::{MaybeType, OutOfMemory, ValType};
+use validate_types::{MaybeType, Refused, ValType};
 use validate_visit::{BlockType, FrameKind};
 
 impl Stacks {
@@ -17,11 +17,12 @@ impl Stacks {
     /// last on top. Want of memory changes nothing, and there is none where no attempt is pending and no more come than
     /// go.
     #[inline(always)]
-    pub fn exchange(&mut self, taken: usize, given: &[ValType]) -> Result<(), OutOfMemory>
+    pub fn exchange<A: Refused>(&mut self, taken: usize, given: &[ValType]) -> Result<(), A>
         requires { taken ≤ length (innermost_operands self.old.body.present.frames) }
         ensures exact { MatchResult result
             (λ _. self.new.body ≡ body_pushed_each given.now (body_dropped taken self.old.body))
             (λ _. self.new ≡ self.old) }
+        ensures told { IfErr result (λ e. A.tells e → ⊥) }
         ensures idle { self.old.body.undone ≡ None → length given.now ≤ taken → IsOk result }
     {
         // Where no attempt is pending, and one comes at most, it is put in place.
@@ -39,11 +40,12 @@ impl Stacks {
 
     /// [`Stacks::exchange`], of any number of operands, and recorded where an attempt is pending.
     #[inline(never)]
-    fn exchange_any(&mut self, taken: usize, given: &[ValType]) -> Result<(), OutOfMemory>
+    fn exchange_any<A: Refused>(&mut self, taken: usize, given: &[ValType]) -> Result<(), A>
         requires { taken ≤ length (innermost_operands self.old.body.present.frames) }
         ensures exact { MatchResult result
             (λ _. self.new.body ≡ body_pushed_each given.now (body_dropped taken self.old.body))
             (λ _. self.new ≡ self.old) }
+        ensures told { IfErr result (λ e. A.tells e → ⊥) }
         ensures idle { self.old.body.undone ≡ None → length given.now ≤ taken → IsOk result }
     {
         self.change(Change {
@@ -58,11 +60,12 @@ impl Stacks {
 
     /// [`Stacks::exchange`] with one operand that comes, of which less may be known.
     #[inline(always)]
-    pub fn replace(&mut self, taken: usize, ty: MaybeType) -> Result<(), OutOfMemory>
+    pub fn replace<A: Refused>(&mut self, taken: usize, ty: MaybeType) -> Result<(), A>
         requires { taken ≤ length (innermost_operands self.old.body.present.frames) }
         ensures exact { MatchResult result
             (λ _. self.new.body ≡ body_pushed ty (body_dropped taken self.old.body))
             (λ _. self.new ≡ self.old) }
+        ensures told { IfErr result (λ e. A.tells e → ⊥) }
         ensures idle { self.old.body.undone ≡ None → 0 < taken → IsOk result }
     {
         if !self.is_pending() {
@@ -75,11 +78,12 @@ impl Stacks {
 
     /// [`Stacks::replace`], recorded where an attempt is pending.
     #[inline(never)]
-    fn replace_any(&mut self, taken: usize, ty: MaybeType) -> Result<(), OutOfMemory>
+    fn replace_any<A: Refused>(&mut self, taken: usize, ty: MaybeType) -> Result<(), A>
         requires { taken ≤ length (innermost_operands self.old.body.present.frames) }
         ensures exact { MatchResult result
             (λ _. self.new.body ≡ body_pushed ty (body_dropped taken self.old.body))
             (λ _. self.new ≡ self.old) }
+        ensures told { IfErr result (λ e. A.tells e → ⊥) }
         ensures idle { self.old.body.undone ≡ None → 0 < taken → IsOk result }
     {
         self.change(Change {
@@ -94,16 +98,17 @@ impl Stacks {
 
     /// [`Stacks::exchange`], and above what is given comes one operand more, of which less may be known.
     #[inline(always)]
-    pub fn exchange_topped(
+    pub fn exchange_topped<A: Refused>(
         &mut self,
         taken: usize,
         given: &[ValType],
         top: MaybeType,
-    ) -> Result<(), OutOfMemory>
+    ) -> Result<(), A>
         requires { taken ≤ length (innermost_operands self.old.body.present.frames) }
-        ensures { MatchResult result
+        ensures exact { MatchResult result
             (λ _. self.new.body ≡ body_pushed top (body_pushed_each given.now (body_dropped taken self.old.body)))
             (λ _. self.new ≡ self.old) }
+        ensures told { IfErr result (λ e. A.tells e → ⊥) }
     {
         if given.is_empty() {
             return self.replace(taken, top);
@@ -113,16 +118,17 @@ impl Stacks {
 
     /// [`Stacks::exchange_topped`], whatever is given, and recorded where an attempt is pending.
     #[inline(never)]
-    fn exchange_topped_any(
+    fn exchange_topped_any<A: Refused>(
         &mut self,
         taken: usize,
         given: &[ValType],
         top: MaybeType,
-    ) -> Result<(), OutOfMemory>
+    ) -> Result<(), A>
         requires { taken ≤ length (innermost_operands self.old.body.present.frames) }
-        ensures { MatchResult result
+        ensures exact { MatchResult result
             (λ _. self.new.body ≡ body_pushed top (body_pushed_each given.now (body_dropped taken self.old.body)))
             (λ _. self.new ≡ self.old) }
+        ensures told { IfErr result (λ e. A.tells e → ⊥) }
     {
         self.change(Change {
             taken,
@@ -137,19 +143,20 @@ impl Stacks {
     /// [`Stacks::exchange`], and a declared local is set: where it wasn't, it joins those first set in the innermost frame.
     /// Want of memory changes nothing.
     #[inline(always)]
-    pub fn set_local(
+    pub fn set_local<A: Refused>(
         &mut self,
         local_index: u32,
         taken: usize,
         given: &[ValType],
-    ) -> Result<(), OutOfMemory>
+    ) -> Result<(), A>
         requires open_frame { self.old.body.present.frames ≢ [] }
         requires own { taken ≤ length (innermost_operands self.old.body.present.frames) }
         requires declared { local_index < length self.old.body.locals }
         requires set { may_set self.old ≡ true }
-        ensures { MatchResult result (λ _. self.new.body
+        ensures exact { MatchResult result (λ _. self.new.body
             ≡ body_pushed_each given.now (body_with_local_set local_index (body_dropped taken self.old.body)))
             (λ _. self.new ≡ self.old) }
+        ensures told { IfErr result (λ e. A.tells e → ⊥) }
     {
         self.change(Change {
             taken,
@@ -164,18 +171,19 @@ impl Stacks {
     /// Takes so many own operands of the innermost frame, which has as many, and opens a frame that owns one of each of
     /// these types, the last on top. Want of memory changes nothing.
     #[inline(always)]
-    pub fn open(
+    pub fn open<A: Refused>(
         &mut self,
         taken: usize,
         kind: FrameKind,
         block_type: BlockType,
         given: &[ValType],
-    ) -> Result<(), OutOfMemory>
+    ) -> Result<(), A>
         requires own { taken ≤ length (innermost_operands self.old.body.present.frames) }
         requires frames { may_frame self.old ≡ true }
-        ensures { MatchResult result (λ _. self.new.body
+        ensures exact { MatchResult result (λ _. self.new.body
             ≡ body_pushed_each given.now (body_with_frame kind block_type (body_dropped taken self.old.body)))
             (λ _. self.new ≡ self.old) }
+        ensures told { IfErr result (λ e. A.tells e → ⊥) }
     {
         // Where no attempt is pending, one goes at most, and nothing is given, the frame is put in place.
         if given.is_empty() {
@@ -191,18 +199,19 @@ impl Stacks {
 
     /// [`Stacks::open`], over any number of operands, and recorded where an attempt is pending.
     #[inline(never)]
-    fn open_any(
+    fn open_any<A: Refused>(
         &mut self,
         taken: usize,
         kind: FrameKind,
         block_type: BlockType,
         given: &[ValType],
-    ) -> Result<(), OutOfMemory>
+    ) -> Result<(), A>
         requires own { taken ≤ length (innermost_operands self.old.body.present.frames) }
         requires frames { may_frame self.old ≡ true }
-        ensures { MatchResult result (λ _. self.new.body
+        ensures exact { MatchResult result (λ _. self.new.body
             ≡ body_pushed_each given.now (body_with_frame kind block_type (body_dropped taken self.old.body)))
             (λ _. self.new ≡ self.old) }
+        ensures told { IfErr result (λ e. A.tells e → ⊥) }
     {
         self.change(Change {
             taken,
@@ -214,22 +223,47 @@ impl Stacks {
         })
     }
 
-    /// Closes the innermost frame with its own operands, and gives the next outer one an operand of each of these types, the
-    /// last on top: the locals that were first set in the frame aren't set any more. Want of memory changes nothing, and
+    /// Closes the innermost frame with its own operands, so many, and gives the next outer one an operand of each of these
+    /// types, the last on top: the locals that were first set in the frame aren't set any more. Want of memory changes nothing, and
     /// there is none where no attempt is pending and no more come than go.
     #[inline(always)]
-    pub fn close(&mut self, given: &[ValType]) -> Result<(), OutOfMemory>
+    pub fn close<A: Refused>(&mut self, taken: usize, given: &[ValType]) -> Result<(), A>
+        requires own { taken ≡ length (innermost_operands self.old.body.present.frames) }
         requires open_frame { self.old.body.present.frames ≢ [] }
         requires frames { may_frame self.old ≡ true }
         requires unsets { may_unset self.old ≡ true }
         ensures exact { MatchResult result
             (λ _. self.new.body ≡ body_pushed_each given.now (body_without_frame self.old.body))
             (λ _. self.new ≡ self.old) }
-        ensures idle { self.old.body.undone ≡ None
-            → length given.now ≤ length (innermost_operands self.old.body.present.frames) → IsOk result }
+        ensures told { IfErr result (λ e. A.tells e → ⊥) }
+        ensures idle { self.old.body.undone ≡ None → length given.now ≤ taken → IsOk result }
+    {
+        // Where no attempt is pending, and one comes at most for as many that go, what lies there passes over.
+        if given.len() <= 1 && taken == given.len() && !self.is_pending() {
+            if let Some(ty) = given.first() {
+                self.replace_operand(MaybeType::Known(*ty));
+            }
+            self.close_over_operands();
+            return Ok(());
+        }
+        self.close_any(taken, given)
+    }
+
+    /// [`Stacks::close`], over any number of operands, and recorded where an attempt is pending.
+    #[inline(never)]
+    fn close_any<A: Refused>(&mut self, taken: usize, given: &[ValType]) -> Result<(), A>
+        requires own { taken ≡ length (innermost_operands self.old.body.present.frames) }
+        requires open_frame { self.old.body.present.frames ≢ [] }
+        requires frames { may_frame self.old ≡ true }
+        requires unsets { may_unset self.old ≡ true }
+        ensures exact { MatchResult result
+            (λ _. self.new.body ≡ body_pushed_each given.now (body_without_frame self.old.body))
+            (λ _. self.new ≡ self.old) }
+        ensures told { IfErr result (λ e. A.tells e → ⊥) }
+        ensures idle { self.old.body.undone ≡ None → length given.now ≤ taken → IsOk result }
     {
         self.change(Change {
-            taken: self.own_len(),
+            taken,
             closes: true,
             sets: None,
             opens: None,
@@ -241,21 +275,51 @@ impl Stacks {
     /// Closes the innermost frame as [`Stacks::close`] does, and opens one in its place that owns an operand of each of
     /// these types, the last on top. Want of memory changes nothing.
     #[inline(always)]
-    pub fn reopen_with(
+    pub fn reopen_with<A: Refused>(
         &mut self,
+        taken: usize,
         kind: FrameKind,
         block_type: BlockType,
         given: &[ValType],
-    ) -> Result<(), OutOfMemory>
+    ) -> Result<(), A>
+        requires own { taken ≡ length (innermost_operands self.old.body.present.frames) }
         requires open_frame { self.old.body.present.frames ≢ [] }
         requires frames { may_frame self.old ≡ true }
         requires unsets { may_unset self.old ≡ true }
-        ensures { MatchResult result (λ _. self.new.body
+        ensures exact { MatchResult result (λ _. self.new.body
             ≡ body_pushed_each given.now (body_with_frame kind block_type (body_without_frame self.old.body)))
             (λ _. self.new ≡ self.old) }
+        ensures told { IfErr result (λ e. A.tells e → ⊥) }
+    {
+        // Where no attempt is pending, and nothing is given, the frame is put in the place of the other.
+        if given.is_empty() && !self.is_pending() {
+            self.drop_operands(taken);
+            self.reopen(kind, block_type);
+            return Ok(());
+        }
+        self.reopen_any(taken, kind, block_type, given)
+    }
+
+    /// [`Stacks::reopen_with`], with any number of operands, and recorded where an attempt is pending.
+    #[inline(never)]
+    fn reopen_any<A: Refused>(
+        &mut self,
+        taken: usize,
+        kind: FrameKind,
+        block_type: BlockType,
+        given: &[ValType],
+    ) -> Result<(), A>
+        requires own { taken ≡ length (innermost_operands self.old.body.present.frames) }
+        requires open_frame { self.old.body.present.frames ≢ [] }
+        requires frames { may_frame self.old ≡ true }
+        requires unsets { may_unset self.old ≡ true }
+        ensures exact { MatchResult result (λ _. self.new.body
+            ≡ body_pushed_each given.now (body_with_frame kind block_type (body_without_frame self.old.body)))
+            (λ _. self.new ≡ self.old) }
+        ensures told { IfErr result (λ e. A.tells e → ⊥) }
     {
         self.change(Change {
-            taken: self.own_len(),
+            taken,
             closes: true,
             sets: None,
             opens: Some((kind, block_type)),
@@ -267,9 +331,10 @@ impl Stacks {
     /// Ends the live part of the innermost frame: it is dead from here on, and its own operands go. Want of memory changes
     /// nothing, and there is none where no attempt is pending.
     #[inline(always)]
-    pub fn end_live(&mut self) -> Result<(), OutOfMemory>
+    pub fn end_live<A: Refused>(&mut self) -> Result<(), A>
         ensures exact { MatchResult result (λ _. self.new.body ≡ body_unreachable self.old.body)
             (λ _. self.new ≡ self.old) }
+        ensures told { IfErr result (λ e. A.tells e → ⊥) }
         ensures idle { self.old.body.undone ≡ None → IsOk result }
     {
         self.exchange(self.own_len(), &[])?;

@@ -14,7 +14,7 @@ use std::alloc::{AllocError, Global};
 use validate_resources::WasmModuleResources;
 use validate_resources::kinds::func_type_of;
 use validate_types::{
-    AbstractHeapType, Error, HeapType, MaybeType, OutOfMemory, RefType, Refusal, Told, ValType,
+    AbstractHeapType, Error, HeapType, MaybeType, RefType, Refusal, Told, ValType,
 };
 
 impl Stacks {
@@ -36,9 +36,9 @@ impl Stacks {
     {
         let taken = self.count_taken(&told, taken);
         let error = self.refusal(resources, told, offset);
-        match self.take_refused(taken) {
+        match self.exchange::<Told>(taken, &[]) {
             Ok(()) => error,
-            Err(OutOfMemory) => Error::out_of_memory(offset),
+            Err(_) => Error::out_of_memory(offset),
         }
     }
 
@@ -65,15 +65,6 @@ impl Stacks {
             Told::Rule(Refusal::Mismatch { depth, .. }) => own.min(depth.saturating_add(1)),
             Told::Rule(_) | Told::LookUp(_) => own.min(taken),
         }
-    }
-
-    /// Takes so many operands. Where there is no memory for the log of an attempt, they stay.
-    fn take_refused(&mut self, taken: usize) -> Result<(), OutOfMemory>
-        requires { taken ≤ length (innermost_operands self.old.body.present.frames) }
-        ensures valid { (md : ModuleContext) → IsValidBody md self.old.body → IsValidBody md self.new.body }
-        ensures kept { IsKept self.old.body self.new.body }
-    {
-        self.exchange(taken, &[])
     }
 
     /// What a branch to the outermost frame carries: the results of the body; nothing, where no frame is open.

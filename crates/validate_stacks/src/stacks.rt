@@ -19,7 +19,9 @@ use std::alloc::Global;
 use std::marker::Model;
 use validate_locals::{LocalInits, Locals};
 use validate_transaction::{Pile, Transaction, take_back};
-use validate_types::{Error, MaybeType, OutOfMemory, ValType, WasmFeatures};
+use validate_types::{
+    Error, MaybeType, OutOfMemory, Refusal, Refused, ValType, WasmFeatures, grown,
+};
 use validate_visit::{BlockType, Frame, FrameKind};
 
 /// The operands, the open frames and the locals of a body (wasmparser's `OperatorValidator` without
@@ -73,6 +75,19 @@ impl Stacks {
             features,
             alloc,
         }
+    }
+
+    /// Begins anew in the same buffers: no frame, no operand, no local and no attempt is left. It takes no memory.
+    pub fn restart(&mut self, features: WasmFeatures)
+        ensures { self.new.body ≡ empty_body features }
+    {
+        self.operands.clear();
+        self.control.clear();
+        self.locals.clear();
+        self.inits.clear();
+        self.shared = false;
+        self.features = features;
+        self.transaction.end()
     }
 
     /// The buffers, emptied. It takes no memory.
@@ -197,24 +212,6 @@ impl Stacks {
         self.inits.is_uninit(local_index)
     }
 
-    /// Sets the local at this index: where it wasn't set, it joins those first set in the innermost
-    /// frame. Want of memory changes nothing.
-    pub fn set_init(&mut self, local_index: u32) -> Result<(), OutOfMemory>
-        requires declared { local_index < length self.old.body.locals }
-        requires set { may_set self.old ≡ true }
-        ensures exact { MatchResult result (λ _. self.new.body
-            ≡ body_with_local_set local_index self.old.body) (λ _. self.new ≡ self.old) }
-    {
-        // Where no frame is open, there is none that it would join.
-        if self.control.len() == 0 {
-            return Ok(());
-        }
-        self.inits.set_init(local_index)?;
-        // The proof takes the invariant of the stacks from this read.
-        let _height = self.inits.height();
-        Ok(())
-    }
-
     /// How many operands there are, in all frames.
     #[inline(always)]
     pub fn operand_stack_height(&self) -> usize
@@ -260,9 +257,10 @@ impl Stacks {
 
     /// Pushes an operand onto the innermost frame. Want of memory changes nothing.
     #[inline(always)]
-    pub fn push_operand(&mut self, ty: MaybeType) -> Result<(), OutOfMemory>
+    pub fn push_operand<A: Refused>(&mut self, ty: MaybeType) -> Result<(), A>
         ensures exact { MatchResult result (λ _. self.new.body ≡ body_pushed ty self.old.body)
             (λ _. self.new ≡ self.old) }
+        ensures told { IfErr result (λ e. A.tells e → ⊥) }
         ensures phase { phase_moved self.new.phase ≡ phase_moved self.old.phase }
     {
         prepare_push(&mut self.operands, &mut self.transaction)?;
@@ -509,27 +507,6 @@ impl Stacks {
         self.control.replace_top(dead);
     }
 
-    /// Ends the live part of the innermost frame (wasmparser's `unreachable`): it is dead from here on,
-    /// and its own operands go. It refuses, at the offset handed in, for want of memory alone, and takes none where
-    /// no attempt is pending.
-    pub fn unreachable(&mut self, offset: u64) -> Result<(), Error>
-        ensures ended { OnOk result (self.new.body ≡ body_unreachable self.old.body) }
-        ensures memory { IfErr result (λ e. e.wants_memory ≡ true) }
-        ensures offset { IfErr result (λ e. e.offset ≡ offset) }
-        ensures valid { (md : ModuleContext) → IsValidBody md self.old.body → IsValidBody md self.new.body }
-        ensures kept { IsKept self.old.body self.new.body }
-        ensures idle { self.old.body.undone ≡ None → IsOk result }
-    {
-        while self.own_len() > 0 {
-            match self.pop_any() {
-                Ok(_) => {}
-                Err(_) => return Err(Error::out_of_memory(offset)),
-            }
-        }
-        self.mark();
-        Ok(())
-    }
-
     /// Whether the innermost frame has so many own operands at least.
     #[inline(always)]
     pub(crate) fn has_own(&self, count: usize) -> bool
@@ -574,32 +551,6 @@ impl Stacks {
         let init_height = self.inits.height();
         self.control
             .put(live_frame(kind, block_type, height, init_height));
-        Ok(())
-    }
-
-    /// Closes the innermost frame, which has no operands of its own: the locals that were first set in it
-    /// aren't set any more. Want of memory changes nothing, and there is none where no attempt is
-    /// pending.
-    #[inline(always)]
-    pub fn pop_bare_ctrl(&mut self) -> Result<(), OutOfMemory>
-        requires own { innermost_operands self.old.body.present.frames ≡ [] }
-        requires frames { may_frame self.old ≡ true }
-        requires unsets { may_unset self.old ≡ true }
-        ensures exact { MatchResult result (λ _. self.new.body ≡ body_without_frame self.old.body)
-            (λ _. self.new ≡ self.old) }
-        ensures frames { may_frame self.new ≡ true }
-        ensures idle { self.old.body.undone ≡ None → IsOk result }
-    {
-        let Some(innermost) = self.control.get(0) else {
-            return Ok(());
-        };
-        let init_height = innermost.init_height;
-        // The proof takes the invariant of the stacks from this read.
-        let _count = self.control.len();
-        self.transaction
-            .pop_ctrl(innermost, self.inits.set_since(init_height))?;
-        let _ = self.control.pop();
-        self.inits.drop_ctrl(init_height);
         Ok(())
     }
 
@@ -653,20 +604,24 @@ impl Stacks {
 /// Room for one more operand, and its entry in the log of an attempt, if one is pending. Want of memory changes nothing
 /// but room.
 #[inline(always)]
-pub(crate) fn prepare_push(
+pub(crate) fn prepare_push<A: Refused>(
     operands: &mut Pile<MaybeType>,
     transaction: &mut Transaction,
-) -> Result<(), OutOfMemory>
+) -> Result<(), A>
     ensures items { operands.new.items ≡ operands.old.items }
     ensures never_less { operands.old.room ≤ operands.new.room }
     ensures room { OnOk result (length operands.new.items < operands.new.room) }
+    ensures told { IfErr result (λ e. A.tells e → ⊥) }
     ensures recorded { MatchResult result (λ _. transaction.new ≡ with_push transaction.old)
         (λ _. transaction.new ≡ transaction.old) }
 {
-    if transaction.is_active() || !operands.has_room() {
-        return grow_for_push(operands, transaction);
+    if !transaction.is_active() && operands.has_room() {
+        return Ok(());
     }
-    Ok(())
+    if !A::may_grow() {
+        return Err(A::of(Refusal::OutOfMemory));
+    }
+    grown(grow_for_push(operands, transaction))
 }
 
 /// [`prepare_push`], where a log or memory is wanted.

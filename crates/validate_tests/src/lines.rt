@@ -1,8 +1,7 @@
-//! Operators with their answers, one a line, in a body.
+//! Operators that are visited or attempted, with what each is to answer, one a line, in a body.
 //!
 //! A line is an operator as scripts write it, an arrow, and what `answer_text` gives; what stands there
-//! behind the second arrow may be left out. With a `try` before it the operator is visited within an attempt,
-//! which is taken back: the answer is that within, and behind it everything is as before.
+//! behind the second arrow may be left out.
 
 ghost use Rattle.std.specs.Prelude.{◌≡◌, None, OnOk};
 ghost use Rattle.validation_rules.specs.Operators.{operator};
@@ -12,8 +11,7 @@ ghost use Rattle.validate_stacks.specs.Visits.{MayVisit, Meets};
 ghost use Rattle.wasmparser_validate.specs.Start.{state, stacks_of};
 
 use crate::answers::answer_in;
-use crate::expectations::{expect, expect_text};
-use crate::names::visit_named;
+use crate::expectations::expect_text;
 use crate::test_error::TestError;
 use crate::texts::{answer_text, expect_answer_text, snapshot};
 use script_parts::{OperatorList, read_words};
@@ -29,10 +27,6 @@ use wasmparser_validate::visit::{Op, VisitOperator};
 pub enum Way {
     /// They are visited.
     Visited,
-    /// They are visited by their own names.
-    Named,
-    /// They are visited within an attempt, which is taken back: those with a `try`.
-    Undone,
     /// They are attempted and taken back, and then attempted again.
     Attempted,
 }
@@ -47,21 +41,7 @@ pub fn visit<R: WasmModuleResources>(
     ensures valid { IsValidBody (R.context lists.now) (state v.new) }
     ensures kept { IsKept (state v.old) (state v.new) }
 {
-    visit_either(v, lists, op, false)
-}
-
-/// The same, by the operator's own name or not.
-fn visit_either<R: WasmModuleResources>(
-    v: &mut OperatorValidator,
-    lists: &R,
-    op: Op<'_>,
-    is_named: bool,
-) -> Result<(), Error>
-    requires { MayVisit (R.context lists.now) (stacks_of v.old) }
-    ensures valid { IsValidBody (R.context lists.now) (state v.new) }
-    ensures kept { IsKept (state v.old) (state v.new) }
-{
-    visit_by_row(v, lists, op, is_named)
+    visit_by_row(v, lists, op)
 }
 
 /// The same, with all that it promises.
@@ -69,57 +49,28 @@ fn visit_by_row<R: WasmModuleResources>(
     v: &mut OperatorValidator,
     lists: &R,
     op: Op<'_>,
-    is_named: bool,
 ) -> Result<(), Error>
     requires { MayVisit (R.context lists.now) (stacks_of v.old) }
     ensures { Meets (R.context lists.now) (λ cx. operator cx op.entry) 7 (state v.old) result (state v.new) }
 {
-    if is_named {
-        return visit_named(v, lists, op);
-    }
     v.with_resources(lists, 7).visit_operator(op)
 }
 
-/// Visits the operator, by its own name or not.
+/// Visits the operator.
 fn expect_visited<R: WasmModuleResources>(
     rt: &(impl Abort + AllocGlobal),
     v: &mut OperatorValidator,
     lists: &R,
     op: Op<'_>,
-    is_named: bool,
     wanted: &str,
 ) -> Result<(), TestError>
     requires { MayVisit (R.context lists.now) (stacks_of v.old) }
     ensures valid { IsValidBody (R.context lists.now) (state v.new) }
     ensures kept { IsKept (state v.old) (state v.new) }
 {
-    let answer = visit_either(v, lists, op, is_named);
+    let answer = visit(v, lists, op);
     let found = answer_text(rt, v, answer)?;
     expect_answer_text(rt, &found, wanted);
-    Ok(())
-}
-
-/// Visits the operator within an attempt, and takes it back.
-fn expect_undone<R: WasmModuleResources>(
-    rt: &(impl Abort + AllocGlobal),
-    v: &mut OperatorValidator,
-    lists: &R,
-    op: Op<'_>,
-    wanted: &str,
-) -> Result<(), TestError>
-    requires idle { (state v.old).undone ≡ None }
-    requires visit { MayVisit (R.context lists.now) (stacks_of v.old) }
-    ensures same { OnOk result (state v.new ≡ state v.old) }
-{
-    let before = snapshot(rt, v)?;
-    expect(rt, v.can_attempt() && !v.is_pending());
-    v.begin_try_op();
-    expect(rt, v.can_attempt() && v.is_pending());
-    let answer = visit(v, lists, op);
-    let within = answer_text(rt, v, answer);
-    v.rollback();
-    expect_snapshot(rt, v, &before, wanted)?;
-    expect_answer_text(rt, &within?, wanted);
     Ok(())
 }
 
@@ -160,7 +111,7 @@ fn expect_attempted<R: WasmModuleResources>(
 }
 
 /// The operator that a text writes. If it has a list, it lends this one.
-pub fn read_op<'a>(
+fn read_op<'a>(
     rt: &impl AllocGlobal,
     list: &'a mut Option<OperatorList>,
     text: &str,
@@ -185,9 +136,7 @@ fn expect_op<R: WasmModuleResources>(
     ensures valid { OnOk result (IsValidBody (R.context lists.now) (state v.new)) }
 {
     match way {
-        Way::Visited => expect_visited(rt, v, lists, op, false, wanted),
-        Way::Named => expect_visited(rt, v, lists, op, true, wanted),
-        Way::Undone => expect_undone(rt, v, lists, op, wanted),
+        Way::Visited => expect_visited(rt, v, lists, op, wanted),
         Way::Attempted => expect_attempted(rt, v, lists, op, wanted),
     }
 }
@@ -209,10 +158,6 @@ fn expect_line<R: WasmModuleResources>(
         return Err(TestError("a line behind a closed body"));
     }
     let (written, wanted) = line.trim().split_once(" => ").unwrap_or((line, ""));
-    let (way, written) = match written.strip_prefix("try ") {
-        Some(written) => (Way::Undone, written),
-        None => (way, written),
-    };
     let mut list = None;
     let op = read_op(rt, &mut list, written)?;
     expect_op(rt, v, lists, op, way, wanted)

@@ -216,23 +216,10 @@ array.len => type mismatch: expected subtype of array, found any
 
 i64.const => 1 1
 i32.const => 2 1
-try i32.add => type mismatch: expected i32, found i64 => block:
-try return => 0 1 => dead block:
-nop => 2 1 => block: i64 i32
-
-unreachable => 0 1
-try return => 0 1 => dead block:
-nop => 0 1 => dead block:
-i32.add => 1 1
-
-i32.const => 1 1
-if => 0 2
-try end => 0 1 => block:
-nop => 0 2 => if:
+i32.add => type mismatch: expected i32, found i64 => block:
 
 legacy_try => 0 2
-try catch 7 => unknown tag 7: tag index out of bounds => catch:
-nop => 0 2 => legacy_try:";
+catch 7 => unknown tag 7: tag index out of bounds => catch:";
 
 /// A body for each group of operators, or two.
 pub const GROUPS: &str = "\

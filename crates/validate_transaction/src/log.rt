@@ -1,6 +1,6 @@
 //! The log of one attempt.
 
-ghost use Rattle.std.specs.Prelude.{◌≡◌, ℕ, ◌+◌, ◌<◌, ◌≤◌, List, [], ◌∷◌, ◌++◌, length, IfOk, OnOk, OnErr, IsOk, MatchOption, Option, true, false, None, Some};
+ghost use Rattle.std.specs.Prelude.{◌≡◌, ℕ, ◌+◌, ◌<◌, ◌≤◌, List, [], ◌∷◌, ◌++◌, length, IfOk, IfErr, OnOk, OnErr, IsOk, MatchOption, Option, true, false, None, Some};
 ghost use Rattle.std.specs.Prelude.{MatchResult, map, replicate};
 ghost use Rattle.validate_transaction.specs.Log.{Log, empty_log, has_changes};
 ghost use Rattle.validate_transaction.specs.Recorded.{log_with_entry};
@@ -9,7 +9,7 @@ use crate::pile::Pile;
 use std::alloc::Global;
 use std::marker::Model;
 use std::mem;
-use validate_types::{MaybeType, OutOfMemory};
+use validate_types::{MaybeType, OutOfMemory, Refusal, Refused};
 use validate_visit::Frame;
 
 /// What an attempt changed.
@@ -180,17 +180,18 @@ impl RollbackLog {
 
     /// Records all that a call does. Want of memory changes nothing: there is room for all before anything is put.
     #[inline(never)]
-    pub fn record(&mut self, entry: Entry<'_>) -> Result<(), OutOfMemory>
-        ensures { MatchResult result (λ _. self.new ≡ log_with_entry entry.entry self.old)
+    pub fn record<A: Refused>(&mut self, entry: Entry<'_>) -> Result<(), A>
+        ensures exact { MatchResult result (λ _. self.new ≡ log_with_entry entry.entry self.old)
             (λ _. self.new ≡ self.old) }
+        ensures told { IfErr result (λ e. A.tells e → ⊥) }
     {
         let Some(operands) = entry.popped.len().checked_add(entry.pushed) else {
-            return Err(OutOfMemory);
+            return Err(A::of(Refusal::OutOfMemory));
         };
         self.operands.reserve(operands)?;
         self.frames.reserve(2)?;
         if let Some(closed) = entry.closed {
-            self.inits.extend_from_slice(closed.unset)?;
+            append(&mut self.inits, closed.unset)?;
             self.frames.put(Some(*closed.frame));
         }
         if entry.opened {
@@ -229,6 +230,21 @@ pub struct Entry<'a> {
     pub opened: bool,
     /// How many operands are pushed.
     pub pushed: usize,
+}
+
+/// Adds these indices. Want of memory adds none; no memory is asked for where that may not be.
+fn append<A: Refused>(indices: &mut Vec<u32>, more: &[u32]) -> Result<(), A>
+    ensures exact { MatchResult result (λ _. indices.new.items ≡ indices.old.items ++ more.now)
+        (λ _. indices.new.items ≡ indices.old.items) }
+    ensures told { IfErr result (λ e. A.tells e → ⊥) }
+{
+    if !A::may_grow() && indices.capacity() - indices.len() < more.len() {
+        return Err(A::of(Refusal::OutOfMemory));
+    }
+    match indices.extend_from_slice(more) {
+        Ok(()) => Ok(()),
+        Err(_) => Err(A::of(Refusal::OutOfMemory)),
+    }
 }
 
 /// Records that these operands were popped, the last of the list first, where there is room.

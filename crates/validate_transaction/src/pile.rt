@@ -1,12 +1,12 @@
 //! A list that grows and shrinks at its end, and knows its room.
 
-ghost use Rattle.std.specs.Prelude.{◌≡◌, ℕ, ◌+◌, ◌<◌, ◌≤◌, List, [], ◌∷◌, true, length, IfOk, OnOk, OnErr, IsOk, MatchOption, Option, drop, take, reverse, ◌-◌, slice_get, is_ok, if◌then◌else◌};
+ghost use Rattle.std.specs.Prelude.{◌≡◌, ℕ, ◌+◌, ◌<◌, ◌≤◌, List, [], ◌∷◌, true, length, IfOk, IfErr, OnOk, OnErr, IsOk, MatchOption, Option, drop, take, reverse, ◌-◌, slice_get, is_ok, if◌then◌else◌};
 ghost use Rattle.std.specs.Option.{option_copied};
 ghost use Rattle.validate_transaction.specs.TakeBack.{is_empty, items_taken_back, CanTakeBack};
 
 use std::alloc::Global;
 use std::marker::Model;
-use validate_types::OutOfMemory;
+use validate_types::{OutOfMemory, Refusal, Refused};
 
 /// A stack over a vector. Contracts see its items, the newest first, and its room.
 #[derive(Drop)]
@@ -85,17 +85,23 @@ impl<T> Pile<T> {
         Ok(())
     }
 
-    /// Room for so many more items. Want of memory changes no item.
+    /// Room for so many more items. Want of memory changes no item; no memory is asked for where that may not be.
     #[inline(always)]
-    pub fn reserve(&mut self, count: usize) -> Result<(), OutOfMemory>
+    pub fn reserve<A: Refused>(&mut self, count: usize) -> Result<(), A>
         ensures items { self.new.items ≡ self.old.items }
         ensures never_less { self.old.room ≤ self.new.room }
         ensures ok { OnOk result (length self.new.items + count ≤ self.new.room) }
         ensures only_full { length self.old.items + count ≤ self.old.room → IsOk result }
+        ensures told { IfErr result (λ e. A.tells e → ⊥) }
         ensures within { length self.old.items ≤ self.old.room }
     {
-        self.vec.reserve(count)?;
-        Ok(())
+        if !A::may_grow() && self.vec.capacity() - self.vec.len() < count {
+            return Err(A::of(Refusal::OutOfMemory));
+        }
+        match self.vec.reserve(count) {
+            Ok(()) => Ok(()),
+            Err(_) => Err(A::of(Refusal::OutOfMemory)),
+        }
     }
 
     /// Whether there is room for one more item.

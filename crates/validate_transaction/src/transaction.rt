@@ -1,13 +1,13 @@
 //! An attempt, or the buffers for the next one.
 
-ghost use Rattle.std.specs.Prelude.{◌≡◌, ℕ, MatchResult, IsOk, IsSome, IsNone, Some, None, is_some};
+ghost use Rattle.std.specs.Prelude.{◌≡◌, ℕ, MatchResult, IfErr, IsOk, IsSome, IsNone, Some, None, is_some};
 ghost use Rattle.validate_transaction.specs.Log.{Log, empty_log};
 ghost use Rattle.validate_transaction.specs.Mapped.{Maps};
 ghost use Rattle.validate_transaction.specs.Recorded.{log_of, with_push, with_pop, with_opened, with_closed, with_mark, with_entry, has_changes_now};
 
 use crate::log::{Entry, RollbackLog, RollbackLogAllocations, Transaction};
 use std::mem;
-use validate_types::{MaybeType, OutOfMemory};
+use validate_types::{MaybeType, OutOfMemory, Refused};
 use validate_visit::Frame;
 
 impl Transaction {
@@ -143,9 +143,10 @@ impl Transaction {
     /// Records all that a call does, if an attempt is pending. Want of memory changes nothing, and there is none
     /// where no attempt is pending.
     #[inline(always)]
-    pub fn record(&mut self, entry: Entry<'_>) -> Result<(), OutOfMemory>
+    pub fn record<A: Refused>(&mut self, entry: Entry<'_>) -> Result<(), A>
         ensures exact { MatchResult result (λ _. self.new ≡ with_entry entry.entry self.old)
             (λ _. self.new ≡ self.old) }
+        ensures told { IfErr result (λ e. A.tells e → ⊥) }
         ensures idle { log_of self.old ≡ None → IsOk result }
     {
         match self {

@@ -302,6 +302,10 @@ pub trait Refused {
     /// It tells that the row doesn't hold.
     ghost tells: { Self → Type 0 };
 
+    /// Whether memory may be asked for where there is no room. A body that tells nothing asks for none, as it is called again
+    /// by one who tells: so each growth is asked for once.
+    fn may_grow() -> bool;
+
     /// The answer for this reason.
     fn of(refusal: Refusal) -> Self
         ensures { tells result → IsTold refusal };
@@ -317,6 +321,11 @@ pub struct NotDone;
 
 impl Refused for NotDone {
     ghost tells = { λ _. ⊥ };
+
+    #[inline(always)]
+    fn may_grow() -> bool {
+        false
+    }
 
     #[inline(always)]
     fn of(_refusal: Refusal) -> NotDone {
@@ -342,6 +351,11 @@ impl Refused for Told {
     ghost use Rattle.validate_types.specs.Told.{IsRowRefused};
 
     ghost tells = { IsRowRefused };
+
+    #[inline(always)]
+    fn may_grow() -> bool {
+        true
+    }
 
     fn of(refusal: Refusal) -> Told {
         Told::Rule(refusal)

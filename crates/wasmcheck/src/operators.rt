@@ -1,7 +1,6 @@
 //! The operator that a refusal is about.
 
-use module_check::{CodeReader, OperatorLists, ReadError, Verdict};
-use operator_names::operator_name;
+use module_check::{CodeReader, OperatorLists, ReadError, Verdict, operator_name};
 use std::alloc::Global;
 use std::io;
 use validate_types::Error;

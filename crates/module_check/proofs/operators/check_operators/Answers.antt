@@ -11,25 +11,27 @@ pub returns-then-control_stack_height-eq0 : goal.returns-then-control_stack_heig
 returns-then-control_stack_height-eq0 g c =
     let md = g.R.WasmModuleResources.context c.args.resources.now in
     let rest = c.read_operator_into.new.reader.left in
+    let accepted = c.if-not-is_accepted.false in
     let more = one_more md c.args.canonical (may_stand c.args.constant) (state c.args.v.now) c.args.reader.now.left c.loop.reader.left
-    (state c.loop.v) (state c.check_ref.new.self) c.read_operator_into.new.to c.offset-offset.result rest
-    c.in_ok-check_ref.field-0 c.loop.invariant.behind c.in_ok-read_operator_into.ensures.read
-    (same_place c.args.constant c.read_operator_into.new.to ∙ c.in_ok-check_place.ensures) c.in_ok-check_ref.ensures.row in
+    (state c.loop.v) (state c.is_accepted.new.v) c.read_operator_into.new.to c.offset-offset.result rest
+    tt c.loop.invariant.behind c.in_ok-read_operator_into.ensures.read
+    (same_place c.args.constant c.read_operator_into.new.to ∙ c.is_accepted.ensures.stands accepted) (c.is_accepted.ensures.row accepted) in
     then_ok c.check_end.result
     (λ ended. whole md c.args.canonical (may_stand c.args.constant) (state c.args.v.now) c.args.reader.now.left rest
-    (state c.check_ref.new.self) c.control_stack_height.result more ended c.control_stack_height.ensures
+    (state c.is_accepted.new.v) c.control_stack_height.result more ended c.control_stack_height.ensures
     c.if-control_stack_height-eq0.true (g.met.R.WasmModuleResources.lawful c.args.resources.now))
     c.check_end.ensures
 
 pub loop-preserved : goal.loop-preserved
 loop-preserved g c =
     let md = g.R.WasmModuleResources.context c.args.resources.now in
+    let accepted = c.if-not-is_accepted.false in
     record {
       behind = one_more md c.args.canonical (may_stand c.args.constant) (state c.args.v.now) c.args.reader.now.left c.loop.reader.left
-          (state c.loop.v) (state c.check_ref.new.self) c.read_operator_into.new.to c.offset-offset.result
-          c.read_operator_into.new.reader.left c.in_ok-check_ref.field-0 c.loop.invariant.behind
+          (state c.loop.v) (state c.is_accepted.new.v) c.read_operator_into.new.to c.offset-offset.result
+          c.read_operator_into.new.reader.left tt c.loop.invariant.behind
           c.in_ok-read_operator_into.ensures.read
-          (same_place c.args.constant c.read_operator_into.new.to ∙ c.in_ok-check_place.ensures) c.in_ok-check_ref.ensures.row;
-      is_open = still_open (state c.check_ref.new.self).present c.control_stack_height.result c.control_stack_height.ensures
+          (same_place c.args.constant c.read_operator_into.new.to ∙ c.is_accepted.ensures.stands accepted) (c.is_accepted.ensures.row accepted);
+      is_open = still_open (state c.is_accepted.new.v).present c.control_stack_height.result c.control_stack_height.ensures
           c.if-control_stack_height-eq0.false;
     }

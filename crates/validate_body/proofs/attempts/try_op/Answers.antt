@@ -1,4 +1,4 @@
-use Rattle.std.proofs.Common.{◌≡◌, OnErr, sym, subst, ap, ◌∙◌}
+use Rattle.std.proofs.Common.{◌≡◌, OnErr, sym, subst}
 use Rattle.validation_rules.specs.Operators.{operator}
 use Rattle.validate_stacks.specs.Attempts.{Stacked}
 use Rattle.validate_stacks.specs.Visits.{MayVisit, Meets}
@@ -18,14 +18,8 @@ returns-then-passes_at_once-clause-valid g c = visit_valid _ _ _ _ _ _ (returns-
 pub returns-then-passes_at_once-clause-kept : goal.returns-then-passes_at_once-clause-kept
 returns-then-passes_at_once-clause-kept g c = visit_kept _ _ _ _ _ _ (returns-then-passes_at_once-clause-meets g c)
 
-pub attempt-requires-clause-idle : goal.attempt-requires-clause-idle
-attempt-requires-clause-idle g c =
-    let md = g.R.WasmModuleResources.context c.args.resources.now in
-    let same = same_at_once md (λ cx. operator cx c.args.op) (stacks_of c.args.v.now) (stacks_of c.passes_at_once.new.self) c.passes_at_once.result c.passes_at_once.ensures c.if-passes_at_once.false in
-    ap (λ (s : Stacked). s.body.undone) same ∙ c.requires.idle
-
-pub attempt-requires-clause-visit : goal.attempt-requires-clause-visit
-attempt-requires-clause-visit g c =
+pub try_slowly-requires : goal.try_slowly-requires
+try_slowly-requires g c =
     let md = g.R.WasmModuleResources.context c.args.resources.now in
     let same = same_at_once md (λ cx. operator cx c.args.op) (stacks_of c.args.v.now) (stacks_of c.passes_at_once.new.self) c.passes_at_once.result c.passes_at_once.ensures c.if-passes_at_once.false in
     subst (MayVisit md) (sym same) c.requires.visit
@@ -34,13 +28,16 @@ pub returns-clause-meets : goal.returns-clause-meets
 returns-clause-meets g c =
     let md = g.R.WasmModuleResources.context c.args.resources.now in
     let same = same_at_once md (λ cx. operator cx c.args.op) (stacks_of c.args.v.now) (stacks_of c.passes_at_once.new.self) c.passes_at_once.result c.passes_at_once.ensures c.if-passes_at_once.false in
-    subst (λ (s : Stacked). Meets md (λ cx. operator cx c.args.op) c.args.offset s.body c.attempt.result (state c.attempt.new.v)) same c.attempt.ensures.meets
+    subst (λ (s : Stacked). Meets md (λ cx. operator cx c.args.op) c.args.offset s.body c.try_slowly.result (state c.try_slowly.new.self)) same c.try_slowly.ensures.row
 
 pub returns-clause-back : goal.returns-clause-back
 returns-clause-back g c =
     let md = g.R.WasmModuleResources.context c.args.resources.now in
     let same = same_at_once md (λ cx. operator cx c.args.op) (stacks_of c.args.v.now) (stacks_of c.passes_at_once.new.self) c.passes_at_once.result c.passes_at_once.ensures c.if-passes_at_once.false in
-    subst (λ (s : Stacked). OnErr c.attempt.result (state c.attempt.new.v ≡ s.body)) same c.attempt.ensures.back
+    subst (λ (s : Stacked). OnErr c.try_slowly.result (state c.try_slowly.new.self ≡ s.body)) same c.try_slowly.ensures.back
+
+pub returns-clause-valid : goal.returns-clause-valid
+returns-clause-valid g c = visit_valid _ _ _ _ _ _ (returns-clause-meets g c)
 
 pub returns-clause-kept : goal.returns-clause-kept
 returns-clause-kept g c = visit_kept _ _ _ _ _ _ (returns-clause-meets g c)

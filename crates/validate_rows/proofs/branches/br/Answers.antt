@@ -67,7 +67,7 @@ returns-clause-row g c =
     let at = (goal.at.returns-clause-row g c).After-label_types-types in
     let v = c.args.stacks.now.body in
     let types = c.label_types-types.result.now in
-    ended_moves (md g at) _ _ c.args.stacks.now _ types (branches g at) (fits_now (md g at) types v true c.in_ok-find_operands.ensures.fit) c.requires.valid c.end_live.result _ c.grown.ensures.same c.grown.ensures.told c.end_live.ensures.exact
+    ended_moves (md g at) _ _ c.args.stacks.now _ types (branches g at) (fits_now (md g at) types v true c.in_ok-find_operands.ensures.fit) c.requires.valid c.end_live.result c.end_live.ensures.told c.end_live.ensures.exact
 
 pub returns-clause-idle : goal.returns-clause-idle
-returns-clause-idle g c = λ idle. never_refused _ c.end_live.result _ (c.end_live.ensures.idle idle) c.grown.ensures.same
+returns-clause-idle g c = λ idle. never_refused _ c.end_live.result (c.end_live.ensures.idle idle)

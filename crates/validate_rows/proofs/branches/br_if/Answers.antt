@@ -78,4 +78,4 @@ returns g c =
     let whole : body_dropped c.min.result v ≡ w = sym (dropped_below (length types) 1 v ∙ dropped_within (1 + length types) c.min.result v (omega (arith, c.min.ensures, c.own_len-own.ensures))) in
     let moved = subst (λ (x : BodyState). MatchResult c.exchange.result (λ _. c.exchange.new.self.body ≡ body_pushed_each types x) (λ _. c.exchange.new.self ≡ c.args.stacks.now)) whole c.exchange.ensures.exact in
     made_moves m _ _ c.args.stacks.now _ (body_pushed_each types w) step (third.1 (types_valid g (goal.at.returns g c).After-label_types-types) (second.1 (first.1 c.requires.valid)))
-    (kept_on v w _ (kept_on v u w first.0 second.0) third.0) c.exchange.result _ c.grown.ensures.same c.grown.ensures.told moved
+    (kept_on v w _ (kept_on v u w first.0 second.0) third.0) c.exchange.result c.exchange.ensures.told moved

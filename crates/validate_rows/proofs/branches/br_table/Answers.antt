@@ -123,7 +123,7 @@ returns-clause-row g c =
     let u = body_dropped 1 v in
     let w = body_dropped (length types) u in
     let step = table_passes md v c.requires.open_frame c.args.table.now.complete c.args.table.now.targets.now c.args.table.now.default u (tested g (at_test g at)) _ _ types (default_found g at) (c.label_types-types.ensures (body_context md v) refl) w (body_unreachable v) c.in_ok-find_targets.ensures.fits (popped_dropped md types u c.in_ok-find_operands-2.ensures.fit) (sym (ended_dropped (length types) u ∙ ended_dropped 1 v)) in
-    made_moves md _ _ c.args.stacks.now _ (body_unreachable v) step (unreachable_valid md v c.requires.valid) refl c.end_live.result _ c.grown.ensures.same c.grown.ensures.told c.end_live.ensures.exact
+    made_moves md _ _ c.args.stacks.now _ (body_unreachable v) step (unreachable_valid md v c.requires.valid) refl c.end_live.result c.end_live.ensures.told c.end_live.ensures.exact
 
 pub returns-clause-idle : goal.returns-clause-idle
-returns-clause-idle g c = λ idle. never_refused _ c.end_live.result _ (c.end_live.ensures.idle idle) c.grown.ensures.same
+returns-clause-idle g c = λ idle. never_refused _ c.end_live.result (c.end_live.ensures.idle idle)

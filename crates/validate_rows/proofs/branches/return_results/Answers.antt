@@ -63,7 +63,7 @@ returns-clause-row g c =
     let at = (goal.at.returns-clause-row g c).After-label_types-results in
     let v = c.args.stacks.now.body in
     let results = c.label_types-results.result.now in
-    ended_moves (md g at) _ _ c.args.stacks.now _ results (branches g at) (fits_now (md g at) results v true c.in_ok-find_operands.ensures.fit) c.requires.valid c.end_live.result _ c.grown.ensures.same c.grown.ensures.told c.end_live.ensures.exact
+    ended_moves (md g at) _ _ c.args.stacks.now _ results (branches g at) (fits_now (md g at) results v true c.in_ok-find_operands.ensures.fit) c.requires.valid c.end_live.result c.end_live.ensures.told c.end_live.ensures.exact
 
 pub returns-clause-idle : goal.returns-clause-idle
-returns-clause-idle g c = λ idle. never_refused _ c.end_live.result _ (c.end_live.ensures.idle idle) c.grown.ensures.same
+returns-clause-idle g c = λ idle. never_refused _ c.end_live.result (c.end_live.ensures.idle idle)

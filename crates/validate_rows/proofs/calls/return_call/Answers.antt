@@ -27,4 +27,4 @@ returns g c =
     let md = g.R.WasmModuleResources.context c.args.resources.now in
     let wanted = c.params.result.now in
     let fit = fits_now md wanted c.args.stacks.now.body true c.in_ok-find_operands.ensures.fit in
-    tail_moves _ _ c.args.stacks.now c.requires.open_frame (λ cx hs. return_call_row cx hs c.args.function_index) wanted c.results.result.now (search rules) _ c.in_ok-find_same_results.ensures.below fit c.requires.valid c.end_live.result _ c.grown.ensures.same c.grown.ensures.told c.end_live.ensures.exact
+    tail_moves _ _ c.args.stacks.now c.requires.open_frame (λ cx hs. return_call_row cx hs c.args.function_index) wanted c.results.result.now (search rules) _ c.in_ok-find_same_results.ensures.below fit c.requires.valid c.end_live.result c.end_live.ensures.told c.end_live.ensures.exact

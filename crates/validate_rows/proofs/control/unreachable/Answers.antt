@@ -1,14 +1,14 @@
 use Rattle.std.proofs.Common.{refl}
 use Rattle.validate_stacks.specs.Steps.{body_unreachable}
 use Rattle.validate_shapes.proofs.BranchSteps.{unreachable_is}
-use Rattle.validate_shapes.proofs.Moves.{unreachable_valid, made_moves, always_accepted}
+use Rattle.validate_shapes.proofs.Moves.{unreachable_valid, made_moves}
 use Rattle.validate_rows.proofs.control.unreachable.Goals as goal
 
 pub returns-clause-row : goal.returns-clause-row
 returns-clause-row g c =
     let md = g.R.WasmModuleResources.context c.args.resources.now in
     let v = c.args.stacks.now.body in
-    made_moves md _ _ c.args.stacks.now _ (body_unreachable v) (unreachable_is md v (body_unreachable v) c.requires.open_frame refl) (unreachable_valid md v c.requires.valid) refl c.end_live.result _ c.grown.ensures.same c.grown.ensures.told c.end_live.ensures.exact
+    made_moves md _ _ c.args.stacks.now _ (body_unreachable v) (unreachable_is md v (body_unreachable v) c.requires.open_frame refl) (unreachable_valid md v c.requires.valid) refl c.end_live.result c.end_live.ensures.told c.end_live.ensures.exact
 
 pub returns-clause-idle : goal.returns-clause-idle
-returns-clause-idle g c = λ idle. always_accepted c.end_live.result _ (c.end_live.ensures.idle idle) c.grown.ensures.same
+returns-clause-idle g c = λ idle. c.end_live.ensures.idle idle

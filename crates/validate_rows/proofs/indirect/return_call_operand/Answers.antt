@@ -32,4 +32,4 @@ pub returns : goal.returns
 returns g c =
     let wanted = c.params.result.now ++ c.args.names ∷ [] in
     let fit = fits_now (g.R.WasmModuleResources.context c.args.resources.now) wanted c.args.stacks.now.body true c.in_ok-find_under.ensures.fit in
-    tail_moves _ _ c.args.stacks.now c.requires.visit.open_frame (λ cx hs. return_call_operand_row cx hs (Some c.args.names) c.args.type_index) wanted c.results.result.now (search rules) _ c.in_ok-find_same_results.ensures.below fit c.requires.visit.valid c.end_live.result _ c.grown.ensures.same c.grown.ensures.told c.end_live.ensures.exact
+    tail_moves _ _ c.args.stacks.now c.requires.visit.open_frame (λ cx hs. return_call_operand_row cx hs (Some c.args.names) c.args.type_index) wanted c.results.result.now (search rules) _ c.in_ok-find_same_results.ensures.below fit c.requires.visit.valid c.end_live.result c.end_live.ensures.told c.end_live.ensures.exact

@@ -106,4 +106,4 @@ returns g c =
     let whole : body_dropped c.min.result v ≡ x = sym (dropped_within 3 c.min.result v (omega (arith, c.min.ensures, c.own_len-own.ensures))) ∙ (sym (dropped_next 2 v) ∙ ap body_popped (below_two v)) in
     let moved = subst (λ (y : BodyState). MatchResult c.replace.result (λ _. c.replace.new.self.body ≡ body_pushed t y) (λ _. c.replace.new.self ≡ c.args.stacks.now)) whole c.replace.ensures.exact in
     made_moves m _ _ c.args.stacks.now _ (body_pushed t x) (selects g at.In_ok-lower (Some t) c.in_ok-ty.ensures.given) (pushed_valid m t x given (popped_valid m w w_valid))
-    (kept_on v x _ (kept_on v w x (kept_on v u w (popped_kept v) (popped_kept u)) (popped_kept w)) (pushed_kept t x)) c.replace.result _ c.grown.ensures.same c.grown.ensures.told moved
+    (kept_on v x _ (kept_on v w x (kept_on v u w (popped_kept v) (popped_kept u)) (popped_kept w)) (pushed_kept t x)) c.replace.result c.replace.ensures.told moved

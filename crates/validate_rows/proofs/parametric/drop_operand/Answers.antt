@@ -9,7 +9,7 @@ use Rattle.validate_stacks.proofs.PopRuns as runs
 use Rattle.validate_stacks.proofs.Validity.{popped_valid, popped_kept}
 use Rattle.validate_shapes.proofs.Moves.{unmoved, made_moves, never_refused}
 use Rattle.validate_shapes.proofs.Rows.{drop_is}
-use Rattle.validate_rows.proofs.AtOnce.{own_found}
+use Rattle.validate_rows.proofs.Found.{own_found}
 use Rattle.validate_rows.proofs.parametric.drop_operand.Goals as goal
 
 pub returns-then-own_len-gt0-clause-row : goal.returns-then-own_len-gt0-clause-row
@@ -19,10 +19,10 @@ returns-then-own_len-gt0-clause-row g c =
     let one : body_dropped 1 v ≡ body_popped v = sym (dropped_next 0 v) ∙ ap body_popped (dropped_none v) in
     let there = own_found v (omega (arith, c.own_len.ensures, c.if-own_len-gt0.true)) in
     let moved = subst (λ (x : BodyState). MatchResult c.exchange.result (λ _. c.exchange.new.self.body ≡ x) (λ _. c.exchange.new.self ≡ c.args.stacks.now)) one c.exchange.ensures.exact in
-    made_moves md _ _ c.args.stacks.now _ (body_popped v) (drop_is md v ∙ ap (option_map (λ _. body_popped v)) there.1) (popped_valid md v c.requires.valid) (popped_kept v) c.exchange.result _ c.grown.ensures.same c.grown.ensures.told moved
+    made_moves md _ _ c.args.stacks.now _ (body_popped v) (drop_is md v ∙ ap (option_map (λ _. body_popped v)) there.1) (popped_valid md v c.requires.valid) (popped_kept v) c.exchange.result c.exchange.ensures.told moved
 
 pub returns-then-own_len-gt0-clause-idle : goal.returns-then-own_len-gt0-clause-idle
-returns-then-own_len-gt0-clause-idle g c = λ idle. never_refused _ c.exchange.result _ (c.exchange.ensures.idle idle (omega arith)) c.grown.ensures.same
+returns-then-own_len-gt0-clause-idle g c = λ idle. never_refused _ c.exchange.result (c.exchange.ensures.idle idle (omega arith))
 
 pub returns-in_err-find_any-clause-row : goal.returns-in_err-find_any-clause-row
 returns-in_err-find_any-clause-row g c =

@@ -1,4 +1,4 @@
-use Rattle.std.proofs.Common.{rules, ◌≡◌, ◌+◌, None, Some, reverse, length, true, false, List, Option, MatchResult, refl, sym, ap, ◌∙◌, subst, arith}
+use Rattle.std.proofs.Common.{rules, ◌≡◌, ◌+◌, None, reverse, length, true, false, List, Option, MatchResult, refl, sym, ap, ◌∙◌, subst, arith}
 use Rattle.std.specs.List.{AllByRecursion}
 use Rattle.std.specs.Option.{option_and_then}
 use Rattle.validate_resources.specs.Context.{ModuleContext, Valid}
@@ -19,7 +19,7 @@ use Rattle.validate_stacks.proofs.Validity.{kept_on, popped_kept, popped_valid, 
 use Rattle.validate_shapes.proofs.BranchSteps.{label_there, no_label, label_valid}
 use Rattle.validate_shapes.proofs.Moves.{unmoved, made_moves}
 use Rattle.validate_shapes.proofs.ReferenceSteps.{above_types, on_null_is, unreferenced, above_missing, above_there}
-use Rattle.validate_rows.proofs.AtOnce.{reference_valid}
+use Rattle.validate_rows.proofs.Found.{reference_valid}
 use Rattle.validate_rows.proofs.references.br_on_null.Given.{Over}
 use Rattle.validate_rows.proofs.references.br_on_null.Goals.{Start, After-label_types-types}
 use Rattle.validate_rows.proofs.references.br_on_null.Goals as goal
@@ -110,7 +110,7 @@ returns g c =
     let second = popped_each_kept m (reverse types) (below g at.Start) w passed in
     let third = pushed_each_kept m types w in
     let whole : body_dropped c.min.result v ≡ w = sym (dropped_below (length types) 1 v ∙ dropped_within (1 + length types) c.min.result v (omega (arith, c.min.ensures, c.own_len-own.ensures))) in
-    let moved = subst (λ (y : BodyState). MatchResult c.exchange_topped.result (λ _. c.exchange_topped.new.self.body ≡ body_pushed t (body_pushed_each types y)) (λ _. c.exchange_topped.new.self ≡ c.args.stacks.now)) whole c.exchange_topped.ensures in
+    let moved = subst (λ (y : BodyState). MatchResult c.exchange_topped.result (λ _. c.exchange_topped.new.self.body ≡ body_pushed t (body_pushed_each types y)) (λ _. c.exchange_topped.new.self ≡ c.args.stacks.now)) whole c.exchange_topped.ensures.exact in
     let valid = third.1 (types_valid g at.After-label_types-types) (second.1 first_valid) in
     made_moves m _ _ c.args.stacks.now _ (body_pushed t x) step (pushed_valid m t x (reference_valid m v t c.requires.valid c.in_ok-reference.ensures.given) valid)
-    (kept_on v x _ (kept_on v w x (kept_on v (below g at.Start) w first_kept second.0) third.0) (pushed_kept t x)) c.exchange_topped.result _ c.grown.ensures.same c.grown.ensures.told moved
+    (kept_on v x _ (kept_on v w x (kept_on v (below g at.Start) w first_kept second.0) third.0) (pushed_kept t x)) c.exchange_topped.result c.exchange_topped.ensures.told moved

@@ -7,7 +7,7 @@ use Rattle.validate_stacks.proofs.Validity.{kept_on, popped_valid, popped_kept, 
 use Rattle.validate_stacks.proofs.Whole.{popped_none}
 use Rattle.validate_shapes.proofs.Moves.{unmoved, made_moves}
 use Rattle.validate_shapes.proofs.ReferenceSteps.{above_is, unreferenced, above_there}
-use Rattle.validate_rows.proofs.AtOnce.{reference_valid}
+use Rattle.validate_rows.proofs.Found.{reference_valid}
 use Rattle.validate_rows.proofs.references.ref_as_non_null.Goals as goal
 
 pub returns-in_err-reference : goal.returns-in_err-reference
@@ -27,4 +27,4 @@ returns g c =
     let whole : body_dropped c.min.result v ≡ u = sym (dropped_within 1 c.min.result v (omega (arith, c.min.ensures, c.own_len-own.ensures))) ∙ (sym (dropped_next 0 v) ∙ ap body_popped (dropped_none v)) in
     let moved = subst (λ (x : BodyState). MatchResult c.replace.result (λ _. c.replace.new.self.body ≡ body_pushed t x) (λ _. c.replace.new.self ≡ c.args.stacks.now)) whole c.replace.ensures.exact in
     let valid = reference_valid md v t c.requires.valid c.in_ok-reference.ensures.given in
-    made_moves md _ _ c.args.stacks.now _ (body_pushed t u) step (pushed_valid md t u valid (popped_valid md v c.requires.valid)) (kept_on v u _ (popped_kept v) (pushed_kept t u)) c.replace.result _ c.grown.ensures.same c.grown.ensures.told moved
+    made_moves md _ _ c.args.stacks.now _ (body_pushed t u) step (pushed_valid md t u valid (popped_valid md v c.requires.valid)) (kept_on v u _ (popped_kept v) (pushed_kept t u)) c.replace.result c.replace.ensures.told moved

@@ -172,6 +172,6 @@ returns g c = λ whole same.
     let is = branches g typed c.in_ok-check_carried.ensures.passed whole same in
     let valid = all_both (Valid (md g at.Start)) others (Ref (types g typed).left ∷ []) (others_valid g at.In_ok-others) (left_is_valid g typed, tt) in
     let pushed = sym (pushed_then others (Ref (types g typed).left ∷ []) (body_dropped c.min-taken.result c.args.stacks.now.body)) in
-    let moved = subst (λ (u : BodyState). MatchResult c.exchange_topped.result (λ _. c.exchange_topped.new.self.body ≡ u) (λ _. c.exchange_topped.new.self ≡ c.args.stacks.now)) pushed c.exchange_topped.ensures in
+    let moved = subst (λ (u : BodyState). MatchResult c.exchange_topped.result (λ _. c.exchange_topped.new.self.body ≡ u) (λ _. c.exchange_topped.new.self ≡ c.args.stacks.now)) pushed c.exchange_topped.ensures.exact in
     moved_below (md g at.Start) g.A.Refused.tells whole c.args.stacks.now _ c.args.above (wanted g typed) (given g typed) is c.in_ok-find_under.ensures.fit valid c.requires.visit.valid c.min-taken.result
-    (omega (arith, c.min-taken.ensures, c.own_len.ensures, length-append others (Ref (types g typed).from ∷ []))) c.exchange_topped.result _ c.grown.ensures.same c.grown.ensures.told moved
+    (omega (arith, c.min-taken.ensures, c.own_len.ensures, length-append others (Ref (types g typed).from ∷ []))) c.exchange_topped.result c.exchange_topped.ensures.told moved

@@ -73,4 +73,4 @@ pub returns : goal.returns
 returns g c =
     let at = goal.at.returns g c in
     moved_below (md g at.After-is_exact) _ _ c.args.stacks.now _ 1 (c.operand_of_cast-operand.result ∷ []) (Ref c.in_ok-ty.ty ∷ []) (casts_below g at.After-operand_of_cast-operand) c.in_ok-find_operands.ensures.fit (c.in_ok-ty.ensures.valid, tt) c.requires.valid c.min.result
-    (omega (arith, c.min.ensures, c.own_len-own.ensures)) c.replace.result _ c.grown.ensures.same c.grown.ensures.told c.replace.ensures.exact
+    (omega (arith, c.min.ensures, c.own_len-own.ensures)) c.replace.result c.replace.ensures.told c.replace.ensures.exact

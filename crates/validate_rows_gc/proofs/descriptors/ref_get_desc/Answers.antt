@@ -64,4 +64,4 @@ returns g c =
     let there = get_there md v c.requires.open_frame c.args.type_index c.in_ok-from.from c.in_ok-exact.exact c.in_ok-from.ensures.found c.in_ok-exact.ensures.found c.in-Some.descriptor _ (c.in_ok-descriptor.ensures.found ∙ c.in-Some.is) (sym (found_first v) ∙ c.in_ok-found.ensures.found) fits in
     let step = there ∙ ap (λ (h : HeapType). Some (body_pushed (Known (Ref (non_null_reference h))) (body_popped v))) (sym (c.declared_heap.ensures ∙ ap₂ declared_heap c.is_found_exact.ensures c.unpack.ensures)) in
     let whole = one_dropped c.min.result v (omega (arith, c.min.ensures, c.own_len-own.ensures)) in
-    replaced_moves md _ _ c.args.stacks.now _ c.min.result (body_popped v) t whole step valid (popped_valid md v c.requires.valid) (popped_kept v) c.replace.result _ c.grown.ensures.same c.grown.ensures.told c.replace.ensures.exact
+    replaced_moves md _ _ c.args.stacks.now _ c.min.result (body_popped v) t whole step valid (popped_valid md v c.requires.valid) (popped_kept v) c.replace.result c.replace.ensures.told c.replace.ensures.exact

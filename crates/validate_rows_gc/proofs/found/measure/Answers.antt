@@ -19,4 +19,4 @@ returns g c =
     let v = c.args.stacks.now.body in
     let step = found_some md v c.requires.open_frame c.args.wanted (λ m x. Known I32) _ c.in_ok-find_below.ensures.found c.in_ok-find_below.ensures.passed in
     let whole = one_dropped c.min.result v (omega (arith, c.min.ensures, c.own_len-own.ensures)) in
-    replaced_moves md _ _ c.args.stacks.now _ c.min.result (body_popped v) (Known I32) whole step refl (popped_valid md v c.requires.valid) (popped_kept v) c.replace.result _ c.grown.ensures.same c.grown.ensures.told c.replace.ensures.exact
+    replaced_moves md _ _ c.args.stacks.now _ c.min.result (body_popped v) (Known I32) whole step refl (popped_valid md v c.requires.valid) (popped_kept v) c.replace.result c.replace.ensures.told c.replace.ensures.exact

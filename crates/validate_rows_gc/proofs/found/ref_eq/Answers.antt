@@ -50,4 +50,4 @@ returns g c =
     let at = goal.at.returns g c in
     let step = alike md v c.requires.open_frame u _ (top g at.In_ok-above) refl _ (next g at.In_ok-below) c.in_ok-below.ensures.passed c.in_ok-above.ensures.passed (sym c.is_same_sharedness.ensures ∙ c.if-not-is_same_sharedness.false) (body_popped u) refl in
     let whole = two_dropped c.min.result v (omega (arith, c.min.ensures, c.own_len-own.ensures)) in
-    replaced_moves md _ _ c.args.stacks.now _ c.min.result (body_popped u) (Known I32) whole step refl (popped_valid md u (popped_valid md v c.requires.valid)) (kept_on v u (body_popped u) (popped_kept v) (popped_kept u)) c.replace.result _ c.grown.ensures.same c.grown.ensures.told c.replace.ensures.exact
+    replaced_moves md _ _ c.args.stacks.now _ c.min.result (body_popped u) (Known I32) whole step refl (popped_valid md u (popped_valid md v c.requires.valid)) (kept_on v u (body_popped u) (popped_kept v) (popped_kept u)) c.replace.result c.replace.ensures.told c.replace.ensures.exact

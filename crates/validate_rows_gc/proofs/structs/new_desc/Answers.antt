@@ -111,4 +111,4 @@ returns g c =
     let given = c.in_ok-made.made ∷ [] in
     let fit = fit_below g at.After-as_slice-fields ∙ ap (λ b. true && b) c.in_ok-find_fields.ensures.fit in
     exchange_moves m _ (λ x. row_operator (struct_new_desc_row x c.args.index)) c.args.stacks.now _ all given (makes g at.After-as_slice-fields) (c.in_ok-made.ensures.valid, tt) c.requires.valid _
-    (taken m _ all (body_pushed_each given) c.args.stacks.now _ c.min-taken.result c.exchange.result _ fit (omega (arith, c.min-taken.ensures, c.own_len.ensures, length-append (values g at.After-as_slice-fields) (descriptor g at.In_ok-find_new_descriptor ∷ []), length-map c.as_slice-fields.result.now field_value)) c.grown.ensures.same c.grown.ensures.told c.exchange.ensures.exact)
+    (taken m _ all (body_pushed_each given) c.args.stacks.now _ c.min-taken.result c.exchange.result fit (omega (arith, c.min-taken.ensures, c.own_len.ensures, length-append (values g at.After-as_slice-fields) (descriptor g at.In_ok-find_new_descriptor ∷ []), length-map c.as_slice-fields.result.now field_value)) c.exchange.ensures.told c.exchange.ensures.exact)

@@ -1,16 +1,13 @@
-use Rattle.std.proofs.Common.{rules, ◌≡◌, ◌++◌, ◌+◌, true, false, List, [], length, reverse, None, Some, MatchResult, refl, sym, ap, ◌∙◌, subst, arith}
-use Rattle.std.specs.List.{AllByRecursion}
+use Rattle.std.proofs.Common.{rules, ◌≡◌, ◌++◌, ◌+◌, true, false, List, length, reverse, MatchResult, refl, sym, ap, ◌∙◌, subst, arith}
 use Rattle.std.specs.Option.{option_map}
-use Rattle.validate_resources.specs.Context.{ModuleContext, Valid}
+use Rattle.validate_resources.specs.Context.{ModuleContext}
 use Rattle.validate_types.specs.declared.types.ValType.{ValType}
 use Rattle.validation_rules.specs.Context.{block_signature}
-use Rattle.validation_rules.specs.Operators.{opening_operator}
 use Rattle.validate_stacks.specs.AtOnce.{body_dropped}
 use Rattle.validate_stacks.specs.Blocks.{body_with_block}
 use Rattle.validate_stacks.specs.Pops.{body_popped_each, body_pushed_each}
 use Rattle.validate_stacks.specs.State.{BodyState}
 use Rattle.validate_stacks.specs.Steps.{body_with_frame}
-use Rattle.validate_stacks.specs.Visits.{step_body}
 use Rattle.validate_stacks.proofs.AtOnce.{dropped_open, dropped_within, popped_dropped}
 use Rattle.validate_stacks.proofs.ClosedFrames.{entered_is, takes_valid}
 use Rattle.validate_stacks.proofs.Moves.{dropped_below, fits_now, not_popped}
@@ -78,5 +75,5 @@ returns g c =
     let whole : body_dropped c.min-taken.result v ≡ u = sym (dropped_below (length ps) k v ∙ dropped_within (k + length ps) c.min-taken.result v (omega (arith, c.min-taken.ensures, c.own_len-own.ensures, c.saturating_add.ensures))) in
     let entered = ap (λ (x : BodyState). body_pushed_each ps (body_with_frame kind bt x)) whole ∙ entered_is m kind bt u (body_with_frame kind bt u) ps c.params-params.ensures refl in
     let moved = opened_moved m v kind c.args.above.now bt c.requires.visit.open_frame laws c.requires.visit.valid c.requires.block u popped in
-    made_moves m _ _ c.args.stacks.now _ (body_with_block m kind bt u) moved.step moved.valid moved.kept c.open.result _ c.grown.ensures.same c.grown.ensures.told
-    (subst (λ (x : BodyState). MatchResult c.open.result (λ _. c.open.new.self.body ≡ x) (λ _. c.open.new.self ≡ c.args.stacks.now)) entered c.open.ensures)
+    made_moves m _ _ c.args.stacks.now _ (body_with_block m kind bt u) moved.step moved.valid moved.kept c.open.result c.open.ensures.told
+    (subst (λ (x : BodyState). MatchResult c.open.result (λ _. c.open.new.self.body ≡ x) (λ _. c.open.new.self ≡ c.args.stacks.now)) entered c.open.ensures.exact)

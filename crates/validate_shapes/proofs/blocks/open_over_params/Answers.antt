@@ -1,4 +1,4 @@
-use Rattle.std.proofs.Common.{rules, [], refl}
+use Rattle.std.proofs.Common.{[], refl}
 use Rattle.validation_rules.specs.Operators.{opening_operator}
 use Rattle.validate_shapes.proofs.Moves.{moves_then}
 use Rattle.validate_shapes.proofs.OpenerSteps.{entered_moves}

@@ -1,4 +1,4 @@
-use Rattle.std.proofs.Common.{rules, [], ◌∷◌, ◌≡◌, None, Some, sym, ◌∙◌, refl}
+use Rattle.std.proofs.Common.{rules, [], ◌∷◌, ◌≡◌, None, Some, ◌∙◌, refl}
 use Rattle.validation_rules.specs.Operators.{opener, opening_operator, checked_block}
 use Rattle.validation_rules.specs.Context.{I32}
 use Rattle.validate_visit.specs.declared.frame.FrameKind.TheVariants.{If}

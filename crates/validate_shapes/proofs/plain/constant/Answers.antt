@@ -9,4 +9,4 @@ returns g c =
     let md = g.R.WasmModuleResources.context c.args.resources.now in
     let s = c.args.stacks.now in
     let given = c.args.given ∷ [] in
-    exchange_moves md _ _ s _ [] given (plain_is md s.body [] given c.requires.visit.open_frame) (c.requires.given, tt) c.requires.visit.valid _ (given_alone md _ (body_pushed_each given) s _ c.push_operand.result _ c.grown.ensures.same c.grown.ensures.told c.push_operand.ensures.exact)
+    exchange_moves md _ _ s _ [] given (plain_is md s.body [] given c.requires.visit.open_frame) (c.requires.given, tt) c.requires.visit.valid _ (given_alone md _ (body_pushed_each given) s _ c.push_operand.result c.push_operand.ensures.told c.push_operand.ensures.exact)

@@ -31,7 +31,7 @@ returns-clause-row g c =
     let md = g.R.WasmModuleResources.context c.args.resources.now in
     let v = c.args.stacks.now.body in
     let types = c.args.types.now in
-    ended_moves md _ _ c.args.stacks.now _ types (ending_is md v c.requires.visit.open_frame types) (fits_now md types v true c.in_ok-find_operands.ensures.fit) c.requires.visit.valid c.end_live.result _ c.grown.ensures.same c.grown.ensures.told c.end_live.ensures.exact
+    ended_moves md _ _ c.args.stacks.now _ types (ending_is md v c.requires.visit.open_frame types) (fits_now md types v true c.in_ok-find_operands.ensures.fit) c.requires.visit.valid c.end_live.result c.end_live.ensures.told c.end_live.ensures.exact
 
 pub returns-clause-idle : goal.returns-clause-idle
-returns-clause-idle g c = λ idle. never_refused _ c.end_live.result _ (c.end_live.ensures.idle idle) c.grown.ensures.same
+returns-clause-idle g c = λ idle. never_refused _ c.end_live.result (c.end_live.ensures.idle idle)

@@ -6,7 +6,7 @@ use Rattle.validate_stacks.proofs.Changed.{entry_steps}
 use Rattle.validate_stacks.proofs.change.record.Goals as goal
 
 pub returns-clause-exact : goal.returns-clause-exact
-returns-clause-exact c =
+returns-clause-exact g c =
     let t = c.args.transaction.now in
     let xs = take c.args.change.taken c.args.operands.now.items in
     let gs = c.args.change.given.now in

@@ -19,8 +19,8 @@ returns-then-passes_at_once-clause-valid g c = visit_valid _ _ _ _ _ _ (returns-
 pub returns-then-passes_at_once-clause-kept : goal.returns-then-passes_at_once-clause-kept
 returns-then-passes_at_once-clause-kept g c = visit_kept _ _ _ _ _ _ (returns-then-passes_at_once-clause-row g c)
 
-pub check_in_place-requires : goal.check_in_place-requires
-check_in_place-requires g c =
+pub check_slowly-requires : goal.check_slowly-requires
+check_slowly-requires g c =
     let md = g.R.WasmModuleResources.context c.args.resources.now in
     let same = same_at_once md (λ cx. operator cx c.args.op.now) (stacks_of c.args.self.now) (stacks_of c.passes_at_once.new.self) c.passes_at_once.result c.passes_at_once.ensures c.if-passes_at_once.false in
     subst (MayVisit md) (sym same) c.requires
@@ -28,13 +28,13 @@ check_in_place-requires g c =
 pub returns-clause-row : goal.returns-clause-row
 returns-clause-row g c =
     let md = g.R.WasmModuleResources.context c.args.resources.now in
-    row_before md (λ cx. operator cx c.args.op.now) c.args.offset (stacks_of c.args.self.now) (stacks_of c.passes_at_once.new.self) c.passes_at_once.result c.check_in_place.result _ c.passes_at_once.ensures c.if-passes_at_once.false c.check_in_place.ensures.row
+    row_before md (λ cx. operator cx c.args.op.now) c.args.offset (stacks_of c.args.self.now) (stacks_of c.passes_at_once.new.self) c.passes_at_once.result c.check_slowly.result _ c.passes_at_once.ensures c.if-passes_at_once.false c.check_slowly.ensures.row
 
 pub returns-clause-memory : goal.returns-clause-memory
 returns-clause-memory g c =
     let md = g.R.WasmModuleResources.context c.args.resources.now in
     let same = same_at_once md (λ cx. operator cx c.args.op.now) (stacks_of c.args.self.now) (stacks_of c.passes_at_once.new.self) c.passes_at_once.result c.passes_at_once.ensures c.if-passes_at_once.false in
-    subst (λ (s : Stacked). TakesNoMemory md c.args.op.now s.body c.check_in_place.result) same c.check_in_place.ensures.memory
+    subst (λ (s : Stacked). TakesNoMemory md c.args.op.now s.body c.check_slowly.result) same c.check_slowly.ensures.memory
 
 pub returns-clause-valid : goal.returns-clause-valid
 returns-clause-valid g c = visit_valid _ _ _ _ _ _ (returns-clause-row g c)

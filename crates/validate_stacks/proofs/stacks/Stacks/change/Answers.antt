@@ -14,53 +14,54 @@ use Rattle.validate_stacks.proofs.AtOnce.{own_within}
 use Rattle.validate_stacks.proofs.Changed.{Allowed, changed_there, length_given, one_above, some_flat}
 use Rattle.validate_stacks.proofs.Cuts.{state_of}
 use Rattle.validate_stacks.proofs.Undone.{sound_room, sound_order_room, inits_within}
+use Rattle.validate_stacks.proofs.stacks.Stacks.change.Given.{Over}
 use Rattle.validate_stacks.proofs.stacks.Stacks.change.Goals as goal
 
 pub invariant_of-self : goal.invariant_of-self
-invariant_of-self c =
+invariant_of-self g c =
     let s = c.self.inside in
     rw (c.make_room.ensures.operands, c.make_room.ensures.frames, c.make_room.ensures.order, c.make_room.ensures.set_at_entry)
     (sound_order_room c.make_room.new.control.room s.control.items c.make_room.new.operands.room s.operands.items s.inits.room c.make_room.new.inits.room s.inits.set_at_entry s.inits.order s.transaction s.locals c.make_room.ensures.order_room
     (sound_room s.control.room c.make_room.new.control.room s.control.items s.operands.room c.make_room.new.operands.room s.operands.items s.inits.room s.inits.set_at_entry s.inits.order s.transaction s.locals c.make_room.ensures.frames_room c.make_room.ensures.operands_room c.self.invariant))
 
 pub invariant_of-self-in_err-record : goal.invariant_of-self-in_err-record
-invariant_of-self-in_err-record c =
+invariant_of-self-in_err-record g c =
     let s = c.self.inside in
     rw (c.make_room.ensures.operands, c.make_room.ensures.frames, c.make_room.ensures.order, c.make_room.ensures.set_at_entry, c.in_err-record.ensures.exact)
     (sound_order_room c.make_room.new.control.room s.control.items c.make_room.new.operands.room s.operands.items s.inits.room c.make_room.new.inits.room s.inits.set_at_entry s.inits.order s.transaction s.locals c.make_room.ensures.order_room
     (sound_room s.control.room c.make_room.new.control.room s.control.items s.operands.room c.make_room.new.operands.room s.operands.items s.inits.room s.inits.set_at_entry s.inits.order s.transaction s.locals c.make_room.ensures.frames_room c.make_room.ensures.operands_room c.self.invariant))
 
 pub record-requires-clause-taken : goal.record-requires-clause-taken
-record-requires-clause-taken c =
+record-requires-clause-taken g c =
     let s = c.self.inside in
     let own = subst (λ (v : BodyState). c.args.change.taken ≤ length (innermost_operands v.present.frames)) (sym (ap body_of c.self.view_is)) c.requires.own in
     omega (arith, own, own_within s.control.items s.operands.items s.inits.order, ap length c.make_room.ensures.operands)
 
 pub record-requires-clause-closed : goal.record-requires-clause-closed
-record-requires-clause-closed c f h =
+record-requires-clause-closed g c f h =
     let s = c.self.inside in
     let within = inits_within s.control.items f (length s.operands.items) (length s.inits.order) (ap (λ fs. slice_get fs 0) (sym c.make_room.ensures.frames) ∙ h) c.self.invariant.shape in
     omega (arith, within, ap length c.make_room.ensures.order)
 
 pub overflow_sub-height : goal.overflow_sub-height
-overflow_sub-height c =
+overflow_sub-height g c =
     let s = c.self.inside in
     let own = subst (λ (v : BodyState). c.args.change.taken ≤ length (innermost_operands v.present.frames)) (sym (ap body_of c.self.view_is)) c.requires.own in
     omega (arith, own, own_within s.control.items s.operands.items s.inits.order, ap length c.make_room.ensures.operands, c.len.ensures.value)
 
 pub give-requires : goal.give-requires
-give-requires c =
+give-requires g c =
     let s = c.self.inside in
     let own = subst (λ (v : BodyState). c.args.change.taken ≤ length (innermost_operands v.present.frames)) (sym (ap body_of c.self.view_is)) c.requires.own in
     omega (arith, own, own_within s.control.items s.operands.items s.inits.order, ap length c.make_room.ensures.operands, c.len.ensures.value, ap length c.truncate.ensures.items, length-drop (length c.make_room.new.operands.items - (c.len.result - c.args.change.taken)) c.make_room.new.operands.items, c.truncate.ensures.room, c.in_ok-given.ensures.for_operands)
 
 pub put_top-requires : goal.put_top-requires
-put_top-requires c some =
+put_top-requires g c some =
     let s = c.self.inside in
     let own = subst (λ (v : BodyState). c.args.change.taken ≤ length (innermost_operands v.present.frames)) (sym (ap body_of c.self.view_is)) c.requires.own in
     omega (arith, own, own_within s.control.items s.operands.items s.inits.order, ap length c.make_room.ensures.operands, c.len.ensures.value, ap length c.truncate.ensures.items, length-drop (length c.make_room.new.operands.items - (c.len.result - c.args.change.taken)) c.make_room.new.operands.items, c.truncate.ensures.room, c.in_ok-given.ensures.for_operands, ap length c.give.ensures.items, length_given c.args.change.given.now c.truncate.new.self.items, c.give.ensures.never_less, one_above c.args.change.top some)
 
-module _ (c : goal.After-put_top) where
+module _ (g : Over) (c : goal.After-put_top g) where
   abbrev n : ℕ
   n = c.args.change.taken
 
@@ -161,7 +162,7 @@ module _ (c : goal.After-put_top) where
       frames items order log entries
 
 pub invariant_of-self-2 : goal.invariant_of-self-2
-invariant_of-self-2 c = (both c).0
+invariant_of-self-2 g c = (both g c).0
 
 pub returns-clause-exact : goal.returns-clause-exact
-returns-clause-exact c = (both c).1 ∙ ap (body_changed c.args.change) (ap body_of c.self.view_is)
+returns-clause-exact g c = (both g c).1 ∙ ap (body_changed c.args.change) (ap body_of c.self.view_is)

@@ -16,4 +16,4 @@ pub returns : goal.returns
 returns g c =
     let md = g.R.WasmModuleResources.context c.args.resources.now in
     let fit = fits_now md (unpacked_fields c.args.fields.now) c.args.self.now.body true c.in_ok-find_fields.ensures.fit in
-    taken md _ (unpacked_fields c.args.fields.now) (body_pushed_each c.args.given.now) c.args.self.now _ c.min.result c.exchange.result _ fit (omega (arith, c.min.ensures, c.own_len-own.ensures, length-map c.args.fields.now field_value)) c.grown.ensures.same c.grown.ensures.told c.exchange.ensures.exact
+    taken md _ (unpacked_fields c.args.fields.now) (body_pushed_each c.args.given.now) c.args.self.now _ c.min.result c.exchange.result fit (omega (arith, c.min.ensures, c.own_len-own.ensures, length-map c.args.fields.now field_value)) c.exchange.ensures.told c.exchange.ensures.exact

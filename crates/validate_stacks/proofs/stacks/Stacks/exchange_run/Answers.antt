@@ -12,4 +12,4 @@ returns-in_err-find_run g c =
 pub returns : goal.returns
 returns g c =
     let md = g.R.WasmModuleResources.context c.args.resources.now in
-    taken md _ (replicate c.args.count c.args.elem) (body_pushed_each c.args.given.now) c.args.self.now _ c.min.result c.exchange.result _ c.in_ok-find_run.ensures.fit (omega (arith, c.min.ensures, c.own_len-own.ensures, length-replicate c.args.count c.args.elem)) c.grown.ensures.same c.grown.ensures.told c.exchange.ensures.exact
+    taken md _ (replicate c.args.count c.args.elem) (body_pushed_each c.args.given.now) c.args.self.now _ c.min.result c.exchange.result c.in_ok-find_run.ensures.fit (omega (arith, c.min.ensures, c.own_len-own.ensures, length-replicate c.args.count c.args.elem)) c.exchange.ensures.told c.exchange.ensures.exact

@@ -14,7 +14,7 @@ pub returns : goal.returns
 returns g c =
     let md = g.R.WasmModuleResources.context c.args.resources.now in
     let fit = fits_now md (c.args.ty ∷ []) c.args.self.now.body true c.in_ok-find_among.ensures.fit in
-    taken md _ (c.args.ty ∷ []) (body_set_then c.args.local_index c.args.given.now) c.args.self.now _ c.min.result c.set_local.result _ fit (omega (arith, c.min.ensures, c.own_len-own.ensures)) c.grown.ensures.same c.grown.ensures.told c.set_local.ensures
+    taken md _ (c.args.ty ∷ []) (body_set_then c.args.local_index c.args.given.now) c.args.self.now _ c.min.result c.set_local.result fit (omega (arith, c.min.ensures, c.own_len-own.ensures)) c.set_local.ensures.told c.set_local.ensures.exact
 
 pub set_local-requires-clause-set : goal.set_local-requires-clause-set
 set_local-requires-clause-set g c = step_set c.args.self.now c.requires.visit.attempt

@@ -13,4 +13,4 @@ pub returns : goal.returns
 returns g c =
     let md = g.R.WasmModuleResources.context c.args.resources.now in
     let fit = fits_now md c.args.wanted.now c.args.self.now.body true c.in_ok-find_among.ensures.fit in
-    taken md _ c.args.wanted.now (body_pushed_each c.args.given.now) c.args.self.now _ c.min.result c.exchange.result _ fit (omega (arith, c.min.ensures, c.own_len-own.ensures)) c.grown.ensures.same c.grown.ensures.told c.exchange.ensures.exact
+    taken md _ c.args.wanted.now (body_pushed_each c.args.given.now) c.args.self.now _ c.min.result c.exchange.result fit (omega (arith, c.min.ensures, c.own_len-own.ensures)) c.exchange.ensures.told c.exchange.ensures.exact

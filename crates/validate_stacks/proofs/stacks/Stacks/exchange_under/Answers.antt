@@ -16,4 +16,4 @@ returns g c =
     let md = g.R.WasmModuleResources.context c.args.resources.now in
     let wanted = c.args.under.now ++ c.args.above ∷ [] in
     let fit = fits_now md wanted c.args.self.now.body true c.in_ok-find_under.ensures.fit in
-    taken md _ wanted (body_pushed_each c.args.given.now) c.args.self.now _ c.min.result c.exchange.result _ fit (omega (arith, c.min.ensures, c.saturating_add.ensures, c.own_len-own.ensures, length-append c.args.under.now (c.args.above ∷ []))) c.grown.ensures.same c.grown.ensures.told c.exchange.ensures.exact
+    taken md _ wanted (body_pushed_each c.args.given.now) c.args.self.now _ c.min.result c.exchange.result fit (omega (arith, c.min.ensures, c.saturating_add.ensures, c.own_len-own.ensures, length-append c.args.under.now (c.args.above ∷ []))) c.exchange.ensures.told c.exchange.ensures.exact

@@ -1,7 +1,6 @@
-use Rattle.std.proofs.Common.{◌≡◌, ◌&&◌, ℕ, true, false, sym, ap, ap₂, ◌∙◌, arith, replicate}
-use Rattle.validate_stacks.specs.Pops.{has_operands_fitting, may_pop}
+use Rattle.std.proofs.Common.{◌≡◌, ◌&&◌, ℕ, true, sym, ap, ap₂, ◌∙◌, arith, replicate}
+use Rattle.validate_stacks.specs.Pops.{has_operands_fitting}
 use Rattle.validate_stacks.specs.State.{body_context}
-use Rattle.validate_stacks.specs.Steps.{found_after_pops_in_body}
 use Rattle.validate_stacks.proofs.PopRuns.{run_cut, run_beyond}
 use Rattle.validate_stacks.proofs.stacks.Stacks.find_run.Goals as goal
 use Rattle.validate_stacks.proofs.stacks.Stacks.find_run.Goals.{else-own-count-via-then-own-count+else-not-is_fitting_at, else-own-count-via-else-own-count}

@@ -1,4 +1,4 @@
-use Rattle.std.proofs.Common.{rules, ◌&&◌, [], ◌∷◌, true, false, ap, ap₂, ◌∙◌}
+use Rattle.std.proofs.Common.{rules, ◌&&◌, ap, ap₂, ◌∙◌}
 use Rattle.validate_stacks.specs.Pops.{has_operands_fitting}
 use Rattle.validate_stacks.specs.State.{body_context}
 use Rattle.validate_stacks.specs.AtOnce.{body_dropped}

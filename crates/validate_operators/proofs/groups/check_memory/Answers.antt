@@ -1,4 +1,0 @@
-use Rattle.validate_operators.proofs.groups.check_memory.Goals as goal
-
-pub returns : goal.returns
-returns g c = c.checked.ensures.row _ _ c.gated_memory-answer.ensures c.requires.valid

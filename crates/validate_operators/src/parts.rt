@@ -1,0 +1,120 @@
+//! What upstream has done to a part when it refuses the operator that ends it.
+
+ghost use Rattle.std.specs.Prelude.{◌≡◌};
+ghost use Rattle.std.specs.List.{AllByRecursion};
+ghost use Rattle.std.specs.Option.{ForSome};
+ghost use Rattle.validate_resources.specs.Context.{Valid};
+ghost use Rattle.validate_stacks.specs.Pops.{IsKept};
+ghost use Rattle.validate_stacks.specs.State.{IsValidBody};
+ghost use Rattle.validate_stacks.specs.Steps.{frame_at};
+ghost use Rattle.validate_stacks.specs.Visits.{MayVisit};
+
+use validate_resources::WasmModuleResources;
+use validate_stacks::Stacks;
+use validate_stacks::blocks::{params, results};
+use validate_types::{NotDone, Refusal, Told, ValType};
+use validate_visit::{BlockType, ControlOp, ExceptionOp, FrameKind, Op};
+
+/// Ends the innermost frame, and begins the next part, as far as upstream has when it refuses this operator so: where the
+/// frame's results aren't there, it has done neither. An error is want of memory, and nothing is changed then.
+pub(crate) fn end_part<R: WasmModuleResources>(
+    stacks: &mut Stacks,
+    resources: &R,
+    op: &Op,
+    told: &Told,
+) -> Result<(), Told>
+    requires { MayVisit (R.context resources.now) stacks.old }
+    ensures valid { IsValidBody (R.context resources.now) stacks.new.body }
+    ensures kept { IsKept stacks.old.body stacks.new.body }
+{
+    if !ends_part(op, told) {
+        return Ok(());
+    }
+    let Some(frame) = stacks.get_frame(0) else {
+        return Ok(());
+    };
+    let (kind, block_type) = (frame.kind, frame.block_type);
+    if !has_results(stacks, resources, block_type) {
+        return Ok(());
+    }
+    match op {
+        Op::Control(ControlOp::End) if matches!(kind, FrameKind::If) => {
+            let given = params(resources, &block_type);
+            begin_part(stacks, resources, FrameKind::Else, block_type, given)
+        }
+        Op::Exception(ExceptionOp::Catch(_)) if is_tag_refused(told) => {
+            begin_part(stacks, resources, FrameKind::LegacyCatch, block_type, &[])
+        }
+        _ => close_part(stacks, resources),
+    }
+}
+
+/// Whether the operator ends a part, unless it is refused so.
+fn ends_part(op: &Op, told: &Told) -> bool {
+    if let Told::Rule(Refusal::Closed(_) | Refusal::OutOfMemory) = told {
+        return false;
+    }
+    match op {
+        Op::Control(op) => matches!(op, ControlOp::Else | ControlOp::End),
+        Op::Exception(op) => matches!(
+            op,
+            ExceptionOp::Catch(_) | ExceptionOp::CatchAll | ExceptionOp::Delegate(_)
+        ),
+        _ => false,
+    }
+}
+
+fn is_tag_refused(told: &Told) -> bool {
+    matches!(
+        told,
+        Told::Rule(Refusal::UnknownTag(_) | Refusal::TagWithResults)
+    )
+}
+
+/// Whether the own operands of the innermost frame, which has this type, are its results.
+fn has_results<R: WasmModuleResources>(
+    stacks: &Stacks,
+    resources: &R,
+    block_type: BlockType,
+) -> bool
+    requires visit { MayVisit (R.context resources.now) stacks.now }
+    requires frame { ForSome (frame_at stacks.now.body 0) (λ f. f.block_type ≡ block_type) }
+{
+    let found: Result<usize, NotDone> = stacks.find_results(
+        resources,
+        results(resources, &block_type),
+    );
+    found.is_ok()
+}
+
+/// Closes the innermost frame, without results.
+fn close_part<R: WasmModuleResources>(stacks: &mut Stacks, resources: &R) -> Result<(), Told>
+    requires { MayVisit (R.context resources.now) stacks.old }
+    ensures valid { IsValidBody (R.context resources.now) stacks.new.body }
+    ensures kept { IsKept stacks.old.body stacks.new.body }
+{
+    // The contract alone reads it.
+    let _resources = resources;
+    let taken = stacks.own_len();
+    stacks.close(taken, &[])
+}
+
+/// Opens a frame in the place of the innermost one, of the same type, with an operand of each of these types.
+fn begin_part<R: WasmModuleResources>(
+    stacks: &mut Stacks,
+    resources: &R,
+    kind: FrameKind,
+    block_type: BlockType,
+    given: &[ValType],
+) -> Result<(), Told>
+    requires visit { MayVisit (R.context resources.now) stacks.old }
+    requires frame { ForSome (frame_at stacks.old.body 0) (λ f. f.block_type ≡ block_type) }
+    requires given { AllByRecursion (Valid (R.context resources.now)) given.now }
+    ensures valid { IsValidBody (R.context resources.now) stacks.new.body }
+    ensures kept { IsKept stacks.old.body stacks.new.body }
+{
+    // The contract alone reads it.
+    let _resources = resources;
+    let taken = stacks.own_len();
+    stacks.reopen_with(taken, kind, block_type, given)
+}

@@ -21,7 +21,7 @@ fn read_vector_constant(reader: &mut BinaryReader<'_>) -> Result<bool, ReadError
     ensures passed { IfOk result (λ is_constant. is_constant ≡ false → reader.new ≡ reader.old) }
 {
     let offset = reader.offset();
-    if !reader.reads(0xfd)? {
+    if !reader.read_if(0xfd)? {
         return Ok(false);
     }
     if reader.read_var_u32()? != 12 {
@@ -118,7 +118,7 @@ pub(crate) fn read_expression<'a>(
         ≡ Some (record { bytes = read.left; functions = names }, reader.new.left))
         × (functions.new.items ≡ functions.old.items ++ names)) }
 {
-    let mut start = reader.again();
+    let mut start = reader.duplicate();
     read_operators(reader, canonical, lists, functions)?;
     let count = start.bytes_left().saturating_sub(reader.bytes_left());
     start.part(count)

@@ -172,7 +172,7 @@ impl TypeSection {
         };
         let explicit = read_mark(reader, 0x4e)?;
         let count = read_count(reader, explicit)?;
-        let mut again = reader.again();
+        let mut again = reader.duplicate();
         let types = read_rolled(alloc, reader, &self.canonical, count)?;
         let words = words_of(alloc, &types, offset)?;
         let stands = groups.stand(Group { first, types }, words)?;

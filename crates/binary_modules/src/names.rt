@@ -59,7 +59,7 @@ pub fn read_function_names<'a>(
     section: &BinaryReader<'a>,
 ) -> Result<FunctionNames<'a>, ReadError> {
     let mut names = FunctionNames::new(alloc);
-    let mut reader = section.again();
+    let mut reader = section.duplicate();
     if let Err(error) = names.read_section(&mut reader) {
         if matches!(error.cause, Cause::OutOfMemory) {
             return Err(error);

@@ -34,7 +34,7 @@ fn check_name(id: u8, contents: &BinaryReader<'_>) -> Result<(), ReadError>
     ensures { OnOk result (is_named (record { id = id; contents = contents.now.left }) ≡ true) }
 {
     if id == 0 {
-        let _name = read_name(&mut contents.again())?;
+        let _name = read_name(&mut contents.duplicate())?;
     }
     Ok(())
 }
@@ -79,7 +79,7 @@ pub(crate) fn contents_of<'a>(sections: &[ContentSection<'a>], id: u8) -> Binary
 {
     for section in sections {
         if section.id == id {
-            return section.contents.again();
+            return section.contents.duplicate();
         }
     }
     BinaryReader::new(NO_ITEMS.as_slice())
@@ -94,7 +94,7 @@ pub(crate) fn section_contents<'a>(
 {
     for section in sections {
         if section.id == id {
-            return Some(section.contents.again());
+            return Some(section.contents.duplicate());
         }
     }
     None

@@ -203,7 +203,7 @@ pub(crate) fn read_mark(reader: &mut BinaryReader<'_>, code: u8) -> Result<bool,
     ensures read { IfOk result (λ mark. marked code reader.old.left ≡ Some (mark, reader.new.left)) }
     ensures refused { OnErr result (marked code reader.old.left ≡ None) }
 {
-    reader.reads(code)
+    reader.read_if(code)
 }
 
 /// Reads the index of a type behind this code, if the code stands there.

@@ -189,7 +189,7 @@ fn check_data_count(
 
 /// What stands in a name section, behind its name, if the section is one.
 fn names_in<'a>(section: &ContentSection<'a>) -> Option<BinaryReader<'a>> {
-    let mut contents = section.contents.again();
+    let mut contents = section.contents.duplicate();
     if section.id == 0 && matches!(read_name(&mut contents), Ok("name")) {
         return Some(contents);
     }

@@ -63,7 +63,7 @@ impl<'a> BinaryReader<'a> {
     }
 
     /// Another reader of what is left.
-    pub fn again(&self) -> BinaryReader<'a>
+    pub fn duplicate(&self) -> BinaryReader<'a>
         ensures { result ≡ self.now }
     {
         BinaryReader {
@@ -139,7 +139,7 @@ impl<'a> BinaryReader<'a> {
 
     /// Reads a byte that is this one at most. It refuses where none is left, `unexpected end`, and a greater one for
     /// this fault.
-    pub fn read_code(&mut self, most: u8, fault: Fault) -> Result<u8, ReadError>
+    pub fn read_up_to(&mut self, most: u8, fault: Fault) -> Result<u8, ReadError>
         ensures read { IfOk result (λ byte. self.old.left ≡ byte ∷ self.new.left) }
         ensures within { IfOk result (λ byte. byte ≤ most) }
         ensures refused { OnErr result ((byte : ℕ) → take 1 self.old.left ≡ byte ∷ [] → most < byte) }
@@ -153,7 +153,7 @@ impl<'a> BinaryReader<'a> {
 
     /// Reads the next byte if it is this one, and answers whether it is. It refuses where none is left:
     /// `unexpected end`.
-    pub fn reads(&mut self, code: u8) -> Result<bool, ReadError>
+    pub fn read_if(&mut self, code: u8) -> Result<bool, ReadError>
         ensures read { IfOk result (λ is_code. IsTrue is_code → self.old.left ≡ code ∷ self.new.left) }
         ensures passed { IfOk result (λ is_code. is_code ≡ false → self.new ≡ self.old) }
         ensures other { IfOk result (λ is_code. is_code ≡ false → take 1 self.old.left ≢ code ∷ []) }

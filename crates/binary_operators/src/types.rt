@@ -136,7 +136,7 @@ pub fn read_heap_type(
         ≡ Some (ty, reader.new.left)) }
     ensures refused { OnErr result (heap_type canonical.entry reader.old.left ≡ None) }
 {
-    let shared = reader.reads(0x65)?;
+    let shared = reader.read_if(0x65)?;
     let offset = reader.offset();
     let code = reader.peek()?;
     if let Some(ty) = abstract_type(code) {

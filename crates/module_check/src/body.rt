@@ -21,7 +21,7 @@ use validate_visit::BodyKind;
 
 /// Reads the locals of a body of this kind, if it has some, and its operators up to the end of the bytes, and
 /// checks them by its validator, which is new. In a constant expression each is to be constant.
-fn check_begun<R: WasmModuleResources>(
+fn check_body_from<R: WasmModuleResources>(
     v: &mut OperatorValidator,
     resources: &R,
     reader: &mut BinaryReader<'_>,
@@ -77,7 +77,7 @@ pub fn check_body<R: WasmModuleResources>(
     } = buffers;
     match validator.start_body(resources, features, kind, reader.offset()) {
         Ok(()) => {
-            let checked = check_begun(
+            let checked = check_body_from(
                 validator, resources, reader, canonical, lists, kind, constant,
             );
             Verdict::of_check(checked)

@@ -201,7 +201,7 @@ impl<'a> LoadedModule<'a> {
         ensures types { IfSome result (λ code. AreTypesOf self.now code.types) }
     {
         let body = self.body_of(function)?;
-        Some(CodeReader::new(body.again(), self.types()))
+        Some(CodeReader::new(body.duplicate(), self.types()))
     }
 
     /// A reader of the code of a constant expression of this module.
@@ -209,7 +209,7 @@ impl<'a> LoadedModule<'a> {
         ensures code { result.reader ≡ expression.now.bytes }
         ensures types { AreTypesOf self.now result.types }
     {
-        CodeReader::new(expression.bytes.again(), self.types())
+        CodeReader::new(expression.bytes.duplicate(), self.types())
     }
 
     /// The types of the module, by which indices in its bodies are read.
@@ -231,7 +231,7 @@ impl<'a> LoadedModule<'a> {
             × IsScopedCode (declared self.now) (operator_features self.now.features) types kind
             (may_stand constant.entry) bytes.now.left }
     {
-        let mut reader = bytes.again();
+        let mut reader = bytes.duplicate();
         let types = self.types();
         check_body(
             &self.lists,

@@ -58,7 +58,7 @@ pub struct ModuleVerdict {
 }
 
 /// The kind and the index of what is reported.
-fn place_of(item: Option<Item>) -> (u32, u64) {
+fn kind_and_index(item: Option<Item>) -> (u32, u64) {
     match item {
         Some(Item::Function(index)) => (0, u64::from(index)),
         Some(Item::Expression(Place::Table(index))) => (1, u64::from(index)),
@@ -116,7 +116,7 @@ impl ModuleVerdict {
         ensures not_covered { self.new.not_covered ≡ self.old.not_covered }
         ensures fits { self.new.text_length ≤ length text.new }
     {
-        let (kind, index) = place_of(item);
+        let (kind, index) = kind_and_index(item);
         self.status = status;
         self.kind = kind;
         self.index = index;

@@ -1,6 +1,6 @@
 //! What the program's words choose.
 
-use crate::failure::Failure;
+use crate::unmeasured::Unmeasured;
 use std::env;
 
 /// What the words choose.
@@ -13,20 +13,20 @@ pub struct Choice {
 }
 
 /// Reads the program's words.
-pub fn read_choice(rt: &HostRuntime) -> Result<Choice, Failure> {
+pub fn read_choice(rt: &HostRuntime) -> Result<Choice, Unmeasured> {
     let mut choice = Choice {
         runs: 20,
         untimed: false,
     };
-    let mut words = env::args(rt).map_err(|_| Failure::Host)?.skip(1);
+    let mut words = env::args(rt).map_err(|_| Unmeasured::Host)?.skip(1);
     while let Some(word) = words.next() {
         match word.as_str() {
             "--untimed" => choice.untimed = true,
             "--runs" => {
-                let runs = words.next().ok_or(Failure::Words)?;
-                choice.runs = runs.parse().map_err(|_| Failure::Words)?;
+                let runs = words.next().ok_or(Unmeasured::Words)?;
+                choice.runs = runs.parse().map_err(|_| Unmeasured::Words)?;
             }
-            _ => return Err(Failure::Words),
+            _ => return Err(Unmeasured::Words),
         }
     }
     Ok(choice)

@@ -8,12 +8,12 @@
 #![tactic(auto)]
 
 mod choice;
-mod failure;
 mod measure;
+mod unmeasured;
 
 use crate::choice::{Choice, read_choice};
-use crate::failure::Failure;
 use crate::measure::{Subject, Way, best_time};
+use crate::unmeasured::Unmeasured;
 use script_reader::{Script, read_script};
 use std::io;
 use std::process::ExitCode;
@@ -26,22 +26,22 @@ fn report(
     way: Way,
     best: u128,
     count: usize,
-) -> Result<(), Failure> {
+) -> Result<(), Unmeasured> {
     let name = way.name();
     if choice.untimed || count == 0 {
-        return println!(rt; "{name}: {count} operators").map_err(|_| Failure::Host);
+        return println!(rt; "{name}: {count} operators").map_err(|_| Unmeasured::Host);
     }
     let hundredths = best.saturating_mul(100) / count as u128;
     let whole = hundredths / 100;
     let rest = hundredths % 100;
-    println!(rt; "{name}: {whole}.{rest:02} ns, {count} operators").map_err(|_| Failure::Host)
+    println!(rt; "{name}: {whole}.{rest:02} ns, {count} operators").map_err(|_| Unmeasured::Host)
 }
 
 /// Measures each way that the body of the script is checked.
-fn run(rt: &HostRuntime) -> Result<(), Failure> {
+fn run(rt: &HostRuntime) -> Result<(), Unmeasured> {
     let alloc = rt.alloc();
     let choice = read_choice(rt)?;
-    let text = io::read_to_string(alloc, rt.stdin()).map_err(|_| Failure::Script)?;
+    let text = io::read_to_string(alloc, rt.stdin()).map_err(|_| Unmeasured::Script)?;
     let mut listed = Vec::new(alloc);
     let Script {
         features,
@@ -50,8 +50,10 @@ fn run(rt: &HostRuntime) -> Result<(), Failure> {
         body,
         locals,
         operators,
-    } = read_script(alloc, &mut listed, &text).map_err(|_| Failure::Script)?;
-    let module = ModuleLists::from_declarations(alloc, declarations).map_err(|_| Failure::Script)?;
+    } = read_script(alloc, &mut listed, &text).map_err(|_| Unmeasured::Script)?;
+    let module = ModuleLists::from_declarations(alloc, declarations).map_err(
+        |_| Unmeasured::Script,
+    )?;
     let subject = Subject {
         alloc,
         module: &module,

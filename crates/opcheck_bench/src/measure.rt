@@ -11,7 +11,7 @@ ghost use Rattle.validate_stacks.specs.Visits.{MayVisit, Meets};
 ghost use Rattle.validate_stacks.specs.Pops.{IsKept};
 ghost use Rattle.validate_stacks.specs.State.{IsStarting, IsValidBody};
 
-use crate::failure::Failure;
+use crate::unmeasured::Unmeasured;
 use script_reader::BodyLine;
 use std::alloc::Global;
 use std::time::Instant;
@@ -67,9 +67,9 @@ pub fn best_time(
     way: Way,
     subject: Subject<'_>,
     runs: u32,
-) -> Result<u128, Failure> {
+) -> Result<u128, Unmeasured> {
     if !is_well_ordered(subject.ops) || !all_have_module_immediates(subject.ops) {
-        return Err(Failure::Script);
+        return Err(Unmeasured::Script);
     }
     let mut heights = Vec::new(subject.alloc);
     let mut best = u128::MAX;
@@ -111,7 +111,7 @@ fn time(
     way: Way,
     subject: Subject<'_>,
     heights: &mut Vec<(usize, usize)>,
-) -> Result<u128, Failure>
+) -> Result<u128, Unmeasured>
     requires ordered { is_well_ordered_list (without_offsets subject.ops.now) ≡ true }
     requires immediates { list_all (λ (pair : _). is_module_op pair.0) subject.ops.now ≡ true }
 {
@@ -124,13 +124,13 @@ fn time(
         subject.locals,
         OperatorValidatorAllocations::new(subject.alloc),
     ) else {
-        return Err(Failure::Refused);
+        return Err(Unmeasured::Refused);
     };
-    let since = Instant::now(rt).map_err(|_| Failure::Host)?;
+    let since = Instant::now(rt).map_err(|_| Unmeasured::Host)?;
     let accepted = is_accepted_by(&mut validator, way, subject, heights);
-    let time = since.elapsed(rt).map_err(|_| Failure::Host)?.as_nanos();
+    let time = since.elapsed(rt).map_err(|_| Unmeasured::Host)?.as_nanos();
     if !accepted {
-        return Err(Failure::Refused);
+        return Err(Unmeasured::Refused);
     }
     Ok(time)
 }

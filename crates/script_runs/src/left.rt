@@ -33,10 +33,10 @@ pub struct Left<'a> {
 fn compare_refusal(
     tally: &mut Tally,
     script: &str,
-    (place, wanted): (usize, usize),
+    (place, expected): (usize, usize),
     (found, text): (&str, Option<&str>),
 ) -> Result<(), AllocError> {
-    tally.compare_number(script, "accepts", place, wanted)?;
+    tally.compare_number(script, "accepts", place, expected)?;
     match text {
         Some(text) => tally.compare(script, "is refused", found, text),
         None => Ok(()),
@@ -51,18 +51,18 @@ fn compare_answer(
     count: usize,
     left: Left<'_>,
 ) -> Result<(), AllocError> {
-    let wanted = if left.is_refused {
+    let expected = if left.is_refused {
         count.saturating_sub(1)
     } else {
         count
     };
     match answer {
-        Ok(_) => tally.compare_number(script, "accepts", count, wanted),
+        Ok(_) => tally.compare_number(script, "accepts", count, expected),
         Err((place, refusal)) => {
             compare_refusal(
                 tally,
                 script,
-                (place, wanted),
+                (place, expected),
                 (refusal.message(), left.text),
             )
         }
@@ -90,11 +90,11 @@ fn compare_operands(
     tally: &mut Tally,
     v: &OperatorValidator,
     script: &str,
-    wanted: &str,
+    expected: &str,
 ) -> Result<(), AllocError> {
     let mut operands = String::new(alloc);
     add_operand_types(&mut operands, v)?;
-    tally.compare(script, "leaves", operands.trim(), wanted)
+    tally.compare(script, "leaves", operands.trim(), expected)
 }
 
 /// Checks the operators of a script as one list, and compares what it answers and leaves.

@@ -45,13 +45,13 @@ fn tally_of_cases(rt: &HostRuntime, name: &str, way: Way) -> Option<Tally> {
 fn tally_of_script(rt: &HostRuntime, name: &str, way: Way) -> Option<Tally> {
     let script = read(rt, name, "script")?;
     let expected = read(rt, name, "expected")?;
-    let wanted = Output {
+    let expected = Output {
         out: &expected,
         err: "",
         status: 0,
     };
     let mut tally = Tally::new(rt.alloc(), way);
-    run_script(rt.alloc(), &mut tally, &script, wanted).ok()?;
+    run_script(rt.alloc(), &mut tally, &script, expected).ok()?;
     Some(tally)
 }
 

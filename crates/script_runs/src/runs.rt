@@ -36,11 +36,16 @@ fn compare_outputs(
     tally: &mut Tally,
     script: &str,
     (printed, said, status): (&[u8], &[u8], u8),
-    wanted: Output<'_>,
+    expected: Output<'_>,
 ) -> Result<(), AllocError> {
-    tally.compare_output(script, "prints", printed, wanted.out)?;
-    tally.compare_output(script, "says", said, wanted.err)?;
-    tally.compare_number(script, "ends with", status as usize, wanted.status as usize)
+    tally.compare_output(script, "prints", printed, expected.out)?;
+    tally.compare_output(script, "says", said, expected.err)?;
+    tally.compare_number(
+        script,
+        "ends with",
+        status as usize,
+        expected.status as usize,
+    )
 }
 
 /// Runs a script, and compares both outputs and the status.
@@ -48,12 +53,12 @@ fn compare_run(
     alloc: Global,
     tally: &mut Tally,
     script: &str,
-    wanted: Output<'_>,
+    expected: Output<'_>,
 ) -> Result<(), AllocError> {
     let mut printed = Vec::new(alloc);
     let mut said = Vec::new(alloc);
     let status = run(alloc, script.as_bytes(), &mut printed, &mut said);
-    compare_outputs(tally, script, (&printed, &said, status), wanted)
+    compare_outputs(tally, script, (&printed, &said, status), expected)
 }
 
 /// Runs a script.
@@ -61,13 +66,13 @@ pub fn run_script(
     alloc: Global,
     tally: &mut Tally,
     script: &str,
-    wanted: Output<'_>,
+    expected: Output<'_>,
 ) -> Result<(), AllocError> {
     tally.count();
     match tally.way {
-        Way::Once => compare_run(alloc, tally, script, wanted),
+        Way::Once => compare_run(alloc, tally, script, expected),
         Way::Checked => {
-            compare_run(alloc, tally, script, wanted)?;
+            compare_run(alloc, tally, script, expected)?;
             run_body(alloc, tally, script, Lookup::Own, Task::Attempts)
         }
         Way::Paired => run_body(alloc, tally, script, Lookup::Paired, Task::Printed),

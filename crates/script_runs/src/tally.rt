@@ -51,14 +51,14 @@ impl Tally {
         script: &str,
         does: &str,
         found: &str,
-        wanted: &str,
+        expected: &str,
     ) -> Result<(), AllocError> {
-        if found == wanted {
+        if found == expected {
             return Ok(());
         }
         writeln!(
             self.mismatches,
-            "{script}\n{does}:\n{found}\nand not:\n{wanted}"
+            "{script}\n{does}:\n{found}\nand not:\n{expected}"
         )
     }
 
@@ -68,10 +68,10 @@ impl Tally {
         script: &str,
         does: &str,
         found: &[u8],
-        wanted: &str,
+        expected: &str,
     ) -> Result<(), AllocError> {
         let found = str::from_utf8(found).unwrap_or("bytes that are no text");
-        self.compare(script, does, found, wanted)
+        self.compare(script, does, found, expected)
     }
 
     /// The same of a number: a status, or a height.
@@ -80,12 +80,15 @@ impl Tally {
         script: &str,
         does: &str,
         found: usize,
-        wanted: usize,
+        expected: usize,
     ) -> Result<(), AllocError> {
-        if found == wanted {
+        if found == expected {
             return Ok(());
         }
-        writeln!(self.mismatches, "{script}\n{does} {found} and not {wanted}")
+        writeln!(
+            self.mismatches,
+            "{script}\n{does} {found} and not {expected}"
+        )
     }
 
     /// A section, or a line of one, can't be read.

@@ -47,12 +47,12 @@ impl<'a> Case<'a> {
     /// Runs the script, which is bad, and says this.
     fn run_bad(&self, alloc: Global, tally: &mut Tally, cause: &str) -> Result<(), AllocError> {
         let said = format!(in alloc; "{cause}\n")?;
-        let wanted = Output {
+        let expected = Output {
             out: &self.printed,
             err: &said,
             status: 2,
         };
-        run_script(alloc, tally, &self.script, wanted)
+        run_script(alloc, tally, &self.script, expected)
     }
 
     /// Runs the script, which comes to this verdict.
@@ -61,12 +61,12 @@ impl<'a> Case<'a> {
             return self.run_bad(alloc, tally, verdict);
         }
         add_line(&mut self.printed, verdict)?;
-        let wanted = Output {
+        let expected = Output {
             out: &self.printed,
             err: "",
             status: if verdict == "accepted" { 0 } else { 1 },
         };
-        run_script(alloc, tally, &self.script, wanted)
+        run_script(alloc, tally, &self.script, expected)
     }
 
     /// Adds a line, or runs the script and begins the next one. Whether it ran.
@@ -180,12 +180,12 @@ fn run_bad_line(
 ) -> Result<(), AllocError> {
     let script = format!(in alloc; "{head}{line}\nend\n")?;
     let said = format!(in alloc; "bad script: line {number}: {reason}\n")?;
-    let wanted = Output {
+    let expected = Output {
         out: "",
         err: &said,
         status: 2,
     };
-    run_script(alloc, tally, &script, wanted)
+    run_script(alloc, tally, &script, expected)
 }
 
 /// Runs each of these lines behind these first lines and before an `end`: it is a bad line, for the reason behind its

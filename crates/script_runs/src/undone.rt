@@ -93,8 +93,8 @@ fn compare_within<R: WasmModuleResources>(
 {
     let mut found = String::new(alloc);
     undo(&mut found, v, resources, op)?;
-    let (_, wanted) = parts_of(line);
-    tally.compare(line, "comes within the attempt to", &found, wanted)
+    let (_, expected) = parts_of(line);
+    tally.compare(line, "comes within the attempt to", &found, expected)
 }
 
 /// Writes it down where something else is found than before an attempt, or one is pending.
@@ -146,8 +146,8 @@ fn compare_visit<R: WasmModuleResources>(
     let answer = visit(v, resources, op);
     let mut said = String::new(alloc);
     add_answer(&mut said, v, answer)?;
-    let (_, wanted) = parts_of(line);
-    tally.compare(line, "comes to", &said, wanted)
+    let (_, expected) = parts_of(line);
+    tally.compare(line, "comes to", &said, expected)
 }
 
 /// Visits the operator of a line, or attempts it and takes it back.

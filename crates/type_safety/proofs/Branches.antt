@@ -58,9 +58,9 @@ module _ (cx : Context) (laws : IsLawful cx.of_module) where
       }
 
   -- the results of a tail call fit the outermost label, whatever the call takes
-  pub tail_call_lawful : (hs : List Head) (wanted results : List ValType) → IsLawfulRow cx hs (tail_call_row cx hs wanted results)
-  tail_call_lawful hs wanted results =
-      one_target hs _ (record { depth = pred (length hs); carried = λ found. results }) refl (plain_monotone cx laws wanted [] [])
+  pub tail_call_lawful : (hs : List Head) (expected results : List ValType) → IsLawfulRow cx hs (tail_call_row cx hs expected results)
+  tail_call_lawful hs expected results =
+      one_target hs _ (record { depth = pred (length hs); carried = λ found. results }) refl (plain_monotone cx laws expected [] [])
       (λ ys pushed p g.
       let r = and_true (has_label hs (pred (length hs))) _ p in
       types_reach (drop (pred (length hs)) hs) results r.0 (below_of_fit cx results _ r.1))

@@ -39,11 +39,11 @@ module _ (cx : Context) (laws : IsLawful cx.of_module) where
       by None e = no_target cx laws hs _ refl (plain_monotone cx laws [] [] [])
       by (Some p) e =
           let g = guard_some (has_label hs d) _ _ e in
-          let wanted = p.0 ++ Ref types.from ∷ [] in
+          let expected = p.0 ++ Ref types.from ∷ [] in
           let left = p.0 ++ Ref types.left ∷ [] in
-          one_target cx laws hs _ (record { depth = d; carried = with_last (Ref types.carried) }) refl (plain_monotone cx laws wanted [] left)
+          one_target cx laws hs _ (record { depth = d; carried = with_last (Ref types.carried) }) refl (plain_monotone cx laws expected [] left)
           (λ ys pushed q h.
-          let b = last_replaced p.0 (Ref types.from) (Ref types.carried) p.1 ys q (plain_below cx laws wanted [] left ys pushed h) in
+          let b = last_replaced p.0 (Ref types.from) (Ref types.carried) p.1 ys q (plain_below cx laws expected [] left ys pushed h) in
           types_reach cx laws (drop d hs) _ g.0 (subst (λ (ts : List ValType). AllBelow cx (with_last (Ref types.carried) ys) ts) (split_is (label_types_at cx hs d) p g.1) b))
 
   pub cast_branch_lawful : (types : RefType × RefType → CastTypes) (cast : BranchCast) → IsLawfulOperator cx (staying_operator (λ hs. lookup_row (checked_cast cx cast) (λ p. cast_branch_row cx hs cast.relative_depth (types p))))

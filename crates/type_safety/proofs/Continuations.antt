@@ -37,24 +37,24 @@ module _ (cx : Context) (laws : IsLawful cx.of_module) where
       (accepted (drop c.depth hs) c.types (and_true (clause_fits cx hs c) _ h).0)
   handlers_reach hs ys (c ∷ clauses) h (suc j) t e = handlers_reach hs ys clauses (and_true (clause_fits cx hs c) _ h).1 j t e
 
-  resumed_lawful : (hs : List Head) (f : Signature) (wanted : List ValType) (t : ValType) (clauses : List Clause) → IsLawfulRow cx hs (resumed_row cx hs f wanted t clauses)
-  resumed_lawful hs f wanted t clauses =
+  resumed_lawful : (hs : List Head) (f : Signature) (expected : List ValType) (t : ValType) (clauses : List Clause) → IsLawfulRow cx hs (resumed_row cx hs f expected t clauses)
+  resumed_lawful hs f expected t clauses =
       record {
-        monotone = plain_monotone cx laws (wanted ++ t ∷ []) [] f.results;
+        monotone = plain_monotone cx laws (expected ++ t ∷ []) [] f.results;
         reaches = λ ys pushed p g j u e. handlers_reach hs ys clauses p j u e;
       }
 
   -- rows that reach no label
-  plain_row_lawful : (hs : List Head) (premise : Bool) (wanted push : List ValType) → IsLawfulRow cx hs (plain_row_if premise wanted push)
-  plain_row_lawful hs premise wanted push = no_target cx laws hs _ refl (plain_monotone cx laws wanted [] push)
+  plain_row_lawful : (hs : List Head) (premise : Bool) (expected push : List ValType) → IsLawfulRow cx hs (plain_row_if premise expected push)
+  plain_row_lawful hs premise expected push = no_target cx laws hs _ refl (plain_monotone cx laws expected [] push)
 
   by_two : {A B : Type 0} (hs : List Head) (o : Option A) (p : Option B) (row : A → B → Row) → ((x : A) (y : B) → IsLawfulRow cx hs (row x y)) → IsLawfulRow cx hs (lookups_row o p row)
   by_two hs o p row h = found_lawful cx laws hs o _ (λ x. found_lawful cx laws hs p (row x) (λ y. h x y))
 
-  resuming_lawful : (hs : List Head) (wanted : Signature → Option (List ValType)) (i : ℕ) (handlers : List Handle) → IsLawfulRow cx hs (resuming_row cx hs wanted i handlers)
-  resuming_lawful hs wanted i handlers =
+  resuming_lawful : (hs : List Head) (expected : Signature → Option (List ValType)) (i : ℕ) (handlers : List Handle) → IsLawfulRow cx hs (resuming_row cx hs expected i handlers)
+  resuming_lawful hs expected i handlers =
       by_two hs (continuation_signature cx i) (type_reference cx nullable_reference i) _
-      (λ f t. by_two hs (wanted f) (all_clauses cx hs f handlers) _ (λ ts clauses. resumed_lawful hs f ts t clauses))
+      (λ f t. by_two hs (expected f) (all_clauses cx hs f handlers) _ (λ ts clauses. resumed_lawful hs f ts t clauses))
 
   row_lawful : (hs : List Head) (op : ContinuationOp) → IsLawfulRow cx hs (continuation_row cx hs op)
   row_lawful hs (ContNew i) =

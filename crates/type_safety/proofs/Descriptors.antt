@@ -119,7 +119,7 @@ module _ (cx : Context) (laws : IsLawful cx.of_module) where
   abbrev IsKept : (MaybeType → Bool) → Type 0
   IsKept test = (y x : ValType) → IsValidBelow cx.of_module y x → test (Known x) ≡ true → test (Known y) ≡ true
 
-  under_keeps : (test : MaybeType → Bool) → IsKept test → (wanted xs ys : List ValType) → AllBelow cx ys xs → fit_under cx test wanted (map Known xs) ≡ true → fit_under cx test wanted (map Known ys) ≡ true
+  under_keeps : (test : MaybeType → Bool) → IsKept test → (expected xs ys : List ValType) → AllBelow cx ys xs → fit_under cx test expected (map Known xs) ≡ true → fit_under cx test expected (map Known ys) ≡ true
   under_keeps test keeps [] (x ∷ []) (y ∷ []) b h = keeps y x b.0 h
   under_keeps test keeps [] (x ∷ []) [] b h = elim b [ ]
   under_keeps test keeps [] (x ∷ []) (y ∷ z ∷ ys) b h = elim b.1 [ ]
@@ -131,14 +131,14 @@ module _ (cx : Context) (laws : IsLawful cx.of_module) where
       let a = and_true (cx.of_module.below x t) _ h in
       true_and _ _ (laws.transitive y x t b.0 a.0) (under_keeps test keeps ts xs ys b.1 a.1)
 
-  tested_monotone : (n : ℕ) (test : MaybeType → Bool) → IsKept test → (wanted push xs ys : List ValType) (pushed : List MaybeType) → AllBelow cx ys xs → tested_pushes cx test wanted push (map Known xs) ≡ Some pushed → IsMonotoneAt cx (Looks n (tested_pushes cx test wanted push)) xs ys pushed
-  tested_monotone n test keeps wanted push xs ys pushed b h =
-      let g = guard_some (fit_under cx test wanted (map Known xs)) _ _ h in
+  tested_monotone : (n : ℕ) (test : MaybeType → Bool) → IsKept test → (expected push xs ys : List ValType) (pushed : List MaybeType) → AllBelow cx ys xs → tested_pushes cx test expected push (map Known xs) ≡ Some pushed → IsMonotoneAt cx (Looks n (tested_pushes cx test expected push)) xs ys pushed
+  tested_monotone n test keeps expected push xs ys pushed b h =
+      let g = guard_some (fit_under cx test expected (map Known xs)) _ _ h in
       record {
         upper = push;
         lower = push;
         known = some_injective _ _ (sym g.1);
-        passes = ap (λ s. guard s (Some (map Known push))) (under_keeps test keeps wanted xs ys b g.0);
+        passes = ap (λ s. guard s (Some (map Known push))) (under_keeps test keeps expected xs ys b g.0);
         below = λ us e. e;
       }
 
@@ -159,7 +159,7 @@ module _ (cx : Context) (laws : IsLawful cx.of_module) where
       (λ r. no_target cx laws hs _ refl (tested_monotone 2 (is_cast_descriptor cx (is_exact h) d) (descriptor_keeps (is_exact h) d) (cast_operand cx.of_module r ∷ []) (Ref r ∷ [])))))
 
   -- operands that pass fit the types below the one that is tested
-  under_fits : (test : MaybeType → Bool) (wanted ys : List ValType) → fit_under cx test wanted (map Known ys) ≡ true → AllBelow cx (without_last ys) wanted
+  under_fits : (test : MaybeType → Bool) (expected ys : List ValType) → fit_under cx test expected (map Known ys) ≡ true → AllBelow cx (without_last ys) expected
   under_fits test [] (y ∷ []) h = tt
   under_fits test [] [] h = absurd cc
   under_fits test [] (y ∷ z ∷ ys) h = absurd cc
@@ -180,11 +180,11 @@ module _ (cx : Context) (laws : IsLawful cx.of_module) where
       by None e = no_target cx laws hs _ refl (plain_monotone cx laws [] [] [])
       by (Some p) e =
           let g = guard_some (has_label hs d) _ _ e in
-          let wanted = p.0 ++ Ref types.from ∷ [] in
+          let expected = p.0 ++ Ref types.from ∷ [] in
           let left = p.0 ++ Ref types.left ∷ [] in
-          one_target cx laws hs _ (record { depth = d; carried = λ found. with_last (Ref types.carried) (without_last found) }) refl (tested_monotone (suc (length wanted)) test keeps wanted left)
+          one_target cx laws hs _ (record { depth = d; carried = λ found. with_last (Ref types.carried) (without_last found) }) refl (tested_monotone (suc (length expected)) test keeps expected left)
           (λ ys pushed q h.
-          let f = under_fits test wanted ys (guard_some (fit_under cx test wanted (map Known ys)) _ _ h).0 in
+          let f = under_fits test expected ys (guard_some (fit_under cx test expected (map Known ys)) _ _ h).0 in
           let b = last_replaced cx laws p.0 (Ref types.from) (Ref types.carried) p.1 (without_last ys) q f in
           types_reach cx laws (drop d hs) _ g.0 (subst (λ (ts : List ValType). AllBelow cx (with_last (Ref types.carried) (without_last ys)) ts) (split_is cx laws (label_types_at cx hs d) p g.1) b))
 

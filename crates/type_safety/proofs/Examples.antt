@@ -505,7 +505,7 @@ pushes_below = (
   by_going_on (I64 ∷ []) (I32 ∷ []) refl refl refl (refl, tt) refl,
 )
 
--- what is wanted
+-- what is expected
 takes_below : IsNotStuck tilted_context (operator tilted_context (Numeric (IntegerBinary IntegerI64 Add)) ∷ []) (At 0 (giving_i64 (I32 ∷ I64 ∷ []) ∷ []) [])
 takes_below = (
   operator tilted_context (Numeric (IntegerBinary IntegerI64 Add)),

@@ -4,7 +4,7 @@ use Rattle.std.specs.List.{list_any}
 use Rattle.validate_resources.specs.Context.{IsLawful}
 use Rattle.validation_rules.specs.Context.{ValType, Context, AllBelow}
 use Rattle.validation_rules.specs.Fits.{MaybeType, Known, all_fit}
-use Rattle.validation_rules.specs.Rows.{Head, results, is_if, is_try, may_catch, Form, Stays, Opens, BeginsElse, BeginsCatch, Ends, Delegates, Clause, Row, guard, wanted_count, pushed_for, label_types}
+use Rattle.validation_rules.specs.Rows.{Head, results, is_if, is_try, may_catch, Form, Stays, Opens, BeginsElse, BeginsCatch, Ends, Delegates, Clause, Row, guard, expected_count, pushed_for, label_types}
 use Rattle.validation_rules.specs.Static.{Frame, is_local_set, is_read_local_set, stack_with, operands_on_top, operands_found, operands_under, pushed_by_row, clauses_fit, clause_fits, label_accepts, first_set_after, may_close}
 use Rattle.type_safety.specs.Machine.{Label, live_frame, types_on_top, set_after}
 use Rattle.type_safety.proofs.Laws.{IsMonotoneAt, HeadAccepts, IsLawfulRow}
@@ -108,7 +108,7 @@ module _ (cx : Context) where
   pub record Passes (row : Row) (hs : List Head) (set : List ℕ) (l : Label) (us : List ValType) (pushed : List MaybeType) : Type 0 where
     pub premise : row.premise ≡ true
     pub clauses : clauses_fit cx hs row.clauses ≡ true
-    pub monotone : IsMonotoneAt cx row.type (types_on_top (wanted_count row.type) us) (types_on_top (wanted_count row.type) l.operands) pushed
+    pub monotone : IsMonotoneAt cx row.type (types_on_top (expected_count row.type) us) (types_on_top (expected_count row.type) l.operands) pushed
     pub holds : pushed_by_row cx row hs set (live_frame l) ≡ Some (map Known monotone.lower)
 
   pub passes : (row : Row) (hs : List Head) (set mset : List ℕ) (l : Label) (f : Frame) (us : List ValType) (pushed : List MaybeType) → IsLawfulRow cx hs row → f.dead ≡ false → f.operands ≡ map Known us → AllBelow cx l.operands us → IsWithin set mset → pushed_by_row cx row hs set f ≡ Some pushed → Passes row hs mset l us pushed
@@ -116,7 +116,7 @@ module _ (cx : Context) where
       let g = guard_some _ _ _ p in
       let a = and_true row.premise _ g.0 in
       let b = and_true (clauses_fit cx hs row.clauses) _ a.1 in
-      let n = wanted_count row.type in
+      let n = expected_count row.type in
       let fall = laws.monotone (types_on_top n us) (types_on_top n l.operands) pushed (top_below n l.operands us below) (ap (pushed_for cx row.type) (sym (found_known n f us live own)) ∙ g.1) in
       let test : (row.premise && (clauses_fit cx hs row.clauses && is_read_local_set cx mset row.reads)) ≡ true = true_and _ _ a.0 (true_and _ _ b.0 (reads_within cx set mset row.reads within b.1)) in
       record {

@@ -110,9 +110,9 @@ module _ (cx : Context) (laws : IsLawful cx.of_module) where
   select_monotone (x ∷ y ∷ z ∷ []) (a ∷ c ∷ d ∷ e ∷ ys) pushed b h = elim b.1.1.1 [ ]
 
   -- a row of a type is plain, and so is the one where there is no type
-  typed_lawful : (premise : Bool) (o : Option ValType) (reads sets : Option ℕ) (wanted push : ValType → List ValType) → IsLawfulOperator cx (row_operator (lookup_row o (λ t. record { premise = premise; reads = reads; type = Plain (wanted t) [] (push t); sets = sets; targets = []; clauses = []; ends_live = false })))
-  typed_lawful premise None reads sets wanted push = plain_lawful cx laws false None None [] [] false
-  typed_lawful premise (Some t) reads sets wanted push = plain_lawful cx laws premise reads sets (wanted t) (push t) false
+  typed_lawful : (premise : Bool) (o : Option ValType) (reads sets : Option ℕ) (expected push : ValType → List ValType) → IsLawfulOperator cx (row_operator (lookup_row o (λ t. record { premise = premise; reads = reads; type = Plain (expected t) [] (push t); sets = sets; targets = []; clauses = []; ends_live = false })))
+  typed_lawful premise None reads sets expected push = plain_lawful cx laws false None None [] [] false
+  typed_lawful premise (Some t) reads sets expected push = plain_lawful cx laws premise reads sets (expected t) (push t) false
 
   pub opens_lawful : (kind : FrameKind) (above : List ValType) (premise : Bool) (bt : BlockType) → IsLawfulOperator cx (opening_operator_if premise cx kind above bt)
   opens_lawful kind above premise bt =

@@ -19,21 +19,21 @@ module _ (cx : Context) (laws : IsLawful cx.of_module) where
       true_and _ _ (fit_of_below cx ys ws (below-trans cx laws ys xs ws below (below_of_fit cx xs ws a.0))) (each_below xs ys lists below a.1)
 
   -- ---- plain operands, all at once
-  pub plain_monotone : (wanted : List ValType) (also : List (List ValType)) (push : List ValType) (xs ys : List ValType) (pushed : List MaybeType) → AllBelow cx ys xs → pushed_for cx (Plain wanted also push) (map Known xs) ≡ Some pushed → IsMonotoneAt cx (Plain wanted also push) xs ys pushed
-  plain_monotone wanted also push xs ys pushed below h =
+  pub plain_monotone : (expected : List ValType) (also : List (List ValType)) (push : List ValType) (xs ys : List ValType) (pushed : List MaybeType) → AllBelow cx ys xs → pushed_for cx (Plain expected also push) (map Known xs) ≡ Some pushed → IsMonotoneAt cx (Plain expected also push) xs ys pushed
+  plain_monotone expected also push xs ys pushed below h =
       let g = guard_some _ _ _ h in
       record {
         upper = push;
         lower = push;
         known = some_injective _ _ (sym g.1);
-        passes = ap (λ b. guard b (Some (map Known push))) (each_below xs ys (wanted ∷ also) below g.0);
+        passes = ap (λ b. guard b (Some (map Known push))) (each_below xs ys (expected ∷ also) below g.0);
         below = λ us b. b;
       }
 
-  -- what plain operands passed: they are below the wanted types
-  pub plain_below : (wanted : List ValType) (also : List (List ValType)) (push ys : List ValType) (pushed : List MaybeType) → pushed_for cx (Plain wanted also push) (map Known ys) ≡ Some pushed → AllBelow cx ys wanted
-  plain_below wanted also push ys pushed h =
-      below_of_fit cx ys wanted (and_true (all_fit cx (map Known ys) wanted) _ (guard_some _ _ _ h).0).0
+  -- what plain operands passed: they are below the expected types
+  pub plain_below : (expected : List ValType) (also : List (List ValType)) (push ys : List ValType) (pushed : List MaybeType) → pushed_for cx (Plain expected also push) (map Known ys) ≡ Some pushed → AllBelow cx ys expected
+  plain_below expected also push ys pushed h =
+      below_of_fit cx ys expected (and_true (all_fit cx (map Known ys) expected) _ (guard_some _ _ _ h).0).0
 
   pub below_front : (ps more ys : List ValType) → AllBelow cx ys (ps ++ more) → AllBelow cx (take (length ps) ys) ps
   below_front [] more ys h = tt
@@ -66,8 +66,8 @@ module _ (cx : Context) (laws : IsLawful cx.of_module) where
       }
 
   -- every operator with a plain row, whatever its types, gate and locals
-  pub plain_lawful : (premise : Bool) (reads sets : Option ℕ) (wanted push : List ValType) (dead : Bool) → IsLawfulOperator cx (row_operator (record { premise = premise; reads = reads; type = Plain wanted [] push; sets = sets; targets = []; clauses = []; ends_live = dead }))
-  plain_lawful premise reads sets wanted push dead = flat_lawful _ (λ hs. no_target hs _ refl (plain_monotone wanted [] push))
+  pub plain_lawful : (premise : Bool) (reads sets : Option ℕ) (expected push : List ValType) (dead : Bool) → IsLawfulOperator cx (row_operator (record { premise = premise; reads = reads; type = Plain expected [] push; sets = sets; targets = []; clauses = []; ends_live = dead }))
+  plain_lawful premise reads sets expected push dead = flat_lawful _ (λ hs. no_target hs _ refl (plain_monotone expected [] push))
 
   pub looking_lawful : (premise : Bool) (n : ℕ) (f : List MaybeType → Option (List MaybeType)) → ((xs ys : List ValType) (pushed : List MaybeType) → AllBelow cx ys xs → f (map Known xs) ≡ Some pushed → IsMonotoneAt cx (Looks n f) xs ys pushed) → IsLawfulOperator cx (row_operator (looking_row_if premise n f))
   looking_lawful premise n f h = flat_lawful _ (λ hs. no_target hs _ refl h)

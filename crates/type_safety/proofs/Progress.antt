@@ -7,7 +7,7 @@ use Rattle.validate_resources.specs.Context.{ModuleContext, IsLawful, Valid}
 use Rattle.validate_visit.specs.declared.op.Op.{Op}
 use Rattle.validation_rules.specs.Context.{ValType, BlockType, Context, AllBelow}
 use Rattle.validation_rules.specs.Fits.{Known}
-use Rattle.validation_rules.specs.Rows.{FrameKind, Block, If, Else, TryTable, LegacyTry, Head, params, results, body_head, is_loop, is_if, is_try, is_try_table, may_catch, catch_kind, Form, Stays, Opens, BeginsElse, BeginsCatch, Ends, Delegates, Target, Clause, Row, Operator, wanted_count, is_instruction}
+use Rattle.validation_rules.specs.Rows.{FrameKind, Block, If, Else, TryTable, LegacyTry, Head, params, results, body_head, is_loop, is_if, is_try, is_try_table, may_catch, catch_kind, Form, Stays, Opens, BeginsElse, BeginsCatch, Ends, Delegates, Target, Clause, Row, Operator, expected_count, is_instruction}
 use Rattle.validation_rules.specs.Static.{Frame, State, stack_with, heads, locals_set, operands_found, opened_frame, head_with_kind, open_state, start, step, state_before, IsAccepted, pushed_by_row, pushed_by_delimiter, delimiter_fits}
 use Rattle.validation_rules.specs.Operators.{operators}
 use Rattle.validation_rules.specs.Valid.{IsValidOperand, IsValidFrame, IsValidStateIn}
@@ -128,8 +128,8 @@ module _ (cx : Context) (laws : IsLawful cx.of_module) (code : List Operator) (t
         let d = demand_here.row in
         let g = guard_some _ _ _ (by_row cx row (label_heads (l ∷ ls)) set (live_frame l) op.form _ (ap is_instruction e) d.1) in
         let own = lower_valid cx laws l.operands p.s.agree.operands.0 p.s.agree.operands.2 in
-        let found = found_valid cx.of_module (wanted_count row.type) (live_frame l) (all_known cx.of_module l.operands own) in
-        let v = known_valid cx laws d.0 ((pushes k op p.is).pushed (label_heads (l ∷ ls)) (operands_found (wanted_count row.type) (live_frame l)) (map Known d.0) (and_true row.premise _ g.0).0 heads_here found g.1) in
+        let found = found_valid cx.of_module (expected_count row.type) (live_frame l) (all_known cx.of_module l.operands own) in
+        let v = known_valid cx laws d.0 ((pushes k op p.is).pushed (label_heads (l ∷ ls)) (operands_found (expected_count row.type) (live_frame l)) (map Known d.0) (and_true row.premise _ g.0).0 heads_here found g.1) in
         let next = At (suc k) (labels_with d.0 here) (set_after row.sets set) in
         let o : GoesOn cx code here next = record { stays = e; live = live; pushed = d.0; pushes = d.1; types = d.0; below = below_itself cx laws d.0 v; is = refl } in
         (next, (o, refl), by_step next (goes_on o))

@@ -4,7 +4,7 @@ use Rattle.std.specs.Bool.{MatchBool}
 use Rattle.validate_resources.specs.Context.{IsLawful}
 use Rattle.validation_rules.specs.Context.{ValType, BlockType, Context, AllBelow}
 use Rattle.validation_rules.specs.Fits.{MaybeType, Known}
-use Rattle.validation_rules.specs.Rows.{params, results, body_head, Else, Head, is_loop, is_if, is_try, is_try_table, Form, Stays, Opens, BeginsElse, BeginsCatch, Ends, Delegates, Target, Clause, Row, Operator, catch_kind, wanted_count, is_instruction, label_types}
+use Rattle.validation_rules.specs.Rows.{params, results, body_head, Else, Head, is_loop, is_if, is_try, is_try_table, Form, Stays, Opens, BeginsElse, BeginsCatch, Ends, Delegates, Target, Clause, Row, Operator, catch_kind, expected_count, is_instruction, label_types}
 use Rattle.validation_rules.specs.Static.{Frame, stack_with, heads, locals_set, operands_under, pushed_types, pushed_by_row, clauses_fit, operands_after, frame_after, frame_under, head_with_kind, opened_frame, frame_with, open_state, start, state_before, IsAccepted}
 use Rattle.type_safety.specs.Machine.{Label, Machine, At, Returned, Trapped, LeftByException, LeftBySuspension, Delimiter, delimiter, delimiters, IsDelimiter, IsCloser, is_closing_form, HasNoElse, configuration, label_heads, live_frame, types_on_top, LabelAccepts, Demand, IsNotStuck, set_after, machine_after_exit, machine_after_restart, Exits, Arrives, Branches, Outcome, Step, Run, initial_machine}
 use Rattle.type_safety.specs.Machine.Outcome.{goes_on, enters, enters_else, skips_if, jumps, closes, ends_part, catches, catches_legacy, traps, raises, suspends}
@@ -209,7 +209,7 @@ module _ (cx : Context) (laws : IsLawful cx.of_module) (code : List Operator) (t
         ((lawful k op p.is).row (label_heads (l ∷ ls))) p.s.agree.live p.s.agree.operands.1 p.s.agree.operands.2 p.s.within
         (by_row cx (op.row (label_heads (l ∷ ls))) (label_heads (l ∷ ls)) (locals_set (p.s.f ∷ p.s.fs)) p.s.f op.form _ i p.holds)
 
-    reaches_targets : (b : Bool) → is_instruction op.form ≡ b → (j : ℕ) (t : Target) → slice_get (op.row (label_heads (l ∷ ls))).targets j ≡ Some t → LabelAccepts cx (drop t.depth (l ∷ ls)) (t.carried (types_on_top (wanted_count (op.row (label_heads (l ∷ ls))).type) l.operands))
+    reaches_targets : (b : Bool) → is_instruction op.form ≡ b → (j : ℕ) (t : Target) → slice_get (op.row (label_heads (l ∷ ls))).targets j ≡ Some t → LabelAccepts cx (drop t.depth (l ∷ ls)) (t.carried (types_on_top (expected_count (op.row (label_heads (l ∷ ls))).type) l.operands))
     reaches_targets true i j t e =
         let a = passes_here i in
         reaches_of_heads cx code ty t.depth (l ∷ ls) _ (((lawful k op p.is).row (label_heads (l ∷ ls))).reaches _ _ a.premise a.monotone.passes j t e)
@@ -230,7 +230,7 @@ module _ (cx : Context) (laws : IsLawful cx.of_module) (code : List Operator) (t
     pub inside : (h : Head) → op.form ≡ Opens h → state_before cx code (start ty) (suc k) ≡ Some (open_state (opened_frame h (params cx h) ∷ frame_under (op.row (label_heads (l ∷ ls))) p.s.f ∷ p.s.fs))
     inside h e = p.next ∙ ap (λ x. Some (after cx (op.row (label_heads (l ∷ ls))) p.s.f p.s.fs x p.pushed)) e
 
-    balances : (h : Head) → op.form ≡ Opens h → is_if h.kind ≡ true → HasNoElse code k → AllBelow cx (take (length (params cx h)) (types_on_top (wanted_count (op.row (label_heads (l ∷ ls))).type) l.operands)) (results cx h)
+    balances : (h : Head) → op.form ≡ Opens h → is_if h.kind ≡ true → HasNoElse code k → AllBelow cx (take (length (params cx h)) (types_on_top (expected_count (op.row (label_heads (l ∷ ls))).type) l.operands)) (results cx h)
     balances h e i w =
         let a = passes_here (ap is_instruction e) in
         let fit = below_of_fit cx (params cx h) (results cx h) (if_balanced cx code (start ty) accepted k h (params cx h) (frame_under (op.row (label_heads (l ∷ ls))) p.s.f ∷ p.s.fs) i (inside h e) w) in
@@ -245,10 +245,10 @@ module _ (cx : Context) (laws : IsLawful cx.of_module) (code : List Operator) (t
     }
 
     -- ---- each outcome
-    agree_popped : Agree cx code ty (record l { operands = drop (wanted_count (op.row (label_heads (l ∷ ls))).type) l.operands }) (frame_under (op.row (label_heads (l ∷ ls))) p.s.f) p.s.fs
+    agree_popped : Agree cx code ty (record l { operands = drop (expected_count (op.row (label_heads (l ∷ ls))).type) l.operands }) (frame_under (op.row (label_heads (l ∷ ls))) p.s.f) p.s.fs
     agree_popped =
         let a = p.s.agree in
-        let n = wanted_count (op.row (label_heads (l ∷ ls))).type in
+        let n = expected_count (op.row (label_heads (l ∷ ls))).type in
         record {
           head = a.head;
           live = a.live;
@@ -256,11 +256,11 @@ module _ (cx : Context) (laws : IsLawful cx.of_module) (code : List Operator) (t
           outside = a.outside;
         }
 
-    keeps_going : (lower us : List ValType) → op.form ≡ Stays → (op.row (label_heads (l ∷ ls))).ends_live ≡ false → pushed_types cx op (label_heads (l ∷ ls)) set (live_frame l) ≡ Some (map Known lower) → AllBelow cx us lower → Standing cx code ty (suc k) (record l { operands = stack_with us (drop (wanted_count (op.row (label_heads (l ∷ ls))).type) l.operands) }) ls (set_after (op.row (label_heads (l ∷ ls))).sets set)
+    keeps_going : (lower us : List ValType) → op.form ≡ Stays → (op.row (label_heads (l ∷ ls))).ends_live ≡ false → pushed_types cx op (label_heads (l ∷ ls)) set (live_frame l) ≡ Some (map Known lower) → AllBelow cx us lower → Standing cx code ty (suc k) (record l { operands = stack_with us (drop (expected_count (op.row (label_heads (l ∷ ls))).type) l.operands) }) ls (set_after (op.row (label_heads (l ∷ ls))).sets set)
     keeps_going lower us e live h below =
         let r = op.row (label_heads (l ∷ ls)) in
         let st = locals_set (p.s.f ∷ p.s.fs) in
-        let n = wanted_count r.type in
+        let n = expected_count r.type in
         let a = passes_here (ap is_instruction e) in
         let i = agree_popped in
         let q = by_row cx r (label_heads (l ∷ ls)) set (live_frame l) op.form _ (ap is_instruction e) h in
@@ -298,7 +298,7 @@ module _ (cx : Context) (laws : IsLawful cx.of_module) (code : List Operator) (t
               operands.each_clause cx (heads fs') (opener.row (heads fs')).clauses (subst (λ (o : Operator). clauses_fit cx (heads fs') (o.row (heads fs')).clauses ≡ true) d fit) j c g;
         }
 
-    keeps_entering : (h : Head) (us : List ValType) → op.form ≡ Opens h → AllBelow cx us (params cx h) → Standing cx code ty (suc k) (record { began = k; head = h; operands = stack_with us [] }) (record l { operands = drop (wanted_count (op.row (label_heads (l ∷ ls))).type) l.operands } ∷ ls) set
+    keeps_entering : (h : Head) (us : List ValType) → op.form ≡ Opens h → AllBelow cx us (params cx h) → Standing cx code ty (suc k) (record { began = k; head = h; operands = stack_with us [] }) (record l { operands = drop (expected_count (op.row (label_heads (l ∷ ls))).type) l.operands } ∷ ls) set
     keeps_entering h us e below =
         record {
           f = opened_frame h (params cx h);
@@ -309,7 +309,7 @@ module _ (cx : Context) (laws : IsLawful cx.of_module) (code : List Operator) (t
           within = p.s.within;
         }
 
-    keeps_entering_else : (h : Head) (c : ℕ) (us : List ValType) → op.form ≡ Opens h → IsDelimiter code k c BeginsElse → AllBelow cx us (params cx h) → Standing cx code ty (suc c) (record { began = c; head = head_with_kind Else h; operands = stack_with us [] }) (record l { operands = drop (wanted_count (op.row (label_heads (l ∷ ls))).type) l.operands } ∷ ls) set
+    keeps_entering_else : (h : Head) (c : ℕ) (us : List ValType) → op.form ≡ Opens h → IsDelimiter code k c BeginsElse → AllBelow cx us (params cx h) → Standing cx code ty (suc c) (record { began = c; head = head_with_kind Else h; operands = stack_with us [] }) (record l { operands = drop (expected_count (op.row (label_heads (l ∷ ls))).type) l.operands } ∷ ls) set
     keeps_entering_else h c us e m below =
         let fs' = frame_under (op.row (label_heads (l ∷ ls))) p.s.f ∷ p.s.fs in
         let b = (exit_opened h e).delimiters_follow m.0 (delimiter c BeginsElse) m.1 in
@@ -333,13 +333,13 @@ module _ (cx : Context) (laws : IsLawful cx.of_module) (code : List Operator) (t
           within = p.s.within;
         }
 
-    keeps_skipping : (h : Head) (c : ℕ) (us : List ValType) → op.form ≡ Opens h → IsCloser code k c → AllBelow cx us (results cx h) → Standing cx code ty (suc c) (record l { operands = stack_with us (drop (wanted_count (op.row (label_heads (l ∷ ls))).type) l.operands) }) ls set
+    keeps_skipping : (h : Head) (c : ℕ) (us : List ValType) → op.form ≡ Opens h → IsCloser code k c → AllBelow cx us (results cx h) → Standing cx code ty (suc c) (record l { operands = stack_with us (drop (expected_count (op.row (label_heads (l ∷ ls))).type) l.operands) }) ls set
     keeps_skipping h c us e m below =
         let r = op.row (label_heads (l ∷ ls)) in
-        gives_out cx code ty (suc c) h us (record l { operands = drop (wanted_count r.type) l.operands }) ls (frame_under r p.s.f) p.s.fs set
+        gives_out cx code ty (suc c) h us (record l { operands = drop (expected_count r.type) l.operands }) ls (frame_under r p.s.f) p.s.fs set
         (closer_follows cx code ty k c h (frame_under r p.s.f ∷ p.s.fs) (exit_opened h e) m) below (agree_popped, p.s.stack) p.s.within
 
-    keeps_jumping : (j : ℕ) (t : Target) (next : Machine) → slice_get (op.row (label_heads (l ∷ ls))).targets j ≡ Some t → Branches cx code (drop t.depth (l ∷ ls)) set (t.carried (types_on_top (wanted_count (op.row (label_heads (l ∷ ls))).type) l.operands)) next → Keeps cx code ty next
+    keeps_jumping : (j : ℕ) (t : Target) (next : Machine) → slice_get (op.row (label_heads (l ∷ ls))).targets j ≡ Some t → Branches cx code (drop t.depth (l ∷ ls)) set (t.carried (types_on_top (expected_count (op.row (label_heads (l ∷ ls))).type) l.operands)) next → Keeps cx code ty next
     keeps_jumping j t next e b =
         branches cx code ty (drop t.depth (l ∷ ls)) (drop t.depth (p.s.f ∷ p.s.fs)) _ set next laws
         (stack_drop cx code ty t.depth (l ∷ ls) (p.s.f ∷ p.s.fs) (p.s.agree, p.s.stack))

@@ -11,7 +11,7 @@ use Rattle.validation_rules.specs.Fits.{MaybeType, Known}
 use Rattle.validation_rules.specs.Rows.{Head, params, results, label_types, body_head}
 use Rattle.validation_rules.specs.Rows.{is_loop, is_if, is_try, is_try_table, Else, catch_kind}
 use Rattle.validation_rules.specs.Rows.{Form, Stays, Opens, BeginsElse, BeginsCatch, Ends, Delegates}
-use Rattle.validation_rules.specs.Rows.{Operator, Row, wanted_count, Target, Clause}
+use Rattle.validation_rules.specs.Rows.{Operator, Row, expected_count, Target, Clause}
 use Rattle.validation_rules.specs.Static.{Frame, stack_with, head_with_kind, pushed_types}
 
 -- ---- states
@@ -143,12 +143,12 @@ abbrev pub types_on_top : ℕ → List ValType → List ValType
 types_on_top n own = stack_with (take n own) []
 
 abbrev pub operands_taken : Configuration → List ValType
-operands_taken here = types_on_top (wanted_count (row_at here).type) here.label.operands
+operands_taken here = types_on_top (expected_count (row_at here).type) here.label.operands
 
 -- the label without the operands that the operator takes
 abbrev pub label_under : Configuration → Label
 label_under here =
-    record here.label { operands = drop (wanted_count (row_at here).type) here.label.operands }
+    record here.label { operands = drop (expected_count (row_at here).type) here.label.operands }
 
 -- the labels once the operator has taken its operands and left these types in their place
 abbrev pub labels_with : List ValType → Configuration → List Label

@@ -4,6 +4,6 @@
 mod bodies;
 mod operator;
 mod parts;
-mod taken;
+mod popped;
 
 pub use crate::operator::{check_operator, operator_at_once, try_operator};

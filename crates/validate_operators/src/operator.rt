@@ -15,7 +15,7 @@ use crate::bodies::{
     gated_memory, gated_numeric, gated_reference, gated_shared, gated_struct, gated_table,
 };
 use crate::parts::end_part;
-use crate::taken::taken_before;
+use crate::popped::popped_before;
 use validate_resources::WasmModuleResources;
 use validate_shapes::checked::placed;
 use validate_stacks::Stacks;
@@ -117,9 +117,9 @@ fn refuse<R: WasmModuleResources>(
     ensures valid { IsValidBody (R.context resources.now) stacks.new.body }
     ensures kept { IsKept stacks.old.body stacks.new.body }
 {
-    let taken = taken_before(stacks, resources, op, &told);
+    let popped = popped_before(stacks, resources, op, &told);
     match end_part(stacks, resources, op, &told) {
-        Ok(()) => stacks.refuse(resources, told, taken, offset),
+        Ok(()) => stacks.refuse(resources, told, popped, offset),
         Err(_) => Error::out_of_memory(offset),
     }
 }

@@ -39,8 +39,8 @@ pub(crate) fn end_part<R: WasmModuleResources>(
     }
     match op {
         Op::Control(ControlOp::End) if matches!(kind, FrameKind::If) => {
-            let given = params(resources, &block_type);
-            begin_part(stacks, resources, FrameKind::Else, block_type, given)
+            let pushed = params(resources, &block_type);
+            begin_part(stacks, resources, FrameKind::Else, block_type, pushed)
         }
         Op::Exception(ExceptionOp::Catch(_)) if is_tag_refused(told) => {
             begin_part(stacks, resources, FrameKind::LegacyCatch, block_type, &[])
@@ -95,8 +95,8 @@ fn close_part<R: WasmModuleResources>(stacks: &mut Stacks, resources: &R) -> Res
 {
     // The contract alone reads it.
     let _resources = resources;
-    let taken = stacks.own_len();
-    stacks.close(taken, &[])
+    let popped = stacks.own_len();
+    stacks.close(popped, &[])
 }
 
 /// Opens a frame in the place of the innermost one, of the same type, with an operand of each of these types.
@@ -105,16 +105,16 @@ fn begin_part<R: WasmModuleResources>(
     resources: &R,
     kind: FrameKind,
     block_type: BlockType,
-    given: &[ValType],
+    pushed: &[ValType],
 ) -> Result<(), Told>
     requires visit { MayVisit (R.context resources.now) stacks.old }
     requires frame { ForSome (frame_at stacks.old.body 0) (λ f. f.block_type ≡ block_type) }
-    requires given { AllByRecursion (Valid (R.context resources.now)) given.now }
+    requires pushed { AllByRecursion (Valid (R.context resources.now)) pushed.now }
     ensures valid { IsValidBody (R.context resources.now) stacks.new.body }
     ensures kept { IsKept stacks.old.body stacks.new.body }
 {
     // The contract alone reads it.
     let _resources = resources;
-    let taken = stacks.own_len();
-    stacks.reopen_with(taken, kind, block_type, given)
+    let popped = stacks.own_len();
+    stacks.reopen_with(popped, kind, block_type, pushed)
 }

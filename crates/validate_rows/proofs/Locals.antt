@@ -38,19 +38,19 @@ set_kept i u = by (is_local_set u.set_at_entry (locals_set u.present.frames) i)
     by false = refl
 
 -- setting, and then pushes, keeps the types valid and changes the static state alone
-pub set_then_valid : (md : ModuleContext) (i : ℕ) (given : List ValType) → AllByRecursion (Valid md) given → (u : BodyState) → IsValidBody md u → IsValidBody md (body_set_then i given u)
-set_then_valid md i given all u h = (pushed_each_kept md given (body_with_local_set i u)).1 all (set_valid md i u h)
+pub set_then_valid : (md : ModuleContext) (i : ℕ) (pushed : List ValType) → AllByRecursion (Valid md) pushed → (u : BodyState) → IsValidBody md u → IsValidBody md (body_set_then i pushed u)
+set_then_valid md i pushed all u h = (pushed_each_kept md pushed (body_with_local_set i u)).1 all (set_valid md i u h)
 
-pub set_then_kept : (md : ModuleContext) (i : ℕ) (given : List ValType) (u : BodyState) → IsKept u (body_set_then i given u)
-set_then_kept md i given u = kept_on u (body_with_local_set i u) (body_set_then i given u) (set_kept i u) (pushed_each_kept md given (body_with_local_set i u)).0
+pub set_then_kept : (md : ModuleContext) (i : ℕ) (pushed : List ValType) (u : BodyState) → IsKept u (body_set_then i pushed u)
+set_then_kept md i pushed u = kept_on u (body_with_local_set i u) (body_set_then i pushed u) (set_kept i u) (pushed_each_kept md pushed (body_with_local_set i u)).0
 
 -- where the local is set already, nothing more is set
-pub taken_set : (md : ModuleContext) (ws : List ValType) (i : ℕ) (given : List ValType) (v : BodyState) → is_local_set v.set_at_entry (locals_set v.present.frames) i ≡ true → option_map (body_set_then i given) (body_popped_each md ws v) ≡ option_map (body_pushed_each given) (body_popped_each md ws v)
-taken_set md ws i given v set = by (body_popped_each md ws v) refl
+pub taken_set : (md : ModuleContext) (ws : List ValType) (i : ℕ) (pushed : List ValType) (v : BodyState) → is_local_set v.set_at_entry (locals_set v.present.frames) i ≡ true → option_map (body_set_then i pushed) (body_popped_each md ws v) ≡ option_map (body_pushed_each pushed) (body_popped_each md ws v)
+taken_set md ws i pushed v set = by (body_popped_each md ws v) refl
   where
-    by : (o : Option BodyState) → body_popped_each md ws v ≡ o → option_map (body_set_then i given) o ≡ option_map (body_pushed_each given) o
+    by : (o : Option BodyState) → body_popped_each md ws v ≡ o → option_map (body_set_then i pushed) o ≡ option_map (body_pushed_each pushed) o
     by None e = refl
-    by (Some u) e = ap (λ (w : BodyState). Some (body_pushed_each given w)) (set_already md ws i v u e set)
+    by (Some u) e = ap (λ (w : BodyState). Some (body_pushed_each pushed w)) (set_already md ws i v u e set)
 
 -- a local that is set is read as a constant
 pub get_is : (md : ModuleContext) (v : BodyState) (i : ℕ) (t : ValType) → slice_get v.locals i ≡ Some t → is_local_set v.set_at_entry (locals_set v.present.frames) i ≡ true → v.present.frames ≢ [] → step_body md (λ c. row_operator (local_get_row c i)) v ≡ step_body md (λ c. row_operator (plain_row [] (t ∷ []))) v

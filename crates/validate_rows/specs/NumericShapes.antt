@@ -9,9 +9,9 @@ use Rattle.validation_rules.specs.Rows.{Row}
 use Rattle.validation_rules.specs.Shapes.{constant_row, wide_binary_row, wide_multiply_row}
 
 abbrev pub shape_row : Shape → Row
-shape_row (Constant given) = constant_row (number_type given)
-shape_row (Unary taken given) = plain_row (number_type taken ∷ []) (number_type given ∷ [])
-shape_row (Binary taken given) =
-    plain_row (number_type taken ∷ number_type taken ∷ []) (number_type given ∷ [])
+shape_row (Constant pushed) = constant_row (number_type pushed)
+shape_row (Unary expected pushed) = plain_row (number_type expected ∷ []) (number_type pushed ∷ [])
+shape_row (Binary expected pushed) =
+    plain_row (number_type expected ∷ number_type expected ∷ []) (number_type pushed ∷ [])
 shape_row WideBinary = wide_binary_row
 shape_row WideMultiply = wide_multiply_row

@@ -11,7 +11,7 @@ ghost use Rattle.validate_shapes.specs.Operands.{Finds};
 use validate_resources::WasmModuleResources;
 use validate_shapes::accesses::check_shared_memarg;
 use validate_shapes::numbers::{accessed, integer};
-use validate_shapes::operands::{Few, Given, Operands, exchange_found};
+use validate_shapes::operands::{Few, Operands, Pushed, exchange_found};
 use validate_stacks::Stacks;
 use validate_types::{Gate, Refusal, Refused, ValType, WasmFeatures};
 use validate_visit::{AtomicOp, Ordering};
@@ -46,43 +46,43 @@ fn atomic_types<A: Refused, R: WasmModuleResources>(
 ) -> Result<Operands<'static>, A>
     ensures { Finds (R.context resources.now) A.tells (λ cx. atomic_row cx op) stacks.now.body result }
 {
-    let (wanted, given) = match op {
+    let (expected, pushed) = match op {
         AtomicOp::AtomicNotify(memarg) => {
             let address = check_shared_memarg(resources, memarg)?;
-            (Few::Two(address, ValType::I32), Given::One(ValType::I32))
+            (Few::Two(address, ValType::I32), Pushed::One(ValType::I32))
         }
         AtomicOp::AtomicWait(ty, memarg) => {
             let address = check_shared_memarg(resources, memarg)?;
             (
                 Few::Three(address, integer(ty), ValType::I64),
-                Given::One(ValType::I32),
+                Pushed::One(ValType::I32),
             )
         }
         AtomicOp::AtomicFence(ordering) => {
             check_ordering(stacks, ordering)?;
-            (Few::Zero, Given::Nothing)
+            (Few::Zero, Pushed::Nothing)
         }
         AtomicOp::AtomicLoad(access, memarg) => {
             let address = check_shared_memarg(resources, memarg)?;
-            (Few::One(address), Given::One(accessed(access)))
+            (Few::One(address), Pushed::One(accessed(access)))
         }
         AtomicOp::AtomicStore(access, memarg) => {
             let address = check_shared_memarg(resources, memarg)?;
-            (Few::Two(address, accessed(access)), Given::Nothing)
+            (Few::Two(address, accessed(access)), Pushed::Nothing)
         }
         AtomicOp::AtomicRmw(access, _, memarg) => {
             let address = check_shared_memarg(resources, memarg)?;
             let ty = accessed(access);
-            (Few::Two(address, ty), Given::One(ty))
+            (Few::Two(address, ty), Pushed::One(ty))
         }
         AtomicOp::AtomicCmpxchg(access, memarg) => {
             let address = check_shared_memarg(resources, memarg)?;
             let ty = accessed(access);
-            (Few::Three(address, ty, ty), Given::One(ty))
+            (Few::Three(address, ty, ty), Pushed::One(ty))
         }
-        AtomicOp::Pause => (Few::Zero, Given::Nothing),
+        AtomicOp::Pause => (Few::Zero, Pushed::Nothing),
     };
-    Ok(Operands::few(wanted, given))
+    Ok(Operands::few(expected, pushed))
 }
 
 /// An atomic operator, its gate aside.

@@ -52,8 +52,8 @@ pub(crate) fn find_same_results<A: Refused, R: WasmModuleResources>(
     let Some(frame) = stacks.get_frame(outermost) else {
         unreachable!()
     };
-    let wanted = label_types(resources, &frame.block_type, frame.kind);
-    if are_below(resources, results, wanted) {
+    let expected = label_types(resources, &frame.block_type, frame.kind);
+    if are_below(resources, results, expected) {
         Ok(())
     } else {
         Err(A::of(Refusal::OtherResults(type_index)))

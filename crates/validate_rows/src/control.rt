@@ -105,12 +105,12 @@ fn else_after<A: Refused, R: WasmModuleResources>(
     ensures { Moves (R.context resources.now) A.tells (λ cx. delimiter_operator BeginsElse) stacks.old result
         stacks.new }
 {
-    let taken = stacks.find_results(resources, results)?;
+    let popped = stacks.find_results(resources, results)?;
     if !is_if_part(kind) {
         return Err(A::of(Refusal::ElseOutsideIf));
     }
     let params = params(resources, &block_type);
-    stacks.reopen_with(taken, FrameKind::Else, block_type, params)
+    stacks.reopen_with(popped, FrameKind::Else, block_type, params)
 }
 
 /// `end`: closes the innermost frame, which has to have exactly its results, and gives them to the
@@ -182,11 +182,11 @@ fn end_of<A: Refused, R: WasmModuleResources>(
     requires results { results.now ≡ (block_signature (R.context resources.now) block_type).results }
     ensures { Moves (R.context resources.now) A.tells (λ cx. delimiter_operator Ends) stacks.old result stacks.new }
 {
-    let taken = stacks.find_results(resources, results)?;
+    let popped = stacks.find_results(resources, results)?;
     if !may_lack_else(kind, block_type) {
         find_missing_else(resources, &block_type, results)?;
     }
-    stacks.close(taken, results)
+    stacks.close(popped, results)
 }
 
 /// Whether a frame is no first part of an `if`, or one that takes and gives nothing.
@@ -239,16 +239,16 @@ fn refuse_params<A: Refused, R: WasmModuleResources>(
     results: &[ValType],
 ) -> A {
     for depth in 0..results.len() {
-        let wanted = results[results.len() - 1 - depth];
+        let expected = results[results.len() - 1 - depth];
         if params.len() <= depth {
-            return A::of(Refusal::NothingFound(Some(wanted)));
+            return A::of(Refusal::NothingFound(Some(expected)));
         }
-        let given = params[params.len() - 1 - depth];
-        if !resources.is_subtype(given, wanted) {
-            let found = MaybeType::Known(given);
+        let found = params[params.len() - 1 - depth];
+        if !resources.is_subtype(found, expected) {
+            let found = MaybeType::Known(found);
             return A::of(Refusal::Mismatch {
                 depth,
-                wanted,
+                expected,
                 found,
             });
         }

@@ -15,8 +15,8 @@ use validate_resources::WasmModuleResources;
 use validate_shapes::accesses::{AccessKind, check_array_access, check_memory_access};
 use validate_shapes::memories::{check_data_segment, check_memory_index, narrower_of};
 use validate_shapes::numbers::{number, packed};
-use validate_shapes::operands::{Few, Given, Operands, exchange_found};
-use validate_shapes::plain::{plain, taken, unary};
+use validate_shapes::operands::{Few, Operands, Pushed, exchange_found};
+use validate_shapes::plain::{plain, pop_both, unary};
 use validate_stacks::Stacks;
 use validate_types::{Refused, ValType};
 use validate_visit::{MemArg, MemArgTarget, MemoryOp};
@@ -101,7 +101,7 @@ fn store<A: Refused, R: WasmModuleResources>(
     match memarg.target {
         MemArgTarget::Memory(memory_index) => {
             let index_type = check_memory_access(resources, memarg, memory_index)?;
-            taken(stacks, resources, index_type, ty)
+            pop_both(stacks, resources, index_type, ty)
         }
         MemArgTarget::Array(type_index) => store_in_array(
             stacks, resources, memarg, type_index, ty,
@@ -122,7 +122,7 @@ fn init_types<A: Refused, R: WasmModuleResources>(
     check_data_segment(resources, data_index)?;
     Ok(Operands::few(
         Few::Three(address, ValType::I32, ValType::I32),
-        Given::Nothing,
+        Pushed::Nothing,
     ))
 }
 
@@ -137,7 +137,7 @@ fn copy_types<A: Refused, R: WasmModuleResources>(
 {
     let dst = check_memory_index(resources, dst_mem)?;
     let src = check_memory_index(resources, src_mem)?;
-    Ok(Operands::few(Few::Three(dst, src, narrower_of(dst, src)), Given::Nothing))
+    Ok(Operands::few(Few::Three(dst, src, narrower_of(dst, src)), Pushed::Nothing))
 }
 
 /// What `memory.size` gives: `[] -> [it]`.
@@ -149,7 +149,7 @@ fn size_types<A: Refused, R: WasmModuleResources>(
     ensures { Finds (R.context resources.now) A.tells (λ cx. memory_size_row cx memory) stacks.now.body result }
 {
     let address = check_memory_index(resources, memory)?;
-    Ok(Operands::few(Few::Zero, Given::One(address)))
+    Ok(Operands::few(Few::Zero, Pushed::One(address)))
 }
 
 /// What `memory.grow` takes and gives: `[it] -> [it]`.
@@ -161,7 +161,7 @@ fn grow_types<A: Refused, R: WasmModuleResources>(
     ensures { Finds (R.context resources.now) A.tells (λ cx. memory_grow_row cx memory) stacks.now.body result }
 {
     let address = check_memory_index(resources, memory)?;
-    Ok(Operands::few(Few::One(address), Given::One(address)))
+    Ok(Operands::few(Few::One(address), Pushed::One(address)))
 }
 
 /// What `memory.fill` takes: `[it i32 it] -> []`.
@@ -173,7 +173,7 @@ fn fill_types<A: Refused, R: WasmModuleResources>(
     ensures { Finds (R.context resources.now) A.tells (λ cx. memory_fill_row cx memory) stacks.now.body result }
 {
     let address = check_memory_index(resources, memory)?;
-    Ok(Operands::few(Few::Three(address, ValType::I32, address), Given::Nothing))
+    Ok(Operands::few(Few::Three(address, ValType::I32, address), Pushed::Nothing))
 }
 
 /// What `memory.discard` takes: `[it it] -> []`.
@@ -185,7 +185,7 @@ fn discard_types<A: Refused, R: WasmModuleResources>(
     ensures { Finds (R.context resources.now) A.tells (λ cx. memory_discard_row cx memory) stacks.now.body result }
 {
     let address = check_memory_index(resources, memory)?;
-    Ok(Operands::few(Few::Two(address, address), Given::Nothing))
+    Ok(Operands::few(Few::Two(address, address), Pushed::Nothing))
 }
 
 /// `data.drop` takes nothing and gives nothing.
@@ -197,7 +197,7 @@ fn drop_types<A: Refused, R: WasmModuleResources>(
     ensures { Finds (R.context resources.now) A.tells (λ cx. data_drop_row cx data_index) stacks.now.body result }
 {
     check_data_segment(resources, data_index)?;
-    Ok(Operands::few(Few::Zero, Given::Nothing))
+    Ok(Operands::few(Few::Zero, Pushed::Nothing))
 }
 
 /// An operator on memories, its gate aside.

@@ -23,11 +23,11 @@ use validate_visit::{ConvertOp, FloatType, IntegerType, NumberType, NumericOp, P
 /// What an operator on numbers takes and gives.
 #[derive(Clone, Copy)]
 enum Shape {
-    /// `[] -> [given]`
+    /// `[] -> [pushed]`
     Constant(NumberType),
-    /// `[taken] -> [given]`
+    /// `[expected] -> [pushed]`
     Unary(NumberType, NumberType),
-    /// `[taken taken] -> [given]`
+    /// `[expected expected] -> [pushed]`
     Binary(NumberType, NumberType),
     /// `[i64 i64 i64 i64] -> [i64 i64]`
     WideBinary,
@@ -116,14 +116,14 @@ fn convert_types(op: ConvertOp) -> (NumberType, NumberType)
 fn unary_by_call<A: Refused, R: WasmModuleResources>(
     stacks: &mut Stacks,
     resources: &R,
-    taken: NumberType,
-    given: NumberType,
+    expected: NumberType,
+    pushed: NumberType,
 ) -> Result<(), A>
     requires { MayVisit (R.context resources.now) stacks.old }
     ensures { Moves (R.context resources.now) A.tells
-        (λ cx. row_operator (shape_row (Shape.Unary taken given))) stacks.old result stacks.new }
+        (λ cx. row_operator (shape_row (Shape.Unary expected pushed))) stacks.old result stacks.new }
 {
-    unary(stacks, resources, number(taken), number(given))
+    unary(stacks, resources, number(expected), number(pushed))
 }
 
 /// What a wide addition or subtraction takes.
@@ -139,15 +139,15 @@ fn four_integers() -> &'static [ValType]
 fn wide<A: Refused, R: WasmModuleResources>(
     stacks: &mut Stacks,
     resources: &R,
-    wanted: &[ValType],
+    expected: &[ValType],
 ) -> Result<(), A>
     requires visit { MayVisit (R.context resources.now) stacks.old }
-    requires wanted { AllByRecursion (Valid (R.context resources.now)) wanted.now }
+    requires expected { AllByRecursion (Valid (R.context resources.now)) expected.now }
     ensures { Moves (R.context resources.now) A.tells
-        (λ cx. row_operator (plain_row wanted.now (ValType.I64 ∷ ValType.I64 ∷ []))) stacks.old result
+        (λ cx. row_operator (plain_row expected.now (ValType.I64 ∷ ValType.I64 ∷ []))) stacks.old result
         stacks.new }
 {
-    plain(stacks, resources, wanted, twice(ValType::I64))
+    plain(stacks, resources, expected, twice(ValType::I64))
 }
 
 /// An operator on numbers of one type, or a constant, its gate aside.
@@ -164,9 +164,14 @@ pub fn numeric<A: Refused, R: WasmModuleResources>(
         stacks.new }
 {
     match numeric_shape(op) {
-        Shape::Constant(given) => constant(stacks, resources, number(given)),
-        Shape::Unary(taken, given) => unary_by_call(stacks, resources, taken, given),
-        Shape::Binary(taken, given) => binary(stacks, resources, number(taken), number(given)),
+        Shape::Constant(pushed) => constant(stacks, resources, number(pushed)),
+        Shape::Unary(expected, pushed) => unary_by_call(stacks, resources, expected, pushed),
+        Shape::Binary(expected, pushed) => binary(
+            stacks,
+            resources,
+            number(expected),
+            number(pushed),
+        ),
         Shape::WideBinary => wide(stacks, resources, four_integers()),
         Shape::WideMultiply => wide(stacks, resources, twice(ValType::I64)),
     }
@@ -183,6 +188,6 @@ pub fn convert<A: Refused, R: WasmModuleResources>(
     ensures { Moves (R.context resources.now) A.tells (λ cx. row_operator (convert_row op)) stacks.old result
         stacks.new }
 {
-    let (taken, given) = convert_types(op);
-    unary(stacks, resources, number(taken), number(given))
+    let (expected, pushed) = convert_types(op);
+    unary(stacks, resources, number(expected), number(pushed))
 }

@@ -35,7 +35,7 @@ pub fn drop_operand<A: Refused, R: WasmModuleResources>(
 
 /// Whether `select` takes this operand: it takes no reference.
 #[inline(always)]
-fn can_select(operand: &MaybeType) -> bool
+fn is_selectable(operand: &MaybeType) -> bool
     ensures { result ≡ is_selectable operand.now }
 {
     match operand {
@@ -49,10 +49,10 @@ fn can_select(operand: &MaybeType) -> bool
 /// have to be of one type.
 #[inline(always)]
 fn find_selected<A: Refused>(lower: &MaybeType, upper: &MaybeType) -> Result<MaybeType, A>
-    ensures given { IfOk result (λ t. select_result lower.now upper.now ≡ Some t) }
+    ensures pushed { IfOk result (λ t. select_result lower.now upper.now ≡ Some t) }
     ensures refused { OnErr result (select_result lower.now upper.now ≡ None) }
 {
-    if !can_select(lower) || !can_select(upper) {
+    if !is_selectable(lower) || !is_selectable(upper) {
         return Err(A::of(Refusal::SelectOfReferences));
     }
     match (lower, upper) {

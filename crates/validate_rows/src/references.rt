@@ -128,7 +128,7 @@ pub fn ref_func<A: Refused, R: WasmModuleResources>(
 /// The operand that a pop finds, without its null: it has to be a reference.
 #[inline(always)]
 fn find_reference<A: Refused>(stacks: &Stacks) -> Result<MaybeType, A>
-    ensures given { IfOk result (λ t. option_and_then operand_without_null (found_in_body stacks.now.body)
+    ensures pushed { IfOk result (λ t. option_and_then operand_without_null (found_in_body stacks.now.body)
         ≡ Some t) }
     ensures refused { OnErr result (option_and_then operand_without_null (found_in_body stacks.now.body) ≡ None) }
 {

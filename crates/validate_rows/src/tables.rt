@@ -10,7 +10,7 @@ ghost use Rattle.validate_shapes.specs.Operands.{Finds};
 
 use validate_resources::WasmModuleResources;
 use validate_shapes::memories::narrower_of;
-use validate_shapes::operands::{Few, Given, Operands, exchange_found};
+use validate_shapes::operands::{Few, Operands, Pushed, exchange_found};
 use validate_shapes::tables::{element_type_at, table_type_at};
 use validate_stacks::Stacks;
 use validate_types::{RefType, Refusal, Refused, ValType};
@@ -46,7 +46,7 @@ fn get_types<A: Refused, R: WasmModuleResources>(
     let ty = table_type_at(stacks, resources, table)?;
     Ok(Operands::few(
         Few::One(ty.index_type()),
-        Given::One(ValType::Ref(ty.element_type)),
+        Pushed::One(ValType::Ref(ty.element_type)),
     ))
 }
 
@@ -61,7 +61,7 @@ fn set_types<A: Refused, R: WasmModuleResources>(
     let ty = table_type_at(stacks, resources, table)?;
     Ok(Operands::few(
         Few::Two(ty.index_type(), ValType::Ref(ty.element_type)),
-        Given::Nothing,
+        Pushed::Nothing,
     ))
 }
 
@@ -77,7 +77,7 @@ fn grow_types<A: Refused, R: WasmModuleResources>(
     let index = ty.index_type();
     Ok(Operands::few(
         Few::Two(ValType::Ref(ty.element_type), index),
-        Given::One(index),
+        Pushed::One(index),
     ))
 }
 
@@ -90,7 +90,7 @@ fn size_types<A: Refused, R: WasmModuleResources>(
     ensures { Finds (R.context resources.now) A.tells (λ cx. table_size_row cx table) stacks.now.body result }
 {
     let ty = table_type_at(stacks, resources, table)?;
-    Ok(Operands::few(Few::Zero, Given::One(ty.index_type())))
+    Ok(Operands::few(Few::Zero, Pushed::One(ty.index_type())))
 }
 
 /// What `table.fill` takes: `[it e it] -> []`.
@@ -105,7 +105,7 @@ fn fill_types<A: Refused, R: WasmModuleResources>(
     let index = ty.index_type();
     Ok(Operands::few(
         Few::Three(index, ValType::Ref(ty.element_type), index),
-        Given::Nothing,
+        Pushed::Nothing,
     ))
 }
 
@@ -123,7 +123,7 @@ fn init_types<A: Refused, R: WasmModuleResources>(
     check_elements(resources, segment, ty.element_type)?;
     Ok(Operands::few(
         Few::Three(ty.index_type(), ValType::I32, ValType::I32),
-        Given::Nothing,
+        Pushed::Nothing,
     ))
 }
 
@@ -136,7 +136,7 @@ fn drop_types<A: Refused, R: WasmModuleResources>(
     ensures { Finds (R.context resources.now) A.tells (λ cx. elem_drop_row cx elem_index) stacks.now.body result }
 {
     element_type_at(resources, elem_index)?;
-    Ok(Operands::few(Few::Zero, Given::Nothing))
+    Ok(Operands::few(Few::Zero, Pushed::Nothing))
 }
 
 /// What `table.copy` takes: `[it(dst) it(src) it] -> []`, with the narrower of the two.
@@ -152,7 +152,7 @@ fn copy_types<A: Refused, R: WasmModuleResources>(
     let dst = table_type_at(stacks, resources, dst_table)?;
     check_elements(resources, src.element_type, dst.element_type)?;
     let (to, from) = (dst.index_type(), src.index_type());
-    Ok(Operands::few(Few::Three(to, from, narrower_of(to, from)), Given::Nothing))
+    Ok(Operands::few(Few::Three(to, from, narrower_of(to, from)), Pushed::Nothing))
 }
 
 /// What an operator on tables takes and gives, by the tables and segments that it names.

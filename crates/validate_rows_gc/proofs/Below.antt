@@ -30,25 +30,25 @@ dropped_valid md (suc n) v h =
     plus : n + 1 ≡ suc n
     plus = omega arith
 
--- an operator whose step takes what is wanted below so many operands, and gives other operands
-module _ {E : Type 0} (md : ModuleContext) (tells : E → Type 0) (op : Context → Operator) (s w : Stacked) (above : ℕ) (wanted given : List ValType) (is : step_body md op s.body ≡ option_map (λ u. body_pushed_each given u) (body_popped_each md (reverse wanted) (body_dropped above s.body))) where
+-- an operator whose step takes what is expected below so many operands, and gives other operands
+module _ {E : Type 0} (md : ModuleContext) (tells : E → Type 0) (op : Context → Operator) (s w : Stacked) (above : ℕ) (expected pushed : List ValType) (is : step_body md op s.body ≡ option_map (λ u. body_pushed_each pushed u) (body_popped_each md (reverse expected) (body_dropped above s.body))) where
   -- it has no step where that isn't found, or doesn't fit
-  pub unfit_below : s.body.present.frames ≢ [] → has_operands_fitting (body_context md s.body) wanted (body_dropped above s.body) ≡ false → step_body md op s.body ≡ None
+  pub unfit_below : s.body.present.frames ≢ [] → has_operands_fitting (body_context md s.body) expected (body_dropped above s.body) ≡ false → step_body md op s.body ≡ None
   unfit_below there unfit =
-      is ∙ ap (option_map (λ u. body_pushed_each given u)) (not_popped md wanted (body_dropped above s.body) (dropped_open above s.body there) unfit)
+      is ∙ ap (option_map (λ u. body_pushed_each pushed u)) (not_popped md expected (body_dropped above s.body) (dropped_open above s.body there) unfit)
 
   -- where it fits, it goes with those above
-  pub moved_below : has_operands_fitting (body_context md s.body) wanted (body_dropped above s.body) ≡ true → AllByRecursion (Valid md) given → IsValidBody md s.body → (k : ℕ) → k ≡ min (above + length wanted) (length (innermost_operands s.body.present.frames)) → (a : Result (Unit {0}) E) → IfErr a (λ e. tells e → ⊥) → MatchResult a (λ _. w.body ≡ body_pushed_each given (body_dropped k s.body)) (λ _. w ≡ s) → Moves md tells op s a w
+  pub moved_below : has_operands_fitting (body_context md s.body) expected (body_dropped above s.body) ≡ true → AllByRecursion (Valid md) pushed → IsValidBody md s.body → (k : ℕ) → k ≡ min (above + length expected) (length (innermost_operands s.body.present.frames)) → (a : Result (Unit {0}) E) → IfErr a (λ e. tells e → ⊥) → MatchResult a (λ _. w.body ≡ body_pushed_each pushed (body_dropped k s.body)) (λ _. w ≡ s) → Moves md tells op s a w
   moved_below fit valid state k least a told moved =
       let v = s.body in
       let u = body_dropped above v in
-      let x = body_dropped (length wanted) u in
-      let passed = popped_dropped md wanted u fit in
-      let whole : body_dropped k v ≡ x = sym (dropped_below (length wanted) above v ∙ dropped_within (above + length wanted) k v least) in
+      let x = body_dropped (length expected) u in
+      let passed = popped_dropped md expected u fit in
+      let whole : body_dropped k v ≡ x = sym (dropped_below (length expected) above v ∙ dropped_within (above + length expected) k v least) in
       let first : IsKept v u = refl in
-      let second = popped_each_kept md (reverse wanted) u x passed in
-      let third = pushed_each_kept md given x in
-      made_moves md tells op s w (body_pushed_each given x) (is ∙ ap (option_map (λ u. body_pushed_each given u)) passed)
+      let second = popped_each_kept md (reverse expected) u x passed in
+      let third = pushed_each_kept md pushed x in
+      made_moves md tells op s w (body_pushed_each pushed x) (is ∙ ap (option_map (λ u. body_pushed_each pushed u)) passed)
       (third.1 valid (second.1 (dropped_valid md above v state)))
-      (kept_on v x (body_pushed_each given x) (kept_on v u x first second.0) third.0) a told
-      (subst (λ (y : BodyState). MatchResult a (λ _. w.body ≡ body_pushed_each given y) (λ _. w ≡ s)) whole moved)
+      (kept_on v x (body_pushed_each pushed x) (kept_on v u x first second.0) third.0) a told
+      (subst (λ (y : BodyState). MatchResult a (λ _. w.body ≡ body_pushed_each pushed y) (λ _. w ≡ s)) whole moved)

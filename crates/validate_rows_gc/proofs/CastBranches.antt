@@ -73,8 +73,8 @@ module _ (md : ModuleContext) (v : BodyState) (d : ℕ) (types : CastTypes) wher
 
 -- a branch to a label whose last type lies above what is carried there
 module _ (md : ModuleContext) (v : BodyState) (o : v.present.frames ≢ []) (d : ℕ) (types : CastTypes) (others : List ValType) (last : ValType) (there : has_label (heads v.present.frames) d ≡ true) (ends : split_last (label_types_at (body_context md v) (heads v.present.frames) d) ≡ Some (others, last)) (below : md.below (Ref types.carried) last ≡ true) where
-  abbrev wanted : List ValType
-  wanted = others ++ Ref types.from ∷ []
+  abbrev expected : List ValType
+  expected = others ++ Ref types.from ∷ []
 
   abbrev pushed : List ValType
   pushed = others ++ Ref types.left ∷ []
@@ -82,11 +82,11 @@ module _ (md : ModuleContext) (v : BodyState) (o : v.present.frames ≢ []) (d :
   abbrev targets_of : List Target
   targets_of = record { depth = d; carried = with_last (Ref types.carried) } ∷ []
 
-  pub branch_is : step_body md (λ c. staying_operator (λ hs. cast_branch_row c hs d types)) v ≡ option_map (λ u. body_pushed_each pushed u) (body_popped_each md (reverse wanted) v)
+  pub branch_is : step_body md (λ c. staying_operator (λ hs. cast_branch_row c hs d types)) v ≡ option_map (λ u. body_pushed_each pushed u) (body_popped_each md (reverse expected) v)
   branch_is =
       let cx = body_context md v in
       let hs = heads v.present.frames in
-      pushes_is md v o (λ c hs. cast_branch_row c hs d types) true wanted pushed targets_of
+      pushes_is md v o (λ c hs. cast_branch_row c hs d types) true expected pushed targets_of
       (ap (λ b. lookup_row (guard b (split_last (label_types_at cx hs d))) (cast_branch_row_for cx d types)) there
       ∙ (ap (λ q. lookup_row q (cast_branch_row_for cx d types)) ends
-      ∙ ap (λ b. row_with b None wanted [] pushed None targets_of [] false) below))
+      ∙ ap (λ b. row_with b None expected [] pushed None targets_of [] false) below))

@@ -121,13 +121,13 @@ module _ (md : ModuleContext) (v : BodyState) (o : v.present.frames ≢ []) wher
       guarded true q = refl
       guarded false q = refl
 
-  module _ (has : List FieldType → Bool) (wanted : List FieldType → List ValType) (i : ℕ) where
+  module _ (has : List FieldType → Bool) (expected : List FieldType → List ValType) (i : ℕ) where
     -- what is made of it below the descriptor
     abbrev under_row : List FieldType → ValType → Row
-    under_row fields t = plain_row_if (has fields) (wanted fields) (t ∷ [])
+    under_row fields t = plain_row_if (has fields) (expected fields) (t ∷ [])
 
     abbrev with_descriptor : ValType → List FieldType → ValType → Row
-    with_descriptor d fields t = plain_row_if (has fields) (wanted fields ++ d ∷ []) (t ∷ [])
+    with_descriptor d fields t = plain_row_if (has fields) (expected fields ++ d ∷ []) (t ∷ [])
 
     by_descriptor : (d : UnpackedIndex) → descriptor_at md i ≡ Some d → step_body md (λ c. row_operator (described_row_for c i with_descriptor)) v ≡ guard (may_pop cx (found_in_body v) (Some (descriptor true d))) (step_body md (λ c. row_operator (lookups_row (struct_type c i) (allocated_reference c i) under_row)) (body_popped v))
     by_descriptor d e =
@@ -145,7 +145,7 @@ module _ (md : ModuleContext) (v : BodyState) (o : v.present.frames ≢ []) wher
         by b e None a = none b
         by b e (Some fields) None = none b
         by b e (Some fields) (Some t) =
-            above_plain (has fields) (wanted fields) (descriptor true d) (t ∷ [])
+            above_plain (has fields) (expected fields) (descriptor true d) (t ∷ [])
             ∙ ap (λ c. guard c (step_body md (λ c. row_operator (under_row fields t)) (body_popped v))) e
 
     -- there is no descriptor, or what is found isn't one
@@ -308,11 +308,11 @@ module _ (md : ModuleContext) (v : BodyState) (o : v.present.frames ≢ []) wher
         by None is = branch_now None is ∙ not_plain md v [] []
         by (Some q) is =
             let b = md.below (Ref (types p).carried) q.1 in
-            let wanted = q.0 ++ Ref (types p).from ∷ [] in
+            let expected = q.0 ++ Ref (types p).from ∷ [] in
             let left = q.0 ++ Ref (types p).left ∷ [] in
             branch_now (Some q) is
-            ∙ (tested_is md v o b (λ c. is_cast_descriptor c exactly d) wanted left (record { depth = depth; carried = λ found. with_last (Ref (types p).carried) (without_last found) } ∷ [])
-            ∙ (ap (guard b) (tested_top exactly d false n wanted left) ∙ guard_none b))
+            ∙ (tested_is md v o b (λ c. is_cast_descriptor c exactly d) expected left (record { depth = depth; carried = λ found. with_last (Ref (types p).carried) (without_last found) } ∷ [])
+            ∙ (ap (guard b) (tested_top exactly d false n expected left) ∙ guard_none b))
 
     pub branch_rest : (u : BodyState) → found_descriptor cx exactly d (found_in_body v) ≡ true → u ≡ body_popped v → step_body md (λ c. staying_operator (λ hs. cast_desc_eq_branch_row c hs types cast)) v ≡ step_body md (λ c. staying_operator (λ hs. cast_branch_row c hs depth (types p))) u
     branch_rest u found popped = by label refl ∙ ap (λ (w : BodyState). step_body md (λ c. staying_operator (λ hs. cast_branch_row c hs depth (types p))) w) (sym popped)
@@ -329,9 +329,9 @@ module _ (md : ModuleContext) (v : BodyState) (o : v.present.frames ≢ []) wher
             ∙ sym (barred md (body_popped v) (λ c hs. cast_branch_row c hs depth (types p)) (ap (λ r. r.premise) (here None is))))
         by (Some q) is =
             let b = md.below (Ref (types p).carried) q.1 in
-            let wanted = q.0 ++ Ref (types p).from ∷ [] in
+            let expected = q.0 ++ Ref (types p).from ∷ [] in
             let left = q.0 ++ Ref (types p).left ∷ [] in
             branch_now (Some q) is
-            ∙ (tested_is md v o b (λ c. is_cast_descriptor c exactly d) wanted left (record { depth = depth; carried = λ found. with_last (Ref (types p).carried) (without_last found) } ∷ [])
-            ∙ (ap (guard b) (tested_top exactly d true found wanted left)
-            ∙ sym (pushes_is md (body_popped v) (popped_open v o) (λ c hs. cast_branch_row c hs depth (types p)) b wanted left (record { depth = depth; carried = with_last (Ref (types p).carried) } ∷ []) (here (Some q) is))))
+            ∙ (tested_is md v o b (λ c. is_cast_descriptor c exactly d) expected left (record { depth = depth; carried = λ found. with_last (Ref (types p).carried) (without_last found) } ∷ [])
+            ∙ (ap (guard b) (tested_top exactly d true found expected left)
+            ∙ sym (pushes_is md (body_popped v) (popped_open v o) (λ c hs. cast_branch_row c hs depth (types p)) b expected left (record { depth = depth; carried = with_last (Ref (types p).carried) } ∷ []) (here (Some q) is))))

@@ -4,17 +4,17 @@ ghost use Rattle.std.specs.Prelude.{◌≡◌, ◌++◌};
 ghost use Rattle.validate_resources.specs.Context.{Valid};
 ghost use Rattle.validate_types.specs.Types.{unpacked_type};
 ghost use Rattle.validation_rules.specs.Shared as rule;
-ghost use Rattle.validate_shapes.specs.Operands.{few_types, given_types};
-ghost use Rattle.validate_rows_gc.specs.Accesses.{place_types};
+ghost use Rattle.validate_shapes.specs.Operands.{few_types, pushed_types};
+ghost use Rattle.validate_rows_gc.specs.Accesses.{place_operands};
 
 use validate_resources::WasmModuleResources;
-use validate_shapes::operands::{Few, Given};
+use validate_shapes::operands::{Few, Pushed};
 use validate_types::{AbstractHeapType, HeapType, RefType, StorageType, ValType};
 use validate_visit::{Exchange, FieldAccess, SharedRmwOp, Sign, Update};
 
 /// The operands that name a place, beside the indices of its operator.
 #[derive(Clone, Copy)]
-pub enum Place {
+pub enum PlaceOperands {
     /// None: a global.
     Named,
     /// One: an address of a table, or a reference to a struct.
@@ -98,37 +98,37 @@ pub fn is_read(access: FieldAccess) -> bool
 }
 
 /// What it takes: the operands that name the place, and on them the values.
-pub fn wanted_by(place: Place, access: FieldAccess, value: ValType) -> Few
-    ensures { few_types result ≡ place_types place ++ rule.wanted_by access value }
+pub fn expected_by(place: PlaceOperands, access: FieldAccess, value: ValType) -> Few
+    ensures { few_types result ≡ place_operands place ++ rule.expected_by access value }
 {
     match access {
         FieldAccess::Whole(Update::Value(Exchange::Get)) | FieldAccess::GetPacked(_) => {
             match place {
-                Place::Named => Few::Zero,
-                Place::One(a) => Few::One(a),
-                Place::Two(a, b) => Few::Two(a, b),
+                PlaceOperands::Named => Few::Zero,
+                PlaceOperands::One(a) => Few::One(a),
+                PlaceOperands::Two(a, b) => Few::Two(a, b),
             }
         }
         FieldAccess::Whole(Update::Value(Exchange::Cmpxchg)) => match place {
-            Place::Named => Few::Two(value, value),
-            Place::One(a) => Few::Three(a, value, value),
-            Place::Two(a, b) => Few::Four(a, b, value, value),
+            PlaceOperands::Named => Few::Two(value, value),
+            PlaceOperands::One(a) => Few::Three(a, value, value),
+            PlaceOperands::Two(a, b) => Few::Four(a, b, value, value),
         },
         FieldAccess::Whole(_) => match place {
-            Place::Named => Few::One(value),
-            Place::One(a) => Few::Two(a, value),
-            Place::Two(a, b) => Few::Three(a, b, value),
+            PlaceOperands::Named => Few::One(value),
+            PlaceOperands::One(a) => Few::Two(a, value),
+            PlaceOperands::Two(a, b) => Few::Three(a, b, value),
         },
     }
 }
 
 /// What it gives.
-pub fn given_by(access: FieldAccess, value: ValType) -> Given<'static>
-    ensures { given_types result ≡ rule.given_by access value }
+pub fn pushed_by(access: FieldAccess, value: ValType) -> Pushed<'static>
+    ensures { pushed_types result ≡ rule.pushed_by access value }
 {
     match access {
-        FieldAccess::Whole(Update::Value(Exchange::Set)) => Given::Nothing,
-        _ => Given::One(value),
+        FieldAccess::Whole(Update::Value(Exchange::Set)) => Pushed::Nothing,
+        _ => Pushed::One(value),
     }
 }
 

@@ -21,7 +21,7 @@ use validate_shapes::aggregates::{
     allocated_reference, array_field_at, check_mutable_array, packing, type_reference,
 };
 use validate_shapes::memories::check_data_segment;
-use validate_shapes::operands::{Few, Given, Operands, Wanted, exchange_found};
+use validate_shapes::operands::{Expected, Few, Operands, Pushed, exchange_found};
 use validate_shapes::tables::element_type_at;
 use validate_stacks::Stacks;
 use validate_types::{AbstractHeapType, FieldType, Refusal, Refused, StorageType, ValType};
@@ -58,17 +58,17 @@ fn check_element_segment<A: Refused, R: WasmModuleResources>(
         ≡ false) }
 {
     laws(resources);
-    let ValType::Ref(wanted) = element.element_type.unpack() else {
+    let ValType::Ref(expected) = element.element_type.unpack() else {
         return Err(A::of(Refusal::NoReferences(name)));
     };
     let found = element_type_at(resources, elem_index)?;
-    if resources.is_subtype(ValType::Ref(found), ValType::Ref(wanted)) {
+    if resources.is_subtype(ValType::Ref(found), ValType::Ref(expected)) {
         Ok(())
     } else {
         Err(A::of(Refusal::OtherElements {
             name,
             segment: elem_index,
-            wanted,
+            expected,
             found,
         }))
     }
@@ -96,7 +96,7 @@ fn check_copied<A: Refused, R: WasmModuleResources>(
         Ok(())
     } else {
         Err(A::of(Refusal::OtherStorage {
-            wanted: to.element_type,
+            expected: to.element_type,
             found: from.element_type,
         }))
     }
@@ -116,7 +116,7 @@ fn new_types<A: Refused, R: WasmModuleResources>(
         .element_type
         .unpack();
     let made = allocated_reference(stacks, resources, index)?;
-    Ok(Operands::few(Few::Two(value, ValType::I32), Given::One(made)))
+    Ok(Operands::few(Few::Two(value, ValType::I32), Pushed::One(made)))
 }
 
 /// What `array.new_default` takes and gives.
@@ -138,7 +138,7 @@ fn new_default_types<A: Refused, R: WasmModuleResources>(
         }));
     }
     let made = allocated_reference(stacks, resources, index)?;
-    Ok(Operands::few(Few::One(ValType::I32), Given::One(made)))
+    Ok(Operands::few(Few::One(ValType::I32), Pushed::One(made)))
 }
 
 /// What `array.new_fixed` takes and gives: a value for each place.
@@ -157,8 +157,8 @@ fn new_fixed_types<A: Refused, R: WasmModuleResources>(
         .unpack();
     let made = allocated_reference(stacks, resources, index)?;
     Ok(Operands {
-        wanted: Wanted::Run(value, size),
-        given: Given::One(made),
+        expected: Expected::Run(value, size),
+        pushed: Pushed::One(made),
     })
 }
 
@@ -175,7 +175,7 @@ fn new_data_types<A: Refused, R: WasmModuleResources>(
     let element = array_field_at(stacks, resources, index)?;
     check_data(resources, data_index, element, Refusal::NoNewData)?;
     let made = allocated_reference(stacks, resources, index)?;
-    Ok(Operands::few(Few::Two(ValType::I32, ValType::I32), Given::One(made)))
+    Ok(Operands::few(Few::Two(ValType::I32, ValType::I32), Pushed::One(made)))
 }
 
 /// What `array.new_elem` takes and gives: a place of the element segment, and so many.
@@ -191,7 +191,7 @@ fn new_elem_types<A: Refused, R: WasmModuleResources>(
     let element = array_field_at(stacks, resources, index)?;
     check_element_segment(resources, elem_index, element, "array.new_elem")?;
     let made = allocated_reference(stacks, resources, index)?;
-    Ok(Operands::few(Few::Two(ValType::I32, ValType::I32), Given::One(made)))
+    Ok(Operands::few(Few::Two(ValType::I32, ValType::I32), Pushed::One(made)))
 }
 
 /// What `array.get` takes and gives, of an array whose places hold whole values.
@@ -211,7 +211,7 @@ fn get_types<A: Refused, R: WasmModuleResources>(
     let from = type_reference(stacks, resources, true, index)?;
     Ok(Operands::few(
         Few::Two(from, ValType::I32),
-        Given::One(element.element_type.unpack()),
+        Pushed::One(element.element_type.unpack()),
     ))
 }
 
@@ -232,7 +232,7 @@ fn get_packed_types<A: Refused, R: WasmModuleResources>(
     let from = type_reference(stacks, resources, true, index)?;
     Ok(Operands::few(
         Few::Two(from, ValType::I32),
-        Given::One(element.element_type.unpack()),
+        Pushed::One(element.element_type.unpack()),
     ))
 }
 
@@ -250,7 +250,7 @@ fn set_types<A: Refused, R: WasmModuleResources>(
     check_mutable_array(element)?;
     let into = type_reference(stacks, resources, true, index)?;
     let value = element.element_type.unpack();
-    Ok(Operands::few(Few::Three(into, ValType::I32, value), Given::Nothing))
+    Ok(Operands::few(Few::Three(into, ValType::I32, value), Pushed::Nothing))
 }
 
 /// What `array.fill` takes: from this place on, with this value, so many.
@@ -268,7 +268,7 @@ fn fill_types<A: Refused, R: WasmModuleResources>(
     let value = element.element_type.unpack();
     Ok(Operands::few(
         Few::Four(into, ValType::I32, value, ValType::I32),
-        Given::Nothing,
+        Pushed::Nothing,
     ))
 }
 
@@ -290,7 +290,7 @@ fn copy_types<A: Refused, R: WasmModuleResources>(
     let from = type_reference(stacks, resources, true, src_index)?;
     Ok(Operands::few(
         Few::Five(into, ValType::I32, from, ValType::I32, ValType::I32),
-        Given::Nothing,
+        Pushed::Nothing,
     ))
 }
 
@@ -310,7 +310,7 @@ fn init_data_types<A: Refused, R: WasmModuleResources>(
     let into = type_reference(stacks, resources, true, index)?;
     Ok(Operands::few(
         Few::Four(into, ValType::I32, ValType::I32, ValType::I32),
-        Given::Nothing,
+        Pushed::Nothing,
     ))
 }
 
@@ -330,7 +330,7 @@ fn init_elem_types<A: Refused, R: WasmModuleResources>(
     let into = type_reference(stacks, resources, true, index)?;
     Ok(Operands::few(
         Few::Four(into, ValType::I32, ValType::I32, ValType::I32),
-        Given::Nothing,
+        Pushed::Nothing,
     ))
 }
 

@@ -301,8 +301,8 @@ pub(crate) fn cast_branch<A: Refused, R: WasmModuleResources>(
     let cast = branch.types(cast);
     branch.check_carried(resources, last, cast.carried)?;
     stacks.find_under(resources, above, others, ValType::Ref(cast.from))?;
-    let taken = stacks.own_len().min(others.len() + 1 + above);
-    stacks.exchange_topped(taken, others, MaybeType::Known(ValType::Ref(cast.left)))
+    let popped = stacks.own_len().min(others.len() + 1 + above);
+    stacks.exchange_topped(popped, others, MaybeType::Known(ValType::Ref(cast.left)))
 }
 
 /// A branch by a cast: what is carried to the label is of the type cast to, or isn't.

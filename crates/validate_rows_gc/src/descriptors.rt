@@ -85,12 +85,12 @@ pub fn ref_get_desc<A: Refused, R: WasmModuleResources>(
         return Err(A::of(Refusal::NoDescriptor));
     };
     let found = *stacks.find_any(0)?;
-    let given = RefType {
+    let pushed = RefType {
         nullable: false,
         heap_type: declared_heap(is_found_exact(resources, exact, found), descriptor.unpack()),
     };
     let own = stacks.own_len();
-    stacks.replace(own.min(1), MaybeType::Known(ValType::Ref(given)))
+    stacks.replace(own.min(1), MaybeType::Known(ValType::Ref(pushed)))
 }
 
 /// The type of the descriptors of the type that a cast leads to, which has to be one of the module and to have
@@ -131,8 +131,8 @@ fn find_descriptor<A: Refused, R: WasmModuleResources>(
     ensures refused { OnErr result (found_descriptor (body_context (R.context resources.now) stacks.now.body)
         exact descriptor (found_in_body stacks.now.body) ≡ false) }
 {
-    let wanted = ValType::Ref(RefType::concrete(true, descriptor));
-    stacks.find_operands(resources, 0, &[wanted])?;
+    let expected = ValType::Ref(RefType::concrete(true, descriptor));
+    stacks.find_operands(resources, 0, &[expected])?;
     let found = *stacks.find_any(0)?;
     if exact {
         check_exact(resources, descriptor, found)
@@ -157,11 +157,11 @@ fn check_exact<A: Refused, R: WasmModuleResources>(
     let MaybeType::Known(found) = found else {
         return Ok(());
     };
-    let wanted = ValType::Ref(RefType::exact(true, descriptor));
-    if resources.is_subtype(found, wanted) {
+    let expected = ValType::Ref(RefType::exact(true, descriptor));
+    if resources.is_subtype(found, expected) {
         Ok(())
     } else {
-        Err(A::of(Refusal::NotExact { wanted, found }))
+        Err(A::of(Refusal::NotExact { expected, found }))
     }
 }
 

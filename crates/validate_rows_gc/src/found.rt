@@ -54,8 +54,8 @@ fn is_found_below<R: WasmModuleResources>(
         MaybeType::Bottom | MaybeType::UnknownRef(None) => true,
         MaybeType::UnknownRef(Some(actual)) => actual.is_subtype_of(expected),
         MaybeType::Known(ValType::Ref(actual)) => {
-            let wanted = abstract_beside(resources, expected, actual);
-            resources.is_subtype(ValType::Ref(actual), ValType::Ref(wanted))
+            let upper = abstract_beside(resources, expected, actual);
+            resources.is_subtype(ValType::Ref(actual), ValType::Ref(upper))
         }
         MaybeType::Known(_) => false,
     }
@@ -64,10 +64,10 @@ fn is_found_below<R: WasmModuleResources>(
 /// The refusal of an operand that doesn't.
 #[cold]
 #[inline(never)]
-fn not_below<A: Refused>(wanted: AbstractHeapType, found: MaybeType) -> A {
+fn not_below<A: Refused>(expected: AbstractHeapType, found: MaybeType) -> A {
     A::of(match found {
         MaybeType::Known(ValType::Ref(_)) | MaybeType::UnknownRef(_) | MaybeType::Bottom => {
-            Refusal::NotBelow { wanted, found }
+            Refusal::NotBelow { expected, found }
         }
         MaybeType::Known(ty) => Refusal::NoReference(ty),
     })
@@ -80,20 +80,20 @@ fn find_below<A: Refused, R: WasmModuleResources>(
     stacks: &Stacks,
     resources: &R,
     depth: usize,
-    wanted: AbstractHeapType,
+    expected: AbstractHeapType,
 ) -> Result<MaybeType, A>
     requires { IsValidBody (R.context resources.now) stacks.now.body }
     ensures found { IfOk result (λ t. found_after_pops_in_body depth stacks.now.body ≡ Some t) }
-    ensures passed { IfOk result (λ t. is_found_below (R.context resources.now) wanted t ≡ true) }
+    ensures passed { IfOk result (λ t. is_found_below (R.context resources.now) expected t ≡ true) }
     ensures operand { IfOk result (λ t. IsValidOperand (R.context resources.now) t) }
-    ensures refused { OnErr result (option_and_then (operand_found_below (R.context resources.now) wanted)
+    ensures refused { OnErr result (option_and_then (operand_found_below (R.context resources.now) expected)
         (found_after_pops_in_body depth stacks.now.body) ≡ None) }
 {
     let found = *stacks.find_any(depth)?;
-    if is_found_below(resources, wanted, found) {
+    if is_found_below(resources, expected, found) {
         Ok(found)
     } else {
-        Err(not_below(wanted, found))
+        Err(not_below(expected, found))
     }
 }
 
@@ -102,13 +102,13 @@ fn find_below<A: Refused, R: WasmModuleResources>(
 pub fn measure<A: Refused, R: WasmModuleResources>(
     stacks: &mut Stacks,
     resources: &R,
-    wanted: AbstractHeapType,
+    expected: AbstractHeapType,
 ) -> Result<(), A>
     requires { MayVisit (R.context resources.now) stacks.old }
-    ensures { Moves (R.context resources.now) A.tells (λ cx. row_operator (measure_row cx wanted)) stacks.old result
+    ensures { Moves (R.context resources.now) A.tells (λ cx. row_operator (measure_row cx expected)) stacks.old result
         stacks.new }
 {
-    find_below(stacks, resources, 0, wanted)?;
+    find_below(stacks, resources, 0, expected)?;
     let own = stacks.own_len();
     stacks.replace(own.min(1), MaybeType::Known(ValType::I32))
 }

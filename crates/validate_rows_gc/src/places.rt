@@ -17,14 +17,14 @@ ghost use Rattle.validate_stacks.specs.Visits.{MayVisit};
 ghost use Rattle.validate_shapes.specs.Operands.{few_types};
 ghost use Rattle.validate_rows_gc.specs.Accesses.{AreValidTested, tested_row};
 
-use crate::accesses::{Place, given_by, is_allowed, is_read, name_of, wanted_by};
+use crate::accesses::{PlaceOperands, expected_by, is_allowed, is_read, name_of, pushed_by};
 use validate_resources::WasmModuleResources;
 use validate_shapes::aggregates::{
     array_field_at, check_mutable_array, check_mutable_field, packing, struct_field_at,
     type_reference,
 };
 use validate_shapes::globals::find_global;
-use validate_shapes::operands::{Few, Given, Operands, exchange_operands};
+use validate_shapes::operands::{Few, Operands, Pushed, exchange_operands};
 use validate_shapes::plain::unary;
 use validate_shapes::tables::table_type_at;
 use validate_stacks::Stacks;
@@ -39,9 +39,9 @@ use validate_visit::{Exchange, FieldAccess, FieldIndex, SharedOp, Update};
 #[derive(Clone, Copy)]
 pub struct TestedOperands {
     /// What it takes.
-    pub wanted: Few,
+    pub expected: Few,
     /// What it gives.
-    pub given: Given<'static>,
+    pub pushed: Pushed<'static>,
     /// Whether its place can be accessed so.
     pub allowed: bool,
 }
@@ -184,8 +184,8 @@ fn global_access_types<A: Refused, R: WasmModuleResources>(
         return Err(global_not_allowed(access));
     }
     Ok(TestedOperands {
-        wanted: wanted_by(Place::Named, whole, value),
-        given: given_by(whole, value),
+        expected: expected_by(PlaceOperands::Named, whole, value),
+        pushed: pushed_by(whole, value),
         allowed,
     })
 }
@@ -211,8 +211,8 @@ fn table_access_types<A: Refused, R: WasmModuleResources>(
         return Err(table_not_allowed(access));
     }
     Ok(TestedOperands {
-        wanted: wanted_by(Place::One(table.index_type()), whole, value),
-        given: given_by(whole, value),
+        expected: expected_by(PlaceOperands::One(table.index_type()), whole, value),
+        pushed: pushed_by(whole, value),
         allowed,
     })
 }
@@ -296,8 +296,8 @@ fn struct_access_types<A: Refused, R: WasmModuleResources>(
     let holder = type_reference(stacks, resources, true, field.struct_type_index)?;
     let value = held.element_type.unpack();
     Ok(TestedOperands {
-        wanted: wanted_by(Place::One(holder), access, value),
-        given: given_by(access, value),
+        expected: expected_by(PlaceOperands::One(holder), access, value),
+        pushed: pushed_by(access, value),
         allowed,
     })
 }
@@ -320,8 +320,8 @@ fn array_access_types<A: Refused, R: WasmModuleResources>(
     let holder = type_reference(stacks, resources, true, type_index)?;
     let value = held.element_type.unpack();
     Ok(TestedOperands {
-        wanted: wanted_by(Place::Two(holder, ValType::I32), access, value),
-        given: given_by(access, value),
+        expected: expected_by(PlaceOperands::Two(holder, ValType::I32), access, value),
+        pushed: pushed_by(access, value),
         allowed,
     })
 }
@@ -366,12 +366,12 @@ fn access_types<A: Refused, R: WasmModuleResources>(
 fn find_few<A: Refused, R: WasmModuleResources>(
     stacks: &Stacks,
     resources: &R,
-    wanted: Few,
+    expected: Few,
 ) -> Result<(), A>
-    requires types { AllByRecursion (Valid (R.context resources.now)) (few_types wanted) }
+    requires types { AllByRecursion (Valid (R.context resources.now)) (few_types expected) }
     requires state { IsValidBody (R.context resources.now) stacks.now.body }
 {
-    match wanted {
+    match expected {
         Few::Zero => Ok(()),
         Few::One(a) => stacks.find_operands(resources, 0, &[a]),
         Few::Two(a, b) => stacks.find_operands(resources, 0, &[a, b]),
@@ -397,10 +397,10 @@ fn access<A: Refused, R: WasmModuleResources>(
         exchange_operands(
             stacks,
             resources,
-            Operands::few(access.wanted, access.given),
+            Operands::few(access.expected, access.pushed),
         )
     } else {
-        find_few(stacks, resources, access.wanted)?;
+        find_few(stacks, resources, access.expected)?;
         Err(not_allowed_late(op))
     }
 }

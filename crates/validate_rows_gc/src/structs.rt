@@ -26,7 +26,7 @@ use validate_shapes::aggregates::{
     allocated_reference, check_mutable_field, descriptor_at, packing, struct_field_at,
     struct_type_at, type_reference,
 };
-use validate_shapes::operands::{Few, Given, Operands, Wanted, exchange_found};
+use validate_shapes::operands::{Expected, Few, Operands, Pushed, exchange_found};
 use validate_stacks::Stacks;
 use validate_types::{FieldType, RefType, Refusal, Refused, StructType, ValType};
 use validate_visit::{FieldIndex, Sign, StructOp};
@@ -94,9 +94,9 @@ fn find_new_descriptor<A: Refused, R: WasmModuleResources>(
     let Some(descriptor) = descriptor_at(resources, type_index)? else {
         return Err(A::of(Refusal::NotDescribed { type_index, name }));
     };
-    let wanted = ValType::Ref(RefType::exact(true, descriptor));
-    stacks.find_operands(resources, 0, &[wanted])?;
-    Ok(wanted)
+    let expected = ValType::Ref(RefType::exact(true, descriptor));
+    stacks.find_operands(resources, 0, &[expected])?;
+    Ok(expected)
 }
 
 /// What `struct.new` takes and gives: a value for each field.
@@ -112,8 +112,8 @@ fn new_types<'a, A: Refused, R: WasmModuleResources>(
     let struct_type = undescribed_struct_at(stacks, resources, index, "struct.new")?;
     let made = allocated_reference(stacks, resources, index)?;
     Ok(Operands {
-        wanted: Wanted::Fields(struct_type.fields.as_slice()),
-        given: Given::One(made),
+        expected: Expected::Fields(struct_type.fields.as_slice()),
+        pushed: Pushed::One(made),
     })
 }
 
@@ -130,7 +130,7 @@ fn new_default_types<A: Refused, R: WasmModuleResources>(
     let struct_type = undescribed_struct_at(stacks, resources, index, "struct.new_default")?;
     check_defaultable(struct_type.fields.as_slice())?;
     let made = allocated_reference(stacks, resources, index)?;
-    Ok(Operands::few(Few::Zero, Given::One(made)))
+    Ok(Operands::few(Few::Zero, Pushed::One(made)))
 }
 
 /// What `struct.new_default_desc` takes and gives, with a descriptor of this type.
@@ -147,7 +147,7 @@ fn new_default_desc_types<A: Refused, R: WasmModuleResources>(
     let struct_type = struct_type_at(stacks, resources, index)?;
     check_defaultable(struct_type.fields.as_slice())?;
     let made = allocated_reference(stacks, resources, index)?;
-    Ok(Operands::few(Few::One(descriptor), Given::One(made)))
+    Ok(Operands::few(Few::One(descriptor), Pushed::One(made)))
 }
 
 /// What `struct.get` takes and gives, of a field that holds a whole value.
@@ -165,7 +165,7 @@ fn get_types<A: Refused, R: WasmModuleResources>(
         return Err(A::of(Refusal::FieldPacking(packing(None))));
     }
     let from = type_reference(stacks, resources, true, index.struct_type_index)?;
-    Ok(Operands::few(Few::One(from), Given::One(field.element_type.unpack())))
+    Ok(Operands::few(Few::One(from), Pushed::One(field.element_type.unpack())))
 }
 
 /// What `struct.get_s` and `struct.get_u` take and give, of a field that holds a packed value.
@@ -183,7 +183,7 @@ fn get_packed_types<A: Refused, R: WasmModuleResources>(
         return Err(A::of(Refusal::FieldPacking(packing(Some(sign)))));
     }
     let from = type_reference(stacks, resources, true, index.struct_type_index)?;
-    Ok(Operands::few(Few::One(from), Given::One(field.element_type.unpack())))
+    Ok(Operands::few(Few::One(from), Pushed::One(field.element_type.unpack())))
 }
 
 /// What `struct.set` takes.
@@ -199,7 +199,7 @@ fn set_types<A: Refused, R: WasmModuleResources>(
     let field = struct_field_at(stacks, resources, index)?;
     check_mutable_field(field)?;
     let into = type_reference(stacks, resources, true, index.struct_type_index)?;
-    Ok(Operands::few(Few::Two(into, field.element_type.unpack()), Given::Nothing))
+    Ok(Operands::few(Few::Two(into, field.element_type.unpack()), Pushed::Nothing))
 }
 
 /// `struct.new`: `[t*] -> [(ref s)]`.
@@ -249,8 +249,8 @@ fn new_desc<A: Refused, R: WasmModuleResources>(
     let made = allocated_reference(stacks, resources, index)?;
     let fields = struct_type.fields.as_slice();
     stacks.find_fields(resources, 1, fields)?;
-    let taken = stacks.own_len().min(fields.len() + 1);
-    stacks.exchange(taken, &[made])
+    let popped = stacks.own_len().min(fields.len() + 1);
+    stacks.exchange(popped, &[made])
 }
 
 /// `struct.new_default_desc`: `[(ref null d)] -> [(ref s)]`. The descriptor is looked for first here too.

@@ -88,15 +88,15 @@ module _ (md : ModuleContext) (v : BodyState) (d : ℕ) (r : FlatFrame) (h : fra
   abbrev inner : Innermost v r
   inner = innermost v r h
 
-  abbrev given : BodyState
-  given = record v { present = state_after_exit v.present.left (results cx inner.frame.head) inner.outer }
+  abbrev pushed : BodyState
+  pushed = record v { present = state_after_exit v.present.left (results cx inner.frame.head) inner.outer }
 
-  delegate_row : step_body md (λ c. delegate_operator d) v ≡ guard (has_label (heads inner.outer) d && (is_try inner.frame.head.kind && may_close cx inner.frame)) (Some given)
+  delegate_row : step_body md (λ c. delegate_operator d) v ≡ guard (has_label (heads inner.outer) d && (is_try inner.frame.head.kind && may_close cx inner.frame)) (Some pushed)
   delegate_row =
       ap (λ gs. option_map (λ (s : State). record v { present = s }) (step_in cx (delegate_operator d) gs v.present.left)) inner.is
       ∙ through (has_label (heads inner.outer) d && (is_try inner.frame.head.kind && may_close cx inner.frame)) refl
     where
-      through : (b : Bool) → (has_label (heads inner.outer) d && (is_try inner.frame.head.kind && may_close cx inner.frame)) ≡ b → option_map (λ (s : State). record v { present = s }) (step_in cx (delegate_operator d) (inner.frame ∷ inner.outer) v.present.left) ≡ guard b (Some given)
+      through : (b : Bool) → (has_label (heads inner.outer) d && (is_try inner.frame.head.kind && may_close cx inner.frame)) ≡ b → option_map (λ (s : State). record v { present = s }) (step_in cx (delegate_operator d) (inner.frame ∷ inner.outer) v.present.left) ≡ guard b (Some pushed)
       through true e = rw e refl
       through false e = rw e refl
 
@@ -107,16 +107,16 @@ module _ (md : ModuleContext) (v : BodyState) (d : ℕ) (r : FlatFrame) (h : fra
   delegate_refused : closed_body md v ≡ None → step_body md (λ c. delegate_operator d) v ≡ None
   delegate_refused n =
       delegate_row
-      ∙ ap (λ b. guard (has_label (heads inner.outer) d && (is_try inner.frame.head.kind && b)) (Some given)) (guarded_none _ _ (sym closed_by ∙ n))
-      ∙ ap (λ b. guard (has_label (heads inner.outer) d && b) (Some given)) (and_false (is_try inner.frame.head.kind))
-      ∙ ap (λ b. guard b (Some given)) (and_false (has_label (heads inner.outer) d))
+      ∙ ap (λ b. guard (has_label (heads inner.outer) d && (is_try inner.frame.head.kind && b)) (Some pushed)) (guarded_none _ _ (sym closed_by ∙ n))
+      ∙ ap (λ b. guard (has_label (heads inner.outer) d && b) (Some pushed)) (and_false (is_try inner.frame.head.kind))
+      ∙ ap (λ b. guard b (Some pushed)) (and_false (has_label (heads inner.outer) d))
 
   -- it isn't the body of a `try`
   pub delegate_of_another : is_try r.kind ≡ false → step_body md (λ c. delegate_operator d) v ≡ None
   delegate_of_another k =
       delegate_row
-      ∙ ap (λ b. guard (has_label (heads inner.outer) d && (b && may_close cx inner.frame)) (Some given)) (ap is_try inner.kind ∙ k)
-      ∙ ap (λ b. guard b (Some given)) (and_false (has_label (heads inner.outer) d))
+      ∙ ap (λ b. guard (has_label (heads inner.outer) d && (b && may_close cx inner.frame)) (Some pushed)) (ap is_try inner.kind ∙ k)
+      ∙ ap (λ b. guard b (Some pushed)) (and_false (has_label (heads inner.outer) d))
 
   -- the label is counted outside the frame
   has_outer : has_label (heads inner.outer) d ≡ is_some (frame_at v (d + 1))
@@ -131,15 +131,15 @@ module _ (md : ModuleContext) (v : BodyState) (d : ℕ) (r : FlatFrame) (h : fra
   pub delegate_nowhere : frame_at v (d + 1) ≡ None → step_body md (λ c. delegate_operator d) v ≡ None
   delegate_nowhere n =
       delegate_row
-      ∙ ap (λ b. guard (b && (is_try inner.frame.head.kind && may_close cx inner.frame)) (Some given)) (has_outer ∙ ap is_some n)
+      ∙ ap (λ b. guard (b && (is_try inner.frame.head.kind && may_close cx inner.frame)) (Some pushed)) (has_outer ∙ ap is_some n)
 
   pub delegate_passes : (u w : BodyState) (g : FlatFrame) (rs : List ValType) → closed_body md v ≡ Some u → is_try r.kind ≡ true → frame_at v (d + 1) ≡ Some g → rs ≡ (block_signature md r.block_type).results → w ≡ body_pushed_each rs u → step_body md (λ c. delegate_operator d) v ≡ Some w
   delegate_passes u w g rs closed k there same p =
       let s = guarded_some _ _ u (sym closed_by ∙ closed) in
       let left : BodyState = record v { present = record { frames = inner.outer; left = v.present.left } } in
       delegate_row
-      ∙ ap₂ (λ b c. guard (b && (c && may_close cx inner.frame)) (Some given)) (has_outer ∙ ap is_some there) (ap is_try inner.kind ∙ k)
-      ∙ ap (λ b. guard b (Some given)) s.0
+      ∙ ap₂ (λ b c. guard (b && (c && may_close cx inner.frame)) (Some pushed)) (has_outer ∙ ap is_some there) (ap is_try inner.kind ∙ k)
+      ∙ ap (λ b. guard b (Some pushed)) s.0
       ∙ ap Some
       (ap (λ t. record v { present = state_after_exit v.present.left (block_signature md t).results inner.outer }) inner.block_type
       ∙ ap (λ ts. record v { present = state_after_exit v.present.left ts inner.outer }) (sym same)

@@ -26,23 +26,23 @@ never_second (Some x) row = refl
 module _ (cx : Context) (hs : List Head) (i : ℕ) (handlers : List Handle) where
   pub not_a_continuation : continuation_signature cx i ≡ None → IsNeverResumed cx hs i handlers
   not_a_continuation n = record {
-    barred = λ wanted.
-        ap (λ o. (lookups_row o (type_reference cx nullable_reference i) (λ (f : Signature) (t : ValType). lookups_row (wanted f) (all_clauses cx hs f handlers) (λ ts clauses. resumed_row cx hs f ts t clauses))).premise) n;
+    barred = λ expected.
+        ap (λ o. (lookups_row o (type_reference cx nullable_reference i) (λ (f : Signature) (t : ValType). lookups_row (expected f) (all_clauses cx hs f handlers) (λ ts clauses. resumed_row cx hs f ts t clauses))).premise) n;
   }
 
   pub not_a_reference : type_reference cx nullable_reference i ≡ None → IsNeverResumed cx hs i handlers
   not_a_reference n = record {
-    barred = λ wanted.
-        let row : Signature → ValType → Row = λ f t. lookups_row (wanted f) (all_clauses cx hs f handlers) (λ ts clauses. resumed_row cx hs f ts t clauses) in
+    barred = λ expected.
+        let row : Signature → ValType → Row = λ f t. lookups_row (expected f) (all_clauses cx hs f handlers) (λ ts clauses. resumed_row cx hs f ts t clauses) in
         ap (λ o. (lookups_row (continuation_signature cx i) o row).premise) n ∙ never_second (continuation_signature cx i) row;
   }
 
   module _ (f : Signature) (is : continuation_signature cx i ≡ Some f) where
     pub not_handled : are_fitting_handlers cx hs f handlers ≡ false → IsNeverResumed cx hs i handlers
     not_handled n = record {
-      barred = λ wanted.
-          ap (λ o. (lookups_row o (type_reference cx nullable_reference i) (λ (f : Signature) (t : ValType). lookups_row (wanted f) (all_clauses cx hs f handlers) (λ ts clauses. resumed_row cx hs f ts t clauses))).premise) is
-          ∙ referring (type_reference cx nullable_reference i) (wanted f) (all_clauses cx hs f handlers) (sym (clauses_by cx hs f handlers) ∙ n);
+      barred = λ expected.
+          ap (λ o. (lookups_row o (type_reference cx nullable_reference i) (λ (f : Signature) (t : ValType). lookups_row (expected f) (all_clauses cx hs f handlers) (λ ts clauses. resumed_row cx hs f ts t clauses))).premise) is
+          ∙ referring (type_reference cx nullable_reference i) (expected f) (all_clauses cx hs f handlers) (sym (clauses_by cx hs f handlers) ∙ n);
     }
       where
         referring : (p : Option ValType) (o : Option (List ValType)) (q : Option (List Clause)) → are_fitting_clauses cx hs q ≡ false → (lookup_row p (λ (t : ValType). lookups_row o q (λ ts clauses. resumed_row cx hs f ts t clauses))).premise ≡ false
@@ -51,16 +51,16 @@ module _ (cx : Context) (hs : List Head) (i : ℕ) (handlers : List Handle) wher
         referring (Some t) (Some ts) None n = refl
         referring (Some t) (Some ts) (Some clauses) n = n
 
-    module _ (t : ValType) (refers : type_reference cx nullable_reference i ≡ Some t) (wanted : Signature → Option (List ValType)) where
+    module _ (t : ValType) (refers : type_reference cx nullable_reference i ≡ Some t) (expected : Signature → Option (List ValType)) where
       abbrev row_for : Option (List ValType) → Option (List Clause) → Row
       row_for o q = lookups_row o q (λ ts clauses. resumed_row cx hs f ts t clauses)
 
-      found_so_far : resuming_row cx hs wanted i handlers ≡ row_for (wanted f) (all_clauses cx hs f handlers)
+      found_so_far : resuming_row cx hs expected i handlers ≡ row_for (expected f) (all_clauses cx hs f handlers)
       found_so_far =
-          ap₂ (λ o p. lookups_row o p (λ (f : Signature) (t : ValType). lookups_row (wanted f) (all_clauses cx hs f handlers) (λ ts clauses. resumed_row cx hs f ts t clauses))) is refers
+          ap₂ (λ o p. lookups_row o p (λ (f : Signature) (t : ValType). lookups_row (expected f) (all_clauses cx hs f handlers) (λ ts clauses. resumed_row cx hs f ts t clauses))) is refers
 
       -- its step is that of a plain row
-      pub resuming_is : (ts : List ValType) → wanted f ≡ Some ts → are_fitting_handlers cx hs f handlers ≡ true → without_targets (resuming_row cx hs wanted i handlers) ≡ plain_row (ts ++ t ∷ []) f.results
+      pub resuming_is : (ts : List ValType) → expected f ≡ Some ts → are_fitting_handlers cx hs f handlers ≡ true → without_targets (resuming_row cx hs expected i handlers) ≡ plain_row (ts ++ t ∷ []) f.results
       resuming_is ts takes fit =
           ap without_targets (found_so_far ∙ ap (λ o. row_for o (all_clauses cx hs f handlers)) takes)
           ∙ by (all_clauses cx hs f handlers) (sym (clauses_by cx hs f handlers) ∙ fit)

@@ -22,4 +22,5 @@ are_fitting_handlers cx hs f handlers = list_all (is_fitting_handler cx hs f) ha
 -- no operator holds that resumes a continuation of this type with these handlers, whatever else it takes
 pub record IsNeverResumed (cx : Context) (hs : List Head) (i : ℕ) (handlers : List Handle) : Type 0 where
   pub barred :
-      (wanted : Signature → Option (List ValType)) → (resuming_row cx hs wanted i handlers).premise ≡ false
+      (expected : Signature → Option (List ValType))
+      → (resuming_row cx hs expected i handlers).premise ≡ false

@@ -24,27 +24,27 @@ use validate_visit::{Catch, FrameKind, TryTable};
 fn find_types<A: Refused, R: WasmModuleResources>(
     resources: &R,
     types: &[ValType],
-    wanted: &[ValType],
+    expected: &[ValType],
 ) -> Result<(), A>
     requires types { AllByRecursion (Valid (R.context resources.now)) types.now }
-    requires wanted { AllByRecursion (Valid (R.context resources.now)) wanted.now }
-    requires count { length types.now ≡ length wanted.now }
+    requires expected { AllByRecursion (Valid (R.context resources.now)) expected.now }
+    requires count { length types.now ≡ length expected.now }
     ensures fits { (cx : Context) → cx.of_module ≡ R.context resources.now → OnOk result (all_fit cx
-        (map Known types.now) wanted.now ≡ true) }
+        (map Known types.now) expected.now ≡ true) }
     ensures refused { (cx : Context) → cx.of_module ≡ R.context resources.now → OnErr result (all_fit cx
-        (map Known types.now) wanted.now ≡ false) }
+        (map Known types.now) expected.now ≡ false) }
 {
     for index in 0..types.len() {
-        if !resources.is_subtype(types[index], wanted[index]) {
-            return Err(other_type(types[index], wanted[index]));
+        if !resources.is_subtype(types[index], expected[index]) {
+            return Err(other_type(types[index], expected[index]));
         }
     }
     Ok(())
 }
 
 /// The refusal where a label takes another type than it is given.
-fn other_type<A: Refused>(given: ValType, wanted: ValType) -> A {
-    A::of(Refusal::ClauseType { wanted, given })
+fn other_type<A: Refused>(found: ValType, expected: ValType) -> A {
+    A::of(Refusal::ClauseType { expected, found })
 }
 
 /// A clause of this kind that carries these types alone to a label, which has to have as many.
@@ -63,11 +63,11 @@ fn find_carried<A: Refused, R: WasmModuleResources>(
         (heads stacks.now.body.present.frames) (clause_to label_index types.now) ≡ false) }
 {
     let (block_type, frame_kind) = stacks.find_label(label_index)?;
-    let wanted = label_types(resources, &block_type, frame_kind);
-    if wanted.len() != types.len() {
+    let expected = label_types(resources, &block_type, frame_kind);
+    if expected.len() != types.len() {
         return Err(A::of(Refusal::ClauseArity(kind)));
     }
-    find_types(resources, types, wanted)
+    find_types(resources, types, expected)
 }
 
 /// A clause of this kind that carries these types and a reference to the exception to a label, which has to have one
@@ -89,8 +89,8 @@ fn find_carried_with_reference<A: Refused, R: WasmModuleResources>(
         (clause_to label_index (types.now ++ exception_reference ∷ [])) ≡ false) }
 {
     let (block_type, frame_kind) = stacks.find_label(label_index)?;
-    let wanted = label_types(resources, &block_type, frame_kind);
-    let Some((last, others)) = wanted.split_last() else {
+    let expected = label_types(resources, &block_type, frame_kind);
+    let Some((last, others)) = expected.split_last() else {
         return Err(A::of(Refusal::ClauseArity(kind)));
     };
     if others.len() != types.len() {
@@ -104,10 +104,10 @@ fn find_carried_with_reference<A: Refused, R: WasmModuleResources>(
 }
 
 /// The refusal where the last type of a label isn't above the references to exceptions.
-fn other_reference<A: Refused>(kind: ClauseKind, wanted: ValType) -> A {
+fn other_reference<A: Refused>(kind: ClauseKind, expected: ValType) -> A {
     match kind {
         ClauseKind::CatchAllRef => A::of(Refusal::ClauseReference),
-        _ => other_type(ValType::Ref(RefType::EXN), wanted),
+        _ => other_type(ValType::Ref(RefType::EXN), expected),
     }
 }
 
@@ -173,6 +173,6 @@ pub fn try_table<A: Refused, R: WasmModuleResources>(
     let params = params(resources, &block_type);
     stacks.find_operands(resources, 0, params)?;
     find_clauses(stacks, resources, table.catches)?;
-    let taken = params.len().min(stacks.own_len());
-    stacks.open(taken, FrameKind::TryTable, block_type, params)
+    let popped = params.len().min(stacks.own_len());
+    stacks.open(popped, FrameKind::TryTable, block_type, params)
 }

@@ -22,7 +22,7 @@ use crate::lookups::{
 };
 use validate_resources::WasmModuleResources;
 use validate_shapes::aggregates::type_reference;
-use validate_shapes::operands::{Few, Given, Operands, Wanted, exchange_operands};
+use validate_shapes::operands::{Expected, Few, Operands, Pushed, exchange_operands};
 use validate_shapes::tags::{exception_types_at, tag_at};
 use validate_stacks::Stacks;
 use validate_types::{FuncType, RefType, Refusal, Refused, ValType};
@@ -86,7 +86,7 @@ fn cont_new_types<'a, A: Refused, R: WasmModuleResources>(
     let cont_type = cont_type_at(stacks, resources, cont_type_index)?;
     let from = ValType::Ref(RefType::concrete(true, cont_type.0));
     let made = type_reference(stacks, resources, false, cont_type_index)?;
-    Ok(Operands::few(Few::One(from), Given::One(made)))
+    Ok(Operands::few(Few::One(from), Pushed::One(made)))
 }
 
 /// `cont.bind`: binds the first parameters of a continuation, of which the second type leaves the others.
@@ -113,8 +113,8 @@ fn cont_bind_types<'a, A: Refused, R: WasmModuleResources>(
     let from = type_reference(stacks, resources, true, argument_index)?;
     let made = type_reference(stacks, resources, false, result_index)?;
     Ok(Operands {
-        wanted: Wanted::Under(bound, from),
-        given: Given::One(made),
+        expected: Expected::Under(bound, from),
+        pushed: Pushed::One(made),
     })
 }
 
@@ -130,8 +130,8 @@ fn suspend_types<'a, A: Refused, R: WasmModuleResources>(
 {
     let tag_type = tag_at(resources, tag_index)?;
     Ok(Operands {
-        wanted: Wanted::Listed(tag_type.params()),
-        given: Given::Listed(tag_type.results()),
+        expected: Expected::Listed(tag_type.params()),
+        pushed: Pushed::Listed(tag_type.results()),
     })
 }
 
@@ -150,8 +150,8 @@ fn resume_types<'a, A: Refused, R: WasmModuleResources>(
 {
     let resumed = check_resume_table(stacks, resources, cont_type_index, handlers)?;
     Ok(Operands {
-        wanted: Wanted::Under(resumed.func_type.params(), resumed.reference),
-        given: Given::Listed(resumed.func_type.results()),
+        expected: Expected::Under(resumed.func_type.params(), resumed.reference),
+        pushed: Pushed::Listed(resumed.func_type.results()),
     })
 }
 
@@ -172,8 +172,8 @@ fn resume_throw_types<'a, A: Refused, R: WasmModuleResources>(
     let resumed = check_resume_table(stacks, resources, cont_type_index, handlers)?;
     let thrown = exception_types_at(resources, tag_index)?;
     Ok(Operands {
-        wanted: Wanted::Under(thrown, resumed.reference),
-        given: Given::Listed(resumed.func_type.results()),
+        expected: Expected::Under(thrown, resumed.reference),
+        pushed: Pushed::Listed(resumed.func_type.results()),
     })
 }
 
@@ -192,8 +192,8 @@ fn resume_throw_ref_types<'a, A: Refused, R: WasmModuleResources>(
 {
     let resumed = check_resume_table(stacks, resources, cont_type_index, handlers)?;
     Ok(Operands {
-        wanted: Wanted::Few(Few::Two(ValType::EXNREF, resumed.reference)),
-        given: Given::Listed(resumed.func_type.results()),
+        expected: Expected::Few(Few::Two(ValType::EXNREF, resumed.reference)),
+        pushed: Pushed::Listed(resumed.func_type.results()),
     })
 }
 
@@ -223,14 +223,14 @@ fn switch_types<'a, A: Refused, R: WasmModuleResources>(
     let Some(other) = referenced_continuation(resources, *last) else {
         return Err(A::of(Refusal::NoContinuation));
     };
-    let (given, back) = (tag_type.results(), func_type.results());
-    if !is_func_subtype(resources, given, given, back, other.results()) {
+    let (pushed, back) = (tag_type.results(), func_type.results());
+    if !is_func_subtype(resources, pushed, pushed, back, other.results()) {
         return Err(A::of(Refusal::OtherContinuations));
     }
     let from = type_reference(stacks, resources, true, cont_type_index)?;
     Ok(Operands {
-        wanted: Wanted::Under(others, from),
-        given: Given::Listed(other.params()),
+        expected: Expected::Under(others, from),
+        pushed: Pushed::Listed(other.params()),
     })
 }
 

@@ -35,8 +35,8 @@ fn check_label_handler<A: Refused, R: WasmModuleResources>(
 {
     let tag_type = tag_at(resources, tag_index)?;
     let (block_type, kind) = stacks.find_label(label_index)?;
-    let wanted = label_types(resources, &block_type, kind);
-    let Some((last, others)) = wanted.split_last() else {
+    let expected = label_types(resources, &block_type, kind);
+    let Some((last, others)) = expected.split_last() else {
         return Err(A::of(Refusal::LabelWithoutContinuation));
     };
     if !is_concrete_reference(*last) {
@@ -77,9 +77,9 @@ fn check_switch_handler<A: Refused, R: WasmModuleResources>(
 {
     let tag_type = tag_at(resources, tag_index)?;
     let (params, results) = (tag_type.params(), tag_type.results());
-    let given = resumed.results();
-    if !is_func_subtype(resources, params, results, &[], given)
-        || !is_func_subtype(resources, &[], given, params, results)
+    let pushed = resumed.results();
+    if !is_func_subtype(resources, params, results, &[], pushed)
+        || !is_func_subtype(resources, &[], pushed, params, results)
     {
         return Err(A::of(Refusal::OtherSwitchTag));
     }

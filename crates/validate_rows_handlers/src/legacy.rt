@@ -27,9 +27,9 @@ pub fn catch<A: Refused, R: WasmModuleResources>(
     ensures { Moves (R.context resources.now) A.tells
         (λ cx. catch_operator (exception_types cx.of_module tag_index)) stacks.old result stacks.new }
 {
-    let (taken, block_type) = find_part(stacks, resources, Refusal::CatchOutsideTry)?;
+    let (popped, block_type) = find_part(stacks, resources, Refusal::CatchOutsideTry)?;
     let types = exception_types_at(resources, tag_index)?;
-    stacks.reopen_with(taken, FrameKind::LegacyCatch, block_type, types)
+    stacks.reopen_with(popped, FrameKind::LegacyCatch, block_type, types)
 }
 
 /// `catch_all`: closes a part of a `try`, which has to have exactly its results, and begins one with
@@ -42,8 +42,8 @@ pub fn catch_all<A: Refused, R: WasmModuleResources>(
     ensures { Moves (R.context resources.now) A.tells (λ cx. delimiter_operator (BeginsCatch true []))
         stacks.old result stacks.new }
 {
-    let (taken, block_type) = find_part(stacks, resources, Refusal::CatchAllOutsideTry)?;
-    stacks.reopen_with(taken, FrameKind::LegacyCatchAll, block_type, &[])
+    let (popped, block_type) = find_part(stacks, resources, Refusal::CatchAllOutsideTry)?;
+    stacks.reopen_with(popped, FrameKind::LegacyCatchAll, block_type, &[])
 }
 
 /// How many own operands the innermost frame has, where they are its results, and its block type. It gives this refusal where
@@ -65,11 +65,11 @@ fn find_part<A: Refused, R: WasmModuleResources>(
     let Some(frame) = stacks.get_frame(0) else {
         unreachable!()
     };
-    let taken = stacks.find_results(resources, results(resources, &frame.block_type))?;
+    let popped = stacks.find_results(resources, results(resources, &frame.block_type))?;
     if !may_catch(frame.kind) {
         return Err(A::of(outside));
     }
-    Ok((taken, frame.block_type))
+    Ok((popped, frame.block_type))
 }
 
 /// Whether a `catch` may stand after a part of this kind.
@@ -96,14 +96,14 @@ pub fn delegate<A: Refused, R: WasmModuleResources>(
     };
     let (kind, block_type) = (frame.kind, frame.block_type);
     let results = results(resources, &block_type);
-    let taken = stacks.find_results(resources, results)?;
+    let popped = stacks.find_results(resources, results)?;
     if !is_try(kind) {
         return Err(A::of(Refusal::DelegateOutsideTry));
     }
     let Some(_) = stacks.get_frame(relative_depth as usize + 1) else {
         return Err(A::of(Refusal::UnknownLabel));
     };
-    stacks.close(taken, results)
+    stacks.close(popped, results)
 }
 
 /// Whether it is the body of a `try`.

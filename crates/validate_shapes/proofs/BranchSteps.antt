@@ -66,15 +66,15 @@ module _ (md : ModuleContext) (v : BodyState) (f : Frame) (fs : List Frame) (e :
   cx = body_context md v
 
   abbrev frame_then : List ValType → List ValType → Bool → Frame
-  frame_then wanted push dead = record f { operands = operands_after dead (operands_under (length wanted) f) (map Known push); dead = f.dead || dead }
+  frame_then expected push dead = record f { operands = operands_after dead (operands_under (length expected) f) (map Known push); dead = f.dead || dead }
 
-  flat_in : (row : Context → List Head → Row) (p : Bool) (wanted : List ValType) (also : List (List ValType)) (push : List ValType) (targets : List Target) (dead : Bool) → row cx (heads v.present.frames) ≡ row_with p None wanted also push None targets [] dead → step_body md (λ c. staying_operator (row c)) v ≡ guard p (guard (all_fit cx (operands_found (length wanted) f) wanted && all_fit_each cx (operands_found (length wanted) f) also) (Some (with_frame v (frame_then wanted push dead) fs)))
-  flat_in row p wanted also push targets dead h =
+  flat_in : (row : Context → List Head → Row) (p : Bool) (expected : List ValType) (also : List (List ValType)) (push : List ValType) (targets : List Target) (dead : Bool) → row cx (heads v.present.frames) ≡ row_with p None expected also push None targets [] dead → step_body md (λ c. staying_operator (row c)) v ≡ guard p (guard (all_fit cx (operands_found (length expected) f) expected && all_fit_each cx (operands_found (length expected) f) also) (Some (with_frame v (frame_then expected push dead) fs)))
+  flat_in row p expected also push targets dead h =
       ap (λ gs. option_map (λ (s : State). record v { present = s }) (step_in cx (staying_operator (row cx)) gs v.present.left)) e
       ∙ ap (λ (r : Row). option_map (λ (s : State). record v { present = s }) (step_in cx (staying_operator (λ _. r)) (f ∷ fs) v.present.left)) (ap (λ gs. row cx (heads gs)) (sym e) ∙ h)
-      ∙ guarded p (all_fit cx (operands_found (length wanted) f) wanted && all_fit_each cx (operands_found (length wanted) f) also)
+      ∙ guarded p (all_fit cx (operands_found (length expected) f) expected && all_fit_each cx (operands_found (length expected) f) also)
     where
-      guarded : (p q : Bool) → option_map (λ (s : State). record v { present = s }) (option_map (state_after cx (row_with p None wanted also push None targets [] dead) (open_frames f fs v.present.left) Stays) (guard (p && true) (guard q (Some (map Known push))))) ≡ guard p (guard q (Some (with_frame v (frame_then wanted push dead) fs)))
+      guarded : (p q : Bool) → option_map (λ (s : State). record v { present = s }) (option_map (state_after cx (row_with p None expected also push None targets [] dead) (open_frames f fs v.present.left) Stays) (guard (p && true) (guard q (Some (map Known push))))) ≡ guard p (guard q (Some (with_frame v (frame_then expected push dead) fs)))
       guarded true true = refl
       guarded true false = refl
       guarded false q = refl
@@ -90,36 +90,36 @@ abbrev pub each_fits : Context → ℕ → List Frame → List (List ValType) �
 each_fits c n [] also = false
 each_fits c n (f ∷ fs) also = all_fit_each c (operands_found n f) also
 
-module _ (md : ModuleContext) (v : BodyState) (o : v.present.frames ≢ []) (row : Context → List Head → Row) (p : Bool) (wanted : List ValType) where
+module _ (md : ModuleContext) (v : BodyState) (o : v.present.frames ≢ []) (row : Context → List Head → Row) (p : Bool) (expected : List ValType) where
   -- a row that ends the live part: pops, and then the frame is dead
-  pub ends_is : (also : List (List ValType)) (targets : List Target) → row (body_context md v) (heads v.present.frames) ≡ row_with p None wanted also [] None targets [] true → step_body md (λ c. staying_operator (row c)) v ≡ guard p (guard (each_fits (body_context md v) (length wanted) v.present.frames also) (option_map body_unreachable (body_popped_each md (reverse wanted) v)))
+  pub ends_is : (also : List (List ValType)) (targets : List Target) → row (body_context md v) (heads v.present.frames) ≡ row_with p None expected also [] None targets [] true → step_body md (λ c. staying_operator (row c)) v ≡ guard p (guard (each_fits (body_context md v) (length expected) v.present.frames also) (option_map body_unreachable (body_popped_each md (reverse expected) v)))
   ends_is also targets h = by v.present.frames refl
     where
-      by : (fs : List Frame) → v.present.frames ≡ fs → step_body md (λ c. staying_operator (row c)) v ≡ guard p (guard (each_fits (body_context md v) (length wanted) v.present.frames also) (option_map body_unreachable (body_popped_each md (reverse wanted) v)))
+      by : (fs : List Frame) → v.present.frames ≡ fs → step_body md (λ c. staying_operator (row c)) v ≡ guard p (guard (each_fits (body_context md v) (length expected) v.present.frames also) (option_map body_unreachable (body_popped_each md (reverse expected) v)))
       by [] e = absurd (o e)
       by (f ∷ fs) e =
-          let n = length wanted in
+          let n = length expected in
           let cx = body_context md v in
-          flat_in md v f fs e row p wanted also [] targets true h
-          ∙ ap (λ b. guard p (guard (all_fit cx (operands_found n f) wanted && all_fit_each cx (operands_found n f) also) (Some (with_frame v (record f { operands = []; dead = b }) fs)))) (or_true f.dead)
-          ∙ through p (all_fit cx (operands_found n f) wanted) (all_fit_each cx (operands_found n f) also) body_unreachable (with_frame v (record f { operands = operands_under n f }) fs) (with_frame v (record f { operands = []; dead = true }) fs) refl
-          ∙ ap (λ q. guard p (guard (all_fit_each cx (operands_found n f) also) (option_map body_unreachable q))) (sym (popped_whole md v f fs wanted e))
-          ∙ ap (λ gs. guard p (guard (each_fits cx n gs also) (option_map body_unreachable (body_popped_each md (reverse wanted) v)))) (sym e)
+          flat_in md v f fs e row p expected also [] targets true h
+          ∙ ap (λ b. guard p (guard (all_fit cx (operands_found n f) expected && all_fit_each cx (operands_found n f) also) (Some (with_frame v (record f { operands = []; dead = b }) fs)))) (or_true f.dead)
+          ∙ through p (all_fit cx (operands_found n f) expected) (all_fit_each cx (operands_found n f) also) body_unreachable (with_frame v (record f { operands = operands_under n f }) fs) (with_frame v (record f { operands = []; dead = true }) fs) refl
+          ∙ ap (λ q. guard p (guard (all_fit_each cx (operands_found n f) also) (option_map body_unreachable q))) (sym (popped_whole md v f fs expected e))
+          ∙ ap (λ gs. guard p (guard (each_fits cx n gs also) (option_map body_unreachable (body_popped_each md (reverse expected) v)))) (sym e)
 
   -- a row that doesn't: pops, and then pushes
-  pub pushes_is : (push : List ValType) (targets : List Target) → row (body_context md v) (heads v.present.frames) ≡ row_with p None wanted [] push None targets [] false → step_body md (λ c. staying_operator (row c)) v ≡ guard p (option_map (λ u. body_pushed_each push u) (body_popped_each md (reverse wanted) v))
+  pub pushes_is : (push : List ValType) (targets : List Target) → row (body_context md v) (heads v.present.frames) ≡ row_with p None expected [] push None targets [] false → step_body md (λ c. staying_operator (row c)) v ≡ guard p (option_map (λ u. body_pushed_each push u) (body_popped_each md (reverse expected) v))
   pushes_is push targets h = by v.present.frames refl
     where
-      by : (fs : List Frame) → v.present.frames ≡ fs → step_body md (λ c. staying_operator (row c)) v ≡ guard p (option_map (λ u. body_pushed_each push u) (body_popped_each md (reverse wanted) v))
+      by : (fs : List Frame) → v.present.frames ≡ fs → step_body md (λ c. staying_operator (row c)) v ≡ guard p (option_map (λ u. body_pushed_each push u) (body_popped_each md (reverse expected) v))
       by [] e = absurd (o e)
       by (f ∷ fs) e =
-          let n = length wanted in
+          let n = length expected in
           let cx = body_context md v in
           let below : Frame = record f { operands = operands_under n f } in
-          flat_in md v f fs e row p wanted [] push targets false h
-          ∙ ap (λ b. guard p (guard (all_fit cx (operands_found n f) wanted && true) (Some (with_frame v (record below { operands = stack_with (map Known push) below.operands; dead = b }) fs)))) (or_false f.dead)
-          ∙ through p (all_fit cx (operands_found n f) wanted) true (λ u. body_pushed_each push u) (with_frame v below fs) (with_frame v (record below { operands = stack_with (map Known push) below.operands }) fs) (pushed_whole push (with_frame v below fs) below fs refl)
-          ∙ ap (λ q. guard p (option_map (λ u. body_pushed_each push u) q)) (sym (popped_whole md v f fs wanted e))
+          flat_in md v f fs e row p expected [] push targets false h
+          ∙ ap (λ b. guard p (guard (all_fit cx (operands_found n f) expected && true) (Some (with_frame v (record below { operands = stack_with (map Known push) below.operands; dead = b }) fs)))) (or_false f.dead)
+          ∙ through p (all_fit cx (operands_found n f) expected) true (λ u. body_pushed_each push u) (with_frame v below fs) (with_frame v (record below { operands = stack_with (map Known push) below.operands }) fs) (pushed_whole push (with_frame v below fs) below fs refl)
+          ∙ ap (λ q. guard p (option_map (λ u. body_pushed_each push u) q)) (sym (popped_whole md v f fs expected e))
 
 -- ---- the types of a label
 
@@ -162,18 +162,18 @@ module _ (md : ModuleContext) (v : BodyState) (o : v.present.frames ≢ []) (row
 
 -- ---- operators that take what they want, and end the live part
 
-module _ (md : ModuleContext) (v : BodyState) (o : v.present.frames ≢ []) (wanted : List ValType) where
-  pub ending_is : step_body md (λ c. staying_operator (λ hs. ending_row wanted)) v ≡ option_map body_unreachable (body_popped_each md (reverse wanted) v)
-  ending_is = ends_is md v o (λ c hs. ending_row wanted) true wanted [] [] refl ∙ only v.present.frames refl
+module _ (md : ModuleContext) (v : BodyState) (o : v.present.frames ≢ []) (expected : List ValType) where
+  pub ending_is : step_body md (λ c. staying_operator (λ hs. ending_row expected)) v ≡ option_map body_unreachable (body_popped_each md (reverse expected) v)
+  ending_is = ends_is md v o (λ c hs. ending_row expected) true expected [] [] refl ∙ only v.present.frames refl
     where
-      only : (fs : List Frame) → v.present.frames ≡ fs → guard (each_fits (body_context md v) (length wanted) v.present.frames []) (option_map body_unreachable (body_popped_each md (reverse wanted) v)) ≡ option_map body_unreachable (body_popped_each md (reverse wanted) v)
+      only : (fs : List Frame) → v.present.frames ≡ fs → guard (each_fits (body_context md v) (length expected) v.present.frames []) (option_map body_unreachable (body_popped_each md (reverse expected) v)) ≡ option_map body_unreachable (body_popped_each md (reverse expected) v)
       only [] e = absurd (o e)
-      only (f ∷ fs) e = ap (λ gs. guard (each_fits (body_context md v) (length wanted) gs []) (option_map body_unreachable (body_popped_each md (reverse wanted) v))) e
+      only (f ∷ fs) e = ap (λ gs. guard (each_fits (body_context md v) (length expected) gs []) (option_map body_unreachable (body_popped_each md (reverse expected) v))) e
 
-  pub ending_refused : body_popped_each md (reverse wanted) v ≡ None → step_body md (λ c. staying_operator (λ hs. ending_row wanted)) v ≡ None
+  pub ending_refused : body_popped_each md (reverse expected) v ≡ None → step_body md (λ c. staying_operator (λ hs. ending_row expected)) v ≡ None
   ending_refused n = ending_is ∙ ap (option_map body_unreachable) n
 
-  pub ending_passes : (u w : BodyState) → body_popped_each md (reverse wanted) v ≡ Some u → w ≡ body_unreachable u → step_body md (λ c. staying_operator (λ hs. ending_row wanted)) v ≡ Some w
+  pub ending_passes : (u w : BodyState) → body_popped_each md (reverse expected) v ≡ Some u → w ≡ body_unreachable u → step_body md (λ c. staying_operator (λ hs. ending_row expected)) v ≡ Some w
   ending_passes u w p q = ending_is ∙ (ap (option_map body_unreachable) p ∙ ap Some (sym q))
 
 pub unreachable_is : (md : ModuleContext) (v w : BodyState) → v.present.frames ≢ [] → w ≡ body_unreachable v → step_body md (λ c. staying_operator (λ hs. ending_row [])) v ≡ Some w

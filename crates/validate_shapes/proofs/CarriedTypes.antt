@@ -24,8 +24,8 @@ accepts_there cx types (h ∷ hs) zero bt kind e =
 accepts_there cx types (h ∷ hs) (suc d) bt kind e = accepts_there cx types hs d bt kind e
 
 -- the types of that label
-pub carried_at : (cx : Context) (types wanted : List ValType) (hs : List Head) (d : ℕ) (bt : BlockType) (kind : FrameKind) → option_map type_and_kind (slice_get hs d) ≡ Some (bt, kind) → wanted ≡ label_types cx (head_of kind bt) → label_accepts cx (drop d hs) types ≡ all_fit cx (map Known types) wanted
-carried_at cx types wanted hs d bt kind there same = accepts_there cx types hs d bt kind there ∙ ap (all_fit cx (map Known types)) (sym same)
+pub carried_at : (cx : Context) (types expected : List ValType) (hs : List Head) (d : ℕ) (bt : BlockType) (kind : FrameKind) → option_map type_and_kind (slice_get hs d) ≡ Some (bt, kind) → expected ≡ label_types cx (head_of kind bt) → label_accepts cx (drop d hs) types ≡ all_fit cx (map Known types) expected
+carried_at cx types expected hs d bt kind there same = accepts_there cx types hs d bt kind there ∙ ap (all_fit cx (map Known types)) (sym same)
 
 pub accepts_none : (cx : Context) (types : List ValType) (hs : List Head) (d : ℕ) → option_map type_and_kind (slice_get hs d) ≡ None → label_accepts cx (drop d hs) types ≡ false
 accepts_none cx types [] zero e = refl
@@ -66,7 +66,7 @@ pub front_and_last : {A : Type 0} (P : A → Type 0) (xs : List A) (x : A) → A
 front_and_last P [] x h = (tt, h.0)
 front_and_last P (y ∷ xs) x h = let r = front_and_last P xs x h.1 in ((h.0, r.0), r.1)
 
--- as many types as wanted, and one more of each
+-- as many types as expected, and one more of each
 pub fits_and_last : (cx : Context) (ts ws : List ValType) (t w : ValType) → all_fit cx (map Known ts) ws ≡ true → cx.of_module.below t w ≡ true → all_fit cx (map Known (ts ++ t ∷ [])) (ws ++ w ∷ []) ≡ true
 fits_and_last cx [] [] t w h b = ap (λ c. c && true) b
 fits_and_last cx [] (y ∷ ws) t w h b = absurd cc

@@ -38,22 +38,22 @@ module _ {E : Type 0} (md : ModuleContext) (tells : E → Type 0) (op : Context 
   unmoved (Err e) never same none = (same, none)
 
   -- an exchange is the row's step
-  pub exchange_moves : (wanted ts : List ValType) → step_body md op s.body ≡ option_map (body_pushed_each ts) (body_popped_each md (reverse wanted) s.body) → AllByRecursion (Valid md) ts → IsValidBody md s.body → (r : Result (Unit {0}) E) → Exchanges md tells wanted ts s r w → Moves md tells op s r w
+  pub exchange_moves : (expected ts : List ValType) → step_body md op s.body ≡ option_map (body_pushed_each ts) (body_popped_each md (reverse expected) s.body) → AllByRecursion (Valid md) ts → IsValidBody md s.body → (r : Result (Unit {0}) E) → Exchanges md tells expected ts s r w → Moves md tells op s r w
   unfolding Moves Takes
-  exchange_moves wanted ts is valid state (Ok u) x =
-      let p = exchange_parts md (reverse wanted) ts s.body w.body x in
+  exchange_moves expected ts is valid state (Ok u) x =
+      let p = exchange_parts md (reverse expected) ts s.body w.body x in
       record { step = is ∙ x; valid = p.valid valid state; kept = p.kept }
-  exchange_moves wanted ts is valid state (Err e) x = (x.0, λ t. is ∙ ap (option_map (body_pushed_each ts)) (x.1 t))
+  exchange_moves expected ts is valid state (Err e) x = (x.0, λ t. is ∙ ap (option_map (body_pushed_each ts)) (x.1 t))
 
   -- what is taken, and becomes what f says, is the row's step
-  pub takes_moves : (wanted : List ValType) (f : BodyState → BodyState) → step_body md op s.body ≡ option_map f (body_popped_each md (reverse wanted) s.body) → ((u : BodyState) → IsValidBody md u → IsValidBody md (f u)) → ((u : BodyState) → IsKept u (f u)) → IsValidBody md s.body → (r : Result (Unit {0}) E) → Takes md tells wanted f s r w → Moves md tells op s r w
+  pub takes_moves : (expected : List ValType) (f : BodyState → BodyState) → step_body md op s.body ≡ option_map f (body_popped_each md (reverse expected) s.body) → ((u : BodyState) → IsValidBody md u → IsValidBody md (f u)) → ((u : BodyState) → IsKept u (f u)) → IsValidBody md s.body → (r : Result (Unit {0}) E) → Takes md tells expected f s r w → Moves md tells op s r w
   unfolding Moves Takes
-  takes_moves wanted f is valid kept state (Ok u) x =
-      let between = mapped_some f (body_popped_each md (reverse wanted) s.body) w.body x in
+  takes_moves expected f is valid kept state (Ok u) x =
+      let between = mapped_some f (body_popped_each md (reverse expected) s.body) w.body x in
       let v = between.0 in
-      let p = popped_each_kept md (reverse wanted) s.body v between.1 in
+      let p = popped_each_kept md (reverse expected) s.body v between.1 in
       record { step = is ∙ x; valid = subst (IsValidBody md) between.2 (valid v (p.1 state)); kept = subst (IsKept s.body) between.2 (kept_on s.body v (f v) p.0 (kept v)) }
-  takes_moves wanted f is valid kept state (Err e) x = (x.0, λ t. is ∙ ap (option_map f) (x.1 t))
+  takes_moves expected f is valid kept state (Err e) x = (x.0, λ t. is ∙ ap (option_map f) (x.1 t))
 
   -- at an answer that never tells
   pub moves_at_once : (r : Result (Unit {0}) E) (b : Bool) → b ≡ is_ok r → Moves md tells op s r w → MeetsAtOnce md op s b w
@@ -77,8 +77,8 @@ module _ {E : Type 0} (md : ModuleContext) (tells : E → Type 0) (op : Context 
 pub moves_then : {E : Type 0} (md : ModuleContext) (tells : E → Type 0) (op : Context → Operator) (s t w : Stacked) → t ≡ s → (r : Result (Unit {0}) E) → Moves md tells op t r w → Moves md tells op s r w
 moves_then md tells op s t w same r m = subst (λ (x : Stacked). Moves md tells op x r w) same m
 
-pub plain_is : (md : ModuleContext) (v : BodyState) (wanted ts : List ValType) → v.present.frames ≢ [] → step_body md (λ c. row_operator (plain_row wanted ts)) v ≡ option_map (body_pushed_each ts) (body_popped_each md (reverse wanted) v)
-plain_is md v wanted ts o = row_then md v None None wanted ts o
+pub plain_is : (md : ModuleContext) (v : BodyState) (expected ts : List ValType) → v.present.frames ≢ [] → step_body md (λ c. row_operator (plain_row expected ts)) v ≡ option_map (body_pushed_each ts) (body_popped_each md (reverse expected) v)
+plain_is md v expected ts o = row_then md v None None expected ts o
 
 -- another row with the same step
 pub moves_as : {E : Type 0} (md : ModuleContext) (tells : E → Type 0) (op op' : Context → Operator) (s w : Stacked) → step_body md op s.body ≡ step_body md op' s.body → (r : Result (Unit {0}) E) → Moves md tells op' s r w → Moves md tells op s r w
@@ -119,5 +119,5 @@ module _ {E : Type 0} (md : ModuleContext) (tells : E → Type 0) (op : Context 
   made_moves x is valid kept (Err e) told m = (m, λ t. absurd (told t))
 
   -- the live part ends, of operands that fit
-  pub ended_moves : (wanted : List ValType) → step_body md op s.body ≡ option_map body_unreachable (body_popped_each md (reverse wanted) s.body) → has_operands_fitting (body_context md s.body) wanted s.body ≡ true → IsValidBody md s.body → (a : Result (Unit {0}) E) → IfErr a (λ e. tells e → ⊥) → MatchResult a (λ _. w.body ≡ body_unreachable s.body) (λ _. w ≡ s) → Moves md tells op s a w
-  ended_moves wanted is fit state = made_moves (body_unreachable s.body) (is ∙ ended_whole md wanted s.body (body_unreachable s.body) fit refl) (unreachable_valid md s.body state) refl
+  pub ended_moves : (expected : List ValType) → step_body md op s.body ≡ option_map body_unreachable (body_popped_each md (reverse expected) s.body) → has_operands_fitting (body_context md s.body) expected s.body ≡ true → IsValidBody md s.body → (a : Result (Unit {0}) E) → IfErr a (λ e. tells e → ⊥) → MatchResult a (λ _. w.body ≡ body_unreachable s.body) (λ _. w ≡ s) → Moves md tells op s a w
+  ended_moves expected is fit state = made_moves (body_unreachable s.body) (is ∙ ended_whole md expected s.body (body_unreachable s.body) fit refl) (unreachable_valid md s.body state) refl

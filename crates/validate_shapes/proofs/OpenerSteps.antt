@@ -63,30 +63,30 @@ module _ (md : ModuleContext) (v : BodyState) (kind : FrameKind) (above : List V
 pub by_check : (md : ModuleContext) (v : BodyState) (kind : FrameKind) (above : List ValType) (declared : BlockType) (o : Option BlockType) → checked_block (body_context md v) declared ≡ o → step_body md (λ c. opener c kind above declared (checked_block c declared)) v ≡ step_body md (λ c. opener c kind above declared o) v
 by_check md v kind above declared o e = ap (λ r. step_body md (λ c. opener c kind above declared r) v) e
 
--- ---- what was wanted is taken, and a frame stands over the parameters
+-- ---- what was expected is taken, and a frame stands over the parameters
 
 module _ (md : ModuleContext) (v : BodyState) (kind : FrameKind) (above : List ValType) (bt : BlockType) (o : v.present.frames ≢ []) (laws : IsLawful md) (valid : IsValidBody md v) (block : IsValidBlock md v.shared bt) where
   pub opened_moved : (u : BodyState) → body_popped_each md (reverse ((block_signature md bt).params ++ above)) v ≡ Some u → Moved md (λ c. opening_operator c kind above bt) v (body_with_block md kind bt u)
   opened_moved u p =
-      let taken : List ValType = (block_signature md bt).params in
-      let down = popped_each_kept md (reverse (taken ++ above)) v u p in
+      let popped : List ValType = (block_signature md bt).params in
+      let down = popped_each_kept md (reverse (popped ++ above)) v u p in
       let shared : u.shared ≡ v.shared = ap (λ (x : BodyState). x.shared) down.0 in
       let block_in_u = subst (λ s. IsValidBlock md s bt) (sym shared) block in
       let bare = body_with_frame kind bt u in
-      let up = pushed_each_kept md taken bare in
-      let entered = entered_is md kind bt u bare taken refl refl in
+      let up = pushed_each_kept md popped bare in
+      let entered = entered_is md kind bt u bare popped refl refl in
       record {
         step = opened_is md v kind above bt o ∙ ap (option_map (λ w. body_with_block md kind bt w)) p;
-        valid = subst (IsValidBody md) entered (up.1 (takes_valid md u.shared bt taken laws block_in_u refl) (opened_valid md kind bt u bare refl block_in_u (down.1 valid)));
-        kept = subst (IsKept v) entered (kept_on v u (body_pushed_each taken bare) down.0 (kept_on u bare (body_pushed_each taken bare) refl up.0));
+        valid = subst (IsValidBody md) entered (up.1 (takes_valid md u.shared bt popped laws block_in_u refl) (opened_valid md kind bt u bare refl block_in_u (down.1 valid)));
+        kept = subst (IsKept v) entered (kept_on v u (body_pushed_each popped bare) down.0 (kept_on u bare (body_pushed_each popped bare) refl up.0));
       }
 
 -- over parameters that stand there
 pub entered_moves : {E : Type 0} (md : ModuleContext) (tells : E → Type 0) (s w : Stacked) (kind : FrameKind) (above : List ValType) (bt : BlockType) → above ≡ [] → s.body.present.frames ≢ [] → IsLawful md → IsValidBody md s.body → IsValidBlock md s.body.shared bt → (r : Result (Unit {0}) E) → IsOk r → option_map (body_with_block md kind bt) (body_popped_each md (reverse (block_signature md bt).params) s.body) ≡ Some w.body → Moves md tells (λ c. opening_operator c kind above bt) s r w
 unfolding Moves
 entered_moves md tells s w kind above bt none o laws valid block (Ok x) ok h =
-    let taken : List ValType = (block_signature md bt).params in
-    let parts = mapped_some (body_with_block md kind bt) (body_popped_each md (reverse taken) s.body) w.body h in
-    let whole = ap (λ ts. body_popped_each md (reverse ts) s.body) (ap (λ ts. taken ++ ts) none ∙ append-nil taken) ∙ parts.1 in
+    let popped : List ValType = (block_signature md bt).params in
+    let parts = mapped_some (body_with_block md kind bt) (body_popped_each md (reverse popped) s.body) w.body h in
+    let whole = ap (λ ts. body_popped_each md (reverse ts) s.body) (ap (λ ts. popped ++ ts) none ∙ append-nil popped) ∙ parts.1 in
     subst (Moved md (λ c. opening_operator c kind above bt) s.body) parts.2 (opened_moved md s.body kind above bt o laws valid block parts.0 whole)
 entered_moves md tells s w kind above bt none o laws valid block (Err e) ok h = absurd cc

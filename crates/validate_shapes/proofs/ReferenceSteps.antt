@@ -303,10 +303,10 @@ module _ (md : ModuleContext) where
   pub unreferenced : (b : Bool) (ts : List ValType) (v : BodyState) → option_and_then operand_without_null (steps.found_in_body v) ≡ None → guard b (above_types ts v) ≡ None
   unreferenced b ts v n = ap (λ o. guard b (option_and_then (λ y. option_map (λ u. body_pushed y (body_pushed_each ts u)) (body_popped_each md (reverse ts) (body_popped v))) o)) n ∙ none_either b
 
-  module _ (ts : List ValType) (v u : BodyState) (y : MaybeType) (given : option_and_then operand_without_null (steps.found_in_body v) ≡ Some y) (e : u ≡ body_popped v) where
+  module _ (ts : List ValType) (v u : BodyState) (y : MaybeType) (pushed : option_and_then operand_without_null (steps.found_in_body v) ≡ Some y) (e : u ≡ body_popped v) where
     above_of : above_types ts v ≡ option_map (λ w. body_pushed y (body_pushed_each ts w)) (body_popped_each md (reverse ts) u)
     above_of =
-        ap (λ o. option_and_then (λ y. option_map (λ w. body_pushed y (body_pushed_each ts w)) (body_popped_each md (reverse ts) (body_popped v))) o) given
+        ap (λ o. option_and_then (λ y. option_map (λ w. body_pushed y (body_pushed_each ts w)) (body_popped_each md (reverse ts) (body_popped v))) o) pushed
         ∙ ap (λ (q : BodyState). option_map (λ w. body_pushed y (body_pushed_each ts w)) (body_popped_each md (reverse ts) q)) (sym e)
 
     pub above_missing : body_popped_each md (reverse ts) u ≡ None → above_types ts v ≡ None
@@ -319,7 +319,7 @@ module _ (md : ModuleContext) where
     pub label_below : (d : ℕ) → label_at u d ≡ label_at v d
     label_below d = ap (λ hs. option_map type_and_kind (slice_get hs d)) (ap (λ (q : BodyState). heads q.present.frames) e ∙ popped_heads v)
 
--- ---- a branch where a reference isn't null: the reference is wanted, above types that stay
+-- ---- a branch where a reference isn't null: the reference is expected, above types that stay
 
 module _ (md : ModuleContext) (v : BodyState) (o : v.present.frames ≢ []) (d : ℕ) (others : List ValType) (last with : RefType) (there : has_label (heads v.present.frames) d ≡ true) (ends : last_reference (label_types_at (body_context md v) (heads v.present.frames) d) ≡ Some (others, last)) (null : with ≡ with_null last) where
   abbrev targets_of : List Target

@@ -28,9 +28,9 @@ or_false : (b : Bool) → b || false ≡ b
 or_false true = refl
 or_false false = refl
 
--- a row of wanted and pushed types, which may read and set a local
+-- a row of expected and pushed types, which may read and set a local
 abbrev pub local_row : Option ℕ → Option ℕ → List ValType → List ValType → Row
-local_row reads sets wanted ps = record (plain_row wanted ps) { reads = reads; sets = sets }
+local_row reads sets expected ps = record (plain_row expected ps) { reads = reads; sets = sets }
 
 -- ---- in a state with an innermost frame
 
@@ -42,7 +42,7 @@ module _ (md : ModuleContext) (v : BodyState) (f : Frame) (fs : List Frame) (e :
   set_now = locals_set (f ∷ fs)
 
   abbrev pub frame_then : List ValType → List ValType → Option ℕ → Frame
-  frame_then wanted ps sets = record f { operands = stack_with (map Known ps) (operands_under (length wanted) f); first_set = first_set_after cx set_now sets f.first_set }
+  frame_then expected ps sets = record f { operands = stack_with (map Known ps) (operands_under (length expected) f); first_set = first_set_after cx set_now sets f.first_set }
 
   stepped_in : (op : Context → Operator) → step_body md op v ≡ option_map (λ (s : State). record v { present = s }) (step_in cx (op cx) (f ∷ fs) v.present.left)
   stepped_in op = ap (λ gs. option_map (λ (s : State). record v { present = s }) (step_in cx (op cx) gs v.present.left)) e
@@ -52,11 +52,11 @@ module _ (md : ModuleContext) (v : BodyState) (f : Frame) (fs : List Frame) (e :
   guarded true false pushed own first r d = refl
   guarded false q pushed own first r d = refl
 
-  pub row_is : (reads sets : Option ℕ) (wanted ps : List ValType) → step_body md (λ c. row_operator (local_row reads sets wanted ps)) v ≡ guard (is_read_local_set cx set_now reads && all_fit cx (operands_found (length wanted) f) wanted) (Some (with_frame v (frame_then wanted ps sets) fs))
-  row_is reads sets wanted ps =
-      stepped_in (λ c. row_operator (local_row reads sets wanted ps))
-      ∙ guarded (is_read_local_set cx set_now reads) (all_fit cx (operands_found (length wanted) f) wanted) (map Known ps) [] [] (local_row reads sets wanted ps) refl
-      ∙ ap (λ b. guard (is_read_local_set cx set_now reads && all_fit cx (operands_found (length wanted) f) wanted) (Some (with_frame v (record (frame_then wanted ps sets) { dead = b }) fs))) (or_false f.dead)
+  pub row_is : (reads sets : Option ℕ) (expected ps : List ValType) → step_body md (λ c. row_operator (local_row reads sets expected ps)) v ≡ guard (is_read_local_set cx set_now reads && all_fit cx (operands_found (length expected) f) expected) (Some (with_frame v (frame_then expected ps sets) fs))
+  row_is reads sets expected ps =
+      stepped_in (λ c. row_operator (local_row reads sets expected ps))
+      ∙ guarded (is_read_local_set cx set_now reads) (all_fit cx (operands_found (length expected) f) expected) (map Known ps) [] [] (local_row reads sets expected ps) refl
+      ∙ ap (λ b. guard (is_read_local_set cx set_now reads && all_fit cx (operands_found (length expected) f) expected) (Some (with_frame v (record (frame_then expected ps sets) { dead = b }) fs))) (or_false f.dead)
 
 -- a local that the row sets
 abbrev pub set_after : Option ℕ → BodyState → BodyState
@@ -81,42 +81,42 @@ module _ (md : ModuleContext) (v : BodyState) (f : Frame) (fs : List Frame) (e :
       let h : Frame = record g { first_set = g.first_set ++ i ∷ [] } in
       pushed_whole ps (with_frame v h fs) h fs refl
 
-  then_pushed : (sets : Option ℕ) (wanted ps : List ValType) → body_pushed_each ps (set_after sets (with_frame v (record f { operands = operands_under (length wanted) f }) fs)) ≡ with_frame v (frame_then md v f fs e wanted ps sets) fs
-  then_pushed None wanted ps = pushed_whole ps (with_frame v (record f { operands = operands_under (length wanted) f }) fs) (record f { operands = operands_under (length wanted) f }) fs refl
-  then_pushed (Some i) wanted ps = pushed_by (is_local_set v.set_at_entry (locals_set (f ∷ fs)) i) i (record f { operands = operands_under (length wanted) f }) ps
+  then_pushed : (sets : Option ℕ) (expected ps : List ValType) → body_pushed_each ps (set_after sets (with_frame v (record f { operands = operands_under (length expected) f }) fs)) ≡ with_frame v (frame_then md v f fs e expected ps sets) fs
+  then_pushed None expected ps = pushed_whole ps (with_frame v (record f { operands = operands_under (length expected) f }) fs) (record f { operands = operands_under (length expected) f }) fs refl
+  then_pushed (Some i) expected ps = pushed_by (is_local_set v.set_at_entry (locals_set (f ∷ fs)) i) i (record f { operands = operands_under (length expected) f }) ps
 
-  row_of : (reads sets : Option ℕ) (wanted ps : List ValType) → step_body md (λ c. row_operator (local_row reads sets wanted ps)) v ≡ guard (is_read_local_set (body_context md v) (locals_set (f ∷ fs)) reads) (option_map (λ u. body_pushed_each ps (set_after sets u)) (body_popped_each md (reverse wanted) v))
-  row_of reads sets wanted ps =
-      row_is md v f fs e reads sets wanted ps
-      ∙ split (is_read_local_set (body_context md v) (locals_set (f ∷ fs)) reads) (all_fit (body_context md v) (operands_found (length wanted) f) wanted) (λ u. body_pushed_each ps (set_after sets u)) (with_frame v (record f { operands = operands_under (length wanted) f }) fs) (with_frame v (frame_then md v f fs e wanted ps sets) fs) (then_pushed sets wanted ps)
-      ∙ ap (λ o. guard (is_read_local_set (body_context md v) (locals_set (f ∷ fs)) reads) (option_map (λ u. body_pushed_each ps (set_after sets u)) o)) (sym (popped_whole md v f fs wanted e))
+  row_of : (reads sets : Option ℕ) (expected ps : List ValType) → step_body md (λ c. row_operator (local_row reads sets expected ps)) v ≡ guard (is_read_local_set (body_context md v) (locals_set (f ∷ fs)) reads) (option_map (λ u. body_pushed_each ps (set_after sets u)) (body_popped_each md (reverse expected) v))
+  row_of reads sets expected ps =
+      row_is md v f fs e reads sets expected ps
+      ∙ split (is_read_local_set (body_context md v) (locals_set (f ∷ fs)) reads) (all_fit (body_context md v) (operands_found (length expected) f) expected) (λ u. body_pushed_each ps (set_after sets u)) (with_frame v (record f { operands = operands_under (length expected) f }) fs) (with_frame v (frame_then md v f fs e expected ps sets) fs) (then_pushed sets expected ps)
+      ∙ ap (λ o. guard (is_read_local_set (body_context md v) (locals_set (f ∷ fs)) reads) (option_map (λ u. body_pushed_each ps (set_after sets u)) o)) (sym (popped_whole md v f fs expected e))
 
   reads_same : (reads : Option ℕ) → is_read_local_set (body_context md v) (locals_set (f ∷ fs)) reads ≡ reads_in v reads
   reads_same None = refl
   reads_same (Some i) = ap (λ gs. is_local_set v.set_at_entry (locals_set gs) i) (sym e)
 
--- pops of the wanted types, perhaps the setting of a local, and pushes: the row's step
-pub row_then : (md : ModuleContext) (v : BodyState) (reads sets : Option ℕ) (wanted ps : List ValType) → v.present.frames ≢ [] → step_body md (λ c. row_operator (local_row reads sets wanted ps)) v ≡ guard (reads_in v reads) (option_map (λ u. body_pushed_each ps (set_after sets u)) (body_popped_each md (reverse wanted) v))
-row_then md v reads sets wanted ps o = by v.present.frames refl
+-- pops of the expected types, perhaps the setting of a local, and pushes: the row's step
+pub row_then : (md : ModuleContext) (v : BodyState) (reads sets : Option ℕ) (expected ps : List ValType) → v.present.frames ≢ [] → step_body md (λ c. row_operator (local_row reads sets expected ps)) v ≡ guard (reads_in v reads) (option_map (λ u. body_pushed_each ps (set_after sets u)) (body_popped_each md (reverse expected) v))
+row_then md v reads sets expected ps o = by v.present.frames refl
   where
-    by : (fs : List Frame) → v.present.frames ≡ fs → step_body md (λ c. row_operator (local_row reads sets wanted ps)) v ≡ guard (reads_in v reads) (option_map (λ u. body_pushed_each ps (set_after sets u)) (body_popped_each md (reverse wanted) v))
+    by : (fs : List Frame) → v.present.frames ≡ fs → step_body md (λ c. row_operator (local_row reads sets expected ps)) v ≡ guard (reads_in v reads) (option_map (λ u. body_pushed_each ps (set_after sets u)) (body_popped_each md (reverse expected) v))
     by [] e = absurd (o e)
     by (f ∷ fs) e =
-        row_of md v f fs e reads sets wanted ps
-        ∙ ap (λ b. guard b (option_map (λ u. body_pushed_each ps (set_after sets u)) (body_popped_each md (reverse wanted) v))) (reads_same md v f fs e reads)
+        row_of md v f fs e reads sets expected ps
+        ∙ ap (λ b. guard b (option_map (λ u. body_pushed_each ps (set_after sets u)) (body_popped_each md (reverse expected) v))) (reads_same md v f fs e reads)
 
 -- ---- plain rows
 
-pub plain_passes : (md : ModuleContext) (v u w : BodyState) (wanted ps : List ValType) → v.present.frames ≢ [] → body_popped_each md (reverse wanted) v ≡ Some u → w ≡ body_pushed_each ps u → step_body md (λ c. row_operator (plain_row wanted ps)) v ≡ Some w
-plain_passes md v u w wanted ps o p q = row_then md v None None wanted ps o ∙ ap (option_map (λ u. body_pushed_each ps u)) p ∙ ap Some (sym q)
+pub plain_passes : (md : ModuleContext) (v u w : BodyState) (expected ps : List ValType) → v.present.frames ≢ [] → body_popped_each md (reverse expected) v ≡ Some u → w ≡ body_pushed_each ps u → step_body md (λ c. row_operator (plain_row expected ps)) v ≡ Some w
+plain_passes md v u w expected ps o p q = row_then md v None None expected ps o ∙ ap (option_map (λ u. body_pushed_each ps u)) p ∙ ap Some (sym q)
 
-pub plain_refused : (md : ModuleContext) (v : BodyState) (wanted ps : List ValType) → v.present.frames ≢ [] → body_popped_each md (reverse wanted) v ≡ None → step_body md (λ c. row_operator (plain_row wanted ps)) v ≡ None
-plain_refused md v wanted ps o p = row_then md v None None wanted ps o ∙ ap (option_map (λ u. body_pushed_each ps u)) p
+pub plain_refused : (md : ModuleContext) (v : BodyState) (expected ps : List ValType) → v.present.frames ≢ [] → body_popped_each md (reverse expected) v ≡ None → step_body md (λ c. row_operator (plain_row expected ps)) v ≡ None
+plain_refused md v expected ps o p = row_then md v None None expected ps o ∙ ap (option_map (λ u. body_pushed_each ps u)) p
 
-pub not_plain : (md : ModuleContext) (v : BodyState) (wanted ps : List ValType) → step_body md (λ c. row_operator (plain_row_if false wanted ps)) v ≡ None
-not_plain md v wanted ps = by v.present.frames
+pub not_plain : (md : ModuleContext) (v : BodyState) (expected ps : List ValType) → step_body md (λ c. row_operator (plain_row_if false expected ps)) v ≡ None
+not_plain md v expected ps = by v.present.frames
   where
-    by : (fs : List Frame) → option_map (λ (s : State). record v { present = s }) (step_in (body_context md v) (row_operator (plain_row_if false wanted ps)) fs v.present.left) ≡ None
+    by : (fs : List Frame) → option_map (λ (s : State). record v { present = s }) (step_in (body_context md v) (row_operator (plain_row_if false expected ps)) fs v.present.left) ≡ None
     by [] = refl
     by (f ∷ fs) = refl
 

@@ -10,10 +10,10 @@ use Rattle.validate_stacks.specs.State.{BodyState, body_context}
 use Rattle.validate_shapes.specs.declared.operands.Few.{Few as FewTypes}
 use Rattle.validate_shapes.specs.declared.operands.Few.TheVariants.{Zero, One, Two, Three, Four, Five}
 use Rattle.validate_shapes.specs.declared.operands.Operands.{Operands}
-use Rattle.validate_shapes.specs.declared.operands.Given.{Given}
-use Rattle.validate_shapes.specs.declared.operands.Given.TheVariants.{Nothing, One as OneGiven, Listed as ListGiven}
-use Rattle.validate_shapes.specs.declared.operands.Wanted.{Wanted}
-use Rattle.validate_shapes.specs.declared.operands.Wanted.TheVariants.{Few, Fields, Run, Listed, Under}
+use Rattle.validate_shapes.specs.declared.operands.Pushed.{Pushed}
+use Rattle.validate_shapes.specs.declared.operands.Pushed.TheVariants.{Nothing, One as OnePushed, Listed as ListPushed}
+use Rattle.validate_shapes.specs.declared.operands.Expected.{Expected}
+use Rattle.validate_shapes.specs.declared.operands.Expected.TheVariants.{Few, Fields, Run, Listed, Under}
 
 abbrev pub few_types : FewTypes → List ValType
 few_types Zero = []
@@ -23,32 +23,32 @@ few_types (Three a b c) = a ∷ b ∷ c ∷ []
 few_types (Four a b c d) = a ∷ b ∷ c ∷ d ∷ []
 few_types (Five a b c d e) = a ∷ b ∷ c ∷ d ∷ e ∷ []
 
-abbrev pub wanted_types : Wanted → List ValType
-wanted_types (Few types) = few_types types
-wanted_types (Fields fields) = unpacked_fields fields.now
-wanted_types (Run t count) = replicate count t
-wanted_types (Listed types) = types.now
-wanted_types (Under types above) = types.now ++ above ∷ []
+abbrev pub expected_types : Expected → List ValType
+expected_types (Few types) = few_types types
+expected_types (Fields fields) = unpacked_fields fields.now
+expected_types (Run t count) = replicate count t
+expected_types (Listed types) = types.now
+expected_types (Under types above) = types.now ++ above ∷ []
 
-abbrev pub given_types : Given → List ValType
-given_types Nothing = []
-given_types (OneGiven t) = t ∷ []
-given_types (ListGiven types) = types.now
+abbrev pub pushed_types : Pushed → List ValType
+pushed_types Nothing = []
+pushed_types (OnePushed t) = t ∷ []
+pushed_types (ListPushed types) = types.now
 
 -- the row that takes and gives them
 abbrev pub operands_row : Operands → Row
-operands_row t = plain_row (wanted_types t.wanted) (given_types t.given)
+operands_row t = plain_row (expected_types t.expected) (pushed_types t.pushed)
 
 -- each type in it is valid
-abbrev pub AreValidWanted : ModuleContext → Wanted → Type 0
-AreValidWanted md (Few types) = AllByRecursion (Valid md) (few_types types)
-AreValidWanted md (Fields fields) = AllByRecursion (Valid md) (unpacked_fields fields.now)
-AreValidWanted md (Run t count) = Valid md t
-AreValidWanted md (Listed types) = AllByRecursion (Valid md) types.now
-AreValidWanted md (Under types above) = AllByRecursion (Valid md) types.now × Valid md above
+abbrev pub AreValidExpected : ModuleContext → Expected → Type 0
+AreValidExpected md (Few types) = AllByRecursion (Valid md) (few_types types)
+AreValidExpected md (Fields fields) = AllByRecursion (Valid md) (unpacked_fields fields.now)
+AreValidExpected md (Run t count) = Valid md t
+AreValidExpected md (Listed types) = AllByRecursion (Valid md) types.now
+AreValidExpected md (Under types above) = AllByRecursion (Valid md) types.now × Valid md above
 
 abbrev pub AreValidOperands : ModuleContext → Operands → Type 0
-AreValidOperands md t = AreValidWanted md t.wanted × AllByRecursion (Valid md) (given_types t.given)
+AreValidOperands md t = AreValidExpected md t.expected × AllByRecursion (Valid md) (pushed_types t.pushed)
 
 -- The answer of a look-up for an operator, in the state v: what its row takes and gives, of valid types; or a
 -- refusal, which tells that the row's premise doesn't hold.

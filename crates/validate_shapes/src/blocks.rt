@@ -98,8 +98,8 @@ fn open_frame<A: Refused, R: WasmModuleResources>(
     stacks.find_operands(resources, 0, above)?;
     stacks.find_operands(resources, above.len(), params)?;
     let own = stacks.own_len();
-    let taken = params.len().saturating_add(above.len()).min(own);
-    stacks.open(taken, kind, block_type, params)
+    let popped = params.len().saturating_add(above.len()).min(own);
+    stacks.open(popped, kind, block_type, params)
 }
 
 /// [`open_frame`] with nothing above the parameters, by a call.

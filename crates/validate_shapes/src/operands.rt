@@ -8,7 +8,7 @@ ghost use Rattle.validation_rules.specs.Operators.{plain_row, row_operator};
 ghost use Rattle.validation_rules.specs.Rows.{Row};
 ghost use Rattle.validate_stacks.specs.Moves.{Moves};
 ghost use Rattle.validate_stacks.specs.Visits.{MayVisit};
-ghost use Rattle.validate_shapes.specs.Operands.{wanted_types, operands_row, AreValidWanted, AreValidOperands, Finds};
+ghost use Rattle.validate_shapes.specs.Operands.{expected_types, operands_row, AreValidExpected, AreValidOperands, Finds};
 
 use crate::plain::plain;
 use validate_resources::WasmModuleResources;
@@ -34,7 +34,7 @@ pub enum Few {
 
 /// What an operator takes, the last on top.
 #[derive(Clone, Copy)]
-pub enum Wanted<'a> {
+pub enum Expected<'a> {
     /// Operands of these types.
     Few(Few),
     /// The value of each of these fields.
@@ -49,7 +49,7 @@ pub enum Wanted<'a> {
 
 /// What an operator gives, the last on top.
 #[derive(Clone, Copy)]
-pub enum Given<'a> {
+pub enum Pushed<'a> {
     /// Nothing.
     Nothing,
     /// An operand of this type.
@@ -62,53 +62,58 @@ pub enum Given<'a> {
 #[derive(Clone, Copy)]
 pub struct Operands<'a> {
     /// What it takes.
-    pub wanted: Wanted<'a>,
+    pub expected: Expected<'a>,
     /// What it gives.
-    pub given: Given<'a>,
+    pub pushed: Pushed<'a>,
 }
 
 impl<'a> Operands<'a> {
     /// A few are taken.
     #[inline(always)]
-    pub fn few(wanted: Few, given: Given<'a>) -> Operands<'a>
-        ensures { result ≡ record { wanted = Wanted.Few wanted; given = given.entry } }
+    pub fn few(expected: Few, pushed: Pushed<'a>) -> Operands<'a>
+        ensures { result ≡ record { expected = Expected.Few expected; pushed = pushed.entry } }
     {
         Operands {
-            wanted: Wanted::Few(wanted),
-            given,
+            expected: Expected::Few(expected),
+            pushed,
         }
     }
 }
 
-/// `[wanted] -> [given]`, where what is given lies in a list.
+/// `[expected] -> [pushed]`, where what is given lies in a list.
 #[inline(always)]
 fn operands_giving<A: Refused, R: WasmModuleResources>(
     stacks: &mut Stacks,
     resources: &R,
-    wanted: Wanted<'_>,
-    given: &[ValType],
+    expected: Expected<'_>,
+    pushed: &[ValType],
 ) -> Result<(), A>
     requires visit { MayVisit (R.context resources.now) stacks.old }
-    requires wanted { AreValidWanted (R.context resources.now) wanted }
-    requires given { AllByRecursion (Valid (R.context resources.now)) given.now }
+    requires expected { AreValidExpected (R.context resources.now) expected }
+    requires pushed { AllByRecursion (Valid (R.context resources.now)) pushed.now }
     ensures { Moves (R.context resources.now) A.tells
-        (λ cx. row_operator (plain_row (wanted_types wanted.entry) given.now)) stacks.old result stacks.new }
+        (λ cx. row_operator (plain_row (expected_types expected.entry) pushed.now)) stacks.old result stacks.new }
 {
-    match wanted {
-        Wanted::Few(Few::Zero) => plain(stacks, resources, &[], given),
-        Wanted::Few(Few::One(a)) => plain(stacks, resources, &[a], given),
-        Wanted::Few(Few::Two(a, b)) => plain(stacks, resources, &[a, b], given),
-        Wanted::Few(Few::Three(a, b, c)) => plain(stacks, resources, &[a, b, c], given),
-        Wanted::Few(Few::Four(a, b, c, d)) => plain(stacks, resources, &[a, b, c, d], given),
-        Wanted::Few(Few::Five(a, b, c, d, e)) => plain(stacks, resources, &[a, b, c, d, e], given),
-        Wanted::Fields(fields) => stacks.exchange_fields(resources, fields, given),
-        Wanted::Run(ty, count) => stacks.exchange_run(resources, ty, count, given),
-        Wanted::Listed(types) => plain(stacks, resources, types, given),
-        Wanted::Under(types, above) => stacks.exchange_under(resources, types, above, given),
+    match expected {
+        Expected::Few(Few::Zero) => plain(stacks, resources, &[], pushed),
+        Expected::Few(Few::One(a)) => plain(stacks, resources, &[a], pushed),
+        Expected::Few(Few::Two(a, b)) => plain(stacks, resources, &[a, b], pushed),
+        Expected::Few(Few::Three(a, b, c)) => plain(stacks, resources, &[a, b, c], pushed),
+        Expected::Few(Few::Four(a, b, c, d)) => plain(stacks, resources, &[a, b, c, d], pushed),
+        Expected::Few(Few::Five(a, b, c, d, e)) => plain(
+            stacks,
+            resources,
+            &[a, b, c, d, e],
+            pushed,
+        ),
+        Expected::Fields(fields) => stacks.exchange_fields(resources, fields, pushed),
+        Expected::Run(ty, count) => stacks.exchange_run(resources, ty, count, pushed),
+        Expected::Listed(types) => plain(stacks, resources, types, pushed),
+        Expected::Under(types, above) => stacks.exchange_under(resources, types, above, pushed),
     }
 }
 
-/// `[wanted] -> [given]`. It is inlined, so that of a value that is known nothing lies in memory.
+/// `[expected] -> [pushed]`. It is inlined, so that of a value that is known nothing lies in memory.
 #[inline(always)]
 pub fn exchange_operands<A: Refused, R: WasmModuleResources>(
     stacks: &mut Stacks,
@@ -120,10 +125,10 @@ pub fn exchange_operands<A: Refused, R: WasmModuleResources>(
     ensures { Moves (R.context resources.now) A.tells (λ cx. row_operator (operands_row operands.entry)) stacks.old
         result stacks.new }
 {
-    match operands.given {
-        Given::Nothing => operands_giving(stacks, resources, operands.wanted, &[]),
-        Given::One(ty) => operands_giving(stacks, resources, operands.wanted, &[ty]),
-        Given::Listed(types) => operands_giving(stacks, resources, operands.wanted, types),
+    match operands.pushed {
+        Pushed::Nothing => operands_giving(stacks, resources, operands.expected, &[]),
+        Pushed::One(ty) => operands_giving(stacks, resources, operands.expected, &[ty]),
+        Pushed::Listed(types) => operands_giving(stacks, resources, operands.expected, types),
     }
 }
 

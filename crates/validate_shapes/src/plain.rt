@@ -1,4 +1,4 @@
-//! Operators whose wanted and pushed types don't depend on what is found.
+//! Operators whose expected and pushed types don't depend on what is found.
 
 ghost use Rattle.std.specs.Prelude.{◌≡◌, None, true, [], ◌∷◌, OnErr};
 ghost use Rattle.std.specs.List.{AllByRecursion};
@@ -12,85 +12,87 @@ use validate_resources::WasmModuleResources;
 use validate_stacks::Stacks;
 use validate_types::{MaybeType, Refused, ValType};
 
-/// `[wanted] -> [given]`, the last of each on top. It is called, so that what stands in each visit stays short.
+/// `[expected] -> [pushed]`, the last of each on top. It is called, so that what stands in each visit stays short.
 #[inline(never)]
 pub fn plain<A: Refused, R: WasmModuleResources>(
     stacks: &mut Stacks,
     resources: &R,
-    wanted: &[ValType],
-    given: &[ValType],
+    expected: &[ValType],
+    pushed: &[ValType],
 ) -> Result<(), A>
     requires visit { MayVisit (R.context resources.now) stacks.old }
-    requires wanted { AllByRecursion (Valid (R.context resources.now)) wanted.now }
-    requires given { AllByRecursion (Valid (R.context resources.now)) given.now }
+    requires expected { AllByRecursion (Valid (R.context resources.now)) expected.now }
+    requires pushed { AllByRecursion (Valid (R.context resources.now)) pushed.now }
     ensures { Moves (R.context resources.now) A.tells
-        (λ cx. row_operator (plain_row wanted.now given.now)) stacks.old result stacks.new }
+        (λ cx. row_operator (plain_row expected.now pushed.now)) stacks.old result stacks.new }
 {
-    stacks.exchange_types(resources, wanted, given)
+    stacks.exchange_types(resources, expected, pushed)
 }
 
-/// `[] -> [given]`
+/// `[] -> [pushed]`
 #[inline(always)]
 pub fn constant<A: Refused, R: WasmModuleResources>(
     stacks: &mut Stacks,
     resources: &R,
-    given: ValType,
+    pushed: ValType,
 ) -> Result<(), A>
     requires visit { MayVisit (R.context resources.now) stacks.old }
-    requires given { Valid (R.context resources.now) given }
-    ensures { Moves (R.context resources.now) A.tells (λ cx. row_operator (plain_row [] (given ∷ [])))
+    requires pushed { Valid (R.context resources.now) pushed }
+    ensures { Moves (R.context resources.now) A.tells (λ cx. row_operator (plain_row [] (pushed ∷ [])))
         stacks.old result stacks.new }
 {
     // The contract alone reads it.
     let _resources = resources;
-    stacks.push_operand(MaybeType::Known(given))
+    stacks.push_operand(MaybeType::Known(pushed))
 }
 
-/// `[taken] -> [given]`. The list is written twice, so that nothing of it lies in memory where the first call takes it.
+/// `[expected] -> [pushed]`. The list is written twice, so that nothing of it lies in memory where the first call takes
+/// it.
 #[inline(always)]
 pub fn unary<A: Refused, R: WasmModuleResources>(
     stacks: &mut Stacks,
     resources: &R,
-    taken: ValType,
-    given: ValType,
+    expected: ValType,
+    pushed: ValType,
 ) -> Result<(), A>
     requires visit { MayVisit (R.context resources.now) stacks.old }
-    requires taken { Valid (R.context resources.now) taken }
-    requires given { Valid (R.context resources.now) given }
+    requires expected { Valid (R.context resources.now) expected }
+    requires pushed { Valid (R.context resources.now) pushed }
     ensures { Moves (R.context resources.now) A.tells
-        (λ cx. row_operator (plain_row (taken ∷ []) (given ∷ []))) stacks.old result stacks.new }
+        (λ cx. row_operator (plain_row (expected ∷ []) (pushed ∷ []))) stacks.old result stacks.new }
 {
-    if stacks.exchange_numbers_at_once(resources, &[taken], Some(given)) {
+    if stacks.exchange_numbers_at_once(resources, &[expected], Some(pushed)) {
         return Ok(());
     }
-    plain(stacks, resources, &[taken], &[given])
+    plain(stacks, resources, &[expected], &[pushed])
 }
 
-/// `[taken taken] -> [given]` of numbers or vectors. The lists of the call are constants, so that none lies in memory.
+/// `[expected expected] -> [pushed]` of numbers or vectors. The lists of the call are constants, so that none lies in
+/// memory.
 #[inline(always)]
 pub fn binary<A: Refused, R: WasmModuleResources>(
     stacks: &mut Stacks,
     resources: &R,
-    taken: ValType,
-    given: ValType,
+    expected: ValType,
+    pushed: ValType,
 ) -> Result<(), A>
     requires visit { MayVisit (R.context resources.now) stacks.old }
-    requires taken { Valid (R.context resources.now) taken }
-    requires given { Valid (R.context resources.now) given }
-    requires taken_number { is_number_or_vector taken ≡ true }
-    requires given_number { is_number_or_vector given ≡ true }
+    requires expected { Valid (R.context resources.now) expected }
+    requires pushed { Valid (R.context resources.now) pushed }
+    requires expected_number { is_number_or_vector expected ≡ true }
+    requires pushed_number { is_number_or_vector pushed ≡ true }
     ensures { Moves (R.context resources.now) A.tells
-        (λ cx. row_operator (plain_row (taken ∷ taken ∷ []) (given ∷ []))) stacks.old result stacks.new }
+        (λ cx. row_operator (plain_row (expected ∷ expected ∷ []) (pushed ∷ []))) stacks.old result stacks.new }
 {
-    if stacks.exchange_numbers_at_once(resources, &[taken, taken], Some(given)) {
+    if stacks.exchange_numbers_at_once(resources, &[expected, expected], Some(pushed)) {
         return Ok(());
     }
-    plain(stacks, resources, twice(taken), once(given))
+    plain(stacks, resources, twice(expected), once(pushed))
 }
 
 /// `[low top] -> []`
 #[inline(always)]
-pub fn taken<A: Refused, R: WasmModuleResources>(
+pub fn pop_both<A: Refused, R: WasmModuleResources>(
     stacks: &mut Stacks,
     resources: &R,
     low: ValType,

@@ -107,7 +107,7 @@ fits_by md laws v t w valid h = by (h w refl)
     by (inl e) = ap (λ x. fits (body_context md v) x w) e
     by (inr e) = ap (λ x. fits (body_context md v) x w) e ∙ laws.reflexive w valid
 
--- an operand that is known to be of the wanted type
+-- an operand that is known to be of the expected type
 pub known_fits : (md : ModuleContext) → IsLawful md → (v : BodyState) (k : ℕ) (t : ValType) → Valid md t → found_after_pops_in_body k v ≡ Some (Known t) → may_pop (body_context md v) (found_after_pops_in_body k v) (Some t) ≡ true
 known_fits md laws v k t valid found = ap (λ f. may_pop (body_context md v) f (Some t)) found ∙ laws.reflexive t valid
 
@@ -118,21 +118,21 @@ guard_open true o h = refl
 guard_open false o h = cc
 
 -- where all of it fits, pops leave what lies below
-pub popped_dropped : (md : ModuleContext) (wanted : List ValType) (v : BodyState) → has_operands_fitting (body_context md v) wanted v ≡ true → body_popped_each md (reverse wanted) v ≡ Some (body_dropped (length wanted) v)
-popped_dropped md wanted v h = by v.present.frames refl
+pub popped_dropped : (md : ModuleContext) (expected : List ValType) (v : BodyState) → has_operands_fitting (body_context md v) expected v ≡ true → body_popped_each md (reverse expected) v ≡ Some (body_dropped (length expected) v)
+popped_dropped md expected v h = by v.present.frames refl
   where
     nothing : (ws : List ValType) → all_fit (body_context md v) [] ws ≡ true → ws ≡ []
     nothing [] e = refl
     nothing (w ∷ ws) e = cc
 
-    by : (fs : List Frame) → v.present.frames ≡ fs → body_popped_each md (reverse wanted) v ≡ Some (body_dropped (length wanted) v)
+    by : (fs : List Frame) → v.present.frames ≡ fs → body_popped_each md (reverse expected) v ≡ Some (body_dropped (length expected) v)
     by [] e =
-        let none : wanted ≡ [] = nothing wanted (sym (ap (λ gs. all_fit (body_context md v) (operands_found_in (length wanted) gs) wanted) e) ∙ h) in
+        let none : expected ≡ [] = nothing expected (sym (ap (λ gs. all_fit (body_context md v) (operands_found_in (length expected) gs) expected) e) ∙ h) in
         ap (λ ws. body_popped_each md (reverse ws) v) none ∙ popped_none md v ∙ ap Some (sym (dropped_none v)) ∙ ap (λ ws. Some (body_dropped (length ws) v)) (sym none)
     by (f ∷ fs) e =
-        popped_whole md v f fs wanted e
-        ∙ guard_open (all_fit (body_context md v) (operands_found (length wanted) f) wanted) _ (sym (ap (λ gs. all_fit (body_context md v) (operands_found_in (length wanted) gs) wanted) e) ∙ h)
-        ∙ ap (λ gs. Some (body_with_frames gs v)) (sym (ap (frames_dropped (length wanted)) e))
+        popped_whole md v f fs expected e
+        ∙ guard_open (all_fit (body_context md v) (operands_found (length expected) f) expected) _ (sym (ap (λ gs. all_fit (body_context md v) (operands_found_in (length expected) gs) expected) e) ∙ h)
+        ∙ ap (λ gs. Some (body_with_frames gs v)) (sym (ap (frames_dropped (length expected)) e))
 
 -- what is found below one other is found after it was popped
 pub found_below : (v : BodyState) → found_after_pops_in_body 1 v ≡ found_in_body (body_popped v)
@@ -168,22 +168,22 @@ known_stays k t v own found = by v.present.frames own found
         plus = omega arith
 
 -- those that are looked at from the top down, and are known
-pub known_starts : (wanted : List ValType) (v : BodyState) → body_pushed_each (drop (length wanted) wanted) (body_dropped (length wanted - length wanted) v) ≡ v
-known_starts wanted v =
-    let none : length wanted - length wanted ≡ 0 = omega arith in
-    rw (none, drop_all (length wanted) wanted (omega arith)) (dropped_none v)
+pub known_starts : (expected : List ValType) (v : BodyState) → body_pushed_each (drop (length expected) expected) (body_dropped (length expected - length expected) v) ≡ v
+known_starts expected v =
+    let none : length expected - length expected ≡ 0 = omega arith in
+    rw (none, drop_all (length expected) expected (omega arith)) (dropped_none v)
 
-pub known_goes_on : (wanted : List ValType) (v : BodyState) (n : ℕ) (d : ValType) → 0 < n → n - 1 < length wanted → length wanted ≤ length (innermost_operands v.present.frames) → found_after_pops_in_body (length wanted - 1 - (n - 1)) v ≡ Some (Known (get_or wanted (n - 1) d)) → body_pushed_each (drop n wanted) (body_dropped (length wanted - n) v) ≡ v → body_pushed_each (drop (n - 1) wanted) (body_dropped (length wanted - (n - 1)) v) ≡ v
-known_goes_on wanted v n d some here own found before =
-    let k : ℕ = length wanted - n in
-    let t : ValType = get_or wanted (n - 1) d in
-    let depth : length wanted - 1 - (n - 1) ≡ k = omega (arith, some, here) in
-    let more : length wanted - (n - 1) ≡ k + 1 = omega (arith, some, here) in
+pub known_goes_on : (expected : List ValType) (v : BodyState) (n : ℕ) (d : ValType) → 0 < n → n - 1 < length expected → length expected ≤ length (innermost_operands v.present.frames) → found_after_pops_in_body (length expected - 1 - (n - 1)) v ≡ Some (Known (get_or expected (n - 1) d)) → body_pushed_each (drop n expected) (body_dropped (length expected - n) v) ≡ v → body_pushed_each (drop (n - 1) expected) (body_dropped (length expected - (n - 1)) v) ≡ v
+known_goes_on expected v n d some here own found before =
+    let k : ℕ = length expected - n in
+    let t : ValType = get_or expected (n - 1) d in
+    let depth : length expected - 1 - (n - 1) ≡ k = omega (arith, some, here) in
+    let more : length expected - (n - 1) ≡ k + 1 = omega (arith, some, here) in
     let back : n - 1 + 1 ≡ n = omega (arith, some) in
-    at_drop_more (λ ts. body_pushed_each ts (body_dropped (length wanted - (n - 1)) v)) wanted (n - 1) d here
-    ∙ ap (λ j. body_pushed_each (t ∷ drop (n - 1 + 1) wanted) (body_dropped j v)) more
-    ∙ ap (λ j. body_pushed_each (t ∷ drop j wanted) (body_dropped (k + 1) v)) back
-    ∙ ap (body_pushed_each (drop n wanted)) (sym (known_stays k t v (omega (arith, some, here, own)) (sym (ap (λ j. found_after_pops_in_body j v) depth) ∙ found)))
+    at_drop_more (λ ts. body_pushed_each ts (body_dropped (length expected - (n - 1)) v)) expected (n - 1) d here
+    ∙ ap (λ j. body_pushed_each (t ∷ drop (n - 1 + 1) expected) (body_dropped j v)) more
+    ∙ ap (λ j. body_pushed_each (t ∷ drop j expected) (body_dropped (k + 1) v)) back
+    ∙ ap (body_pushed_each (drop n expected)) (sym (known_stays k t v (omega (arith, some, here, own)) (sym (ap (λ j. found_after_pops_in_body j v) depth) ∙ found)))
     ∙ before
 
 -- the frames stay open
@@ -212,11 +212,11 @@ some_left k v h = by v.present.frames h
 
 -- ---- the exchange
 
-module _ (md : ModuleContext) (wanted : List ValType) (v : BodyState) (fit : has_operands_fitting (body_context md v) wanted v ≡ true) (k : ℕ) (least : k ≡ min (length wanted) (length (innermost_operands v.present.frames))) where
-  popped : body_popped_each md (reverse wanted) v ≡ Some (body_dropped k v)
-  popped = popped_dropped md wanted v fit ∙ ap Some (dropped_within (length wanted) k v least)
+module _ (md : ModuleContext) (expected : List ValType) (v : BodyState) (fit : has_operands_fitting (body_context md v) expected v ≡ true) (k : ℕ) (least : k ≡ min (length expected) (length (innermost_operands v.present.frames))) where
+  popped : body_popped_each md (reverse expected) v ≡ Some (body_dropped k v)
+  popped = popped_dropped md expected v fit ∙ ap Some (dropped_within (length expected) k v least)
 
-  pub exchanged : (pushed : Option ValType) (w : BodyState) → w ≡ body_pushed_each (pushed_list pushed) (body_dropped k v) → option_map (body_pushed_each (pushed_list pushed)) (body_popped_each md (reverse wanted) v) ≡ Some w
+  pub exchanged : (pushed : Option ValType) (w : BodyState) → w ≡ body_pushed_each (pushed_list pushed) (body_dropped k v) → option_map (body_pushed_each (pushed_list pushed)) (body_popped_each md (reverse expected) v) ≡ Some w
   exchanged pushed w e = ap (option_map (body_pushed_each (pushed_list pushed))) popped ∙ ap Some (sym e)
 
 -- ---- what an exchange keeps
@@ -310,8 +310,8 @@ ended_dropped n v = by v.present.frames
     by (f ∷ fs) = refl
 
 -- where all of it fits, what is under it goes too
-pub ended_whole : (md : ModuleContext) (wanted : List ValType) (v w : BodyState) → has_operands_fitting (body_context md v) wanted v ≡ true → w ≡ body_unreachable v → option_map body_unreachable (body_popped_each md (reverse wanted) v) ≡ Some w
-ended_whole md wanted v w fit e = ap (option_map body_unreachable) (popped_dropped md wanted v fit) ∙ ap Some (ended_dropped (length wanted) v ∙ sym e)
+pub ended_whole : (md : ModuleContext) (expected : List ValType) (v w : BodyState) → has_operands_fitting (body_context md v) expected v ≡ true → w ≡ body_unreachable v → option_map body_unreachable (body_popped_each md (reverse expected) v) ≡ Some w
+ended_whole md expected v w fit e = ap (option_map body_unreachable) (popped_dropped md expected v fit) ∙ ap Some (ended_dropped (length expected) v ∙ sym e)
 
 nothing_left : (n : ℕ) (own : List MaybeType) → length own ≤ n → drop n own ≡ []
 nothing_left n [] h = drop_nothing n
@@ -347,9 +347,9 @@ quiet_frame fs operands is (Inactive a) s n ls en h = refl
 -- ---- own operands given to the next outer frame
 
 -- the frames below, at once and after the own operands of the innermost one
-pub cut-given : (f : FlatFrame) (fs : List FlatFrame) (operands : List MaybeType) (is : List ℕ) (m : ℕ) → HasShape (f ∷ fs) (length operands) m → state_from_heights fs operands (take f.init_height is) ≡ state_given (state_from_heights (f ∷ fs) operands is).frames (state_from_heights (f ∷ fs) operands is).left
-cut-given f [] operands is m h = ap (λ l. state_with l []) (sym (take-append-drop (length operands - f.height) operands))
-cut-given f (g ∷ gs) operands is m h =
+pub cut-pushed : (f : FlatFrame) (fs : List FlatFrame) (operands : List MaybeType) (is : List ℕ) (m : ℕ) → HasShape (f ∷ fs) (length operands) m → state_from_heights fs operands (take f.init_height is) ≡ state_given (state_from_heights (f ∷ fs) operands is).frames (state_from_heights (f ∷ fs) operands is).left
+cut-pushed f [] operands is m h = ap (λ l. state_with l []) (sym (take-append-drop (length operands - f.height) operands))
+cut-pushed f (g ∷ gs) operands is m h =
     let k = length operands - f.height in
     let below : length (drop k operands) ≡ f.height = omega (arith, length-drop k operands, h.0) in
     let more : length operands - g.height ≡ k + (length (drop k operands) - g.height) = omega (arith, below, h.0, h.2.0) in
@@ -365,7 +365,7 @@ sound_given fr fr' f fs or operands ir ir' en en' is (Inactive a) ls quiet e w =
 
 pub idle_given : (f : FlatFrame) (fs : List FlatFrame) (operands : List MaybeType) (is : List ℕ) (t : Transaction) (s : Bool) (n : WasmFeatures) (ls : List ValType) (en : List Bool) → log_of t ≡ None → HasShape (f ∷ fs) (length operands) (length is) → state_of fs operands (take f.init_height is) s n ls en (undone_pending fs operands (take f.init_height is) t) ≡ body_given (state_of (f ∷ fs) operands is s n ls en (undone_pending (f ∷ fs) operands is t))
 idle_given f fs operands is (Active log) s n ls en quiet h = cc
-idle_given f fs operands is (Inactive a) s n ls en quiet h = ap (λ (p : State). record { present = p; shared = s; features = n; locals = ls; set_at_entry = en; undone = None }) (cut-given f fs operands is (length is) h)
+idle_given f fs operands is (Inactive a) s n ls en quiet h = ap (λ (p : State). record { present = p; shared = s; features = n; locals = ls; set_at_entry = en; undone = None }) (cut-pushed f fs operands is (length is) h)
 
 -- ---- the top own operand taken
 
@@ -387,10 +387,10 @@ sound_taken fr fs or or' x operands ir en is (Active log) ls quiet own w = cc
 sound_taken fr [] or or' x operands ir en is (Inactive a) ls quiet own w = absurd (own refl)
 sound_taken fr (g ∷ gs) or or' x operands ir en is (Inactive a) ls quiet own w = record { shape = (above_own g gs x operands is own, w.shape.1, w.shape.2); marks = w.marks; undo = tt }
 
-pub cut-taken : (fs : List FlatFrame) (x : MaybeType) (operands : List MaybeType) (is : List ℕ) (t : Transaction) (s : Bool) (n : WasmFeatures) (ls : List ValType) (en : List Bool) → log_of t ≡ None → innermost_operands (state_from_heights fs (x ∷ operands) is).frames ≢ [] → state_of fs operands is s n ls en (undone_pending fs operands is t) ≡ body_popped (state_of fs (x ∷ operands) is s n ls en (undone_pending fs (x ∷ operands) is t))
-cut-taken fs x operands is (Active log) s n ls en quiet own = cc
-cut-taken [] x operands is (Inactive a) s n ls en quiet own = absurd (own refl)
-cut-taken (g ∷ gs) x operands is (Inactive a) s n ls en quiet own = (above_height (g ∷ gs) g x operands is s n ls en None refl (above_own g gs x operands is own)).1
+pub cut-popped : (fs : List FlatFrame) (x : MaybeType) (operands : List MaybeType) (is : List ℕ) (t : Transaction) (s : Bool) (n : WasmFeatures) (ls : List ValType) (en : List Bool) → log_of t ≡ None → innermost_operands (state_from_heights fs (x ∷ operands) is).frames ≢ [] → state_of fs operands is s n ls en (undone_pending fs operands is t) ≡ body_popped (state_of fs (x ∷ operands) is s n ls en (undone_pending fs (x ∷ operands) is t))
+cut-popped fs x operands is (Active log) s n ls en quiet own = cc
+cut-popped [] x operands is (Inactive a) s n ls en quiet own = absurd (own refl)
+cut-popped (g ∷ gs) x operands is (Inactive a) s n ls en quiet own = (above_height (g ∷ gs) g x operands is s n ls en None refl (above_own g gs x operands is own)).1
 
 -- ---- own operands taken
 
@@ -419,7 +419,7 @@ dropped_whole (suc n) fr fs or operands ir en is t s nf ls quiet own w =
     by [] e sound same there = absurd (omega (arith, own_there fs [] is there))
     by (x ∷ rest) e sound same there =
         let left_is : rest ≡ drop (suc n) operands = sym (drop_next n operands ∙ ap (drop 1) e) in
-        (subst (λ k. IsSound fr fs or k ir en is t ls) left_is (sound_taken fr fs or or x rest ir en is t ls quiet there sound), ap at (sym left_is) ∙ cut-taken fs x rest is t s nf ls en quiet there ∙ ap body_popped same ∙ dropped_next n v ∙ ap (λ k. body_dropped k v) plus)
+        (subst (λ k. IsSound fr fs or k ir en is t ls) left_is (sound_taken fr fs or or x rest ir en is t ls quiet there sound), ap at (sym left_is) ∙ cut-popped fs x rest is t s nf ls en quiet there ∙ ap body_popped same ∙ dropped_next n v ∙ ap (λ k. body_dropped k v) plus)
 
 -- where there is none in the list, no frame is open
 pub frameless : (fs : List FlatFrame) (operands : List MaybeType) (is : List ℕ) → slice_get fs 0 ≡ None → (state_from_heights fs operands is).frames ≡ []

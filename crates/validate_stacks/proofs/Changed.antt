@@ -170,12 +170,12 @@ module _ (fr or ir : ℕ) (en : List Bool) (s : Bool) (nf : WasmFeatures) (ls : 
   own_less (g ∷ gs) is n x rest own = omega (arith, own, own-cut (g ∷ gs) g (x ∷ rest) is refl, own-cut (g ∷ gs) g rest is refl)
 
   -- so many own operands are taken
-  pub taken : (fs : List FlatFrame) (is : List ℕ) (n : ℕ) (operands : List MaybeType) (t : Transaction) → n ≤ length (innermost_operands (state_from_heights fs operands is).frames) → length operands ≤ or → Sound fs operands is t → Sound fs (drop n operands) is (log_popped (take n operands) t) × (at fs (drop n operands) is (log_popped (take n operands) t) ≡ body_dropped n (at fs operands is t))
-  taken fs is zero operands t own room w = (w, sym (dropped_none (at fs operands is t)))
-  taken fs is (suc n) [] t own room w = absurd (omega (arith, own, own_within fs [] is))
-  taken fs is (suc n) (x ∷ rest) t own room w =
+  pub popped : (fs : List FlatFrame) (is : List ℕ) (n : ℕ) (operands : List MaybeType) (t : Transaction) → n ≤ length (innermost_operands (state_from_heights fs operands is).frames) → length operands ≤ or → Sound fs operands is t → Sound fs (drop n operands) is (log_popped (take n operands) t) × (at fs (drop n operands) is (log_popped (take n operands) t) ≡ body_dropped n (at fs operands is t))
+  popped fs is zero operands t own room w = (w, sym (dropped_none (at fs operands is t)))
+  popped fs is (suc n) [] t own room w = absurd (omega (arith, own, own_within fs [] is))
+  popped fs is (suc n) (x ∷ rest) t own room w =
       let once = popped_once fs is x rest t (omega (arith, own)) (omega (arith, room)) w in
-      let others = taken fs is n rest (with_pop x t) (own_less fs is n x rest own) (omega (arith, room)) once.0 in
+      let others = popped fs is n rest (with_pop x t) (own_less fs is n x rest own) (omega (arith, room)) once.0 in
       (others.0, others.1 ∙ ap (body_dropped n) once.1 ∙ dropped_after n (at fs (x ∷ rest) is t))
 
   -- what an attempt allows stays allowed
@@ -238,11 +238,11 @@ module _ (fr or ir : ℕ) (en : List Bool) (s : Bool) (nf : WasmFeatures) (ls : 
   )
 
   -- all of a list is given
-  pub given : (fs : List FlatFrame) (is : List ℕ) (gs : List ValType) (operands : List MaybeType) (t : Transaction) → Sound fs operands is t → Sound fs (operands_given gs operands) is (log_pushed gs t) × (at fs (operands_given gs operands) is (log_pushed gs t) ≡ body_pushed_each gs (at fs operands is t))
-  given fs is [] operands t w = (w, refl)
-  given fs is (g ∷ gs) operands t w =
+  pub pushed : (fs : List FlatFrame) (is : List ℕ) (gs : List ValType) (operands : List MaybeType) (t : Transaction) → Sound fs operands is t → Sound fs (operands_given gs operands) is (log_pushed gs t) × (at fs (operands_given gs operands) is (log_pushed gs t) ≡ body_pushed_each gs (at fs operands is t))
+  pushed fs is [] operands t w = (w, refl)
+  pushed fs is (g ∷ gs) operands t w =
       let once = pushed_once fs is (Known g) operands t w in
-      let rest = given fs is gs (Known g ∷ operands) (with_push t) once.0 in
+      let rest = pushed fs is gs (Known g ∷ operands) (with_push t) once.0 in
       (rest.0, rest.1 ∙ ap (body_pushed_each gs) once.1)
 
   -- and one above them
@@ -283,11 +283,11 @@ module _ (fr or ir : ℕ) (en : List Bool) (s : Bool) (nf : WasmFeatures) (ls : 
   changed n b sets o gs top fs operands is t a w =
       let left : List MaybeType = drop n operands in
       let log : Transaction = log_popped (take n operands) t in
-      let one = taken fs is n operands t a.own a.operands_room w in
+      let one = popped fs is n operands t a.own a.operands_room w in
       let two = closed b fs is left log (λ e. bare_after fs operands is n (a.bare e)) (λ e. taken_frame fs is n operands t one.1 (a.closing e)) (λ e. taken_unset fs is n operands t one.1 (a.unsets e)) a.frames_room one.0 in
       let three = setting sets (frames_closed b fs) (order_closed b fs is) left (log_closed b fs is log) (λ e. still_set b fs is left log (a.alone e).0 (taken_set fs is n operands t one.1 (a.sets_now e))) (λ e. still_open b fs (a.alone e).0 (a.within e)) a.order_room a.fresh two.0 in
       let four = opened o (frames_closed b fs) (order_by b sets fs is) left (log_closed b fs is log) (λ e. still_frame sets o b fs is left log a.alone e (closed_frame b fs is left log (taken_frame fs is n operands t one.1 (a.opening e)))) three.0 in
-      let five = given (frames_by b sets o fs is (length left)) (order_by b sets fs is) gs left (log_opened o (log_closed b fs is log)) four.0 in
+      let five = pushed (frames_by b sets o fs is (length left)) (order_by b sets fs is) gs left (log_opened o (log_closed b fs is log)) four.0 in
       let six = topped (frames_by b sets o fs is (length left)) (order_by b sets fs is) top (operands_given gs left) (log_pushed gs (log_opened o (log_closed b fs is log))) five.0 in
       (six.0, six.1 ∙ ap (body_topped top) (five.1 ∙ ap (body_pushed_each gs) (four.1 ∙ ap (body_opened o) (three.1 ∙ ap (body_setting sets) (two.1 ∙ ap (body_closed b) one.1)))))
     where

@@ -23,7 +23,7 @@ module _ (features : WasmFeatures) where
   body fs = body_with_frames fs (empty_body features)
 
   abbrev changed : ℕ → Bool → Option (FrameKind × BlockType) → List ValType → Option MaybeType → BodyState → BodyState
-  changed n closes opens given top v = body_topped top (body_pushed_each given (body_opened opens (body_closed closes (body_dropped n v))))
+  changed n closes opens pushed top v = body_topped top (body_pushed_each pushed (body_opened opens (body_closed closes (body_dropped n v))))
 
   -- `i64.eqz` below one operand more
   exchanged : changed 1 false None (I32 ∷ []) None (body (frame Block (Known I64 ∷ Known I32 ∷ []) ∷ [])) ≡ body (frame Block (Known I32 ∷ Known I32 ∷ []) ∷ [])

@@ -1,4 +1,4 @@
--- Operands matched in place, from the top, are the wanted list taken whole.
+-- Operands matched in place, from the top, are the expected list taken whole.
 use Rattle.std.proofs.Common.{◌≡◌, ℕ, zero, suc, ◌+◌, ◌-◌, ◌<◌, List, [], ◌∷◌, ◌++◌, Bool, true, false, ◌&&◌, Option, Some, length, subst, take, drop, reverse, get_or, refl, sym, ◌∙◌, ap, ap₂, arith}
 use Rattle.std.proofs.lemmas.List.{take_more, reverse-append, length-append, take_all}
 use Rattle.validate_resources.specs.Context.{ModuleContext}
@@ -25,12 +25,12 @@ drop_next (suc k) (x ∷ xs) = drop_next k xs
 
 module _ (cx : Context) where
   -- all of the list is left to match
-  pub all_left : (wanted : List ValType) (v : BodyState) → all_fit cx (after_in (length wanted) 0 v.present.frames) (reverse wanted) ≡ has_operands_fitting cx wanted v
-  all_left wanted v = by v.present.frames
+  pub all_left : (expected : List ValType) (v : BodyState) → all_fit cx (after_in (length expected) 0 v.present.frames) (reverse expected) ≡ has_operands_fitting cx expected v
+  all_left expected v = by v.present.frames
     where
-      by : (fs : List Frame) → all_fit cx (after_in (length wanted) 0 fs) (reverse wanted) ≡ all_fit cx (operands_found_in (length wanted) fs) wanted
-      by [] = sym (fit_turned cx [] wanted)
-      by (f ∷ fs) = sym (fit_turned cx (operands_on_top (length wanted) f.dead f.operands) wanted)
+      by : (fs : List Frame) → all_fit cx (after_in (length expected) 0 fs) (reverse expected) ≡ all_fit cx (operands_found_in (length expected) fs) expected
+      by [] = sym (fit_turned cx [] expected)
+      by (f ∷ fs) = sym (fit_turned cx (operands_on_top (length expected) f.dead f.operands) expected)
 
   pub next_in : (n : ℕ) (own : List MaybeType) (dead : Bool) (w : ValType) (ws : List ValType) → all_fit cx (operands_on_top (suc n) dead own) (w ∷ ws) ≡ may_pop cx (found_by_pop dead own) (Some w) && all_fit cx (operands_on_top n dead (drop 1 own)) ws
   next_in n (x ∷ own) dead w ws = refl
@@ -44,7 +44,7 @@ module _ (cx : Context) where
       next_in n (drop k f.operands) f.dead w ws
       ∙ ap (λ l. may_pop cx (found_by_pop f.dead (drop k f.operands)) (Some w) && all_fit cx (operands_on_top n f.dead l) ws) (sym (drop_next k f.operands))
 
-  -- one wanted on top of others
+  -- one expected on top of others
   pub under_next : (under : List ValType) (above : ValType) (v : BodyState) → has_operands_fitting cx (under ++ above ∷ []) v ≡ has_operands_fitting cx (above ∷ []) v && has_operands_fitting cx under (body_dropped 1 v)
   under_next under above v =
       sym (all_left (under ++ above ∷ []) v)
@@ -72,70 +72,70 @@ module _ (cx : Context) where
       below [] = sym (fit_turned cx [] under)
       below (f ∷ fs) = sym (fit_turned cx (operands_on_top (length under) f.dead (drop 1 f.operands)) under)
 
-  pub last_next : (wanted : List ValType) (i : ℕ) (d : ValType) → i < length wanted → reverse (take (suc i) wanted) ≡ get_or wanted i d ∷ reverse (take i wanted)
-  last_next wanted i d h = ap reverse (ap (λ k. take k wanted) plus ∙ take_more wanted i d h) ∙ reverse-append (take i wanted) (get_or wanted i d ∷ [])
+  pub last_next : (expected : List ValType) (i : ℕ) (d : ValType) → i < length expected → reverse (take (suc i) expected) ≡ get_or expected i d ∷ reverse (take i expected)
+  last_next expected i d h = ap reverse (ap (λ k. take k expected) plus ∙ take_more expected i d h) ∙ reverse-append (take i expected) (get_or expected i d ∷ [])
     where
       plus : suc i ≡ i + 1
       plus = omega arith
 
   -- with the place i of the list still to match, and those below it
-  pub one_matched : (wanted : List ValType) (v : BodyState) (i : ℕ) (d : ValType) → i < length wanted → all_fit cx (after_in (suc i) (length wanted - suc i) v.present.frames) (reverse (take (suc i) wanted)) ≡ may_pop cx (found_after_pops_in_body (length wanted - 1 - i) v) (Some (get_or wanted i d)) && all_fit cx (after_in i (length wanted - i) v.present.frames) (reverse (take i wanted))
-  one_matched wanted v i d h =
-      let place : length wanted - suc i ≡ length wanted - 1 - i = omega arith in
-      let next : suc (length wanted - suc i) ≡ length wanted - i = omega (arith, h) in
-      ap (all_fit cx (after_in (suc i) (length wanted - suc i) v.present.frames)) (last_next wanted i d h)
-      ∙ next_left i (length wanted - suc i) v.present.frames (get_or wanted i d) (reverse (take i wanted))
-      ∙ ap₂ (λ p q. may_pop cx (found_after_pops_in_body p v) (Some (get_or wanted i d)) && all_fit cx (after_in i q v.present.frames) (reverse (take i wanted))) place next
+  pub one_matched : (expected : List ValType) (v : BodyState) (i : ℕ) (d : ValType) → i < length expected → all_fit cx (after_in (suc i) (length expected - suc i) v.present.frames) (reverse (take (suc i) expected)) ≡ may_pop cx (found_after_pops_in_body (length expected - 1 - i) v) (Some (get_or expected i d)) && all_fit cx (after_in i (length expected - i) v.present.frames) (reverse (take i expected))
+  one_matched expected v i d h =
+      let place : length expected - suc i ≡ length expected - 1 - i = omega arith in
+      let next : suc (length expected - suc i) ≡ length expected - i = omega (arith, h) in
+      ap (all_fit cx (after_in (suc i) (length expected - suc i) v.present.frames)) (last_next expected i d h)
+      ∙ next_left i (length expected - suc i) v.present.frames (get_or expected i d) (reverse (take i expected))
+      ∙ ap₂ (λ p q. may_pop cx (found_after_pops_in_body p v) (Some (get_or expected i d)) && all_fit cx (after_in i q v.present.frames) (reverse (take i expected))) place next
 
   -- at the start
-  pub matching_starts : (wanted : List ValType) (v : BodyState) → all_fit cx (after_in (length wanted) (length wanted - length wanted) v.present.frames) (reverse (take (length wanted) wanted)) ≡ has_operands_fitting cx wanted v
-  matching_starts wanted v =
-      let none : length wanted - length wanted ≡ 0 = omega arith in
-      ap₂ (λ k ws. all_fit cx (after_in (length wanted) k v.present.frames) (reverse ws)) none (take_all (length wanted) wanted (omega arith)) ∙ all_left wanted v
+  pub matching_starts : (expected : List ValType) (v : BodyState) → all_fit cx (after_in (length expected) (length expected - length expected) v.present.frames) (reverse (take (length expected) expected)) ≡ has_operands_fitting cx expected v
+  matching_starts expected v =
+      let none : length expected - length expected ≡ 0 = omega arith in
+      ap₂ (λ k ws. all_fit cx (after_in (length expected) k v.present.frames) (reverse ws)) none (take_all (length expected) expected (omega arith)) ∙ all_left expected v
 
   -- with n of the list still to match
-  matched : (wanted : List ValType) (v : BodyState) (n : ℕ) (d : ValType) → 0 < n → n - 1 < length wanted → all_fit cx (after_in n (length wanted - n) v.present.frames) (reverse (take n wanted)) ≡ may_pop cx (found_after_pops_in_body (length wanted - 1 - (n - 1)) v) (Some (get_or wanted (n - 1) d)) && all_fit cx (after_in (n - 1) (length wanted - (n - 1)) v.present.frames) (reverse (take (n - 1) wanted))
-  matched wanted v zero d s h = absurd (omega (arith, s))
-  matched wanted v (suc i) d s h =
+  matched : (expected : List ValType) (v : BodyState) (n : ℕ) (d : ValType) → 0 < n → n - 1 < length expected → all_fit cx (after_in n (length expected - n) v.present.frames) (reverse (take n expected)) ≡ may_pop cx (found_after_pops_in_body (length expected - 1 - (n - 1)) v) (Some (get_or expected (n - 1) d)) && all_fit cx (after_in (n - 1) (length expected - (n - 1)) v.present.frames) (reverse (take (n - 1) expected))
+  matched expected v zero d s h = absurd (omega (arith, s))
+  matched expected v (suc i) d s h =
       let less : suc i - 1 ≡ i = omega arith in
-      rw less (one_matched wanted v i d (omega (arith, h)))
+      rw less (one_matched expected v i d (omega (arith, h)))
 
-  pub matching_goes_on : (wanted : List ValType) (v : BodyState) (n : ℕ) (d : ValType) → 0 < n → n - 1 < length wanted → (found : Option MaybeType) → found ≡ found_after_pops_in_body (length wanted - 1 - (n - 1)) v → may_pop cx found (Some (get_or wanted (n - 1) d)) ≡ true → all_fit cx (after_in n (length wanted - n) v.present.frames) (reverse (take n wanted)) ≡ has_operands_fitting cx wanted v → all_fit cx (after_in (n - 1) (length wanted - (n - 1)) v.present.frames) (reverse (take (n - 1) wanted)) ≡ has_operands_fitting cx wanted v
-  matching_goes_on wanted v n d s h found f p e =
-      sym (matched wanted v n d s h ∙ ap (λ o. may_pop cx o (Some (get_or wanted (n - 1) d)) && all_fit cx (after_in (n - 1) (length wanted - (n - 1)) v.present.frames) (reverse (take (n - 1) wanted))) (sym f) ∙ ap (λ b. b && all_fit cx (after_in (n - 1) (length wanted - (n - 1)) v.present.frames) (reverse (take (n - 1) wanted))) p) ∙ e
+  pub matching_goes_on : (expected : List ValType) (v : BodyState) (n : ℕ) (d : ValType) → 0 < n → n - 1 < length expected → (found : Option MaybeType) → found ≡ found_after_pops_in_body (length expected - 1 - (n - 1)) v → may_pop cx found (Some (get_or expected (n - 1) d)) ≡ true → all_fit cx (after_in n (length expected - n) v.present.frames) (reverse (take n expected)) ≡ has_operands_fitting cx expected v → all_fit cx (after_in (n - 1) (length expected - (n - 1)) v.present.frames) (reverse (take (n - 1) expected)) ≡ has_operands_fitting cx expected v
+  matching_goes_on expected v n d s h found f p e =
+      sym (matched expected v n d s h ∙ ap (λ o. may_pop cx o (Some (get_or expected (n - 1) d)) && all_fit cx (after_in (n - 1) (length expected - (n - 1)) v.present.frames) (reverse (take (n - 1) expected))) (sym f) ∙ ap (λ b. b && all_fit cx (after_in (n - 1) (length expected - (n - 1)) v.present.frames) (reverse (take (n - 1) expected))) p) ∙ e
 
-  pub matching_stops : (wanted : List ValType) (v : BodyState) (n : ℕ) (d : ValType) → 0 < n → n - 1 < length wanted → (found : Option MaybeType) → found ≡ found_after_pops_in_body (length wanted - 1 - (n - 1)) v → may_pop cx found (Some (get_or wanted (n - 1) d)) ≡ false → all_fit cx (after_in n (length wanted - n) v.present.frames) (reverse (take n wanted)) ≡ has_operands_fitting cx wanted v → has_operands_fitting cx wanted v ≡ false
-  matching_stops wanted v n d s h found f p e =
-      sym e ∙ (matched wanted v n d s h ∙ ap (λ o. may_pop cx o (Some (get_or wanted (n - 1) d)) && all_fit cx (after_in (n - 1) (length wanted - (n - 1)) v.present.frames) (reverse (take (n - 1) wanted))) (sym f) ∙ ap (λ b. b && all_fit cx (after_in (n - 1) (length wanted - (n - 1)) v.present.frames) (reverse (take (n - 1) wanted))) p)
+  pub matching_stops : (expected : List ValType) (v : BodyState) (n : ℕ) (d : ValType) → 0 < n → n - 1 < length expected → (found : Option MaybeType) → found ≡ found_after_pops_in_body (length expected - 1 - (n - 1)) v → may_pop cx found (Some (get_or expected (n - 1) d)) ≡ false → all_fit cx (after_in n (length expected - n) v.present.frames) (reverse (take n expected)) ≡ has_operands_fitting cx expected v → has_operands_fitting cx expected v ≡ false
+  matching_stops expected v n d s h found f p e =
+      sym e ∙ (matched expected v n d s h ∙ ap (λ o. may_pop cx o (Some (get_or expected (n - 1) d)) && all_fit cx (after_in (n - 1) (length expected - (n - 1)) v.present.frames) (reverse (take (n - 1) expected))) (sym f) ∙ ap (λ b. b && all_fit cx (after_in (n - 1) (length expected - (n - 1)) v.present.frames) (reverse (take (n - 1) expected))) p)
 
 -- the same of a state u that is the state v
-module _ (md : ModuleContext) (wanted : List ValType) (u v : BodyState) (same : u ≡ v) (n : ℕ) (d : ValType) (some : 0 < n) (within : n - 1 < length wanted) (found : Option MaybeType) (is_found : found ≡ found_after_pops_in_body (length wanted - 1 - (n - 1)) u) where
-  there : found ≡ found_after_pops_in_body (length wanted - 1 - (n - 1)) v
-  there = is_found ∙ ap (found_after_pops_in_body (length wanted - 1 - (n - 1))) same
+module _ (md : ModuleContext) (expected : List ValType) (u v : BodyState) (same : u ≡ v) (n : ℕ) (d : ValType) (some : 0 < n) (within : n - 1 < length expected) (found : Option MaybeType) (is_found : found ≡ found_after_pops_in_body (length expected - 1 - (n - 1)) u) where
+  there : found ≡ found_after_pops_in_body (length expected - 1 - (n - 1)) v
+  there = is_found ∙ ap (found_after_pops_in_body (length expected - 1 - (n - 1))) same
 
-  test_same : may_pop (body_context md u) found (Some (get_or wanted (n - 1) d)) ≡ may_pop (body_context md v) found (Some (get_or wanted (n - 1) d))
-  test_same = ap (λ s. may_pop (body_context md s) found (Some (get_or wanted (n - 1) d))) same
+  test_same : may_pop (body_context md u) found (Some (get_or expected (n - 1) d)) ≡ may_pop (body_context md v) found (Some (get_or expected (n - 1) d))
+  test_same = ap (λ s. may_pop (body_context md s) found (Some (get_or expected (n - 1) d))) same
 
-  pub goes_on_there : may_pop (body_context md u) found (Some (get_or wanted (n - 1) d)) ≡ true → all_fit (body_context md v) (after_in n (length wanted - n) v.present.frames) (reverse (take n wanted)) ≡ has_operands_fitting (body_context md v) wanted v → all_fit (body_context md v) (after_in (n - 1) (length wanted - (n - 1)) v.present.frames) (reverse (take (n - 1) wanted)) ≡ has_operands_fitting (body_context md v) wanted v
-  goes_on_there p e = matching_goes_on (body_context md v) wanted v n d some within found there (sym test_same ∙ p) e
+  pub goes_on_there : may_pop (body_context md u) found (Some (get_or expected (n - 1) d)) ≡ true → all_fit (body_context md v) (after_in n (length expected - n) v.present.frames) (reverse (take n expected)) ≡ has_operands_fitting (body_context md v) expected v → all_fit (body_context md v) (after_in (n - 1) (length expected - (n - 1)) v.present.frames) (reverse (take (n - 1) expected)) ≡ has_operands_fitting (body_context md v) expected v
+  goes_on_there p e = matching_goes_on (body_context md v) expected v n d some within found there (sym test_same ∙ p) e
 
-  pub stops_there : may_pop (body_context md u) found (Some (get_or wanted (n - 1) d)) ≡ false → all_fit (body_context md v) (after_in n (length wanted - n) v.present.frames) (reverse (take n wanted)) ≡ has_operands_fitting (body_context md v) wanted v → has_operands_fitting (body_context md v) wanted v ≡ false
-  stops_there p e = matching_stops (body_context md v) wanted v n d some within found there (sym test_same ∙ p) e
+  pub stops_there : may_pop (body_context md u) found (Some (get_or expected (n - 1) d)) ≡ false → all_fit (body_context md v) (after_in n (length expected - n) v.present.frames) (reverse (take n expected)) ≡ has_operands_fitting (body_context md v) expected v → has_operands_fitting (body_context md v) expected v ≡ false
+  stops_there p e = matching_stops (body_context md v) expected v n d some within found there (sym test_same ∙ p) e
 
 -- a list of so many types, whose type at n - 1 is t
-module _ (md : ModuleContext) (wanted : List ValType) (v : BodyState) (n : ℕ) (d t : ValType) (some : 0 < n) (is : get_or wanted (n - 1) d ≡ t) where
+module _ (md : ModuleContext) (expected : List ValType) (v : BodyState) (n : ℕ) (d t : ValType) (some : 0 < n) (is : get_or expected (n - 1) d ≡ t) where
   abbrev Rest : ℕ → ℕ → Type 0
-  Rest c k = all_fit (body_context md v) (after_in k (c - k) v.present.frames) (reverse (take k wanted)) ≡ has_operands_fitting (body_context md v) wanted v
+  Rest c k = all_fit (body_context md v) (after_in k (c - k) v.present.frames) (reverse (take k expected)) ≡ has_operands_fitting (body_context md v) expected v
 
-  pub counted_goes_on : (c : ℕ) → length wanted ≡ c → n - 1 < c → may_pop (body_context md v) (found_after_pops_in_body (c - 1 - (n - 1)) v) (Some t) ≡ true → Rest c n → Rest c (n - 1)
+  pub counted_goes_on : (c : ℕ) → length expected ≡ c → n - 1 < c → may_pop (body_context md v) (found_after_pops_in_body (c - 1 - (n - 1)) v) (Some t) ≡ true → Rest c n → Rest c (n - 1)
   counted_goes_on c long =
       subst (λ k. n - 1 < k → may_pop (body_context md v) (found_after_pops_in_body (k - 1 - (n - 1)) v) (Some t) ≡ true → Rest k n → Rest k (n - 1)) long
-      (λ h p e. goes_on_there md wanted v v refl n d some h _ refl (ap (λ w. may_pop (body_context md v) (found_after_pops_in_body (length wanted - 1 - (n - 1)) v) (Some w)) is ∙ p) e)
+      (λ h p e. goes_on_there md expected v v refl n d some h _ refl (ap (λ w. may_pop (body_context md v) (found_after_pops_in_body (length expected - 1 - (n - 1)) v) (Some w)) is ∙ p) e)
 
-  pub counted_stops : (c : ℕ) → length wanted ≡ c → n - 1 < c → may_pop (body_context md v) (found_after_pops_in_body (c - 1 - (n - 1)) v) (Some t) ≡ false → Rest c n → has_operands_fitting (body_context md v) wanted v ≡ false
+  pub counted_stops : (c : ℕ) → length expected ≡ c → n - 1 < c → may_pop (body_context md v) (found_after_pops_in_body (c - 1 - (n - 1)) v) (Some t) ≡ false → Rest c n → has_operands_fitting (body_context md v) expected v ≡ false
   counted_stops c long =
-      subst (λ k. n - 1 < k → may_pop (body_context md v) (found_after_pops_in_body (k - 1 - (n - 1)) v) (Some t) ≡ false → Rest k n → has_operands_fitting (body_context md v) wanted v ≡ false) long
-      (λ h p e. stops_there md wanted v v refl n d some h _ refl (ap (λ w. may_pop (body_context md v) (found_after_pops_in_body (length wanted - 1 - (n - 1)) v) (Some w)) is ∙ p) e)
+      subst (λ k. n - 1 < k → may_pop (body_context md v) (found_after_pops_in_body (k - 1 - (n - 1)) v) (Some t) ≡ false → Rest k n → has_operands_fitting (body_context md v) expected v ≡ false) long
+      (λ h p e. stops_there md expected v v refl n d some h _ refl (ap (λ w. may_pop (body_context md v) (found_after_pops_in_body (length expected - 1 - (n - 1)) v) (Some w)) is ∙ p) e)
 
-pub counted_starts : (cx : Context) (wanted : List ValType) (v : BodyState) (c : ℕ) → length wanted ≡ c → all_fit cx (after_in c (c - c) v.present.frames) (reverse (take c wanted)) ≡ has_operands_fitting cx wanted v
-counted_starts cx wanted v c long = subst (λ k. all_fit cx (after_in k (k - k) v.present.frames) (reverse (take k wanted)) ≡ has_operands_fitting cx wanted v) long (matching_starts cx wanted v)
+pub counted_starts : (cx : Context) (expected : List ValType) (v : BodyState) (c : ℕ) → length expected ≡ c → all_fit cx (after_in c (c - c) v.present.frames) (reverse (take c expected)) ≡ has_operands_fitting cx expected v
+counted_starts cx expected v c long = subst (λ k. all_fit cx (after_in k (k - k) v.present.frames) (reverse (take k expected)) ≡ has_operands_fitting cx expected v) long (matching_starts cx expected v)

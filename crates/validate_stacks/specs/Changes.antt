@@ -41,18 +41,18 @@ body_topped None v = v
 
 abbrev pub body_changed : Change → BodyState → BodyState
 body_changed c v =
-    let left = body_setting c.sets (body_closed c.closes (body_dropped c.taken v)) in
-    body_topped c.top (body_pushed_each c.given.now (body_opened c.opens left))
+    let left = body_setting c.sets (body_closed c.closes (body_dropped c.popped v)) in
+    body_topped c.top (body_pushed_each c.pushed.now (body_opened c.opens left))
 
 -- how many operands come
-abbrev pub given_count : Change → ℕ
-given_count c = length c.given.now + (if is_some c.top then 1 else 0)
+abbrev pub pushed_count : Change → ℕ
+pushed_count c = length c.pushed.now + (if is_some c.top then 1 else 0)
 
 -- It may be made: the innermost frame has as many own operands, and no others where it is closed; a local that is set
 -- is declared, and no frame is closed or opened then. An attempt that is pending allows it.
 pub record MayChange (c : Change) (v : Stacked) : Type 0 where
-  pub own : c.taken ≤ length (innermost_operands v.body.present.frames)
-  pub whole : c.closes ≡ true → length (innermost_operands v.body.present.frames) ≡ c.taken
+  pub own : c.popped ≤ length (innermost_operands v.body.present.frames)
+  pub whole : c.closes ≡ true → length (innermost_operands v.body.present.frames) ≡ c.popped
   pub open_frame : c.closes ≡ true → v.body.present.frames ≢ []
   pub closing : c.closes ≡ true → may_frame v ≡ true
   pub unsets : c.closes ≡ true → may_unset v ≡ true
@@ -134,5 +134,5 @@ log_topped (Some x) t = with_push t
 
 abbrev pub log_changed : Change → List FlatFrame → List MaybeType → List ℕ → Transaction → Transaction
 log_changed c fs operands order t =
-    let left = log_closed c.closes fs order (log_popped (take c.taken operands) t) in
-    log_topped c.top (log_pushed c.given.now (log_opened c.opens left))
+    let left = log_closed c.closes fs order (log_popped (take c.popped operands) t) in
+    log_topped c.top (log_pushed c.pushed.now (log_opened c.opens left))

@@ -25,22 +25,22 @@ Moves md tells op v answer w =
     MatchResult answer
     (λ _. Moved md op v.body w.body) (λ e. (w ≡ v) × (tells e → step_body md op v.body ≡ None))
 
--- Operands of the wanted types are taken, the last of them first, and the rest becomes what f says; or nothing is
--- changed, and a refusal that tells is one of those pops.
+-- Operands of the expected types are popped, the last of them first, and the rest becomes what f says; or
+-- nothing is changed, and a refusal that tells is one of those pops.
 unfoldable pub Takes :
     {E : Type 0} → ModuleContext → (E → Type 0) → List ValType → (BodyState → BodyState) → Stacked →
     Result (Unit {0}) E → Stacked → Type 0
-Takes md tells wanted f v answer w =
+Takes md tells expected f v answer w =
     MatchResult answer
-    (λ _. option_map f (body_popped_each md (reverse wanted) v.body) ≡ Some w.body)
-    (λ e. (w ≡ v) × (tells e → body_popped_each md (reverse wanted) v.body ≡ None))
+    (λ _. option_map f (body_popped_each md (reverse expected) v.body) ≡ Some w.body)
+    (λ e. (w ≡ v) × (tells e → body_popped_each md (reverse expected) v.body ≡ None))
 
--- and operands of the given types come
+-- and operands of the pushed types come
 abbrev pub Exchanges :
     {E : Type 0} → ModuleContext → (E → Type 0) → List ValType → List ValType → Stacked →
     Result (Unit {0}) E → Stacked → Type 0
-Exchanges md tells wanted given v answer w = Takes md tells wanted (body_pushed_each given) v answer w
+Exchanges md tells expected pushed v answer w = Takes md tells expected (body_pushed_each pushed) v answer w
 
 -- with a local set, and operands of these types above that
 abbrev pub body_set_then : ℕ → List ValType → BodyState → BodyState
-body_set_then i given v = body_pushed_each given (body_with_local_set i v)
+body_set_then i pushed v = body_pushed_each pushed (body_with_local_set i v)

@@ -22,25 +22,25 @@ use validate_types::{MaybeType, ValType};
 use validate_visit::{BlockType, FrameKind};
 
 impl Stacks {
-    /// [`Stacks::exchange_types`] of number and vector types alone, of which some are wanted, where no attempt is pending: the
-    /// innermost frame has as many own operands, known to be of these very types, or is dead and has none. False, with
+    /// [`Stacks::exchange_types`] of number and vector types alone, of which some are expected, where no attempt is
+    /// pending: the innermost frame has as many own operands, known to be of these very types, or is dead and has none. False, with
     /// nothing changed, where that isn't so. In live code it makes no call, so it is short where it is inlined.
     #[inline(always)]
     pub fn exchange_numbers_at_once<R: WasmModuleResources>(
         &mut self,
         resources: &R,
-        wanted: &[ValType],
+        expected: &[ValType],
         pushed: Option<ValType>,
     ) -> bool
-        requires types { AllByRecursion (Valid (R.context resources.now)) wanted.now }
+        requires types { AllByRecursion (Valid (R.context resources.now)) expected.now }
         requires state { IsValidBody (R.context resources.now) self.old.body }
         ensures exact { MatchBool result
             (option_map (body_pushed_each (pushed_list pushed))
-            (body_popped_each (R.context resources.now) (reverse wanted.now) self.old.body) ≡ Some self.new.body)
+            (body_popped_each (R.context resources.now) (reverse expected.now) self.old.body) ≡ Some self.new.body)
             (self.new ≡ self.old) }
         ensures phase { phase_moved self.new.phase ≡ phase_moved self.old.phase }
     {
-        let count = wanted.len();
+        let count = expected.len();
         if count == 0 || self.is_pending() {
             return false;
         }
@@ -50,14 +50,14 @@ impl Stacks {
                 None => false,
             };
         }
-        if !self.has_same_numbers(resources, wanted) {
+        if !self.has_same_numbers(resources, expected) {
             return false;
         }
         match pushed {
             Some(ty) => {
                 self.drop_operands(count - 1);
                 // The lowest is often of the pushed type, and stays.
-                if !is_same_number(ty, wanted[0]) {
+                if !is_same_number(ty, expected[0]) {
                     self.replace_operand(MaybeType::Known(ty));
                 }
             }
@@ -82,7 +82,7 @@ impl Stacks {
     }
 
     /// Pushes an operand of this type, where the innermost frame is dead, has no own operands, and there is room: whatever
-    /// is wanted is found there. False, with nothing changed, where that isn't so.
+    /// is expected is found there. False, with nothing changed, where that isn't so.
     #[inline(never)]
     fn push_in_dead_code(&mut self, ty: ValType) -> bool
         ensures exact { MatchBool result (self.new.body ≡ body_pushed (Known ty) self.old.body)
@@ -136,10 +136,10 @@ impl Stacks {
             (reverse (block_signature (R.context resources.now) block_type).params) self.old.body)
             ≡ Some self.new.body) (self.new ≡ self.old) }
     {
-        let taken = params(resources, &block_type);
-        if !self.has_own(taken.len()) || !self.has_same_numbers(resources, taken) {
+        let popped = params(resources, &block_type);
+        if !self.has_own(popped.len()) || !self.has_same_numbers(resources, popped) {
             return false;
         }
-        self.open_over_own(kind, block_type, taken.len())
+        self.open_over_own(kind, block_type, popped.len())
     }
 }

@@ -5,7 +5,7 @@ ghost use Rattle.std.specs.Option.{ForSome};
 ghost use Rattle.validate_locals.specs.Inits.{AreFresh};
 ghost use Rattle.validate_transaction.specs.declared.log.Transaction.{Transaction};
 ghost use Rattle.validate_transaction.specs.Recorded.{log_of};
-ghost use Rattle.validate_stacks.specs.Changes.{MayChange, body_changed, given_count, operands_given, operands_topped, frames_closed, order_closed, order_set, HasRoomToSet, frames_opened, log_changed, log_closed, log_with_closed};
+ghost use Rattle.validate_stacks.specs.Changes.{MayChange, body_changed, pushed_count, operands_given, operands_topped, frames_closed, order_closed, order_set, HasRoomToSet, frames_opened, log_changed, log_closed, log_with_closed};
 
 use crate::stacks::{Stacks, live_frame};
 use validate_locals::LocalInits;
@@ -17,7 +17,7 @@ use validate_visit::{BlockType, Frame, FrameKind};
 #[derive(Clone, Copy)]
 pub struct Change<'a> {
     /// How many own operands of the innermost frame go.
-    pub taken: usize,
+    pub popped: usize,
     /// Whether that frame is closed.
     pub closes: bool,
     /// The local that is set, if one is: no frame is closed or opened then.
@@ -25,22 +25,22 @@ pub struct Change<'a> {
     /// The kind and the block type of the frame that is opened, if one is.
     pub opens: Option<(FrameKind, BlockType)>,
     /// The types of the operands that come, the last on top.
-    pub given: &'a [ValType],
+    pub pushed: &'a [ValType],
     /// One more that comes above them, of which less may be known.
     pub top: Option<MaybeType>,
 }
 
 /// How many operands come. More than can be counted find no memory.
 #[inline(always)]
-fn count_given<A: Refused>(change: Change<'_>) -> Result<usize, A>
-    ensures counted { IfOk result (λ count. count ≡ given_count change.entry) }
+fn count_pushed<A: Refused>(change: Change<'_>) -> Result<usize, A>
+    ensures counted { IfOk result (λ count. count ≡ pushed_count change.entry) }
     ensures told { IfErr result (λ e. A.tells e → ⊥) }
-    ensures only_too_many { given_count change.entry < 2 ^ 64 → IsOk result }
+    ensures only_too_many { pushed_count change.entry < 2 ^ 64 → IsOk result }
 {
     if change.top.is_none() {
-        return Ok(change.given.len());
+        return Ok(change.pushed.len());
     }
-    match change.given.len().checked_add(1) {
+    match change.pushed.len().checked_add(1) {
         Some(count) => Ok(count),
         None => Err(A::of(Refusal::OutOfMemory)),
     }
@@ -82,15 +82,17 @@ fn make_room<A: Refused>(
     ensures order_room { inits.old.room ≤ inits.new.room }
     ensures to_set { OnOk result (ForSome change.entry.sets (λ i. HasRoomToSet i inits.new)) }
     ensures within { OnOk result (length control.new.items ≤ control.new.room) }
-    ensures for_operands { OnOk result (length operands.new.items + (given_count change.entry - change.entry.taken) ≤ operands.new.room) }
+    ensures for_operands { OnOk result (length operands.new.items + (pushed_count change.entry - change.entry.popped)
+        ≤ operands.new.room) }
     ensures for_frame { OnOk result (change.entry.opens ≢ None
         → length (frames_closed change.entry.closes control.new.items) < control.new.room) }
-    ensures counted { IfOk result (λ count. count ≡ given_count change.entry) }
+    ensures counted { IfOk result (λ count. count ≡ pushed_count change.entry) }
     ensures told { IfErr result (λ e. A.tells e → ⊥) }
-    ensures idle { change.entry.sets ≡ None → change.entry.opens ≡ None → given_count change.entry ≤ change.entry.taken → IsOk result }
+    ensures idle { change.entry.sets ≡ None → change.entry.opens ≡ None
+        → pushed_count change.entry ≤ change.entry.popped → IsOk result }
 {
-    let given = count_given(change)?;
-    operands.reserve(given.saturating_sub(change.taken))?;
+    let pushed = count_pushed(change)?;
+    operands.reserve(pushed.saturating_sub(change.popped))?;
     // A frame that is opened in the place of another needs no room.
     let frames = if change.opens.is_some() && !change.closes {
         1
@@ -99,7 +101,7 @@ fn make_room<A: Refused>(
     };
     control.reserve(frames)?;
     make_room_to_set(inits, change.sets)?;
-    Ok(given)
+    Ok(pushed)
 }
 
 /// Records it in the log of the attempt, if one is pending. Want of memory changes nothing, and there is none where no
@@ -111,10 +113,10 @@ fn record<A: Refused>(
     control: &Pile<Frame>,
     inits: &LocalInits,
     change: Change<'_>,
-    given: usize,
+    pushed: usize,
 ) -> Result<(), A>
-    requires given { given ≡ given_count change }
-    requires taken { change.taken ≤ length operands.now.items }
+    requires pushed { pushed ≡ pushed_count change }
+    requires popped { change.popped ≤ length operands.now.items }
     requires closed { ForSome (slice_get control.now.items 0) (λ f. f.init_height ≤ length inits.now.order) }
     ensures exact { MatchResult result (λ _. transaction.new
         ≡ log_changed change.entry control.now.items operands.now.items inits.now.order transaction.old)
@@ -123,10 +125,10 @@ fn record<A: Refused>(
     ensures idle { log_of transaction.old ≡ None → IsOk result }
 {
     transaction.record(Entry {
-        popped: operands.newest(change.taken),
+        popped: operands.newest(change.popped),
         closed: closed(control, inits, change.closes),
         opened: change.opens.is_some(),
-        pushed: given,
+        pushed: pushed,
     })
 }
 
@@ -237,9 +239,9 @@ impl Stacks {
 
         // Where no attempt is pending, no local is set, no frame is opened, and no more operands come than go, it takes no memory.
         ensures idle { self.old.body.undone ≡ None → change.entry.sets ≡ None → change.entry.opens ≡ None
-            → given_count change.entry ≤ change.entry.taken → IsOk result }
+            → pushed_count change.entry ≤ change.entry.popped → IsOk result }
     {
-        let given = make_room(
+        let pushed = make_room(
             &mut self.operands,
             &mut self.control,
             &mut self.inits,
@@ -251,14 +253,14 @@ impl Stacks {
             &self.control,
             &self.inits,
             change,
-            given,
+            pushed,
         )?;
-        let height = self.operands.len() - change.taken;
+        let height = self.operands.len() - change.popped;
         self.operands.truncate(height);
         close(&mut self.control, &mut self.inits, change.closes);
         let init_height = set(&mut self.inits, change.sets);
         open(&mut self.control, change.opens, height, init_height);
-        give(&mut self.operands, change.given);
+        give(&mut self.operands, change.pushed);
         put_top(&mut self.operands, change.top);
         Ok(())
     }

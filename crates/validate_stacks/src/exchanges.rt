@@ -12,80 +12,80 @@ use validate_resources::WasmModuleResources;
 use validate_types::{FieldType, Refused, ValType};
 
 impl Stacks {
-    /// Takes an operand of each of the wanted types, and gives one of each of the others, the last on top. It refuses where
-    /// an operand isn't found or doesn't fit, and for want of memory; then nothing is changed.
+    /// Pops an operand of each of the expected types, and pushes one of each of the others, the last on top. It refuses
+    /// where an operand isn't found or doesn't fit, and for want of memory; then nothing is changed.
     #[inline(always)]
     pub fn exchange_types<A: Refused, R: WasmModuleResources>(
         &mut self,
         resources: &R,
-        wanted: &[ValType],
-        given: &[ValType],
+        expected: &[ValType],
+        pushed: &[ValType],
     ) -> Result<(), A>
         requires visit { MayVisit (R.context resources.now) self.old }
-        requires types { AllByRecursion (Valid (R.context resources.now)) wanted.now }
-        ensures { Exchanges (R.context resources.now) A.tells wanted.now given.now self.old result self.new }
+        requires types { AllByRecursion (Valid (R.context resources.now)) expected.now }
+        ensures { Exchanges (R.context resources.now) A.tells expected.now pushed.now self.old result self.new }
     {
         let own = self.own_len();
-        self.find_among(resources, own, 0, wanted)?;
-        self.exchange(wanted.len().min(own), given)
+        self.find_among(resources, own, 0, expected)?;
+        self.exchange(expected.len().min(own), pushed)
     }
 
-    /// [`Stacks::exchange_types`], where the values of these fields are wanted.
+    /// [`Stacks::exchange_types`], where the values of these fields are expected.
     #[inline(always)]
     pub fn exchange_fields<A: Refused, R: WasmModuleResources>(
         &mut self,
         resources: &R,
         fields: &[FieldType],
-        given: &[ValType],
+        pushed: &[ValType],
     ) -> Result<(), A>
         requires visit { MayVisit (R.context resources.now) self.old }
         requires types { AllByRecursion (Valid (R.context resources.now)) (unpacked_fields fields.now) }
-        ensures { Exchanges (R.context resources.now) A.tells (unpacked_fields fields.now) given.now self.old result
+        ensures { Exchanges (R.context resources.now) A.tells (unpacked_fields fields.now) pushed.now self.old result
             self.new }
     {
         self.find_fields(resources, 0, fields)?;
         let own = self.own_len();
-        self.exchange(fields.len().min(own), given)
+        self.exchange(fields.len().min(own), pushed)
     }
 
-    /// [`Stacks::exchange_types`], where so many operands of one type are wanted. It takes the time of the own operands of
-    /// the innermost frame at most.
+    /// [`Stacks::exchange_types`], where so many operands of one type are expected. It takes the time of the own operands
+    /// of the innermost frame at most.
     #[inline(always)]
     pub fn exchange_run<A: Refused, R: WasmModuleResources>(
         &mut self,
         resources: &R,
         elem: ValType,
         count: u32,
-        given: &[ValType],
+        pushed: &[ValType],
     ) -> Result<(), A>
         requires visit { MayVisit (R.context resources.now) self.old }
         requires element { Valid (R.context resources.now) elem }
-        ensures { Exchanges (R.context resources.now) A.tells (replicate count elem) given.now self.old result
+        ensures { Exchanges (R.context resources.now) A.tells (replicate count elem) pushed.now self.old result
             self.new }
     {
         let own = self.own_len();
         let count = count as usize;
         self.find_run(resources, own, elem, count)?;
-        self.exchange(count.min(own), given)
+        self.exchange(count.min(own), pushed)
     }
 
-    /// [`Stacks::exchange_types`], where the types of a list are wanted, and one more above them.
+    /// [`Stacks::exchange_types`], where the types of a list are expected, and one more above them.
     pub fn exchange_under<A: Refused, R: WasmModuleResources>(
         &mut self,
         resources: &R,
         under: &[ValType],
         above: ValType,
-        given: &[ValType],
+        pushed: &[ValType],
     ) -> Result<(), A>
         requires visit { MayVisit (R.context resources.now) self.old }
         requires under { AllByRecursion (Valid (R.context resources.now)) under.now }
         requires above { Valid (R.context resources.now) above }
-        ensures { Exchanges (R.context resources.now) A.tells (under.now ++ above ∷ []) given.now self.old result
+        ensures { Exchanges (R.context resources.now) A.tells (under.now ++ above ∷ []) pushed.now self.old result
             self.new }
     {
         self.find_under(resources, 0, under, above)?;
         let own = self.own_len();
-        self.exchange(under.len().saturating_add(1).min(own), given)
+        self.exchange(under.len().saturating_add(1).min(own), pushed)
     }
 
     /// Takes an operand of this type, sets a declared local, and gives an operand of each of the given types, the last on top.
@@ -95,16 +95,16 @@ impl Stacks {
         resources: &R,
         local_index: u32,
         ty: ValType,
-        given: &[ValType],
+        pushed: &[ValType],
     ) -> Result<(), A>
         requires visit { MayVisit (R.context resources.now) self.old }
         requires ty { Valid (R.context resources.now) ty }
         requires declared { local_index < length self.old.body.locals }
-        ensures { Takes (R.context resources.now) A.tells (ty ∷ []) (body_set_then local_index given.now) self.old
+        ensures { Takes (R.context resources.now) A.tells (ty ∷ []) (body_set_then local_index pushed.now) self.old
             result self.new }
     {
         let own = self.own_len();
         self.find_among(resources, own, 0, &[ty])?;
-        self.set_local(local_index, own.min(1), given)
+        self.set_local(local_index, own.min(1), pushed)
     }
 }

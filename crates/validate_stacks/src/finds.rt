@@ -27,21 +27,21 @@ impl Stacks {
         &self,
         resources: &R,
         above: usize,
-        wanted: &[ValType],
+        expected: &[ValType],
     ) -> Result<(), A>
         requires above { above ≤ 1 }
-        requires types { AllByRecursion (Valid (R.context resources.now)) wanted.now }
+        requires types { AllByRecursion (Valid (R.context resources.now)) expected.now }
         requires state { IsValidBody (R.context resources.now) self.now.body }
         ensures fit { OnOk result (has_operands_fitting (body_context (R.context resources.now) self.now.body)
-            wanted.now (body_dropped above self.now.body) ≡ true) }
+            expected.now (body_dropped above self.now.body) ≡ true) }
         ensures unfit { OnErr result (has_operands_fitting
-            (body_context (R.context resources.now) self.now.body) wanted.now
+            (body_context (R.context resources.now) self.now.body) expected.now
             (body_dropped above self.now.body) ≡ false) }
     {
-        if self.has_numbers(resources, above, wanted) {
+        if self.has_numbers(resources, above, expected) {
             return Ok(());
         }
-        self.find_by_call(resources, above, wanted)
+        self.find_by_call(resources, above, expected)
     }
 
     /// [`Stacks::find_operands`] of any types.
@@ -50,40 +50,40 @@ impl Stacks {
         &self,
         resources: &R,
         above: usize,
-        wanted: &[ValType],
+        expected: &[ValType],
     ) -> Result<(), A>
         requires above { above ≤ 1 }
-        requires types { AllByRecursion (Valid (R.context resources.now)) wanted.now }
+        requires types { AllByRecursion (Valid (R.context resources.now)) expected.now }
         requires state { IsValidBody (R.context resources.now) self.now.body }
         ensures fit { OnOk result (has_operands_fitting (body_context (R.context resources.now) self.now.body)
-            wanted.now (body_dropped above self.now.body) ≡ true) }
+            expected.now (body_dropped above self.now.body) ≡ true) }
         ensures unfit { OnErr result (has_operands_fitting
-            (body_context (R.context resources.now) self.now.body) wanted.now
+            (body_context (R.context resources.now) self.now.body) expected.now
             (body_dropped above self.now.body) ≡ false) }
     {
-        self.find_among(resources, self.own_len(), above, wanted)
+        self.find_among(resources, self.own_len(), above, expected)
     }
 
     /// Whether pops of these types would pass after so many others, since each finds an operand that isn't known at all, or
-    /// is known to be of the wanted number or vector type.
+    /// is known to be of the expected number or vector type.
     #[inline(always)]
     fn has_numbers<R: WasmModuleResources>(
         &self,
         resources: &R,
         above: usize,
-        wanted: &[ValType],
+        expected: &[ValType],
     ) -> bool
         requires above { above ≤ 1 }
-        requires types { AllByRecursion (Valid (R.context resources.now)) wanted.now }
+        requires types { AllByRecursion (Valid (R.context resources.now)) expected.now }
         ensures { result ≡ true → has_operands_fitting (body_context (R.context resources.now) self.now.body)
-            wanted.now (body_dropped above self.now.body) ≡ true }
+            expected.now (body_dropped above self.now.body) ≡ true }
     {
         let own = self.own_len();
-        let mut left = wanted.len();
+        let mut left = expected.len();
         while left > 0 {
             left -= 1;
-            let depth = wanted.len() - 1 - left + above;
-            if !self.is_number_at(resources, own, depth, &wanted[left]) {
+            let depth = expected.len() - 1 - left + above;
+            if !self.is_number_at(resources, own, depth, &expected[left]) {
                 return false;
             }
         }
@@ -97,24 +97,24 @@ impl Stacks {
         resources: &R,
         own: usize,
         above: usize,
-        wanted: &[ValType],
+        expected: &[ValType],
     ) -> Result<(), A>
         requires own { own ≡ length (innermost_operands self.now.body.present.frames) }
         requires above { above ≤ 2 }
-        requires types { AllByRecursion (Valid (R.context resources.now)) wanted.now }
+        requires types { AllByRecursion (Valid (R.context resources.now)) expected.now }
         requires state { IsValidBody (R.context resources.now) self.now.body }
         ensures fit { OnOk result (has_operands_fitting (body_context (R.context resources.now) self.now.body)
-            wanted.now (body_dropped above self.now.body) ≡ true) }
+            expected.now (body_dropped above self.now.body) ≡ true) }
         ensures unfit { OnErr result (has_operands_fitting
-            (body_context (R.context resources.now) self.now.body) wanted.now
+            (body_context (R.context resources.now) self.now.body) expected.now
             (body_dropped above self.now.body) ≡ false) }
     {
-        let mut left = wanted.len();
+        let mut left = expected.len();
         while left > 0 {
             left -= 1;
-            let depth = wanted.len() - 1 - left + above;
-            if !self.is_fitting_at(resources, own, depth, &wanted[left]) {
-                return Err(self.misfit(resources, depth, &wanted[left]));
+            let depth = expected.len() - 1 - left + above;
+            if !self.is_fitting_at(resources, own, depth, &expected[left]) {
+                return Err(self.misfit(resources, depth, &expected[left]));
             }
         }
         Ok(())
@@ -188,10 +188,10 @@ impl Stacks {
         let mut left = fields.len();
         while left > 0 {
             left -= 1;
-            let wanted = fields[left].element_type.unpack();
+            let expected = fields[left].element_type.unpack();
             let depth = fields.len() - 1 - left + above;
-            if !self.is_fitting_at(resources, own, depth, &wanted) {
-                return Err(self.misfit(resources, depth, &wanted));
+            if !self.is_fitting_at(resources, own, depth, &expected) {
+                return Err(self.misfit(resources, depth, &expected));
             }
         }
         Ok(())
@@ -252,23 +252,23 @@ impl Stacks {
         &self,
         resources: &R,
         depth: usize,
-        wanted: &ValType,
+        expected: &ValType,
     ) -> A
-        requires { Valid (R.context resources.now) wanted.now }
+        requires { Valid (R.context resources.now) expected.now }
     {
-        let wanted = *wanted;
-        A::of(match (self.found_at(depth), wanted) {
-            (None, _) => Refusal::NothingFound(Some(wanted)),
+        let expected = *expected;
+        A::of(match (self.found_at(depth), expected) {
+            (None, _) => Refusal::NothingFound(Some(expected)),
             (Some(MaybeType::UnknownRef(Some(ty))), ValType::Ref(reference)) => {
                 Refusal::Mismatch {
                     depth,
-                    wanted,
+                    expected,
                     found: MaybeType::Known(unknown_reference(resources, ty, reference)),
                 }
             }
             (Some(found), _) => Refusal::Mismatch {
                 depth,
-                wanted,
+                expected,
                 found,
             },
         })

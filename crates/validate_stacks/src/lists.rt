@@ -67,25 +67,25 @@ impl Stacks {
     pub(crate) fn has_same_numbers<R: WasmModuleResources>(
         &self,
         resources: &R,
-        wanted: &[ValType],
+        expected: &[ValType],
     ) -> bool
-        requires own { length wanted.now ≤ length (innermost_operands self.now.body.present.frames) }
-        requires types { AllByRecursion (Valid (R.context resources.now)) wanted.now }
+        requires own { length expected.now ≤ length (innermost_operands self.now.body.present.frames) }
+        requires types { AllByRecursion (Valid (R.context resources.now)) expected.now }
         requires state { IsValidBody (R.context resources.now) self.now.body }
         ensures fitting { result ≡ true → has_operands_fitting
-            (body_context (R.context resources.now) self.now.body) wanted.now self.now.body ≡ true }
+            (body_context (R.context resources.now) self.now.body) expected.now self.now.body ≡ true }
         ensures known { result ≡ true
-            → body_pushed_each wanted.now (body_dropped (length wanted.now) self.now.body) ≡ self.now.body }
-        ensures lowest { result ≡ true → 0 < length wanted.now
-            → found_after_pops_in_body (length wanted.now - 1) self.now.body
-            ≡ option_map Known (slice_get wanted.now 0) }
+            → body_pushed_each expected.now (body_dropped (length expected.now) self.now.body) ≡ self.now.body }
+        ensures lowest { result ≡ true → 0 < length expected.now
+            → found_after_pops_in_body (length expected.now - 1) self.now.body
+            ≡ option_map Known (slice_get expected.now 0) }
     {
         // The contract alone reads it.
         let _resources = resources;
-        let mut left = wanted.len();
+        let mut left = expected.len();
         while left > 0 {
             left -= 1;
-            if !self.is_same_number_at(wanted.len() - 1 - left, wanted[left]) {
+            if !self.is_same_number_at(expected.len() - 1 - left, expected[left]) {
                 return false;
             }
         }
@@ -94,17 +94,17 @@ impl Stacks {
 
     /// Whether the own operand of the innermost frame at this depth is known to be of this number or vector type.
     #[inline(always)]
-    fn is_same_number_at(&self, depth: usize, wanted: ValType) -> bool
+    fn is_same_number_at(&self, depth: usize, expected: ValType) -> bool
         requires { depth < length (innermost_operands self.now.body.present.frames) }
-        ensures { result ≡ true → found_after_pops_in_body depth self.now.body ≡ Some (Known wanted) }
+        ensures { result ≡ true → found_after_pops_in_body depth self.now.body ≡ Some (Known expected) }
     {
         match self.own_operand(depth) {
-            Some(operand) => is_known_number(operand, wanted),
+            Some(operand) => is_known_number(operand, expected),
             None => false,
         }
     }
 
-    /// Whether the operand that a pop finds after so many others fits the wanted type, where the innermost frame
+    /// Whether the operand that a pop finds after so many others fits the expected type, where the innermost frame
     /// has so many own operands.
     #[inline(always)]
     pub(crate) fn is_fitting_at<R: WasmModuleResources>(
@@ -112,18 +112,18 @@ impl Stacks {
         resources: &R,
         own: usize,
         depth: usize,
-        wanted: &ValType,
+        expected: &ValType,
     ) -> bool
         requires own { own ≡ length (innermost_operands self.now.body.present.frames) }
-        requires wanted { Valid (R.context resources.now) wanted.now }
+        requires expected { Valid (R.context resources.now) expected.now }
         requires state { IsValidBody (R.context resources.now) self.now.body }
         ensures { result ≡ may_pop (body_context (R.context resources.now) self.now.body)
-            (found_after_pops_in_body depth self.now.body) (Some wanted.now) }
+            (found_after_pops_in_body depth self.now.body) (Some expected.now) }
     {
-        if self.is_number_at(resources, own, depth, wanted) {
+        if self.is_number_at(resources, own, depth, expected) {
             return true;
         }
-        self.is_fitting_by_order(resources, depth, wanted)
+        self.is_fitting_by_order(resources, depth, expected)
     }
 
     /// Whether the operand that a pop finds after so many others isn't known at all, or is known to be of this number or
@@ -134,17 +134,17 @@ impl Stacks {
         resources: &R,
         own: usize,
         depth: usize,
-        wanted: &ValType,
+        expected: &ValType,
     ) -> bool
         requires own { own ≡ length (innermost_operands self.now.body.present.frames) }
-        requires wanted { Valid (R.context resources.now) wanted.now }
+        requires expected { Valid (R.context resources.now) expected.now }
         ensures { result ≡ true → may_pop (body_context (R.context resources.now) self.now.body)
-            (found_after_pops_in_body depth self.now.body) (Some wanted.now) ≡ true }
+            (found_after_pops_in_body depth self.now.body) (Some expected.now) ≡ true }
     {
         // The contract alone reads it.
         let _resources = resources;
         match self.operand_found_of(own, depth) {
-            Some(found) => fits_at_once(found, Some(*wanted)),
+            Some(found) => fits_at_once(found, Some(*expected)),
             None => false,
         }
     }
@@ -155,19 +155,19 @@ impl Stacks {
         &self,
         resources: &R,
         depth: usize,
-        wanted: &ValType,
+        expected: &ValType,
     ) -> bool
-        requires wanted { Valid (R.context resources.now) wanted.now }
+        requires expected { Valid (R.context resources.now) expected.now }
         requires state { IsValidBody (R.context resources.now) self.now.body }
         ensures { result ≡ may_pop (body_context (R.context resources.now) self.now.body)
-            (found_after_pops_in_body depth self.now.body) (Some wanted.now) }
+            (found_after_pops_in_body depth self.now.body) (Some expected.now) }
     {
         // An own operand is compared where it lies.
         if depth < self.own_len() {
             if let Some(MaybeType::Known(found)) = self.operands.get(depth) {
-                return resources.is_subtype(*found, *wanted);
+                return resources.is_subtype(*found, *expected);
             }
         }
-        self.is_fitting(resources, self.found_at(depth), *wanted)
+        self.is_fitting(resources, self.found_at(depth), *expected)
     }
 }

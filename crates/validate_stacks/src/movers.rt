@@ -17,81 +17,81 @@ impl Stacks {
     /// last on top. Want of memory changes nothing, and there is none where no attempt is pending and no more come than
     /// go.
     #[inline(always)]
-    pub fn exchange<A: Refused>(&mut self, taken: usize, given: &[ValType]) -> Result<(), A>
-        requires { taken ≤ length (innermost_operands self.old.body.present.frames) }
+    pub fn exchange<A: Refused>(&mut self, popped: usize, pushed: &[ValType]) -> Result<(), A>
+        requires { popped ≤ length (innermost_operands self.old.body.present.frames) }
         ensures exact { MatchResult result
-            (λ _. self.new.body ≡ body_pushed_each given.now (body_dropped taken self.old.body))
+            (λ _. self.new.body ≡ body_pushed_each pushed.now (body_dropped popped self.old.body))
             (λ _. self.new ≡ self.old) }
         ensures told { IfErr result (λ e. A.tells e → ⊥) }
-        ensures idle { self.old.body.undone ≡ None → length given.now ≤ taken → IsOk result }
+        ensures idle { self.old.body.undone ≡ None → length pushed.now ≤ popped → IsOk result }
     {
         // Where no attempt is pending, and one comes at most, it is put in place.
-        if !self.is_pending() && given.len() <= 1 {
-            let Some(ty) = given.first() else {
-                self.drop_operands(taken);
+        if !self.is_pending() && pushed.len() <= 1 {
+            let Some(ty) = pushed.first() else {
+                self.drop_operands(popped);
                 return Ok(());
             };
-            if self.replace_own(taken, MaybeType::Known(*ty)) {
+            if self.replace_own(popped, MaybeType::Known(*ty)) {
                 return Ok(());
             }
         }
-        self.exchange_any(taken, given)
+        self.exchange_any(popped, pushed)
     }
 
     /// [`Stacks::exchange`], of any number of operands, and recorded where an attempt is pending.
     #[inline(never)]
-    fn exchange_any<A: Refused>(&mut self, taken: usize, given: &[ValType]) -> Result<(), A>
-        requires { taken ≤ length (innermost_operands self.old.body.present.frames) }
+    fn exchange_any<A: Refused>(&mut self, popped: usize, pushed: &[ValType]) -> Result<(), A>
+        requires { popped ≤ length (innermost_operands self.old.body.present.frames) }
         ensures exact { MatchResult result
-            (λ _. self.new.body ≡ body_pushed_each given.now (body_dropped taken self.old.body))
+            (λ _. self.new.body ≡ body_pushed_each pushed.now (body_dropped popped self.old.body))
             (λ _. self.new ≡ self.old) }
         ensures told { IfErr result (λ e. A.tells e → ⊥) }
-        ensures idle { self.old.body.undone ≡ None → length given.now ≤ taken → IsOk result }
+        ensures idle { self.old.body.undone ≡ None → length pushed.now ≤ popped → IsOk result }
     {
         self.change(Change {
-            taken,
+            popped,
             closes: false,
             sets: None,
             opens: None,
-            given,
+            pushed,
             top: None,
         })
     }
 
     /// [`Stacks::exchange`] with one operand that comes, of which less may be known.
     #[inline(always)]
-    pub fn replace<A: Refused>(&mut self, taken: usize, ty: MaybeType) -> Result<(), A>
-        requires { taken ≤ length (innermost_operands self.old.body.present.frames) }
+    pub fn replace<A: Refused>(&mut self, popped: usize, ty: MaybeType) -> Result<(), A>
+        requires { popped ≤ length (innermost_operands self.old.body.present.frames) }
         ensures exact { MatchResult result
-            (λ _. self.new.body ≡ body_pushed ty (body_dropped taken self.old.body))
+            (λ _. self.new.body ≡ body_pushed ty (body_dropped popped self.old.body))
             (λ _. self.new ≡ self.old) }
         ensures told { IfErr result (λ e. A.tells e → ⊥) }
-        ensures idle { self.old.body.undone ≡ None → 0 < taken → IsOk result }
+        ensures idle { self.old.body.undone ≡ None → 0 < popped → IsOk result }
     {
         if !self.is_pending() {
-            if self.replace_own(taken, ty) {
+            if self.replace_own(popped, ty) {
                 return Ok(());
             }
         }
-        self.replace_any(taken, ty)
+        self.replace_any(popped, ty)
     }
 
     /// [`Stacks::replace`], recorded where an attempt is pending.
     #[inline(never)]
-    fn replace_any<A: Refused>(&mut self, taken: usize, ty: MaybeType) -> Result<(), A>
-        requires { taken ≤ length (innermost_operands self.old.body.present.frames) }
+    fn replace_any<A: Refused>(&mut self, popped: usize, ty: MaybeType) -> Result<(), A>
+        requires { popped ≤ length (innermost_operands self.old.body.present.frames) }
         ensures exact { MatchResult result
-            (λ _. self.new.body ≡ body_pushed ty (body_dropped taken self.old.body))
+            (λ _. self.new.body ≡ body_pushed ty (body_dropped popped self.old.body))
             (λ _. self.new ≡ self.old) }
         ensures told { IfErr result (λ e. A.tells e → ⊥) }
-        ensures idle { self.old.body.undone ≡ None → 0 < taken → IsOk result }
+        ensures idle { self.old.body.undone ≡ None → 0 < popped → IsOk result }
     {
         self.change(Change {
-            taken,
+            popped,
             closes: false,
             sets: None,
             opens: None,
-            given: &[],
+            pushed: &[],
             top: Some(ty),
         })
     }
@@ -100,42 +100,42 @@ impl Stacks {
     #[inline(always)]
     pub fn exchange_topped<A: Refused>(
         &mut self,
-        taken: usize,
-        given: &[ValType],
+        popped: usize,
+        pushed: &[ValType],
         top: MaybeType,
     ) -> Result<(), A>
-        requires { taken ≤ length (innermost_operands self.old.body.present.frames) }
+        requires { popped ≤ length (innermost_operands self.old.body.present.frames) }
         ensures exact { MatchResult result
-            (λ _. self.new.body ≡ body_pushed top (body_pushed_each given.now (body_dropped taken self.old.body)))
+            (λ _. self.new.body ≡ body_pushed top (body_pushed_each pushed.now (body_dropped popped self.old.body)))
             (λ _. self.new ≡ self.old) }
         ensures told { IfErr result (λ e. A.tells e → ⊥) }
     {
-        if given.is_empty() {
-            return self.replace(taken, top);
+        if pushed.is_empty() {
+            return self.replace(popped, top);
         }
-        self.exchange_topped_any(taken, given, top)
+        self.exchange_topped_any(popped, pushed, top)
     }
 
     /// [`Stacks::exchange_topped`], whatever is given, and recorded where an attempt is pending.
     #[inline(never)]
     fn exchange_topped_any<A: Refused>(
         &mut self,
-        taken: usize,
-        given: &[ValType],
+        popped: usize,
+        pushed: &[ValType],
         top: MaybeType,
     ) -> Result<(), A>
-        requires { taken ≤ length (innermost_operands self.old.body.present.frames) }
+        requires { popped ≤ length (innermost_operands self.old.body.present.frames) }
         ensures exact { MatchResult result
-            (λ _. self.new.body ≡ body_pushed top (body_pushed_each given.now (body_dropped taken self.old.body)))
+            (λ _. self.new.body ≡ body_pushed top (body_pushed_each pushed.now (body_dropped popped self.old.body)))
             (λ _. self.new ≡ self.old) }
         ensures told { IfErr result (λ e. A.tells e → ⊥) }
     {
         self.change(Change {
-            taken,
+            popped,
             closes: false,
             sets: None,
             opens: None,
-            given,
+            pushed,
             top: Some(top),
         })
     }
@@ -146,24 +146,24 @@ impl Stacks {
     pub fn set_local<A: Refused>(
         &mut self,
         local_index: u32,
-        taken: usize,
-        given: &[ValType],
+        popped: usize,
+        pushed: &[ValType],
     ) -> Result<(), A>
         requires open_frame { self.old.body.present.frames ≢ [] }
-        requires own { taken ≤ length (innermost_operands self.old.body.present.frames) }
+        requires own { popped ≤ length (innermost_operands self.old.body.present.frames) }
         requires declared { local_index < length self.old.body.locals }
         requires set { may_set self.old ≡ true }
         ensures exact { MatchResult result (λ _. self.new.body
-            ≡ body_pushed_each given.now (body_with_local_set local_index (body_dropped taken self.old.body)))
+            ≡ body_pushed_each pushed.now (body_with_local_set local_index (body_dropped popped self.old.body)))
             (λ _. self.new ≡ self.old) }
         ensures told { IfErr result (λ e. A.tells e → ⊥) }
     {
         self.change(Change {
-            taken,
+            popped,
             closes: false,
             sets: Some(local_index),
             opens: None,
-            given,
+            pushed,
             top: None,
         })
     }
@@ -173,52 +173,52 @@ impl Stacks {
     #[inline(always)]
     pub fn open<A: Refused>(
         &mut self,
-        taken: usize,
+        popped: usize,
         kind: FrameKind,
         block_type: BlockType,
-        given: &[ValType],
+        pushed: &[ValType],
     ) -> Result<(), A>
-        requires own { taken ≤ length (innermost_operands self.old.body.present.frames) }
+        requires own { popped ≤ length (innermost_operands self.old.body.present.frames) }
         requires frames { may_frame self.old ≡ true }
         ensures exact { MatchResult result (λ _. self.new.body
-            ≡ body_pushed_each given.now (body_with_frame kind block_type (body_dropped taken self.old.body)))
+            ≡ body_pushed_each pushed.now (body_with_frame kind block_type (body_dropped popped self.old.body)))
             (λ _. self.new ≡ self.old) }
         ensures told { IfErr result (λ e. A.tells e → ⊥) }
     {
         // Where no attempt is pending, one goes at most, and nothing is given, the frame is put in place.
-        if given.is_empty() {
-            if taken == 0 && self.open_at_once(kind, block_type) {
+        if pushed.is_empty() {
+            if popped == 0 && self.open_at_once(kind, block_type) {
                 return Ok(());
             }
-            if taken == 1 && self.open_over_top(kind, block_type) {
+            if popped == 1 && self.open_over_top(kind, block_type) {
                 return Ok(());
             }
         }
-        self.open_any(taken, kind, block_type, given)
+        self.open_any(popped, kind, block_type, pushed)
     }
 
     /// [`Stacks::open`], over any number of operands, and recorded where an attempt is pending.
     #[inline(never)]
     fn open_any<A: Refused>(
         &mut self,
-        taken: usize,
+        popped: usize,
         kind: FrameKind,
         block_type: BlockType,
-        given: &[ValType],
+        pushed: &[ValType],
     ) -> Result<(), A>
-        requires own { taken ≤ length (innermost_operands self.old.body.present.frames) }
+        requires own { popped ≤ length (innermost_operands self.old.body.present.frames) }
         requires frames { may_frame self.old ≡ true }
         ensures exact { MatchResult result (λ _. self.new.body
-            ≡ body_pushed_each given.now (body_with_frame kind block_type (body_dropped taken self.old.body)))
+            ≡ body_pushed_each pushed.now (body_with_frame kind block_type (body_dropped popped self.old.body)))
             (λ _. self.new ≡ self.old) }
         ensures told { IfErr result (λ e. A.tells e → ⊥) }
     {
         self.change(Change {
-            taken,
+            popped,
             closes: false,
             sets: None,
             opens: Some((kind, block_type)),
-            given,
+            pushed,
             top: None,
         })
     }
@@ -227,47 +227,47 @@ impl Stacks {
     /// types, the last on top: the locals that were first set in the frame aren't set any more. Want of memory changes nothing, and
     /// there is none where no attempt is pending and no more come than go.
     #[inline(always)]
-    pub fn close<A: Refused>(&mut self, taken: usize, given: &[ValType]) -> Result<(), A>
-        requires own { taken ≡ length (innermost_operands self.old.body.present.frames) }
+    pub fn close<A: Refused>(&mut self, popped: usize, pushed: &[ValType]) -> Result<(), A>
+        requires own { popped ≡ length (innermost_operands self.old.body.present.frames) }
         requires open_frame { self.old.body.present.frames ≢ [] }
         requires frames { may_frame self.old ≡ true }
         requires unsets { may_unset self.old ≡ true }
         ensures exact { MatchResult result
-            (λ _. self.new.body ≡ body_pushed_each given.now (body_without_frame self.old.body))
+            (λ _. self.new.body ≡ body_pushed_each pushed.now (body_without_frame self.old.body))
             (λ _. self.new ≡ self.old) }
         ensures told { IfErr result (λ e. A.tells e → ⊥) }
-        ensures idle { self.old.body.undone ≡ None → length given.now ≤ taken → IsOk result }
+        ensures idle { self.old.body.undone ≡ None → length pushed.now ≤ popped → IsOk result }
     {
         // Where no attempt is pending, and one comes at most for as many that go, what lies there passes over.
-        if given.len() <= 1 && taken == given.len() && !self.is_pending() {
-            if let Some(ty) = given.first() {
+        if pushed.len() <= 1 && popped == pushed.len() && !self.is_pending() {
+            if let Some(ty) = pushed.first() {
                 self.replace_operand(MaybeType::Known(*ty));
             }
             self.close_over_operands();
             return Ok(());
         }
-        self.close_any(taken, given)
+        self.close_any(popped, pushed)
     }
 
     /// [`Stacks::close`], over any number of operands, and recorded where an attempt is pending.
     #[inline(never)]
-    fn close_any<A: Refused>(&mut self, taken: usize, given: &[ValType]) -> Result<(), A>
-        requires own { taken ≡ length (innermost_operands self.old.body.present.frames) }
+    fn close_any<A: Refused>(&mut self, popped: usize, pushed: &[ValType]) -> Result<(), A>
+        requires own { popped ≡ length (innermost_operands self.old.body.present.frames) }
         requires open_frame { self.old.body.present.frames ≢ [] }
         requires frames { may_frame self.old ≡ true }
         requires unsets { may_unset self.old ≡ true }
         ensures exact { MatchResult result
-            (λ _. self.new.body ≡ body_pushed_each given.now (body_without_frame self.old.body))
+            (λ _. self.new.body ≡ body_pushed_each pushed.now (body_without_frame self.old.body))
             (λ _. self.new ≡ self.old) }
         ensures told { IfErr result (λ e. A.tells e → ⊥) }
-        ensures idle { self.old.body.undone ≡ None → length given.now ≤ taken → IsOk result }
+        ensures idle { self.old.body.undone ≡ None → length pushed.now ≤ popped → IsOk result }
     {
         self.change(Change {
-            taken,
+            popped,
             closes: true,
             sets: None,
             opens: None,
-            given,
+            pushed,
             top: None,
         })
     }
@@ -277,53 +277,53 @@ impl Stacks {
     #[inline(always)]
     pub fn reopen_with<A: Refused>(
         &mut self,
-        taken: usize,
+        popped: usize,
         kind: FrameKind,
         block_type: BlockType,
-        given: &[ValType],
+        pushed: &[ValType],
     ) -> Result<(), A>
-        requires own { taken ≡ length (innermost_operands self.old.body.present.frames) }
+        requires own { popped ≡ length (innermost_operands self.old.body.present.frames) }
         requires open_frame { self.old.body.present.frames ≢ [] }
         requires frames { may_frame self.old ≡ true }
         requires unsets { may_unset self.old ≡ true }
         ensures exact { MatchResult result (λ _. self.new.body
-            ≡ body_pushed_each given.now (body_with_frame kind block_type (body_without_frame self.old.body)))
+            ≡ body_pushed_each pushed.now (body_with_frame kind block_type (body_without_frame self.old.body)))
             (λ _. self.new ≡ self.old) }
         ensures told { IfErr result (λ e. A.tells e → ⊥) }
     {
         // Where no attempt is pending, and nothing is given, the frame is put in the place of the other.
-        if given.is_empty() && !self.is_pending() {
-            self.drop_operands(taken);
+        if pushed.is_empty() && !self.is_pending() {
+            self.drop_operands(popped);
             self.reopen(kind, block_type);
             return Ok(());
         }
-        self.reopen_any(taken, kind, block_type, given)
+        self.reopen_any(popped, kind, block_type, pushed)
     }
 
     /// [`Stacks::reopen_with`], with any number of operands, and recorded where an attempt is pending.
     #[inline(never)]
     fn reopen_any<A: Refused>(
         &mut self,
-        taken: usize,
+        popped: usize,
         kind: FrameKind,
         block_type: BlockType,
-        given: &[ValType],
+        pushed: &[ValType],
     ) -> Result<(), A>
-        requires own { taken ≡ length (innermost_operands self.old.body.present.frames) }
+        requires own { popped ≡ length (innermost_operands self.old.body.present.frames) }
         requires open_frame { self.old.body.present.frames ≢ [] }
         requires frames { may_frame self.old ≡ true }
         requires unsets { may_unset self.old ≡ true }
         ensures exact { MatchResult result (λ _. self.new.body
-            ≡ body_pushed_each given.now (body_with_frame kind block_type (body_without_frame self.old.body)))
+            ≡ body_pushed_each pushed.now (body_with_frame kind block_type (body_without_frame self.old.body)))
             (λ _. self.new ≡ self.old) }
         ensures told { IfErr result (λ e. A.tells e → ⊥) }
     {
         self.change(Change {
-            taken,
+            popped,
             closes: true,
             sets: None,
             opens: Some((kind, block_type)),
-            given,
+            pushed,
             top: None,
         })
     }

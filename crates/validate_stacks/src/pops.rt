@@ -1,4 +1,4 @@
-//! Pops of operands against what is wanted.
+//! Pops of operands against what is expected.
 
 ghost use Rattle.std.specs.Prelude.{◌≡◌, true, false, None, Some, OnOk, OnErr, IfOk, IfErr, MatchOption};
 ghost use Rattle.std.specs.Option.{ForSome};
@@ -31,21 +31,21 @@ pub fn ty_to_str(ty: ValType) -> &'static str
     }
 }
 
-/// The refusal of an operand that isn't there. Where no type is wanted it takes no memory.
+/// The refusal of an operand that isn't there. Where no type is expected it takes no memory.
 #[cold]
 #[inline(never)]
 fn nothing_there(alloc: Global, expected: Option<ValType>, offset: u64) -> Error
     ensures offset { result.offset ≡ offset }
     ensures memory { expected ≡ None → result.wants_memory ≡ false }
 {
-    let Some(wanted) = expected else {
+    let Some(ty) = expected else {
         let error = Error::new(
             "type mismatch: expected a type but nothing on stack",
             offset,
         );
         return error.because(Refusal::NothingFound(None));
     };
-    let name = ty_to_str(wanted);
+    let name = ty_to_str(ty);
     match format!(in alloc; "type mismatch: expected {name} but nothing on stack") {
         Ok(text) => Error::with_text(text, offset).because(Refusal::NothingFound(expected)),
         Err(_) => Error::out_of_memory(offset),
@@ -60,7 +60,7 @@ pub fn mismatch(alloc: Global, expected: ValType, found: ValType, offset: u64) -
 {
     let refusal = Refusal::Mismatch {
         depth: 0,
-        wanted: expected,
+        expected: expected,
         found: MaybeType::Known(found),
     };
     let expected = ty_to_str(expected);
@@ -71,7 +71,7 @@ pub fn mismatch(alloc: Global, expected: ValType, found: ValType, offset: u64) -
     }
 }
 
-/// The refusal of a reference where a number or a vector is wanted.
+/// The refusal of a reference where a number or a vector is expected.
 #[cold]
 #[inline(never)]
 fn reference_found(alloc: Global, expected: ValType, offset: u64) -> Error
@@ -79,7 +79,7 @@ fn reference_found(alloc: Global, expected: ValType, offset: u64) -> Error
 {
     let refusal = Refusal::Mismatch {
         depth: 0,
-        wanted: expected,
+        expected: expected,
         found: MaybeType::UnknownRef(None),
     };
     let expected = ty_to_str(expected);
@@ -89,24 +89,24 @@ fn reference_found(alloc: Global, expected: ValType, offset: u64) -> Error
     }
 }
 
-/// An unknown reference of which this abstract type is known, with the sharedness of the wanted one.
+/// An unknown reference of which this abstract type is known, with the sharedness of the expected one.
 pub(crate) fn unknown_reference<R: WasmModuleResources>(
     resources: &R,
     ty: AbstractHeapType,
-    wanted: RefType,
+    expected: RefType,
 ) -> ValType
-    requires { Valid (R.context resources.now) (ValType.Ref wanted) }
+    requires { Valid (R.context resources.now) (ValType.Ref expected) }
     ensures { result ≡ ValType.Ref (non_null_reference
-        (HeapType.Abstract ((R.context resources.now).is_shared wanted) ty)) }
+        (HeapType.Abstract ((R.context resources.now).is_shared expected) ty)) }
 {
-    let shared = resources.is_shared(wanted);
+    let shared = resources.is_shared(expected);
     ValType::Ref(RefType {
         nullable: false,
         heap_type: HeapType::Abstract { shared, ty },
     })
 }
 
-/// The refusal of an operand that doesn't fit the wanted type.
+/// The refusal of an operand that doesn't fit the expected type.
 #[cold]
 #[inline(never)]
 fn not_fitting<R: WasmModuleResources>(
@@ -114,53 +114,53 @@ fn not_fitting<R: WasmModuleResources>(
     resources: &R,
     offset: u64,
     found: MaybeType,
-    wanted: ValType,
+    expected: ValType,
 ) -> Error
-    requires { Valid (R.context resources.now) wanted }
+    requires { Valid (R.context resources.now) expected }
     ensures { result.offset ≡ offset }
 {
-    match (found, wanted) {
-        (MaybeType::Known(found), _) => mismatch(alloc, wanted, found, offset),
+    match (found, expected) {
+        (MaybeType::Known(found), _) => mismatch(alloc, expected, found, offset),
         (MaybeType::UnknownRef(Some(ty)), ValType::Ref(reference)) => {
             mismatch(
                 alloc,
-                wanted,
+                expected,
                 unknown_reference(resources, ty, reference),
                 offset,
             )
         }
-        _ => reference_found(alloc, wanted, offset),
+        _ => reference_found(alloc, expected, offset),
     }
 }
 
-/// Whether nothing is wanted, or this operand isn't known at all, or is the wanted number or vector type.
+/// Whether nothing is expected, or this operand isn't known at all, or is the expected number or vector type.
 #[inline(always)]
 pub(crate) fn fits_at_once(found: MaybeType, expected: Option<ValType>) -> bool
     ensures { result ≡ true → FitsAtOnce found expected }
 {
     match (found, expected) {
         (_, None) | (MaybeType::Bottom, _) => true,
-        (MaybeType::Known(found), Some(wanted)) => is_same_number(found, wanted),
+        (MaybeType::Known(found), Some(expected)) => is_same_number(found, expected),
         (MaybeType::UnknownRef(_), Some(_)) => false,
     }
 }
 
 /// Whether this is twice the same number or vector type.
 #[inline(always)]
-pub(crate) fn is_same_number(found: ValType, wanted: ValType) -> bool
-    ensures { result ≡ true → found ≡ wanted }
+pub(crate) fn is_same_number(found: ValType, expected: ValType) -> bool
+    ensures { result ≡ true → found ≡ expected }
 {
-    let place = place_of(wanted);
+    let place = place_of(expected);
     place < 5 && place_of(found) == place
 }
 
 /// Whether the operand is known to be of this number or vector type.
 #[inline(always)]
-pub(crate) fn is_known_number(operand: &MaybeType, wanted: ValType) -> bool
-    ensures { result ≡ true → operand.now ≡ Known wanted }
+pub(crate) fn is_known_number(operand: &MaybeType, expected: ValType) -> bool
+    ensures { result ≡ true → operand.now ≡ Known expected }
 {
     match operand {
-        MaybeType::Known(found) => is_same_number(*found, wanted),
+        MaybeType::Known(found) => is_same_number(*found, expected),
         _ => false,
     }
 }
@@ -181,7 +181,7 @@ fn place_of(ty: ValType) -> u8
 }
 
 impl Stacks {
-    /// Pops an operand that fits what is wanted, if anything is. It refuses, at the offset handed in,
+    /// Pops an operand that fits what is expected, if anything is. It refuses, at the offset handed in,
     /// where nothing is found or where what is found doesn't fit (and is popped). Memory is wanted for
     /// the text of a refusal and the log of an attempt alone: where no attempt is pending it is refused only
     /// where nothing fits, and a pop of any type takes no memory.
@@ -192,7 +192,7 @@ impl Stacks {
         offset: u64,
         expected: Option<ValType>,
     ) -> Result<MaybeType, Error>
-        requires wanted { ForSome expected (Valid (R.context resources.now)) }
+        requires expected { ForSome expected (Valid (R.context resources.now)) }
         requires state { IsValidBody (R.context resources.now) self.old.body }
         ensures { Popped (R.context resources.now) expected offset self.old result self.new }
     {
@@ -202,8 +202,8 @@ impl Stacks {
         }
     }
 
-    /// Pops the operand that is found, where it fits at once: nothing is wanted, or it isn't known at all,
-    /// or it is the wanted number or vector type itself. None, with nothing changed, where that isn't so,
+    /// Pops the operand that is found, where it fits at once: nothing is expected, or it isn't known at all,
+    /// or it is the expected number or vector type itself. None, with nothing changed, where that isn't so,
     /// or where memory wants.
     #[inline(always)]
     pub fn pop_at_once<R: WasmModuleResources>(
@@ -238,7 +238,7 @@ impl Stacks {
         offset: u64,
         expected: Option<ValType>,
     ) -> Result<MaybeType, Error>
-        requires wanted { ForSome expected (Valid (R.context resources.now)) }
+        requires expected { ForSome expected (Valid (R.context resources.now)) }
         requires state { IsValidBody (R.context resources.now) self.old.body }
         ensures { Popped (R.context resources.now) expected offset self.old result self.new }
     {
@@ -248,7 +248,7 @@ impl Stacks {
         }
     }
 
-    /// The operand that was found, where it fits what is wanted, if anything is.
+    /// The operand that was found, where it fits what is expected, if anything is.
     #[inline(always)]
     fn check_found<R: WasmModuleResources>(
         &self,
@@ -257,7 +257,7 @@ impl Stacks {
         found: Option<MaybeType>,
         expected: Option<ValType>,
     ) -> Result<MaybeType, Error>
-        requires wanted { ForSome expected (Valid (R.context resources.now)) }
+        requires expected { ForSome expected (Valid (R.context resources.now)) }
         requires found { ForSome found (IsValidOperand (R.context resources.now)) }
         ensures value { IfOk result (λ t. found ≡ Some t) }
         ensures passed { OnOk result (may_pop (body_context (R.context resources.now) self.now.body) found
@@ -270,55 +270,55 @@ impl Stacks {
         let Some(actual) = found else {
             return Err(nothing_there(self.allocator(), expected, offset));
         };
-        let Some(wanted) = expected else {
+        let Some(expected) = expected else {
             return Ok(actual);
         };
-        if self.is_fitting(resources, found, wanted) {
+        if self.is_fitting(resources, found, expected) {
             Ok(actual)
         } else {
-            Err(not_fitting(self.allocator(), resources, offset, actual, wanted))
+            Err(not_fitting(self.allocator(), resources, offset, actual, expected))
         }
     }
 
-    /// Whether an operand was found that fits the wanted type, by the order of types.
+    /// Whether an operand was found that fits the expected type, by the order of types.
     #[inline(always)]
     pub(crate) fn is_fitting<R: WasmModuleResources>(
         &self,
         resources: &R,
         found: Option<MaybeType>,
-        wanted: ValType,
+        expected: ValType,
     ) -> bool
-        requires wanted { Valid (R.context resources.now) wanted }
+        requires expected { Valid (R.context resources.now) expected }
         requires found { ForSome found (IsValidOperand (R.context resources.now)) }
         ensures { result ≡ may_pop (body_context (R.context resources.now) self.now.body) found
-            (Some wanted) }
+            (Some expected) }
     {
         let Some(actual) = found else { return false };
         match actual {
             MaybeType::Bottom => true,
-            MaybeType::UnknownRef(ty) => self.is_unknown_fitting(resources, ty, wanted),
-            MaybeType::Known(ty) => resources.is_subtype(ty, wanted),
+            MaybeType::UnknownRef(ty) => self.is_unknown_fitting(resources, ty, expected),
+            MaybeType::Known(ty) => resources.is_subtype(ty, expected),
         }
     }
 
-    /// Whether an unknown reference, of which an abstract type may be known, fits the wanted type: with
+    /// Whether an unknown reference, of which an abstract type may be known, fits the expected type: with
     /// the sharedness of that.
     fn is_unknown_fitting<R: WasmModuleResources>(
         &self,
         resources: &R,
         found: Option<AbstractHeapType>,
-        wanted: ValType,
+        expected: ValType,
     ) -> bool
-        requires { Valid (R.context resources.now) wanted }
+        requires { Valid (R.context resources.now) expected }
         ensures { result ≡ fits (body_context (R.context resources.now) self.now.body) (UnknownRef found)
-            wanted }
+            expected }
     {
-        let ValType::Ref(reference) = wanted else {
+        let ValType::Ref(reference) = expected else {
             return false;
         };
         let Some(ty) = found else {
             return true;
         };
-        resources.is_subtype(unknown_reference(resources, ty, reference), wanted)
+        resources.is_subtype(unknown_reference(resources, ty, reference), expected)
     }
 }

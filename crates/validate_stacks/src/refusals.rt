@@ -26,7 +26,7 @@ impl Stacks {
         &mut self,
         resources: &R,
         told: Told,
-        taken: usize,
+        popped: usize,
         offset: u64,
     ) -> Error
         ensures offset { result.offset ≡ offset }
@@ -34,9 +34,9 @@ impl Stacks {
         ensures valid { (md : ModuleContext) → IsValidBody md self.old.body → IsValidBody md self.new.body }
         ensures kept { IsKept self.old.body self.new.body }
     {
-        let taken = self.count_taken(&told, taken);
+        let popped = self.count_popped(&told, popped);
         let error = self.refusal(resources, told, offset);
-        match self.exchange::<Told>(taken, &[]) {
+        match self.exchange::<Told>(popped, &[]) {
             Ok(()) => error,
             Err(_) => Error::out_of_memory(offset),
         }
@@ -56,14 +56,14 @@ impl Stacks {
     }
 
     /// How many own operands of the innermost frame upstream has taken by then: so many, if an operand isn't the reason.
-    fn count_taken(&self, told: &Told, taken: usize) -> usize
+    fn count_popped(&self, told: &Told, popped: usize) -> usize
         ensures { result ≤ length (innermost_operands self.now.body.present.frames) }
     {
         let own = self.own_len();
         match told {
             Told::Rule(Refusal::NothingFound(_)) => own,
             Told::Rule(Refusal::Mismatch { depth, .. }) => own.min(depth.saturating_add(1)),
-            Told::Rule(_) | Told::LookUp(_) => own.min(taken),
+            Told::Rule(_) | Told::LookUp(_) => own.min(popped),
         }
     }
 
@@ -104,7 +104,7 @@ impl Stacks {
             Refusal::NoStructType(index) => declared_text(resources, alloc, "struct", index),
             Refusal::NoArrayType(index) => declared_text(resources, alloc, "array", index),
             Refusal::OtherResults(index) => self.results_text(resources, index),
-            Refusal::NotBelow { wanted, found } => below_text(resources, alloc, wanted, found),
+            Refusal::NotBelow { expected, found } => below_text(resources, alloc, expected, found),
             _ => operand_text(alloc, refusal),
         }
     }
@@ -116,10 +116,10 @@ impl Stacks {
         type_index: u32,
     ) -> Result<String, AllocError> {
         let alloc = self.allocator();
-        let wanted = names_of(alloc, self.body_results(resources))?;
+        let expected = names_of(alloc, self.body_results(resources))?;
         let results = names_of(alloc, results_of(resources, type_index))?;
         format!(in alloc;
-            "type mismatch: current function requires result type [{wanted}] but callee returns [{results}]"
+            "type mismatch: current function requires result type [{expected}] but callee returns [{results}]"
         )
     }
 }
@@ -143,27 +143,30 @@ fn declared_text<R: WasmModuleResources>(
 fn below_text<R: WasmModuleResources>(
     resources: &R,
     alloc: Global,
-    wanted: AbstractHeapType,
+    expected: AbstractHeapType,
     found: MaybeType,
 ) -> Result<String, AllocError> {
     match found {
         MaybeType::Known(ValType::Ref(found)) => {
             let shared = resources.is_shared(found);
-            let wanted = RefType {
+            let expected = RefType {
                 nullable: true,
-                heap_type: HeapType::Abstract { shared, ty: wanted },
+                heap_type: HeapType::Abstract {
+                    shared,
+                    ty: expected,
+                },
             };
-            format!(in alloc; "type mismatch: expected subtype of {wanted}, found {found}")
+            format!(in alloc; "type mismatch: expected subtype of {expected}, found {found}")
         }
         MaybeType::UnknownRef(Some(found)) => {
-            let wanted = wanted.as_str(false);
+            let expected = expected.as_str(false);
             let found = found.as_str(false);
-            format!(in alloc; "type mismatch: expected subtype of {wanted}, found {found}")
+            format!(in alloc; "type mismatch: expected subtype of {expected}, found {found}")
         }
         // Any of these fits, or is no reference.
         MaybeType::Known(_) | MaybeType::UnknownRef(None) | MaybeType::Bottom => {
-            let wanted = wanted.as_str(false);
-            format!(in alloc; "type mismatch: expected subtype of {wanted}")
+            let expected = expected.as_str(false);
+            format!(in alloc; "type mismatch: expected subtype of {expected}")
         }
     }
 }
@@ -192,13 +195,17 @@ fn names_of(alloc: Global, types: &[ValType]) -> Result<String, AllocError> {
 /// The text of an operand that isn't there, or of another type.
 fn operand_text(alloc: Global, refusal: Refusal) -> Result<String, AllocError> {
     match refusal {
-        Refusal::NothingFound(Some(wanted)) => {
-            let wanted = ty_to_str(wanted);
-            format!(in alloc; "type mismatch: expected {wanted} but nothing on stack")
+        Refusal::NothingFound(Some(expected)) => {
+            let expected = ty_to_str(expected);
+            format!(in alloc; "type mismatch: expected {expected} but nothing on stack")
         }
-        Refusal::Mismatch { wanted, found, .. } => mismatch_text(alloc, wanted, found),
-        Refusal::ClauseType { wanted, given } => {
-            mismatch_text(alloc, wanted, MaybeType::Known(given))
+        Refusal::Mismatch {
+            expected,
+            found,
+            ..
+        } => mismatch_text(alloc, expected, found),
+        Refusal::ClauseType { expected, found } => {
+            mismatch_text(alloc, expected, MaybeType::Known(found))
         }
         Refusal::NoReference(found) => {
             let found = ty_to_str(found);
@@ -217,15 +224,15 @@ fn operand_text(alloc: Global, refusal: Refusal) -> Result<String, AllocError> {
 }
 
 /// The text of an operand that doesn't fit.
-fn mismatch_text(alloc: Global, wanted: ValType, found: MaybeType) -> Result<String, AllocError> {
-    let wanted = ty_to_str(wanted);
+fn mismatch_text(alloc: Global, expected: ValType, found: MaybeType) -> Result<String, AllocError> {
+    let expected = ty_to_str(expected);
     match found {
         MaybeType::Known(found) => {
             let found = ty_to_str(found);
-            format!(in alloc; "type mismatch: expected {wanted}, found {found}")
+            format!(in alloc; "type mismatch: expected {expected}, found {found}")
         }
         MaybeType::Bottom | MaybeType::UnknownRef(_) => {
-            format!(in alloc; "type mismatch: expected {wanted}, found heap type")
+            format!(in alloc; "type mismatch: expected {expected}, found heap type")
         }
     }
 }
@@ -289,15 +296,15 @@ fn access_text(alloc: Global, refusal: Refusal) -> Result<String, AllocError> {
         Refusal::OtherElements {
             name,
             segment,
-            wanted,
+            expected,
             found,
         } => {
             format!(in alloc;
-                "invalid {name} instruction: element segment {segment} type mismatch: expected {wanted}, found {found}"
+                "invalid {name} instruction: element segment {segment} type mismatch: expected {expected}, found {found}"
             )
         }
-        Refusal::OtherStorage { wanted, found } => {
-            format!(in alloc; "array types do not match: expected {wanted}, found {found}")
+        Refusal::OtherStorage { expected, found } => {
+            format!(in alloc; "array types do not match: expected {expected}, found {found}")
         }
         _ => cast_text(alloc, refusal),
     }
@@ -322,9 +329,9 @@ fn cast_text(alloc: Global, refusal: Refusal) -> Result<String, AllocError> {
         Refusal::CastFailLabel { label, carried } => {
             format!(in alloc; "type mismatch: expected label result type {label}, found {carried}")
         }
-        Refusal::NotExact { wanted, found } => {
+        Refusal::NotExact { expected, found } => {
             format!(in alloc;
-                "type mismatch: expected descriptor of exact type {wanted} found {found}"
+                "type mismatch: expected descriptor of exact type {expected} found {found}"
             )
         }
         // All others have a fixed text.

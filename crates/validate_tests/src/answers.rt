@@ -4,8 +4,8 @@ use crate::test_error::TestError;
 
 /// The operator of a line, and its answer alone.
 pub fn parts_of(line: &str) -> (&str, &str) {
-    let (written, wanted) = line.split_once(" => ").unwrap_or((line, ""));
-    (written, answer_in(wanted))
+    let (written, expected) = line.split_once(" => ").unwrap_or((line, ""));
+    (written, answer_in(expected))
 }
 
 /// The answer alone, without what stands behind it.

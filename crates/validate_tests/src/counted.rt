@@ -63,14 +63,14 @@ fn expect_run<R: WasmModuleResources>(
 ) -> Result<(), TestError>
     requires { IsStarting (R.context lists.now) (state v.old) }
 {
-    let (lines, n, tried, wanted) = run;
+    let (lines, n, tried, expected) = run;
     expect_lines(rt, v, lists, lines, Way::Visited)?;
     expect(rt, v.control_stack_height() > 0);
     let mut pops = Pops::new();
     let answer = pop_run(v, lists, n, &mut pops);
     expect_same(rt, pops.count(), tried);
     let found = answer_text(rt, v, answer)?;
-    expect_answer_text(rt, &found, wanted);
+    expect_answer_text(rt, &found, expected);
     Ok(())
 }
 

@@ -14,14 +14,14 @@ pub fn expect(rt: &impl Abort, is_so: bool)
     assert!(rt; is_so);
 }
 
-/// What was found is what was wanted.
-pub fn expect_same<T: PartialEq + Debug + Drop>(rt: &impl Abort, found: T, wanted: T) {
-    assert_eq!(rt; found, wanted);
+/// What was found is what was expected.
+pub fn expect_same<T: PartialEq + Debug + Drop>(rt: &impl Abort, found: T, expected: T) {
+    assert_eq!(rt; found, expected);
 }
 
-/// The text that was found of this is the one that was wanted.
-pub fn expect_text(rt: &impl Abort, found: &str, wanted: &str, of: &str) {
-    assert_eq!(rt; found, wanted, "{of}");
+/// The text that was found of this is the one that was expected.
+pub fn expect_text(rt: &impl Abort, found: &str, expected: &str, of: &str) {
+    assert_eq!(rt; found, expected, "{of}");
 }
 
 /// A refusal has this text and this offset, and isn't want of memory.

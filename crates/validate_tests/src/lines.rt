@@ -62,7 +62,7 @@ fn expect_visited<R: WasmModuleResources>(
     v: &mut OperatorValidator,
     lists: &R,
     op: Op<'_>,
-    wanted: &str,
+    expected: &str,
 ) -> Result<(), TestError>
     requires { MayVisit (R.context lists.now) (stacks_of v.old) }
     ensures valid { IsValidBody (R.context lists.now) (state v.new) }
@@ -70,7 +70,7 @@ fn expect_visited<R: WasmModuleResources>(
 {
     let answer = visit(v, lists, op);
     let found = answer_text(rt, v, answer)?;
-    expect_answer_text(rt, &found, wanted);
+    expect_answer_text(rt, &found, expected);
     Ok(())
 }
 
@@ -79,9 +79,9 @@ fn expect_snapshot(
     rt: &(impl Abort + AllocGlobal),
     v: &OperatorValidator,
     before: &str,
-    wanted: &str,
+    expected: &str,
 ) -> Result<(), TestError> {
-    expect_text(rt, &snapshot(rt, v)?, before, wanted);
+    expect_text(rt, &snapshot(rt, v)?, before, expected);
     Ok(())
 }
 
@@ -92,7 +92,7 @@ fn expect_attempted<R: WasmModuleResources>(
     v: &mut OperatorValidator,
     lists: &R,
     op: Op<'_>,
-    wanted: &str,
+    expected: &str,
 ) -> Result<(), TestError>
     requires idle { (state v.old).undone ≡ None }
     requires visit { MayVisit (R.context lists.now) (stacks_of v.old) }
@@ -101,12 +101,12 @@ fn expect_attempted<R: WasmModuleResources>(
 {
     let before = snapshot(rt, v)?;
     let _ = try_and_undo(v, lists, 7, op);
-    expect_snapshot(rt, v, &before, wanted)?;
+    expect_snapshot(rt, v, &before, expected)?;
     let answer = try_op(v, lists, 7, op);
     if answer.is_err() {
-        expect_snapshot(rt, v, &before, wanted)?;
+        expect_snapshot(rt, v, &before, expected)?;
     }
-    expect_answer_text(rt, &answer_text(rt, v, answer)?, answer_in(wanted));
+    expect_answer_text(rt, &answer_text(rt, v, answer)?, answer_in(expected));
     Ok(())
 }
 
@@ -128,7 +128,7 @@ fn expect_op<R: WasmModuleResources>(
     lists: &R,
     op: Op<'_>,
     way: Way,
-    wanted: &str,
+    expected: &str,
 ) -> Result<(), TestError>
     requires idle { (state v.old).undone ≡ None }
     requires visit { MayVisit (R.context lists.now) (stacks_of v.old) }
@@ -136,8 +136,8 @@ fn expect_op<R: WasmModuleResources>(
     ensures valid { OnOk result (IsValidBody (R.context lists.now) (state v.new)) }
 {
     match way {
-        Way::Visited => expect_visited(rt, v, lists, op, wanted),
-        Way::Attempted => expect_attempted(rt, v, lists, op, wanted),
+        Way::Visited => expect_visited(rt, v, lists, op, expected),
+        Way::Attempted => expect_attempted(rt, v, lists, op, expected),
     }
 }
 
@@ -157,10 +157,10 @@ fn expect_line<R: WasmModuleResources>(
     if v.control_stack_height() == 0 {
         return Err(TestError("a line behind a closed body"));
     }
-    let (written, wanted) = line.trim().split_once(" => ").unwrap_or((line, ""));
+    let (written, expected) = line.trim().split_once(" => ").unwrap_or((line, ""));
     let mut list = None;
     let op = read_op(rt, &mut list, written)?;
-    expect_op(rt, v, lists, op, way, wanted)
+    expect_op(rt, v, lists, op, way, expected)
 }
 
 /// The operators of these lines in turn.

@@ -78,13 +78,13 @@ fn read_module(
 fn expect_refusal(
     rt: &(impl Abort + AllocGlobal),
     lines: &str,
-    wanted: &str,
+    expected: &str,
 ) -> Result<(), TestError> {
     let text = lines.replace(rt.alloc(), ", ", "\n")?;
     match read_module(rt, &text)? {
-        Ok(_) => expect_text(rt, "kept", wanted, lines),
+        Ok(_) => expect_text(rt, "kept", expected, lines),
         Err(refusal) => {
-            expect_text(rt, refusal.message(), wanted, lines);
+            expect_text(rt, refusal.message(), expected, lines);
             expect_same(rt, refusal.offset(), 0);
         }
     }

@@ -117,10 +117,10 @@ fn kind_name(kind: FrameKind) -> &'static str {
 }
 
 /// What was answered is what a line wants, which may be the answer alone.
-pub fn expect_answer_text(rt: &impl Abort, found: &str, wanted: &str) {
-    if wanted.contains("=>") {
-        expect_text(rt, found, wanted, found);
+pub fn expect_answer_text(rt: &impl Abort, found: &str, expected: &str) {
+    if expected.contains("=>") {
+        expect_text(rt, found, expected, found);
     } else {
-        expect_text(rt, answer_in(found), wanted, found);
+        expect_text(rt, answer_in(found), expected, found);
     }
 }

@@ -71,12 +71,12 @@ fn expect_pair<R: WasmModuleResources>(
 ) -> Result<(), TestError>
     requires { IsStarting (R.context lists.now) (state v.old) }
 {
-    let (first, second, wanted) = row;
+    let (first, second, expected) = row;
     let is_accepted = visit(v, lists, first).is_ok();
     expect(rt, is_accepted && v.control_stack_height() > 0);
     let answer = visit(v, lists, second);
     let found = answer_text(rt, v, answer)?;
-    expect_answer_text(rt, &found, wanted);
+    expect_answer_text(rt, &found, expected);
     Ok(())
 }
 

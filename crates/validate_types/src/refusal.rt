@@ -29,12 +29,12 @@ pub enum Refusal {
     MultiValueOff,
 
     // ---- operands
-    /// An operand isn't there; where a type is wanted, this one.
+    /// An operand isn't there; where a type is expected, this one.
     NothingFound(Option<ValType>),
-    /// An operand doesn't fit the wanted type; so many operands lie above it.
+    /// An operand doesn't fit the expected type; so many operands lie above it.
     Mismatch {
         depth: usize,
-        wanted: ValType,
+        expected: ValType,
         found: MaybeType,
     },
     /// An operand of this type is no reference.
@@ -45,7 +45,7 @@ pub enum Refusal {
     NoContinuationReference(ValType),
     /// A reference isn't below an abstract type, whether shared or not.
     NotBelow {
-        wanted: AbstractHeapType,
+        expected: AbstractHeapType,
         found: MaybeType,
     },
     /// The operands of `ref.eq` aren't both shared or both unshared.
@@ -177,12 +177,12 @@ pub enum Refusal {
     OtherElements {
         name: &'static str,
         segment: u32,
-        wanted: RefType,
+        expected: RefType,
         found: RefType,
     },
     /// The elements that are copied don't fit.
     OtherStorage {
-        wanted: StorageType,
+        expected: StorageType,
         found: StorageType,
     },
     /// A table's elements don't fit.
@@ -219,7 +219,7 @@ pub enum Refusal {
     },
     /// A descriptor isn't exact.
     NotExact {
-        wanted: ValType,
+        expected: ValType,
         found: ValType,
     },
 
@@ -248,8 +248,8 @@ pub enum Refusal {
     ClauseArity(ClauseKind),
     /// A clause's label takes another type than it is given.
     ClauseType {
-        wanted: ValType,
-        given: ValType,
+        expected: ValType,
+        found: ValType,
     },
     /// The label of a clause takes no reference to an exception.
     ClauseReference,

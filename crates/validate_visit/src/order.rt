@@ -125,10 +125,10 @@ impl OpenParts {
         if self.noted > 0 {
             return;
         }
-        let wanted = self.depth.min(MOST_NOTED);
+        let expected = self.depth.min(MOST_NOTED);
         let mut under: usize = 0;
         for index in (0..before.len()).rev() {
-            if self.noted == wanted {
+            if self.noted == expected {
                 return;
             }
             let (op, _) = before[index];

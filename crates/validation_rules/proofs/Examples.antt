@@ -152,7 +152,7 @@ add_wrong_below = refl
 add_wrong_before : Open to_nothing (i32_const ∷ i64_const ∷ []) (frame Block to_nothing (Known I64 ∷ Known I32 ∷ []) false ∷ [])
 add_wrong_before = refl
 
--- operands below those that are wanted stay
+-- operands below those that are expected stay
 add_above : Open to_nothing (i64_const ∷ i32_const ∷ i32_const ∷ i32_add ∷ []) (frame Block to_nothing (Known I32 ∷ Known I64 ∷ []) false ∷ [])
 add_above = refl
 
@@ -563,7 +563,7 @@ tilted_context = record {
   set_at_entry = [];
 }
 
--- what is found lies below what is wanted, and what is pushed is the row's type
+-- what is found lies below what is expected, and what is pushed is the row's type
 found_below : DoneUnder tilted_context (Val I64) (i32_const ∷ i64_const ∷ i64_add ∷ end ∷ []) (Known I64 ∷ [])
 found_below = refl
 

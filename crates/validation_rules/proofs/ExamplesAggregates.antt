@@ -183,8 +183,8 @@ NoneHolds ops = map (premise cx) ops ≡ map (λ op. false) ops
 -- With the proposal `gc` alone, the operator wants and pushes exactly these types, and does nothing else;
 -- with all others its row doesn't hold.
 abbrev Says : Op → List ValType → List ValType → Type 0
-Says op wanted pushed =
-    (operator (under gc false) op ≡ row_operator (plain_row wanted pushed)) × (premise (under (every - gc) false) op ≡ false)
+Says op expected pushed =
+    (operator (under gc false) op ≡ row_operator (plain_row expected pushed)) × (premise (under (every - gc) false) op ≡ false)
 
 -- ---- rows of structs
 

@@ -131,8 +131,8 @@ premises c hs ops = map (λ op. premise_in c hs op) ops
 -- With `gc` and these proposals alone, the operator wants and pushes exactly these types, and does nothing
 -- else; with all but `gc` its row doesn't hold.
 abbrev Says : Op → List ValType → List ValType → ℕ → Type 0
-Says op wanted pushed others =
-    (operator (under (others + gc)) op ≡ row_operator (plain_row wanted pushed)) × (premises (under (every - gc)) [] (op ∷ []) ≡ false ∷ [])
+Says op expected pushed others =
+    (operator (under (others + gc)) op ≡ row_operator (plain_row expected pushed)) × (premises (under (every - gc)) [] (op ∷ []) ≡ false ∷ [])
 
 -- ---- `ref.i31` and `i31.get`
 
@@ -301,8 +301,8 @@ carried_from op found = map (λ t. (t.depth, t.carried found)) ((operator castin
 
 -- what it wants and pushes, and what it carries of these operands, the last on top
 abbrev Branches : Op → List ValType → List ValType → ℕ → List ValType → List ValType → Type 0
-Branches op wanted pushed d found carried =
-    (record ((operator casting op).row outer) { targets = [] } ≡ plain_row wanted pushed) × (carried_from op found ≡ (d, carried) ∷ []) × (premises (under (every - gc)) outer (op ∷ []) ≡ false ∷ [])
+Branches op expected pushed d found carried =
+    (record ((operator casting op).row outer) { targets = [] } ≡ plain_row expected pushed) × (carried_from op found ≡ (d, carried) ∷ []) × (premises (under (every - gc)) outer (op ∷ []) ≡ false ∷ [])
 
 abbrev any : Bool → RefType
 any nullable = reference nullable (abstract Any)

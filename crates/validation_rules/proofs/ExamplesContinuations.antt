@@ -180,11 +180,11 @@ row_under bits op = (operator (under bits false) op).row labels
 
 -- With the proposal alone, the operator wants and pushes exactly these types, and does nothing else.
 abbrev Says : Op → List ValType → List ValType → Type 0
-Says op wanted pushed = operator (under stack_switching false) op ≡ row_operator (plain_row wanted pushed)
+Says op expected pushed = operator (under stack_switching false) op ≡ row_operator (plain_row expected pushed)
 
 -- and carries these to labels
 abbrev Handles : Op → List ValType → List ValType → List Target → Type 0
-Handles op wanted pushed targets = row_under stack_switching op ≡ record (plain_row wanted pushed) { targets = targets }
+Handles op expected pushed targets = row_under stack_switching op ≡ record (plain_row expected pushed) { targets = targets }
 
 abbrev a_target : ℕ → List ValType → Target
 a_target depth types = record { depth = depth; carried = λ found. types }

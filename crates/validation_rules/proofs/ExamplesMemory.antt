@@ -96,8 +96,8 @@ NoneHolds ops = map (premise cx) ops ≡ map (λ op. false) ops
 -- With these proposals alone, each operator wants and pushes exactly these types, and does nothing
 -- else; without them, and with all others, no row holds, unless it needs none.
 abbrev Says : List Op → List ValType → List ValType → ℕ → Type 0
-Says ops wanted pushed needs =
-    (map (operator (under needs)) ops ≡ map (λ op. row_operator (plain_row wanted pushed)) ops) × (map (premise (under (every - needs))) ops ≡ map (λ op. nat_eq needs 0) ops)
+Says ops expected pushed needs =
+    (map (operator (under needs)) ops ≡ map (λ op. row_operator (plain_row expected pushed)) ops) × (map (premise (under (every - needs))) ops ≡ map (λ op. nat_eq needs 0) ops)
 
 -- Operators of an access that may be aligned less: over an address of either type, these above it and
 -- pushed, and never aligned more, nor to a memory that isn't there.

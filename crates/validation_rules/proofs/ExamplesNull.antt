@@ -12,7 +12,7 @@ use Rattle.validate_visit.specs.declared.op.Op.TheVariants.{Reference}
 use Rattle.validate_visit.specs.declared.op.ReferenceOp.TheVariants.{RefIsNull, RefAsNonNull}
 use Rattle.validation_rules.specs.Context.{SubType, ValType, I32, I64, BlockType, Empty, Val, FuncType, Context}
 use Rattle.validation_rules.specs.Fits.{MaybeType, UnknownRef, Known}
-use Rattle.validation_rules.specs.Rows.{Head, Block, Loop, body_head, wanted_count}
+use Rattle.validation_rules.specs.Rows.{Head, Block, Loop, body_head, expected_count}
 use Rattle.validation_rules.specs.Static.{open_state}
 use Rattle.validation_rules.specs.Operators.{row_operator, plain_row, operator}
 use Rattle.validation_rules.proofs.ExampleWords.{null, no_null, func, extern, concrete, func_type, to_nothing}
@@ -193,7 +193,7 @@ null_carries : map (λ d. carried outer (br_on_null d) (I32 ∷ no_null (concret
 null_carries = refl
 
 -- it takes one operand more
-null_takes : map (λ d. wanted_count ((operator cx (br_on_null d)).row outer).type) (0 ∷ 1 ∷ 2 ∷ 3 ∷ []) ≡ 2 ∷ 2 ∷ 3 ∷ 1 ∷ []
+null_takes : map (λ d. expected_count ((operator cx (br_on_null d)).row outer).type) (0 ∷ 1 ∷ 2 ∷ 3 ∷ []) ≡ 2 ∷ 2 ∷ 3 ∷ 1 ∷ []
 null_takes = refl
 
 -- a body whose results it may give

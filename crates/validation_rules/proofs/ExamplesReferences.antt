@@ -86,7 +86,7 @@ numbers_apart = refl
 any_reference : map (fits cx (UnknownRef None)) (null (abstract Func) ∷ no_null (concrete 0) ∷ no_null (Abstract true Any) ∷ I32 ∷ I64 ∷ []) ≡ true ∷ true ∷ true ∷ false ∷ false ∷ []
 any_reference = refl
 
--- with the sharedness that is wanted
+-- with the sharedness that is expected
 some_eq : map (fits cx (UnknownRef (Some EqHeap))) (no_null (abstract EqHeap) ∷ null (abstract Any) ∷ no_null (Abstract true Any) ∷ null (abstract I31) ∷ null (abstract Func) ∷ I32 ∷ []) ≡ true ∷ true ∷ true ∷ false ∷ false ∷ false ∷ []
 some_eq = refl
 
@@ -128,8 +128,8 @@ set_before = refl
 given_below : Done (Val (null (abstract Func))) (unreachable ∷ local_set 3 ∷ local_get 3 ∷ end ∷ []) (Known (null (abstract Func)) ∷ [])
 given_below = refl
 
-wanted_below : Refused (Val (no_null (concrete 1))) (local_get 0 ∷ end ∷ [])
-wanted_below = refl
+expected_below : Refused (Val (no_null (concrete 1))) (local_get 0 ∷ end ∷ [])
+expected_below = refl
 
 -- the index of the module becomes the id
 written_with_its_type : Done (Val (null (concrete 0))) (unreachable ∷ typed_select (null (Concrete (Module 0))) ∷ end ∷ []) (Known (null (concrete 0)) ∷ [])

@@ -113,8 +113,8 @@ held_in_shared op places = map (λ i. premise (under every true) (op i)) places
 -- With the proposal alone, the operator wants and pushes exactly these types, and does nothing else; with all
 -- others its row doesn't hold.
 abbrev Says : Op → List ValType → List ValType → Type 0
-Says op wanted pushed =
-    (operator (under shared_everything_threads false) op ≡ row_operator (plain_row wanted pushed)) × (premise (under (every - shared_everything_threads) false) op ≡ false)
+Says op expected pushed =
+    (operator (under shared_everything_threads false) op ≡ row_operator (plain_row expected pushed)) × (premise (under (every - shared_everything_threads) false) op ≡ false)
 
 -- ---- globals
 

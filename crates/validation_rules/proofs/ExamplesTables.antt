@@ -126,8 +126,8 @@ NoneHolds ops = map (premise cx) ops ≡ map (λ op. false) ops
 -- With these proposals alone, the operator wants and pushes exactly these types, and does nothing else;
 -- without them, and with all others, its row doesn't hold, unless it needs none.
 abbrev Says : Op → List ValType → List ValType → ℕ → Type 0
-Says op wanted pushed needs =
-    (operator (under needs false) op ≡ row_operator (plain_row wanted pushed)) × (premise (under (every - needs) false) op ≡ nat_eq needs 0)
+Says op expected pushed needs =
+    (operator (under needs false) op ≡ row_operator (plain_row expected pushed)) × (premise (under (every - needs) false) op ≡ nat_eq needs 0)
 
 -- ---- rows
 
@@ -137,8 +137,8 @@ each = (0, I32, null func) ∷ (1, I64, null func) ∷ (2, I32, null extern) ∷
 
 -- by the types of addresses and elements; there is no eighth table
 abbrev EachTable : (ℕ → TableOp) → (ValType → ValType → List ValType) → (ValType → ValType → List ValType) → Type 0
-EachTable op wanted pushed =
-    (map (λ (k : ℕ × ValType × ValType). operator (under reference_types false) (Table (op k.0))) each ≡ map (λ (k : ℕ × ValType × ValType). row_operator (plain_row (wanted k.1 k.2) (pushed k.1 k.2))) each) × (map (λ (k : ℕ × ValType × ValType). premise (under (every - reference_types) false) (Table (op k.0))) each ≡ map (λ (k : ℕ × ValType × ValType). false) each) × (premise cx (Table (op 7)) ≡ false)
+EachTable op expected pushed =
+    (map (λ (k : ℕ × ValType × ValType). operator (under reference_types false) (Table (op k.0))) each ≡ map (λ (k : ℕ × ValType × ValType). row_operator (plain_row (expected k.1 k.2) (pushed k.1 k.2))) each) × (map (λ (k : ℕ × ValType × ValType). premise (under (every - reference_types) false) (Table (op k.0))) each ≡ map (λ (k : ℕ × ValType × ValType). false) each) × (premise cx (Table (op 7)) ≡ false)
 
 get_of_each : EachTable TableGet (λ it t. it ∷ []) (λ it t. t ∷ [])
 get_of_each = (refl, refl, refl)
@@ -195,8 +195,8 @@ inside = record { kind = Loop; block_type = Empty } ∷ record { kind = Block; b
 
 -- with this proposal alone, and not without it
 abbrev TailSays : Op → List ValType → ℕ → Type 0
-TailSays op wanted needs =
-    ((operator (under needs false) op).row inside ≡ record (plain_row wanted []) { targets = record { depth = 2; carried = λ found. F32 ∷ [] } ∷ []; ends_live = true }) × (((operator (under (every - needs) false) op).row inside).premise ≡ false)
+TailSays op expected needs =
+    ((operator (under needs false) op).row inside ≡ record (plain_row expected []) { targets = record { depth = 2; carried = λ found. F32 ∷ [] } ∷ []; ends_live = true }) × (((operator (under (every - needs) false) op).row inside).premise ≡ false)
 
 tail_indirect_of_32 : TailSays (return_call_indirect 1 0) (I32 ∷ I64 ∷ I32 ∷ []) tail_call
 tail_indirect_of_32 = (refl, refl)

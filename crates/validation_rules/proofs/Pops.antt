@@ -1,4 +1,4 @@
--- Pops one at a time from the top come to the wanted list taken whole, over the padded operands.
+-- Pops one at a time from the top come to the expected list taken whole, over the padded operands.
 use Rattle.std.proofs.Common.{◌≡◌, ◌≢◌, ℕ, zero, suc, ◌+◌, Bool, true, false, ◌&&◌, nat_le, List, [], ◌∷◌, reverse, length, drop, Option, Some, refl, sym, ap, ap₂, ◌∙◌, arith, append-nil}
 use Rattle.std.proofs.lemmas.List.{reverse-reverse, length-reverse}
 use Rattle.std.proofs.Math.Dec.{leb-zero, leb-suc-zero, leb-suc-suc}
@@ -83,12 +83,12 @@ module _ (cx : Context) where
   pub pops_from_top : (ws : List ValType) (f : Frame) → frame_after_pops cx ws f ≡ guard (all_fit cx (operands_on_top (length ws) f.dead f.operands) ws) (Some (record f { operands = operands_under (length ws) f }))
   pops_from_top ws f = pops_in ws f.head f.operands f.dead f.first_set
 
-  -- a row's wanted list, whose last lies on top and is popped first
+  -- a row's expected list, whose last lies on top and is popped first
   pub pops_whole : PopsAreWhole cx
-  pops_whole wanted f =
-      pops_from_top (reverse wanted) f
-      ∙ ap (λ n. guard (all_fit cx (operands_on_top n f.dead f.operands) (reverse wanted)) (Some (record f { operands = operands_under n f }))) (length-reverse wanted)
-      ∙ ap (λ b. guard b (Some (record f { operands = operands_under (length wanted) f }))) (sym (fit_turned (operands_on_top (length wanted) f.dead f.operands) wanted))
+  pops_whole expected f =
+      pops_from_top (reverse expected) f
+      ∙ ap (λ n. guard (all_fit cx (operands_on_top n f.dead f.operands) (reverse expected)) (Some (record f { operands = operands_under n f }))) (length-reverse expected)
+      ∙ ap (λ b. guard b (Some (record f { operands = operands_under (length expected) f }))) (sym (fit_turned (operands_on_top (length expected) f.dead f.operands) expected))
 
 -- ---- nothing left below
 

@@ -56,7 +56,7 @@ use Rattle.validation_rules.specs.Casts.{CastTypes, checked_ref, is_castable, ca
 use Rattle.validation_rules.specs.Exact.{declared_heap}
 use Rattle.validation_rules.specs.Descriptors.{descriptor_at, descriptor_in, get_desc_pushes, ref_get_desc_row, fit_under, tested_pushes, is_cast_descriptor, ref_cast_desc_eq_row, descriptor_branch_row_for, descriptor_branch_row, cast_desc_eq_branch_row}
 use Rattle.validation_rules.specs.Fits.{MaybeType, Bottom, UnknownRef, Known, fits}
-use Rattle.validation_rules.specs.Rows.{FrameKind, Block, If, Loop, is_loop, Head, params, results, Form, Stays, Opens, BeginsElse, BeginsCatch, Ends, Delegates, Plain, Row, Operator, pushed_for, wanted_count, guard}
+use Rattle.validation_rules.specs.Rows.{FrameKind, Block, If, Loop, is_loop, Head, params, results, Form, Stays, Opens, BeginsElse, BeginsCatch, Ends, Delegates, Plain, Row, Operator, pushed_for, expected_count, guard}
 use Rattle.validation_rules.specs.Static.{Frame, State, heads, locals_set, stack_with, operands_on_top, operands_found, operands_under, pushed_by_row, operands_after, state_after_exit, state_after, open_frames, step_in}
 use Rattle.validation_rules.specs.Operators.{plain_row, plain_row_if, is_accessible_func_type, checked_block, opener, staying_operator, row_operator, delimiter_operator, looking_row_if, drop_pushes, select_result, select_pushes, lookup_row, lookups_row, control_operator, numeric_row, convert_row, memory_row, atomic_row}
 use Rattle.validation_rules.specs.Valid.{IsValidOperand, Resolves, IsValidBlock, IsValidFrame}
@@ -146,7 +146,7 @@ module _ (cx : Context) (laws : IsLawful cx.of_module) where
   opened_valid types t = all_onto (IsValidOperand cx.of_module) (map Known types) [] (all_known cx.of_module types t) tt
 
   -- what a row that holds gave: its premise, and its operands
-  by_premise : (r : Row) (hs : List Head) (set : List ℕ) (f : Frame) (pushed : List MaybeType) → pushed_by_row cx r hs set f ≡ Some pushed → (r.premise ≡ true) × (pushed_for cx r.type (operands_found (wanted_count r.type) f) ≡ Some pushed)
+  by_premise : (r : Row) (hs : List Head) (set : List ℕ) (f : Frame) (pushed : List MaybeType) → pushed_by_row cx r hs set f ≡ Some pushed → (r.premise ≡ true) × (pushed_for cx r.type (operands_found (expected_count r.type) f) ≡ Some pushed)
   by_premise r hs set f pushed p = let g = guard_some _ _ _ p in ((and_true r.premise _ g.0).0, g.1)
 
   closing_premise : (premise rest : Bool) (pushed : List MaybeType) → guard (premise && rest) (Some []) ≡ Some pushed → premise ≡ true
@@ -156,13 +156,13 @@ module _ (cx : Context) (laws : IsLawful cx.of_module) where
   after_valid op v left f fs Stays e pushed h k p =
       let r = op.row (heads (f ∷ fs)) in
       let g = by_premise r (heads (f ∷ fs)) (locals_set (f ∷ fs)) f pushed p in
-      let n = wanted_count r.type in
+      let n = expected_count r.type in
       let q = v.pushed (heads (f ∷ fs)) (operands_found n f) pushed g.0 (heads_valid (f ∷ fs) h) (found_valid cx.of_module n f h.0.operands) g.1 in
       ((record { block = h.0.block; operands = own_valid r.ends_live (operands_under n f) pushed (all_drop (IsValidOperand cx.of_module) n f.operands h.0.operands) q }, h.1), k)
   after_valid op v left f fs (Opens o) e pushed h k p =
       let r = op.row (heads (f ∷ fs)) in
       let g = by_premise r (heads (f ∷ fs)) (locals_set (f ∷ fs)) f pushed p in
-      let n = wanted_count r.type in
+      let n = expected_count r.type in
       let b = v.opened (heads (f ∷ fs)) o g.0 e in
       ((record { block = b; operands = opened_valid (params cx o) (params_valid cx.of_module laws cx.shared o.block_type b) }, (record { block = h.0.block; operands = all_drop (IsValidOperand cx.of_module) n f.operands h.0.operands }, h.1)), k)
   after_valid op v left f fs BeginsElse e pushed h k p =
@@ -189,8 +189,8 @@ module _ (cx : Context) (laws : IsLawful cx.of_module) where
   -- ---- the operators of the table
 
   -- an operator with a plain row whose pushed types are valid where its premise holds
-  pub plain_valid : (premise : Bool) (reads sets : Option ℕ) (wanted push : List ValType) (dead : Bool) → (premise ≡ true → AllByRecursion (Valid cx.of_module) push) → PushesValid cx (row_operator (record { premise = premise; reads = reads; type = Plain wanted [] push; sets = sets; targets = []; clauses = []; ends_live = dead }))
-  plain_valid premise reads sets wanted push dead h =
+  pub plain_valid : (premise : Bool) (reads sets : Option ℕ) (expected push : List ValType) (dead : Bool) → (premise ≡ true → AllByRecursion (Valid cx.of_module) push) → PushesValid cx (row_operator (record { premise = premise; reads = reads; type = Plain expected [] push; sets = sets; targets = []; clauses = []; ends_live = dead }))
+  plain_valid premise reads sets expected push dead h =
       record {
         pushed = λ hs xs pushed p v f g.
             subst (λ ys. AllByRecursion (IsValidOperand cx.of_module) ys) (some_injective _ _ (guard_some _ _ _ g).1) (all_known cx.of_module push (h p));
@@ -247,11 +247,11 @@ module _ (cx : Context) (laws : IsLawful cx.of_module) where
   selects_valid (a ∷ b ∷ c ∷ d ∷ xs) pushed v h = absurd cc
 
   -- an operator whose row is plain and depends on the open frames, where what it pushes is valid
-  pub flat_valid : (row : List Head → Row) (wanted push : List Head → List ValType) (also : List Head → List (List ValType)) → ((hs : List Head) → (row hs).type ≡ Plain (wanted hs) (also hs) (push hs)) → ((hs : List Head) → AllByRecursion (HeadIsValid cx) hs → AllByRecursion (Valid cx.of_module) (push hs)) → PushesValid cx (staying_operator row)
-  flat_valid row wanted push also is h =
+  pub flat_valid : (row : List Head → Row) (expected push : List Head → List ValType) (also : List Head → List (List ValType)) → ((hs : List Head) → (row hs).type ≡ Plain (expected hs) (also hs) (push hs)) → ((hs : List Head) → AllByRecursion (HeadIsValid cx) hs → AllByRecursion (Valid cx.of_module) (push hs)) → PushesValid cx (staying_operator row)
+  flat_valid row expected push also is h =
       record {
         pushed = λ hs xs pushed p v f g.
-            let k : pushed_for cx (Plain (wanted hs) (also hs) (push hs)) xs ≡ Some pushed = ap (λ o. pushed_for cx o xs) (sym (is hs)) ∙ g in
+            let k : pushed_for cx (Plain (expected hs) (also hs) (push hs)) xs ≡ Some pushed = ap (λ o. pushed_for cx o xs) (sym (is hs)) ∙ g in
             subst Operands (some_injective _ _ (guard_some _ _ _ k).1) (all_known cx.of_module (push hs) (h hs v));
         opened = λ hs k p e. absurd cc;
         begun = λ hs all types p e. absurd cc;
@@ -275,9 +275,9 @@ module _ (cx : Context) (laws : IsLawful cx.of_module) where
   get_valid (u ∷ locals) zero t h e = subst (Valid cx.of_module) (some_injective u t e) h.0
   get_valid (u ∷ locals) (suc i) t h e = get_valid locals i t h.1 e
 
-  typed_valid : (premise : Bool) (o : Option ValType) (reads sets : Option ℕ) (wanted push : ValType → List ValType) → ((t : ValType) → o ≡ Some t → AllByRecursion (Valid cx.of_module) (push t)) → PushesValid cx (row_operator (lookup_row o (λ t. record { premise = premise; reads = reads; type = Plain (wanted t) [] (push t); sets = sets; targets = []; clauses = []; ends_live = false })))
-  typed_valid premise None reads sets wanted push h = plain_valid false None None [] [] false (λ p. tt)
-  typed_valid premise (Some t) reads sets wanted push h = plain_valid premise reads sets (wanted t) (push t) false (λ p. h t refl)
+  typed_valid : (premise : Bool) (o : Option ValType) (reads sets : Option ℕ) (expected push : ValType → List ValType) → ((t : ValType) → o ≡ Some t → AllByRecursion (Valid cx.of_module) (push t)) → PushesValid cx (row_operator (lookup_row o (λ t. record { premise = premise; reads = reads; type = Plain (expected t) [] (push t); sets = sets; targets = []; clauses = []; ends_live = false })))
+  typed_valid premise None reads sets expected push h = plain_valid false None None [] [] false (λ p. tt)
+  typed_valid premise (Some t) reads sets expected push h = plain_valid premise reads sets (expected t) (push t) false (λ p. h t refl)
 
   shared_by : (a b : Bool) → (not a || b) ≡ true → a ≡ true → b ≡ true
   shared_by true b h e = h
@@ -412,8 +412,8 @@ module _ (cx : Context) (laws : IsLawful cx.of_module) where
       let a = and_true (is_number_or_vector t) _ h in
       (number_valid t a.0, numbers_valid ts a.1)
 
-  numbers_pushed : (premise : Bool) (reads sets : Option ℕ) (wanted push : List ValType) (dead : Bool) → list_all is_number_or_vector push ≡ true → PushesValid cx (row_operator (record { premise = premise; reads = reads; type = Plain wanted [] push; sets = sets; targets = []; clauses = []; ends_live = dead }))
-  numbers_pushed premise reads sets wanted push dead h = plain_valid premise reads sets wanted push dead (λ p. numbers_valid push h)
+  numbers_pushed : (premise : Bool) (reads sets : Option ℕ) (expected push : List ValType) (dead : Bool) → list_all is_number_or_vector push ≡ true → PushesValid cx (row_operator (record { premise = premise; reads = reads; type = Plain expected [] push; sets = sets; targets = []; clauses = []; ends_live = dead }))
+  numbers_pushed premise reads sets expected push dead h = plain_valid premise reads sets expected push dead (λ p. numbers_valid push h)
 
   address_is_number : (has_64_bits : Bool) → is_number_or_vector (if has_64_bits then I64 else I32) ≡ true
   address_is_number true = refl
@@ -677,8 +677,8 @@ module _ (cx : Context) (laws : IsLawful cx.of_module) where
       (λ d e. lookups_valid (type_reference cx nullable_reference i) (cx.of_module.canonical_heap (Exact (Module i))) _
       (λ t h a b. looks_valid true 1 (get_desc_pushes cx t h d) (get_desc_pushes_valid t h d (descriptor_valid i d e))))
 
-  tested_pushes_valid : (test : MaybeType → Bool) (wanted push : List ValType) → AllByRecursion (Valid cx.of_module) push → (xs pushed : List MaybeType) → tested_pushes cx test wanted push xs ≡ Some pushed → Operands pushed
-  tested_pushes_valid test wanted push v xs pushed e = subst Operands (some_injective _ _ (guard_some (fit_under cx test wanted xs) _ _ e).1) (all_known cx.of_module push v)
+  tested_pushes_valid : (test : MaybeType → Bool) (expected push : List ValType) → AllByRecursion (Valid cx.of_module) push → (xs pushed : List MaybeType) → tested_pushes cx test expected push xs ≡ Some pushed → Operands pushed
+  tested_pushes_valid test expected push v xs pushed e = subst Operands (some_injective _ _ (guard_some (fit_under cx test expected xs) _ _ e).1) (all_known cx.of_module push v)
 
   cast_desc_eq_valid : (nullable : Bool) (h : HeapType) → PushesValid cx (row_operator (ref_cast_desc_eq_row cx nullable h))
   cast_desc_eq_valid nullable h =

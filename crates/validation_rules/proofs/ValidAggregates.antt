@@ -86,20 +86,20 @@ module _ (cx : Context) (laws : IsLawful cx.of_module) where
   struct_reference index = type_reference cx nullable_reference index.struct_type_index
 
   -- a row that makes a reference of this type
-  made_pushed : {A : Type 0} (o : Option A) (i : ℕ) (premise : A → Bool) (wanted : A → List ValType) → PushesValid cx (row_operator (lookups_row o (allocated_reference cx i) (λ a t. plain_row_if (premise a) (wanted a) (t ∷ []))))
-  made_pushed o i premise wanted = lookups_valid cx laws o (allocated_reference cx i) (λ a t. plain_row_if (premise a) (wanted a) (t ∷ [])) (λ a t e k. plain_valid cx laws _ _ _ _ (t ∷ []) _ (λ p. (allocated_valid i t k, tt)))
+  made_pushed : {A : Type 0} (o : Option A) (i : ℕ) (premise : A → Bool) (expected : A → List ValType) → PushesValid cx (row_operator (lookups_row o (allocated_reference cx i) (λ a t. plain_row_if (premise a) (expected a) (t ∷ []))))
+  made_pushed o i premise expected = lookups_valid cx laws o (allocated_reference cx i) (λ a t. plain_row_if (premise a) (expected a) (t ∷ [])) (λ a t e k. plain_valid cx laws _ _ _ _ (t ∷ []) _ (λ p. (allocated_valid i t k, tt)))
 
   -- a struct of this type, where it has no descriptor
   abbrev undescribed : ℕ → Option (List FieldType)
   undescribed i = guard (is_none (descriptor_at cx.of_module i)) (struct_type cx i)
 
   -- a row that reads a field
-  value_pushed : (o : Option FieldType) (p : Option ValType) (premise : FieldType → Bool) (wanted : ValType → List ValType) → ((f : FieldType) → o ≡ Some f → Valid cx.of_module (field_value f)) → PushesValid cx (row_operator (lookups_row o p (λ f t. plain_row_if (premise f) (wanted t) (field_value f ∷ []))))
-  value_pushed o p premise wanted v = lookups_valid cx laws o p (λ f t. plain_row_if (premise f) (wanted t) (field_value f ∷ [])) (λ f t e k. plain_valid cx laws _ _ _ _ (field_value f ∷ []) _ (λ q. (v f e, tt)))
+  value_pushed : (o : Option FieldType) (p : Option ValType) (premise : FieldType → Bool) (expected : ValType → List ValType) → ((f : FieldType) → o ≡ Some f → Valid cx.of_module (field_value f)) → PushesValid cx (row_operator (lookups_row o p (λ f t. plain_row_if (premise f) (expected t) (field_value f ∷ []))))
+  value_pushed o p premise expected v = lookups_valid cx laws o p (λ f t. plain_row_if (premise f) (expected t) (field_value f ∷ [])) (λ f t e k. plain_valid cx laws _ _ _ _ (field_value f ∷ []) _ (λ q. (v f e, tt)))
 
   -- a row that pushes nothing
-  nothing_left : (o : Option FieldType) (p : Option ValType) (premise : FieldType → Bool) (wanted : FieldType → ValType → List ValType) → PushesValid cx (row_operator (lookups_row o p (λ f t. plain_row_if (premise f) (wanted f t) [])))
-  nothing_left o p premise wanted = lookups_valid cx laws o p (λ f t. plain_row_if (premise f) (wanted f t) []) (λ f t e k. plain_valid cx laws _ _ _ _ [] _ (λ q. tt))
+  nothing_left : (o : Option FieldType) (p : Option ValType) (premise : FieldType → Bool) (expected : FieldType → ValType → List ValType) → PushesValid cx (row_operator (lookups_row o p (λ f t. plain_row_if (premise f) (expected f t) [])))
+  nothing_left o p premise expected = lookups_valid cx laws o p (λ f t. plain_row_if (premise f) (expected f t) []) (λ f t e k. plain_valid cx laws _ _ _ _ [] _ (λ q. tt))
 
   pub struct_valid : (op : StructOp) → PushesValid cx (row_operator (struct_row cx op))
   struct_valid (StructNew i) = made_pushed (undescribed i) i _ _

@@ -60,8 +60,8 @@ module _ (cx : Context) (laws : IsLawful cx.of_module) where
   abbrev GivesValid : Row → Type 0
   GivesValid r = (found pushed : List MaybeType) → r.premise ≡ true → pushed_for cx r.type found ≡ Some pushed → AllByRecursion (IsValidOperand cx.of_module) pushed
 
-  plain_gives : (premise : Bool) (wanted push : List ValType) → AllValid cx.of_module push → (found pushed : List MaybeType) → premise ≡ true → pushed_for cx (Plain wanted [] push) found ≡ Some pushed → AllByRecursion (IsValidOperand cx.of_module) pushed
-  plain_gives premise wanted push v found pushed p g =
+  plain_gives : (premise : Bool) (expected push : List ValType) → AllValid cx.of_module push → (found pushed : List MaybeType) → premise ≡ true → pushed_for cx (Plain expected [] push) found ≡ Some pushed → AllByRecursion (IsValidOperand cx.of_module) pushed
+  plain_gives premise expected push v found pushed p g =
       subst (AllByRecursion (IsValidOperand cx.of_module)) (some_injective _ _ (guard_some _ _ _ g).1) (all_known cx.of_module push v)
 
   lookup_gives : {A : Type 0} (o : Option A) (row : A → Row) → ((x : A) → o ≡ Some x → GivesValid (row x)) → GivesValid (lookup_row o row)
@@ -71,10 +71,10 @@ module _ (cx : Context) (laws : IsLawful cx.of_module) where
   lookups_give : {A B : Type 0} (o : Option A) (p : Option B) (row : A → B → Row) → ((x : A) (y : B) → o ≡ Some x → p ≡ Some y → GivesValid (row x y)) → GivesValid (lookups_row o p row)
   lookups_give o p row h = lookup_gives o _ (λ x e. lookup_gives p (row x) (λ y k. h x y e k))
 
-  resuming_gives : (hs : List Head) (wanted : Signature → Option (List ValType)) (i : ℕ) (handlers : List Handle) → GivesValid (resuming_row cx hs wanted i handlers)
-  resuming_gives hs wanted i handlers =
+  resuming_gives : (hs : List Head) (expected : Signature → Option (List ValType)) (i : ℕ) (handlers : List Handle) → GivesValid (resuming_row cx hs expected i handlers)
+  resuming_gives hs expected i handlers =
       lookups_give (continuation_signature cx i) (type_reference cx nullable_reference i) _
-      (λ f t e k. lookups_give (wanted f) (all_clauses cx hs f handlers) _ (λ ts clauses w c. plain_gives _ (ts ++ t ∷ []) f.results (continuation_valid i f e).1))
+      (λ f t e k. lookups_give (expected f) (all_clauses cx hs f handlers) _ (λ ts clauses w c. plain_gives _ (ts ++ t ∷ []) f.results (continuation_valid i f e).1))
 
   row_gives : (hs : List Head) (op : ContinuationOp) → GivesValid (continuation_row cx hs op)
   row_gives hs (ContNew i) =

@@ -57,8 +57,8 @@ may_return cx hs results =
 
 -- a call whose results the body returns: they are carried to the outermost label
 abbrev pub tail_call_row : Context → List Head → List ValType → List ValType → Row
-tail_call_row cx hs wanted results =
-    record (ending_row_if (may_return cx hs results) wanted) {
+tail_call_row cx hs expected results =
+    record (ending_row_if (may_return cx hs results) expected) {
       targets = record { depth = pred (length hs); carried = λ found. results } ∷ [];
     }
 

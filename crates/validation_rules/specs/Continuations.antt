@@ -129,16 +129,16 @@ suspend_row cx tag = lookup_row (cx.of_module.tag_at tag) (λ s. plain_row s.par
 
 -- to what these operands and a continuation that gives f's results leave, or to the labels of its handlers
 abbrev pub resumed_row : Context → List Head → Signature → List ValType → ValType → List Clause → Row
-resumed_row cx hs f wanted t clauses =
-    record (plain_row_if (clauses_fit cx hs clauses) (wanted ++ t ∷ []) f.results) {
+resumed_row cx hs f expected t clauses =
+    record (plain_row_if (clauses_fit cx hs clauses) (expected ++ t ∷ []) f.results) {
       targets = map clause_target clauses;
     }
 
 -- a continuation of the type at this index, above what it is resumed with
 abbrev pub resuming_row : Context → List Head → (Signature → Option (List ValType)) → ℕ → List Handle → Row
-resuming_row cx hs wanted i handlers =
+resuming_row cx hs expected i handlers =
     lookups_row (continuation_signature cx i) (type_reference cx nullable_reference i)
-    (λ f t. lookups_row (wanted f) (all_clauses cx hs f handlers)
+    (λ f t. lookups_row (expected f) (all_clauses cx hs f handlers)
     (λ ts clauses. resumed_row cx hs f ts t clauses))
 
 abbrev pub resume_row : Context → List Head → ℕ → List Handle → Row

@@ -72,11 +72,12 @@ fit_under cx test _ _ = false
 
 abbrev pub tested_pushes :
     Context → (MaybeType → Bool) → List ValType → List ValType → List MaybeType → Option (List MaybeType)
-tested_pushes cx test wanted pushed found = guard (fit_under cx test wanted found) (Some (map Known pushed))
+tested_pushes cx test expected pushed found =
+    guard (fit_under cx test expected found) (Some (map Known pushed))
 
 abbrev pub tested_row_if : Bool → Context → (MaybeType → Bool) → List ValType → List ValType → Row
-tested_row_if premise cx test wanted pushed =
-    looking_row_if premise (suc (length wanted)) (tested_pushes cx test wanted pushed)
+tested_row_if premise cx test expected pushed =
+    looking_row_if premise (suc (length expected)) (tested_pushes cx test expected pushed)
 
 -- an operand whose type is known lies below this one
 abbrev pub is_below_if_known : ModuleContext → ValType → MaybeType → Bool

@@ -32,11 +32,11 @@ abbrev pub frame_after_pops : Context → List ValType → Frame → Option Fram
 frame_after_pops cx [] f = Some f
 frame_after_pops cx (w ∷ ws) f = option_and_then (frame_after_pops cx ws) (frame_after_pop cx w f)
 
--- One at a time from the top, or taken whole: the pops of a row's wanted list, whose last type lies on
+-- One at a time from the top, or taken whole: the pops of a row's expected list, whose last type lies on
 -- top, pass exactly where what is found there fits it, and leave what lies below.
 abbrev pub PopsAreWhole : Context → Type 0
 PopsAreWhole cx =
-    (wanted : List ValType) (f : Frame) →
-    frame_after_pops cx (reverse wanted) f
-    ≡ guard (all_fit cx (operands_found (length wanted) f) wanted)
-    (Some (record f { operands = operands_under (length wanted) f }))
+    (expected : List ValType) (f : Frame) →
+    frame_after_pops cx (reverse expected) f
+    ≡ guard (all_fit cx (operands_found (length expected) f) expected)
+    (Some (record f { operands = operands_under (length expected) f }))

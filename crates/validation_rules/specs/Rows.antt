@@ -55,11 +55,11 @@ pub data Form : Type 0 where
   Delegates : Form
 
 -- What an operator wants and pushes (Specification, "Validation: Types", instruction types). A plain
--- row has the wanted types, the last on top, more lists that the same operands have to fit
+-- row has the expected types, the last on top, more lists that the same operands have to fit
 -- (`br_table`), and the pushed types. A looking row takes so many operands, and says which pass and
 -- what is pushed for them.
 pub data InstructionType : Type 0 where
-  Plain : (wanted : List ValType) (also : List (List ValType)) (pushed : List ValType) → InstructionType
+  Plain : (expected : List ValType) (also : List (List ValType)) (pushed : List ValType) → InstructionType
   Looks : (count : ℕ) (gives : List MaybeType → Option (List MaybeType)) → InstructionType
 
 -- a label that the operator may branch to, counted from the innermost, and the types that the
@@ -94,9 +94,9 @@ pub record Operator : Type 0 where
   pub row : List Head → Row
 
 -- how many operands it takes
-abbrev pub wanted_count : InstructionType → ℕ
-wanted_count (Plain wanted also pushed) = length wanted
-wanted_count (Looks n gives) = n
+abbrev pub expected_count : InstructionType → ℕ
+expected_count (Plain expected also pushed) = length expected
+expected_count (Looks n gives) = n
 
 -- the found operands, taken whole, fit each of the lists
 abbrev pub all_fit_each : Context → List MaybeType → List (List ValType) → Bool
@@ -109,8 +109,8 @@ guard false x = None
 
 -- what is pushed for the found operands, if they pass
 abbrev pub pushed_for : Context → InstructionType → List MaybeType → Option (List MaybeType)
-pushed_for cx (Plain wanted also pushed) found =
-    guard (all_fit_each cx found (wanted ∷ also)) (Some (map Known pushed))
+pushed_for cx (Plain expected also pushed) found =
+    guard (all_fit_each cx found (expected ∷ also)) (Some (map Known pushed))
 pushed_for cx (Looks n looked) found = looked found
 
 -- an instruction, and not one of the pseudo-instructions that delimit a block (Specification,

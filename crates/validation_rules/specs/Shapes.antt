@@ -7,13 +7,13 @@ use Rattle.validation_rules.specs.Context.{ValType, I32, I64, Context}
 use Rattle.validation_rules.specs.Fits.{MaybeType}
 use Rattle.validation_rules.specs.Rows.{Head, Form, Stays, Plain, Looks, Row, Operator}
 
--- wanted and pushed types, where the premise holds; it neither reaches a label nor ends the live part
+-- expected and pushed types, where the premise holds; it neither reaches a label nor ends the live part
 abbrev pub plain_row_if : Bool → List ValType → List ValType → Row
-plain_row_if premise wanted pushed =
+plain_row_if premise expected pushed =
     record {
       premise = premise;
       reads = None;
-      type = Plain wanted [] pushed;
+      type = Plain expected [] pushed;
       sets = None;
       targets = [];
       clauses = [];
@@ -22,7 +22,7 @@ plain_row_if premise wanted pushed =
 
 -- one without a premise
 abbrev pub plain_row : List ValType → List ValType → Row
-plain_row wanted pushed = plain_row_if true wanted pushed
+plain_row expected pushed = plain_row_if true expected pushed
 
 -- a row that never holds
 abbrev pub never_row : Row
@@ -39,10 +39,10 @@ lookups_row x y row = lookup_row x (λ a. lookup_row y (row a))
 
 -- it ends the live part of its frame
 abbrev pub ending_row_if : Bool → List ValType → Row
-ending_row_if premise wanted = record (plain_row_if premise wanted []) { ends_live = true }
+ending_row_if premise expected = record (plain_row_if premise expected []) { ends_live = true }
 
 abbrev pub ending_row : List ValType → Row
-ending_row wanted = ending_row_if true wanted
+ending_row expected = ending_row_if true expected
 
 -- so many operands, and what is pushed for those found
 abbrev pub looking_row_if : Bool → ℕ → (List MaybeType → Option (List MaybeType)) → Row

@@ -67,13 +67,13 @@ is_read (GetPacked sign) = true
 is_read _ = false
 
 -- what it takes, of the values that are held: one to be written, and before it one to be compared with
-abbrev pub wanted_by : FieldAccess → ValType → List ValType
-wanted_by (Whole (Value Get)) t = []
-wanted_by (Whole (Value Set)) t = t ∷ []
-wanted_by (Whole (Value Xchg)) t = t ∷ []
-wanted_by (Whole (Value Cmpxchg)) t = t ∷ t ∷ []
-wanted_by (Whole (Rmw op)) t = t ∷ []
-wanted_by (GetPacked sign) t = []
+abbrev pub expected_by : FieldAccess → ValType → List ValType
+expected_by (Whole (Value Get)) t = []
+expected_by (Whole (Value Set)) t = t ∷ []
+expected_by (Whole (Value Xchg)) t = t ∷ []
+expected_by (Whole (Value Cmpxchg)) t = t ∷ t ∷ []
+expected_by (Whole (Rmw op)) t = t ∷ []
+expected_by (GetPacked sign) t = []
 
 -- what it gives: the value that was held
 abbrev pub given_by : FieldAccess → ValType → List ValType
@@ -89,7 +89,7 @@ is_accessible md shared access f =
 abbrev pub place_row : Context → Bool → FieldAccess → List ValType → FieldType → Row
 place_row cx shared access place f =
     plain_row_if (is_accessible cx.of_module shared access f)
-    (place ++ wanted_by access (field_value f)) (given_by access (field_value f))
+    (place ++ expected_by access (field_value f)) (given_by access (field_value f))
 
 -- ---- places
 

@@ -12,7 +12,7 @@ use Rattle.validation_rules.specs.Fits.{MaybeType, Bottom, Known, all_fit}
 use Rattle.validation_rules.specs.Rows.{Head, params, results, label_types, body_head}
 use Rattle.validation_rules.specs.Rows.{FrameKind, Else, is_if, is_try, may_catch, catch_kind}
 use Rattle.validation_rules.specs.Rows.{Form, Stays, Opens, BeginsElse, BeginsCatch, Ends, Delegates}
-use Rattle.validation_rules.specs.Rows.{Operator, Row, Clause, wanted_count, pushed_for, guard, is_instruction}
+use Rattle.validation_rules.specs.Rows.{Operator, Row, Clause, expected_count, pushed_for, guard, is_instruction}
 
 -- ---- states
 
@@ -109,7 +109,7 @@ frame_with types f = record f { operands = stack_with types f.operands }
 
 -- the frame without the operands that the operator takes
 abbrev pub frame_under : Row → Frame → Frame
-frame_under r f = record f { operands = operands_under (wanted_count r.type) f }
+frame_under r f = record f { operands = operands_under (expected_count r.type) f }
 
 -- an operator that ends the live part leaves no operand (unreachable of the algorithm)
 abbrev pub operands_after : Bool → List MaybeType → List MaybeType → List MaybeType
@@ -120,7 +120,7 @@ abbrev pub frame_after : Context → Row → List ℕ → List MaybeType → Fra
 frame_after cx r set pushed f =
     record {
       head = f.head;
-      operands = operands_after r.ends_live (operands_under (wanted_count r.type) f) pushed;
+      operands = operands_after r.ends_live (operands_under (expected_count r.type) f) pushed;
       dead = f.dead || r.ends_live;
       first_set = first_set_after cx set r.sets f.first_set;
     }
@@ -143,7 +143,7 @@ clauses_fit cx hs clauses = list_all (clause_fits cx hs) clauses
 abbrev pub pushed_by_row : Context → Row → List Head → List ℕ → Frame → Option (List MaybeType)
 pushed_by_row cx r hs set f =
     guard (r.premise && (clauses_fit cx hs r.clauses && is_read_local_set cx set r.reads))
-    (pushed_for cx r.type (operands_found (wanted_count r.type) f))
+    (pushed_for cx r.type (operands_found (expected_count r.type) f))
 
 -- the frame's operands are its results, and nothing is left below them (pop_ctrl of the algorithm)
 abbrev pub may_close : Context → Frame → Bool

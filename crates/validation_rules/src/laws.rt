@@ -8,7 +8,7 @@ ghost use Rattle.validation_rules.specs.Valid.{RowsKeepValid};
 
 use validate_resources::WasmModuleResources;
 
-/// Pops are the row: popping a wanted list one operand at a time, from the top, passes exactly where
+/// Pops are the row: popping an expected list one operand at a time, from the top, passes exactly where
 /// the list taken whole fits the operands that are found, those of a dead frame being padded, and it
 /// leaves what lies below them.
 pub fn pops_law()

@@ -18,13 +18,13 @@ returns-in_err-find_same_results g c =
 pub returns-in_err-find_operands : goal.returns-in_err-find_operands
 returns-in_err-find_operands g c =
     let md = g.R.WasmModuleResources.context c.args.resources.now in
-    let wanted = c.params.result.now in
-    let unfit = fits_now md wanted c.args.stacks.now.body false c.in_err-find_operands.ensures.unfit in
-    unfit_unmoved _ _ c.args.stacks.now c.requires.open_frame (λ cx hs. return_call_row cx hs c.args.function_index) wanted c.results.result.now (search rules) _ (search rules) unfit
+    let expected = c.params.result.now in
+    let unfit = fits_now md expected c.args.stacks.now.body false c.in_err-find_operands.ensures.unfit in
+    unfit_unmoved _ _ c.args.stacks.now c.requires.open_frame (λ cx hs. return_call_row cx hs c.args.function_index) expected c.results.result.now (search rules) _ (search rules) unfit
 
 pub returns : goal.returns
 returns g c =
     let md = g.R.WasmModuleResources.context c.args.resources.now in
-    let wanted = c.params.result.now in
-    let fit = fits_now md wanted c.args.stacks.now.body true c.in_ok-find_operands.ensures.fit in
-    tail_moves _ _ c.args.stacks.now c.requires.open_frame (λ cx hs. return_call_row cx hs c.args.function_index) wanted c.results.result.now (search rules) _ c.in_ok-find_same_results.ensures.below fit c.requires.valid c.end_live.result c.end_live.ensures.told c.end_live.ensures.exact
+    let expected = c.params.result.now in
+    let fit = fits_now md expected c.args.stacks.now.body true c.in_ok-find_operands.ensures.fit in
+    tail_moves _ _ c.args.stacks.now c.requires.open_frame (λ cx hs. return_call_row cx hs c.args.function_index) expected c.results.result.now (search rules) _ c.in_ok-find_same_results.ensures.below fit c.requires.valid c.end_live.result c.end_live.ensures.told c.end_live.ensures.exact

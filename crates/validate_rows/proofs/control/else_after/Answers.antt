@@ -12,7 +12,7 @@ use Rattle.validate_shapes.proofs.Moves.{unmoved}
 use Rattle.validate_shapes.proofs.PartMoves.{begun_moves, begun_whole}
 use Rattle.validate_shapes.proofs.Parts.{body_with_part, params_of, else_begins, part_none, part_of_another, part_passes}
 use Rattle.validate_rows.proofs.Ends.{results_as}
-use Rattle.validate_rows.proofs.control.else_after.Given.{Over}
+use Rattle.validate_rows.proofs.control.else_after.Pushed.{Over}
 use Rattle.validate_rows.proofs.control.else_after.Goals.{After-find_results}
 use Rattle.validate_rows.proofs.control.else_after.Goals as goal
 
@@ -21,9 +21,9 @@ find_results-requires-clause-results g c =
     let md = g.R.WasmModuleResources.context c.args.resources.now in
     λ f e. results_as md c.args.stacks.now.body f c.args.kind c.args.block_type (c.requires.frame f e) c.args.results.now c.requires.results
 
-pub returns-in_err-taken : goal.returns-in_err-taken
-returns-in_err-taken g c =
-    let none = part_none BeginsElse is_if Else params_of else_begins (g.R.WasmModuleResources.context c.args.resources.now) c.args.stacks.now.body c.requires.visit.open_frame c.in_err-taken.ensures.stays in
+pub returns-in_err-popped : goal.returns-in_err-popped
+returns-in_err-popped g c =
+    let none = part_none BeginsElse is_if Else params_of else_begins (g.R.WasmModuleResources.context c.args.resources.now) c.args.stacks.now.body c.requires.visit.open_frame c.in_err-popped.ensures.stays in
     unmoved _ _ _ _ _ _ (search rules) refl (search (rules, none))
 
 module _ (g : Over) (c : After-find_results g) where
@@ -58,6 +58,6 @@ returns g c =
     begun_whole Else bt ps left
     ∙ ap (λ ts. body_with_part Else bt ts left) c.params-params.ensures
     ∙ ap (λ b. body_with_part Else b (block_signature (md g at) b).params left) (sym (is g at).1) in
-    let step = part_passes BeginsElse is_if Else params_of else_begins (md g at) v (there g at).0 (there g at).1 left begun c.in_ok-taken.ensures.closes part whole in
+    let step = part_passes BeginsElse is_if Else params_of else_begins (md g at) v (there g at).0 (there g at).1 left begun c.in_ok-popped.ensures.closes part whole in
     begun_moves (md g at) _ _ c.args.stacks.now _ c.requires.visit.open_frame laws c.requires.visit.valid Else bt ps (λ f e. (c.requires.frame f e).1) (takes_valid (md g at) v.shared bt ps laws block c.params-params.ensures)
     step c.reopen_with.result c.reopen_with.ensures.told c.reopen_with.ensures.exact

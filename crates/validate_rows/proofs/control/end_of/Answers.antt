@@ -12,7 +12,7 @@ use Rattle.validate_shapes.proofs.Moves.{unmoved}
 use Rattle.validate_shapes.proofs.PartMoves.{closed_moves}
 use Rattle.validate_shapes.proofs.Rows.{end_none, end_refused_if, end_passes}
 use Rattle.validate_rows.proofs.Ends.{missing_fits, fits_as, results_as}
-use Rattle.validate_rows.proofs.control.end_of.Given.{Over}
+use Rattle.validate_rows.proofs.control.end_of.Pushed.{Over}
 use Rattle.validate_rows.proofs.control.end_of.Goals.{After-find_results, then-not-may_lack_else+in_ok-find_missing_else, else-not-may_lack_else}
 use Rattle.validate_rows.proofs.control.end_of.Goals as goal
 
@@ -21,9 +21,9 @@ find_results-requires-clause-results g c =
     let md = g.R.WasmModuleResources.context c.args.resources.now in
     λ f e. results_as md c.args.stacks.now.body f c.args.kind c.args.block_type (c.requires.frame f e) c.args.results.now c.requires.results
 
-pub returns-in_err-taken : goal.returns-in_err-taken
-returns-in_err-taken g c =
-    let none = end_none (g.R.WasmModuleResources.context c.args.resources.now) c.args.stacks.now.body c.requires.visit.open_frame c.in_err-taken.ensures.stays in
+pub returns-in_err-popped : goal.returns-in_err-popped
+returns-in_err-popped g c =
+    let none = end_none (g.R.WasmModuleResources.context c.args.resources.now) c.args.stacks.now.body c.requires.visit.open_frame c.in_err-popped.ensures.stays in
     unmoved _ _ _ _ _ _ (search rules) refl (search (rules, none))
 
 module _ (g : Over) (c : After-find_results g) where
@@ -71,7 +71,7 @@ returns g c =
       | then-not-may_lack_else+in_ok-find_missing_else w ↦ missing_fits cx c.args.kind c.args.block_type rs true (c.may_lack_else.ensures.asked w.if-not-may_lack_else.true) c.requires.results (w.in_ok-find_missing_else.ensures.fits cx refl)
       | else-not-may_lack_else w ↦ c.may_lack_else.ensures.fits w.if-not-may_lack_else.false cx
     ] in
-    let step = end_passes (md g at) v (there g at).0 (there g at).1 left (body_pushed_each rs left) c.in_ok-taken.ensures.closes (fits_as (md g at) v (there g at).0 c.args.kind c.args.block_type (is g at) ∙ fits) (ap (λ ts. body_pushed_each ts left) (same g at)) in
+    let step = end_passes (md g at) v (there g at).0 (there g at).1 left (body_pushed_each rs left) c.in_ok-popped.ensures.closes (fits_as (md g at) v (there g at).0 c.args.kind c.args.block_type (is g at) ∙ fits) (ap (λ ts. body_pushed_each ts left) (same g at)) in
     closed_moves (md g at) _ _ c.args.stacks.now _ c.requires.visit.open_frame (g.met.R.WasmModuleResources.lawful c.args.resources.now) c.requires.visit.valid rs
     (λ f e. results_as (md g at) v f c.args.kind c.args.block_type (c.requires.frame f e) rs c.requires.results)
     step c.close.result c.close.ensures.told c.close.ensures.exact

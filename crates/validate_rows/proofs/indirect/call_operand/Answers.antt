@@ -20,7 +20,7 @@ returns-in_err-func_type g c = moves_barred _ _ c.args.stacks.now (λ cx hs. cal
 pub returns : goal.returns
 returns g c =
     let md = g.R.WasmModuleResources.context c.args.resources.now in
-    let wanted = c.params.result.now ++ c.args.names ∷ [] in
-    let given = c.results.result.now in
-    let moved = exchange_moves md _ (λ cx. row_operator (plain_row wanted given)) c.args.stacks.now _ wanted given (plain_is md c.args.stacks.now.body wanted given c.requires.visit.open_frame) (search rules) c.requires.visit.valid _ c.exchange_under.ensures in
-    moves_found _ _ c.args.stacks.now (λ cx hs. call_operand_row cx (Some c.args.names) c.args.type_index) _ (λ cx hs. plain_row wanted given) _ (search rules) moved
+    let expected = c.params.result.now ++ c.args.names ∷ [] in
+    let pushed = c.results.result.now in
+    let moved = exchange_moves md _ (λ cx. row_operator (plain_row expected pushed)) c.args.stacks.now _ expected pushed (plain_is md c.args.stacks.now.body expected pushed c.requires.visit.open_frame) (search rules) c.requires.visit.valid _ c.exchange_under.ensures in
+    moves_found _ _ c.args.stacks.now (λ cx hs. call_operand_row cx (Some c.args.names) c.args.type_index) _ (λ cx hs. plain_row expected pushed) _ (search rules) moved

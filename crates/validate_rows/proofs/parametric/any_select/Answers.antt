@@ -18,7 +18,7 @@ use Rattle.validate_stacks.proofs.Validity.{kept_on, popped_valid, popped_kept, 
 use Rattle.validate_stacks.proofs.Whole.{popped_next, popped_none}
 use Rattle.validate_shapes.proofs.Moves.{unmoved, made_moves}
 use Rattle.validate_rows.proofs.SelectSteps.{test_refused, upper_missing, lower_missing, both_found, found_valid, selected_one}
-use Rattle.validate_rows.proofs.parametric.any_select.Given.{Over}
+use Rattle.validate_rows.proofs.parametric.any_select.Pushed.{Over}
 use Rattle.validate_rows.proofs.parametric.any_select.Goals.{Start, In_ok-find_operands, In_ok-lower}
 use Rattle.validate_rows.proofs.parametric.any_select.Goals as goal
 
@@ -102,8 +102,8 @@ returns g c =
     let w_valid = popped_valid m u u_valid in
     let upper = found_valid m u c.in_ok-upper.upper.now u_valid (found_one v ∙ c.in_ok-upper.ensures.found) in
     let lower = found_valid m w c.in_ok-lower.lower.now w_valid (found_two v ∙ c.in_ok-lower.ensures.found) in
-    let given = selected_one c.in_ok-lower.lower.now c.in_ok-upper.upper.now t (IsValidOperand m) lower upper c.in_ok-ty.ensures.given in
+    let pushed = selected_one c.in_ok-lower.lower.now c.in_ok-upper.upper.now t (IsValidOperand m) lower upper c.in_ok-ty.ensures.pushed in
     let whole : body_dropped c.min.result v ≡ x = sym (dropped_within 3 c.min.result v (omega (arith, c.min.ensures, c.own_len-own.ensures))) ∙ (sym (dropped_next 2 v) ∙ ap body_popped (below_two v)) in
     let moved = subst (λ (y : BodyState). MatchResult c.replace.result (λ _. c.replace.new.self.body ≡ body_pushed t y) (λ _. c.replace.new.self ≡ c.args.stacks.now)) whole c.replace.ensures.exact in
-    made_moves m _ _ c.args.stacks.now _ (body_pushed t x) (selects g at.In_ok-lower (Some t) c.in_ok-ty.ensures.given) (pushed_valid m t x given (popped_valid m w w_valid))
+    made_moves m _ _ c.args.stacks.now _ (body_pushed t x) (selects g at.In_ok-lower (Some t) c.in_ok-ty.ensures.pushed) (pushed_valid m t x pushed (popped_valid m w w_valid))
     (kept_on v x _ (kept_on v w x (kept_on v u w (popped_kept v) (popped_kept u)) (popped_kept w)) (pushed_kept t x)) c.replace.result c.replace.ensures.told moved

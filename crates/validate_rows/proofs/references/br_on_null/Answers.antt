@@ -20,7 +20,7 @@ use Rattle.validate_shapes.proofs.BranchSteps.{label_there, no_label, label_vali
 use Rattle.validate_shapes.proofs.Moves.{unmoved, made_moves}
 use Rattle.validate_shapes.proofs.ReferenceSteps.{above_types, on_null_is, unreferenced, above_missing, above_there}
 use Rattle.validate_rows.proofs.Found.{reference_valid}
-use Rattle.validate_rows.proofs.references.br_on_null.Given.{Over}
+use Rattle.validate_rows.proofs.references.br_on_null.Pushed.{Over}
 use Rattle.validate_rows.proofs.references.br_on_null.Goals.{Start, After-label_types-types}
 use Rattle.validate_rows.proofs.references.br_on_null.Goals as goal
 
@@ -90,7 +90,7 @@ returns-in_err-find_operands g c =
     let v = c.args.stacks.now.body in
     let types = c.label_types-types.result.now in
     let missing = not_popped m types (below g at.Start) (dropped_open 1 v c.requires.open_frame) c.in_err-find_operands.ensures.unfit in
-    let none = branches_on g at.After-label_types-types ∙ above_missing m types v (below g at.Start) c.in_ok-reference.reference c.in_ok-reference.ensures.given (one_less g at.Start) missing in
+    let none = branches_on g at.After-label_types-types ∙ above_missing m types v (below g at.Start) c.in_ok-reference.reference c.in_ok-reference.ensures.pushed (one_less g at.Start) missing in
     unmoved _ _ _ _ _ _ (search rules) refl (search (rules, none))
 
 pub returns : goal.returns
@@ -104,7 +104,7 @@ returns g c =
     let w = body_dropped (length types) (below g at.Start) in
     let x = body_pushed_each types w in
     let passed = popped_dropped m types (below g at.Start) c.in_ok-find_operands.ensures.fit in
-    let step = branches_on g at.After-label_types-types ∙ above_there m types v (below g at.Start) t c.in_ok-reference.ensures.given (one_less g at.Start) w passed in
+    let step = branches_on g at.After-label_types-types ∙ above_there m types v (below g at.Start) t c.in_ok-reference.ensures.pushed (one_less g at.Start) w passed in
     let first_valid = subst (IsValidBody m) (sym (one_less g at.Start)) (popped_valid m v c.requires.valid) in
     let first_kept = subst (IsKept v) (sym (one_less g at.Start)) (popped_kept v) in
     let second = popped_each_kept m (reverse types) (below g at.Start) w passed in
@@ -112,5 +112,5 @@ returns g c =
     let whole : body_dropped c.min.result v ≡ w = sym (dropped_below (length types) 1 v ∙ dropped_within (1 + length types) c.min.result v (omega (arith, c.min.ensures, c.own_len-own.ensures))) in
     let moved = subst (λ (y : BodyState). MatchResult c.exchange_topped.result (λ _. c.exchange_topped.new.self.body ≡ body_pushed t (body_pushed_each types y)) (λ _. c.exchange_topped.new.self ≡ c.args.stacks.now)) whole c.exchange_topped.ensures.exact in
     let valid = third.1 (types_valid g at.After-label_types-types) (second.1 first_valid) in
-    made_moves m _ _ c.args.stacks.now _ (body_pushed t x) step (pushed_valid m t x (reference_valid m v t c.requires.valid c.in_ok-reference.ensures.given) valid)
+    made_moves m _ _ c.args.stacks.now _ (body_pushed t x) step (pushed_valid m t x (reference_valid m v t c.requires.valid c.in_ok-reference.ensures.pushed) valid)
     (kept_on v x _ (kept_on v w x (kept_on v (below g at.Start) w first_kept second.0) third.0) (pushed_kept t x)) c.exchange_topped.result c.exchange_topped.ensures.told moved

@@ -8,8 +8,8 @@ returns-in_err-found-clause-refused g c =
     let none = ap (option_and_then operand_without_null) c.in_err-found.ensures.missing in
     search (rules, none)
 
-pub returns-in-Some-clause-given : goal.returns-in-Some-clause-given
-returns-in-Some-clause-given g c = ap (option_and_then operand_without_null) c.in_ok-found.ensures.found ∙ sym c.without_null.ensures ∙ c.in-Some.is
+pub returns-in-Some-clause-pushed : goal.returns-in-Some-clause-pushed
+returns-in-Some-clause-pushed g c = ap (option_and_then operand_without_null) c.in_ok-found.ensures.found ∙ sym c.without_null.ensures ∙ c.in-Some.is
 
 pub returns-clause-refused : goal.returns-clause-refused
 returns-clause-refused g c = ap (option_and_then operand_without_null) c.in_ok-found.ensures.found ∙ sym c.without_null.ensures ∙ c.in_default.is

@@ -23,8 +23,8 @@ returns g c =
     let v = c.args.stacks.now.body in
     let u = body_popped v in
     let t = c.in_ok-reference.reference in
-    let step = above_is md v c.requires.open_frame true [] [] ∙ above_there md [] v u t c.in_ok-reference.ensures.given refl u (popped_none md u) in
+    let step = above_is md v c.requires.open_frame true [] [] ∙ above_there md [] v u t c.in_ok-reference.ensures.pushed refl u (popped_none md u) in
     let whole : body_dropped c.min.result v ≡ u = sym (dropped_within 1 c.min.result v (omega (arith, c.min.ensures, c.own_len-own.ensures))) ∙ (sym (dropped_next 0 v) ∙ ap body_popped (dropped_none v)) in
     let moved = subst (λ (x : BodyState). MatchResult c.replace.result (λ _. c.replace.new.self.body ≡ body_pushed t x) (λ _. c.replace.new.self ≡ c.args.stacks.now)) whole c.replace.ensures.exact in
-    let valid = reference_valid md v t c.requires.valid c.in_ok-reference.ensures.given in
+    let valid = reference_valid md v t c.requires.valid c.in_ok-reference.ensures.pushed in
     made_moves md _ _ c.args.stacks.now _ (body_pushed t u) step (pushed_valid md t u valid (popped_valid md v c.requires.valid)) (kept_on v u _ (popped_kept v) (pushed_kept t u)) c.replace.result c.replace.ensures.told moved

@@ -21,8 +21,8 @@ returns-in_err-find_set g c =
     let none = local_get_is md v c.args.local_index t c.in_ok-ty.ensures.found c.requires.open_frame ∙ ap (λ b. guard b (Some (body_pushed_each (t ∷ []) v))) c.in_err-find_set.ensures.unset in
     unmoved _ _ _ _ _ _ (search rules) refl (search (rules, none))
 
-pub constant-requires-clause-given : goal.constant-requires-clause-given
-constant-requires-clause-given g c = all_get (Valid (g.R.WasmModuleResources.context c.args.resources.now)) c.args.stacks.now.body.locals c.args.local_index c.in_ok-ty.field-0.now c.in_ok-ty.ensures.found c.requires.valid.locals_valid
+pub constant-requires-clause-pushed : goal.constant-requires-clause-pushed
+constant-requires-clause-pushed g c = all_get (Valid (g.R.WasmModuleResources.context c.args.resources.now)) c.args.stacks.now.body.locals c.args.local_index c.in_ok-ty.field-0.now c.in_ok-ty.ensures.found c.requires.valid.locals_valid
 
 pub returns : goal.returns
 returns g c =

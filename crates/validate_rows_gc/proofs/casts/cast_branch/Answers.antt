@@ -24,7 +24,7 @@ use Rattle.validate_shapes.proofs.Rows.{pushed_then}
 use Rattle.validate_rows_gc.specs.Casts.{branch_types, cast_types}
 use Rattle.validate_rows_gc.proofs.Below.{dropped_valid, unfit_below, moved_below}
 use Rattle.validate_rows_gc.proofs.CastBranches.{from_valid, carried_valid, left_valid, last_is_valid, barred_unlabelled, barred_at, branch_is}
-use Rattle.validate_rows_gc.proofs.casts.cast_branch.Given.{Over}
+use Rattle.validate_rows_gc.proofs.casts.cast_branch.Pushed.{Over}
 use Rattle.validate_rows_gc.proofs.casts.cast_branch.Goals.{Start, After-label_types-types, In_ok-others, After-types-cast}
 use Rattle.validate_rows_gc.proofs.casts.cast_branch.Goals as goal
 
@@ -104,14 +104,14 @@ module _ (g : Over) (c : After-types-cast g) where
   left_is_valid : Valid (md g first) (Ref types.left)
   left_is_valid = subst (λ (t : CastTypes). Valid (md g first) (Ref t.left)) (sym c.types-cast.ensures) (left_valid (cx g first) (laws g first) c.args.cast c.requires.from c.requires.to c.args.branch)
 
-  abbrev wanted : List ValType
-  wanted = c.in_ok-others.others.now ++ Ref types.from ∷ []
+  abbrev expected : List ValType
+  expected = c.in_ok-others.others.now ++ Ref types.from ∷ []
 
-  abbrev given : List ValType
-  given = c.in_ok-others.others.now ++ Ref types.left ∷ []
+  abbrev pushed : List ValType
+  pushed = c.in_ok-others.others.now ++ Ref types.left ∷ []
 
   -- what is carried lies below the last type
-  branches : (md g first).below (Ref types.carried) c.in_ok-others.last ≡ true → (whole : Context → Operator) → Steps g first whole (branch_types c.args.branch c.args.cast) → step_body (md g first) whole c.args.stacks.now.body ≡ option_map (λ u. body_pushed_each given u) (body_popped_each (md g first) (reverse wanted) (below g first))
+  branches : (md g first).below (Ref types.carried) c.in_ok-others.last ≡ true → (whole : Context → Operator) → Steps g first whole (branch_types c.args.branch c.args.cast) → step_body (md g first) whole c.args.stacks.now.body ≡ option_map (λ u. body_pushed_each pushed u) (body_popped_each (md g first) (reverse expected) (below g first))
   branches carried whole same =
       let at = goal.at.After-types-cast g c in
       by_types whole same
@@ -161,7 +161,7 @@ returns-in_err-find_under g c = λ whole same.
     let at = goal.at.returns-in_err-find_under g c in
     let typed = at.After-types-cast in
     let is = branches g typed c.in_ok-check_carried.ensures.passed whole same in
-    let none = unfit_below (md g at.Start) g.A.Refused.tells whole c.args.stacks.now c.args.stacks.now c.args.above (wanted g typed) (given g typed) is c.requires.visit.open_frame c.in_err-find_under.ensures.unfit in
+    let none = unfit_below (md g at.Start) g.A.Refused.tells whole c.args.stacks.now c.args.stacks.now c.args.above (expected g typed) (pushed g typed) is c.requires.visit.open_frame c.in_err-find_under.ensures.unfit in
     unmoved _ _ whole _ _ _ (search rules) refl (search (rules, none))
 
 pub returns : goal.returns
@@ -171,7 +171,7 @@ returns g c = λ whole same.
     let others = c.in_ok-others.others.now in
     let is = branches g typed c.in_ok-check_carried.ensures.passed whole same in
     let valid = all_both (Valid (md g at.Start)) others (Ref (types g typed).left ∷ []) (others_valid g at.In_ok-others) (left_is_valid g typed, tt) in
-    let pushed = sym (pushed_then others (Ref (types g typed).left ∷ []) (body_dropped c.min-taken.result c.args.stacks.now.body)) in
+    let pushed = sym (pushed_then others (Ref (types g typed).left ∷ []) (body_dropped c.min-popped.result c.args.stacks.now.body)) in
     let moved = subst (λ (u : BodyState). MatchResult c.exchange_topped.result (λ _. c.exchange_topped.new.self.body ≡ u) (λ _. c.exchange_topped.new.self ≡ c.args.stacks.now)) pushed c.exchange_topped.ensures.exact in
-    moved_below (md g at.Start) g.A.Refused.tells whole c.args.stacks.now _ c.args.above (wanted g typed) (given g typed) is c.in_ok-find_under.ensures.fit valid c.requires.visit.valid c.min-taken.result
-    (omega (arith, c.min-taken.ensures, c.own_len.ensures, length-append others (Ref (types g typed).from ∷ []))) c.exchange_topped.result c.exchange_topped.ensures.told moved
+    moved_below (md g at.Start) g.A.Refused.tells whole c.args.stacks.now _ c.args.above (expected g typed) (pushed g typed) is c.in_ok-find_under.ensures.fit valid c.requires.visit.valid c.min-popped.result
+    (omega (arith, c.min-popped.ensures, c.own_len.ensures, length-append others (Ref (types g typed).from ∷ []))) c.exchange_topped.result c.exchange_topped.ensures.told moved

@@ -8,7 +8,7 @@ use Rattle.validate_stacks.specs.Steps.{found_in_body}
 use Rattle.validate_stacks.proofs.PopRuns.{found_first}
 use Rattle.validate_rows_gc.specs.Descriptors.{found_descriptor}
 use Rattle.validate_rows_gc.proofs.DescriptorSteps.{is_there, not_there, another_descriptor, that_descriptor}
-use Rattle.validate_rows_gc.proofs.descriptors.find_descriptor.Given.{Over}
+use Rattle.validate_rows_gc.proofs.descriptors.find_descriptor.Pushed.{Over}
 use Rattle.validate_rows_gc.proofs.descriptors.find_descriptor.Goals.{In_ok-found}
 use Rattle.validate_rows_gc.proofs.descriptors.find_descriptor.Goals as goal
 
@@ -20,16 +20,16 @@ module _ (g : Over) (c : In_ok-found g) where
   asked_exact : found_descriptor cx c.args.exact c.args.descriptor (found_in_body c.args.stacks.now.body) ≡ (not c.args.exact || is_below_if_known cx.of_module (descriptor true c.args.descriptor) c.in_ok-found.field-0.now)
   asked_exact =
       let v = c.args.stacks.now.body in
-      let wanted = ap (λ (r : RefType). may_pop cx (found_in_body v) (Some (Ref r))) (sym c.concrete.ensures) in
-      that_descriptor cx c.args.exact c.args.descriptor (found_in_body v) c.in_ok-found.field-0.now (sym (found_first v) ∙ c.in_ok-found.ensures.found) (wanted ∙ is_there cx.of_module v (Ref c.concrete.result) c.in_ok-find_operands.ensures.fit)
+      let expected = ap (λ (r : RefType). may_pop cx (found_in_body v) (Some (Ref r))) (sym c.concrete.ensures) in
+      that_descriptor cx c.args.exact c.args.descriptor (found_in_body v) c.in_ok-found.field-0.now (sym (found_first v) ∙ c.in_ok-found.ensures.found) (expected ∙ is_there cx.of_module v (Ref c.concrete.result) c.in_ok-find_operands.ensures.fit)
 
 pub returns-in_err-find_operands-clause-refused : goal.returns-in_err-find_operands-clause-refused
 returns-in_err-find_operands-clause-refused g c =
     let md = g.R.WasmModuleResources.context c.args.resources.now in
     let v = c.args.stacks.now.body in
     let cx = body_context md v in
-    let wanted = ap (λ (r : RefType). may_pop cx (found_in_body v) (Some (Ref r))) (sym c.concrete.ensures) in
-    let other = another_descriptor cx c.args.exact c.args.descriptor (found_in_body v) (wanted ∙ not_there md v c.requires.state.open_frame (Ref c.concrete.result) c.in_err-find_operands.ensures.unfit) in
+    let expected = ap (λ (r : RefType). may_pop cx (found_in_body v) (Some (Ref r))) (sym c.concrete.ensures) in
+    let other = another_descriptor cx c.args.exact c.args.descriptor (found_in_body v) (expected ∙ not_there md v c.requires.state.open_frame (Ref c.concrete.result) c.in_err-find_operands.ensures.unfit) in
     search (rules, other)
 
 pub returns-in_err-found-clause-refused : goal.returns-in_err-found-clause-refused

@@ -2,7 +2,7 @@ use Rattle.std.proofs.Common.{rules, sym, ap, ◌∙◌}
 use Rattle.validation_rules.specs.Rows.{Row}
 use Rattle.validation_rules.specs.Operators.{plain_row_if}
 use Rattle.validation_rules.specs.Shared.{shared_row}
-use Rattle.validate_shapes.specs.Operands.{few_types, given_types, operands_row}
+use Rattle.validate_shapes.specs.Operands.{few_types, pushed_types, operands_row}
 use Rattle.validate_shapes.proofs.Moves.{moves_barred, moves_found}
 use Rattle.validate_rows_gc.proofs.places.access.Goals as goal
 
@@ -13,7 +13,7 @@ pub returns-then-access : goal.returns-then-access
 returns-then-access g c =
     let md = g.R.WasmModuleResources.context c.args.resources.now in
     let t = c.in_ok-access.access in
-    let found = c.in_ok-access.ensures.row ∙ (ap (λ b. plain_row_if b (few_types t.wanted) (given_types t.given)) c.if-access.true ∙ ap operands_row (sym c.few.ensures)) in
+    let found = c.in_ok-access.ensures.row ∙ (ap (λ b. plain_row_if b (few_types t.expected) (pushed_types t.pushed)) c.if-access.true ∙ ap operands_row (sym c.few.ensures)) in
     moves_found md _ c.args.stacks.now (λ cx hs. shared_row cx c.args.op) _ (λ cx hs. operands_row c.few.result) _ found c.exchange_operands.ensures
 
 pub returns-in_err-find_few : goal.returns-in_err-find_few

@@ -14,8 +14,8 @@ returns-in_err-find_operands-clause-refused g c =
     let md = g.R.WasmModuleResources.context c.args.resources.now in
     let v = c.args.stacks.now.body in
     let cx = body_context md v in
-    let wanted = ap (λ (r : RefType). may_pop cx (found_in_body v) (Some (Ref r))) (sym c.exact.ensures) in
-    let other = ap (λ q. found_new_descriptor cx q (found_in_body v)) (c.in_ok-descriptor.ensures.found ∙ c.in-Some.is) ∙ (wanted ∙ not_there md v c.requires.open_frame (Ref c.exact.result) c.in_err-find_operands.ensures.unfit) in
+    let expected = ap (λ (r : RefType). may_pop cx (found_in_body v) (Some (Ref r))) (sym c.exact.ensures) in
+    let other = ap (λ q. found_new_descriptor cx q (found_in_body v)) (c.in_ok-descriptor.ensures.found ∙ c.in-Some.is) ∙ (expected ∙ not_there md v c.requires.open_frame (Ref c.exact.result) c.in_err-find_operands.ensures.unfit) in
     search (rules, other)
 
 pub returns-clause-fits : goal.returns-clause-fits

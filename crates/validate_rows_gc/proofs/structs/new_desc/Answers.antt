@@ -15,11 +15,11 @@ use Rattle.validate_stacks.specs.Pops.{body_popped_each, body_pushed_each, has_o
 use Rattle.validate_stacks.specs.State.{body_context}
 use Rattle.validate_stacks.specs.Visits.{step_body}
 use Rattle.validate_stacks.proofs.MatchedOperands.{under_next}
-use Rattle.validate_stacks.proofs.Moves.{not_popped, taken}
+use Rattle.validate_stacks.proofs.Moves.{not_popped, popped}
 use Rattle.validate_shapes.proofs.LookupRows.{found_as}
 use Rattle.validate_shapes.proofs.Moves.{unmoved, moves_barred, exchange_moves, plain_is}
 use Rattle.validate_rows_gc.proofs.DescriptorSteps.{made_missing, described_as}
-use Rattle.validate_rows_gc.proofs.structs.new_desc.Given.{Over}
+use Rattle.validate_rows_gc.proofs.structs.new_desc.Pushed.{Over}
 use Rattle.validate_rows_gc.proofs.structs.new_desc.Goals.{In_ok-find_new_descriptor, After-as_slice-fields}
 use Rattle.validate_rows_gc.proofs.structs.new_desc.Goals as goal
 
@@ -47,13 +47,13 @@ module _ (g : Over) (c : After-as_slice-fields g) where
   abbrev values : List ValType
   values = unpacked_fields c.as_slice-fields.result.now
 
-  abbrev wanted : List ValType
-  wanted = values ++ descriptor g described ∷ []
+  abbrev expected : List ValType
+  expected = values ++ descriptor g described ∷ []
 
   values_valid : AllByRecursion (Valid (md g described)) values
   values_valid = subst (λ (fields : List FieldType). AllByRecursion (Valid (md g described)) (unpacked_fields fields)) (search rules) c.in_ok-struct_type.ensures.valid
 
-  makes : step_body (md g described) (λ x. row_operator (struct_new_desc_row x c.args.index)) c.args.stacks.now.body ≡ option_map (λ u. body_pushed_each (c.in_ok-made.made ∷ []) u) (body_popped_each (md g described) (reverse wanted) c.args.stacks.now.body)
+  makes : step_body (md g described) (λ x. row_operator (struct_new_desc_row x c.args.index)) c.args.stacks.now.body ≡ option_map (λ u. body_pushed_each (c.in_ok-made.made ∷ []) u) (body_popped_each (md g described) (reverse expected) c.args.stacks.now.body)
   makes =
       let v = c.args.stacks.now.body in
       let fields : c.in_ok-struct_type.struct_type.now ≡ c.as_slice-fields.result.now = search rules in
@@ -61,11 +61,11 @@ module _ (g : Over) (c : After-as_slice-fields g) where
       ∙ (ap (λ o. lookups_row o (allocated_reference (cx g described) c.args.index) (made_of g described)) c.in_ok-struct_type.ensures.found
       ∙ (ap (λ o. lookup_row o (made_of g described c.in_ok-struct_type.struct_type.now)) c.in_ok-made.ensures.found
       ∙ ap (λ (fs : List FieldType). made_of g described fs c.in_ok-made.made) fields)) in
-      sym (found_as (md g described) v (λ x hs. struct_new_desc_row x c.args.index) (λ x hs. plain_row wanted (c.in_ok-made.made ∷ [])) found)
-      ∙ plain_is (md g described) v wanted (c.in_ok-made.made ∷ []) c.requires.open_frame
+      sym (found_as (md g described) v (λ x hs. struct_new_desc_row x c.args.index) (λ x hs. plain_row expected (c.in_ok-made.made ∷ [])) found)
+      ∙ plain_is (md g described) v expected (c.in_ok-made.made ∷ []) c.requires.open_frame
 
   -- the values are looked for below the descriptor
-  fit_below : has_operands_fitting (cx g described) wanted c.args.stacks.now.body ≡ true && has_operands_fitting (cx g described) values (body_dropped 1 c.args.stacks.now.body)
+  fit_below : has_operands_fitting (cx g described) expected c.args.stacks.now.body ≡ true && has_operands_fitting (cx g described) values (body_dropped 1 c.args.stacks.now.body)
   fit_below =
       under_next (cx g described) values (descriptor g described) c.args.stacks.now.body
       ∙ ap (λ b. b && has_operands_fitting (cx g described) values (body_dropped 1 c.args.stacks.now.body)) c.in_ok-find_new_descriptor.ensures.fits
@@ -97,7 +97,7 @@ returns-in_err-find_fields g c =
     let at = goal.at.returns-in_err-find_fields g c in
     let m = md g at.In_ok-find_new_descriptor in
     let v = c.args.stacks.now.body in
-    let all = wanted g at.After-as_slice-fields in
+    let all = expected g at.After-as_slice-fields in
     let unfit = fit_below g at.After-as_slice-fields ∙ ap (λ b. true && b) c.in_err-find_fields.ensures.unfit in
     let none = makes g at.After-as_slice-fields ∙ ap (option_map (λ u. body_pushed_each (c.in_ok-made.made ∷ []) u)) (not_popped m all v c.requires.open_frame unfit) in
     unmoved _ _ _ _ _ _ (search rules) refl (search (rules, none))
@@ -107,8 +107,8 @@ returns g c =
     let at = goal.at.returns g c in
     let m = md g at.In_ok-find_new_descriptor in
     let v = c.args.stacks.now.body in
-    let all = wanted g at.After-as_slice-fields in
-    let given = c.in_ok-made.made ∷ [] in
+    let all = expected g at.After-as_slice-fields in
+    let pushed = c.in_ok-made.made ∷ [] in
     let fit = fit_below g at.After-as_slice-fields ∙ ap (λ b. true && b) c.in_ok-find_fields.ensures.fit in
-    exchange_moves m _ (λ x. row_operator (struct_new_desc_row x c.args.index)) c.args.stacks.now _ all given (makes g at.After-as_slice-fields) (c.in_ok-made.ensures.valid, tt) c.requires.valid _
-    (taken m _ all (body_pushed_each given) c.args.stacks.now _ c.min-taken.result c.exchange.result fit (omega (arith, c.min-taken.ensures, c.own_len.ensures, length-append (values g at.After-as_slice-fields) (descriptor g at.In_ok-find_new_descriptor ∷ []), length-map c.as_slice-fields.result.now field_value)) c.exchange.ensures.told c.exchange.ensures.exact)
+    exchange_moves m _ (λ x. row_operator (struct_new_desc_row x c.args.index)) c.args.stacks.now _ all pushed (makes g at.After-as_slice-fields) (c.in_ok-made.ensures.valid, tt) c.requires.valid _
+    (popped m _ all (body_pushed_each pushed) c.args.stacks.now _ c.min-popped.result c.exchange.result fit (omega (arith, c.min-popped.ensures, c.own_len.ensures, length-append (values g at.After-as_slice-fields) (descriptor g at.In_ok-find_new_descriptor ∷ []), length-map c.as_slice-fields.result.now field_value)) c.exchange.ensures.told c.exchange.ensures.exact)

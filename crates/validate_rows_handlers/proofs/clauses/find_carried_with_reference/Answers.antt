@@ -10,11 +10,11 @@ use Rattle.validation_rules.proofs.Pops.{and_false}
 use Rattle.validate_stacks.specs.State.{body_context}
 use Rattle.validate_shapes.proofs.BranchSteps.{label_there, label_valid}
 use Rattle.validate_shapes.proofs.CarriedTypes.{accepts_none, carried_at, fits_with_last, last_none, last_of_others, front_and_last}
-use Rattle.validate_rows_handlers.proofs.clauses.find_carried_with_reference.Given.{Over}
-use Rattle.validate_rows_handlers.proofs.clauses.find_carried_with_reference.Goals.{After-label_types-wanted, In-Some, Else-others-types}
+use Rattle.validate_rows_handlers.proofs.clauses.find_carried_with_reference.Pushed.{Over}
+use Rattle.validate_rows_handlers.proofs.clauses.find_carried_with_reference.Goals.{After-label_types-expected, In-Some, Else-others-types}
 use Rattle.validate_rows_handlers.proofs.clauses.find_carried_with_reference.Goals as goal
 
-module _ (g : Over) (c : After-label_types-wanted g) where
+module _ (g : Over) (c : After-label_types-expected g) where
   abbrev cx : Context
   cx = body_context (g.R.WasmModuleResources.context c.args.resources.now) c.args.stacks.now.body
 
@@ -25,24 +25,24 @@ module _ (g : Over) (c : After-label_types-wanted g) where
   abbrev accepts : Bool
   accepts = label_accepts cx (drop c.args.label_index (heads c.args.stacks.now.body.present.frames)) carried
 
-  accepts_as_wanted : accepts ≡ all_fit cx (map Known carried) c.label_types-wanted.result.now
-  accepts_as_wanted =
-      carried_at cx carried c.label_types-wanted.result.now (heads c.args.stacks.now.body.present.frames) c.args.label_index _ _ c.in_ok-block_type.ensures.found (c.label_types-wanted.ensures cx refl)
+  accepts_as_expected : accepts ≡ all_fit cx (map Known carried) c.label_types-expected.result.now
+  accepts_as_expected =
+      carried_at cx carried c.label_types-expected.result.now (heads c.args.stacks.now.body.present.frames) c.args.label_index _ _ c.in_ok-block_type.ensures.found (c.label_types-expected.ensures cx refl)
 
-  wanted_valid : AllByRecursion (Valid cx.of_module) c.label_types-wanted.result.now
-  wanted_valid =
+  expected_valid : AllByRecursion (Valid cx.of_module) c.label_types-expected.result.now
+  expected_valid =
       label_valid cx.of_module c.args.stacks.now.body c.args.label_index _ (g.met.R.WasmModuleResources.lawful c.args.resources.now) c.requires.state
-      (c.label_types-wanted.ensures cx refl ∙ sym (label_there cx (heads c.args.stacks.now.body.present.frames) c.args.label_index _ _ c.in_ok-block_type.ensures.found).1)
+      (c.label_types-expected.ensures cx refl ∙ sym (label_there cx (heads c.args.stacks.now.body.present.frames) c.args.label_index _ _ c.in_ok-block_type.ensures.found).1)
 
 module _ (g : Over) (c : In-Some g) where
-  abbrev wanted : After-label_types-wanted g
-  wanted = (goal.at.In-Some g c).After-label_types-wanted
+  abbrev expected : After-label_types-expected g
+  expected = (goal.at.In-Some g c).After-label_types-expected
 
-  accepts_as_split : accepts g wanted ≡ all_fit (cx g wanted) (map Known (carried g wanted)) (c.in-Some.others.now ++ c.in-Some.last.now ∷ [])
-  accepts_as_split = accepts_as_wanted g wanted ∙ ap (all_fit (cx g wanted) (map Known (carried g wanted))) c.in-Some.ensures.cases.0
+  accepts_as_split : accepts g expected ≡ all_fit (cx g expected) (map Known (carried g expected)) (c.in-Some.others.now ++ c.in-Some.last.now ∷ [])
+  accepts_as_split = accepts_as_expected g expected ∙ ap (all_fit (cx g expected) (map Known (carried g expected))) c.in-Some.ensures.cases.0
 
-  others_and_last_valid : AllByRecursion (Valid (cx g wanted).of_module) c.in-Some.others.now × Valid (cx g wanted).of_module c.in-Some.last.now
-  others_and_last_valid = front_and_last (Valid (cx g wanted).of_module) _ _ (subst (AllByRecursion (Valid (cx g wanted).of_module)) c.in-Some.ensures.cases.0 (wanted_valid g wanted))
+  others_and_last_valid : AllByRecursion (Valid (cx g expected).of_module) c.in-Some.others.now × Valid (cx g expected).of_module c.in-Some.last.now
+  others_and_last_valid = front_and_last (Valid (cx g expected).of_module) _ _ (subst (AllByRecursion (Valid (cx g expected).of_module)) c.in-Some.ensures.cases.0 (expected_valid g expected))
 
 -- as many types are carried as the label has
 module _ (g : Over) (c : Else-others-types g) where
@@ -50,9 +50,9 @@ module _ (g : Over) (c : Else-others-types g) where
   split = (goal.at.Else-others-types g c).In-Some
 
   abbrev context : Context
-  context = cx g (wanted g split)
+  context = cx g (expected g split)
 
-  accepts_both : accepts g (wanted g split) ≡ (all_fit context (map Known c.args.types.now) c.in-Some.others.now && context.of_module.below exception_reference c.in-Some.last.now)
+  accepts_both : accepts g (expected g split) ≡ (all_fit context (map Known c.args.types.now) c.in-Some.others.now && context.of_module.below exception_reference c.in-Some.last.now)
   accepts_both = accepts_as_split g split ∙ fits_with_last context c.args.types.now c.in-Some.others.now exception_reference c.in-Some.last.now (sym c.if-others-types.false)
 
 pub returns-in_err-block_type-clause-refused : goal.returns-in_err-block_type-clause-refused
@@ -62,16 +62,16 @@ returns-in_err-block_type-clause-refused g c =
 
 pub returns-in_default-clause-refused : goal.returns-in_default-clause-refused
 returns-in_default-clause-refused g c =
-    let at = (goal.at.returns-in_default-clause-refused g c).After-label_types-wanted in
-    accepts_as_wanted g at ∙ last_none (cx g at) _ _ _ c.in_default.ensures.cases
+    let at = (goal.at.returns-in_default-clause-refused g c).After-label_types-expected in
+    accepts_as_expected g at ∙ last_none (cx g at) _ _ _ c.in_default.ensures.cases
 
 pub returns-then-others-types-clause-refused : goal.returns-then-others-types-clause-refused
 returns-then-others-types-clause-refused g c =
     let at = (goal.at.returns-then-others-types-clause-refused g c).In-Some in
-    accepts_as_split g at ∙ last_of_others (cx g (wanted g at)) _ _ _ _ c.if-others-types.true
+    accepts_as_split g at ∙ last_of_others (cx g (expected g at)) _ _ _ _ c.if-others-types.true
 
-pub find_types-requires-clause-wanted : goal.find_types-requires-clause-wanted
-find_types-requires-clause-wanted g c = (others_and_last_valid g (goal.at.find_types-requires-clause-wanted g c).In-Some).0
+pub find_types-requires-clause-expected : goal.find_types-requires-clause-expected
+find_types-requires-clause-expected g c = (others_and_last_valid g (goal.at.find_types-requires-clause-expected g c).In-Some).0
 
 pub returns-in_err-find_types-clause-refused : goal.returns-in_err-find_types-clause-refused
 returns-in_err-find_types-clause-refused g c =

@@ -13,9 +13,9 @@ returns-then-not-is_subtype-clause-refused g c = λ cx e.
     let md = g.R.WasmModuleResources.context c.args.resources.now in
     let i = c.loop-index.index in
     let ts = c.args.types.now in
-    let us = c.args.wanted.now in
+    let us = c.args.expected.now in
     let within : i < length us = omega (arith, c.loop-index-test.true, c.requires.count) in
-    let told = c.is_subtype.ensures (valid_at md i ts c.loop-index-test.true c.requires.types) (valid_at md i us within c.requires.wanted) in
+    let told = c.is_subtype.ensures (valid_at md i ts c.loop-index-test.true c.requires.types) (valid_at md i us within c.requires.expected) in
     let above = ap (λ (m : ModuleContext). m.below (slice_index_or ts i I32) (slice_index_or us i I32)) (sym e) in
     sym (c.loop-index.invariant cx e) ∙ compared cx false i ts us c.loop-index-test.true c.requires.count (sym c.if-not-is_subtype.true ∙ told ∙ above)
 
@@ -24,12 +24,12 @@ loop-index-preserved g c = λ cx e.
     let md = g.R.WasmModuleResources.context c.args.resources.now in
     let i = c.loop-index.index in
     let ts = c.args.types.now in
-    let us = c.args.wanted.now in
+    let us = c.args.expected.now in
     let within : i < length us = omega (arith, c.loop-index-test.true, c.requires.count) in
-    let told = c.is_subtype.ensures (valid_at md i ts c.loop-index-test.true c.requires.types) (valid_at md i us within c.requires.wanted) in
+    let told = c.is_subtype.ensures (valid_at md i ts c.loop-index-test.true c.requires.types) (valid_at md i us within c.requires.expected) in
     let above = ap (λ (m : ModuleContext). m.below (slice_index_or ts i I32) (slice_index_or us i I32)) (sym e) in
     let next : i + 1 ≡ suc i = omega arith in
     ap (λ n. all_fit cx (map Known (drop n ts)) (drop n us)) next ∙ sym (compared cx true i ts us c.loop-index-test.true c.requires.count (sym c.if-not-is_subtype.false ∙ told ∙ above)) ∙ c.loop-index.invariant cx e
 
 pub returns-clause-fits : goal.returns-clause-fits
-returns-clause-fits g c = λ cx e. sym (c.loop-index.invariant cx e) ∙ sym (all_compared cx c.loop-index.index c.args.types.now c.args.wanted.now (omega (arith, c.loop-index-test.false)) c.requires.count)
+returns-clause-fits g c = λ cx e. sym (c.loop-index.invariant cx e) ∙ sym (all_compared cx c.loop-index.index c.args.types.now c.args.expected.now (omega (arith, c.loop-index-test.false)) c.requires.count)

@@ -17,7 +17,7 @@ use Rattle.validate_stacks.proofs.Phases.{step_frame}
 use Rattle.validate_shapes.proofs.Moves.{unmoved, made_moves}
 use Rattle.validate_shapes.proofs.OpenerSteps.{opened_moved}
 use Rattle.validate_rows_handlers.proofs.TryTables.{table_not_checked, table_refused, table_not_fitting, table_passes}
-use Rattle.validate_rows_handlers.proofs.clauses.try_table.Given.{Over}
+use Rattle.validate_rows_handlers.proofs.clauses.try_table.Pushed.{Over}
 use Rattle.validate_rows_handlers.proofs.clauses.try_table.Goals.{After-params-params}
 use Rattle.validate_rows_handlers.proofs.clauses.try_table.Goals as goal
 
@@ -64,10 +64,10 @@ returns g c =
     let bt = c.in_ok-block_type.block_type in
     let own = (block_signature m bt).params in
     let ps = c.params-params.result.now in
-    let k = c.min-taken.result in
+    let k = c.min-popped.result in
     let u : BodyState = body_dropped k v in
     let fit = fits_now m ps v true c.in_ok-find_operands.ensures.fit in
-    let least : k ≡ _ = c.min-taken.ensures ∙ ap (min (length ps)) c.own_len.ensures in
+    let least : k ≡ _ = c.min-popped.ensures ∙ ap (min (length ps)) c.own_len.ensures in
     let popped : body_popped_each m (reverse own) v ≡ Some u = ap (λ ts. body_popped_each m (reverse ts) v) (sym c.params-params.ensures) ∙ popped_dropped m ps v fit ∙ ap Some (dropped_within (length ps) k v least) in
     let entered = entered_is m TryTable bt u (body_with_frame TryTable bt u) ps c.params-params.ensures refl in
     let moved = opened_moved m v TryTable [] bt c.requires.open_frame laws c.requires.valid (block g at) u (ap (λ ts. body_popped_each m (reverse ts) v) (append-nil own) ∙ popped) in

@@ -10,7 +10,7 @@ use Rattle.validation_rules.proofs.ValidContinuations.{referenced_valid}
 use Rattle.validate_stacks.specs.State.{body_context}
 use Rattle.validate_shapes.proofs.CarriedTypes.{front_and_last}
 use Rattle.validate_rows_handlers.proofs.ResumedRows.{no_other, not_leading_back, leading_back}
-use Rattle.validate_rows_handlers.proofs.continuations.switch_types.Given.{Over}
+use Rattle.validate_rows_handlers.proofs.continuations.switch_types.Pushed.{Over}
 use Rattle.validate_rows_handlers.proofs.continuations.switch_types.Goals.{In-Some, In-Some-referenced_continuation, After-is_func_subtype}
 use Rattle.validate_rows_handlers.proofs.continuations.switch_types.Goals as goal
 
@@ -45,7 +45,7 @@ module _ (g : Over) (c : In-Some-referenced_continuation g) where
   other_valid = referenced_valid (cx g last_found) (g.met.R.WasmModuleResources.lawful c.args.resources.now) c.in-Some.last.now _ refers_to_other
 
 switches_as_told : (g : Over) (c : After-is_func_subtype g) → may_switch (g.R.WasmModuleResources.context c.args.resources.now) c.in_ok-tag_type.tag_type.now.results c.in_ok-func_type.func_type.now c.in-Some-referenced_continuation.other.now ≡ c.is_func_subtype.result
-switches_as_told g c = rw (sym c.results-given.ensures, sym c.results-back.ensures, sym c.results.ensures) (sym c.is_func_subtype.ensures)
+switches_as_told g c = rw (sym c.results-pushed.ensures, sym c.results-back.ensures, sym c.results.ensures) (sym c.is_func_subtype.ensures)
 
 pub returns-then-not-is_concrete_reference : goal.returns-then-not-is_concrete_reference
 returns-then-not-is_concrete_reference g c =

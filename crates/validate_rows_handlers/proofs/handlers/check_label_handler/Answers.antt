@@ -17,8 +17,8 @@ use Rattle.validate_shapes.proofs.BranchSteps.{label_there, no_label, no_types, 
 use Rattle.validate_shapes.proofs.CarriedTypes.{carried_at, fits_and_last, front_and_last}
 use Rattle.validate_rows_handlers.specs.Handlers.{is_fitting_handler}
 use Rattle.validate_rows_handlers.proofs.HandlerLists.{none_left, taken_below, last_not_fitting, label_empty, not_continued, not_carried, both_hold}
-use Rattle.validate_rows_handlers.proofs.handlers.check_label_handler.Given.{Over}
-use Rattle.validate_rows_handlers.proofs.handlers.check_label_handler.Goals.{In_ok-tag_type, After-label_types-wanted, In-Some, After-is_func_subtype, In-Some-referenced_continuation, After-is_func_subtype-2}
+use Rattle.validate_rows_handlers.proofs.handlers.check_label_handler.Pushed.{Over}
+use Rattle.validate_rows_handlers.proofs.handlers.check_label_handler.Goals.{In_ok-tag_type, After-label_types-expected, In-Some, After-is_func_subtype, In-Some-referenced_continuation, After-is_func_subtype-2}
 use Rattle.validate_rows_handlers.proofs.handlers.check_label_handler.Goals as goal
 
 module _ (g : Over) (c : In_ok-tag_type g) where
@@ -37,12 +37,12 @@ module _ (g : Over) (c : In_ok-tag_type g) where
   refused_at_no_label : option_map type_and_kind (slice_get hs c.args.label_index) ≡ None → is_fitting_handler cx hs c.args.resumed.now (OnLabel c.args.tag_index c.args.label_index) ≡ false
   refused_at_no_label h = refused_at_no_types (no_types cx hs c.args.label_index (no_label hs c.args.label_index h))
 
-module _ (g : Over) (c : After-label_types-wanted g) where
+module _ (g : Over) (c : After-label_types-expected g) where
   abbrev tagged : In_ok-tag_type g
-  tagged = (goal.at.After-label_types-wanted g c).In_ok-tag_type
+  tagged = (goal.at.After-label_types-expected g c).In_ok-tag_type
 
-  wanted_is_of_label : c.label_types-wanted.result.now ≡ label_types_at (cx g tagged) (hs g tagged) c.args.label_index
-  wanted_is_of_label = c.label_types-wanted.ensures (cx g tagged) refl ∙ sym (label_there (cx g tagged) (hs g tagged) c.args.label_index _ _ c.in_ok-block_type.ensures.found).1
+  expected_is_of_label : c.label_types-expected.result.now ≡ label_types_at (cx g tagged) (hs g tagged) c.args.label_index
+  expected_is_of_label = c.label_types-expected.ensures (cx g tagged) refl ∙ sym (label_there (cx g tagged) (hs g tagged) c.args.label_index _ _ c.in_ok-block_type.ensures.found).1
 
 -- the label's types end in a last one
 module _ (g : Over) (c : In-Some g) where
@@ -50,12 +50,12 @@ module _ (g : Over) (c : In-Some g) where
   found = (goal.at.In-Some g c).In_ok-tag_type
 
   ends_in_last : label_types_at (cx g found) (hs g found) c.args.label_index ≡ c.in-Some.others.now ++ c.in-Some.last.now ∷ []
-  ends_in_last = sym (wanted_is_of_label g (goal.at.In-Some g c).After-label_types-wanted) ∙ c.in-Some.ensures.cases.0
+  ends_in_last = sym (expected_is_of_label g (goal.at.In-Some g c).After-label_types-expected) ∙ c.in-Some.ensures.cases.0
 
   others_and_last_valid : AllByRecursion (Valid (md g found)) c.in-Some.others.now × Valid (md g found) c.in-Some.last.now
   others_and_last_valid =
       let laws = g.met.R.WasmModuleResources.lawful c.args.resources.now in
-      front_and_last (Valid (md g found)) _ _ (subst (AllByRecursion (Valid (md g found))) c.in-Some.ensures.cases.0 (label_valid (md g found) c.args.stacks.now.body _ _ laws c.requires.state (wanted_is_of_label g (goal.at.In-Some g c).After-label_types-wanted)))
+      front_and_last (Valid (md g found)) _ _ (subst (AllByRecursion (Valid (md g found))) c.in-Some.ensures.cases.0 (label_valid (md g found) c.args.stacks.now.body _ _ laws c.requires.state (expected_is_of_label g (goal.at.In-Some g c).After-label_types-expected)))
 
   refused_where_not_continued : continues (md g found) c.args.resumed.now c.in_ok-tag_type.tag_type.now (referenced_continuation (md g found) c.in-Some.last.now) ≡ false → is_fitting_handler (cx g found) (hs g found) c.args.resumed.now (OnLabel c.args.tag_index c.args.label_index) ≡ false
   refused_where_not_continued = not_continued (cx g found) (hs g found) c.args.resumed.now c.in_ok-tag_type.tag_type.now _ _ c.in_ok-tag_type.ensures.found _ _ ends_in_last
@@ -72,7 +72,7 @@ module _ (g : Over) (c : After-is_func_subtype g) where
   carried_to_label =
       let cx = cx g (found g ended) in
       let types = c.in_ok-tag_type.tag_type.now.params ++ c.in-Some.last.now ∷ [] in
-      carried_at cx types _ _ c.args.label_index _ _ c.in_ok-block_type.ensures.found (c.label_types-wanted.ensures cx refl) ∙ ap (all_fit cx (map Known types)) c.in-Some.ensures.cases.0
+      carried_at cx types _ _ c.args.label_index _ _ c.in_ok-block_type.ensures.found (c.label_types-expected.ensures cx refl) ∙ ap (all_fit cx (map Known types)) c.in-Some.ensures.cases.0
 
   params_fit_others : all_fit (cx g (found g ended)) (map Known c.in_ok-tag_type.tag_type.now.params) c.in-Some.others.now ≡ c.is_func_subtype.result
   params_fit_others =
@@ -101,7 +101,7 @@ returns-in_err-block_type-clause-refused g c =
 pub returns-in_default-clause-refused : goal.returns-in_default-clause-refused
 returns-in_default-clause-refused g c =
     let at = goal.at.returns-in_default-clause-refused g c in
-    refused_at_no_types g at.In_ok-tag_type (sym (wanted_is_of_label g at.After-label_types-wanted) ∙ none_left _ c.in_default.ensures.cases)
+    refused_at_no_types g at.In_ok-tag_type (sym (expected_is_of_label g at.After-label_types-expected) ∙ none_left _ c.in_default.ensures.cases)
 
 pub returns-then-not-is_concrete_reference-clause-refused : goal.returns-then-not-is_concrete_reference-clause-refused
 returns-then-not-is_concrete_reference-clause-refused g c =

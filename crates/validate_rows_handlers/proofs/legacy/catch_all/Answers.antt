@@ -4,13 +4,13 @@ use Rattle.validate_shapes.proofs.Moves.{unmoved}
 use Rattle.validate_shapes.proofs.PartMoves.{begun_moves}
 use Rattle.validate_rows_handlers.proofs.legacy.catch_all.Goals as goal
 
-pub returns-in_err-taken : goal.returns-in_err-taken
-returns-in_err-taken g c =
-    let none = c.in_err-taken.ensures.refused true in
+pub returns-in_err-popped : goal.returns-in_err-popped
+returns-in_err-popped g c =
+    let none = c.in_err-popped.ensures.refused true in
     unmoved _ _ _ _ _ _ (search rules) refl (search (rules, none))
 
 pub returns : goal.returns
 returns g c =
     let md = g.R.WasmModuleResources.context c.args.resources.now in
-    begun_moves md _ _ c.args.stacks.now _ c.requires.open_frame (g.met.R.WasmModuleResources.lawful c.args.resources.now) c.requires.valid LegacyCatchAll c.in_ok-taken.block_type [] c.in_ok-taken.ensures.block tt
-    (c.in_ok-taken.ensures.begins true) c.reopen_with.result c.reopen_with.ensures.told c.reopen_with.ensures.exact
+    begun_moves md _ _ c.args.stacks.now _ c.requires.open_frame (g.met.R.WasmModuleResources.lawful c.args.resources.now) c.requires.valid LegacyCatchAll c.in_ok-popped.block_type [] c.in_ok-popped.ensures.block tt
+    (c.in_ok-popped.ensures.begins true) c.reopen_with.result c.reopen_with.ensures.told c.reopen_with.ensures.exact

@@ -16,9 +16,9 @@ pub find_results-requires-clause-results : goal.find_results-requires-clause-res
 find_results-requires-clause-results g c =
     frame_told c.args.stacks.now.body c.in-Some.frame.now _ (sym c.get_frame.ensures ∙ ap option_copied c.in-Some.is) c.results-results.ensures
 
-pub returns-in_err-taken : goal.returns-in_err-taken
-returns-in_err-taken g c =
-    let none = delegate_none (g.R.WasmModuleResources.context c.args.resources.now) c.args.stacks.now.body c.args.relative_depth c.requires.open_frame c.in_err-taken.ensures.stays in
+pub returns-in_err-popped : goal.returns-in_err-popped
+returns-in_err-popped g c =
+    let none = delegate_none (g.R.WasmModuleResources.context c.args.resources.now) c.args.stacks.now.body c.args.relative_depth c.requires.open_frame c.in_err-popped.ensures.stays in
     unmoved _ _ _ _ _ _ (search rules) refl (search (rules, none))
 
 pub returns-then-not-is_try : goal.returns-then-not-is_try
@@ -43,6 +43,6 @@ returns g c =
     let there = sym c.get_frame.ensures ∙ ap option_copied c.in-Some.is in
     let outer = sym c.get_frame-2.ensures ∙ ap option_copied c.in-Some-get_frame.is in
     let part : is_try c.in-Some.frame.now.kind ≡ true = sym c.is_try.ensures ∙ c.if-not-is_try.false in
-    let step = delegate_passes md v c.args.relative_depth c.in-Some.frame.now there left (body_pushed_each rs left) _ rs c.in_ok-taken.ensures.closes part outer c.results-results.ensures refl in
+    let step = delegate_passes md v c.args.relative_depth c.in-Some.frame.now there left (body_pushed_each rs left) _ rs c.in_ok-popped.ensures.closes part outer c.results-results.ensures refl in
     closed_moves md _ _ c.args.stacks.now _ c.requires.open_frame (g.met.R.WasmModuleResources.lawful c.args.resources.now) c.requires.valid rs (frame_told v c.in-Some.frame.now _ there c.results-results.ensures)
     step c.close.result c.close.ensures.told c.close.ensures.exact

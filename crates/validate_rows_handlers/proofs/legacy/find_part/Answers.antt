@@ -14,11 +14,11 @@ pub find_results-requires-clause-results : goal.find_results-requires-clause-res
 find_results-requires-clause-results g c =
     frame_told c.args.stacks.now.body c.in-Some.frame.now _ (sym c.get_frame.ensures ∙ ap option_copied c.in-Some.is) c.results.ensures
 
-pub returns-in_err-taken-clause-refused : goal.returns-in_err-taken-clause-refused
-returns-in_err-taken-clause-refused g c =
+pub returns-in_err-popped-clause-refused : goal.returns-in_err-popped-clause-refused
+returns-in_err-popped-clause-refused g c =
     let md = g.R.WasmModuleResources.context c.args.resources.now in
     let v = c.args.stacks.now.body in
-    let none = λ (all : Bool). part_none (BeginsCatch all []) may_catch (catch_kind all) (λ cx bt. []) (catch_begins all) md v c.requires.open_frame c.in_err-taken.ensures.stays in
+    let none = λ (all : Bool). part_none (BeginsCatch all []) may_catch (catch_kind all) (λ cx bt. []) (catch_begins all) md v c.requires.open_frame c.in_err-popped.ensures.stays in
     search (rules, none)
 
 pub returns-then-not-may_catch-clause-refused : goal.returns-then-not-may_catch-clause-refused
@@ -38,4 +38,4 @@ returns-clause-begins g c all =
     let f = c.in-Some.frame.now in
     let there = sym c.get_frame.ensures ∙ ap option_copied c.in-Some.is in
     let left = body_without_frame v in
-    part_passes (BeginsCatch all []) may_catch (catch_kind all) (λ cx bt. []) (catch_begins all) md v f there left (body_with_frame (catch_kind all) f.block_type left) c.in_ok-taken.ensures.closes (sym c.may_catch.ensures ∙ c.if-not-may_catch.false) (search rules)
+    part_passes (BeginsCatch all []) may_catch (catch_kind all) (λ cx bt. []) (catch_begins all) md v f there left (body_with_frame (catch_kind all) f.block_type left) c.in_ok-popped.ensures.closes (sym c.may_catch.ensures ∙ c.if-not-may_catch.false) (search rules)

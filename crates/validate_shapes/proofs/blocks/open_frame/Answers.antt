@@ -15,7 +15,7 @@ use Rattle.validate_stacks.proofs.Phases.{step_frame}
 use Rattle.validate_stacks.proofs.Whole.{none_above, some_above}
 use Rattle.validate_shapes.proofs.OpenerSteps.{opened_is, opened_moved}
 use Rattle.validate_shapes.proofs.Moves.{unmoved, made_moves}
-use Rattle.validate_shapes.proofs.blocks.open_frame.Given.{Over}
+use Rattle.validate_shapes.proofs.blocks.open_frame.Pushed.{Over}
 use Rattle.validate_shapes.proofs.blocks.open_frame.Goals.{In_ok-find_operands}
 use Rattle.validate_shapes.proofs.blocks.open_frame.Goals as goal
 
@@ -72,7 +72,7 @@ returns g c =
     let k = length c.args.above.now in
     let u = body_dropped (length ps) (below g at) in
     let popped = popped_above g at ∙ popped_dropped m ps (below g at) c.in_ok-find_operands-2.ensures.fit in
-    let whole : body_dropped c.min-taken.result v ≡ u = sym (dropped_below (length ps) k v ∙ dropped_within (k + length ps) c.min-taken.result v (omega (arith, c.min-taken.ensures, c.own_len-own.ensures, c.saturating_add.ensures))) in
+    let whole : body_dropped c.min-popped.result v ≡ u = sym (dropped_below (length ps) k v ∙ dropped_within (k + length ps) c.min-popped.result v (omega (arith, c.min-popped.ensures, c.own_len-own.ensures, c.saturating_add.ensures))) in
     let entered = ap (λ (x : BodyState). body_pushed_each ps (body_with_frame kind bt x)) whole ∙ entered_is m kind bt u (body_with_frame kind bt u) ps c.params-params.ensures refl in
     let moved = opened_moved m v kind c.args.above.now bt c.requires.visit.open_frame laws c.requires.visit.valid c.requires.block u popped in
     made_moves m _ _ c.args.stacks.now _ (body_with_block m kind bt u) moved.step moved.valid moved.kept c.open.result c.open.ensures.told

@@ -8,5 +8,5 @@ pub returns : goal.returns
 returns g c =
     let md = g.R.WasmModuleResources.context c.args.resources.now in
     let s = c.args.stacks.now in
-    let given = c.args.given ∷ [] in
-    exchange_moves md _ _ s _ [] given (plain_is md s.body [] given c.requires.visit.open_frame) (c.requires.given, tt) c.requires.visit.valid _ (given_alone md _ (body_pushed_each given) s _ c.push_operand.result c.push_operand.ensures.told c.push_operand.ensures.exact)
+    let pushed = c.args.pushed ∷ [] in
+    exchange_moves md _ _ s _ [] pushed (plain_is md s.body [] pushed c.requires.visit.open_frame) (c.requires.pushed, tt) c.requires.visit.valid _ (given_alone md _ (body_pushed_each pushed) s _ c.push_operand.result c.push_operand.ensures.told c.push_operand.ensures.exact)

@@ -11,7 +11,7 @@ returns-then-exchange_numbers_at_once g c =
     let md = g.R.WasmModuleResources.context c.args.resources.now in
     let s = c.args.stacks.now in
     let exact = was_made _ c.exchange_numbers_at_once.result c.if-exchange_numbers_at_once.true c.exchange_numbers_at_once.ensures.exact in
-    exchange_moves md _ _ s _ (c.args.taken ∷ []) (c.args.given ∷ []) (plain_is md s.body (c.args.taken ∷ []) (c.args.given ∷ []) c.requires.visit.open_frame) (c.requires.given, tt) c.requires.visit.valid (Ok tt) (takes_done md _ (c.args.taken ∷ []) (body_pushed_each (c.args.given ∷ [])) s _ exact)
+    exchange_moves md _ _ s _ (c.args.expected ∷ []) (c.args.pushed ∷ []) (plain_is md s.body (c.args.expected ∷ []) (c.args.pushed ∷ []) c.requires.visit.open_frame) (c.requires.pushed, tt) c.requires.visit.valid (Ok tt) (takes_done md _ (c.args.expected ∷ []) (body_pushed_each (c.args.pushed ∷ [])) s _ exact)
 
 pub plain-requires-clause-visit : goal.plain-requires-clause-visit
 plain-requires-clause-visit g c =

@@ -8,10 +8,10 @@ use Rattle.validate_stacks.proofs.change.record.Goals as goal
 pub returns-clause-exact : goal.returns-clause-exact
 returns-clause-exact g c =
     let t = c.args.transaction.now in
-    let xs = take c.args.change.taken c.args.operands.now.items in
-    let gs = c.args.change.given.now in
-    let entry : Entry = record { popped = c.newest.result; closed = c.closed.result; opened = c.is_some.result; pushed = c.args.given } in
+    let xs = take c.args.change.popped c.args.operands.now.items in
+    let gs = c.args.change.pushed.now in
+    let entry : Entry = record { popped = c.newest.result; closed = c.closed.result; opened = c.is_some.result; pushed = c.args.pushed } in
     let steps : with_entry entry t ≡ log_changed c.args.change c.args.control.now.items c.args.operands.now.items c.args.inits.now.order t =
-    entry_steps entry xs gs c.args.change.opens c.args.change.top c.newest.ensures c.requires.given c.is_some.ensures t
+    entry_steps entry xs gs c.args.change.opens c.args.change.top c.newest.ensures c.requires.pushed c.is_some.ensures t
     ∙ ap (λ u. log_topped c.args.change.top (log_pushed gs (log_opened c.args.change.opens u))) (c.closed.ensures (log_popped xs t)) in
     subst (λ u. MatchResult c.record.result (λ _. c.record.new.self ≡ u) (λ _. c.record.new.self ≡ t)) steps c.record.ensures.exact

@@ -14,7 +14,7 @@ use Rattle.validate_stacks.proofs.AtOnce.{own_within}
 use Rattle.validate_stacks.proofs.Changed.{Allowed, changed_there, length_given, one_above, some_flat}
 use Rattle.validate_stacks.proofs.Cuts.{state_of}
 use Rattle.validate_stacks.proofs.Undone.{sound_room, sound_order_room, inits_within}
-use Rattle.validate_stacks.proofs.stacks.Stacks.change.Given.{Over}
+use Rattle.validate_stacks.proofs.stacks.Stacks.change.Pushed.{Over}
 use Rattle.validate_stacks.proofs.stacks.Stacks.change.Goals as goal
 
 pub invariant_of-self : goal.invariant_of-self
@@ -31,10 +31,10 @@ invariant_of-self-in_err-record g c =
     (sound_order_room c.make_room.new.control.room s.control.items c.make_room.new.operands.room s.operands.items s.inits.room c.make_room.new.inits.room s.inits.set_at_entry s.inits.order s.transaction s.locals c.make_room.ensures.order_room
     (sound_room s.control.room c.make_room.new.control.room s.control.items s.operands.room c.make_room.new.operands.room s.operands.items s.inits.room s.inits.set_at_entry s.inits.order s.transaction s.locals c.make_room.ensures.frames_room c.make_room.ensures.operands_room c.self.invariant))
 
-pub record-requires-clause-taken : goal.record-requires-clause-taken
-record-requires-clause-taken g c =
+pub record-requires-clause-popped : goal.record-requires-clause-popped
+record-requires-clause-popped g c =
     let s = c.self.inside in
-    let own = subst (λ (v : BodyState). c.args.change.taken ≤ length (innermost_operands v.present.frames)) (sym (ap body_of c.self.view_is)) c.requires.own in
+    let own = subst (λ (v : BodyState). c.args.change.popped ≤ length (innermost_operands v.present.frames)) (sym (ap body_of c.self.view_is)) c.requires.own in
     omega (arith, own, own_within s.control.items s.operands.items s.inits.order, ap length c.make_room.ensures.operands)
 
 pub record-requires-clause-closed : goal.record-requires-clause-closed
@@ -46,24 +46,24 @@ record-requires-clause-closed g c f h =
 pub overflow_sub-height : goal.overflow_sub-height
 overflow_sub-height g c =
     let s = c.self.inside in
-    let own = subst (λ (v : BodyState). c.args.change.taken ≤ length (innermost_operands v.present.frames)) (sym (ap body_of c.self.view_is)) c.requires.own in
+    let own = subst (λ (v : BodyState). c.args.change.popped ≤ length (innermost_operands v.present.frames)) (sym (ap body_of c.self.view_is)) c.requires.own in
     omega (arith, own, own_within s.control.items s.operands.items s.inits.order, ap length c.make_room.ensures.operands, c.len.ensures.value)
 
 pub give-requires : goal.give-requires
 give-requires g c =
     let s = c.self.inside in
-    let own = subst (λ (v : BodyState). c.args.change.taken ≤ length (innermost_operands v.present.frames)) (sym (ap body_of c.self.view_is)) c.requires.own in
-    omega (arith, own, own_within s.control.items s.operands.items s.inits.order, ap length c.make_room.ensures.operands, c.len.ensures.value, ap length c.truncate.ensures.items, length-drop (length c.make_room.new.operands.items - (c.len.result - c.args.change.taken)) c.make_room.new.operands.items, c.truncate.ensures.room, c.in_ok-given.ensures.for_operands)
+    let own = subst (λ (v : BodyState). c.args.change.popped ≤ length (innermost_operands v.present.frames)) (sym (ap body_of c.self.view_is)) c.requires.own in
+    omega (arith, own, own_within s.control.items s.operands.items s.inits.order, ap length c.make_room.ensures.operands, c.len.ensures.value, ap length c.truncate.ensures.items, length-drop (length c.make_room.new.operands.items - (c.len.result - c.args.change.popped)) c.make_room.new.operands.items, c.truncate.ensures.room, c.in_ok-pushed.ensures.for_operands)
 
 pub put_top-requires : goal.put_top-requires
 put_top-requires g c some =
     let s = c.self.inside in
-    let own = subst (λ (v : BodyState). c.args.change.taken ≤ length (innermost_operands v.present.frames)) (sym (ap body_of c.self.view_is)) c.requires.own in
-    omega (arith, own, own_within s.control.items s.operands.items s.inits.order, ap length c.make_room.ensures.operands, c.len.ensures.value, ap length c.truncate.ensures.items, length-drop (length c.make_room.new.operands.items - (c.len.result - c.args.change.taken)) c.make_room.new.operands.items, c.truncate.ensures.room, c.in_ok-given.ensures.for_operands, ap length c.give.ensures.items, length_given c.args.change.given.now c.truncate.new.self.items, c.give.ensures.never_less, one_above c.args.change.top some)
+    let own = subst (λ (v : BodyState). c.args.change.popped ≤ length (innermost_operands v.present.frames)) (sym (ap body_of c.self.view_is)) c.requires.own in
+    omega (arith, own, own_within s.control.items s.operands.items s.inits.order, ap length c.make_room.ensures.operands, c.len.ensures.value, ap length c.truncate.ensures.items, length-drop (length c.make_room.new.operands.items - (c.len.result - c.args.change.popped)) c.make_room.new.operands.items, c.truncate.ensures.room, c.in_ok-pushed.ensures.for_operands, ap length c.give.ensures.items, length_given c.args.change.pushed.now c.truncate.new.self.items, c.give.ensures.never_less, one_above c.args.change.top some)
 
 module _ (g : Over) (c : goal.After-put_top g) where
   abbrev n : ℕ
-  n = c.args.change.taken
+  n = c.args.change.popped
 
   abbrev b : Bool
   b = c.args.change.closes
@@ -75,7 +75,7 @@ module _ (g : Over) (c : goal.After-put_top g) where
   o = c.args.change.opens
 
   abbrev gs : List ValType
-  gs = c.args.change.given.now
+  gs = c.args.change.pushed.now
 
   abbrev fs : List Frame
   fs = c.self.inside.control.items
@@ -148,7 +148,7 @@ module _ (g : Over) (c : goal.After-put_top g) where
         within = λ e. some_flat fs operands is (subst (λ (v : BodyState). v.present.frames ≢ []) (sym (ap body_of c.self.view_is)) (c.requires.set_within e));
         alone = c.requires.set_alone;
         operands_room = omega (arith, ap length c.make_room.ensures.operands, c.len.ensures.within, c.truncate.ensures.room, c.give.ensures.never_less, c.put_top.ensures.never_less);
-        frames_room = omega (arith, ap length c.make_room.ensures.frames, c.in_ok-given.ensures.within, c.close.ensures.frames_room, c.open.ensures.room);
+        frames_room = omega (arith, ap length c.make_room.ensures.frames, c.in_ok-pushed.ensures.within, c.close.ensures.frames_room, c.open.ensures.room);
         order_room = omega (arith, ap length order, c.set-init_height.ensures.within);
         fresh = subst (AreFresh en) order (subst (λ marks. AreFresh marks c.set-init_height.new.inits.order) entries c.set-init_height.ensures.fresh);
       }

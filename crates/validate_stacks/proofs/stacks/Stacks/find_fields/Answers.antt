@@ -17,10 +17,10 @@ loop-left-init g c =
     let fields = c.args.fields.now in
     record { within = omega arith; rest = counted_starts cx (unpacked_fields fields) (body_dropped c.args.above c.args.self.now.body) (length fields) (length-map fields field_value) }
 
-pub is_fitting_at-requires-clause-wanted : goal.is_fitting_at-requires-clause-wanted
-is_fitting_at-requires-clause-wanted g c =
+pub is_fitting_at-requires-clause-expected : goal.is_fitting_at-requires-clause-expected
+is_fitting_at-requires-clause-expected g c =
     let md = g.R.WasmModuleResources.context c.args.resources.now in
-    subst (Valid md) (sym c.unpack-wanted.ensures) (value_valid md c.args.fields.now (c.loop-left.left - 1) _ c.requires.types (omega (arith, c.loop-left-test.true, c.loop-left.invariant.within)))
+    subst (Valid md) (sym c.unpack-expected.ensures) (value_valid md c.args.fields.now (c.loop-left.left - 1) _ c.requires.types (omega (arith, c.loop-left-test.true, c.loop-left.invariant.within)))
 
 pub returns-then-not-is_fitting_at-clause-unfit : goal.returns-then-not-is_fitting_at-clause-unfit
 returns-then-not-is_fitting_at-clause-unfit g c =
@@ -31,8 +31,8 @@ returns-then-not-is_fitting_at-clause-unfit g c =
     let k = length fields - 1 - (n - 1) in
     let here : n - 1 < length fields = omega (arith, c.loop-left-test.true, c.loop-left.invariant.within) in
     let found = found_at_depth c.args.above (k + c.args.above) k v (omega arith) in
-    let failed = ap (λ o. may_pop (body_context md v) o (Some c.unpack-wanted.result)) (sym found) ∙ sym c.is_fitting_at.ensures ∙ c.if-not-is_fitting_at.true in
-    counted_stops md (unpacked_fields fields) (body_dropped c.args.above v) n _ c.unpack-wanted.result (omega (arith, c.loop-left-test.true)) (value_at fields (n - 1) _ ∙ sym c.unpack-wanted.ensures) (length fields) (length-map fields field_value) here failed c.loop-left.invariant.rest
+    let failed = ap (λ o. may_pop (body_context md v) o (Some c.unpack-expected.result)) (sym found) ∙ sym c.is_fitting_at.ensures ∙ c.if-not-is_fitting_at.true in
+    counted_stops md (unpacked_fields fields) (body_dropped c.args.above v) n _ c.unpack-expected.result (omega (arith, c.loop-left-test.true)) (value_at fields (n - 1) _ ∙ sym c.unpack-expected.ensures) (length fields) (length-map fields field_value) here failed c.loop-left.invariant.rest
 
 pub loop-left-preserved : goal.loop-left-preserved
 loop-left-preserved g c =
@@ -43,13 +43,13 @@ loop-left-preserved g c =
     let k = length fields - 1 - (n - 1) in
     let here : n - 1 < length fields = omega (arith, c.loop-left-test.true, c.loop-left.invariant.within) in
     let found = found_at_depth c.args.above (k + c.args.above) k v (omega arith) in
-    let passed = ap (λ o. may_pop (body_context md v) o (Some c.unpack-wanted.result)) (sym found) ∙ sym c.is_fitting_at.ensures ∙ c.if-not-is_fitting_at.false in
+    let passed = ap (λ o. may_pop (body_context md v) o (Some c.unpack-expected.result)) (sym found) ∙ sym c.is_fitting_at.ensures ∙ c.if-not-is_fitting_at.false in
     record {
       within = omega (arith, c.loop-left.invariant.within);
-      rest = counted_goes_on md (unpacked_fields fields) (body_dropped c.args.above v) n _ c.unpack-wanted.result (omega (arith, c.loop-left-test.true)) (value_at fields (n - 1) _ ∙ sym c.unpack-wanted.ensures) (length fields) (length-map fields field_value) here passed c.loop-left.invariant.rest;
+      rest = counted_goes_on md (unpacked_fields fields) (body_dropped c.args.above v) n _ c.unpack-expected.result (omega (arith, c.loop-left-test.true)) (value_at fields (n - 1) _ ∙ sym c.unpack-expected.ensures) (length fields) (length-map fields field_value) here passed c.loop-left.invariant.rest;
     }
 
 pub misfit-requires : goal.misfit-requires
 misfit-requires g c =
     let md = g.R.WasmModuleResources.context c.args.resources.now in
-    subst (Valid md) (sym c.unpack-wanted.ensures) (value_valid md c.args.fields.now (c.loop-left.left - 1) _ c.requires.types (omega (arith, c.loop-left-test.true, c.loop-left.invariant.within)))
+    subst (Valid md) (sym c.unpack-expected.ensures) (value_valid md c.args.fields.now (c.loop-left.left - 1) _ c.requires.types (omega (arith, c.loop-left-test.true, c.loop-left.invariant.within)))

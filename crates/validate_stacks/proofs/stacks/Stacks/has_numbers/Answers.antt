@@ -8,12 +8,12 @@ use Rattle.validate_stacks.proofs.stacks.Stacks.has_numbers.Goals as goal
 pub loop-left-init : goal.loop-left-init
 loop-left-init g c =
     let cx = body_context (g.R.WasmModuleResources.context c.args.resources.now) c.args.self.now.body in
-    record { within = omega arith; rest = matching_starts cx c.args.wanted.now (body_dropped c.args.above c.args.self.now.body) }
+    record { within = omega arith; rest = matching_starts cx c.args.expected.now (body_dropped c.args.above c.args.self.now.body) }
 
 pub loop-left-preserved : goal.loop-left-preserved
 loop-left-preserved g c =
     let md = g.R.WasmModuleResources.context c.args.resources.now in
-    let ws = c.args.wanted.now in
+    let ws = c.args.expected.now in
     let v = c.args.self.now.body in
     let below = body_dropped c.args.above v in
     let n = c.loop-left.left in

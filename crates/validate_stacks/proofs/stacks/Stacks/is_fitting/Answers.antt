@@ -9,4 +9,4 @@ returns-in-Known g c =
     let md = g.R.WasmModuleResources.context c.args.resources.now in
     let t = c.in-Known.ty in
     let known : c.args.found ≡ Some (Known t) = c.in-Some.is ∙ ap Some c.in-Known.is in
-    c.is_subtype.ensures (c.requires.found (Known t) known) c.requires.wanted ∙ sym (ap (λ o. may_pop (body_context md c.args.self.now.body) o (Some c.args.wanted)) known)
+    c.is_subtype.ensures (c.requires.found (Known t) known) c.requires.expected ∙ sym (ap (λ o. may_pop (body_context md c.args.self.now.body) o (Some c.args.expected)) known)

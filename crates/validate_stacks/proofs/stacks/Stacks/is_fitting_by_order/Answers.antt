@@ -19,4 +19,4 @@ returns-in-Some-Known g c =
     let within : c.args.depth < length (innermost_operands (state_from_heights s.control.items s.operands.items s.inits.order).frames) = omega (arith, all, c.own_len.ensures, c.if-depth-own_len.true) in
     let found = own_found_there s.control.items s.operands.items s.inits.order c.args.depth within ∙ ap (found_after_pops_in_body c.args.depth) (ap body_of c.self.view_is) in
     let there : found_after_pops_in_body c.args.depth v ≡ Some (Known c.in-Some-Known.found) = sym found ∙ (sym c.get.ensures ∙ (ap option_copied c.in-Some-Known.is ∙ ap Some c.in-Some-Known.field-0-is)) in
-    c.is_subtype.ensures (found_valid md (Known c.in-Some-Known.found) c.args.depth v c.requires.state there) c.requires.wanted ∙ sym (ap (λ o. may_pop (body_context md v) o (Some c.args.wanted.now)) there)
+    c.is_subtype.ensures (found_valid md (Known c.in-Some-Known.found) c.args.depth v c.requires.state there) c.requires.expected ∙ sym (ap (λ o. may_pop (body_context md v) o (Some c.args.expected.now)) there)

@@ -15,17 +15,17 @@ has_same_numbers-requires-clause-own g c = c.has_own.ensures c.if-not-has_own.fa
 
 pub has_same_numbers-requires-clause-types : goal.has_same_numbers-requires-clause-types
 has_same_numbers-requires-clause-types g c =
-    takes_valid (g.R.WasmModuleResources.context c.args.resources.now) c.args.self.now.body.shared c.args.block_type c.params-taken.result.now
-    (g.met.R.WasmModuleResources.lawful c.args.resources.now) c.requires.block c.params-taken.ensures
+    takes_valid (g.R.WasmModuleResources.context c.args.resources.now) c.args.self.now.body.shared c.args.block_type c.params-popped.result.now
+    (g.met.R.WasmModuleResources.lawful c.args.resources.now) c.requires.block c.params-popped.ensures
 
 pub returns : goal.returns
 returns g c =
     let md = g.R.WasmModuleResources.context c.args.resources.now in
     let v = c.args.self.now.body in
-    let ts = c.params-taken.result.now in
+    let ts = c.params-popped.result.now in
     let left : BodyState = body_dropped (length ts) v in
     let opens = body_with_block md c.args.kind c.args.block_type in
-    let same = sym c.params-taken.ensures in
+    let same = sym c.params-popped.ensures in
     let fit = c.has_same_numbers.ensures.fitting c.if-not-has_same_numbers.false in
     let over = over_known ts c.args.kind c.args.block_type v (c.has_own.ensures c.if-not-has_own.false) (c.has_same_numbers.ensures.known c.if-not-has_same_numbers.false) in
     match_made _ c.open_over_own.result

@@ -2,7 +2,7 @@ use Rattle.std.proofs.Common.{◌≢◌, [], sym, ◌∙◌, ap, subst}
 use Rattle.validate_stacks.specs.Attempts.{body_of}
 use Rattle.validate_stacks.specs.State.{BodyState}
 use Rattle.validate_stacks.specs.Steps.{innermost_operands, body_with_frame, body_popped}
-use Rattle.validate_stacks.proofs.AtOnce.{no_log, quiet_opened, quiet_frame, sound_taken, cut-taken, taken_there}
+use Rattle.validate_stacks.proofs.AtOnce.{no_log, quiet_opened, quiet_frame, sound_taken, cut-popped, taken_there}
 use Rattle.validate_stacks.proofs.Undone.{sound_open, state_open}
 use Rattle.validate_stacks.proofs.stacks.Stacks.open_over_top.Goals as goal
 
@@ -27,5 +27,5 @@ returns c =
     rw (c.put.ensures.items, c.live_frame.ensures, c.len-height.ensures.value, c.height-init_height.ensures.value)
     (rw (quiet_opened s.transaction log) at (state_open c.args.kind c.args.block_type s.control.items c.pop-top.new.self.items s.inits.order s.transaction s.shared s.features s.locals s.inits.set_at_entry may)
     ∙ ap (body_with_frame c.args.kind c.args.block_type)
-    (cut-taken s.control.items whole.0 c.pop-top.new.self.items s.inits.order s.transaction s.shared s.features s.locals s.inits.set_at_entry log (rw whole.1 at own)
+    (cut-popped s.control.items whole.0 c.pop-top.new.self.items s.inits.order s.transaction s.shared s.features s.locals s.inits.set_at_entry log (rw whole.1 at own)
     ∙ ap body_popped (rw whole.1 at (ap body_of c.self.view_is))))

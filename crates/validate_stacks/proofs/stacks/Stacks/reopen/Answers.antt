@@ -19,10 +19,10 @@ invariant_of-self c =
     let f = c.in-Some.innermost.now in
     let log = idle_log s.control.items s.operands.items s.inits.order s.transaction (ap (λ (v : BodyState). v.undone) (ap body_of c.self.view_is) ∙ c.requires.idle) in
     let whole = popped_top c.pop.result s.control.items c.pop.new.self.items f (sym c.get.ensures ∙ ap option_copied c.in-Some.is) c.pop.ensures.items in
-    let given = rw (← c.drop_ctrl.ensures.order) at (sound_given s.control.room c.pop.new.self.room f c.pop.new.self.items s.operands.room s.operands.items s.inits.room c.drop_ctrl.new.self.room s.inits.set_at_entry c.drop_ctrl.new.self.set_at_entry s.inits.order s.transaction s.locals log (sym c.drop_ctrl.ensures.set_at_entry) (rw whole at c.self.invariant)) in
+    let pushed = rw (← c.drop_ctrl.ensures.order) at (sound_given s.control.room c.pop.new.self.room f c.pop.new.self.items s.operands.room s.operands.items s.inits.room c.drop_ctrl.new.self.room s.inits.set_at_entry c.drop_ctrl.new.self.set_at_entry s.inits.order s.transaction s.locals log (sym c.drop_ctrl.ensures.set_at_entry) (rw whole at c.self.invariant)) in
     let may = quiet_frame c.pop.new.self.items s.operands.items c.drop_ctrl.new.self.order s.transaction s.shared s.features s.locals c.drop_ctrl.new.self.set_at_entry log in
     rw (c.put.ensures.items, c.live_frame.ensures, c.len-height.ensures.value, c.height-init_height.ensures.value)
-    (rw (quiet_opened s.transaction log) at (sound_open c.args.kind c.args.block_type c.pop.new.self.room c.put.new.self.room c.pop.new.self.items s.operands.room s.operands.items c.drop_ctrl.new.self.room c.drop_ctrl.new.self.set_at_entry c.drop_ctrl.new.self.order s.transaction s.shared s.features s.locals may c.put.ensures.never_less given))
+    (rw (quiet_opened s.transaction log) at (sound_open c.args.kind c.args.block_type c.pop.new.self.room c.put.new.self.room c.pop.new.self.items s.operands.room s.operands.items c.drop_ctrl.new.self.room c.drop_ctrl.new.self.set_at_entry c.drop_ctrl.new.self.order s.transaction s.shared s.features s.locals may c.put.ensures.never_less pushed))
 
 pub returns : goal.returns
 returns c =

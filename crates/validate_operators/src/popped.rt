@@ -1,4 +1,4 @@
-//! How many operands upstream has taken when it refuses an operator. Where an operand is missing or of another type,
+//! How many operands upstream has popped when it refuses an operator. Where an operand is missing or of another type,
 //! the refusal itself says which.
 
 use validate_resources::WasmModuleResources;
@@ -10,8 +10,8 @@ use validate_visit::{
     TryTable, Update,
 };
 
-/// How many it has taken of an operator, whose body refuses so. Behind a closed gate it takes none.
-pub(crate) fn taken_before<R: WasmModuleResources>(
+/// How many it has popped of an operator, whose body refuses so. Behind a closed gate it pops none.
+pub(crate) fn popped_before<R: WasmModuleResources>(
     stacks: &Stacks,
     resources: &R,
     op: &Op,
@@ -21,37 +21,37 @@ pub(crate) fn taken_before<R: WasmModuleResources>(
         return 0;
     }
     match op {
-        Op::Control(op) => taken_before_control(stacks, resources, op, told),
-        Op::Reference(op) => taken_before_reference(stacks, op, told),
-        Op::Struct(op) => taken_before_struct(op, told),
-        Op::Array(op) => taken_before_array(op),
-        Op::Exception(op) => taken_before_exception(stacks, resources, op, told),
-        Op::Shared(op) => taken_before_shared(op, told),
+        Op::Control(op) => popped_before_control(stacks, resources, op, told),
+        Op::Reference(op) => popped_before_reference(stacks, op, told),
+        Op::Struct(op) => popped_before_struct(op, told),
+        Op::Array(op) => popped_before_array(op),
+        Op::Exception(op) => popped_before_exception(stacks, resources, op, told),
+        Op::Shared(op) => popped_before_shared(op, told),
         _ => 0,
     }
 }
 
 /// The same of an operator on control, locals or globals.
-fn taken_before_control<R: WasmModuleResources>(
+fn popped_before_control<R: WasmModuleResources>(
     stacks: &Stacks,
     resources: &R,
     op: &ControlOp,
     told: &Told,
 ) -> usize {
     match op {
-        ControlOp::Else | ControlOp::End => taken_before_end(stacks, resources, told),
+        ControlOp::Else | ControlOp::End => popped_before_end(stacks, resources, told),
         ControlOp::BrIf(_) | ControlOp::BrTable(_) => 1,
         ControlOp::Select => 3,
         ControlOp::CallIndirect { .. }
         | ControlOp::ReturnCallIndirect { .. }
         | ControlOp::CallRef(_)
-        | ControlOp::ReturnCallRef(_) => taken_before_call(told),
+        | ControlOp::ReturnCallRef(_) => popped_before_call(told),
         _ => 0,
     }
 }
 
 /// The same where a part ends: of one with too many operands, its results.
-fn taken_before_end<R: WasmModuleResources>(stacks: &Stacks, resources: &R, told: &Told) -> usize {
+fn popped_before_end<R: WasmModuleResources>(stacks: &Stacks, resources: &R, told: &Told) -> usize {
     match (stacks.get_frame(0), told) {
         (Some(frame), Told::Rule(Refusal::OperandsLeft)) => {
             results(resources, &frame.block_type).len()
@@ -61,7 +61,7 @@ fn taken_before_end<R: WasmModuleResources>(stacks: &Stacks, resources: &R, told
 }
 
 /// The same of a call whose operand on top names the function: it goes before the function's type is looked up.
-fn taken_before_call(told: &Told) -> usize {
+fn popped_before_call(told: &Told) -> usize {
     match told {
         Told::Rule(
             Refusal::UnknownType
@@ -74,7 +74,7 @@ fn taken_before_call(told: &Told) -> usize {
 }
 
 /// The same of an operator on references.
-fn taken_before_reference(stacks: &Stacks, op: &ReferenceOp, told: &Told) -> usize {
+fn popped_before_reference(stacks: &Stacks, op: &ReferenceOp, told: &Told) -> usize {
     match op {
         ReferenceOp::RefIsNull
         | ReferenceOp::RefAsNonNull
@@ -82,20 +82,20 @@ fn taken_before_reference(stacks: &Stacks, op: &ReferenceOp, told: &Told) -> usi
         | ReferenceOp::I31Get(_)
         | ReferenceOp::AnyConvertExtern
         | ReferenceOp::ExternConvertAny => 1,
-        ReferenceOp::RefGetDesc(_) => taken_before_descriptor(told),
-        ReferenceOp::RefEq => taken_before_eq(stacks, told),
+        ReferenceOp::RefGetDesc(_) => popped_before_descriptor(told),
+        ReferenceOp::RefEq => popped_before_eq(stacks, told),
         ReferenceOp::RefCastDescEqNonNull(_) | ReferenceOp::RefCastDescEqNullable(_) => {
-            taken_before_cast(told)
+            popped_before_cast(told)
         }
         ReferenceOp::BrOnCastDescEq(_) | ReferenceOp::BrOnCastDescEqFail(_) => {
-            taken_before_label(told)
+            popped_before_label(told)
         }
         _ => 0,
     }
 }
 
 /// The same of `ref.eq`: the top operand alone, where it is refused itself, or both.
-fn taken_before_eq(stacks: &Stacks, told: &Told) -> usize {
+fn popped_before_eq(stacks: &Stacks, told: &Told) -> usize {
     let refused = match told {
         Told::Rule(Refusal::NotBelow { found, .. }) => Some(*found),
         Told::Rule(Refusal::NoReference(ty)) => Some(MaybeType::Known(*ty)),
@@ -109,7 +109,7 @@ fn taken_before_eq(stacks: &Stacks, told: &Told) -> usize {
 }
 
 /// The same of `ref.get_desc`, which looks for the descriptor last.
-fn taken_before_descriptor(told: &Told) -> usize {
+fn popped_before_descriptor(told: &Told) -> usize {
     match told {
         Told::Rule(Refusal::NoDescriptor) => 1,
         _ => 0,
@@ -117,7 +117,7 @@ fn taken_before_descriptor(told: &Told) -> usize {
 }
 
 /// The same of a cast by a descriptor: that goes before the type cast to is looked up.
-fn taken_before_cast(told: &Told) -> usize {
+fn popped_before_cast(told: &Told) -> usize {
     match told {
         Told::Rule(
             Refusal::NotExact { .. }
@@ -131,7 +131,7 @@ fn taken_before_cast(told: &Told) -> usize {
 }
 
 /// The same of a branch by a cast with a descriptor: that goes once the types are looked up, before the label is.
-fn taken_before_label(told: &Told) -> usize {
+fn popped_before_label(told: &Told) -> usize {
     match told {
         Told::Rule(
             Refusal::NotExact { .. }
@@ -146,7 +146,7 @@ fn taken_before_label(told: &Told) -> usize {
 }
 
 /// The same of an operator on structs: the descriptor goes before the struct is looked up.
-fn taken_before_struct(op: &StructOp, told: &Told) -> usize {
+fn popped_before_struct(op: &StructOp, told: &Told) -> usize {
     match op {
         StructOp::StructNewDesc(_) | StructOp::StructNewDefaultDesc(_) => {}
         _ => return 0,
@@ -160,7 +160,7 @@ fn taken_before_struct(op: &StructOp, told: &Told) -> usize {
 }
 
 /// The same of an operator on arrays.
-fn taken_before_array(op: &ArrayOp) -> usize {
+fn popped_before_array(op: &ArrayOp) -> usize {
     match op {
         ArrayOp::ArrayLen => 1,
         _ => 0,
@@ -168,7 +168,7 @@ fn taken_before_array(op: &ArrayOp) -> usize {
 }
 
 /// The same of an atomic operator: `get` and `set` ask last whether their place allows them.
-fn taken_before_shared(op: &SharedOp, told: &Told) -> usize {
+fn popped_before_shared(op: &SharedOp, told: &Told) -> usize {
     match told {
         Told::Rule(Refusal::NotAllowed { .. }) => {}
         _ => return 0,
@@ -201,23 +201,23 @@ fn taken_by(get: usize, set: usize, access: Exchange) -> usize {
 }
 
 /// The same of an operator on exceptions.
-fn taken_before_exception<R: WasmModuleResources>(
+fn popped_before_exception<R: WasmModuleResources>(
     stacks: &Stacks,
     resources: &R,
     op: &ExceptionOp<'_>,
     told: &Told,
 ) -> usize {
     match op {
-        ExceptionOp::TryTable(table) => taken_before_clauses(resources, table, told),
+        ExceptionOp::TryTable(table) => popped_before_clauses(resources, table, told),
         ExceptionOp::Catch(_) | ExceptionOp::CatchAll | ExceptionOp::Delegate(_) => {
-            taken_before_end(stacks, resources, told)
+            popped_before_end(stacks, resources, told)
         }
         _ => 0,
     }
 }
 
 /// The same of `try_table`: its parameters go before its clauses are looked at.
-fn taken_before_clauses<R: WasmModuleResources>(
+fn popped_before_clauses<R: WasmModuleResources>(
     resources: &R,
     table: &TryTable<'_>,
     told: &Told,

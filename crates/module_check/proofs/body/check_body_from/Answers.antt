@@ -2,7 +2,7 @@
 use Rattle.validate_body.specs.Start.{state}
 use Rattle.module_check.specs.Constant.{may_stand}
 use Rattle.module_check.proofs.Begun.{function_code, expression_code}
-use Rattle.module_check.proofs.body.check_begun.Goals as goal
+use Rattle.module_check.proofs.body.check_body_from.Goals as goal
 
 pub returns-in_ok-check_operators-in-Function : goal.returns-in_ok-check_operators-in-Function
 returns-in_ok-check_operators-in-Function g c = λ features starts.

@@ -4,7 +4,7 @@ use Rattle.validate_stacks.specs.Visits.{MayVisit}
 use Rattle.validate_stacks.proofs.AtOnce.{was_made, was_not_made}
 use Rattle.validate_stacks.proofs.Moves.{takes_done}
 use Rattle.validate_shapes.proofs.Moves.{exchange_moves, plain_is, moves_then}
-use Rattle.validate_shapes.proofs.plain.taken.Goals as goal
+use Rattle.validate_shapes.proofs.plain.pop_both.Goals as goal
 
 pub returns-then-exchange_numbers_at_once : goal.returns-then-exchange_numbers_at_once
 returns-then-exchange_numbers_at_once g c =

@@ -13,13 +13,13 @@ ghost use Rattle.module_check.specs.Safe.{AreSafeOperators};
 use crate::constant::{ConstantPlace, check_place};
 use crate::verdict::CheckError;
 use binary_operators::{
-    BinaryReader, CanonicalTypes, Fault, OperatorLists, ReadError, read_operator,
-    read_operator_into, read_value_type,
+    BinaryReader, CanonicalTypes, OperatorLists, ReadError, read_operator, read_operator_into,
+    read_value_type,
 };
 use validate_body::OperatorValidator;
 use validate_resources::WasmModuleResources;
 use validate_types::ValType;
-use validate_visit::{NumericOp, Op};
+use validate_visit::{ControlOp, Op};
 
 /// Reads a group of locals: how many there are, and of which type.
 #[tactic(auto, unfolding(binary_operators::specs::Functions::locals))]
@@ -90,15 +90,12 @@ pub(crate) fn check_operators<R: WasmModuleResources>(
         (state v.old) reader.old.left) }
 {
     let mut refusal = None;
-    for _ in 0..=reader.bytes_left() {
-        let offset = reader.offset();
+    for _ in 0..reader.bytes_left() {
         if reader.is_at_end() {
-            return Err(CheckError::refused(
-                "control frames remain at end of function body or expression",
-                offset,
-            ));
+            break;
         }
-        let mut op = Op::Numeric(NumericOp::I32Const(0));
+        let offset = reader.offset();
+        let mut op = Op::Control(ControlOp::Unreachable);
         read_operator_into(reader, &canonical, lists, &mut op)?;
         if !is_accepted(v, resources, offset, &op, &constant, &mut refusal) {
             break;
@@ -107,13 +104,13 @@ pub(crate) fn check_operators<R: WasmModuleResources>(
             return check_end(reader, canonical, lists);
         }
     }
-    match refusal {
-        Some(error) => Err(error),
-        None => Err(CheckError::Unread(ReadError::malformed(
-            Fault::UnexpectedEnd,
+    Err(match refusal {
+        Some(error) => error,
+        None => CheckError::refused(
+            "control frames remain at end of function body or expression",
             reader.offset(),
-        ))),
-    }
+        ),
+    })
 }
 
 /// Refuses an operator that isn't accepted, or may not stand there.

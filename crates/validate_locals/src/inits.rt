@@ -242,7 +242,7 @@ impl LocalInits {
         ensures told { IfErr result (λ e. A.tells e → ⊥) }
         ensures err { OnErr result (self.new ≡ self.old) }
     {
-        if !A::may_grow() && self.inits.len() == self.inits.capacity() {
+        if !A::may_allocate() && self.inits.len() == self.inits.capacity() {
             return Err(A::of(Refusal::OutOfMemory));
         }
         match self.inits.reserve(1) {

@@ -53,6 +53,21 @@ fn any_operator<A: Refused, R: WasmModuleResources>(
     }
 }
 
+/// [`any_operator`], called: a check and an attempt share it.
+#[cold]
+#[inline(never)]
+fn operator_by_call<A: Refused, R: WasmModuleResources>(
+    stacks: &mut Stacks,
+    resources: &R,
+    op: &Op,
+) -> Result<(), A>
+    requires { MayVisit (R.context resources.now) stacks.old }
+    ensures row { Moves (R.context resources.now) A.tells (λ cx. operator cx op.now) stacks.old result stacks.new }
+    ensures memory { TakesNoMemory (R.context resources.now) op.now stacks.old.body result }
+{
+    any_operator(stacks, resources, op)
+}
+
 /// Whether the body of an operator was done. False, with nothing changed, where it was refused or wanted memory.
 #[inline(always)]
 pub fn operator_at_once<R: WasmModuleResources>(stacks: &mut Stacks, resources: &R, op: &Op) -> bool
@@ -78,7 +93,7 @@ pub fn check_operator<R: WasmModuleResources>(
         result stacks.new.body }
     ensures memory { TakesNoMemory (R.context resources.now) op.now stacks.old.body result }
 {
-    let answer: Result<(), Told> = any_operator(stacks, resources, op);
+    let answer: Result<(), Told> = operator_by_call(stacks, resources, op);
     match answer {
         Ok(()) => Ok(()),
         Err(told) => Err(refuse(stacks, resources, offset, op, told)),
@@ -99,7 +114,7 @@ pub fn try_operator<R: WasmModuleResources>(
         result stacks.new.body }
     ensures back { OnErr result (stacks.new ≡ stacks.old) }
 {
-    let answer: Result<(), Told> = any_operator(stacks, resources, op);
+    let answer: Result<(), Told> = operator_by_call(stacks, resources, op);
     placed(stacks, resources, offset, answer)
 }
 

@@ -7,6 +7,7 @@ ghost use Rattle.validate_stacks.specs.Moves.{Moves};
 ghost use Rattle.validate_stacks.specs.Visits.{step_body, MayVisit};
 
 use validate_resources::WasmModuleResources;
+use validate_shapes::canonical::canonical_value;
 use validate_shapes::plain::plain;
 use validate_stacks::Stacks;
 use validate_types::{MaybeType, Refusal, Refused, ValType};
@@ -124,10 +125,7 @@ pub fn typed_select<A: Refused, R: WasmModuleResources>(
     ensures { Moves (R.context resources.now) A.tells (λ cx. row_operator (typed_select_row cx ty.now)) stacks.old result
         stacks.new }
 {
-    let mut checked = *ty;
-    if let Err(error) = resources.check_value_type(&mut checked, &stacks.features(), 0) {
-        return Err(A::by_look_up(error));
-    }
+    let checked = canonical_value(resources, stacks.features(), *ty)?;
     plain(
         stacks,
         resources,

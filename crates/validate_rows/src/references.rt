@@ -17,6 +17,7 @@ ghost use Rattle.validate_stacks.specs.Visits.{MayVisit};
 use validate_resources::WasmModuleResources;
 use validate_resources::uses::laws;
 use validate_shapes::aggregates::declared_heap;
+use validate_shapes::canonical::heap_reference;
 use validate_shapes::plain::constant;
 use validate_shapes::references::without_null;
 use validate_stacks::Stacks;
@@ -56,17 +57,8 @@ fn find_null_type<A: Refused, R: WasmModuleResources>(
     ensures refused { IfErr result (λ e. A.tells e → (ref_null_row
         (body_context (R.context resources.now) stacks.now.body) heap_type).premise ≡ false) }
 {
-    laws(resources);
     find_null_open(stacks, heap_type)?;
-    let mut checked = heap_type;
-    match resources.check_heap_type(&mut checked, 0) {
-        Ok(()) => {}
-        Err(error) => return Err(A::by_look_up(error)),
-    }
-    let Some(ty) = RefType::new(true, checked) else {
-        unreachable!()
-    };
-    Ok(ValType::Ref(ty))
+    heap_reference(resources, true, heap_type)
 }
 
 /// `ref.null`: `[] -> [(ref null h)]` of a heap type h whose gate is open and that is known.

@@ -13,6 +13,7 @@ ghost use Rattle.validate_rows_gc.specs.Casts.{branch_row, branch_types, cast_ty
 
 use validate_resources::WasmModuleResources;
 use validate_resources::uses::laws;
+use validate_shapes::canonical::canonical_ref;
 use validate_shapes::plain::plain;
 use validate_stacks::Stacks;
 use validate_stacks::blocks::label_types;
@@ -33,15 +34,10 @@ fn checked_ref<A: Refused, R: WasmModuleResources>(
     ensures refused { IfErr result (λ e. A.tells e
         → rule.checked_ref (body_context (R.context resources.now) stacks.now.body) ty ≡ None) }
 {
-    laws(resources);
     if let Err(text) = stacks.features().check_ref_type(ty) {
         return Err(A::of(Refusal::ReferenceOff(text)));
     }
-    let mut checked = ty;
-    match resources.check_ref_type(&mut checked, 0) {
-        Ok(()) => Ok(checked),
-        Err(error) => Err(A::by_look_up(error)),
-    }
+    canonical_ref(resources, ty)
 }
 
 /// Refuses a type that no cast leads to (wasmparser's `check_cast_to_allowed`).

@@ -18,32 +18,13 @@ ghost use Rattle.validate_rows_gc.specs.Descriptors.{found_descriptor};
 
 use crate::casts::{CastBranch, cast_branch, cast_type, checked_cast, operand_of_cast};
 use validate_resources::WasmModuleResources;
-use validate_resources::uses::laws;
 use validate_shapes::aggregates::{declared_heap, descriptor_at, type_reference};
+use validate_shapes::canonical::canonical_heap;
 use validate_stacks::Stacks;
 use validate_types::{
     HeapType, MaybeType, PackedIndex, RefType, Refusal, Refused, UnpackedIndex, ValType,
 };
 use validate_visit::BranchCast;
-
-/// The exact type at this index, which has to be declared, in canonical form.
-fn exact_heap_at<A: Refused, R: WasmModuleResources>(
-    resources: &R,
-    type_index: u32,
-) -> Result<HeapType, A>
-    ensures found { IfOk result (λ h. (R.context resources.now).canonical_heap
-        (HeapType.Exact (UnpackedIndex.Module type_index)) ≡ Some h) }
-    ensures valid { IfOk result (λ h. is_valid_heap (R.context resources.now) h ≡ true) }
-    ensures refused { IfErr result (λ e. A.tells e → (R.context resources.now).canonical_heap
-        (HeapType.Exact (UnpackedIndex.Module type_index)) ≡ None) }
-{
-    laws(resources);
-    let mut heap_type = HeapType::Exact(UnpackedIndex::Module(type_index));
-    if let Err(error) = resources.check_heap_type(&mut heap_type, 0) {
-        return Err(A::by_look_up(error));
-    }
-    Ok(heap_type)
-}
 
 /// Whether an operand is known to be exact in this type, if it is anything.
 fn is_found_exact<R: WasmModuleResources>(resources: &R, exact: HeapType, found: MaybeType) -> bool
@@ -79,7 +60,10 @@ pub fn ref_get_desc<A: Refused, R: WasmModuleResources>(
         result stacks.new }
 {
     let from = type_reference(stacks, resources, true, type_index)?;
-    let exact = exact_heap_at(resources, type_index)?;
+    let exact = canonical_heap(
+        resources,
+        HeapType::Exact(UnpackedIndex::Module(type_index)),
+    )?;
     stacks.find_operands(resources, 0, &[from])?;
     let Some(descriptor) = descriptor_at(resources, type_index)? else {
         return Err(A::of(Refusal::NoDescriptor));

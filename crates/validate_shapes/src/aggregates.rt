@@ -15,12 +15,13 @@ ghost use Rattle.validation_rules.specs.Indirect as indirect_rule;
 ghost use Rattle.validation_rules.specs.Structs.{struct_type, struct_fields, struct_field, field_value};
 ghost use Rattle.validate_stacks.specs.State.{body_context};
 
+use crate::canonical::heap_reference;
 use validate_resources::WasmModuleResources;
 use validate_resources::uses::laws;
 use validate_stacks::Stacks;
 use validate_types::{
-    CompositeInnerType, FieldType, HeapType, PackedIndex, Packing, RefType, Refusal, Refused,
-    StructType, SubType, UnpackedIndex, ValType,
+    CompositeInnerType, FieldType, HeapType, PackedIndex, Packing, Refusal, Refused, StructType,
+    SubType, UnpackedIndex, ValType,
 };
 use validate_visit::{FieldIndex, Sign};
 
@@ -177,17 +178,10 @@ pub fn type_reference<A: Refused, R: WasmModuleResources>(
     ensures refused { IfErr result (λ e. A.tells e → indirect_rule.type_reference
         (body_context (R.context resources.now) stacks.now.body) (reference nullable) type_index ≡ None) }
 {
-    laws(resources);
     // The contract alone reads it.
     let _stacks = stacks;
-    let mut heap_type = HeapType::Concrete(UnpackedIndex::Module(type_index));
-    if let Err(error) = resources.check_heap_type(&mut heap_type, 0) {
-        return Err(A::by_look_up(error));
-    }
-    let Some(ty) = RefType::new(nullable, heap_type) else {
-        unreachable!()
-    };
-    Ok(ValType::Ref(ty))
+    let heap_type = HeapType::Concrete(UnpackedIndex::Module(type_index));
+    heap_reference(resources, nullable, heap_type)
 }
 
 /// A type of the module, exact or not.
@@ -216,16 +210,9 @@ pub fn allocated_reference<A: Refused, R: WasmModuleResources>(
     ensures refused { IfErr result (λ e. A.tells e → exact_rule.allocated_reference
         (body_context (R.context resources.now) stacks.now.body) type_index ≡ None) }
 {
-    laws(resources);
     let exact = stacks.features().custom_descriptors();
-    let mut heap_type = declared_heap(exact, UnpackedIndex::Module(type_index));
-    if let Err(error) = resources.check_heap_type(&mut heap_type, 0) {
-        return Err(A::by_look_up(error));
-    }
-    let Some(ty) = RefType::new(false, heap_type) else {
-        unreachable!()
-    };
-    Ok(ValType::Ref(ty))
+    let heap_type = declared_heap(exact, UnpackedIndex::Module(type_index));
+    heap_reference(resources, false, heap_type)
 }
 
 /// The type of the descriptors of the type at this index, if it has one. The type has to be declared.

@@ -10,6 +10,7 @@ ghost use Rattle.validate_stacks.specs.State.{body_context};
 ghost use Rattle.validate_stacks.specs.Moves.{Moves};
 ghost use Rattle.validate_stacks.specs.Visits.{MayVisit};
 
+use crate::canonical::canonical_value;
 use validate_resources::WasmModuleResources;
 use validate_resources::kinds::func_type_of;
 use validate_stacks::Stacks;
@@ -64,11 +65,8 @@ pub fn check_block_type<A: Refused, R: WasmModuleResources>(
     match block_type {
         BlockType::Empty => Ok(BlockType::Empty),
         BlockType::Val(ty) => {
-            let mut checked = ty;
-            match resources.check_value_type(&mut checked, &stacks.features(), 0) {
-                Ok(()) => Ok(BlockType::Val(checked)),
-                Err(error) => Err(A::by_look_up(error)),
-            }
+            let checked = canonical_value(resources, stacks.features(), ty)?;
+            Ok(BlockType::Val(checked))
         }
         BlockType::FuncType(index) => {
             check_function_type(stacks, resources, index)?;

@@ -5,6 +5,7 @@
 pub mod accesses;
 pub mod aggregates;
 pub mod blocks;
+pub mod canonical;
 pub mod checked;
 pub mod functions;
 pub mod globals;

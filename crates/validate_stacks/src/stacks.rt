@@ -618,7 +618,7 @@ pub(crate) fn prepare_push<A: Refused>(
     if !transaction.is_active() && operands.has_room() {
         return Ok(());
     }
-    if !A::may_grow() {
+    if !A::may_allocate() {
         return Err(A::of(Refusal::OutOfMemory));
     }
     grown(grow_for_push(operands, transaction))

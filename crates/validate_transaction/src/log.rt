@@ -238,7 +238,7 @@ fn append<A: Refused>(indices: &mut Vec<u32>, more: &[u32]) -> Result<(), A>
         (λ _. indices.new.items ≡ indices.old.items) }
     ensures told { IfErr result (λ e. A.tells e → ⊥) }
 {
-    if !A::may_grow() && indices.capacity() - indices.len() < more.len() {
+    if !A::may_allocate() && indices.capacity() - indices.len() < more.len() {
         return Err(A::of(Refusal::OutOfMemory));
     }
     match indices.extend_from_slice(more) {

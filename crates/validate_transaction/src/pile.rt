@@ -95,7 +95,7 @@ impl<T> Pile<T> {
         ensures told { IfErr result (λ e. A.tells e → ⊥) }
         ensures within { length self.old.items ≤ self.old.room }
     {
-        if !A::may_grow() && self.vec.capacity() - self.vec.len() < count {
+        if !A::may_allocate() && self.vec.capacity() - self.vec.len() < count {
             return Err(A::of(Refusal::OutOfMemory));
         }
         match self.vec.reserve(count) {

@@ -302,9 +302,10 @@ pub trait Refused {
     /// It tells that the row doesn't hold.
     ghost tells: { Self → Type 0 };
 
-    /// Whether memory may be asked for where there is no room. A body that tells nothing asks for none, as it is called again
-    /// by one who tells: so each growth is asked for once.
-    fn may_grow() -> bool;
+    /// Whether memory may be asked for: for room, or by a look-up for its text. A body that tells nothing asks for none, as
+    /// one that tells is called after it: so each growth is asked for once.
+    fn may_allocate() -> bool
+        ensures { result ≡ false → (refused : Self) → tells refused → ⊥ };
 
     /// The answer for this reason.
     fn of(refusal: Refusal) -> Self
@@ -323,7 +324,7 @@ impl Refused for NotDone {
     ghost tells = { λ _. ⊥ };
 
     #[inline(always)]
-    fn may_grow() -> bool {
+    fn may_allocate() -> bool {
         false
     }
 
@@ -353,7 +354,7 @@ impl Refused for Told {
     ghost tells = { IsRowRefused };
 
     #[inline(always)]
-    fn may_grow() -> bool {
+    fn may_allocate() -> bool {
         true
     }
 

@@ -1,6 +1,6 @@
 //! The operators of a body, which are read and handed to its validator one by one.
 
-ghost use Rattle.std.specs.Prelude.{◌≡◌, ◌≢◌, [], true, Ok, Some, None, OnOk, IfOk, OnErr};
+ghost use Rattle.std.specs.Prelude.{◌≡◌, ◌≢◌, [], true, false, Ok, Some, None, OnOk, IfOk, OnErr, IsSome};
 ghost use Rattle.binary_operators.specs.Functions.{locals};
 ghost use Rattle.validate_stacks.specs.State.{IsStarting};
 ghost use Rattle.validate_stacks.specs.Visits.{MayVisit, Meets};
@@ -145,6 +145,7 @@ fn is_accepted_by_check<R: WasmModuleResources>(
     ensures row { result ≡ true → Meets (R.context resources.now) (λ cx. operator cx op.now) offset (state v.old)
         (Ok tt) (state v.new) }
     ensures stands { result ≡ true → may_stand constant.now op.now ≡ true }
+    ensures told { result ≡ false → IsSome refusal.new }
 {
     match check_operator(v, resources, offset, op, constant) {
         Ok(()) => true,
@@ -170,6 +171,7 @@ fn is_accepted<R: WasmModuleResources>(
     ensures row { result ≡ true → Meets (R.context resources.now) (λ cx. operator cx op.now) offset (state v.old)
         (Ok tt) (state v.new) }
     ensures stands { result ≡ true → may_stand constant.now op.now ≡ true }
+    ensures told { result ≡ false → IsSome refusal.new }
 {
     if constant.is_none() && v.passes_at_once(resources, op) {
         return true;

@@ -19,7 +19,7 @@ use binary_operators::{
 use validate_body::OperatorValidator;
 use validate_resources::WasmModuleResources;
 use validate_types::ValType;
-use validate_visit::{ControlOp, Op};
+use validate_visit::{NumericOp, Op};
 
 /// Reads a group of locals: how many there are, and of which type.
 #[tactic(auto, unfolding(binary_operators::specs::Functions::locals))]
@@ -74,10 +74,9 @@ pub(crate) fn define_locals<R: WasmModuleResources>(
     Ok(())
 }
 
-/// Reads operators up to the end of the bytes, and checks each by the validator of their body, which starts.
-/// It refuses what their reads refuse; what the validator refuses; an operator behind the one that closes the
-/// body; in a constant expression, one that isn't constant; and, at the end, a body that is open.
-pub(crate) fn check_operators<R: WasmModuleResources>(
+/// [`check_operators`], inlined, so that where the body is a function's no operator asks where it stands.
+#[inline(always)]
+fn check_each_operator<R: WasmModuleResources>(
     v: &mut OperatorValidator,
     resources: &R,
     reader: &mut BinaryReader<'_>,
@@ -95,7 +94,7 @@ pub(crate) fn check_operators<R: WasmModuleResources>(
             break;
         }
         let offset = reader.offset();
-        let mut op = Op::Control(ControlOp::Unreachable);
+        let mut op = Op::Numeric(NumericOp::I32Const(0));
         read_operator_into(reader, &canonical, lists, &mut op)?;
         if !is_accepted(v, resources, offset, &op, &constant, &mut refusal) {
             break;
@@ -111,6 +110,27 @@ pub(crate) fn check_operators<R: WasmModuleResources>(
             reader.offset(),
         ),
     })
+}
+
+/// Reads operators up to the end of the bytes, and checks each by the validator of their body, which starts.
+/// It refuses what their reads refuse; what the validator refuses; an operator behind the one that closes the
+/// body; in a constant expression, one that isn't constant; and, at the end, a body that is open.
+pub(crate) fn check_operators<R: WasmModuleResources>(
+    v: &mut OperatorValidator,
+    resources: &R,
+    reader: &mut BinaryReader<'_>,
+    canonical: CanonicalTypes<'_>,
+    lists: &mut OperatorLists,
+    constant: Option<ConstantPlace<'_>>,
+) -> Result<(), CheckError>
+    requires { IsStarting (R.context resources.now) (state v.old) }
+    ensures { OnOk result (AreSafeOperators (R.context resources.now) canonical.entry (may_stand constant.entry)
+        (state v.old) reader.old.left) }
+{
+    match constant {
+        None => check_each_operator(v, resources, reader, canonical, lists, None),
+        Some(place) => check_each_operator(v, resources, reader, canonical, lists, Some(place)),
+    }
 }
 
 /// Refuses an operator that isn't accepted, or may not stand there.

@@ -2,7 +2,7 @@
 use Rattle.validate_body.specs.Start.{state}
 use Rattle.module_check.specs.Constant.{may_stand}
 use Rattle.module_check.proofs.Behind.{IsOpenBehind}
-use Rattle.module_check.proofs.operators.check_operators.Given as goal
+use Rattle.module_check.proofs.operators.check_each_operator.Given as goal
 
 abbrev pub invariant-loop : goal.invariant-loop
 invariant-loop g l =

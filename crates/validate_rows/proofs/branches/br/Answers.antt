@@ -11,7 +11,7 @@ use Rattle.validate_stacks.specs.Visits.{step_body}
 use Rattle.validate_stacks.proofs.Moves.{fits_now, not_popped}
 use Rattle.validate_shapes.proofs.BranchSteps.{label_valid, br_none, types_there, br_is}
 use Rattle.validate_shapes.proofs.Moves.{unmoved, ended_moves, never_refused}
-use Rattle.validate_rows.proofs.branches.br.Pushed.{Over}
+use Rattle.validate_rows.proofs.branches.br.Given.{Over}
 use Rattle.validate_rows.proofs.branches.br.Goals.{Start, After-label_types-types}
 use Rattle.validate_rows.proofs.branches.br.Goals as goal
 

@@ -10,7 +10,7 @@ use Rattle.validate_stacks.proofs.Moves.{dropped_below, fits_now, not_popped}
 use Rattle.validate_stacks.proofs.Validity.{kept_on}
 use Rattle.validate_shapes.proofs.BranchSteps.{label_valid, dropped_label, still_open, br_if_types, br_if_untested, br_if_none, br_if_refused, br_if_passes}
 use Rattle.validate_shapes.proofs.Moves.{unmoved, made_moves}
-use Rattle.validate_rows.proofs.branches.br_if.Pushed.{Over}
+use Rattle.validate_rows.proofs.branches.br_if.Given.{Over}
 use Rattle.validate_rows.proofs.branches.br_if.Goals.{In_ok-find_operands, After-label_types-types}
 use Rattle.validate_rows.proofs.branches.br_if.Goals as goal
 

@@ -14,7 +14,7 @@ use Rattle.validate_shapes.proofs.BranchSteps.{dropped_label, label_valid, still
 use Rattle.validate_shapes.proofs.Moves.{unmoved, made_moves, never_refused, unreachable_valid}
 use Rattle.validate_rows.specs.Targets.{are_targets}
 use Rattle.validate_rows.proofs.BranchTables.{table_untested, table_none, types_table, table_refused, table_other_targets, table_passes}
-use Rattle.validate_rows.proofs.branches.br_table.Pushed.{Over}
+use Rattle.validate_rows.proofs.branches.br_table.Given.{Over}
 use Rattle.validate_rows.proofs.branches.br_table.Goals.{Start, In_ok-find_operands, After-label_types-types}
 use Rattle.validate_rows.proofs.branches.br_table.Goals as goal
 

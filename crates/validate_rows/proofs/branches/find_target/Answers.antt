@@ -9,7 +9,7 @@ use Rattle.validate_stacks.specs.Steps.{label_at}
 use Rattle.validate_shapes.proofs.BranchSteps.{dropped_label, label_there, label_valid}
 use Rattle.validate_rows.specs.Targets.{is_table_target}
 use Rattle.validate_rows.proofs.BranchTables.{not_a_label, of_another_count, of_that_count}
-use Rattle.validate_rows.proofs.branches.find_target.Pushed.{Over}
+use Rattle.validate_rows.proofs.branches.find_target.Given.{Over}
 use Rattle.validate_rows.proofs.branches.find_target.Goals.{After-label_types-types}
 use Rattle.validate_rows.proofs.branches.find_target.Goals as goal
 

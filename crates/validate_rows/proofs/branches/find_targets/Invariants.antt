@@ -3,7 +3,7 @@ use Rattle.std.proofs.Common.{◌≡◌, drop}
 use Rattle.std.specs.List.{list_all}
 use Rattle.validate_stacks.specs.AtOnce.{body_dropped}
 use Rattle.validate_rows.specs.Targets.{is_table_target}
-use Rattle.validate_rows.proofs.branches.find_targets.Pushed as goal
+use Rattle.validate_rows.proofs.branches.find_targets.Given as goal
 
 abbrev pub invariant-loop-relative_depth : goal.invariant-loop-relative_depth
 invariant-loop-relative_depth g l =

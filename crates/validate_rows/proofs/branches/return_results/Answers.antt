@@ -12,7 +12,7 @@ use Rattle.validate_stacks.specs.Visits.{step_body}
 use Rattle.validate_stacks.proofs.Moves.{fits_now, not_popped}
 use Rattle.validate_shapes.proofs.BranchSteps.{label_valid, types_there, br_is, some_outermost, outermost_label}
 use Rattle.validate_shapes.proofs.Moves.{unmoved, ended_moves, never_refused}
-use Rattle.validate_rows.proofs.branches.return_results.Pushed.{Over}
+use Rattle.validate_rows.proofs.branches.return_results.Given.{Over}
 use Rattle.validate_rows.proofs.branches.return_results.Goals.{After-label_types-results}
 use Rattle.validate_rows.proofs.branches.return_results.Goals as goal
 

@@ -8,7 +8,7 @@ use Rattle.validation_rules.specs.Static.{heads}
 use Rattle.validate_stacks.specs.State.{body_context}
 use Rattle.validate_stacks.specs.Steps.{label_at}
 use Rattle.validate_shapes.proofs.BranchSteps.{label_there, label_valid, types_there, some_outermost, outermost_label}
-use Rattle.validate_rows.proofs.calls.find_same_results.Pushed.{Over}
+use Rattle.validate_rows.proofs.calls.find_same_results.Given.{Over}
 use Rattle.validate_rows.proofs.calls.find_same_results.Goals.{After-label_types-expected}
 use Rattle.validate_rows.proofs.calls.find_same_results.Goals as goal
 

@@ -12,7 +12,7 @@ use Rattle.validate_shapes.proofs.Moves.{unmoved}
 use Rattle.validate_shapes.proofs.PartMoves.{begun_moves, begun_whole}
 use Rattle.validate_shapes.proofs.Parts.{body_with_part, params_of, else_begins, part_none, part_of_another, part_passes}
 use Rattle.validate_rows.proofs.Ends.{results_as}
-use Rattle.validate_rows.proofs.control.else_after.Pushed.{Over}
+use Rattle.validate_rows.proofs.control.else_after.Given.{Over}
 use Rattle.validate_rows.proofs.control.else_after.Goals.{After-find_results}
 use Rattle.validate_rows.proofs.control.else_after.Goals as goal
 

@@ -12,7 +12,7 @@ use Rattle.validate_shapes.proofs.Moves.{unmoved}
 use Rattle.validate_shapes.proofs.PartMoves.{closed_moves}
 use Rattle.validate_shapes.proofs.Rows.{end_none, end_refused_if, end_passes}
 use Rattle.validate_rows.proofs.Ends.{missing_fits, fits_as, results_as}
-use Rattle.validate_rows.proofs.control.end_of.Pushed.{Over}
+use Rattle.validate_rows.proofs.control.end_of.Given.{Over}
 use Rattle.validate_rows.proofs.control.end_of.Goals.{After-find_results, then-not-may_lack_else+in_ok-find_missing_else, else-not-may_lack_else}
 use Rattle.validate_rows.proofs.control.end_of.Goals as goal
 

@@ -18,7 +18,7 @@ use Rattle.validate_stacks.proofs.Validity.{kept_on, popped_valid, popped_kept, 
 use Rattle.validate_stacks.proofs.Whole.{popped_next, popped_none}
 use Rattle.validate_shapes.proofs.Moves.{unmoved, made_moves}
 use Rattle.validate_rows.proofs.SelectSteps.{test_refused, upper_missing, lower_missing, both_found, found_valid, selected_one}
-use Rattle.validate_rows.proofs.parametric.any_select.Pushed.{Over}
+use Rattle.validate_rows.proofs.parametric.any_select.Given.{Over}
 use Rattle.validate_rows.proofs.parametric.any_select.Goals.{Start, In_ok-find_operands, In_ok-lower}
 use Rattle.validate_rows.proofs.parametric.any_select.Goals as goal
 

@@ -15,7 +15,7 @@ use Rattle.validate_stacks.specs.Steps.{type_and_kind}
 use Rattle.validate_shapes.proofs.BranchSteps.{label_there, no_label, no_types, label_valid}
 use Rattle.validate_shapes.proofs.Moves.{moves_barred, exchange_moves}
 use Rattle.validate_shapes.proofs.ReferenceSteps.{on_non_null_is}
-use Rattle.validate_rows.proofs.references.br_on_non_null.Pushed.{Over}
+use Rattle.validate_rows.proofs.references.br_on_non_null.Given.{Over}
 use Rattle.validate_rows.proofs.references.br_on_non_null.Goals.{Start, After-label_types-types, In_ok-others}
 use Rattle.validate_rows.proofs.references.br_on_non_null.Goals as goal
 

@@ -20,7 +20,7 @@ use Rattle.validate_shapes.proofs.BranchSteps.{label_there, no_label, label_vali
 use Rattle.validate_shapes.proofs.Moves.{unmoved, made_moves}
 use Rattle.validate_shapes.proofs.ReferenceSteps.{above_types, on_null_is, unreferenced, above_missing, above_there}
 use Rattle.validate_rows.proofs.Found.{reference_valid}
-use Rattle.validate_rows.proofs.references.br_on_null.Pushed.{Over}
+use Rattle.validate_rows.proofs.references.br_on_null.Given.{Over}
 use Rattle.validate_rows.proofs.references.br_on_null.Goals.{Start, After-label_types-types}
 use Rattle.validate_rows.proofs.references.br_on_null.Goals as goal
 

@@ -13,7 +13,7 @@ use Rattle.validation_rules.proofs.Valid.{declared_valid}
 use Rattle.validate_stacks.specs.State.{body_context}
 use Rattle.validate_shapes.proofs.Moves.{moves_barred, moves_found}
 use Rattle.validate_shapes.proofs.HeapReferences.{not_made, made_is}
-use Rattle.validate_rows.proofs.references.ref_func.Pushed.{Over}
+use Rattle.validate_rows.proofs.references.ref_func.Given.{Over}
 use Rattle.validate_rows.proofs.references.ref_func.Goals.{After-function_heap-heap_type}
 use Rattle.validate_rows.proofs.references.ref_func.Goals as goal
 

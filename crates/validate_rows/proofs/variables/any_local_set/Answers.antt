@@ -5,7 +5,7 @@ use Rattle.validate_shapes.proofs.LastSteps.{all_get, not_false}
 use Rattle.validate_shapes.proofs.Moves.{unmoved, takes_moves, exchange_moves}
 use Rattle.validate_shapes.proofs.Rows.{no_local_set, local_set_is}
 use Rattle.validate_rows.proofs.Locals.{set_then_valid, set_then_kept, taken_set}
-use Rattle.validate_rows.proofs.variables.any_local_set.Pushed.{Over}
+use Rattle.validate_rows.proofs.variables.any_local_set.Given.{Over}
 use Rattle.validate_rows.proofs.variables.any_local_set.Goals.{In_ok-ty}
 use Rattle.validate_rows.proofs.variables.any_local_set.Goals as goal
 

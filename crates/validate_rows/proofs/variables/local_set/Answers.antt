@@ -8,7 +8,7 @@ use Rattle.validate_shapes.proofs.LastSteps.{all_get, not_false}
 use Rattle.validate_shapes.proofs.Moves.{unmoved, exchange_moves, moves_then}
 use Rattle.validate_shapes.proofs.Rows.{no_local_set, local_set_is}
 use Rattle.validate_rows.proofs.Locals.{taken_set}
-use Rattle.validate_rows.proofs.variables.local_set.Pushed.{Over}
+use Rattle.validate_rows.proofs.variables.local_set.Given.{Over}
 use Rattle.validate_rows.proofs.variables.local_set.Goals.{In_ok-ty}
 use Rattle.validate_rows.proofs.variables.local_set.Goals as goal
 

@@ -6,7 +6,7 @@ use Rattle.validate_shapes.proofs.LastSteps.{all_get, not_false}
 use Rattle.validate_shapes.proofs.Moves.{unmoved, exchange_moves}
 use Rattle.validate_shapes.proofs.Rows.{no_local_tee, local_tee_is}
 use Rattle.validate_rows.proofs.Locals.{taken_set}
-use Rattle.validate_rows.proofs.variables.local_tee.Pushed.{Over}
+use Rattle.validate_rows.proofs.variables.local_tee.Given.{Over}
 use Rattle.validate_rows.proofs.variables.local_tee.Goals.{In_ok-ty}
 use Rattle.validate_rows.proofs.variables.local_tee.Goals as goal
 

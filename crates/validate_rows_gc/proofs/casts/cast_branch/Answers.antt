@@ -24,7 +24,7 @@ use Rattle.validate_shapes.proofs.Rows.{pushed_then}
 use Rattle.validate_rows_gc.specs.Casts.{branch_types, cast_types}
 use Rattle.validate_rows_gc.proofs.Below.{dropped_valid, unfit_below, moved_below}
 use Rattle.validate_rows_gc.proofs.CastBranches.{from_valid, carried_valid, left_valid, last_is_valid, barred_unlabelled, barred_at, branch_is}
-use Rattle.validate_rows_gc.proofs.casts.cast_branch.Pushed.{Over}
+use Rattle.validate_rows_gc.proofs.casts.cast_branch.Given.{Over}
 use Rattle.validate_rows_gc.proofs.casts.cast_branch.Goals.{Start, After-label_types-types, In_ok-others, After-types-cast}
 use Rattle.validate_rows_gc.proofs.casts.cast_branch.Goals as goal
 

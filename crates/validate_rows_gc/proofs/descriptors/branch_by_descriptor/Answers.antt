@@ -12,7 +12,7 @@ use Rattle.validate_rows_gc.specs.Casts.{branch_types}
 use Rattle.validate_rows_gc.specs.Descriptors.{found_descriptor}
 use Rattle.validate_rows_gc.proofs.Below.{dropped_once}
 use Rattle.validate_rows_gc.proofs.DescriptorSteps.{not_cast, without_descriptor, branch_missing, branch_rest}
-use Rattle.validate_rows_gc.proofs.descriptors.branch_by_descriptor.Pushed.{Over}
+use Rattle.validate_rows_gc.proofs.descriptors.branch_by_descriptor.Given.{Over}
 use Rattle.validate_rows_gc.proofs.descriptors.branch_by_descriptor.Goals.{After-is_exact}
 use Rattle.validate_rows_gc.proofs.descriptors.branch_by_descriptor.Goals as goal
 

@@ -8,7 +8,7 @@ use Rattle.validate_stacks.specs.Steps.{found_in_body}
 use Rattle.validate_stacks.proofs.PopRuns.{found_first}
 use Rattle.validate_rows_gc.specs.Descriptors.{found_descriptor}
 use Rattle.validate_rows_gc.proofs.DescriptorSteps.{is_there, not_there, another_descriptor, that_descriptor}
-use Rattle.validate_rows_gc.proofs.descriptors.find_descriptor.Pushed.{Over}
+use Rattle.validate_rows_gc.proofs.descriptors.find_descriptor.Given.{Over}
 use Rattle.validate_rows_gc.proofs.descriptors.find_descriptor.Goals.{In_ok-found}
 use Rattle.validate_rows_gc.proofs.descriptors.find_descriptor.Goals as goal
 

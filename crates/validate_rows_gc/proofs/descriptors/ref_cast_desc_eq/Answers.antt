@@ -16,7 +16,7 @@ use Rattle.validate_shapes.proofs.Moves.{unmoved, moves_barred, plain_is}
 use Rattle.validate_rows_gc.specs.Descriptors.{found_descriptor}
 use Rattle.validate_rows_gc.proofs.Below.{dropped_once, unfit_below, moved_below}
 use Rattle.validate_rows_gc.proofs.DescriptorSteps.{no_descriptor, not_castable, cast_missing, cast_rest}
-use Rattle.validate_rows_gc.proofs.descriptors.ref_cast_desc_eq.Pushed.{Over}
+use Rattle.validate_rows_gc.proofs.descriptors.ref_cast_desc_eq.Given.{Over}
 use Rattle.validate_rows_gc.proofs.descriptors.ref_cast_desc_eq.Goals.{After-is_exact, After-operand_of_cast-operand}
 use Rattle.validate_rows_gc.proofs.descriptors.ref_cast_desc_eq.Goals as goal
 

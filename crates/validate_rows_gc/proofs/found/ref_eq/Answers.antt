@@ -10,7 +10,7 @@ use Rattle.validate_stacks.proofs.Validity.{kept_on, popped_valid, popped_kept}
 use Rattle.validate_shapes.proofs.Moves.{unmoved}
 use Rattle.validate_rows_gc.specs.Found.{operand_found_below}
 use Rattle.validate_rows_gc.proofs.FoundSteps.{first_missing, second_missing, not_alike, alike, two_dropped, replaced_moves}
-use Rattle.validate_rows_gc.proofs.found.ref_eq.Pushed.{Over}
+use Rattle.validate_rows_gc.proofs.found.ref_eq.Given.{Over}
 use Rattle.validate_rows_gc.proofs.found.ref_eq.Goals.{In_ok-above, In_ok-below}
 use Rattle.validate_rows_gc.proofs.found.ref_eq.Goals as goal
 

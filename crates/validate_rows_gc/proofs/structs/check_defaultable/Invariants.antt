@@ -2,7 +2,7 @@
 use Rattle.std.proofs.Common.{◌≡◌, length}
 use Rattle.std.specs.List.{list_all}
 use Rattle.validate_types.specs.Types.{is_defaultable, unpacked_fields}
-use Rattle.validate_rows_gc.proofs.structs.check_defaultable.Pushed as goal
+use Rattle.validate_rows_gc.proofs.structs.check_defaultable.Given as goal
 
 abbrev pub decreases-loop-field : goal.decreases-loop-field
 decreases-loop-field g l = length l.rest

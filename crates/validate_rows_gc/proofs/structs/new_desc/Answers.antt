@@ -19,7 +19,7 @@ use Rattle.validate_stacks.proofs.Moves.{not_popped, popped}
 use Rattle.validate_shapes.proofs.LookupRows.{found_as}
 use Rattle.validate_shapes.proofs.Moves.{unmoved, moves_barred, exchange_moves, plain_is}
 use Rattle.validate_rows_gc.proofs.DescriptorSteps.{made_missing, described_as}
-use Rattle.validate_rows_gc.proofs.structs.new_desc.Pushed.{Over}
+use Rattle.validate_rows_gc.proofs.structs.new_desc.Given.{Over}
 use Rattle.validate_rows_gc.proofs.structs.new_desc.Goals.{In_ok-find_new_descriptor, After-as_slice-fields}
 use Rattle.validate_rows_gc.proofs.structs.new_desc.Goals as goal
 

@@ -6,7 +6,7 @@ use Rattle.validate_stacks.specs.State.{body_context}
 use Rattle.validate_shapes.proofs.BranchSteps.{label_there, label_valid}
 use Rattle.validate_shapes.proofs.TypesBelow.{other_count}
 use Rattle.validate_shapes.proofs.CarriedTypes.{accepts_none, carried_at}
-use Rattle.validate_rows_handlers.proofs.clauses.find_carried.Pushed.{Over}
+use Rattle.validate_rows_handlers.proofs.clauses.find_carried.Given.{Over}
 use Rattle.validate_rows_handlers.proofs.clauses.find_carried.Goals.{After-label_types-expected}
 use Rattle.validate_rows_handlers.proofs.clauses.find_carried.Goals as goal
 

@@ -10,7 +10,7 @@ use Rattle.validation_rules.proofs.Pops.{and_false}
 use Rattle.validate_stacks.specs.State.{body_context}
 use Rattle.validate_shapes.proofs.BranchSteps.{label_there, label_valid}
 use Rattle.validate_shapes.proofs.CarriedTypes.{accepts_none, carried_at, fits_with_last, last_none, last_of_others, front_and_last}
-use Rattle.validate_rows_handlers.proofs.clauses.find_carried_with_reference.Pushed.{Over}
+use Rattle.validate_rows_handlers.proofs.clauses.find_carried_with_reference.Given.{Over}
 use Rattle.validate_rows_handlers.proofs.clauses.find_carried_with_reference.Goals.{After-label_types-expected, In-Some, Else-others-types}
 use Rattle.validate_rows_handlers.proofs.clauses.find_carried_with_reference.Goals as goal
 

@@ -3,7 +3,7 @@ use Rattle.std.proofs.Common.{◌≡◌, drop}
 use Rattle.validation_rules.specs.Static.{heads}
 use Rattle.validate_stacks.specs.State.{body_context}
 use Rattle.validate_rows_handlers.specs.Clauses.{are_fitting_catches}
-use Rattle.validate_rows_handlers.proofs.clauses.find_clauses.Pushed as goal
+use Rattle.validate_rows_handlers.proofs.clauses.find_clauses.Given as goal
 
 abbrev pub invariant-loop-catch : goal.invariant-loop-catch
 invariant-loop-catch g l =

@@ -2,7 +2,7 @@
 use Rattle.std.proofs.Common.{◌≡◌, drop, map}
 use Rattle.validation_rules.specs.Context.{Context}
 use Rattle.validation_rules.specs.Fits.{Known, all_fit}
-use Rattle.validate_rows_handlers.proofs.clauses.find_types.Pushed as goal
+use Rattle.validate_rows_handlers.proofs.clauses.find_types.Given as goal
 
 abbrev pub invariant-loop-index : goal.invariant-loop-index
 invariant-loop-index g l =

@@ -17,7 +17,7 @@ use Rattle.validate_stacks.proofs.Phases.{step_frame}
 use Rattle.validate_shapes.proofs.Moves.{unmoved, made_moves}
 use Rattle.validate_shapes.proofs.OpenerSteps.{opened_moved}
 use Rattle.validate_rows_handlers.proofs.TryTables.{table_not_checked, table_refused, table_not_fitting, table_passes}
-use Rattle.validate_rows_handlers.proofs.clauses.try_table.Pushed.{Over}
+use Rattle.validate_rows_handlers.proofs.clauses.try_table.Given.{Over}
 use Rattle.validate_rows_handlers.proofs.clauses.try_table.Goals.{After-params-params}
 use Rattle.validate_rows_handlers.proofs.clauses.try_table.Goals as goal
 

@@ -10,7 +10,7 @@ use Rattle.validation_rules.proofs.ValidContinuations.{referenced_valid}
 use Rattle.validate_stacks.specs.State.{body_context}
 use Rattle.validate_shapes.proofs.CarriedTypes.{front_and_last}
 use Rattle.validate_rows_handlers.proofs.ResumedRows.{no_other, not_leading_back, leading_back}
-use Rattle.validate_rows_handlers.proofs.continuations.switch_types.Pushed.{Over}
+use Rattle.validate_rows_handlers.proofs.continuations.switch_types.Given.{Over}
 use Rattle.validate_rows_handlers.proofs.continuations.switch_types.Goals.{In-Some, In-Some-referenced_continuation, After-is_func_subtype}
 use Rattle.validate_rows_handlers.proofs.continuations.switch_types.Goals as goal
 

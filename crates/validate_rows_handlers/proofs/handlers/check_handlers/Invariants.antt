@@ -3,7 +3,7 @@ use Rattle.std.proofs.Common.{◌≡◌, drop}
 use Rattle.validation_rules.specs.Static.{heads}
 use Rattle.validate_stacks.specs.State.{body_context}
 use Rattle.validate_rows_handlers.specs.Handlers.{are_fitting_handlers}
-use Rattle.validate_rows_handlers.proofs.handlers.check_handlers.Pushed as goal
+use Rattle.validate_rows_handlers.proofs.handlers.check_handlers.Given as goal
 
 abbrev pub invariant-loop-handle : goal.invariant-loop-handle
 invariant-loop-handle g l =

@@ -17,7 +17,7 @@ use Rattle.validate_shapes.proofs.BranchSteps.{label_there, no_label, no_types, 
 use Rattle.validate_shapes.proofs.CarriedTypes.{carried_at, fits_and_last, front_and_last}
 use Rattle.validate_rows_handlers.specs.Handlers.{is_fitting_handler}
 use Rattle.validate_rows_handlers.proofs.HandlerLists.{none_left, taken_below, last_not_fitting, label_empty, not_continued, not_carried, both_hold}
-use Rattle.validate_rows_handlers.proofs.handlers.check_label_handler.Pushed.{Over}
+use Rattle.validate_rows_handlers.proofs.handlers.check_label_handler.Given.{Over}
 use Rattle.validate_rows_handlers.proofs.handlers.check_label_handler.Goals.{In_ok-tag_type, After-label_types-expected, In-Some, After-is_func_subtype, In-Some-referenced_continuation, After-is_func_subtype-2}
 use Rattle.validate_rows_handlers.proofs.handlers.check_label_handler.Goals as goal
 

@@ -6,7 +6,7 @@ use Rattle.validate_stacks.specs.Visits.{step_body}
 use Rattle.validate_shapes.proofs.LookupRows.{barred}
 use Rattle.validate_shapes.proofs.Moves.{unmoved, moves_barred, moves_found}
 use Rattle.validate_rows_handlers.proofs.TryTables.{caught_there, caught_none}
-use Rattle.validate_rows_handlers.proofs.throws.rethrow.Pushed.{Over}
+use Rattle.validate_rows_handlers.proofs.throws.rethrow.Given.{Over}
 use Rattle.validate_rows_handlers.proofs.throws.rethrow.Goals.{Start, Then-not-is_catch_part}
 use Rattle.validate_rows_handlers.proofs.throws.rethrow.Goals as goal
 

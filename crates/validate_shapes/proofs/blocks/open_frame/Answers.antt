@@ -15,7 +15,7 @@ use Rattle.validate_stacks.proofs.Phases.{step_frame}
 use Rattle.validate_stacks.proofs.Whole.{none_above, some_above}
 use Rattle.validate_shapes.proofs.OpenerSteps.{opened_is, opened_moved}
 use Rattle.validate_shapes.proofs.Moves.{unmoved, made_moves}
-use Rattle.validate_shapes.proofs.blocks.open_frame.Pushed.{Over}
+use Rattle.validate_shapes.proofs.blocks.open_frame.Given.{Over}
 use Rattle.validate_shapes.proofs.blocks.open_frame.Goals.{In_ok-find_operands}
 use Rattle.validate_shapes.proofs.blocks.open_frame.Goals as goal
 

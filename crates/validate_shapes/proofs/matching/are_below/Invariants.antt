@@ -2,7 +2,7 @@
 use Rattle.std.proofs.Common.{◌≡◌, drop, map}
 use Rattle.validation_rules.specs.Context.{Context}
 use Rattle.validation_rules.specs.Fits.{Known, all_fit}
-use Rattle.validate_shapes.proofs.matching.are_below.Pushed as goal
+use Rattle.validate_shapes.proofs.matching.are_below.Given as goal
 
 abbrev pub invariant-loop-index : goal.invariant-loop-index
 invariant-loop-index g l = (cx : Context) → cx.of_module ≡ g.R.WasmModuleResources.context l.resources → all_fit cx (map Known (drop l.index l.types)) (drop l.index l.above) ≡ all_fit cx (map Known l.types) l.above

@@ -4,7 +4,7 @@ use Rattle.validate_stacks.specs.Visits.{step_body}
 use Rattle.validate_stacks.proofs.Moves.{fits_now, not_popped}
 use Rattle.validate_shapes.proofs.BranchSteps.{ending_is, ending_refused}
 use Rattle.validate_shapes.proofs.Moves.{unmoved, ended_moves, never_refused}
-use Rattle.validate_shapes.proofs.plain.ending.Pushed.{Over}
+use Rattle.validate_shapes.proofs.plain.ending.Given.{Over}
 use Rattle.validate_shapes.proofs.plain.ending.Goals.{In_err-find_operands}
 use Rattle.validate_shapes.proofs.plain.ending.Goals as goal
 

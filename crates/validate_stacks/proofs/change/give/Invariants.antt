@@ -1,7 +1,7 @@
 -- What is left to put, on what is there, comes to all of it on what was there.
 use Rattle.std.proofs.Common.{◌≡◌, ◌≤◌, ◌+◌, ◌-◌, length, drop}
 use Rattle.validate_stacks.specs.Changes.{operands_given}
-use Rattle.validate_stacks.proofs.change.give.Pushed as goal
+use Rattle.validate_stacks.proofs.change.give.Given as goal
 
 abbrev pub invariant-loop-ty : goal.invariant-loop-ty
 invariant-loop-ty l = record {

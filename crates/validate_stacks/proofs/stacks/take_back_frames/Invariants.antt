@@ -1,7 +1,7 @@
 use Rattle.std.proofs.Common.{◌≡◌, length, ◌≤◌}
 use Rattle.validate_transaction.specs.TakeBack.{items_taken_back, CanTakeBack}
 use Rattle.validate_stacks.specs.Flat.{inits_in_frames}
-use Rattle.validate_stacks.proofs.stacks.take_back_frames.Pushed as goal
+use Rattle.validate_stacks.proofs.stacks.take_back_frames.Given as goal
 
 abbrev pub decreases-loop-entry : goal.decreases-loop-entry
 decreases-loop-entry l = length l.trace.items

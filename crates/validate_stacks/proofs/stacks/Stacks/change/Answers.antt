@@ -14,7 +14,7 @@ use Rattle.validate_stacks.proofs.AtOnce.{own_within}
 use Rattle.validate_stacks.proofs.Changed.{Allowed, changed_there, length_given, one_above, some_flat}
 use Rattle.validate_stacks.proofs.Cuts.{state_of}
 use Rattle.validate_stacks.proofs.Undone.{sound_room, sound_order_room, inits_within}
-use Rattle.validate_stacks.proofs.stacks.Stacks.change.Pushed.{Over}
+use Rattle.validate_stacks.proofs.stacks.Stacks.change.Given.{Over}
 use Rattle.validate_stacks.proofs.stacks.Stacks.change.Goals as goal
 
 pub invariant_of-self : goal.invariant_of-self

@@ -6,7 +6,7 @@ use Rattle.validate_stacks.specs.AtOnce.{body_dropped}
 use Rattle.validate_stacks.specs.State.{body_context}
 use Rattle.validate_stacks.specs.Pops.{has_operands_fitting}
 use Rattle.validate_stacks.proofs.MatchedOperands.{after_in}
-use Rattle.validate_stacks.proofs.stacks.Stacks.find_fields.Pushed as goal
+use Rattle.validate_stacks.proofs.stacks.Stacks.find_fields.Given as goal
 
 abbrev pub decreases-loop-left : goal.decreases-loop-left
 decreases-loop-left g l = l.left

@@ -1,6 +1,6 @@
 -- What is gone over are own operands.
 use Rattle.std.proofs.Common.{◌≤◌, ◌-◌}
-use Rattle.validate_stacks.proofs.stacks.Stacks.first_misfit.Pushed as goal
+use Rattle.validate_stacks.proofs.stacks.Stacks.first_misfit.Given as goal
 
 abbrev pub decreases-loop-depth : goal.decreases-loop-depth
 decreases-loop-depth g l = l.own - l.depth

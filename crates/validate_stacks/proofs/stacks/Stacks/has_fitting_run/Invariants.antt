@@ -4,7 +4,7 @@ use Rattle.validation_rules.specs.Fits.{all_fit}
 use Rattle.validate_stacks.specs.State.{body_context}
 use Rattle.validate_stacks.specs.Pops.{has_operands_fitting}
 use Rattle.validate_stacks.proofs.MatchedOperands.{after_in}
-use Rattle.validate_stacks.proofs.stacks.Stacks.has_fitting_run.Pushed as goal
+use Rattle.validate_stacks.proofs.stacks.Stacks.has_fitting_run.Given as goal
 
 abbrev pub decreases-loop-left : goal.decreases-loop-left
 decreases-loop-left g l = l.left

@@ -7,7 +7,7 @@ use Rattle.validate_stacks.specs.AtOnce.{body_dropped}
 use Rattle.validate_stacks.specs.Pops.{body_pushed_each, has_operands_fitting}
 use Rattle.validate_stacks.specs.Steps.{found_after_pops_in_body}
 use Rattle.validate_stacks.proofs.MatchedOperands.{after_in}
-use Rattle.validate_stacks.proofs.stacks.Stacks.has_same_numbers.Pushed as goal
+use Rattle.validate_stacks.proofs.stacks.Stacks.has_same_numbers.Given as goal
 
 abbrev pub decreases-loop-left : goal.decreases-loop-left
 decreases-loop-left g l = l.left

@@ -5,7 +5,7 @@ use Rattle.validate_stacks.specs.Attempts.{phase_moved}
 use Rattle.validate_stacks.specs.Counted.{pops_of_run}
 use Rattle.validate_stacks.specs.State.{IsValidBody}
 use Rattle.validate_stacks.specs.Pops.{body_popped_each, IsKept}
-use Rattle.validate_stacks.proofs.stacks.Stacks.pop_run.Pushed as goal
+use Rattle.validate_stacks.proofs.stacks.Stacks.pop_run.Given as goal
 
 abbrev pub decreases-loop-left : goal.decreases-loop-left
 decreases-loop-left g l = l.left

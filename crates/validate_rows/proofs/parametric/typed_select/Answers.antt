@@ -4,8 +4,8 @@ use Rattle.validation_rules.specs.Operators.{plain_row, typed_select_row}
 use Rattle.validate_shapes.proofs.Moves.{moves_barred, moves_found}
 use Rattle.validate_rows.proofs.parametric.typed_select.Goals as goal
 
-pub returns-in_err-canonical_value : goal.returns-in_err-canonical_value
-returns-in_err-canonical_value g c = moves_barred _ _ c.args.stacks.now (λ cx hs. typed_select_row cx c.args.ty.now) _ (search rules) (search rules)
+pub returns-in_err-checked : goal.returns-in_err-checked
+returns-in_err-checked g c = moves_barred _ _ c.args.stacks.now (λ cx hs. typed_select_row cx c.args.ty.now) _ (search rules) (search rules)
 
 pub returns : goal.returns
 returns g c =

@@ -1,4 +1,4 @@
-use Rattle.std.proofs.Common.{rules, ◌≡◌, Bool, true, false, Some, None, Option, Result, Ok, Err, IfOk, IfErr, [], ◌∷◌, ap, ap₂, ◌∙◌, tt}
+use Rattle.std.proofs.Common.{rules, ◌≡◌, Bool, true, false, Some, None, Option, Result, Ok, Err, IfOk, IfErr, [], ◌∷◌, ap, ap₂, ◌∙◌}
 use Rattle.std.specs.Option.{option_map}
 use Rattle.validate_types.specs.Refs.{reference}
 use Rattle.validate_types.specs.declared.heap.HeapType.{HeapType}
@@ -8,7 +8,7 @@ use Rattle.validation_rules.specs.Operators.{plain_row, lookup_row}
 use Rattle.validation_rules.proofs.Steps.{some_injective}
 use Rattle.validate_rows.proofs.references.find_null_type.Goals as goal
 
-null_row : HeapType → Row
+abbrev null_row : HeapType → Row
 null_row h = plain_row [] (Ref (reference true h) ∷ [])
 
 found : {A : Type 0} (o : Option HeapType) (b : Bool) (r : Result ValType A) → b ≡ true → IfOk r (λ t. option_map (λ (h : HeapType). Ref (reference true h)) o ≡ Some t) → IfOk r (λ t. lookup_row (guard b o) null_row ≡ plain_row [] (t ∷ []))

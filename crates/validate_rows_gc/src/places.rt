@@ -17,7 +17,7 @@ ghost use Rattle.validate_stacks.specs.Visits.{MayVisit};
 ghost use Rattle.validate_shapes.specs.Operands.{few_types};
 ghost use Rattle.validate_rows_gc.specs.Accesses.{AreValidTested, tested_row};
 
-use crate::accesses::{PlaceOperands, expected_by, is_allowed, is_read, name_of, pushed_by};
+use crate::accesses::{PlaceOperands, expected_by, given_by, is_allowed, is_read, name_of};
 use validate_resources::WasmModuleResources;
 use validate_shapes::aggregates::{
     array_field_at, check_mutable_array, check_mutable_field, packing, struct_field_at,
@@ -185,7 +185,7 @@ fn global_access_types<A: Refused, R: WasmModuleResources>(
     }
     Ok(TestedOperands {
         expected: expected_by(PlaceOperands::Named, whole, value),
-        pushed: pushed_by(whole, value),
+        pushed: given_by(whole, value),
         allowed,
     })
 }
@@ -212,7 +212,7 @@ fn table_access_types<A: Refused, R: WasmModuleResources>(
     }
     Ok(TestedOperands {
         expected: expected_by(PlaceOperands::One(table.index_type()), whole, value),
-        pushed: pushed_by(whole, value),
+        pushed: given_by(whole, value),
         allowed,
     })
 }
@@ -297,7 +297,7 @@ fn struct_access_types<A: Refused, R: WasmModuleResources>(
     let value = held.element_type.unpack();
     Ok(TestedOperands {
         expected: expected_by(PlaceOperands::One(holder), access, value),
-        pushed: pushed_by(access, value),
+        pushed: given_by(access, value),
         allowed,
     })
 }
@@ -321,7 +321,7 @@ fn array_access_types<A: Refused, R: WasmModuleResources>(
     let value = held.element_type.unpack();
     Ok(TestedOperands {
         expected: expected_by(PlaceOperands::Two(holder, ValType::I32), access, value),
-        pushed: pushed_by(access, value),
+        pushed: given_by(access, value),
         allowed,
     })
 }

@@ -8,4 +8,4 @@ pub returns-in_err-index_type-in-Memory : goal.returns-in_err-index_type-in-Memo
 returns-in_err-index_type-in-Memory g c = moves_barred _ _ c.args.stacks.now (λ cx hs. store_row cx c.args.memarg c.args.ty) _ (search rules) (search rules)
 
 pub returns-in_ok-index_type-in-Memory : goal.returns-in_ok-index_type-in-Memory
-returns-in_ok-index_type-in-Memory g c = moves_found _ _ c.args.stacks.now (λ cx hs. store_row cx c.args.memarg c.args.ty) _ (λ cx hs. plain_row (c.in_ok-index_type-in-Memory.index_type ∷ c.args.ty ∷ []) ([])) _ (search rules) c.popped.ensures
+returns-in_ok-index_type-in-Memory g c = moves_found _ _ c.args.stacks.now (λ cx hs. store_row cx c.args.memarg c.args.ty) _ (λ cx hs. plain_row (c.in_ok-index_type-in-Memory.index_type ∷ c.args.ty ∷ []) ([])) _ (search rules) c.pop_both.ensures

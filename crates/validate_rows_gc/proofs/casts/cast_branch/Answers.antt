@@ -171,7 +171,7 @@ returns g c = λ whole same.
     let others = c.in_ok-others.others.now in
     let is = branches g typed c.in_ok-check_carried.ensures.passed whole same in
     let valid = all_both (Valid (md g at.Start)) others (Ref (types g typed).left ∷ []) (others_valid g at.In_ok-others) (left_is_valid g typed, tt) in
-    let pushed = sym (pushed_then others (Ref (types g typed).left ∷ []) (body_dropped c.min-popped.result c.args.stacks.now.body)) in
-    let moved = subst (λ (u : BodyState). MatchResult c.exchange_topped.result (λ _. c.exchange_topped.new.self.body ≡ u) (λ _. c.exchange_topped.new.self ≡ c.args.stacks.now)) pushed c.exchange_topped.ensures.exact in
+    let put = sym (pushed_then others (Ref (types g typed).left ∷ []) (body_dropped c.min-popped.result c.args.stacks.now.body)) in
+    let moved = subst (λ (u : BodyState). MatchResult c.exchange_topped.result (λ _. c.exchange_topped.new.self.body ≡ u) (λ _. c.exchange_topped.new.self ≡ c.args.stacks.now)) put c.exchange_topped.ensures.exact in
     moved_below (md g at.Start) g.A.Refused.tells whole c.args.stacks.now _ c.args.above (expected g typed) (pushed g typed) is c.in_ok-find_under.ensures.fit valid c.requires.visit.valid c.min-popped.result
     (omega (arith, c.min-popped.ensures, c.own_len.ensures, length-append others (Ref (types g typed).from ∷ []))) c.exchange_topped.result c.exchange_topped.ensures.told moved

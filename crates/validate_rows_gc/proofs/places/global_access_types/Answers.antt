@@ -15,9 +15,9 @@ returns-clause-row g c =
     ap (λ o. lookup_row o (λ g. place_row cx false access [] (held_by_global g))) c.in_ok-global.ensures.found
     ∙ place_found cx false access [] held _ _ _
     (ap (λ b. b && is_allowed md false access held.element_type) c.in_ok-check_global_written.ensures.passed ∙ sym c.is_allowed-allowed.ensures)
-    c.expected_by.ensures c.pushed_by.ensures
+    c.expected_by.ensures c.given_by.ensures
 
 pub returns-clause-valid : goal.returns-clause-valid
 returns-clause-valid g c =
     let md = g.R.WasmModuleResources.context c.args.resources.now in
-    types_valid md (Whole c.args.access) [] c.in_ok-global.global.content_type _ _ c.expected_by.ensures c.pushed_by.ensures tt c.in_ok-global.ensures.valid
+    types_valid md (Whole c.args.access) [] c.in_ok-global.global.content_type _ _ c.expected_by.ensures c.given_by.ensures tt c.in_ok-global.ensures.valid

@@ -47,6 +47,22 @@ pub(crate) fn read_section_of<'a, T: Entry>(
     Ok(())
 }
 
+/// Reads the items of the section with this id, which have no constant expressions, as [`read_section_of`] does.
+pub(crate) fn read_plain_section<T: Entry>(
+    alloc: Global,
+    sections: &[ContentSection<'_>],
+    id: u8,
+    canonical: CanonicalTypes<'_>,
+    items: &mut Vec<T>,
+) -> Result<(), ReadError>
+    ensures { OnOk result ((read : List (Item T))
+        × IsList (T.reading canonical.entry) T.unplaced id (told_sections sections.now) items.old.items
+        items.new.items read) }
+{
+    let mut none = Initializers::new(alloc);
+    read_section_of(alloc, sections, id, canonical, items, &mut none)
+}
+
 /// A number that is a whole section.
 #[derive(Clone, Copy)]
 pub(crate) struct SectionNumber {

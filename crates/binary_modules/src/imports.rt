@@ -3,7 +3,7 @@
 ghost use Rattle.std.specs.Prelude.{◌≡◌, List, [], ◌∷◌, Some, None, IfOk, OnOk, OnErr};
 ghost use Rattle.binary_operators.specs.Values.{list_of};
 ghost use Rattle.binary_modules.specs.Items.{import_behind, import_item, unplaced_import};
-ghost use Rattle.binary_modules.specs.Imports.{AddsImports, HasImports};
+ghost use Rattle.binary_modules.specs.Imports.{AddsImports, AreImports, HasImports};
 
 use crate::items::{read_function, read_global_type, read_tag_type};
 use crate::limits::{read_memory_type, read_table_type};
@@ -118,20 +118,21 @@ impl Imported {
     }
 }
 
-/// Reads the imports of a module. It refuses what the reads of its items refuse, and want of memory.
+/// Reads the imports of a module, where there are none yet. It refuses what the reads of its items refuse, and want of
+/// memory.
 #[tactic(auto, unfolding(binary_operators::specs::Values::list_of))]
 pub(crate) fn read_imports(
-    alloc: Global,
     reader: &mut BinaryReader<'_>,
     canonical: CanonicalTypes<'_>,
-) -> Result<Imported, ReadError>
-    ensures { IfOk result (λ imported. HasImports canonical.entry reader.old.left imported reader.new.left) }
+    imported: &mut Imported,
+) -> Result<(), ReadError>
+    requires { AreImports [] imported.old }
+    ensures { OnOk result (HasImports canonical.entry reader.old.left imported.new reader.new.left) }
 {
     let count = reader.read_var_u32()?;
-    let mut imported = Imported::new(alloc);
     for _ in 0..count {
         let import = read_import(reader, canonical)?;
         imported.add(import)?;
     }
-    Ok(imported)
+    Ok(())
 }

@@ -4,7 +4,7 @@ ghost use Rattle.std.specs.Prelude.{IfOk, OnOk};
 ghost use Rattle.binary_modules.specs.OwnRead.{HasOwnItems, HasSegments};
 ghost use Rattle.binary_modules.specs.SectionList.{told_sections};
 
-use crate::contents::read_section_of;
+use crate::contents::{read_plain_section, read_section_of};
 use crate::imports::Imported;
 use crate::initializers::Initializers;
 use crate::section_list::ContentSection;
@@ -23,15 +23,7 @@ pub(crate) fn read_own_items<'a>(
     ensures { OnOk result (HasOwnItems canonical.entry (told_sections sections.now) items.old items.new
         initializers.old initializers.new) }
 {
-    let mut none = Initializers::new(alloc);
-    read_section_of(
-        alloc,
-        sections,
-        3,
-        canonical,
-        &mut items.functions,
-        &mut none,
-    )?;
+    read_plain_section(alloc, sections, 3, canonical, &mut items.functions)?;
     read_section_of(
         alloc,
         sections,
@@ -40,15 +32,8 @@ pub(crate) fn read_own_items<'a>(
         &mut items.tables,
         initializers,
     )?;
-    read_section_of(
-        alloc,
-        sections,
-        5,
-        canonical,
-        &mut items.memories,
-        &mut none,
-    )?;
-    read_section_of(alloc, sections, 13, canonical, &mut items.tags, &mut none)?;
+    read_plain_section(alloc, sections, 5, canonical, &mut items.memories)?;
+    read_plain_section(alloc, sections, 13, canonical, &mut items.tags)?;
     read_section_of(
         alloc,
         sections,

@@ -1,6 +1,7 @@
 //! A whole module (WebAssembly core specification, "Binary Format: Modules").
 
 ghost use Rattle.std.specs.Prelude.{ℕ, ◌≡◌, ◌+◌, List, [], ◌∷◌, ◌++◌, map, length, Some, IfOk, OnOk, IfSome, option_map};
+ghost use Rattle.binary_operators.specs.Values.{list_of};
 ghost use Rattle.module_rules.specs.Declarations.{declarations_of};
 ghost use Rattle.module_rules.specs.Exported.{Exported};
 ghost use Rattle.binary_modules.specs.ContentsRead.{IsList, bytes_of};
@@ -9,15 +10,20 @@ ghost use Rattle.binary_modules.specs.Imports.{HasImports, AreCounted};
 ghost use Rattle.binary_modules.specs.Items.{Item, exported};
 ghost use Rattle.binary_modules.specs.Kept.{told};
 ghost use Rattle.binary_modules.specs.Modules.{HasContents, IsModule};
+ghost use Rattle.binary_modules.specs.OwnRead.{HasOwnItems, HasSegments};
+ghost use Rattle.binary_modules.specs.Parts.{sized};
 ghost use Rattle.binary_modules.specs.SectionList.{told_sections};
-ghost use Rattle.binary_modules.specs.Sections.{contents_of};
+ghost use Rattle.binary_modules.specs.Sections.{contents_of, section_contents, IsNumber};
 ghost use Rattle.binary_modules.specs.declared.contents.SectionNumber.{SectionNumber};
+ghost use Rattle.binary_modules.specs.declared.imports.Imported.{Imported};
 
-use crate::contents::{SectionNumber, check_end, read_bodies_of, read_number_of, read_section_of};
+use crate::contents::{
+    SectionNumber, check_end, read_bodies_of, read_number_of, read_plain_section,
+};
 use crate::groups::{TypeSection, read_types};
 use crate::imports::{Imported, read_imports};
 use crate::initializers::{ConstantExpression, Initializers};
-use crate::own::{read_own_items, read_segments};
+use crate::own::{Segments, read_own_items, read_segments};
 use crate::parts::read_name;
 use crate::section_list::{ContentSection, contents_of, read_sections};
 use binary_operators::{BinaryReader, CanonicalTypes, Fault, ReadError};
@@ -86,7 +92,8 @@ fn read_import_section(
     ensures { IfOk result (λ i. HasImports canonical.entry (contents_of 2 (told_sections sections.now)) i []) }
 {
     let mut reader = contents_of(sections, 2);
-    let imported = read_imports(alloc, &mut reader, canonical)?;
+    let mut imported = Imported::new(alloc);
+    read_imports(&mut reader, canonical, &mut imported)?;
     check_end(&reader)?;
     Ok(imported)
 }
@@ -130,8 +137,7 @@ fn read_exports(
         × IsList exported (λ e. record e { offset = 0 }) 7 (told_sections sections.now) [] list.items read) }
 {
     let mut exports = Vec::new(alloc);
-    let mut none = Initializers::new(alloc);
-    read_section_of(alloc, sections, 7, canonical, &mut exports, &mut none)?;
+    read_plain_section(alloc, sections, 7, canonical, &mut exports)?;
     Ok(exports)
 }
 
@@ -207,6 +213,84 @@ fn names_of<'a>(sections: &[ContentSection<'a>]) -> Option<BinaryReader<'a>> {
     names
 }
 
+/// The items of a module, and how many of them are imported.
+#[derive(Drop)]
+struct Items {
+    imports: Imports,
+    items: Imported,
+}
+
+/// Reads the items of a module, imported ones and its own.
+fn read_items<'a>(
+    alloc: Global,
+    sections: &[ContentSection<'a>],
+    canonical: CanonicalTypes<'_>,
+    initializers: &mut Initializers<'a>,
+) -> Result<Items, ReadError>
+    ensures { IfOk result (λ i. (imported : Imported)
+        × HasImports canonical.entry (contents_of 2 (told_sections sections.now)) imported []
+        × AreCounted imported i.imports
+        × HasOwnItems canonical.entry (told_sections sections.now) imported i.items initializers.old
+        initializers.new) }
+{
+    let mut items = read_import_section(alloc, sections, canonical)?;
+    let imports = imports_of(&items, contents_of(sections, 2).offset())?;
+    read_own_items(alloc, sections, canonical, &mut items, initializers)?;
+    Ok(Items { imports, items })
+}
+
+/// What stands in the sections of a module besides types and items.
+#[derive(Drop)]
+struct Uses<'a> {
+    exports: Vec<Export>,
+    start: Option<SectionNumber>,
+    segments: Segments,
+    data_count: Option<SectionNumber>,
+    bodies: Vec<BinaryReader<'a>>,
+}
+
+/// Reads what stands in the sections of a module besides types and these items. The module ends at this offset.
+fn read_uses<'a>(
+    alloc: Global,
+    sections: &[ContentSection<'a>],
+    canonical: CanonicalTypes<'_>,
+    items: &Items,
+    end: u64,
+    initializers: &mut Initializers<'a>,
+) -> Result<Uses<'a>, ReadError>
+    ensures exports { IfOk result (λ u. (read : List (Item Exported))
+        × IsList exported (λ e. record e { offset = 0 }) 7 (told_sections sections.now) [] u.exports.items
+        read) }
+    ensures start { IfOk result (λ u. IsNumber (section_contents 8 (told_sections sections.now))
+        (option_map (λ (n : SectionNumber). n.number) u.start)) }
+    ensures segments { IfOk result (λ u. HasSegments canonical.entry (told_sections sections.now) u.segments
+        initializers.old initializers.new) }
+    ensures data_count { IfOk result (λ u. IsNumber (section_contents 12 (told_sections sections.now))
+        (option_map (λ (n : SectionNumber). n.number) u.data_count)) }
+    ensures bodies { IfOk result (λ u. list_of sized (contents_of 10 (told_sections sections.now))
+        ≡ Some (bytes_of u.bodies.items, [])) }
+    ensures counted { IfOk result (λ u. items.now.imports.functions + length u.bodies.items
+        ≡ length items.now.items.functions.items) }
+    ensures data_counted { IfOk result (λ u. IfSome (option_map (λ (n : SectionNumber). n.number) u.data_count)
+        (λ n. n ≡ length u.segments.data_segments.items)) }
+{
+    let exports = read_exports(alloc, sections, canonical)?;
+    let start = read_number_of(sections, 8)?;
+    let segments = read_segments(alloc, sections, canonical, initializers)?;
+    let data_count = read_number_of(sections, 12)?;
+    let bodies = read_bodies_of(alloc, sections)?;
+    let functions = items.items.functions.len();
+    check_bodies(items.imports.functions, functions, bodies.len(), end)?;
+    check_data_count(data_count, segments.data_segments.len(), end)?;
+    Ok(Uses {
+        exports,
+        start,
+        segments,
+        data_count,
+        bodies,
+    })
+}
+
 /// Reads what stands in the sections of a module that ends at this offset.
 fn read_contents<'a>(
     alloc: Global,
@@ -220,17 +304,17 @@ fn read_contents<'a>(
 {
     let types = read_type_section(alloc, sections)?;
     let canonical = CanonicalTypes::new(&types.canonical);
-    let mut items = read_import_section(alloc, sections, canonical)?;
-    let imports = imports_of(&items, contents_of(sections, 2).offset())?;
     let mut initializers = Initializers::new(alloc);
-    read_own_items(alloc, sections, canonical, &mut items, &mut initializers)?;
-    let exports = read_exports(alloc, sections, canonical)?;
-    let start = read_number_of(sections, 8)?;
-    let segments = read_segments(alloc, sections, canonical, &mut initializers)?;
-    let data_count = read_number_of(sections, 12)?;
-    let bodies = read_bodies_of(alloc, sections)?;
-    check_bodies(imports.functions, items.functions.len(), bodies.len(), end)?;
-    check_data_count(data_count, segments.data_segments.len(), end)?;
+    let found = read_items(alloc, sections, canonical, &mut initializers)?;
+    let uses = read_uses(alloc, sections, canonical, &found, end, &mut initializers)?;
+    let Items { imports, items } = found;
+    let Uses {
+        exports,
+        start,
+        segments,
+        data_count,
+        bodies,
+    } = uses;
     Ok(Module {
         merged: types.merged(),
         declared: DeclaredModule {

@@ -1,6 +1,7 @@
 //! Why a line isn't read.
 
-ghost use Rattle.std.specs.Prelude.{◌≡◌};
+ghost use Rattle.std.specs.Prelude.{◌≡◌, ◌++◌, ◌∷◌, [], IfErr, OnOk};
+ghost use Rattle.script_parts.specs.declared.failure.LineError.{LineError};
 
 use std::alloc::{AllocError, AllocFailed};
 
@@ -30,5 +31,16 @@ impl<T: Drop> From<AllocFailed<T>> for LineError {
 
     fn from(_error: AllocFailed<T>) -> LineError {
         LineError::OutOfMemory
+    }
+}
+
+/// Adds an item to a list. It refuses want of memory alone.
+pub(crate) fn push<T: Drop>(list: &mut Vec<T>, item: T) -> Result<(), LineError>
+    ensures added { OnOk result (list.new.items ≡ list.old.items ++ item ∷ []) }
+    ensures short { IfErr result (λ e. e ≡ LineError.OutOfMemory) }
+{
+    match list.push(item) {
+        Ok(()) => Ok(()),
+        Err(_) => Err(LineError::OutOfMemory),
     }
 }

@@ -2,7 +2,7 @@
 
 ghost use Rattle.std.specs.Prelude.{◌≡◌, [], ◌∷◌, IfSome, map};
 ghost use Rattle.std.specs.Str.Parse.{digits_value};
-ghost use Rattle.script_parts.specs.Indices.{array_indices, op_indices, struct_indices};
+ghost use Rattle.script_parts.specs.Indices.{array_indices, continuation_indices, control_indices, exception_indices, memory_indices, op_indices, reference_indices, struct_indices, table_indices};
 
 use crate::numbers::read_index;
 use validate_visit::{
@@ -25,69 +25,148 @@ pub fn read_indexed(name: &str, words: &[&str]) -> Option<Op<'static>>
 fn with_index(name: &str, index: u32) -> Option<Op<'static>>
     ensures { IfSome result (λ op. op_indices op ≡ index ∷ []) }
 {
-    match control_with_index(name, index) {
-        Some(op) => Some(op),
-        None => storage_with_index(name, index),
+    if let Some(op) = control_with_index(name, index) {
+        return Some(Op::Control(op));
     }
+    if let Some(op) = reference_with_index(name, index) {
+        return Some(Op::Reference(op));
+    }
+    if let Some(op) = exception_with_index(name, index) {
+        return Some(Op::Exception(op));
+    }
+    if let Some(op) = continuation_with_index(name, index) {
+        return Some(Op::Continuation(op));
+    }
+    storage_with_index(name, index)
 }
 
-/// Those on control, variables, references, exceptions and continuations.
-fn control_with_index(name: &str, index: u32) -> Option<Op<'static>>
+/// The operator on tables, memories, segments, structs or arrays of this name with this index.
+fn storage_with_index(name: &str, index: u32) -> Option<Op<'static>>
     ensures { IfSome result (λ op. op_indices op ≡ index ∷ []) }
 {
+    if let Some(op) = table_with_index(name, index) {
+        return Some(Op::Table(op));
+    }
+    if let Some(op) = memory_with_index(name, index) {
+        return Some(Op::Memory(op));
+    }
+    if let Some(op) = struct_with_index(name, index) {
+        return Some(Op::Struct(op));
+    }
+    Some(Op::Array(array_with_index(name, index)?))
+}
+
+/// The operator on control or variables of this name with this index.
+fn control_with_index(name: &str, index: u32) -> Option<ControlOp<'static>>
+    ensures { IfSome result (λ op. control_indices op ≡ index ∷ []) }
+{
     Some(match name {
-        "local.get" => Op::Control(ControlOp::LocalGet(index)),
-        "local.set" => Op::Control(ControlOp::LocalSet(index)),
-        "local.tee" => Op::Control(ControlOp::LocalTee(index)),
-        "global.get" => Op::Control(ControlOp::GlobalGet(index)),
-        "global.set" => Op::Control(ControlOp::GlobalSet(index)),
-        "br" => Op::Control(ControlOp::Br(index)),
-        "br_if" => Op::Control(ControlOp::BrIf(index)),
-        "call" => Op::Control(ControlOp::Call(index)),
-        "return_call" => Op::Control(ControlOp::ReturnCall(index)),
-        "call_ref" => Op::Control(ControlOp::CallRef(index)),
-        "return_call_ref" => Op::Control(ControlOp::ReturnCallRef(index)),
-        "ref.func" => Op::Reference(ReferenceOp::RefFunc(index)),
-        "ref.get_desc" => Op::Reference(ReferenceOp::RefGetDesc(index)),
-        "br_on_null" => Op::Reference(ReferenceOp::BrOnNull(index)),
-        "br_on_non_null" => Op::Reference(ReferenceOp::BrOnNonNull(index)),
-        "throw" => Op::Exception(ExceptionOp::Throw(index)),
-        "rethrow" => Op::Exception(ExceptionOp::Rethrow(index)),
-        "catch" => Op::Exception(ExceptionOp::Catch(index)),
-        "delegate" => Op::Exception(ExceptionOp::Delegate(index)),
-        "cont.new" => Op::Continuation(ContinuationOp::ContNew(index)),
-        "suspend" => Op::Continuation(ContinuationOp::Suspend(index)),
+        "local.get" => ControlOp::LocalGet(index),
+        "local.set" => ControlOp::LocalSet(index),
+        "local.tee" => ControlOp::LocalTee(index),
+        "global.get" => ControlOp::GlobalGet(index),
+        "global.set" => ControlOp::GlobalSet(index),
+        "br" => ControlOp::Br(index),
+        "br_if" => ControlOp::BrIf(index),
+        "call" => ControlOp::Call(index),
+        "return_call" => ControlOp::ReturnCall(index),
+        "call_ref" => ControlOp::CallRef(index),
+        "return_call_ref" => ControlOp::ReturnCallRef(index),
         _ => return None,
     })
 }
 
-/// Those on tables, memories, segments, structs and arrays.
-fn storage_with_index(name: &str, index: u32) -> Option<Op<'static>>
-    ensures { IfSome result (λ op. op_indices op ≡ index ∷ []) }
+/// The operator on references of this name with this index.
+fn reference_with_index(name: &str, index: u32) -> Option<ReferenceOp>
+    ensures { IfSome result (λ op. reference_indices op ≡ index ∷ []) }
 {
     Some(match name {
-        "table.get" => Op::Table(TableOp::TableGet(index)),
-        "table.set" => Op::Table(TableOp::TableSet(index)),
-        "table.grow" => Op::Table(TableOp::TableGrow(index)),
-        "table.size" => Op::Table(TableOp::TableSize(index)),
-        "table.fill" => Op::Table(TableOp::TableFill(index)),
-        "elem.drop" => Op::Table(TableOp::ElemDrop(index)),
-        "memory.size" => Op::Memory(MemoryOp::MemorySize(index)),
-        "memory.grow" => Op::Memory(MemoryOp::MemoryGrow(index)),
-        "memory.fill" => Op::Memory(MemoryOp::MemoryFill(index)),
-        "memory.discard" => Op::Memory(MemoryOp::MemoryDiscard(index)),
-        "data.drop" => Op::Memory(MemoryOp::DataDrop(index)),
-        "struct.new" => Op::Struct(StructOp::StructNew(index)),
-        "struct.new_default" => Op::Struct(StructOp::StructNewDefault(index)),
-        "struct.new_desc" => Op::Struct(StructOp::StructNewDesc(index)),
-        "struct.new_default_desc" => Op::Struct(StructOp::StructNewDefaultDesc(index)),
-        "array.new" => Op::Array(ArrayOp::ArrayNew(index)),
-        "array.new_default" => Op::Array(ArrayOp::ArrayNewDefault(index)),
-        "array.get" => Op::Array(ArrayOp::ArrayGet(index)),
-        "array.get_s" => Op::Array(ArrayOp::ArrayGetPacked(Sign::Signed, index)),
-        "array.get_u" => Op::Array(ArrayOp::ArrayGetPacked(Sign::Unsigned, index)),
-        "array.set" => Op::Array(ArrayOp::ArraySet(index)),
-        "array.fill" => Op::Array(ArrayOp::ArrayFill(index)),
+        "ref.func" => ReferenceOp::RefFunc(index),
+        "ref.get_desc" => ReferenceOp::RefGetDesc(index),
+        "br_on_null" => ReferenceOp::BrOnNull(index),
+        "br_on_non_null" => ReferenceOp::BrOnNonNull(index),
+        _ => return None,
+    })
+}
+
+/// The operator on exceptions of this name with this index.
+fn exception_with_index(name: &str, index: u32) -> Option<ExceptionOp<'static>>
+    ensures { IfSome result (λ op. exception_indices op ≡ index ∷ []) }
+{
+    Some(match name {
+        "throw" => ExceptionOp::Throw(index),
+        "rethrow" => ExceptionOp::Rethrow(index),
+        "catch" => ExceptionOp::Catch(index),
+        "delegate" => ExceptionOp::Delegate(index),
+        _ => return None,
+    })
+}
+
+/// The operator on continuations of this name with this index.
+fn continuation_with_index(name: &str, index: u32) -> Option<ContinuationOp<'static>>
+    ensures { IfSome result (λ op. continuation_indices op ≡ index ∷ []) }
+{
+    Some(match name {
+        "cont.new" => ContinuationOp::ContNew(index),
+        "suspend" => ContinuationOp::Suspend(index),
+        _ => return None,
+    })
+}
+
+/// The operator on tables or element segments of this name with this index.
+fn table_with_index(name: &str, index: u32) -> Option<TableOp>
+    ensures { IfSome result (λ op. table_indices op ≡ index ∷ []) }
+{
+    Some(match name {
+        "table.get" => TableOp::TableGet(index),
+        "table.set" => TableOp::TableSet(index),
+        "table.grow" => TableOp::TableGrow(index),
+        "table.size" => TableOp::TableSize(index),
+        "table.fill" => TableOp::TableFill(index),
+        "elem.drop" => TableOp::ElemDrop(index),
+        _ => return None,
+    })
+}
+
+/// The operator on memories or data segments of this name with this index.
+fn memory_with_index(name: &str, index: u32) -> Option<MemoryOp>
+    ensures { IfSome result (λ op. memory_indices op ≡ index ∷ []) }
+{
+    Some(match name {
+        "memory.size" => MemoryOp::MemorySize(index),
+        "memory.grow" => MemoryOp::MemoryGrow(index),
+        "memory.fill" => MemoryOp::MemoryFill(index),
+        "memory.discard" => MemoryOp::MemoryDiscard(index),
+        "data.drop" => MemoryOp::DataDrop(index),
+        _ => return None,
+    })
+}
+
+/// The operator on structs of this name with this index.
+fn struct_with_index(name: &str, index: u32) -> Option<StructOp>
+    ensures { IfSome result (λ op. struct_indices op ≡ index ∷ []) }
+{
+    Some(match name {
+        "struct.new" => StructOp::StructNew(index),
+        "struct.new_default" => StructOp::StructNewDefault(index),
+        "struct.new_desc" => StructOp::StructNewDesc(index),
+        "struct.new_default_desc" => StructOp::StructNewDefaultDesc(index),
+        _ => return None,
+    })
+}
+
+/// The operator on arrays of this name with this index.
+fn array_with_index(name: &str, index: u32) -> Option<ArrayOp>
+    ensures { IfSome result (λ op. array_indices op ≡ index ∷ []) }
+{
+    Some(match name {
+        "array.new" => ArrayOp::ArrayNew(index),
+        "array.new_default" => ArrayOp::ArrayNewDefault(index),
+        "array.get" => ArrayOp::ArrayGet(index),
+        "array.get_s" => ArrayOp::ArrayGetPacked(Sign::Signed, index),
+        "array.get_u" => ArrayOp::ArrayGetPacked(Sign::Unsigned, index),
+        "array.set" => ArrayOp::ArraySet(index),
+        "array.fill" => ArrayOp::ArrayFill(index),
         _ => return None,
     })
 }

@@ -3,7 +3,7 @@
 ghost use Rattle.script_parts.specs.Lines.{all_features};
 ghost use Rattle.std.specs.Prelude.{◌≡◌, ◌↔◌, ◌++◌, [], ◌∷◌, false, Some, IsSome, IfSome, IsErrOf, OnOk};
 
-use crate::failure::LineError;
+use crate::failure::{LineError, push};
 use crate::line::Line;
 use crate::written::{Operators, may_be_attempted};
 use bitflags::Flags;
@@ -65,6 +65,7 @@ enum Part {
 
 impl<'a> Draft<'a> {
     ghost use Rattle.script_parts.specs.declared.failure.LineError.{LineError};
+    ghost use Rattle.script_parts.specs.declared.script.Part.TheVariants.{Module, Locals};
     ghost use Rattle.script_parts.specs.Lines.{part_of, may_stand_in, may_add_operator, features_or_all, AddsLine};
 
     /// No lines yet.
@@ -99,33 +100,58 @@ impl<'a> Draft<'a> {
             ↔ (may_stand_in line (part_of self.old) self.old.declarations.data_count self.old.shows
             ≡ false) }
     {
-        match (line, self.part(), self.declarations.data_count, self.shows) {
-            (Line::Feature(named), Part::Module, _, _) => {
+        match self.part() {
+            Part::Module => self.add_declaration(line, offset),
+            Part::Locals => self.add_locals(line, offset),
+            Part::Operators => Err(LineError::Bad),
+        }
+    }
+
+    /// Adds a line of the module, or the one that begins the body.
+    fn add_declaration(&mut self, line: Line, offset: u64) -> Result<(), LineError>
+        ensures added { OnOk result (AddsLine self.old self.new line offset) }
+        ensures bad { IsErrOf result LineError.Bad
+            ↔ (may_stand_in line Module self.old.declarations.data_count self.old.shows ≡ false) }
+    {
+        match (line, self.declarations.data_count, self.shows) {
+            (Line::Feature(named), _, _) => {
                 let before = self.features.unwrap_or(WasmFeatures::empty());
                 self.features = Some(before.union(named));
+                Ok(())
             }
-            (Line::SubType(ty), Part::Module, _, _) => self.declarations.types.push(ty)?,
-            (Line::Function(function), Part::Module, _, _) => {
-                self.declarations.functions.push(function)?;
-            }
-            (Line::Table(ty), Part::Module, _, _) => self.declarations.tables.push(ty)?,
-            (Line::Memory(ty), Part::Module, _, _) => self.declarations.memories.push(ty)?,
-            (Line::Global(ty), Part::Module, _, _) => self.declarations.globals.push(ty)?,
-            (Line::Tag(index), Part::Module, _, _) => self.declarations.tags.push(index)?,
-            (Line::Element(ty), Part::Module, _, _) => self.declarations.elements.push(ty)?,
-            (Line::DataCount(count), Part::Module, None, _) => {
+            (Line::SubType(ty), _, _) => push(&mut self.declarations.types, ty),
+            (Line::Function(function), _, _) => push(&mut self.declarations.functions, function),
+            (Line::Table(ty), _, _) => push(&mut self.declarations.tables, ty),
+            (Line::Memory(ty), _, _) => push(&mut self.declarations.memories, ty),
+            (Line::Global(ty), _, _) => push(&mut self.declarations.globals, ty),
+            (Line::Tag(index), _, _) => push(&mut self.declarations.tags, index),
+            (Line::Element(ty), _, _) => push(&mut self.declarations.elements, ty),
+            (Line::DataCount(count), None, _) => {
                 self.declarations.data_count = Some(count);
+                Ok(())
             }
-            (Line::Show, Part::Module, _, false) => self.shows = true,
-            (Line::Body(kind), Part::Module, _, _) => {
+            (Line::Show, _, false) => {
+                self.shows = true;
+                Ok(())
+            }
+            (Line::Body(kind), _, _) => {
                 self.body = Some(BodyLine { kind, offset });
+                Ok(())
             }
-            (Line::Locals(count, ty), Part::Locals, _, _) => {
-                self.locals.push(LocalGroup { count, ty, offset })?;
-            }
-            _ => return Err(LineError::Bad),
+            _ => Err(LineError::Bad),
         }
-        Ok(())
+    }
+
+    /// Adds a line between the one that begins the body and the operators: locals.
+    fn add_locals(&mut self, line: Line, offset: u64) -> Result<(), LineError>
+        ensures added { OnOk result (AddsLine self.old self.new line offset) }
+        ensures bad { IsErrOf result LineError.Bad
+            ↔ (may_stand_in line Locals self.old.declarations.data_count self.old.shows ≡ false) }
+    {
+        match line {
+            Line::Locals(count, ty) => push(&mut self.locals, LocalGroup { count, ty, offset }),
+            _ => Err(LineError::Bad),
+        }
     }
 
     /// Adds an operator, attempted or not, if the `func` or `expr` line has come, and if it may be attempted

@@ -19,21 +19,34 @@ pub fn read_script<'a>(
 ) -> Result<Script<'a>, ScriptError> {
     listed.clear();
     let mut draft = Draft::new(alloc);
-    let mut words = Vec::new(alloc);
-    let mut number: u64 = 1;
-    for line in text.lines() {
-        if !line.starts_with('#') {
-            read_words(&mut words, line).map_err(|_| ScriptError::OutOfMemory)?;
-            add_words(alloc, listed, &mut draft, &words, number).map_err(
-                |error| ScriptError::at_line(error, number, &words),
-            )?;
-        }
-        number = number.saturating_add(1);
-    }
+    let number = read_lines(alloc, listed, &mut draft, text)?;
     let no_body = ScriptError::BadLine(number, Reason::NoBody);
     let mut script = draft.finish().ok_or(no_body)?;
     lend(listed, &mut script.operators);
     Ok(script)
+}
+
+/// Adds each line of a text, and answers the number of the line behind the last one.
+fn read_lines(
+    alloc: Global,
+    listed: &mut Vec<ListedOperator>,
+    draft: &mut Draft<'_>,
+    text: &str,
+) -> Result<u64, ScriptError> {
+    let mut words = Vec::new(alloc);
+    let mut number: u64 = 1;
+    for line in text.lines() {
+        if !line.starts_with('#') {
+            if read_words(&mut words, line).is_err() {
+                return Err(ScriptError::OutOfMemory);
+            }
+            if let Err(error) = add_words(alloc, listed, draft, &words, number) {
+                return Err(ScriptError::at_line(error, number, &words));
+            }
+        }
+        number = number.saturating_add(1);
+    }
+    Ok(number)
 }
 
 /// Puts each operator with a list, which is lent to it, in its place.

@@ -2,7 +2,6 @@
 use Rattle.std.proofs.Common.{rules, arith, ap, sym, ◌∙◌, ◌≡◌, ◌-◌, ◌∷◌, ◌++◌, [], append-nil, Some}
 use Rattle.binary_operators.specs.Values.{so_many}
 use Rattle.binary_operators.proofs.Items.{no_front, one_more, all_read, with_front}
-use Rattle.binary_modules.specs.Imports.{unplaced_functions, unplaced_tables, unplaced_memories, unplaced_globals, unplaced_tags}
 use Rattle.binary_modules.specs.Items.{import_item, unplaced_import}
 use Rattle.binary_modules.proofs.ImportedMore.{import_more}
 use Rattle.binary_modules.proofs.Listed.{list_is}
@@ -15,13 +14,7 @@ loop-init c =
       [],
       no_front (so_many reading (c.in_ok-count.count - 0) c.read_var_u32.new.self.left)
           ∙ ap (λ n. so_many reading n c.read_var_u32.new.self.left) all,
-      record {
-        functions = ap unplaced_functions c.new-imported.ensures.functions;
-        tables = ap unplaced_tables c.new-imported.ensures.tables;
-        memories = ap unplaced_memories c.new-imported.ensures.memories;
-        globals = ap unplaced_globals c.new-imported.ensures.globals;
-        tags = ap unplaced_tags c.new-imported.ensures.tags;
-      },
+      c.requires,
     )
 
 pub loop-preserved : goal.loop-preserved

@@ -1,5 +1,5 @@
 -- The parts of a module make it.
-use Rattle.std.proofs.Common.{rules, zero-add, ap, sym, refl, ◌∙◌, ◌≡◌, ◌++◌, length, append_assoc}
+use Rattle.std.proofs.Common.{zero-add, ap, sym, refl, ◌∙◌, ◌≡◌, ◌++◌, length, append_assoc}
 use Rattle.std.specs.Prelude.{flat_map, option_map, min, ◌^◌, ◌-◌}
 use Rattle.std.proofs.lemmas.List.{length-map}
 use Rattle.binary_operators.specs.declared.types.GroupNames.TheVariants.{Indices}
@@ -14,15 +14,18 @@ use Rattle.binary_modules.proofs.whole.read_contents.Goals as goal
 
 pub returns-clause-read : goal.returns-clause-read
 returns-clause-read c =
-    let imp = c.in_ok-items.ensures in
-    let before = c.in_ok-items.items in
-    let after = c.read_own_items.new.items in
-    let own = c.in_ok-read_own_items.ensures in
-    let exp = c.in_ok-exports.ensures in
-    let seg = c.in_ok-segments.ensures in
+    let items = c.in_ok-found.ensures in
+    let before = items.0 in
+    let imp = items.1 in
+    let counts = items.2 in
+    let own = items.3 in
+    let after = c.in_ok-found.found.items in
+    let uses = c.in_ok-uses.uses in
+    let exp = c.in_ok-uses.ensures.exports in
+    let seg = c.in_ok-uses.ensures.segments in
     let v0 = c.new-initializers.result in
-    let v1 = c.read_own_items.new.initializers in
-    let v2 = c.read_segments.new.initializers in
+    let v1 = c.read_items.new.initializers in
+    let v2 = c.read_uses.new.initializers in
     let tables = own.tables in
     let globals = own.globals in
     let segments = placed 0 seg.elements ++ placed 0 seg.data_items in
@@ -34,10 +37,10 @@ returns-clause-read c =
       tags = own.tags;
       globals = globals;
       exports = exp.0;
-      start = option_map (λ (n : SectionNumber). n.number) c.in_ok-start.start;
+      start = option_map (λ (n : SectionNumber). n.number) uses.start;
       elements = seg.elements;
-      data_count = option_map (λ (n : SectionNumber). n.number) c.in_ok-data_count.data_count;
-      bodies = bytes_of c.in_ok-bodies.bodies.items;
+      data_count = option_map (λ (n : SectionNumber). n.number) uses.data_count;
+      bodies = bytes_of uses.bodies.items;
       data_segments = seg.data_items;
     } in
     let first_table : length before.tables.items ≡ length (flat_map table_in imp.imports) =
@@ -51,12 +54,9 @@ returns-clause-read c =
     append_assoc of_tables of_globals segments
     ∙ ap (λ n. placed n tables ++ (of_globals ++ segments)) first_table
     ∙ ap (λ n. placed (length (flat_map table_in imp.imports)) tables ++ (placed n globals ++ segments)) first_global in
-    let functions_length : c.len.result ≡ length after.functions.items = search rules in
-    let bodies_length : c.len-2.result ≡ length c.in_ok-bodies.bodies.items = search rules in
-    let data_length : c.len-3.result ≡ length c.in_ok-segments.segments.data_segments.items = search rules in
-    let a_body_each : c.len-2.result ≡ length own.functions =
-    bodies_each c.in_ok-imports.imports.functions c.len-2.result c.len.result before.functions.items after.functions.items (length own.functions)
-    c.in_ok-check_bodies.ensures c.in_ok-imports.ensures.functions functions_length
+    let a_body_each : length uses.bodies.items ≡ length own.functions =
+    bodies_each c.in_ok-found.found.imports.functions (length uses.bodies.items) (length after.functions.items) before.functions.items after.functions.items (length own.functions)
+    c.in_ok-uses.ensures.counted counts.functions refl
     (list_length _ _ 3 (told_sections c.args.sections.now) before.functions.items after.functions.items own.functions own.are_functions) in
     record {
       are_types = c.in_ok-types.ensures;
@@ -76,19 +76,18 @@ returns-clause-read c =
         tags = own.are_tags.are_read;
         globals = own.are_globals.are_read;
         exports = exp.1.are_read;
-        start = c.in_ok-start.ensures;
+        start = c.in_ok-uses.ensures.start;
         elements = seg.are_elements.are_read;
-        data_count = c.in_ok-data_count.ensures;
-        bodies = c.in_ok-bodies.ensures;
+        data_count = c.in_ok-uses.ensures.data_count;
+        bodies = c.in_ok-uses.ensures.bodies;
         data_segments = seg.are_data.are_read;
-        a_body_each =
-            length-map c.in_ok-bodies.bodies.items _ ∙ sym bodies_length ∙ a_body_each;
+        a_body_each = length-map uses.bodies.items _ ∙ a_body_each;
         are_counted =
-            counted_by _ c.len-3.result (length seg.data_items) c.in_ok-check_data_count.ensures
-            (data_length ∙ list_length _ _ 11 (told_sections c.args.sections.now) _ _ seg.data_items seg.are_data ∙ zero-add (length seg.data_items));
+            counted_by _ (length uses.segments.data_segments.items) (length seg.data_items) c.in_ok-uses.ensures.data_counted
+            (list_length _ _ 11 (told_sections c.args.sections.now) _ _ seg.data_items seg.are_data ∙ zero-add (length seg.data_items));
       };
       are_declared = record {
-        imports = are_imported imp.imports before c.in_ok-imports.imports imp.are_imports c.in_ok-imports.ensures;
+        imports = are_imported imp.imports before c.in_ok-found.found.imports imp.are_imports counts;
         functions = own.are_functions.are_behind ∙ ap (λ l. l ++ declared_items own.functions) imp.are_imports.functions;
         tables = own.are_tables.are_behind ∙ ap (λ l. l ++ declared_items tables) imp.are_imports.tables;
         memories = own.are_memories.are_behind ∙ ap (λ l. l ++ declared_items own.memories) imp.are_imports.memories;

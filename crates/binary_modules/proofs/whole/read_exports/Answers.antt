@@ -6,7 +6,7 @@ use Rattle.binary_modules.proofs.whole.read_exports.Goals as goal
 
 pub returns : goal.returns
 returns c =
-    let e = c.in_ok-read_section_of.ensures in (
+    let e = c.in_ok-read_plain_section.ensures in (
       e.0,
       record {
         are_read = e.1.are_read;

@@ -18,7 +18,7 @@ returns-then-section-id c =
     let i = c.loop-section.section-index in
     let s = c.section-item.result in
     let left = λ (xs : List ContentSection). contents_of id (told_sections xs) in
-    ap (λ r. r.left) c.again.ensures
+    ap (λ r. r.left) c.duplicate.ensures
     ∙ first_of id s (drop (i + 1) all) c.if-section-id.true
     ∙ ap (λ x. left (x ∷ drop (i + 1) all)) c.section-item.is
     ∙ sym (at_drop_more left all i s c.loop-section-test.true)

@@ -26,7 +26,7 @@ returns c = λ before h.
     let group : ReadGroup = record { rolled = rolled.types.items; types = read; first = first; explicit = explicit } in
     let written : RecGroup = record { count = count; explicit = explicit; offset = c.offset-offset.result } in
     let P : List ℕ → Type 0 = λ b. HasTypes c.args.self.now.canonical.items (Indices first) count b read c.declare.new.reader.left in
-    let declared = subst P (ap (λ r. r.left) c.again-again.ensures) d.1 in
+    let declared = subst P (ap (λ r. r.left) c.duplicate-again.ensures) d.1 in
     let many : length read ≡ count = so_many_length (sub_type declared.types) count _ read _ declared.are_read in
     record {
       group = group;

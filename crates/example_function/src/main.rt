@@ -1,10 +1,19 @@
 //! Checks the body `local.get N, i32.const 1, i32.add, end` of a function `[i32] -> [i32]` with one more
 //! local, of type i64, operator by operator: it is accepted for local 0, and refused for local 1. Then it makes
-//! a body: it tries one operator after the other, and prints those that are accepted.
+//! a body: it tries one operator after the other, and prints those that are accepted. At last it checks
+//! expressions, each as a whole list (`lists`).
+//!
+//! All of them are bodies over what an interpreter has in memory, by a lookup of its own (`instance`), whose
+//! variables are the globals. Without variables, the `ModuleLists` that it is made of is a lookup too.
 #![tactic(auto)]
+
+mod instance;
+mod lists;
 
 ghost use Rattle.std.specs.Prelude.{◌≡◌, [], false};
 
+use crate::instance::{Instance, Value, Variable};
+use crate::lists::print_expressions;
 use std::alloc::Global;
 use std::io;
 use wasmparser_validate::func::FuncValidator;
@@ -21,6 +30,17 @@ fn declare(alloc: Global) -> Option<ModuleLists> {
     let ty = SubType::func(FuncType::new(params, results), false);
     declarations.types.push(ty).ok()?;
     ModuleLists::from_declarations(alloc, declarations).ok()
+}
+
+/// An instance of that module, with a variable that holds an i32 and one that holds an i64. None where memory is
+/// wanting.
+fn instantiate(alloc: Global) -> Option<Instance<ModuleLists>> {
+    let first = Variable::new(Value::I32(7));
+    let second = Variable::new(Value::I64(9));
+    Some(Instance {
+        declared: declare(alloc)?,
+        variables: vec![in alloc; first, second].ok()?,
+    })
 }
 
 const ADD: NumericOp = NumericOp::IntegerBinary(IntegerType::I32, IntegerBinaryOp::Add);
@@ -103,13 +123,25 @@ fn generate<R: WasmModuleResources>(rt: &HostRuntime, resources: &R) -> io::Resu
     }
 }
 
-fn main(rt: HostRuntime) -> io::Result<()> {
-    let module = declare(rt.alloc()).ok_or(io::ErrorKind::OutOfMemory)?;
+/// Checks the body with each of its locals, and prints what it comes to.
+fn print_checks<R: WasmModuleResources>(rt: &HostRuntime, resources: &R) -> io::Result<()> {
     for local in [0, 1] {
-        match check(rt.alloc(), &module, local) {
+        match check(rt.alloc(), resources, local) {
             Ok(()) => println!(rt; "local.get {local}: accepted")?,
             Err(refusal) => println!(rt; "local.get {local}: {refusal}")?,
         }
     }
-    generate(&rt, &module)
+    Ok(())
+}
+
+/// Checks all that is to be checked, over this lookup.
+fn print_all<R: WasmModuleResources>(rt: &HostRuntime, resources: &R) -> io::Result<()> {
+    print_checks(rt, resources)?;
+    generate(rt, resources)?;
+    print_expressions(rt, resources)
+}
+
+fn main(rt: HostRuntime) -> io::Result<()> {
+    let instance = instantiate(rt.alloc()).ok_or(io::ErrorKind::OutOfMemory)?;
+    print_all(&rt, &instance)
 }

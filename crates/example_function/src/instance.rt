@@ -1,7 +1,7 @@
 //! The lookup: what an interpreter has in memory, asked for the types of its variables.
 
 ghost use Rattle.std.specs.Prelude.{◌≡◌};
-ghost use Rattle.example_lookup.specs.Instance.{instance_context, lawful_instance, value_type, variable_type};
+ghost use Rattle.example_function.specs.Instance.{instance_context, lawful_instance, value_type, variable_type};
 
 use wasmparser_validate::resources::WasmModuleResources;
 use wasmparser_validate::types::{

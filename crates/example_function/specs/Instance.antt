@@ -4,9 +4,9 @@ use Rattle.std.specs.Prelude.{◌≡◌, List, Option, Some, None, false, slice_
 use Rattle.std.proofs.Common.{subst}
 use Rattle.wasmparser_validate.specs.Context.{ModuleContext, IsLawful, Valid}
 use Rattle.wasmparser_validate.specs.Items.{Items, items_of, with_items, lawful_with_items, GlobalType, ValType, I32, I64}
-use Rattle.example_lookup.specs.declared.instance.Value.{Value}
-use Rattle.example_lookup.specs.declared.instance.Value.TheVariants.{I32 as Value32, I64 as Value64}
-use Rattle.example_lookup.specs.declared.instance.Variable.{Variable}
+use Rattle.example_function.specs.declared.instance.Value.{Value}
+use Rattle.example_function.specs.declared.instance.Value.TheVariants.{I32 as Value32, I64 as Value64}
+use Rattle.example_function.specs.declared.instance.Variable.{Variable}
 
 abbrev pub value_type : Value → ValType
 value_type (Value32 n) = I32

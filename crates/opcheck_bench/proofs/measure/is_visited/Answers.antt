@@ -1,0 +1,17 @@
+-- An operator that is accepted meets its row; of one that is refused nothing is said.
+use Rattle.opcheck_bench.proofs.measure.is_visited.Goals as goal
+use Rattle.opcheck_bench.proofs.measure.is_visited.Goals.{in-Ok, in-Err, in-Ok-check, in-Err-check}
+
+pub returns-then-attempted-clause-accepted : goal.returns-then-attempted-clause-accepted
+returns-then-attempted-clause-accepted g c =
+    λ h. (elim c.match-try_op.branch [
+      | in-Ok w ↦ w.in-Ok.ensures.meets
+      | in-Err w ↦ absurd cc
+    ])
+
+pub returns-clause-accepted : goal.returns-clause-accepted
+returns-clause-accepted g c =
+    λ h. (elim c.match-check.branch [
+      | in-Ok-check w ↦ w.in-Ok-check.ensures.row
+      | in-Err-check w ↦ absurd cc
+    ])

@@ -4,4 +4,4 @@ pub returns-in-None : goal.returns-in-None
 returns-in-None g c = rw c.in-None.is c.check_each_operator.ensures
 
 pub returns-in-Some : goal.returns-in-Some
-returns-in-Some g c = rw c.in-Some.is c.check_each_operator-2.ensures
+returns-in-Some g c = rw c.in-Some.is c.check_each_operator-in-Some.ensures

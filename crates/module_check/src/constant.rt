@@ -21,24 +21,12 @@ pub struct ConstantPlace<'m> {
     pub place: Place,
 }
 
-/// Refuses an operator that isn't constant in this place, at its offset. In the body of a function, which is no
-/// such place, any may stand.
-#[inline(always)]
-pub(crate) fn check_place(
-    constant: &Option<ConstantPlace<'_>>,
+/// Refuses an operator that isn't constant in this place, at its offset.
+pub(crate) fn check_constant(
+    at: &ConstantPlace<'_>,
     op: &Op<'_>,
     offset: u64,
 ) -> Result<(), CheckError>
-    ensures { OnOk result (may_stand constant.now op.now ≡ true) }
-{
-    match constant {
-        Some(at) => check_constant(at, op, offset),
-        None => Ok(()),
-    }
-}
-
-/// Refuses an operator that isn't constant in this place, at its offset.
-fn check_constant(at: &ConstantPlace<'_>, op: &Op<'_>, offset: u64) -> Result<(), CheckError>
     ensures { OnOk result (may_stand (Some at.now) op.now ≡ true) }
 {
     check_constant_operator(at.alloc, at.features, at.declared, at.place, *op, offset)?;

@@ -6,6 +6,7 @@ mod body;
 mod buffers;
 mod code;
 mod constant;
+mod expression;
 mod loaded;
 mod module_verdict;
 mod operator_names;

@@ -10,7 +10,8 @@ ghost use Rattle.module_check.specs.Begin.{DefinesGroup, DefinesRead};
 ghost use Rattle.module_check.specs.Constant.{may_stand};
 ghost use Rattle.module_check.specs.Safe.{AreSafeOperators};
 
-use crate::constant::{ConstantPlace, check_place};
+use crate::constant::ConstantPlace;
+use crate::expression::check_constant_operators;
 use crate::verdict::CheckError;
 use binary_operators::{
     BinaryReader, CanonicalTypes, OperatorLists, ReadError, read_operator, read_operator_into,
@@ -74,18 +75,24 @@ pub(crate) fn define_locals<R: WasmModuleResources>(
     Ok(())
 }
 
-/// [`check_operators`], inlined, so that where the body is a function's no operator asks where it stands.
-#[inline(always)]
-fn check_each_operator<R: WasmModuleResources>(
+/// The refusal of a body whose operators end while a frame is open, at this offset.
+pub(crate) fn unclosed(offset: u64) -> CheckError {
+    CheckError::refused(
+        "control frames remain at end of function body or expression",
+        offset,
+    )
+}
+
+/// [`check_operators`] of a function, in which any operator may stand.
+fn check_function_operators<R: WasmModuleResources>(
     v: &mut OperatorValidator,
     resources: &R,
     reader: &mut BinaryReader<'_>,
     canonical: CanonicalTypes<'_>,
     lists: &mut OperatorLists,
-    constant: Option<ConstantPlace<'_>>,
 ) -> Result<(), CheckError>
     requires { IsStarting (R.context resources.now) (state v.old) }
-    ensures { OnOk result (AreSafeOperators (R.context resources.now) canonical.entry (may_stand constant.entry)
+    ensures { OnOk result (AreSafeOperators (R.context resources.now) canonical.entry (may_stand None)
         (state v.old) reader.old.left) }
 {
     let mut refusal = None;
@@ -96,7 +103,7 @@ fn check_each_operator<R: WasmModuleResources>(
         let offset = reader.offset();
         let mut op = Op::Numeric(NumericOp::I32Const(0));
         read_operator_into(reader, &canonical, lists, &mut op)?;
-        if !is_accepted(v, resources, offset, &op, &constant, &mut refusal) {
+        if !is_accepted(v, resources, offset, &op, &mut refusal) {
             break;
         }
         if v.control_stack_height() == 0 {
@@ -105,10 +112,7 @@ fn check_each_operator<R: WasmModuleResources>(
     }
     Err(match refusal {
         Some(error) => error,
-        None => CheckError::refused(
-            "control frames remain at end of function body or expression",
-            reader.offset(),
-        ),
+        None => unclosed(reader.offset()),
     })
 }
 
@@ -128,80 +132,58 @@ pub(crate) fn check_operators<R: WasmModuleResources>(
         (state v.old) reader.old.left) }
 {
     match constant {
-        None => check_each_operator(v, resources, reader, canonical, lists, None),
-        Some(place) => check_each_operator(v, resources, reader, canonical, lists, Some(place)),
+        None => check_function_operators(v, resources, reader, canonical, lists),
+        Some(place) => { check_constant_operators(v, resources, reader, canonical, lists, place) }
     }
 }
 
-/// Refuses an operator that isn't accepted, or may not stand there.
-fn check_operator<R: WasmModuleResources>(
-    v: &mut OperatorValidator,
-    resources: &R,
-    offset: u64,
-    op: &Op,
-    constant: &Option<ConstantPlace<'_>>,
-) -> Result<(), CheckError>
-    requires { MayVisit (R.context resources.now) (stacks_of v.old) }
-    ensures row { OnOk result (Meets (R.context resources.now) (λ cx. operator cx op.now) offset (state v.old) (Ok tt)
-        (state v.new)) }
-    ensures stands { OnOk result (may_stand constant.now op.now ≡ true) }
-{
-    check_place(constant, op, offset)?;
-    v.check_ref(resources, offset, op)?;
-    Ok(())
-}
-
-/// [`is_accepted`] of an operator that doesn't pass at once, or stands in a constant expression.
+/// [`is_accepted`] of an operator that doesn't pass at once.
 #[inline(never)]
 fn is_accepted_by_check<R: WasmModuleResources>(
     v: &mut OperatorValidator,
     resources: &R,
     offset: u64,
     op: &Op,
-    constant: &Option<ConstantPlace<'_>>,
     refusal: &mut Option<CheckError>,
 ) -> bool
     requires { MayVisit (R.context resources.now) (stacks_of v.old) }
     ensures row { result ≡ true → Meets (R.context resources.now) (λ cx. operator cx op.now) offset (state v.old)
         (Ok tt) (state v.new) }
-    ensures stands { result ≡ true → may_stand constant.now op.now ≡ true }
     ensures told { result ≡ false → IsSome refusal.new }
 {
-    match check_operator(v, resources, offset, op, constant) {
+    match v.check_ref(resources, offset, op) {
         Ok(()) => true,
         Err(error) => {
-            *refusal = Some(error);
+            *refusal = Some(CheckError::Refused(error));
             false
         }
     }
 }
 
-/// Whether an operator is accepted, and may stand there. Where it isn't, the place that is lent holds why: an answer that
-/// is handed back would be written for each operator.
+/// Whether an operator is accepted. Where it isn't, the place that is lent holds why: an answer that is handed back would be
+/// written for each operator.
 #[inline(always)]
 fn is_accepted<R: WasmModuleResources>(
     v: &mut OperatorValidator,
     resources: &R,
     offset: u64,
     op: &Op,
-    constant: &Option<ConstantPlace<'_>>,
     refusal: &mut Option<CheckError>,
 ) -> bool
     requires { MayVisit (R.context resources.now) (stacks_of v.old) }
     ensures row { result ≡ true → Meets (R.context resources.now) (λ cx. operator cx op.now) offset (state v.old)
         (Ok tt) (state v.new) }
-    ensures stands { result ≡ true → may_stand constant.now op.now ≡ true }
     ensures told { result ≡ false → IsSome refusal.new }
 {
-    if constant.is_none() && v.passes_at_once(resources, op) {
+    if v.passes_at_once(resources, op) {
         return true;
     }
-    is_accepted_by_check(v, resources, offset, op, constant, refusal)
+    is_accepted_by_check(v, resources, offset, op, refusal)
 }
 
 /// Whether nothing is left behind the operator that closes a body. It refuses an operator that is, or what can't be
 /// read.
-fn check_end(
+pub(crate) fn check_end(
     reader: &mut BinaryReader<'_>,
     canonical: CanonicalTypes<'_>,
     lists: &mut OperatorLists,

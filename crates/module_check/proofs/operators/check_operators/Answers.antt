@@ -1,7 +1,7 @@
 use Rattle.module_check.proofs.operators.check_operators.Goals as goal
 
 pub returns-in-None : goal.returns-in-None
-returns-in-None g c = rw c.in-None.is c.check_each_operator.ensures
+returns-in-None g c = rw c.in-None.is c.check_function_operators.ensures
 
 pub returns-in-Some : goal.returns-in-Some
-returns-in-Some g c = rw c.in-Some.is c.check_each_operator-in-Some.ensures
+returns-in-Some g c = rw c.in-Some.is c.check_constant_operators.ensures

@@ -1,0 +1,14 @@
+//! The stacks of a body, with the lookup of its module.
+
+ghost use Rattle.std.specs.Prelude.{◌≡◌};
+
+use validate_stacks::Stacks;
+
+/// The stacks of a body with the lookup of its module: what the check of an operator takes.
+#[derive(Drop)]
+pub struct Body<'a, 'b, R> {
+    /// The operands, the frames and the locals.
+    pub stacks: &'a mut Stacks,
+    /// The lookup.
+    pub resources: &'b R,
+}

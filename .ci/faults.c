@@ -12,8 +12,7 @@
    Of wasmcheck, which runs with `-v`, where it differs:
 
    - a request for memory is refused: status 3, and whole lines, each of the ample output but those that end in
-     `out of memory`; or the ample answer, since `collect` of the standard library asks for all its room first, and
-     grows step by step where that is refused;
+     `out of memory`;
    - a read or a write fails: status 3, and what is printed begins the ample output.
 
    A crash, or ten seconds without an end, is wrong. Prints a line for each: `NAME: N runs, M wrong`. */
@@ -144,17 +143,13 @@ static int is_want_of_memory(int ended) {
 
 static int is_ample(int ended) { return ended == status && is_same(1) && is_same(2); }
 
-static int is_right_without_memory(int ended) {
-    return is_want_of_memory(ended) || (is_of_modules && is_ample(ended));
-}
-
 static void refuse_requests(const char *name) {
     long last = ample->requests;
     for (long k = 1; k <= last; ++k) {
         int ended = run((struct faults){.request = k});
-        expect(name, "request", k, ended, is_right_without_memory(ended));
+        expect(name, "request", k, ended, is_want_of_memory(ended));
         ended = run((struct faults){.requests_from = k});
-        expect(name, "requests from", k, ended, is_right_without_memory(ended));
+        expect(name, "requests from", k, ended, is_want_of_memory(ended));
     }
 }
 

@@ -1,6 +1,6 @@
 /* The library with memory of its own: for each module that an argument names, calls with ample memory, and then with
-   each request refused, alone and with all behind it. A call answers want of memory, or as with ample memory, and all
-   blocks are given back. A block that grows moves each time, with the bytes that are kept and no others, so
+   each request refused, alone and with all behind it. A call answers want of memory exactly if a request of its own was
+   refused, and otherwise as with ample memory; all blocks are given back. A block that grows moves each time, with the bytes that are kept and no others, so
    that they are as many as the library means. The last line says how many calls there were, and how many of them were
    wrong. */
 #include "../ffi/tansyattic.h"
@@ -11,6 +11,8 @@
 
 /* Requests so far, the one that is refused, the one from which on all are, and blocks that weren't given back. */
 static long requests, refused, refused_from, blocks, misaligned;
+/* Requests that were refused, and how many of these are noted. */
+static long refusals, noted;
 static char none;
 
 struct tansyattic_block rattle_alloc(size_t size, size_t align) {
@@ -18,7 +20,10 @@ struct tansyattic_block rattle_alloc(size_t size, size_t align) {
     if (align == 0 || 16 % align != 0) ++misaligned;
     void *block = NULL;
     if (number != refused && (refused_from == 0 || number < refused_from)) block = malloc(size != 0 ? size : align);
-    if (block == NULL) return (struct tansyattic_block){false, &none};
+    if (block == NULL) {
+        ++refusals;
+        return (struct tansyattic_block){false, &none};
+    }
     memset(block, 0xa5, size);
     ++blocks;
     return (struct tansyattic_block){true, block};
@@ -55,10 +60,12 @@ static size_t length;
 static long calls, wrong;
 
 static void note(const struct answer *answer, uint32_t status) {
+    bool was_refused = refusals != noted;
     ++calls;
-    if (status == answer->verdict.status && misaligned == 0) return;
+    noted = refusals;
+    if (status == answer->verdict.status && misaligned == 0 && was_refused == (status == TANSYATTIC_OUT_OF_MEMORY)) return;
     ++wrong;
-    printf("a call answers %u and tells %u\n", status, answer->verdict.status);
+    printf("a call answers %u and tells %u, %s\n", status, answer->verdict.status, was_refused ? "refused" : "not refused");
 }
 
 static void ask(struct answers *answers) {
@@ -81,7 +88,7 @@ static void ask(struct answers *answers) {
 /* Asks with one request refused, and with all from one on. */
 static void ask_without(struct answers *answers, long one, long from) {
     memset(answers, 0, sizeof *answers);
-    requests = blocks = misaligned = 0;
+    requests = blocks = misaligned = refusals = noted = 0;
     refused = one;
     refused_from = from;
     ask(answers);
@@ -90,7 +97,8 @@ static void ask_without(struct answers *answers, long one, long from) {
     printf("request %ld, from %ld: %ld blocks are left\n", one, from, blocks);
 }
 
-/* Whether a call tells want of memory, or what it tells with ample memory, or wasn't made. */
+/* Whether a call tells want of memory, or what it tells with ample memory, or wasn't made. (`note` sees which of the first
+   two it has to be.) */
 static bool may_tell(const struct answer *found, const struct answer *ample) {
     static const struct answer none;
     return found->verdict.status == TANSYATTIC_OUT_OF_MEMORY || memcmp(found, ample, sizeof *found) == 0 ||

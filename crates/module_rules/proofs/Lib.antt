@@ -1,4 +1,5 @@
 pub mod Found
+pub mod Listed
 pub mod LookedUp
 pub mod Marked
 pub mod Distinct

@@ -1,6 +1,7 @@
 //! The lists that a lookup over the declarations of a module is made of.
 
-ghost use Rattle.std.specs.Prelude.{◌≡◌, ◌<◌, ◌||◌, ◌==◌, ℕ, Bool, [], ◌∷◌, false, length, map, option_map, slice_index_or, IfOk};
+ghost use Rattle.std.specs.Prelude.{◌≡◌, ◌<◌, ◌||◌, ◌==◌, ℕ, Bool, List, [], ◌∷◌, false, length, map, option_map, slice_index_or, IfOk};
+ghost use Rattle.std.specs.Iterator.{Drains, IsFinite};
 ghost use Rattle.std.specs.List.{enumerate_from, flat_map, zip};
 ghost use Rattle.validate_resources.specs.Named.{declared_in};
 ghost use Rattle.module_rules.specs.Declarations.{declarations_of};
@@ -92,6 +93,17 @@ fn referenced_functions(alloc: Global, declared: &DeclaredModule) -> Result<Vec<
     Ok(marks)
 }
 
+/// What an iterator yields, in a list that takes its room once. (Where `collect` is refused its room, it asks for less.)
+fn listed<T: Drop, I: Iterator<Item = T>>(alloc: Global, items: I) -> Result<Vec<T>, OutOfMemory>
+    requires can { I.can_next items }
+    requires finite { IsFinite (I.remaining items) }
+    ensures { IfOk result (λ v. (xs : List T) × Drains I.next_gives items xs × (v.items ≡ xs)) }
+{
+    let mut list = Vec::with_capacity(alloc, items.size_hint().0)?;
+    list.extend(items)?;
+    Ok(list)
+}
+
 /// The functions, each beside whether `ref.func` may name it.
 fn marked_functions(
     alloc: Global,
@@ -101,16 +113,13 @@ fn marked_functions(
     ensures { IfOk result (λ v. v.items ≡ map (λ (e : DeclaredFunction × Bool). function_decl e.0 e.1)
         (zip functions.now marks.now)) }
 {
-    let decls = functions
-        .iter()
-        .zip(marks)
-        .map(|(function, referenced)| FuncDecl {
-            type_index: function.type_index,
-            referenced: *referenced,
-            exact: function.exact,
-        })
-        .collect(alloc)?;
-    Ok(decls)
+    let marked = functions.iter().zip(marks);
+    let decls = marked.map(|(function, referenced)| FuncDecl {
+        type_index: function.type_index,
+        referenced: *referenced,
+        exact: function.exact,
+    });
+    listed(alloc, decls)
 }
 
 /// The functions as a lookup is handed them.
@@ -127,43 +136,38 @@ fn function_decls(alloc: Global, declared: &DeclaredModule) -> Result<Vec<FuncDe
 fn table_types(alloc: Global, tables: &[DeclaredTable]) -> Result<Vec<TableType>, OutOfMemory>
     ensures { IfOk result (λ v. v.items ≡ map (λ (t : DeclaredTable). t.ty) tables.now) }
 {
-    let types = tables.iter().map(|table| table.ty).collect(alloc)?;
-    Ok(types)
+    listed(alloc, tables.iter().map(|table| table.ty))
 }
 
 /// The types of the memories.
 fn memory_types(alloc: Global, memories: &[DeclaredMemory]) -> Result<Vec<MemoryType>, OutOfMemory>
     ensures { IfOk result (λ v. v.items ≡ map (λ (m : DeclaredMemory). m.ty) memories.now) }
 {
-    let types = memories.iter().map(|memory| memory.ty).collect(alloc)?;
-    Ok(types)
+    listed(alloc, memories.iter().map(|memory| memory.ty))
 }
 
 /// The types of the globals.
 fn global_types(alloc: Global, globals: &[DeclaredGlobal]) -> Result<Vec<GlobalType>, OutOfMemory>
     ensures { IfOk result (λ v. v.items ≡ map (λ (g : DeclaredGlobal). g.ty) globals.now) }
 {
-    let types = globals.iter().map(|global| global.ty).collect(alloc)?;
-    Ok(types)
+    listed(alloc, globals.iter().map(|global| global.ty))
 }
 
 /// The indices of the types of the tags.
 fn tag_types(alloc: Global, tags: &[DeclaredTag]) -> Result<Vec<u32>, OutOfMemory>
     ensures { IfOk result (λ v. v.items ≡ map (λ (t : DeclaredTag). t.func_type_idx) tags.now) }
 {
-    let types = tags.iter().map(|tag| tag.func_type_idx).collect(alloc)?;
-    Ok(types)
+    listed(alloc, tags.iter().map(|tag| tag.func_type_idx))
 }
 
 /// The types of the items of the element segments.
 fn element_types(alloc: Global, elements: &[Element]) -> Result<Vec<RefType>, OutOfMemory>
     ensures { IfOk result (λ v. v.items ≡ map (λ (e : Element). item_type e.items) elements.now) }
 {
-    let types = elements
-        .iter()
-        .map(|element| item_type(&element.items))
-        .collect(alloc)?;
-    Ok(types)
+    listed(
+        alloc,
+        elements.iter().map(|element| item_type(&element.items)),
+    )
 }
 
 /// How many data segments there are, where the module says so.

@@ -1,0 +1,10 @@
+use Rattle.std.proofs.Common.{rules}
+use Rattle.std.proofs.lemmas.Iterator.{YieldsList-from_map, YieldsList-from_slice}
+use Rattle.module_rules.specs.declared.items.DeclaredTag.{DeclaredTag}
+use Rattle.module_rules.proofs.Listed.{items-listed}
+use Rattle.module_rules.proofs.lookup.tag_types.Goals as goal
+
+pub returns : goal.returns
+returns c =
+    items-listed _ c.listed.result c.listed.ensures
+    (YieldsList-from_map _ (λ (t : DeclaredTag). t.func_type_idx) (YieldsList-from_slice c.args.tags.now cc) c.map.ensures.closure (λ x r q k. search rules))

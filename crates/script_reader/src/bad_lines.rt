@@ -2,7 +2,7 @@
 
 use crate::bad_lists::{wrong_in_places, wrong_list};
 use crate::bad_types::wrong_type;
-use crate::lines::{read_keyword, read_locals};
+use crate::lines::read_keyword;
 use crate::operators::read_flat_operator;
 use crate::reasons::Reason;
 use script_parts::{has_list, may_be_attempted};
@@ -143,7 +143,6 @@ fn is_read(name: &str, words: &[&str], names: Names) -> bool {
     }
     match names {
         Names::Operators => false,
-        Names::All if name == "local" => read_locals(words).is_some(),
         Names::All => read_keyword(name, words).is_some(),
     }
 }

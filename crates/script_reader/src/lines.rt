@@ -8,9 +8,8 @@ use script_parts::{
 use std::alloc::Global;
 use validate_visit::BodyKind;
 
-/// Reads the words of a line of the module, of which there is one at least: a `func` or `expr` line is the
-/// last of these.
-pub fn read_module_line(alloc: Global, words: &[&str]) -> Result<Line, LineError> {
+/// Reads the words of a line that writes no operator, of which there is one at least.
+pub fn read_line(alloc: Global, words: &[&str]) -> Result<Line, LineError> {
     match words.split_first() {
         Some((&"type", rest)) => Ok(Line::SubType(read_type(alloc, rest)?)),
         Some((keyword, rest)) => read_keyword(keyword, rest).ok_or(LineError::Bad),
@@ -18,11 +17,12 @@ pub fn read_module_line(alloc: Global, words: &[&str]) -> Result<Line, LineError
     }
 }
 
-/// Reads a line of the module that takes no memory, from this keyword and the words behind it.
+/// Reads such a line that takes no memory, from this keyword and the words behind it.
 pub fn read_keyword(keyword: &str, rest: &[&str]) -> Option<Line> {
     match keyword {
         "memory" => Some(Line::Memory(read_memory_type(rest)?)),
         "show" if rest.is_empty() => Some(Line::Show),
+        "local" => read_locals(rest),
         "fn" | "table" | "global" => read_marked(keyword, rest),
         _ => read_single(keyword, rest),
     }
@@ -56,7 +56,7 @@ fn read_single(keyword: &str, words: &[&str]) -> Option<Line> {
 }
 
 /// A `local` line: how many locals, and their type.
-pub fn read_locals(words: &[&str]) -> Option<Line> {
+fn read_locals(words: &[&str]) -> Option<Line> {
     match *words {
         [count, ty] => Some(Line::Locals(read_index(count)?, read_value_type(ty)?)),
         _ => None,

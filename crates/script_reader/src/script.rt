@@ -1,7 +1,7 @@
 //! Reading a whole script.
 
 use crate::failure::ScriptError;
-use crate::lines::{read_locals, read_module_line};
+use crate::lines::read_line;
 use crate::operators::read_flat_operator;
 use crate::reasons::Reason;
 use script_parts::{
@@ -73,23 +73,23 @@ fn add_words<'a>(
         return Ok(());
     }
     if draft.body.is_none() {
-        return add_module_words(alloc, draft, words, number);
+        return add_line(alloc, draft, words, number);
     }
     add_body_words(alloc, listed, draft, words, number)
 }
 
-/// The same up to the `func` or `expr` line. Operators are many and these lines few, so it stands apart.
+/// Adds a line that writes no operator. Operators are many and these lines few, so it stands apart.
 #[inline(never)]
-fn add_module_words(
+fn add_line(
     alloc: Global,
     draft: &mut Draft<'_>,
     words: &[&str],
     number: u64,
 ) -> Result<(), LineError> {
-    draft.add(read_module_line(alloc, words)?, number)
+    draft.add(read_line(alloc, words)?, number)
 }
 
-/// The same behind the `func` or `expr` line.
+/// Adds the line of this number behind the `func` or `expr` line.
 fn add_body_words<'a>(
     alloc: Global,
     listed: &mut Vec<ListedOperator>,
@@ -98,7 +98,7 @@ fn add_body_words<'a>(
     number: u64,
 ) -> Result<(), LineError> {
     let (written, attempted) = match words.split_first() {
-        Some((&"local", rest)) => return add_locals(draft, rest, number),
+        Some((&"local", _)) => return add_line(alloc, draft, words, number),
         Some((&"try", rest)) => (rest, true),
         _ => (words, false),
     };
@@ -126,10 +126,4 @@ fn add_listed(
     let operator = ListedOperator::new(place, number, attempted, list).ok_or(LineError::Bad)?;
     listed.push(operator)?;
     draft.add_operator(Op::Control(ControlOp::Nop), false, number)
-}
-
-/// Adds the `local` line of this number, which has these words behind that one.
-#[inline(never)]
-fn add_locals(draft: &mut Draft<'_>, words: &[&str], number: u64) -> Result<(), LineError> {
-    draft.add(read_locals(words).ok_or(LineError::Bad)?, number)
 }

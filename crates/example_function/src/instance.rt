@@ -135,6 +135,18 @@ impl<R: WasmModuleResources> WasmModuleResources for Instance<R> {
         self.declared.top_type(ty)
     }
 
+    fn canonical_heap_type(&self, ty: HeapType) -> Option<HeapType> {
+        self.declared.canonical_heap_type(ty)
+    }
+
+    fn canonical_ref_type(&self, ty: RefType) -> Option<RefType> {
+        self.declared.canonical_ref_type(ty)
+    }
+
+    fn canonical_value_type(&self, ty: ValType, features: &WasmFeatures) -> Option<ValType> {
+        self.declared.canonical_value_type(ty, features)
+    }
+
     fn check_heap_type(&self, ty: &mut HeapType, offset: u64) -> Result<(), Error> {
         self.declared.check_heap_type(ty, offset)
     }

@@ -1,5 +1,5 @@
 //! Lookups for tests, which keep the laws of a lookup and which no module would bring about: in one of them two
-//! indices name each type, and one finds no memory.
+//! indices name each type, and one finds no memory each other time.
 #![tactic(auto)]
 
 mod paired;

@@ -1,5 +1,8 @@
-//! A lookup of which one check finds no memory.
+//! A lookup of which one check finds no memory each other time.
 
+ghost use Rattle.std.specs.Prelude.{◌≡◌, true, IfErr};
+
+use std::cell::Cell;
 use validate_resources::{ModuleLists, WasmModuleResources};
 use validate_types::{
     CoreTypeId, Error, FuncType, GlobalType, HeapType, MemoryType, RefType, SubType, TableType,
@@ -17,13 +20,42 @@ pub enum Check {
     ValueType,
 }
 
-/// A lookup over lists of which one check finds no memory, whatever it is asked. All else is that of the lists.
+/// A lookup over lists of which one check finds no memory the first time that it is asked, and then each other time. It
+/// knows no canonical form without a check. All else is that of the lists.
 #[derive(Drop)]
 pub struct WantingLists {
-    /// The lists.
-    pub lists: ModuleLists,
-    /// The check that finds no memory.
-    pub check: Check,
+    lists: ModuleLists,
+    check: Check,
+    /// Whether the check finds memory when it is asked next.
+    finds_memory: Cell<bool>,
+}
+
+impl WantingLists {
+    /// The lookup over these lists of which this check finds no memory.
+    pub fn new(lists: ModuleLists, check: Check) -> WantingLists {
+        WantingLists {
+            lists,
+            check,
+            finds_memory: Cell::new(false),
+        }
+    }
+
+    /// What stands for the memory of this check.
+    fn find_memory(&self, check: Check, offset: u64) -> Result<(), Error>
+        ensures memory { IfErr result (λ e. e.wants_memory ≡ true) }
+        ensures offset { IfErr result (λ e. e.offset ≡ offset) }
+    {
+        if self.check != check {
+            return Ok(());
+        }
+        let finds_memory = self.finds_memory.get();
+        self.finds_memory.set(!finds_memory);
+        if finds_memory {
+            Ok(())
+        } else {
+            Err(Error::out_of_memory(offset))
+        }
+    }
 }
 
 impl WasmModuleResources for WantingLists {
@@ -34,16 +66,12 @@ impl WasmModuleResources for WantingLists {
     ghost lawful = { λ x. lawful-law x.lists };
 
     fn check_heap_type(&self, ty: &mut HeapType, offset: u64) -> Result<(), Error> {
-        if self.check == Check::HeapType {
-            return Err(Error::out_of_memory(offset));
-        }
+        self.find_memory(Check::HeapType, offset)?;
         self.lists.check_heap_type(ty, offset)
     }
 
     fn check_ref_type(&self, ty: &mut RefType, offset: u64) -> Result<(), Error> {
-        if self.check == Check::RefType {
-            return Err(Error::out_of_memory(offset));
-        }
+        self.find_memory(Check::RefType, offset)?;
         self.lists.check_ref_type(ty, offset)
     }
 
@@ -53,9 +81,7 @@ impl WasmModuleResources for WantingLists {
         features: &WasmFeatures,
         offset: u64,
     ) -> Result<(), Error> {
-        if self.check == Check::ValueType {
-            return Err(Error::out_of_memory(offset));
-        }
+        self.find_memory(Check::ValueType, offset)?;
         self.lists.check_value_type(ty, features, offset)
     }
 

@@ -27,7 +27,7 @@ pub enum Lookup {
     Own,
     /// One in which two indices name each type of the module.
     Paired,
-    /// One of which this check finds no memory.
+    /// One of which this check finds no memory each other time.
     Wanting(Check),
 }
 
@@ -195,7 +195,7 @@ fn run_in(
             run_over(alloc, tally, &paired, features, begin, operators, work)
         }
         Lookup::Wanting(check) => {
-            let wanting = WantingLists { lists, check };
+            let wanting = WantingLists::new(lists, check);
             run_over(alloc, tally, &wanting, features, begin, operators, work)
         }
     }

@@ -15,7 +15,7 @@
 //! - `@left`: lines of operators of which the last alone is refused, with those that are left (`left.rt`);
 //! - `@undone`: a body of operators that are visited, or attempted and taken back (`undone.rt`);
 //! - `@paired`: the same over a lookup in which indices 2i and 2i + 1 name type i of the module;
-//! - `@wanting CHECK`: the same over a lookup of which this check finds no memory.
+//! - `@wanting CHECK`: the same over a lookup of which this check finds no memory each other time, the first time too.
 //!
 //! Behind `@scripts` and `@each` the words `with custom_descriptors` may say that scripts without `feature` lines
 //! answer so with custom descriptors alone: `.ci/ways` doesn't run these without them.

@@ -10,9 +10,8 @@ use crate::lists::{FuncDecl, ModuleLists};
 use std::alloc::Global;
 use validate_types::{Error, GlobalType, MemoryType, RefType, SubType, TableType};
 
-/// The lists of [`ModuleLists::new`], each under its name: what a module declares, imports first. A call
-/// starts with [`ModuleDeclarations::new`], which declares nothing, fills the lists that the module has, and
-/// hands the record to [`ModuleLists::from_declarations`].
+/// What a module declares, list by list, imports first. Begin with [`ModuleDeclarations::new`], which declares
+/// nothing. Fill the lists that your module has, and hand them to [`ModuleLists::from_declarations`].
 #[derive(Debug, Drop)]
 pub struct ModuleDeclarations {
     /// The types.
@@ -25,7 +24,7 @@ pub struct ModuleDeclarations {
     pub memories: Vec<MemoryType>,
     /// The types of the globals.
     pub globals: Vec<GlobalType>,
-    /// Of each tag the index of its type.
+    /// The index of each tag's type.
     pub tags: Vec<u32>,
     /// The types of the element segments.
     pub elements: Vec<RefType>,
@@ -34,7 +33,7 @@ pub struct ModuleDeclarations {
 }
 
 impl ModuleDeclarations {
-    /// No declarations: each list is empty, and the number of data segments isn't said. It takes no memory.
+    /// Declares nothing: each list is empty, and `data_count` is None. It takes no memory.
     pub fn new(alloc: Global) -> ModuleDeclarations
         ensures { declared_in result ≡ nothing_declared }
     {

@@ -7,7 +7,7 @@ ghost use Rattle.validate_resources.specs.Context.{signature_of, continuation_of
 use std::alloc::Global;
 use validate_types::{CompositeInnerType, Error, FuncType, PackedIndex, SubType};
 
-/// What a type takes and gives, if it is one of functions.
+/// The parameters and results of a declared type, or None if it is no function type.
 pub fn func_type_of(sub_type: &SubType) -> Option<&FuncType>
     ensures { option_copied result ≡ signature_of sub_type.now }
 {
@@ -19,7 +19,7 @@ pub fn func_type_of(sub_type: &SubType) -> Option<&FuncType>
     }
 }
 
-/// The index of the function type of a continuation, if the type is one of continuations (a proposal,
+/// The index of a continuation's function type, or None if the declared type is no continuation type (a proposal,
 /// "Stack Switching").
 pub fn continuation_of(sub_type: &SubType) -> Option<PackedIndex>
     ensures { result ≡ continuation_of sub_type.now }
@@ -32,7 +32,7 @@ pub fn continuation_of(sub_type: &SubType) -> Option<PackedIndex>
     }
 }
 
-/// The refusal where the type at an index isn't one of functions.
+/// The refusal of a type that should be a function type, found at this index.
 #[cold]
 #[inline(never)]
 pub fn expected_func_type(alloc: Global, offset: u64, type_index: u32, found: &SubType) -> Error

@@ -7,7 +7,7 @@ pub mod kinds;
 mod lists;
 pub mod uses;
 
-ghost use Rattle.std.specs.Prelude.{◌≡◌, true, false, None, Some, IsSome, OnOk, IfErr};
+ghost use Rattle.std.specs.Prelude.{◌≡◌, true, false, None, Some, IsSome, IfSome, OnOk, IfErr};
 ghost use Rattle.std.specs.Option.{option_copied};
 ghost use Rattle.validate_types.specs.declared.types.ValType.{ValType};
 ghost use Rattle.validate_resources.specs.Context.{ModuleContext, IsLawful, Valid, is_valid_heap};
@@ -19,11 +19,10 @@ use validate_types::{
     ValType, WasmFeatures,
 };
 
-/// What a module declares (wasmparser's `WasmModuleResources`).
+/// A lookup: it knows the module around a body (wasmparser's `WasmModuleResources`).
 ///
-/// Its meaning is one ghost member, the module context, in whose words the clauses are, and each
-/// implementation proves the laws of that context. Layers above know no more of a lookup than the
-/// context and the laws.
+/// `context` says what each look-up answers, and the clauses are in its words. `lawful` proves the laws of that
+/// context, which docs/LAWS.md lists. Crates above know nothing else of a lookup.
 pub trait WasmModuleResources {
     /// What the look-ups answer, the types that are valid and canonical, and the order on them.
     ghost context: { Self → ModuleContext };
@@ -40,8 +39,8 @@ pub trait WasmModuleResources {
     fn global_at(&self, global_index: u32) -> Option<GlobalType>
         ensures { result ≡ (context self.now).global_at global_index };
 
-    /// What an exception with the tag at this index carries, and what is given back for it; None past the
-    /// end.
+    /// The type of the tag at this index, or None past the end. An exception or a suspension carries its parameters; a
+    /// suspension gets its results back.
     fn tag_at(&self, tag_index: u32) -> Option<&FuncType>
         ensures { option_copied result ≡ (context self.now).tag_at tag_index };
 
@@ -49,7 +48,7 @@ pub trait WasmModuleResources {
     fn sub_type_at(&self, type_index: u32) -> Option<&SubType>
         ensures { option_copied result ≡ (context self.now).type_at type_index };
 
-    /// The type that this id names, which the lookup knows.
+    /// The type that this id names. Condition: the lookup knows the id.
     fn sub_type_at_id(&self, id: CoreTypeId) -> &SubType
         requires { IsSome ((context self.now).type_of_id id) }
         ensures { (context self.now).type_of_id id ≡ Some result.now };
@@ -74,47 +73,67 @@ pub trait WasmModuleResources {
     fn is_function_referenced(&self, function_index: u32) -> bool
         ensures { result ≡ (context self.now).is_referenced function_index };
 
-    /// Whether a reference to the function at this index is exact in its type, where exact references are on
-    /// (a proposal, "Custom Descriptors").
+    /// Whether a reference to the function at this index is exact in its type, if the proposal
+    /// `custom_descriptors` is on.
     fn has_function_exact_type(&self, function_index: u32) -> bool
         ensures { result ≡ (context self.now).has_exact_type function_index };
 
-    /// Whether `a` is below `b` in the order of types. Nothing is said of types that aren't valid
-    /// and canonical.
+    /// Whether `a` is below `b` in the order of types. If one of them isn't valid and canonical, it may answer
+    /// anything.
     fn is_subtype(&self, a: ValType, b: ValType) -> bool
         ensures { Valid (context self.now) a → Valid (context self.now) b
             → result ≡ (context self.now).below a b };
 
-    /// Whether the reference is to something shared. Nothing is said of a type that isn't valid and
-    /// canonical.
+    /// Whether the reference is to something shared. If the type isn't valid and canonical, it may answer anything.
     fn is_shared(&self, ty: RefType) -> bool
         ensures { Valid (context self.now) (ValType.Ref ty) → result ≡ (context self.now).is_shared ty };
 
-    /// The top type of the hierarchy that a heap type is in. Nothing is said of a type that isn't valid
-    /// and canonical.
+    /// The top type of the hierarchy that a heap type is in. If the type isn't valid and canonical, it may answer
+    /// anything.
     fn top_type(&self, ty: &HeapType) -> HeapType
         ensures { is_valid_heap (context self.now) ty.now ≡ true → result
             ≡ (context self.now).top_type ty.now };
 
-    /// Checks a heap type of a module and writes its canonical form. It refuses, at the offset handed
-    /// in, where an index in it is unknown, or for want of memory.
+    /// The canonical form of a heap type of a module, where the lookup knows it without asking for memory. None
+    /// promises nothing: the type is then checked, once.
+    fn canonical_heap_type(&self, ty: HeapType) -> Option<HeapType>
+        ensures { IfSome result (λ h. (context self.now).canonical_heap ty ≡ Some h) }
+    {
+        None
+    }
+
+    /// The same of a reference type.
+    fn canonical_ref_type(&self, ty: RefType) -> Option<RefType>
+        ensures { IfSome result (λ r. (context self.now).canonical_ref ty ≡ Some r) }
+    {
+        None
+    }
+
+    /// The same of a value type, whose gate is open.
+    fn canonical_value_type(&self, ty: ValType, features: &WasmFeatures) -> Option<ValType>
+        ensures { IfSome result (λ t. (context self.now).canonical_type features.now ty ≡ Some t) }
+    {
+        None
+    }
+
+    /// Checks a heap type of the module, and puts its canonical form in its place. It refuses an index that names
+    /// no type, or answers that memory ran out, at this offset.
     fn check_heap_type(&self, ty: &mut HeapType, offset: u64) -> Result<(), Error>
         ensures canonical { OnOk result ((context self.now).canonical_heap ty.old ≡ Some ty.new) }
         ensures refused { IfErr result (λ e. e.wants_memory ≡ false → (context self.now).canonical_heap ty.old
             ≡ None) }
         ensures offset { IfErr result (λ e. e.offset ≡ offset) };
 
-    /// Checks a reference type of a module and writes its canonical form. It refuses, at the offset
-    /// handed in, where an index in it is unknown, or for want of memory.
+    /// Checks a reference type of the module, and puts its canonical form in its place. It refuses an index that
+    /// names no type, or answers that memory ran out, at this offset.
     fn check_ref_type(&self, ty: &mut RefType, offset: u64) -> Result<(), Error>
         ensures canonical { OnOk result ((context self.now).canonical_ref ty.old ≡ Some ty.new) }
         ensures refused { IfErr result (λ e. e.wants_memory ≡ false → (context self.now).canonical_ref ty.old
             ≡ None) }
         ensures offset { IfErr result (λ e. e.offset ≡ offset) };
 
-    /// Checks a value type of a module and writes its canonical form. It refuses, at the offset
-    /// handed in, where the gate of the type is closed or an index in it is unknown, or for want of
-    /// memory.
+    /// Checks a value type of the module, and puts its canonical form in its place. It refuses a type whose
+    /// proposal is off and an index that names no type, or answers that memory ran out, at this offset.
     fn check_value_type(
         &self,
         ty: &mut ValType,
@@ -127,6 +146,6 @@ pub trait WasmModuleResources {
             → (context self.now).canonical_type features.now ty.old ≡ None) }
         ensures offset { IfErr result (λ e. e.offset ≡ offset) };
 
-    /// The laws of a lookup.
+    /// A proof that the lookup keeps its laws (docs/LAWS.md).
     ghost lawful: { (x : Self) → IsLawful (context x) };
 }

@@ -20,7 +20,7 @@ use validate_types::{
     SubType, TableType, ValType, WasmFeatures,
 };
 
-/// How many types a lookup over lists holds at the most.
+/// The most types that a lookup over lists can hold.
 pub const MAX_TYPES: usize = 1_000_000;
 
 /// A function as a module declares it.
@@ -65,8 +65,8 @@ impl ModuleLists {
     /// type with a descriptor isn't one of structs. It takes memory for the canonical lists, and refuses
     /// where there is none.
     ///
-    /// A supertype is taken at its word: that the type fits it isn't looked at, but for kind and
-    /// sharedness, nor whether it is final. The module's other rules are the module validator's.
+    /// A supertype is taken at its word: only its kind and sharedness are compared, not whether the type fits it,
+    /// nor whether it is final. The module's other rules aren't looked at here.
     pub fn new(
         alloc: Global,
         types: Vec<SubType>,
@@ -251,7 +251,6 @@ fn have_fitting_descriptors(types: &[SubType]) -> bool
 
 /// Writes a canonical form, or refuses where there is no type of the number handed in. The text of
 /// that refusal takes memory.
-#[inline(always)]
 fn write_form<T: Copy>(
     ty: &mut T,
     form: Result<T, u32>,
@@ -278,32 +277,22 @@ fn write_form<T: Copy>(
 /// Whether it is a number type or the vector type, where the gates of all those are open. Such a type is its own
 /// canonical form.
 #[inline(always)]
-fn is_open_number(ty: &ValType, features: WasmFeatures) -> bool
-    ensures { (count : ℕ) → IsTrue result → canonical_under count features ty.now ≡ Some ty.now }
+fn is_open_number(ty: ValType, features: WasmFeatures) -> bool
+    ensures { (count : ℕ) → IsTrue result → canonical_under count features ty ≡ Some ty }
 {
     features.floats() && features.simd() && !matches!(ty, ValType::Ref(_))
 }
 
-/// Checks a value type of a module of so many types, and writes its canonical form. The text of a refusal may take
-/// memory.
+/// The canonical form of a value type of a module of so many types, where its gate is open and there is a type for its
+/// index.
 #[inline(never)]
-fn check_any_type(
-    ty: &mut ValType,
-    features: WasmFeatures,
-    count: usize,
-    alloc: Global,
-    offset: u64,
-) -> Result<(), Error>
-    ensures canonical { OnOk result (canonical_under count features ty.old ≡ Some ty.new) }
-    ensures refused { IfErr result (λ e. e.wants_memory ≡ false
-        → canonical_under count features ty.old ≡ None) }
-    ensures offset { IfErr result (λ e. e.offset ≡ offset) }
+fn open_form(ty: ValType, features: WasmFeatures, count: usize) -> Option<ValType>
+    ensures { result ≡ canonical_under count features ty }
 {
-    if let Err(text) = features.check_value_type(*ty) {
-        return Err(Error::new(text, offset));
+    if features.check_value_type(ty).is_err() {
+        return None;
     }
-    let form = canonical_type(*ty, count);
-    write_form(ty, form, alloc, offset)
+    canonical_type(ty, count).ok()
 }
 
 impl WasmModuleResources for ModuleLists {
@@ -389,27 +378,43 @@ impl WasmModuleResources for ModuleLists {
     }
 
     #[inline(always)]
+    fn canonical_heap_type(&self, ty: HeapType) -> Option<HeapType> {
+        canonical_heap(ty, self.types.len()).ok()
+    }
+
+    #[inline(always)]
+    fn canonical_ref_type(&self, ty: RefType) -> Option<RefType> {
+        canonical_ref(ty, self.types.len()).ok()
+    }
+
+    #[inline(always)]
+    fn canonical_value_type(&self, ty: ValType, features: &WasmFeatures) -> Option<ValType> {
+        if is_open_number(ty, *features) {
+            return Some(ty);
+        }
+        open_form(ty, *features, self.types.len())
+    }
+
     fn check_heap_type(&self, ty: &mut HeapType, offset: u64) -> Result<(), Error> {
         let form = canonical_heap(*ty, self.types.len());
         write_form(ty, form, self.alloc, offset)
     }
 
-    #[inline(always)]
     fn check_ref_type(&self, ty: &mut RefType, offset: u64) -> Result<(), Error> {
         let form = canonical_ref(*ty, self.types.len());
         write_form(ty, form, self.alloc, offset)
     }
 
-    #[inline(always)]
     fn check_value_type(
         &self,
         ty: &mut ValType,
         features: &WasmFeatures,
         offset: u64,
     ) -> Result<(), Error> {
-        if is_open_number(ty, *features) {
-            return Ok(());
+        if let Err(text) = features.check_value_type(*ty) {
+            return Err(Error::new(text, offset));
         }
-        check_any_type(ty, *features, self.types.len(), self.alloc, offset)
+        let form = canonical_type(*ty, self.types.len());
+        write_form(ty, form, self.alloc, offset)
     }
 }

@@ -4,7 +4,7 @@ ghost use Rattle.validate_resources.specs.Context.{IsLawful};
 
 use crate::WasmModuleResources;
 
-/// The laws hold of every lookup. It does nothing: its contract is the promise.
+/// Does nothing. Its contract says that the laws hold for every lookup of this type.
 pub fn laws<R: WasmModuleResources>(_resources: &R)
     ensures { (x : R) → IsLawful (R.context x) }
 {}

@@ -1,5 +1,5 @@
-//! Types among the immediates, in the canonical form that the lookup gives them. A body that tells nothing doesn't ask for
-//! a type that isn't declared: the lookup would make a text, which nobody reads.
+//! Types among the immediates, in the canonical form that the lookup gives them. A body that tells nothing takes the form
+//! that the lookup knows, and has no type checked: so each check is called once, by the body that tells.
 
 ghost use Rattle.std.specs.Prelude.{◌≡◌, true, None, Some, IfOk, IfErr};
 ghost use Rattle.std.specs.Option.{option_map};
@@ -8,15 +8,16 @@ ghost use Rattle.validate_types.specs.Refs.{reference};
 
 use validate_resources::WasmModuleResources;
 use validate_resources::uses::laws;
-use validate_types::{HeapType, RefType, Refusal, Refused, UnpackedIndex, ValType, WasmFeatures};
+use validate_types::{HeapType, RefType, Refusal, Refused, ValType, WasmFeatures};
 
-/// Whether it has the index of a type that isn't declared.
+/// The form that the lookup knows, or the answer where nothing is told.
 #[inline(always)]
-fn is_undeclared<R: WasmModuleResources>(resources: &R, ty: HeapType) -> bool {
-    match ty {
-        HeapType::Concrete(UnpackedIndex::Module(index))
-        | HeapType::Exact(UnpackedIndex::Module(index)) => resources.sub_type_at(index).is_none(),
-        _ => false,
+fn known<A: Refused, T>(form: Option<T>) -> Result<T, A>
+    ensures found { IfOk result (λ t. form ≡ Some t) }
+{
+    match form {
+        Some(form) => Ok(form),
+        None => Err(A::of(Refusal::UnknownType)),
     }
 }
 
@@ -31,8 +32,8 @@ pub fn canonical_heap<A: Refused, R: WasmModuleResources>(
     ensures refused { IfErr result (λ e. A.tells e → (R.context resources.now).canonical_heap ty ≡ None) }
 {
     laws(resources);
-    if !A::may_allocate() && is_undeclared(resources, ty) {
-        return Err(A::of(Refusal::UnknownType));
+    if !A::may_allocate() {
+        return known(resources.canonical_heap_type(ty));
     }
     let mut checked = ty;
     match resources.check_heap_type(&mut checked, 0) {
@@ -52,8 +53,8 @@ pub fn canonical_ref<A: Refused, R: WasmModuleResources>(
     ensures refused { IfErr result (λ e. A.tells e → (R.context resources.now).canonical_ref ty ≡ None) }
 {
     laws(resources);
-    if !A::may_allocate() && is_undeclared(resources, ty.heap_type) {
-        return Err(A::of(Refusal::UnknownType));
+    if !A::may_allocate() {
+        return known(resources.canonical_ref_type(ty));
     }
     let mut checked = ty;
     match resources.check_ref_type(&mut checked, 0) {
@@ -73,10 +74,8 @@ pub fn canonical_value<A: Refused, R: WasmModuleResources>(
     ensures refused { IfErr result (λ e. A.tells e
         → (R.context resources.now).canonical_type features ty ≡ None) }
 {
-    if let ValType::Ref(reference) = ty {
-        if !A::may_allocate() && is_undeclared(resources, reference.heap_type) {
-            return Err(A::of(Refusal::UnknownType));
-        }
+    if !A::may_allocate() {
+        return known(resources.canonical_value_type(ty, &features));
     }
     let mut checked = ty;
     match resources.check_value_type(&mut checked, &features, 0) {

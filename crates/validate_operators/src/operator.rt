@@ -4,7 +4,7 @@ ghost use Rattle.std.specs.Prelude.{◌≡◌, false, OnErr};
 ghost use Rattle.validate_types.specs.Told.{IsRowRefused};
 ghost use Rattle.validation_rules.specs.Operators.{operator};
 ghost use Rattle.validate_stacks.specs.AtOnce.{MeetsAtOnce};
-ghost use Rattle.validate_stacks.specs.Moves.{Moves};
+ghost use Rattle.validate_stacks.specs.Bodies.{MayBegin, Makes};
 ghost use Rattle.validate_stacks.specs.Pops.{IsKept};
 ghost use Rattle.validate_stacks.specs.State.{IsValidBody};
 ghost use Rattle.validate_stacks.specs.Visits.{MayVisit, Meets};
@@ -18,7 +18,7 @@ use crate::parts::end_part;
 use crate::popped::popped_before;
 use validate_resources::WasmModuleResources;
 use validate_shapes::checked::placed;
-use validate_stacks::Stacks;
+use validate_stacks::{Body, Stacks};
 use validate_types::{Error, NotDone, Refused, Told};
 use validate_visit::Op;
 
@@ -28,28 +28,25 @@ use validate_visit::Op;
 /// It stands in each visit, with the bodies of numbers, constants and locals, and calls those of all others: so a visit
 /// whose operator is known has what that one takes alone.
 #[inline(always)]
-fn any_operator<A: Refused, R: WasmModuleResources>(
-    stacks: &mut Stacks,
-    resources: &R,
-    op: &Op,
-) -> Result<(), A>
-    requires { MayVisit (R.context resources.now) stacks.old }
-    ensures row { Moves (R.context resources.now) A.tells (λ cx. operator cx op.now) stacks.old result stacks.new }
-    ensures memory { TakesNoMemory (R.context resources.now) op.now stacks.old.body result }
+fn any_operator<A: Refused, R: WasmModuleResources>(body: Body<'_, '_, R>, op: &Op) -> Result<(), A>
+    requires { MayBegin R.context body }
+    ensures row { Makes R.context A.tells (λ cx. operator cx op.now) body.entry result body.exit }
+    ensures memory { TakesNoMemory (R.context body.entry.resources.now) op.now
+        body.entry.stacks.now.body result }
 {
     match op {
-        Op::Control(op) => control(stacks, resources, op),
-        Op::Numeric(op) => gated_numeric(stacks, resources, op),
-        Op::Convert(op) => gated_convert(stacks, resources, op),
-        Op::Memory(op) => gated_memory(stacks, resources, op),
-        Op::Atomic(op) => gated_atomic(stacks, resources, op),
-        Op::Reference(op) => gated_reference(stacks, resources, op),
-        Op::Table(op) => gated_table(stacks, resources, op),
-        Op::Struct(op) => gated_struct(stacks, resources, op),
-        Op::Array(op) => gated_array(stacks, resources, op),
-        Op::Exception(op) => gated_exception(stacks, resources, op),
-        Op::Continuation(op) => gated_continuation(stacks, resources, op),
-        Op::Shared(op) => gated_shared(stacks, resources, op),
+        Op::Control(op) => control(body, op),
+        Op::Numeric(op) => gated_numeric(body, op),
+        Op::Convert(op) => gated_convert(body, op),
+        Op::Memory(op) => gated_memory(body, op),
+        Op::Atomic(op) => gated_atomic(body, op),
+        Op::Reference(op) => gated_reference(body, op),
+        Op::Table(op) => gated_table(body, op),
+        Op::Struct(op) => gated_struct(body, op),
+        Op::Array(op) => gated_array(body, op),
+        Op::Exception(op) => gated_exception(body, op),
+        Op::Continuation(op) => gated_continuation(body, op),
+        Op::Shared(op) => gated_shared(body, op),
     }
 }
 
@@ -57,15 +54,15 @@ fn any_operator<A: Refused, R: WasmModuleResources>(
 #[cold]
 #[inline(never)]
 fn operator_by_call<A: Refused, R: WasmModuleResources>(
-    stacks: &mut Stacks,
-    resources: &R,
+    body: Body<'_, '_, R>,
     op: &Op,
 ) -> Result<(), A>
-    requires { MayVisit (R.context resources.now) stacks.old }
-    ensures row { Moves (R.context resources.now) A.tells (λ cx. operator cx op.now) stacks.old result stacks.new }
-    ensures memory { TakesNoMemory (R.context resources.now) op.now stacks.old.body result }
+    requires { MayBegin R.context body }
+    ensures row { Makes R.context A.tells (λ cx. operator cx op.now) body.entry result body.exit }
+    ensures memory { TakesNoMemory (R.context body.entry.resources.now) op.now
+        body.entry.stacks.now.body result }
 {
-    any_operator(stacks, resources, op)
+    any_operator(body, op)
 }
 
 /// Whether the body of an operator was done. False, with nothing changed, where it was refused or wanted memory.
@@ -74,7 +71,13 @@ pub fn operator_at_once<R: WasmModuleResources>(stacks: &mut Stacks, resources: 
     requires { MayVisit (R.context resources.now) stacks.old }
     ensures { MeetsAtOnce (R.context resources.now) (λ cx. operator cx op.now) stacks.old result stacks.new }
 {
-    let answer: Result<(), NotDone> = any_operator(stacks, resources, op);
+    let answer: Result<(), NotDone> = any_operator(
+        Body {
+            stacks: &mut *stacks,
+            resources,
+        },
+        op,
+    );
     answer.is_ok()
 }
 
@@ -93,10 +96,24 @@ pub fn check_operator<R: WasmModuleResources>(
         result stacks.new.body }
     ensures memory { TakesNoMemory (R.context resources.now) op.now stacks.old.body result }
 {
-    let answer: Result<(), Told> = operator_by_call(stacks, resources, op);
+    let answer: Result<(), Told> = operator_by_call(
+        Body {
+            stacks: &mut *stacks,
+            resources,
+        },
+        op,
+    );
     match answer {
         Ok(()) => Ok(()),
-        Err(told) => Err(refuse(stacks, resources, offset, op, told)),
+        Err(told) => Err(refuse(
+            Body {
+                stacks: &mut *stacks,
+                resources,
+            },
+            offset,
+            op,
+            told,
+        )),
     }
 }
 
@@ -114,27 +131,42 @@ pub fn try_operator<R: WasmModuleResources>(
         result stacks.new.body }
     ensures back { OnErr result (stacks.new ≡ stacks.old) }
 {
-    let answer: Result<(), Told> = operator_by_call(stacks, resources, op);
-    placed(stacks, resources, offset, answer)
+    let answer: Result<(), Told> = operator_by_call(
+        Body {
+            stacks: &mut *stacks,
+            resources,
+        },
+        op,
+    );
+    placed(
+        &Body {
+            stacks: &mut *stacks,
+            resources,
+        },
+        offset,
+        answer,
+    )
 }
 
 /// The refusal of an operator whose body refuses so, once what upstream does before it is done.
-fn refuse<R: WasmModuleResources>(
-    stacks: &mut Stacks,
-    resources: &R,
-    offset: u64,
-    op: &Op,
-    told: Told,
-) -> Error
-    requires { MayVisit (R.context resources.now) stacks.old }
+fn refuse<R: WasmModuleResources>(body: Body<'_, '_, R>, offset: u64, op: &Op, told: Told) -> Error
+    requires { MayBegin R.context body }
     ensures told { result.wants_memory ≡ false → IsRowRefused told }
     ensures offset { result.offset ≡ offset }
-    ensures valid { IsValidBody (R.context resources.now) stacks.new.body }
-    ensures kept { IsKept stacks.old.body stacks.new.body }
+    ensures valid { IsValidBody (R.context body.entry.resources.now) body.exit.0.now.body }
+    ensures kept { IsKept body.entry.stacks.now.body body.exit.0.now.body }
 {
-    let popped = popped_before(stacks, resources, op, &told);
-    match end_part(stacks, resources, op, &told) {
-        Ok(()) => stacks.refuse(resources, told, popped, offset),
+    let resources = body.resources;
+    let popped = popped_before(&body, op, &told);
+    match end_part(
+        Body {
+            stacks: &mut *body.stacks,
+            resources,
+        },
+        op,
+        &told,
+    ) {
+        Ok(()) => body.stacks.refuse(resources, told, popped, offset),
         Err(_) => Error::out_of_memory(offset),
     }
 }

@@ -2,8 +2,8 @@
 //! the refusal itself says which.
 
 use validate_resources::WasmModuleResources;
-use validate_stacks::Stacks;
 use validate_stacks::blocks::{params, results};
+use validate_stacks::{Body, Stacks};
 use validate_types::{MaybeType, Refusal, Told};
 use validate_visit::{
     ArrayOp, ControlOp, ExceptionOp, Exchange, FieldAccess, Op, ReferenceOp, SharedOp, StructOp,
@@ -12,8 +12,7 @@ use validate_visit::{
 
 /// How many it has popped of an operator, whose body refuses so. Behind a closed gate it pops none.
 pub(crate) fn popped_before<R: WasmModuleResources>(
-    stacks: &Stacks,
-    resources: &R,
+    body: &Body<'_, '_, R>,
     op: &Op,
     told: &Told,
 ) -> usize {
@@ -21,11 +20,11 @@ pub(crate) fn popped_before<R: WasmModuleResources>(
         return 0;
     }
     match op {
-        Op::Control(op) => popped_before_control(stacks, resources, op, told),
-        Op::Reference(op) => popped_before_reference(stacks, op, told),
+        Op::Control(op) => popped_before_control(body, op, told),
+        Op::Reference(op) => popped_before_reference(body.stacks, op, told),
         Op::Struct(op) => popped_before_struct(op, told),
         Op::Array(op) => popped_before_array(op),
-        Op::Exception(op) => popped_before_exception(stacks, resources, op, told),
+        Op::Exception(op) => popped_before_exception(body, op, told),
         Op::Shared(op) => popped_before_shared(op, told),
         _ => 0,
     }
@@ -33,13 +32,12 @@ pub(crate) fn popped_before<R: WasmModuleResources>(
 
 /// The same of an operator on control, locals or globals.
 fn popped_before_control<R: WasmModuleResources>(
-    stacks: &Stacks,
-    resources: &R,
+    body: &Body<'_, '_, R>,
     op: &ControlOp,
     told: &Told,
 ) -> usize {
     match op {
-        ControlOp::Else | ControlOp::End => popped_before_end(stacks, resources, told),
+        ControlOp::Else | ControlOp::End => popped_before_end(body, told),
         ControlOp::BrIf(_) | ControlOp::BrTable(_) => 1,
         ControlOp::Select => 3,
         ControlOp::CallIndirect { .. }
@@ -51,10 +49,10 @@ fn popped_before_control<R: WasmModuleResources>(
 }
 
 /// The same where a part ends: of one with too many operands, its results.
-fn popped_before_end<R: WasmModuleResources>(stacks: &Stacks, resources: &R, told: &Told) -> usize {
-    match (stacks.get_frame(0), told) {
+fn popped_before_end<R: WasmModuleResources>(body: &Body<'_, '_, R>, told: &Told) -> usize {
+    match (body.stacks.get_frame(0), told) {
         (Some(frame), Told::Rule(Refusal::OperandsLeft)) => {
-            results(resources, &frame.block_type).len()
+            results(body.resources, &frame.block_type).len()
         }
         _ => 0,
     }
@@ -202,15 +200,14 @@ fn taken_by(get: usize, set: usize, access: Exchange) -> usize {
 
 /// The same of an operator on exceptions.
 fn popped_before_exception<R: WasmModuleResources>(
-    stacks: &Stacks,
-    resources: &R,
+    body: &Body<'_, '_, R>,
     op: &ExceptionOp<'_>,
     told: &Told,
 ) -> usize {
     match op {
-        ExceptionOp::TryTable(table) => popped_before_clauses(resources, table, told),
+        ExceptionOp::TryTable(table) => popped_before_clauses(body.resources, table, told),
         ExceptionOp::Catch(_) | ExceptionOp::CatchAll | ExceptionOp::Delegate(_) => {
-            popped_before_end(stacks, resources, told)
+            popped_before_end(body, told)
         }
         _ => 0,
     }

@@ -9,184 +9,164 @@ ghost use Rattle.validation_rules.specs.Fits.{Known, all_fit};
 ghost use Rattle.validation_rules.specs.Rows.{BeginsElse, Ends, is_if};
 ghost use Rattle.validation_rules.specs.Operators.{plain_row, ending_row, row_operator, delimiter_operator};
 ghost use Rattle.validation_rules.specs.Static.{missing_else_fits};
-ghost use Rattle.validate_stacks.specs.Moves.{Moves};
+ghost use Rattle.validate_stacks.specs.Bodies.{MayBegin, Makes};
 ghost use Rattle.validate_stacks.specs.Steps.{frame_at, head_of};
-ghost use Rattle.validate_stacks.specs.Visits.{MayVisit};
 
 use validate_resources::WasmModuleResources;
 use validate_shapes::matching::are_below;
-use validate_stacks::Stacks;
+use validate_stacks::Body;
 use validate_stacks::blocks::{params, results};
 use validate_types::{MaybeType, Refusal, Refused, ValType};
 use validate_visit::{BlockType, FrameKind};
 
 /// `nop`: nothing. It is never refused, and takes no memory.
 #[inline(always)]
-pub fn nop<A: Refused, R: WasmModuleResources>(stacks: &mut Stacks, resources: &R) -> Result<(), A>
-    requires { MayVisit (R.context resources.now) stacks.old }
-    ensures row { Moves (R.context resources.now) A.tells (λ cx. row_operator (plain_row [] [])) stacks.old
-        result stacks.new }
+pub fn nop<A: Refused, R: WasmModuleResources>(body: Body<'_, '_, R>) -> Result<(), A>
+    requires { MayBegin R.context body }
+    ensures row { Makes R.context A.tells (λ cx. row_operator (plain_row [] [])) body.entry result body.exit }
     ensures accepted { IsOk result }
 {
-    // The contract alone reads these.
-    let _resources = resources;
-    let _stacks = stacks;
+    // The contract alone reads it.
+    let _body = body;
     Ok(())
 }
 
 /// `unreachable`: the live part of the frame ends here. Where no attempt is pending it is never refused.
 #[inline(never)]
-pub fn unreachable<A: Refused, R: WasmModuleResources>(
-    stacks: &mut Stacks,
-    resources: &R,
-) -> Result<(), A>
-    requires { MayVisit (R.context resources.now) stacks.old }
-    ensures row { Moves (R.context resources.now) A.tells (λ cx. row_operator (ending_row [])) stacks.old result
-        stacks.new }
-    ensures idle { stacks.old.body.undone ≡ None → IsOk result }
+pub fn unreachable<A: Refused, R: WasmModuleResources>(body: Body<'_, '_, R>) -> Result<(), A>
+    requires { MayBegin R.context body }
+    ensures row { Makes R.context A.tells (λ cx. row_operator (ending_row [])) body.entry result body.exit }
+    ensures idle { body.entry.stacks.now.body.undone ≡ None → IsOk result }
 {
-    // The contract alone reads it.
-    let _resources = resources;
-    stacks.end_live()
+    body.stacks.end_live()
 }
 
 /// `else`: closes the first part of an `if`, which has to have exactly its results, and begins the
 /// second with the parameters. It refuses after a frame of another kind.
 #[inline(never)]
-pub fn else_part<A: Refused, R: WasmModuleResources>(
-    stacks: &mut Stacks,
-    resources: &R,
-) -> Result<(), A>
-    requires { MayVisit (R.context resources.now) stacks.old }
-    ensures { Moves (R.context resources.now) A.tells (λ cx. delimiter_operator BeginsElse) stacks.old result
-        stacks.new }
+pub fn else_part<A: Refused, R: WasmModuleResources>(body: Body<'_, '_, R>) -> Result<(), A>
+    requires { MayBegin R.context body }
+    ensures { Makes R.context A.tells (λ cx. delimiter_operator BeginsElse) body.entry result body.exit }
 {
-    let Some(frame) = stacks.get_frame(0) else {
+    let Some(frame) = body.stacks.get_frame(0) else {
         unreachable!()
     };
     let kind = frame.kind;
     // A frame without types is left apart, since nothing is looked for in it.
     if let BlockType::Empty = frame.block_type {
-        return else_after(stacks, resources, kind, BlockType::Empty, &[]);
+        return else_after(body, kind, BlockType::Empty, &[]);
     }
-    else_typed(stacks, resources)
+    else_typed(body)
 }
 
 /// [`else_part`] after a frame that has types.
 #[inline(never)]
-fn else_typed<A: Refused, R: WasmModuleResources>(
-    stacks: &mut Stacks,
-    resources: &R,
-) -> Result<(), A>
-    requires { MayVisit (R.context resources.now) stacks.old }
-    ensures { Moves (R.context resources.now) A.tells (λ cx. delimiter_operator BeginsElse) stacks.old result
-        stacks.new }
+fn else_typed<A: Refused, R: WasmModuleResources>(body: Body<'_, '_, R>) -> Result<(), A>
+    requires { MayBegin R.context body }
+    ensures { Makes R.context A.tells (λ cx. delimiter_operator BeginsElse) body.entry result body.exit }
 {
-    let Some(frame) = stacks.get_frame(0) else {
+    let Some(frame) = body.stacks.get_frame(0) else {
         unreachable!()
     };
     let (kind, block_type) = (frame.kind, frame.block_type);
-    let results = results(resources, &block_type);
-    else_after(stacks, resources, kind, block_type, results)
+    let results = results(body.resources, &block_type);
+    else_after(body, kind, block_type, results)
 }
 
 /// [`else_part`] after a frame of this kind and type, with these results.
 #[inline(always)]
 fn else_after<A: Refused, R: WasmModuleResources>(
-    stacks: &mut Stacks,
-    resources: &R,
+    body: Body<'_, '_, R>,
     kind: FrameKind,
     block_type: BlockType,
     results: &[ValType],
 ) -> Result<(), A>
-    requires visit { MayVisit (R.context resources.now) stacks.old }
-    requires frame { ForSome (frame_at stacks.old.body 0) (λ f. (f.kind ≡ kind) × (f.block_type ≡ block_type)) }
-    requires results { results.now ≡ (block_signature (R.context resources.now) block_type).results }
-    ensures { Moves (R.context resources.now) A.tells (λ cx. delimiter_operator BeginsElse) stacks.old result
-        stacks.new }
+    requires visit { MayBegin R.context body }
+    requires frame { ForSome (frame_at body.stacks.now.body 0)
+        (λ f. (f.kind ≡ kind) × (f.block_type ≡ block_type)) }
+    requires results { results.now ≡ (block_signature (R.context body.resources.now) block_type).results }
+    ensures { Makes R.context A.tells (λ cx. delimiter_operator BeginsElse) body.entry result body.exit }
 {
-    let popped = stacks.find_results(resources, results)?;
+    let popped = body.find_results(results)?;
     if !is_if_part(kind) {
         return Err(A::of(Refusal::ElseOutsideIf));
     }
-    let params = params(resources, &block_type);
-    stacks.reopen_with(popped, FrameKind::Else, block_type, params)
+    let params = params(body.resources, &block_type);
+    body.stacks
+        .reopen_with(popped, FrameKind::Else, block_type, params)
 }
 
 /// `end`: closes the innermost frame, which has to have exactly its results, and gives them to the
 /// next outer one. An `if` without `else` has an empty second part.
 #[inline(never)]
-pub fn end<A: Refused, R: WasmModuleResources>(stacks: &mut Stacks, resources: &R) -> Result<(), A>
-    requires { MayVisit (R.context resources.now) stacks.old }
-    ensures { Moves (R.context resources.now) A.tells (λ cx. delimiter_operator Ends) stacks.old result stacks.new }
+pub fn end<A: Refused, R: WasmModuleResources>(body: Body<'_, '_, R>) -> Result<(), A>
+    requires { MayBegin R.context body }
+    ensures { Makes R.context A.tells (λ cx. delimiter_operator Ends) body.entry result body.exit }
 {
-    let Some(frame) = stacks.get_frame(0) else {
+    let Some(frame) = body.stacks.get_frame(0) else {
         unreachable!()
     };
     let kind = frame.kind;
     // A frame without types is left apart, since nothing is looked for in it.
     if let BlockType::Empty = frame.block_type {
-        return end_of(stacks, resources, kind, BlockType::Empty, &[]);
+        return end_of(body, kind, BlockType::Empty, &[]);
     }
-    end_typed(stacks, resources)
+    end_typed(body)
 }
 
 /// [`end`] of a frame that has types: most have one result, and one operand for it.
 #[inline(never)]
-fn end_typed<A: Refused, R: WasmModuleResources>(
-    stacks: &mut Stacks,
-    resources: &R,
-) -> Result<(), A>
-    requires { MayVisit (R.context resources.now) stacks.old }
-    ensures { Moves (R.context resources.now) A.tells (λ cx. delimiter_operator Ends) stacks.old result stacks.new }
+fn end_typed<A: Refused, R: WasmModuleResources>(body: Body<'_, '_, R>) -> Result<(), A>
+    requires { MayBegin R.context body }
+    ensures { Makes R.context A.tells (λ cx. delimiter_operator Ends) body.entry result body.exit }
 {
-    let Some(frame) = stacks.get_frame(0) else {
+    let Some(frame) = body.stacks.get_frame(0) else {
         unreachable!()
     };
     let (kind, block_type) = (frame.kind, frame.block_type);
-    let results = results(resources, &block_type);
-    if results.len() == 1 && stacks.own_len() == 1 && !is_if_part(kind) {
-        return end_of(stacks, resources, kind, block_type, results);
+    let results = results(body.resources, &block_type);
+    if results.len() == 1 && body.stacks.own_len() == 1 && !is_if_part(kind) {
+        return end_of(body, kind, block_type, results);
     }
-    end_of_any(stacks, resources, kind, block_type, results)
+    end_of_any(body, kind, block_type, results)
 }
 
 /// [`end_of`], by a call.
 #[inline(never)]
 fn end_of_any<A: Refused, R: WasmModuleResources>(
-    stacks: &mut Stacks,
-    resources: &R,
+    body: Body<'_, '_, R>,
     kind: FrameKind,
     block_type: BlockType,
     results: &[ValType],
 ) -> Result<(), A>
-    requires visit { MayVisit (R.context resources.now) stacks.old }
-    requires frame { ForSome (frame_at stacks.old.body 0) (λ f. (f.kind ≡ kind) × (f.block_type ≡ block_type)) }
-    requires results { results.now ≡ (block_signature (R.context resources.now) block_type).results }
-    ensures { Moves (R.context resources.now) A.tells (λ cx. delimiter_operator Ends) stacks.old result stacks.new }
+    requires visit { MayBegin R.context body }
+    requires frame { ForSome (frame_at body.stacks.now.body 0)
+        (λ f. (f.kind ≡ kind) × (f.block_type ≡ block_type)) }
+    requires results { results.now ≡ (block_signature (R.context body.resources.now) block_type).results }
+    ensures { Makes R.context A.tells (λ cx. delimiter_operator Ends) body.entry result body.exit }
 {
-    end_of(stacks, resources, kind, block_type, results)
+    end_of(body, kind, block_type, results)
 }
 
 /// [`end`] of a frame of this kind and type, with these results.
 #[inline(always)]
 fn end_of<A: Refused, R: WasmModuleResources>(
-    stacks: &mut Stacks,
-    resources: &R,
+    body: Body<'_, '_, R>,
     kind: FrameKind,
     block_type: BlockType,
     results: &[ValType],
 ) -> Result<(), A>
-    requires visit { MayVisit (R.context resources.now) stacks.old }
-    requires frame { ForSome (frame_at stacks.old.body 0) (λ f. (f.kind ≡ kind) × (f.block_type ≡ block_type)) }
-    requires results { results.now ≡ (block_signature (R.context resources.now) block_type).results }
-    ensures { Moves (R.context resources.now) A.tells (λ cx. delimiter_operator Ends) stacks.old result stacks.new }
+    requires visit { MayBegin R.context body }
+    requires frame { ForSome (frame_at body.stacks.now.body 0)
+        (λ f. (f.kind ≡ kind) × (f.block_type ≡ block_type)) }
+    requires results { results.now ≡ (block_signature (R.context body.resources.now) block_type).results }
+    ensures { Makes R.context A.tells (λ cx. delimiter_operator Ends) body.entry result body.exit }
 {
-    let popped = stacks.find_results(resources, results)?;
+    let popped = body.find_results(results)?;
     if !may_lack_else(kind, block_type) {
-        find_missing_else(resources, &block_type, results)?;
+        find_missing_else(body.resources, &block_type, results)?;
     }
-    stacks.close(popped, results)
+    body.stacks.close(popped, results)
 }
 
 /// Whether a frame is no first part of an `if`, or one that takes and gives nothing.

@@ -3,34 +3,29 @@
 ghost use Rattle.std.specs.Prelude.{◌≡◌, false, None, Some, IfOk, OnErr};
 ghost use Rattle.validate_resources.specs.Context.{is_number_or_vector};
 ghost use Rattle.validation_rules.specs.Operators.{never_row, looking_row, drop_pushes, is_selectable, select_result, select_pushes, typed_select_row, row_operator};
-ghost use Rattle.validate_stacks.specs.Moves.{Moves};
-ghost use Rattle.validate_stacks.specs.Visits.{step_body, MayVisit};
+ghost use Rattle.validate_stacks.specs.Bodies.{MayBegin, Makes};
+ghost use Rattle.validate_stacks.specs.Visits.{step_body};
 
 use validate_resources::WasmModuleResources;
 use validate_shapes::canonical::canonical_value;
 use validate_shapes::plain::plain;
-use validate_stacks::Stacks;
+use validate_stacks::Body;
 use validate_types::{MaybeType, Refusal, Refused, ValType};
 
 /// `drop`: any one operand. Where no attempt is pending it is refused only where its row doesn't hold.
 #[inline(never)]
-pub fn drop_operand<A: Refused, R: WasmModuleResources>(
-    stacks: &mut Stacks,
-    resources: &R,
-) -> Result<(), A>
-    requires { MayVisit (R.context resources.now) stacks.old }
-    ensures row { Moves (R.context resources.now) A.tells (λ cx. row_operator (looking_row 1 drop_pushes))
-        stacks.old result stacks.new }
-    ensures idle { stacks.old.body.undone ≡ None
-        → OnErr result (step_body (R.context resources.now)
-        (λ cx. row_operator (looking_row 1 drop_pushes)) stacks.old.body ≡ None) }
+pub fn drop_operand<A: Refused, R: WasmModuleResources>(body: Body<'_, '_, R>) -> Result<(), A>
+    requires { MayBegin R.context body }
+    ensures row { Makes R.context A.tells (λ cx. row_operator (looking_row 1 drop_pushes)) body.entry
+        result body.exit }
+    ensures idle { body.entry.stacks.now.body.undone ≡ None
+        → OnErr result (step_body (R.context body.entry.resources.now)
+        (λ cx. row_operator (looking_row 1 drop_pushes)) body.entry.stacks.now.body ≡ None) }
 {
-    // The contract alone reads it.
-    let _resources = resources;
-    if stacks.own_len() > 0 {
-        return stacks.exchange(1, &[]);
+    if body.stacks.own_len() > 0 {
+        return body.stacks.exchange(1, &[]);
     }
-    stacks.find_any(0)?;
+    body.stacks.find_any(0)?;
     Ok(())
 }
 
@@ -76,75 +71,66 @@ fn is_number(ty: ValType) -> bool
 /// `select` without a type: `[a b i32] -> [c]` of two operands of one type, or of which one or both
 /// are unknown. Most are known numbers.
 #[inline(never)]
-pub fn select<A: Refused, R: WasmModuleResources>(
-    stacks: &mut Stacks,
-    resources: &R,
-) -> Result<(), A>
-    requires { MayVisit (R.context resources.now) stacks.old }
-    ensures { Moves (R.context resources.now) A.tells
-        (λ cx. row_operator (looking_row 3 (select_pushes cx))) stacks.old result stacks.new }
+pub fn select<A: Refused, R: WasmModuleResources>(body: Body<'_, '_, R>) -> Result<(), A>
+    requires { MayBegin R.context body }
+    ensures { Makes R.context A.tells (λ cx. row_operator (looking_row 3 (select_pushes cx))) body.entry
+        result body.exit }
 {
-    let Some(MaybeType::Known(ty)) = stacks.found_at(1) else {
-        return any_select(stacks, resources);
+    let resources = body.resources;
+    let Some(MaybeType::Known(ty)) = body.stacks.found_at(1) else {
+        return any_select(body);
     };
     if !is_number(ty) {
-        return any_select(stacks, resources);
+        return any_select(body);
     }
-    if stacks.exchange_numbers_at_once(resources, &[ty, ty, ValType::I32], Some(ty)) {
+    if body
+        .stacks
+        .exchange_numbers_at_once(resources, &[ty, ty, ValType::I32], Some(ty))
+    {
         return Ok(());
     }
-    any_select(stacks, resources)
+    any_select(body)
 }
 
 /// [`select`] of any operands.
 #[inline(never)]
-fn any_select<A: Refused, R: WasmModuleResources>(
-    stacks: &mut Stacks,
-    resources: &R,
-) -> Result<(), A>
-    requires { MayVisit (R.context resources.now) stacks.old }
-    ensures { Moves (R.context resources.now) A.tells
-        (λ cx. row_operator (looking_row 3 (select_pushes cx))) stacks.old result stacks.new }
+fn any_select<A: Refused, R: WasmModuleResources>(body: Body<'_, '_, R>) -> Result<(), A>
+    requires { MayBegin R.context body }
+    ensures { Makes R.context A.tells (λ cx. row_operator (looking_row 3 (select_pushes cx))) body.entry
+        result body.exit }
 {
-    stacks.find_operands(resources, 0, &[ValType::I32])?;
-    let upper = stacks.find_any(1)?;
-    let lower = stacks.find_any(2)?;
-    let ty = find_selected(lower, upper)?;
-    let own = stacks.own_len();
-    stacks.replace(own.min(3), ty)
+    body.find_operands(0, &[ValType::I32])?;
+    let upper = *body.stacks.find_any(1)?;
+    let lower = *body.stacks.find_any(2)?;
+    let ty = find_selected(&lower, &upper)?;
+    let own = body.stacks.own_len();
+    body.stacks.replace(own.min(3), ty)
 }
 
 /// `select` with its type: `[t t i32] -> [t]` of the checked type.
 #[inline(never)]
 pub fn typed_select<A: Refused, R: WasmModuleResources>(
-    stacks: &mut Stacks,
-    resources: &R,
+    body: Body<'_, '_, R>,
     ty: &ValType,
 ) -> Result<(), A>
-    requires { MayVisit (R.context resources.now) stacks.old }
-    ensures { Moves (R.context resources.now) A.tells (λ cx. row_operator (typed_select_row cx ty.now)) stacks.old result
-        stacks.new }
+    requires { MayBegin R.context body }
+    ensures { Makes R.context A.tells (λ cx. row_operator (typed_select_row cx ty.now)) body.entry
+        result body.exit }
 {
-    let checked = canonical_value(resources, stacks.features(), *ty)?;
-    plain(
-        stacks,
-        resources,
-        &[checked, checked, ValType::I32],
-        &[checked],
-    )
+    let checked = canonical_value(body.resources, body.stacks.features(), *ty)?;
+    plain(body, &[checked, checked, ValType::I32], &[checked])
 }
 
 /// `select` with several types: it is never accepted.
 #[inline(never)]
 pub fn typed_select_multi<A: Refused, R: WasmModuleResources>(
-    stacks: &mut Stacks,
-    resources: &R,
+    body: Body<'_, '_, R>,
 ) -> Result<(), A>
-    requires { MayVisit (R.context resources.now) stacks.old }
-    ensures { Moves (R.context resources.now) A.tells (λ cx. row_operator never_row) stacks.old result stacks.new }
+    requires { MayBegin R.context body }
+    ensures { Makes R.context A.tells (λ cx. row_operator never_row) body.entry result body.exit }
 {
+    // The contract alone reads it.
+    let _body = body;
     // The contracts alone read them.
-    let _stacks = stacks;
-    let _resources = resources;
     Err(A::of(Refusal::SelectArity))
 }

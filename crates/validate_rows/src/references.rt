@@ -9,10 +9,9 @@ ghost use Rattle.std.specs.Option.{option_and_then};
 ghost use Rattle.validation_rules.specs.References.{is_null_gate_open, operand_without_null, ref_null_row, ref_func_row, null_test_pushes, non_null_pushes, br_on_null_row, br_on_non_null_row};
 ghost use Rattle.validation_rules.specs.References as reference_rule;
 ghost use Rattle.validation_rules.specs.Operators.{looking_row, plain_row, row_operator, staying_operator};
-ghost use Rattle.validate_stacks.specs.Moves.{Moves};
+ghost use Rattle.validate_stacks.specs.Bodies.{context_of, MayBegin, Makes};
 ghost use Rattle.validate_stacks.specs.State.{body_context};
 ghost use Rattle.validate_stacks.specs.Steps.{found_in_body};
-ghost use Rattle.validate_stacks.specs.Visits.{MayVisit};
 
 use validate_resources::WasmModuleResources;
 use validate_resources::uses::laws;
@@ -20,8 +19,8 @@ use validate_shapes::aggregates::declared_heap;
 use validate_shapes::canonical::heap_reference;
 use validate_shapes::plain::constant;
 use validate_shapes::references::without_null;
-use validate_stacks::Stacks;
 use validate_stacks::blocks::label_types;
+use validate_stacks::{Body, Stacks};
 use validate_types::{
     CoreTypeId, HeapType, MaybeType, RefType, Refusal, Refused, UnpackedIndex, ValType,
 };
@@ -47,47 +46,44 @@ fn find_null_open<A: Refused>(stacks: &Stacks, heap_type: HeapType) -> Result<()
 /// The type of null, of a heap type whose gate is open and that is known.
 #[inline(always)]
 fn find_null_type<A: Refused, R: WasmModuleResources>(
-    stacks: &Stacks,
-    resources: &R,
+    body: &Body<'_, '_, R>,
     heap_type: HeapType,
 ) -> Result<ValType, A>
-    ensures found { IfOk result (λ t. ref_null_row
-        (body_context (R.context resources.now) stacks.now.body) heap_type ≡ plain_row [] (t ∷ [])) }
-    ensures valid { IfOk result (λ t. Valid (R.context resources.now) t) }
-    ensures refused { IfErr result (λ e. A.tells e → (ref_null_row
-        (body_context (R.context resources.now) stacks.now.body) heap_type).premise ≡ false) }
+    ensures found { IfOk result (λ t. ref_null_row (context_of R.context body.now) heap_type ≡ plain_row
+        [] (t ∷ [])) }
+    ensures valid { IfOk result (λ t. Valid (R.context body.now.resources.now) t) }
+    ensures refused { IfErr result (λ e. A.tells e → (ref_null_row (context_of R.context body.now)
+        heap_type).premise ≡ false) }
 {
-    find_null_open(stacks, heap_type)?;
-    heap_reference(resources, true, heap_type)
+    find_null_open(body.stacks, heap_type)?;
+    heap_reference(body.resources, true, heap_type)
 }
 
 /// `ref.null`: `[] -> [(ref null h)]` of a heap type h whose gate is open and that is known.
 #[inline(never)]
 pub fn ref_null<A: Refused, R: WasmModuleResources>(
-    stacks: &mut Stacks,
-    resources: &R,
+    body: Body<'_, '_, R>,
     heap_type: HeapType,
 ) -> Result<(), A>
-    requires { MayVisit (R.context resources.now) stacks.old }
-    ensures { Moves (R.context resources.now) A.tells (λ cx. row_operator (ref_null_row cx heap_type)) stacks.old
-        result stacks.new }
+    requires { MayBegin R.context body }
+    ensures { Makes R.context A.tells (λ cx. row_operator (ref_null_row cx heap_type)) body.entry
+        result body.exit }
 {
-    let ty = find_null_type(stacks, resources, heap_type)?;
-    constant(stacks, resources, ty)
+    let ty = find_null_type(&body, heap_type)?;
+    constant(body, ty)
 }
 
 /// What a reference to a function points to, whose type this id names.
 fn function_heap<R: WasmModuleResources>(
-    stacks: &Stacks,
-    resources: &R,
+    body: &Body<'_, '_, R>,
     function_index: u32,
     id: CoreTypeId,
 ) -> HeapType
-    ensures { result ≡ exact_rule.function_heap (body_context (R.context resources.now) stacks.now.body)
-        function_index (UnpackedIndex.Id id) }
+    ensures { result ≡ exact_rule.function_heap (context_of R.context body.now) function_index
+        (UnpackedIndex.Id id) }
 {
-    let exact = stacks.features().custom_descriptors()
-        && resources.has_function_exact_type(function_index);
+    let exact = body.stacks.features().custom_descriptors()
+        && body.resources.has_function_exact_type(function_index);
     declared_heap(exact, UnpackedIndex::Id(id))
 }
 
@@ -95,26 +91,25 @@ fn function_heap<R: WasmModuleResources>(
 /// references can be and the module says so.
 #[inline(never)]
 pub fn ref_func<A: Refused, R: WasmModuleResources>(
-    stacks: &mut Stacks,
-    resources: &R,
+    body: Body<'_, '_, R>,
     function_index: u32,
 ) -> Result<(), A>
-    requires { MayVisit (R.context resources.now) stacks.old }
-    ensures { Moves (R.context resources.now) A.tells (λ cx. row_operator (ref_func_row cx function_index)) stacks.old
-        result stacks.new }
+    requires { MayBegin R.context body }
+    ensures { Makes R.context A.tells (λ cx. row_operator (ref_func_row cx function_index)) body.entry
+        result body.exit }
 {
-    laws(resources);
-    let Some(id) = resources.type_id_of_function(function_index) else {
+    laws(body.resources);
+    let Some(id) = body.resources.type_id_of_function(function_index) else {
         return Err(A::of(Refusal::UnknownFunction(function_index)));
     };
-    if !resources.is_function_referenced(function_index) {
+    if !body.resources.is_function_referenced(function_index) {
         return Err(A::of(Refusal::UndeclaredFunction));
     }
-    let heap_type = function_heap(stacks, resources, function_index, id);
+    let heap_type = function_heap(&body, function_index, id);
     let Some(ty) = RefType::new(false, heap_type) else {
         unreachable!()
     };
-    constant(stacks, resources, ValType::Ref(ty))
+    constant(body, ValType::Ref(ty))
 }
 
 /// The operand that a pop finds, without its null: it has to be a reference.
@@ -122,7 +117,8 @@ pub fn ref_func<A: Refused, R: WasmModuleResources>(
 fn find_reference<A: Refused>(stacks: &Stacks) -> Result<MaybeType, A>
     ensures pushed { IfOk result (λ t. option_and_then operand_without_null (found_in_body stacks.now.body)
         ≡ Some t) }
-    ensures refused { OnErr result (option_and_then operand_without_null (found_in_body stacks.now.body) ≡ None) }
+    ensures refused { OnErr result (option_and_then operand_without_null
+        (found_in_body stacks.now.body) ≡ None) }
 {
     let found = *stacks.find_any(0)?;
     if let Some(reference) = without_null(found) {
@@ -136,56 +132,47 @@ fn find_reference<A: Refused>(stacks: &Stacks) -> Result<MaybeType, A>
 
 /// `ref.is_null`: `[r] -> [i32]` of any reference r.
 #[inline(never)]
-pub fn ref_is_null<A: Refused, R: WasmModuleResources>(
-    stacks: &mut Stacks,
-    resources: &R,
-) -> Result<(), A>
-    requires { MayVisit (R.context resources.now) stacks.old }
-    ensures { Moves (R.context resources.now) A.tells (λ cx. row_operator (looking_row 1 null_test_pushes)) stacks.old
-        result stacks.new }
+pub fn ref_is_null<A: Refused, R: WasmModuleResources>(body: Body<'_, '_, R>) -> Result<(), A>
+    requires { MayBegin R.context body }
+    ensures { Makes R.context A.tells (λ cx. row_operator (looking_row 1 null_test_pushes)) body.entry
+        result body.exit }
 {
-    // The contract alone reads it.
-    let _resources = resources;
-    find_reference(stacks)?;
-    let own = stacks.own_len();
-    stacks.replace(own.min(1), MaybeType::Known(ValType::I32))
+    find_reference(body.stacks)?;
+    let own = body.stacks.own_len();
+    body.stacks
+        .replace(own.min(1), MaybeType::Known(ValType::I32))
 }
 
 /// `ref.as_non_null`: `[r] -> [r]` of any reference r, without its null.
 #[inline(never)]
-pub fn ref_as_non_null<A: Refused, R: WasmModuleResources>(
-    stacks: &mut Stacks,
-    resources: &R,
-) -> Result<(), A>
-    requires { MayVisit (R.context resources.now) stacks.old }
-    ensures { Moves (R.context resources.now) A.tells (λ cx. row_operator (looking_row 1 (non_null_pushes cx [])))
-        stacks.old result stacks.new }
+pub fn ref_as_non_null<A: Refused, R: WasmModuleResources>(body: Body<'_, '_, R>) -> Result<(), A>
+    requires { MayBegin R.context body }
+    ensures { Makes R.context A.tells (λ cx. row_operator (looking_row 1 (non_null_pushes cx []))) body.entry
+        result body.exit }
 {
-    // The contract alone reads it.
-    let _resources = resources;
-    let reference = find_reference(stacks)?;
-    let own = stacks.own_len();
-    stacks.replace(own.min(1), reference)
+    let reference = find_reference(body.stacks)?;
+    let own = body.stacks.own_len();
+    body.stacks.replace(own.min(1), reference)
 }
 
 /// `br_on_null`: `[t r] -> [t r]` of any reference r, which goes on without its null, with the types t of
 /// the label.
 #[inline(never)]
 pub fn br_on_null<A: Refused, R: WasmModuleResources>(
-    stacks: &mut Stacks,
-    resources: &R,
+    body: Body<'_, '_, R>,
     relative_depth: u32,
 ) -> Result<(), A>
-    requires { MayVisit (R.context resources.now) stacks.old }
-    ensures { Moves (R.context resources.now) A.tells
-        (λ cx. staying_operator (λ hs. br_on_null_row cx hs relative_depth)) stacks.old result stacks.new }
+    requires { MayBegin R.context body }
+    ensures { Makes R.context A.tells (λ cx. staying_operator (λ hs. br_on_null_row cx hs relative_depth))
+        body.entry result body.exit }
 {
-    let reference = find_reference(stacks)?;
-    let (block_type, kind) = stacks.find_label(relative_depth)?;
-    let types = label_types(resources, &block_type, kind);
-    stacks.find_operands(resources, 1, types)?;
-    let own = stacks.own_len();
-    stacks.exchange_topped(own.min(types.len() + 1), types, reference)
+    let reference = find_reference(body.stacks)?;
+    let (block_type, kind) = body.stacks.find_label(relative_depth)?;
+    let types = label_types(body.resources, &block_type, kind);
+    body.find_operands(1, types)?;
+    let own = body.stacks.own_len();
+    body.stacks
+        .exchange_topped(own.min(types.len() + 1), types, reference)
 }
 
 /// The types of a label but its last, and its last, which has to be a reference.
@@ -206,16 +193,15 @@ fn last_reference<A: Refused>(types: &[ValType]) -> Result<(&[ValType], RefType)
 /// reference to h.
 #[inline(never)]
 pub fn br_on_non_null<A: Refused, R: WasmModuleResources>(
-    stacks: &mut Stacks,
-    resources: &R,
+    body: Body<'_, '_, R>,
     relative_depth: u32,
 ) -> Result<(), A>
-    requires { MayVisit (R.context resources.now) stacks.old }
-    ensures { Moves (R.context resources.now) A.tells
-        (λ cx. staying_operator (λ hs. br_on_non_null_row cx hs relative_depth)) stacks.old result stacks.new }
+    requires { MayBegin R.context body }
+    ensures { Makes R.context A.tells (λ cx. staying_operator (λ hs. br_on_non_null_row cx hs relative_depth))
+        body.entry result body.exit }
 {
-    let (block_type, kind) = stacks.find_label(relative_depth)?;
-    let types = label_types(resources, &block_type, kind);
+    let (block_type, kind) = body.stacks.find_label(relative_depth)?;
+    let types = label_types(body.resources, &block_type, kind);
     let (others, last) = last_reference(types)?;
-    stacks.exchange_under(resources, others, ValType::Ref(last.nullable()), others)
+    body.exchange_under(others, ValType::Ref(last.nullable()), others)
 }

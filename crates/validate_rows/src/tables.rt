@@ -4,15 +4,14 @@ ghost use Rattle.std.specs.Prelude.{◌≡◌, true, false, OnOk, OnErr};
 ghost use Rattle.validate_resources.specs.Context.{Valid};
 ghost use Rattle.validation_rules.specs.Operators.{row_operator};
 ghost use Rattle.validation_rules.specs.Tables.{table_get_row, table_set_row, table_grow_row, table_size_row, table_fill_row, table_init_row, elem_drop_row, table_copy_row, table_row};
-ghost use Rattle.validate_stacks.specs.Moves.{Moves};
-ghost use Rattle.validate_stacks.specs.Visits.{MayVisit};
 ghost use Rattle.validate_shapes.specs.Operands.{Finds};
+ghost use Rattle.validate_stacks.specs.Bodies.{MayBegin, Makes};
 
 use validate_resources::WasmModuleResources;
 use validate_shapes::memories::narrower_of;
 use validate_shapes::operands::{Few, Operands, Pushed, exchange_found};
 use validate_shapes::tables::{element_type_at, table_type_at};
-use validate_stacks::Stacks;
+use validate_stacks::Body;
 use validate_types::{RefType, Refusal, Refused, ValType};
 use validate_visit::TableOp;
 
@@ -37,13 +36,13 @@ fn check_elements<A: Refused, R: WasmModuleResources>(
 
 /// What `table.get` takes and gives: `[it] -> [e]`.
 fn get_types<A: Refused, R: WasmModuleResources>(
-    stacks: &Stacks,
-    resources: &R,
+    body: &Body<'_, '_, R>,
     table: u32,
 ) -> Result<Operands<'static>, A>
-    ensures { Finds (R.context resources.now) A.tells (λ cx. table_get_row cx table) stacks.now.body result }
+    ensures { Finds (R.context body.now.resources.now) A.tells (λ cx. table_get_row cx table)
+        body.now.stacks.now.body result }
 {
-    let ty = table_type_at(stacks, resources, table)?;
+    let ty = table_type_at(body, table)?;
     Ok(Operands::few(
         Few::One(ty.index_type()),
         Pushed::One(ValType::Ref(ty.element_type)),
@@ -52,13 +51,13 @@ fn get_types<A: Refused, R: WasmModuleResources>(
 
 /// What `table.set` takes: `[it e] -> []`.
 fn set_types<A: Refused, R: WasmModuleResources>(
-    stacks: &Stacks,
-    resources: &R,
+    body: &Body<'_, '_, R>,
     table: u32,
 ) -> Result<Operands<'static>, A>
-    ensures { Finds (R.context resources.now) A.tells (λ cx. table_set_row cx table) stacks.now.body result }
+    ensures { Finds (R.context body.now.resources.now) A.tells (λ cx. table_set_row cx table)
+        body.now.stacks.now.body result }
 {
-    let ty = table_type_at(stacks, resources, table)?;
+    let ty = table_type_at(body, table)?;
     Ok(Operands::few(
         Few::Two(ty.index_type(), ValType::Ref(ty.element_type)),
         Pushed::Nothing,
@@ -67,13 +66,13 @@ fn set_types<A: Refused, R: WasmModuleResources>(
 
 /// What `table.grow` takes and gives: `[e it] -> [it]`.
 fn grow_types<A: Refused, R: WasmModuleResources>(
-    stacks: &Stacks,
-    resources: &R,
+    body: &Body<'_, '_, R>,
     table: u32,
 ) -> Result<Operands<'static>, A>
-    ensures { Finds (R.context resources.now) A.tells (λ cx. table_grow_row cx table) stacks.now.body result }
+    ensures { Finds (R.context body.now.resources.now) A.tells (λ cx. table_grow_row cx table)
+        body.now.stacks.now.body result }
 {
-    let ty = table_type_at(stacks, resources, table)?;
+    let ty = table_type_at(body, table)?;
     let index = ty.index_type();
     Ok(Operands::few(
         Few::Two(ValType::Ref(ty.element_type), index),
@@ -83,25 +82,25 @@ fn grow_types<A: Refused, R: WasmModuleResources>(
 
 /// What `table.size` gives: `[] -> [it]`.
 fn size_types<A: Refused, R: WasmModuleResources>(
-    stacks: &Stacks,
-    resources: &R,
+    body: &Body<'_, '_, R>,
     table: u32,
 ) -> Result<Operands<'static>, A>
-    ensures { Finds (R.context resources.now) A.tells (λ cx. table_size_row cx table) stacks.now.body result }
+    ensures { Finds (R.context body.now.resources.now) A.tells (λ cx. table_size_row cx table)
+        body.now.stacks.now.body result }
 {
-    let ty = table_type_at(stacks, resources, table)?;
+    let ty = table_type_at(body, table)?;
     Ok(Operands::few(Few::Zero, Pushed::One(ty.index_type())))
 }
 
 /// What `table.fill` takes: `[it e it] -> []`.
 fn fill_types<A: Refused, R: WasmModuleResources>(
-    stacks: &Stacks,
-    resources: &R,
+    body: &Body<'_, '_, R>,
     table: u32,
 ) -> Result<Operands<'static>, A>
-    ensures { Finds (R.context resources.now) A.tells (λ cx. table_fill_row cx table) stacks.now.body result }
+    ensures { Finds (R.context body.now.resources.now) A.tells (λ cx. table_fill_row cx table)
+        body.now.stacks.now.body result }
 {
-    let ty = table_type_at(stacks, resources, table)?;
+    let ty = table_type_at(body, table)?;
     let index = ty.index_type();
     Ok(Operands::few(
         Few::Three(index, ValType::Ref(ty.element_type), index),
@@ -111,16 +110,16 @@ fn fill_types<A: Refused, R: WasmModuleResources>(
 
 /// What `table.init` takes: `[it i32 i32] -> []`.
 fn init_types<A: Refused, R: WasmModuleResources>(
-    stacks: &Stacks,
-    resources: &R,
+    body: &Body<'_, '_, R>,
     elem_index: u32,
     table: u32,
 ) -> Result<Operands<'static>, A>
-    ensures { Finds (R.context resources.now) A.tells (λ cx. table_init_row cx elem_index table) stacks.now.body result }
+    ensures { Finds (R.context body.now.resources.now) A.tells (λ cx. table_init_row cx elem_index table)
+        body.now.stacks.now.body result }
 {
-    let ty = table_type_at(stacks, resources, table)?;
-    let segment = element_type_at(resources, elem_index)?;
-    check_elements(resources, segment, ty.element_type)?;
+    let ty = table_type_at(body, table)?;
+    let segment = element_type_at(body.resources, elem_index)?;
+    check_elements(body.resources, segment, ty.element_type)?;
     Ok(Operands::few(
         Few::Three(ty.index_type(), ValType::I32, ValType::I32),
         Pushed::Nothing,
@@ -129,68 +128,64 @@ fn init_types<A: Refused, R: WasmModuleResources>(
 
 /// `elem.drop` takes nothing and gives nothing.
 fn drop_types<A: Refused, R: WasmModuleResources>(
-    stacks: &Stacks,
-    resources: &R,
+    body: &Body<'_, '_, R>,
     elem_index: u32,
 ) -> Result<Operands<'static>, A>
-    ensures { Finds (R.context resources.now) A.tells (λ cx. elem_drop_row cx elem_index) stacks.now.body result }
+    ensures { Finds (R.context body.now.resources.now) A.tells (λ cx. elem_drop_row cx elem_index)
+        body.now.stacks.now.body result }
 {
-    element_type_at(resources, elem_index)?;
+    element_type_at(body.resources, elem_index)?;
     Ok(Operands::few(Few::Zero, Pushed::Nothing))
 }
 
 /// What `table.copy` takes: `[it(dst) it(src) it] -> []`, with the narrower of the two.
 fn copy_types<A: Refused, R: WasmModuleResources>(
-    stacks: &Stacks,
-    resources: &R,
+    body: &Body<'_, '_, R>,
     dst_table: u32,
     src_table: u32,
 ) -> Result<Operands<'static>, A>
-    ensures { Finds (R.context resources.now) A.tells (λ cx. table_copy_row cx dst_table src_table) stacks.now.body result }
+    ensures { Finds (R.context body.now.resources.now) A.tells (λ cx. table_copy_row cx dst_table src_table)
+        body.now.stacks.now.body result }
 {
-    let src = table_type_at(stacks, resources, src_table)?;
-    let dst = table_type_at(stacks, resources, dst_table)?;
-    check_elements(resources, src.element_type, dst.element_type)?;
+    let src = table_type_at(body, src_table)?;
+    let dst = table_type_at(body, dst_table)?;
+    check_elements(body.resources, src.element_type, dst.element_type)?;
     let (to, from) = (dst.index_type(), src.index_type());
     Ok(Operands::few(Few::Three(to, from, narrower_of(to, from)), Pushed::Nothing))
 }
 
 /// What an operator on tables takes and gives, by the tables and segments that it names.
 fn table_types<A: Refused, R: WasmModuleResources>(
-    stacks: &Stacks,
-    resources: &R,
+    body: &Body<'_, '_, R>,
     op: TableOp,
 ) -> Result<Operands<'static>, A>
-    ensures { Finds (R.context resources.now) A.tells (λ cx. table_row cx op) stacks.now.body result }
+    ensures { Finds (R.context body.now.resources.now) A.tells (λ cx. table_row cx op)
+        body.now.stacks.now.body result }
 {
     match op {
-        TableOp::TableGet(table) => get_types(stacks, resources, table),
-        TableOp::TableSet(table) => set_types(stacks, resources, table),
-        TableOp::TableGrow(table) => grow_types(stacks, resources, table),
-        TableOp::TableSize(table) => size_types(stacks, resources, table),
-        TableOp::TableFill(table) => fill_types(stacks, resources, table),
-        TableOp::TableInit { elem_index, table } => {
-            init_types(stacks, resources, elem_index, table)
-        }
-        TableOp::ElemDrop(elem_index) => drop_types(stacks, resources, elem_index),
+        TableOp::TableGet(table) => get_types(body, table),
+        TableOp::TableSet(table) => set_types(body, table),
+        TableOp::TableGrow(table) => grow_types(body, table),
+        TableOp::TableSize(table) => size_types(body, table),
+        TableOp::TableFill(table) => fill_types(body, table),
+        TableOp::TableInit { elem_index, table } => { init_types(body, elem_index, table) }
+        TableOp::ElemDrop(elem_index) => drop_types(body, elem_index),
         TableOp::TableCopy {
             dst_table,
             src_table,
-        } => copy_types(stacks, resources, dst_table, src_table),
+        } => copy_types(body, dst_table, src_table),
     }
 }
 
 /// An operator on tables, its gate aside.
 #[inline(never)]
 pub fn table_operator<A: Refused, R: WasmModuleResources>(
-    stacks: &mut Stacks,
-    resources: &R,
+    body: Body<'_, '_, R>,
     op: TableOp,
 ) -> Result<(), A>
-    requires { MayVisit (R.context resources.now) stacks.old }
-    ensures { Moves (R.context resources.now) A.tells (λ cx. row_operator (table_row cx op)) stacks.old result
-        stacks.new }
+    requires { MayBegin R.context body }
+    ensures { Makes R.context A.tells (λ cx. row_operator (table_row cx op)) body.entry result body.exit }
 {
-    let found = table_types(stacks, resources, op);
-    exchange_found(stacks, resources, found)
+    let found = table_types(&body, op);
+    exchange_found(body, found)
 }

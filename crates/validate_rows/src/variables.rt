@@ -1,104 +1,100 @@
 //! Operators on locals (WebAssembly core specification, "Variable Instructions").
 
 ghost use Rattle.validation_rules.specs.Operators.{row_operator, local_get_row, local_set_row, local_tee_row};
-ghost use Rattle.validate_stacks.specs.Moves.{Moves};
-ghost use Rattle.validate_stacks.specs.Visits.{MayVisit};
+ghost use Rattle.validate_stacks.specs.Bodies.{MayBegin, Makes};
 
 use validate_resources::WasmModuleResources;
 use validate_shapes::plain::constant;
-use validate_stacks::Stacks;
+use validate_stacks::Body;
 use validate_types::Refused;
 
 /// `local.get`: `[] -> [t]` of a local that is set.
 #[inline(always)]
 pub fn local_get<A: Refused, R: WasmModuleResources>(
-    stacks: &mut Stacks,
-    resources: &R,
+    body: Body<'_, '_, R>,
     local_index: u32,
 ) -> Result<(), A>
-    requires { MayVisit (R.context resources.now) stacks.old }
-    ensures { Moves (R.context resources.now) A.tells (λ cx. row_operator (local_get_row cx local_index)) stacks.old
-        result stacks.new }
+    requires { MayBegin R.context body }
+    ensures { Makes R.context A.tells (λ cx. row_operator (local_get_row cx local_index)) body.entry
+        result body.exit }
 {
-    let ty = *stacks.find_local(local_index)?;
-    stacks.find_set(local_index)?;
-    constant(stacks, resources, ty)
+    let ty = *body.stacks.find_local(local_index)?;
+    body.stacks.find_set(local_index)?;
+    constant(body, ty)
 }
 
 /// `local.set`: `[t] -> []`, and the local is set. Most are set already, and are numbers.
 #[inline(always)]
 pub fn local_set<A: Refused, R: WasmModuleResources>(
-    stacks: &mut Stacks,
-    resources: &R,
+    body: Body<'_, '_, R>,
     local_index: u32,
 ) -> Result<(), A>
-    requires { MayVisit (R.context resources.now) stacks.old }
-    ensures { Moves (R.context resources.now) A.tells (λ cx. row_operator (local_set_row cx local_index)) stacks.old
-        result stacks.new }
+    requires { MayBegin R.context body }
+    ensures { Makes R.context A.tells (λ cx. row_operator (local_set_row cx local_index)) body.entry
+        result body.exit }
 {
-    let ty = *stacks.find_local(local_index)?;
-    if stacks.is_uninit(local_index) {
-        return any_local_set(stacks, resources, local_index);
+    let resources = body.resources;
+    let ty = *body.stacks.find_local(local_index)?;
+    if body.stacks.is_uninit(local_index) {
+        return any_local_set(body, local_index);
     }
-    if stacks.exchange_numbers_at_once(resources, &[ty], None) {
+    if body.stacks.exchange_numbers_at_once(resources, &[ty], None) {
         return Ok(());
     }
-    any_local_set(stacks, resources, local_index)
+    any_local_set(body, local_index)
 }
 
 /// [`local_set`] of any type, set or not. It finds the type again, so that none is handed on where it isn't called.
 #[inline(never)]
 fn any_local_set<A: Refused, R: WasmModuleResources>(
-    stacks: &mut Stacks,
-    resources: &R,
+    body: Body<'_, '_, R>,
     local_index: u32,
 ) -> Result<(), A>
-    requires { MayVisit (R.context resources.now) stacks.old }
-    ensures { Moves (R.context resources.now) A.tells (λ cx. row_operator (local_set_row cx local_index)) stacks.old
-        result stacks.new }
+    requires { MayBegin R.context body }
+    ensures { Makes R.context A.tells (λ cx. row_operator (local_set_row cx local_index)) body.entry
+        result body.exit }
 {
-    let ty = *stacks.find_local(local_index)?;
-    if stacks.is_uninit(local_index) {
-        return stacks.exchange_setting(resources, local_index, ty, &[]);
+    let ty = *body.stacks.find_local(local_index)?;
+    if body.stacks.is_uninit(local_index) {
+        return body.exchange_setting(local_index, ty, &[]);
     }
-    stacks.exchange_types(resources, &[ty], &[])
+    body.exchange_types(&[ty], &[])
 }
 
 /// `local.tee`: `[t] -> [t]`, and the local is set. Most are set already, and are numbers: then nothing changes.
 #[inline(always)]
 pub fn local_tee<A: Refused, R: WasmModuleResources>(
-    stacks: &mut Stacks,
-    resources: &R,
+    body: Body<'_, '_, R>,
     local_index: u32,
 ) -> Result<(), A>
-    requires { MayVisit (R.context resources.now) stacks.old }
-    ensures { Moves (R.context resources.now) A.tells (λ cx. row_operator (local_tee_row cx local_index)) stacks.old
-        result stacks.new }
+    requires { MayBegin R.context body }
+    ensures { Makes R.context A.tells (λ cx. row_operator (local_tee_row cx local_index)) body.entry
+        result body.exit }
 {
-    let ty = *stacks.find_local(local_index)?;
-    if stacks.is_uninit(local_index) {
-        return any_local_tee(stacks, resources, local_index);
+    let resources = body.resources;
+    let ty = *body.stacks.find_local(local_index)?;
+    if body.stacks.is_uninit(local_index) {
+        return any_local_tee(body, local_index);
     }
-    if stacks.has_number_at_once(resources, ty) {
+    if body.stacks.has_number_at_once(resources, ty) {
         return Ok(());
     }
-    any_local_tee(stacks, resources, local_index)
+    any_local_tee(body, local_index)
 }
 
 /// [`local_tee`] of any type, set or not.
 #[inline(never)]
 fn any_local_tee<A: Refused, R: WasmModuleResources>(
-    stacks: &mut Stacks,
-    resources: &R,
+    body: Body<'_, '_, R>,
     local_index: u32,
 ) -> Result<(), A>
-    requires { MayVisit (R.context resources.now) stacks.old }
-    ensures { Moves (R.context resources.now) A.tells (λ cx. row_operator (local_tee_row cx local_index)) stacks.old
-        result stacks.new }
+    requires { MayBegin R.context body }
+    ensures { Makes R.context A.tells (λ cx. row_operator (local_tee_row cx local_index)) body.entry
+        result body.exit }
 {
-    let ty = *stacks.find_local(local_index)?;
-    if stacks.is_uninit(local_index) {
-        return stacks.exchange_setting(resources, local_index, ty, &[ty]);
+    let ty = *body.stacks.find_local(local_index)?;
+    if body.stacks.is_uninit(local_index) {
+        return body.exchange_setting(local_index, ty, &[ty]);
     }
-    stacks.exchange_types(resources, &[ty], &[ty])
+    body.exchange_types(&[ty], &[ty])
 }

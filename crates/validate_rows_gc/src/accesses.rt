@@ -123,8 +123,8 @@ pub fn expected_by(place: PlaceOperands, access: FieldAccess, value: ValType) ->
 }
 
 /// What it gives.
-pub fn given_by(access: FieldAccess, value: ValType) -> Pushed<'static>
-    ensures { pushed_types result ≡ rule.given_by access value }
+pub fn pushed_by(access: FieldAccess, value: ValType) -> Pushed<'static>
+    ensures { pushed_types result ≡ rule.pushed_by access value }
 {
     match access {
         FieldAccess::Whole(Update::Value(Exchange::Set)) => Pushed::Nothing,

@@ -10,9 +10,8 @@ ghost use Rattle.validation_rules.specs.Arrays.{is_read_from_data, is_read_from_
 ghost use Rattle.validation_rules.specs.Operators.{row_operator};
 ghost use Rattle.validation_rules.specs.Structs.{field_value, is_whole_field, is_packed_field};
 ghost use Rattle.validate_shapes.specs.Operands.{Finds};
-ghost use Rattle.validate_stacks.specs.Moves.{Moves};
-ghost use Rattle.validate_stacks.specs.Visits.{MayVisit};
 ghost use Rattle.validate_visit.specs.declared.op.ArrayOp.{ArrayOp};
+ghost use Rattle.validate_stacks.specs.Bodies.{MayBegin, Makes};
 
 use crate::found::measure;
 use validate_resources::WasmModuleResources;
@@ -23,7 +22,7 @@ use validate_shapes::aggregates::{
 use validate_shapes::memories::check_data_segment;
 use validate_shapes::operands::{Expected, Few, Operands, Pushed, exchange_found};
 use validate_shapes::tables::element_type_at;
-use validate_stacks::Stacks;
+use validate_stacks::Body;
 use validate_types::{AbstractHeapType, FieldType, Refusal, Refused, StorageType, ValType};
 use validate_visit::{ArrayOp, Sign};
 
@@ -105,57 +104,48 @@ fn check_copied<A: Refused, R: WasmModuleResources>(
 /// What `array.new` takes and gives: one value for all places, and so many.
 #[inline(always)]
 fn new_types<A: Refused, R: WasmModuleResources>(
-    stacks: &Stacks,
-    resources: &R,
+    body: &Body<'_, '_, R>,
     index: u32,
 ) -> Result<Operands<'static>, A>
-    ensures { Finds (R.context resources.now) A.tells (λ cx. array_new_row cx index) stacks.now.body
-        result }
+    ensures { Finds (R.context body.now.resources.now) A.tells (λ cx. array_new_row cx index)
+        body.now.stacks.now.body result }
 {
-    let value = array_field_at(stacks, resources, index)?
-        .element_type
-        .unpack();
-    let made = allocated_reference(stacks, resources, index)?;
+    let value = array_field_at(body, index)?.element_type.unpack();
+    let made = allocated_reference(body, index)?;
     Ok(Operands::few(Few::Two(value, ValType::I32), Pushed::One(made)))
 }
 
 /// What `array.new_default` takes and gives.
 fn new_default_types<A: Refused, R: WasmModuleResources>(
-    stacks: &Stacks,
-    resources: &R,
+    body: &Body<'_, '_, R>,
     index: u32,
 ) -> Result<Operands<'static>, A>
-    ensures { Finds (R.context resources.now) A.tells (λ cx. array_new_default_row cx index) stacks.now.body
-        result }
+    ensures { Finds (R.context body.now.resources.now) A.tells (λ cx. array_new_default_row cx index)
+        body.now.stacks.now.body result }
 {
-    let value = array_field_at(stacks, resources, index)?
-        .element_type
-        .unpack();
+    let value = array_field_at(body, index)?.element_type.unpack();
     if !value.is_defaultable() {
         return Err(A::of(Refusal::NotDefaultable {
             name: "array.new_default",
             ty: value,
         }));
     }
-    let made = allocated_reference(stacks, resources, index)?;
+    let made = allocated_reference(body, index)?;
     Ok(Operands::few(Few::One(ValType::I32), Pushed::One(made)))
 }
 
 /// What `array.new_fixed` takes and gives: a value for each place.
 #[inline(always)]
 fn new_fixed_types<A: Refused, R: WasmModuleResources>(
-    stacks: &Stacks,
-    resources: &R,
+    body: &Body<'_, '_, R>,
     index: u32,
     size: u32,
 ) -> Result<Operands<'static>, A>
-    ensures { Finds (R.context resources.now) A.tells (λ cx. array_new_fixed_row cx index size) stacks.now.body
-        result }
+    ensures { Finds (R.context body.now.resources.now) A.tells (λ cx. array_new_fixed_row cx index size)
+        body.now.stacks.now.body result }
 {
-    let value = array_field_at(stacks, resources, index)?
-        .element_type
-        .unpack();
-    let made = allocated_reference(stacks, resources, index)?;
+    let value = array_field_at(body, index)?.element_type.unpack();
+    let made = allocated_reference(body, index)?;
     Ok(Operands {
         expected: Expected::Run(value, size),
         pushed: Pushed::One(made),
@@ -164,51 +154,48 @@ fn new_fixed_types<A: Refused, R: WasmModuleResources>(
 
 /// What `array.new_data` takes and gives: a place of the data segment, and so many.
 fn new_data_types<A: Refused, R: WasmModuleResources>(
-    stacks: &Stacks,
-    resources: &R,
+    body: &Body<'_, '_, R>,
     index: u32,
     data_index: u32,
 ) -> Result<Operands<'static>, A>
-    ensures { Finds (R.context resources.now) A.tells (λ cx. array_new_data_row cx index data_index) stacks.now.body
-        result }
+    ensures { Finds (R.context body.now.resources.now) A.tells (λ cx. array_new_data_row cx index data_index)
+        body.now.stacks.now.body result }
 {
-    let element = array_field_at(stacks, resources, index)?;
-    check_data(resources, data_index, element, Refusal::NoNewData)?;
-    let made = allocated_reference(stacks, resources, index)?;
+    let element = array_field_at(body, index)?;
+    check_data(body.resources, data_index, element, Refusal::NoNewData)?;
+    let made = allocated_reference(body, index)?;
     Ok(Operands::few(Few::Two(ValType::I32, ValType::I32), Pushed::One(made)))
 }
 
 /// What `array.new_elem` takes and gives: a place of the element segment, and so many.
 fn new_elem_types<A: Refused, R: WasmModuleResources>(
-    stacks: &Stacks,
-    resources: &R,
+    body: &Body<'_, '_, R>,
     index: u32,
     elem_index: u32,
 ) -> Result<Operands<'static>, A>
-    ensures { Finds (R.context resources.now) A.tells (λ cx. array_new_elem_row cx index elem_index) stacks.now.body
-        result }
+    ensures { Finds (R.context body.now.resources.now) A.tells (λ cx. array_new_elem_row cx index elem_index)
+        body.now.stacks.now.body result }
 {
-    let element = array_field_at(stacks, resources, index)?;
-    check_element_segment(resources, elem_index, element, "array.new_elem")?;
-    let made = allocated_reference(stacks, resources, index)?;
+    let element = array_field_at(body, index)?;
+    check_element_segment(body.resources, elem_index, element, "array.new_elem")?;
+    let made = allocated_reference(body, index)?;
     Ok(Operands::few(Few::Two(ValType::I32, ValType::I32), Pushed::One(made)))
 }
 
 /// What `array.get` takes and gives, of an array whose places hold whole values.
 #[inline(always)]
 fn get_types<A: Refused, R: WasmModuleResources>(
-    stacks: &Stacks,
-    resources: &R,
+    body: &Body<'_, '_, R>,
     index: u32,
 ) -> Result<Operands<'static>, A>
-    ensures { Finds (R.context resources.now) A.tells (λ cx. array_read_row cx is_whole_field index) stacks.now.body
-        result }
+    ensures { Finds (R.context body.now.resources.now) A.tells (λ cx. array_read_row cx is_whole_field index)
+        body.now.stacks.now.body result }
 {
-    let element = array_field_at(stacks, resources, index)?;
+    let element = array_field_at(body, index)?;
     if element.element_type.is_packed() {
         return Err(A::of(Refusal::ArrayPacking(packing(None))));
     }
-    let from = type_reference(stacks, resources, true, index)?;
+    let from = type_reference(body, true, index)?;
     Ok(Operands::few(
         Few::Two(from, ValType::I32),
         Pushed::One(element.element_type.unpack()),
@@ -217,19 +204,18 @@ fn get_types<A: Refused, R: WasmModuleResources>(
 
 /// What `array.get_s` and `array.get_u` take and give, of an array whose places hold packed values.
 fn get_packed_types<A: Refused, R: WasmModuleResources>(
-    stacks: &Stacks,
-    resources: &R,
+    body: &Body<'_, '_, R>,
     sign: Sign,
     index: u32,
 ) -> Result<Operands<'static>, A>
-    ensures { Finds (R.context resources.now) A.tells (λ cx. array_read_row cx is_packed_field index) stacks.now.body
-        result }
+    ensures { Finds (R.context body.now.resources.now) A.tells (λ cx. array_read_row cx is_packed_field index)
+        body.now.stacks.now.body result }
 {
-    let element = array_field_at(stacks, resources, index)?;
+    let element = array_field_at(body, index)?;
     if !element.element_type.is_packed() {
         return Err(A::of(Refusal::ArrayPacking(packing(Some(sign)))));
     }
-    let from = type_reference(stacks, resources, true, index)?;
+    let from = type_reference(body, true, index)?;
     Ok(Operands::few(
         Few::Two(from, ValType::I32),
         Pushed::One(element.element_type.unpack()),
@@ -239,32 +225,30 @@ fn get_packed_types<A: Refused, R: WasmModuleResources>(
 /// What `array.set` takes.
 #[inline(always)]
 fn set_types<A: Refused, R: WasmModuleResources>(
-    stacks: &Stacks,
-    resources: &R,
+    body: &Body<'_, '_, R>,
     index: u32,
 ) -> Result<Operands<'static>, A>
-    ensures { Finds (R.context resources.now) A.tells (λ cx. array_set_row cx index) stacks.now.body
-        result }
+    ensures { Finds (R.context body.now.resources.now) A.tells (λ cx. array_set_row cx index)
+        body.now.stacks.now.body result }
 {
-    let element = array_field_at(stacks, resources, index)?;
+    let element = array_field_at(body, index)?;
     check_mutable_array(element)?;
-    let into = type_reference(stacks, resources, true, index)?;
+    let into = type_reference(body, true, index)?;
     let value = element.element_type.unpack();
     Ok(Operands::few(Few::Three(into, ValType::I32, value), Pushed::Nothing))
 }
 
 /// What `array.fill` takes: from this place on, with this value, so many.
 fn fill_types<A: Refused, R: WasmModuleResources>(
-    stacks: &Stacks,
-    resources: &R,
+    body: &Body<'_, '_, R>,
     index: u32,
 ) -> Result<Operands<'static>, A>
-    ensures { Finds (R.context resources.now) A.tells (λ cx. array_fill_row cx index) stacks.now.body
-        result }
+    ensures { Finds (R.context body.now.resources.now) A.tells (λ cx. array_fill_row cx index)
+        body.now.stacks.now.body result }
 {
-    let element = array_field_at(stacks, resources, index)?;
+    let element = array_field_at(body, index)?;
     check_mutable_array(element)?;
-    let into = type_reference(stacks, resources, true, index)?;
+    let into = type_reference(body, true, index)?;
     let value = element.element_type.unpack();
     Ok(Operands::few(
         Few::Four(into, ValType::I32, value, ValType::I32),
@@ -274,20 +258,19 @@ fn fill_types<A: Refused, R: WasmModuleResources>(
 
 /// What `array.copy` takes: to a place, from a place, so many.
 fn copy_types<A: Refused, R: WasmModuleResources>(
-    stacks: &Stacks,
-    resources: &R,
+    body: &Body<'_, '_, R>,
     dst_index: u32,
     src_index: u32,
 ) -> Result<Operands<'static>, A>
-    ensures { Finds (R.context resources.now) A.tells (λ cx. array_copy_row cx dst_index src_index) stacks.now.body
-        result }
+    ensures { Finds (R.context body.now.resources.now) A.tells (λ cx. array_copy_row cx dst_index src_index)
+        body.now.stacks.now.body result }
 {
-    let dst = array_field_at(stacks, resources, dst_index)?;
+    let dst = array_field_at(body, dst_index)?;
     check_mutable_array(dst)?;
-    let src = array_field_at(stacks, resources, src_index)?;
-    check_copied(resources, src, dst)?;
-    let into = type_reference(stacks, resources, true, dst_index)?;
-    let from = type_reference(stacks, resources, true, src_index)?;
+    let src = array_field_at(body, src_index)?;
+    check_copied(body.resources, src, dst)?;
+    let into = type_reference(body, true, dst_index)?;
+    let from = type_reference(body, true, src_index)?;
     Ok(Operands::few(
         Few::Five(into, ValType::I32, from, ValType::I32, ValType::I32),
         Pushed::Nothing,
@@ -296,18 +279,17 @@ fn copy_types<A: Refused, R: WasmModuleResources>(
 
 /// What `array.init_data` takes: to a place, from one of the data segment, so many.
 fn init_data_types<A: Refused, R: WasmModuleResources>(
-    stacks: &Stacks,
-    resources: &R,
+    body: &Body<'_, '_, R>,
     index: u32,
     data_index: u32,
 ) -> Result<Operands<'static>, A>
-    ensures { Finds (R.context resources.now) A.tells (λ cx. array_init_data_row cx index data_index) stacks.now.body
-        result }
+    ensures { Finds (R.context body.now.resources.now) A.tells (λ cx. array_init_data_row cx index data_index)
+        body.now.stacks.now.body result }
 {
-    let element = array_field_at(stacks, resources, index)?;
+    let element = array_field_at(body, index)?;
     check_mutable_array(element)?;
-    check_data(resources, data_index, element, Refusal::NoInitData)?;
-    let into = type_reference(stacks, resources, true, index)?;
+    check_data(body.resources, data_index, element, Refusal::NoInitData)?;
+    let into = type_reference(body, true, index)?;
     Ok(Operands::few(
         Few::Four(into, ValType::I32, ValType::I32, ValType::I32),
         Pushed::Nothing,
@@ -316,18 +298,17 @@ fn init_data_types<A: Refused, R: WasmModuleResources>(
 
 /// What `array.init_elem` takes: to a place, from one of the element segment, so many.
 fn init_elem_types<A: Refused, R: WasmModuleResources>(
-    stacks: &Stacks,
-    resources: &R,
+    body: &Body<'_, '_, R>,
     index: u32,
     elem_index: u32,
 ) -> Result<Operands<'static>, A>
-    ensures { Finds (R.context resources.now) A.tells (λ cx. array_init_elem_row cx index elem_index) stacks.now.body
-        result }
+    ensures { Finds (R.context body.now.resources.now) A.tells (λ cx. array_init_elem_row cx index elem_index)
+        body.now.stacks.now.body result }
 {
-    let element = array_field_at(stacks, resources, index)?;
+    let element = array_field_at(body, index)?;
     check_mutable_array(element)?;
-    check_element_segment(resources, elem_index, element, "array.init_elem")?;
-    let into = type_reference(stacks, resources, true, index)?;
+    check_element_segment(body.resources, elem_index, element, "array.init_elem")?;
+    let into = type_reference(body, true, index)?;
     Ok(Operands::few(
         Few::Four(into, ValType::I32, ValType::I32, ValType::I32),
         Pushed::Nothing,
@@ -337,153 +318,126 @@ fn init_elem_types<A: Refused, R: WasmModuleResources>(
 /// What an operator on arrays takes and gives, by the types and the segment that it names. `array.len`,
 /// which names none, looks at its operand.
 fn array_types<A: Refused, R: WasmModuleResources>(
-    stacks: &Stacks,
-    resources: &R,
+    body: &Body<'_, '_, R>,
     op: ArrayOp,
 ) -> Result<Operands<'static>, A>
     requires { op ≢ ArrayOp.ArrayLen }
-    ensures { Finds (R.context resources.now) A.tells (λ cx. array_row cx op) stacks.now.body result }
+    ensures { Finds (R.context body.now.resources.now) A.tells (λ cx. array_row cx op)
+        body.now.stacks.now.body result }
 {
     match op {
         ArrayOp::ArrayLen => unreachable!(),
-        ArrayOp::ArrayNew(index) => new_types(stacks, resources, index),
-        ArrayOp::ArrayNewDefault(index) => new_default_types(stacks, resources, index),
+        ArrayOp::ArrayNew(index) => new_types(body, index),
+        ArrayOp::ArrayNewDefault(index) => new_default_types(body, index),
         ArrayOp::ArrayNewFixed {
             array_type_index,
             array_size,
-        } => { new_fixed_types(stacks, resources, array_type_index, array_size) }
+        } => { new_fixed_types(body, array_type_index, array_size) }
         ArrayOp::ArrayNewData {
             array_type_index,
             array_data_index,
-        } => { new_data_types(stacks, resources, array_type_index, array_data_index) }
+        } => { new_data_types(body, array_type_index, array_data_index) }
         ArrayOp::ArrayNewElem {
             array_type_index,
             array_elem_index,
-        } => { new_elem_types(stacks, resources, array_type_index, array_elem_index) }
-        ArrayOp::ArrayGet(index) => get_types(stacks, resources, index),
-        ArrayOp::ArrayGetPacked(sign, index) => get_packed_types(stacks, resources, sign, index),
-        ArrayOp::ArraySet(index) => set_types(stacks, resources, index),
-        ArrayOp::ArrayFill(index) => fill_types(stacks, resources, index),
+        } => { new_elem_types(body, array_type_index, array_elem_index) }
+        ArrayOp::ArrayGet(index) => get_types(body, index),
+        ArrayOp::ArrayGetPacked(sign, index) => get_packed_types(body, sign, index),
+        ArrayOp::ArraySet(index) => set_types(body, index),
+        ArrayOp::ArrayFill(index) => fill_types(body, index),
         ArrayOp::ArrayCopy {
             array_type_index_dst,
             array_type_index_src,
-        } => {
-            copy_types(
-                stacks,
-                resources,
-                array_type_index_dst,
-                array_type_index_src,
-            )
-        }
+        } => { copy_types(body, array_type_index_dst, array_type_index_src) }
         ArrayOp::ArrayInitData {
             array_type_index,
             array_data_index,
-        } => { init_data_types(stacks, resources, array_type_index, array_data_index) }
+        } => { init_data_types(body, array_type_index, array_data_index) }
         ArrayOp::ArrayInitElem {
             array_type_index,
             array_elem_index,
-        } => { init_elem_types(stacks, resources, array_type_index, array_elem_index) }
+        } => { init_elem_types(body, array_type_index, array_elem_index) }
     }
 }
 
 /// `array.new`: `[t i32] -> [(ref a)]`.
 #[inline(never)]
-fn new<A: Refused, R: WasmModuleResources>(
-    stacks: &mut Stacks,
-    resources: &R,
-    index: u32,
-) -> Result<(), A>
-    requires { MayVisit (R.context resources.now) stacks.old }
-    ensures { Moves (R.context resources.now) A.tells (λ cx. row_operator (array_new_row cx index)) stacks.old result
-        stacks.new }
+fn new<A: Refused, R: WasmModuleResources>(body: Body<'_, '_, R>, index: u32) -> Result<(), A>
+    requires { MayBegin R.context body }
+    ensures { Makes R.context A.tells (λ cx. row_operator (array_new_row cx index)) body.entry
+        result body.exit }
 {
-    let found = new_types(stacks, resources, index);
-    exchange_found(stacks, resources, found)
+    let found = new_types(&body, index);
+    exchange_found(body, found)
 }
 
 /// `array.new_fixed`: `[t*] -> [(ref a)]`.
 #[inline(never)]
 fn new_fixed<A: Refused, R: WasmModuleResources>(
-    stacks: &mut Stacks,
-    resources: &R,
+    body: Body<'_, '_, R>,
     index: u32,
     size: u32,
 ) -> Result<(), A>
-    requires { MayVisit (R.context resources.now) stacks.old }
-    ensures { Moves (R.context resources.now) A.tells (λ cx. row_operator (array_new_fixed_row cx index size)) stacks.old
-        result stacks.new }
+    requires { MayBegin R.context body }
+    ensures { Makes R.context A.tells (λ cx. row_operator (array_new_fixed_row cx index size)) body.entry
+        result body.exit }
 {
-    let found = new_fixed_types(stacks, resources, index, size);
-    exchange_found(stacks, resources, found)
+    let found = new_fixed_types(&body, index, size);
+    exchange_found(body, found)
 }
 
 /// `array.get`: `[(ref null a) i32] -> [t]`.
 #[inline(never)]
-fn get<A: Refused, R: WasmModuleResources>(
-    stacks: &mut Stacks,
-    resources: &R,
-    index: u32,
-) -> Result<(), A>
-    requires { MayVisit (R.context resources.now) stacks.old }
-    ensures { Moves (R.context resources.now) A.tells (λ cx. row_operator (array_read_row cx is_whole_field index))
-        stacks.old result stacks.new }
+fn get<A: Refused, R: WasmModuleResources>(body: Body<'_, '_, R>, index: u32) -> Result<(), A>
+    requires { MayBegin R.context body }
+    ensures { Makes R.context A.tells (λ cx. row_operator (array_read_row cx is_whole_field index)) body.entry
+        result body.exit }
 {
-    let found = get_types(stacks, resources, index);
-    exchange_found(stacks, resources, found)
+    let found = get_types(&body, index);
+    exchange_found(body, found)
 }
 
 /// `array.set`: `[(ref null a) i32 t] -> []`.
 #[inline(never)]
-fn set<A: Refused, R: WasmModuleResources>(
-    stacks: &mut Stacks,
-    resources: &R,
-    index: u32,
-) -> Result<(), A>
-    requires { MayVisit (R.context resources.now) stacks.old }
-    ensures { Moves (R.context resources.now) A.tells (λ cx. row_operator (array_set_row cx index)) stacks.old result
-        stacks.new }
+fn set<A: Refused, R: WasmModuleResources>(body: Body<'_, '_, R>, index: u32) -> Result<(), A>
+    requires { MayBegin R.context body }
+    ensures { Makes R.context A.tells (λ cx. row_operator (array_set_row cx index)) body.entry
+        result body.exit }
 {
-    let found = set_types(stacks, resources, index);
-    exchange_found(stacks, resources, found)
+    let found = set_types(&body, index);
+    exchange_found(body, found)
 }
 
 /// An operator on arrays that names a type.
 #[inline(never)]
-fn typed<A: Refused, R: WasmModuleResources>(
-    stacks: &mut Stacks,
-    resources: &R,
-    op: ArrayOp,
-) -> Result<(), A>
-    requires visit { MayVisit (R.context resources.now) stacks.old }
+fn typed<A: Refused, R: WasmModuleResources>(body: Body<'_, '_, R>, op: ArrayOp) -> Result<(), A>
+    requires visit { MayBegin R.context body }
     requires typed { op ≢ ArrayOp.ArrayLen }
-    ensures { Moves (R.context resources.now) A.tells (λ cx. row_operator (array_row cx op)) stacks.old result
-        stacks.new }
+    ensures { Makes R.context A.tells (λ cx. row_operator (array_row cx op)) body.entry result body.exit }
 {
-    let found = array_types(stacks, resources, op);
-    exchange_found(stacks, resources, found)
+    let found = array_types(&body, op);
+    exchange_found(body, found)
 }
 
 /// An operator on arrays, its gate aside. Those that come often have a body each, so that nothing of what they take and
 /// give lies in memory.
 #[inline(always)]
 pub fn array_operator<A: Refused, R: WasmModuleResources>(
-    stacks: &mut Stacks,
-    resources: &R,
+    body: Body<'_, '_, R>,
     op: &ArrayOp,
 ) -> Result<(), A>
-    requires { MayVisit (R.context resources.now) stacks.old }
-    ensures { Moves (R.context resources.now) A.tells (λ cx. row_operator (array_row cx op.now)) stacks.old result
-        stacks.new }
+    requires { MayBegin R.context body }
+    ensures { Makes R.context A.tells (λ cx. row_operator (array_row cx op.now)) body.entry result body.exit }
 {
     match *op {
-        ArrayOp::ArrayLen => measure(stacks, resources, AbstractHeapType::Array),
-        ArrayOp::ArrayNew(index) => new(stacks, resources, index),
+        ArrayOp::ArrayLen => measure(body, AbstractHeapType::Array),
+        ArrayOp::ArrayNew(index) => new(body, index),
         ArrayOp::ArrayNewFixed {
             array_type_index,
             array_size,
-        } => new_fixed(stacks, resources, array_type_index, array_size),
-        ArrayOp::ArrayGet(index) => get(stacks, resources, index),
-        ArrayOp::ArraySet(index) => set(stacks, resources, index),
-        _ => typed(stacks, resources, *op),
+        } => new_fixed(body, array_type_index, array_size),
+        ArrayOp::ArrayGet(index) => get(body, index),
+        ArrayOp::ArraySet(index) => set(body, index),
+        _ => typed(body, *op),
     }
 }

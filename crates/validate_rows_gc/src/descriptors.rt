@@ -9,10 +9,8 @@ ghost use Rattle.validation_rules.specs.Descriptors.{ref_get_desc_row, ref_cast_
 ghost use Rattle.validation_rules.specs.Descriptors as descriptor_rule;
 ghost use Rattle.validation_rules.specs.Operators.{row_operator, staying_operator};
 ghost use Rattle.validation_rules.specs.Valid.{IsValidOperand};
-ghost use Rattle.validate_stacks.specs.Moves.{Moves};
-ghost use Rattle.validate_stacks.specs.State.{body_context};
+ghost use Rattle.validate_stacks.specs.Bodies.{context_of, MayBegin, Makes};
 ghost use Rattle.validate_stacks.specs.Steps.{found_in_body};
-ghost use Rattle.validate_stacks.specs.Visits.{MayVisit};
 ghost use Rattle.validate_rows_gc.specs.Casts.{branch_types};
 ghost use Rattle.validate_rows_gc.specs.Descriptors.{found_descriptor};
 
@@ -20,7 +18,7 @@ use crate::casts::{CastBranch, cast_branch, cast_type, checked_cast, operand_of_
 use validate_resources::WasmModuleResources;
 use validate_shapes::aggregates::{declared_heap, descriptor_at, type_reference};
 use validate_shapes::canonical::canonical_heap;
-use validate_stacks::Stacks;
+use validate_stacks::Body;
 use validate_types::{
     HeapType, MaybeType, PackedIndex, RefType, Refusal, Refused, UnpackedIndex, ValType,
 };
@@ -51,30 +49,33 @@ fn is_found_exact<R: WasmModuleResources>(resources: &R, exact: HeapType, found:
 /// exact where what is found is.
 #[inline(never)]
 pub fn ref_get_desc<A: Refused, R: WasmModuleResources>(
-    stacks: &mut Stacks,
-    resources: &R,
+    body: Body<'_, '_, R>,
     type_index: u32,
 ) -> Result<(), A>
-    requires { MayVisit (R.context resources.now) stacks.old }
-    ensures { Moves (R.context resources.now) A.tells (λ cx. row_operator (ref_get_desc_row cx type_index)) stacks.old
-        result stacks.new }
+    requires { MayBegin R.context body }
+    ensures { Makes R.context A.tells (λ cx. row_operator (ref_get_desc_row cx type_index)) body.entry
+        result body.exit }
 {
-    let from = type_reference(stacks, resources, true, type_index)?;
+    let from = type_reference(&body, true, type_index)?;
     let exact = canonical_heap(
-        resources,
+        body.resources,
         HeapType::Exact(UnpackedIndex::Module(type_index)),
     )?;
-    stacks.find_operands(resources, 0, &[from])?;
-    let Some(descriptor) = descriptor_at(resources, type_index)? else {
+    body.find_operands(0, &[from])?;
+    let Some(descriptor) = descriptor_at(body.resources, type_index)? else {
         return Err(A::of(Refusal::NoDescriptor));
     };
-    let found = *stacks.find_any(0)?;
+    let found = *body.stacks.find_any(0)?;
     let pushed = RefType {
         nullable: false,
-        heap_type: declared_heap(is_found_exact(resources, exact, found), descriptor.unpack()),
+        heap_type: declared_heap(
+            is_found_exact(body.resources, exact, found),
+            descriptor.unpack(),
+        ),
     };
-    let own = stacks.own_len();
-    stacks.replace(own.min(1), MaybeType::Known(ValType::Ref(pushed)))
+    let own = body.stacks.own_len();
+    body.stacks
+        .replace(own.min(1), MaybeType::Known(ValType::Ref(pushed)))
 }
 
 /// The type of the descriptors of the type that a cast leads to, which has to be one of the module and to have
@@ -86,7 +87,8 @@ fn descriptor_in<A: Refused, R: WasmModuleResources>(
     ensures found { IfOk result (λ d. descriptor_rule.descriptor_in (R.context resources.now) heap_type
         ≡ Some d) }
     ensures valid { IfOk result (λ d. is_valid_index (R.context resources.now) d ≡ true) }
-    ensures refused { OnErr result (descriptor_rule.descriptor_in (R.context resources.now) heap_type ≡ None) }
+    ensures refused { OnErr result (descriptor_rule.descriptor_in (R.context resources.now)
+        heap_type ≡ None) }
 {
     match heap_type {
         HeapType::Concrete(UnpackedIndex::Module(index))
@@ -103,23 +105,22 @@ fn descriptor_in<A: Refused, R: WasmModuleResources>(
 /// Refuses an operand on top that isn't a descriptor of this type, by which something is cast: to an exact type by an exact
 /// one (wasmparser's `check_maybe_exact_descriptor_ref`).
 fn find_descriptor<A: Refused, R: WasmModuleResources>(
-    stacks: &Stacks,
-    resources: &R,
+    body: &Body<'_, '_, R>,
     exact: bool,
     descriptor: PackedIndex,
 ) -> Result<(), A>
-    requires state { MayVisit (R.context resources.now) stacks.now }
-    requires descriptor { is_valid_index (R.context resources.now) descriptor ≡ true }
-    ensures passed { OnOk result (found_descriptor (body_context (R.context resources.now) stacks.now.body)
-        exact descriptor (found_in_body stacks.now.body) ≡ true) }
-    ensures refused { OnErr result (found_descriptor (body_context (R.context resources.now) stacks.now.body)
-        exact descriptor (found_in_body stacks.now.body) ≡ false) }
+    requires state { MayBegin R.context body.now }
+    requires descriptor { is_valid_index (R.context body.now.resources.now) descriptor ≡ true }
+    ensures passed { OnOk result (found_descriptor (context_of R.context body.now) exact descriptor
+        (found_in_body body.now.stacks.now.body) ≡ true) }
+    ensures refused { OnErr result (found_descriptor (context_of R.context body.now) exact descriptor
+        (found_in_body body.now.stacks.now.body) ≡ false) }
 {
     let expected = ValType::Ref(RefType::concrete(true, descriptor));
-    stacks.find_operands(resources, 0, &[expected])?;
-    let found = *stacks.find_any(0)?;
+    body.find_operands(0, &[expected])?;
+    let found = *body.stacks.find_any(0)?;
     if exact {
-        check_exact(resources, descriptor, found)
+        check_exact(body.resources, descriptor, found)
     } else {
         Ok(())
     }
@@ -159,67 +160,63 @@ fn is_exact(heap_type: HeapType) -> bool
 /// `ref.cast_desc_eq`: `[(ref null top) (ref null d)] -> [t]`, with the top type of the hierarchy of the type t cast
 /// to, and the type d of its descriptors.
 pub fn ref_cast_desc_eq<A: Refused, R: WasmModuleResources>(
-    stacks: &mut Stacks,
-    resources: &R,
+    body: Body<'_, '_, R>,
     nullable: bool,
     heap_type: &HeapType,
 ) -> Result<(), A>
-    requires { MayVisit (R.context resources.now) stacks.old }
-    ensures { Moves (R.context resources.now) A.tells
-        (λ cx. row_operator (ref_cast_desc_eq_row cx nullable heap_type.now)) stacks.old result stacks.new }
+    requires { MayBegin R.context body }
+    ensures { Makes R.context A.tells (λ cx. row_operator (ref_cast_desc_eq_row cx nullable heap_type.now))
+        body.entry result body.exit }
 {
-    let descriptor = descriptor_in(resources, *heap_type)?;
-    find_descriptor(stacks, resources, is_exact(*heap_type), descriptor)?;
-    let ty = cast_type(stacks, resources, nullable, *heap_type)?;
-    let operand = operand_of_cast(resources, ty);
-    stacks.find_operands(resources, 1, &[operand])?;
-    let own = stacks.own_len();
-    stacks.replace(own.min(2), MaybeType::Known(ValType::Ref(ty)))
+    let descriptor = descriptor_in(body.resources, *heap_type)?;
+    find_descriptor(&body, is_exact(*heap_type), descriptor)?;
+    let ty = cast_type(&body, nullable, *heap_type)?;
+    let operand = operand_of_cast(body.resources, ty);
+    body.find_operands(1, &[operand])?;
+    let own = body.stacks.own_len();
+    body.stacks
+        .replace(own.min(2), MaybeType::Known(ValType::Ref(ty)))
 }
 
 /// A branch by a cast with a descriptor above the operand: what is carried to the label is of the type cast to, or isn't.
 #[inline(never)]
 fn branch_by_descriptor<A: Refused, R: WasmModuleResources>(
-    stacks: &mut Stacks,
-    resources: &R,
+    body: Body<'_, '_, R>,
     branch: CastBranch,
     cast: BranchCast,
 ) -> Result<(), A>
-    requires { MayVisit (R.context resources.now) stacks.old }
-    ensures { Moves (R.context resources.now) A.tells
-        (λ cx. staying_operator (λ hs. cast_desc_eq_branch_row cx hs (branch_types branch) cast)) stacks.old
-        result stacks.new }
+    requires { MayBegin R.context body }
+    ensures { Makes R.context A.tells (λ cx. staying_operator (λ hs. cast_desc_eq_branch_row cx hs
+        (branch_types branch) cast)) body.entry result body.exit }
 {
-    let types = checked_cast(stacks, resources, cast)?;
+    let types = checked_cast(&body, cast)?;
     let heap_type = cast.to_ref_type.heap_type();
-    let descriptor = descriptor_in(resources, heap_type)?;
-    find_descriptor(stacks, resources, is_exact(heap_type), descriptor)?;
-    cast_branch(stacks, resources, 1, branch, cast.relative_depth, types)
+    let descriptor = descriptor_in(body.resources, heap_type)?;
+    find_descriptor(&body, is_exact(heap_type), descriptor)?;
+    cast_branch(body, 1, branch, cast.relative_depth, types)
 }
 
 /// `br_on_cast_desc_eq`: `[t from (ref null d)] -> [t left]`, as `br_on_cast` with a descriptor above the operand.
 pub fn br_on_cast_desc_eq<A: Refused, R: WasmModuleResources>(
-    stacks: &mut Stacks,
-    resources: &R,
+    body: Body<'_, '_, R>,
     cast: &BranchCast,
 ) -> Result<(), A>
-    requires { MayVisit (R.context resources.now) stacks.old }
-    ensures { Moves (R.context resources.now) A.tells
-        (λ cx. staying_operator (λ hs. br_on_cast_desc_eq_row cx hs cast.now)) stacks.old result stacks.new }
+    requires { MayBegin R.context body }
+    ensures { Makes R.context A.tells (λ cx. staying_operator (λ hs. br_on_cast_desc_eq_row cx hs cast.now))
+        body.entry result body.exit }
 {
-    branch_by_descriptor(stacks, resources, CastBranch::OnCast, *cast)
+    branch_by_descriptor(body, CastBranch::OnCast, *cast)
 }
 
 /// `br_on_cast_desc_eq_fail`: `[t from (ref null d)] -> [t to]`, as `br_on_cast_fail` with a descriptor above the
 /// operand.
 pub fn br_on_cast_desc_eq_fail<A: Refused, R: WasmModuleResources>(
-    stacks: &mut Stacks,
-    resources: &R,
+    body: Body<'_, '_, R>,
     cast: &BranchCast,
 ) -> Result<(), A>
-    requires { MayVisit (R.context resources.now) stacks.old }
-    ensures { Moves (R.context resources.now) A.tells
-        (λ cx. staying_operator (λ hs. br_on_cast_desc_eq_fail_row cx hs cast.now)) stacks.old result stacks.new }
+    requires { MayBegin R.context body }
+    ensures { Makes R.context A.tells (λ cx. staying_operator (λ hs. br_on_cast_desc_eq_fail_row cx hs
+        cast.now)) body.entry result body.exit }
 {
-    branch_by_descriptor(stacks, resources, CastBranch::OnCastFail, *cast)
+    branch_by_descriptor(body, CastBranch::OnCastFail, *cast)
 }

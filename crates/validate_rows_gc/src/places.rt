@@ -11,13 +11,12 @@ ghost use Rattle.validation_rules.specs.Operators.{row_operator, conversion_row}
 ghost use Rattle.validation_rules.specs.Shared.{is_accessible, shared_global_row, shared_table_row, shared_struct_row, shared_array_row, shared_i31, shared_row};
 ghost use Rattle.validation_rules.specs.Shared as rule;
 ghost use Rattle.validation_rules.specs.Structs.{field_value};
-ghost use Rattle.validate_stacks.specs.Moves.{Moves};
-ghost use Rattle.validate_stacks.specs.State.{IsValidBody, body_context};
-ghost use Rattle.validate_stacks.specs.Visits.{MayVisit};
+ghost use Rattle.validate_stacks.specs.Bodies.{context_of, MayBegin, Makes};
+ghost use Rattle.validate_stacks.specs.State.{IsValidBody};
 ghost use Rattle.validate_shapes.specs.Operands.{few_types};
 ghost use Rattle.validate_rows_gc.specs.Accesses.{AreValidTested, tested_row};
 
-use crate::accesses::{PlaceOperands, expected_by, given_by, is_allowed, is_read, name_of};
+use crate::accesses::{PlaceOperands, expected_by, is_allowed, is_read, name_of, pushed_by};
 use validate_resources::WasmModuleResources;
 use validate_shapes::aggregates::{
     array_field_at, check_mutable_array, check_mutable_field, packing, struct_field_at,
@@ -27,7 +26,7 @@ use validate_shapes::globals::find_global;
 use validate_shapes::operands::{Few, Operands, Pushed, exchange_operands};
 use validate_shapes::plain::unary;
 use validate_shapes::tables::table_type_at;
-use validate_stacks::Stacks;
+use validate_stacks::Body;
 use validate_types::{
     AbstractHeapType, FieldType, GlobalType, HeapType, RefType, Refusal, Refused, StorageType,
     ValType,
@@ -164,55 +163,53 @@ fn check_global_written<A: Refused>(access: Update, global: GlobalType) -> Resul
 
 /// What an operator on globals takes and gives.
 fn global_access_types<A: Refused, R: WasmModuleResources>(
-    stacks: &Stacks,
-    resources: &R,
+    body: &Body<'_, '_, R>,
     access: Update,
     global_index: u32,
 ) -> Result<TestedOperands, A>
-    ensures row { IfOk result (λ t. shared_global_row (body_context (R.context resources.now)
-        stacks.now.body) access global_index ≡ tested_row t) }
-    ensures valid { IfOk result (AreValidTested (R.context resources.now)) }
-    ensures refused { IfErr result (λ e. A.tells e → (shared_global_row
-        (body_context (R.context resources.now) stacks.now.body) access global_index).premise ≡ false) }
+    ensures row { IfOk result (λ t. shared_global_row (context_of R.context body.now) access
+        global_index ≡ tested_row t) }
+    ensures valid { IfOk result (AreValidTested (R.context body.now.resources.now)) }
+    ensures refused { IfErr result (λ e. A.tells e → (shared_global_row (context_of R.context body.now) access
+        global_index).premise ≡ false) }
 {
-    let global = find_global(stacks, resources, global_index)?;
+    let global = find_global(body, global_index)?;
     let whole = FieldAccess::Whole(access);
     check_global_written(access, global)?;
     let value = global.content_type;
-    let allowed = is_allowed(resources, false, whole, StorageType::Val(value));
+    let allowed = is_allowed(body.resources, false, whole, StorageType::Val(value));
     if !allowed && !is_tested_late(whole) {
         return Err(global_not_allowed(access));
     }
     Ok(TestedOperands {
         expected: expected_by(PlaceOperands::Named, whole, value),
-        pushed: given_by(whole, value),
+        pushed: pushed_by(whole, value),
         allowed,
     })
 }
 
 /// What an operator on tables takes and gives.
 fn table_access_types<A: Refused, R: WasmModuleResources>(
-    stacks: &Stacks,
-    resources: &R,
+    body: &Body<'_, '_, R>,
     access: Exchange,
     table_index: u32,
 ) -> Result<TestedOperands, A>
-    ensures row { IfOk result (λ t. shared_table_row (body_context (R.context resources.now)
-        stacks.now.body) access table_index ≡ tested_row t) }
-    ensures valid { IfOk result (AreValidTested (R.context resources.now)) }
-    ensures refused { IfErr result (λ e. A.tells e → (shared_table_row
-        (body_context (R.context resources.now) stacks.now.body) access table_index).premise ≡ false) }
+    ensures row { IfOk result (λ t. shared_table_row (context_of R.context body.now) access
+        table_index ≡ tested_row t) }
+    ensures valid { IfOk result (AreValidTested (R.context body.now.resources.now)) }
+    ensures refused { IfErr result (λ e. A.tells e → (shared_table_row (context_of R.context body.now) access
+        table_index).premise ≡ false) }
 {
-    let table = table_type_at(stacks, resources, table_index)?;
+    let table = table_type_at(body, table_index)?;
     let whole = FieldAccess::Whole(Update::Value(access));
     let value = ValType::Ref(table.element_type);
-    let allowed = is_allowed(resources, true, whole, StorageType::Val(value));
+    let allowed = is_allowed(body.resources, true, whole, StorageType::Val(value));
     if !allowed && !is_tested_late(whole) {
         return Err(table_not_allowed(access));
     }
     Ok(TestedOperands {
         expected: expected_by(PlaceOperands::One(table.index_type()), whole, value),
-        pushed: given_by(whole, value),
+        pushed: pushed_by(whole, value),
         allowed,
     })
 }
@@ -280,64 +277,60 @@ fn check_field<A: Refused, R: WasmModuleResources>(
 
 /// What an operator on structs takes and gives.
 fn struct_access_types<A: Refused, R: WasmModuleResources>(
-    stacks: &Stacks,
-    resources: &R,
+    body: &Body<'_, '_, R>,
     access: FieldAccess,
     field: FieldIndex,
 ) -> Result<TestedOperands, A>
-    ensures row { IfOk result (λ t. shared_struct_row (body_context (R.context resources.now)
-        stacks.now.body) access field ≡ tested_row t) }
-    ensures valid { IfOk result (AreValidTested (R.context resources.now)) }
-    ensures refused { IfErr result (λ e. A.tells e → (shared_struct_row
-        (body_context (R.context resources.now) stacks.now.body) access field).premise ≡ false) }
+    ensures row { IfOk result (λ t. shared_struct_row (context_of R.context body.now) access
+        field ≡ tested_row t) }
+    ensures valid { IfOk result (AreValidTested (R.context body.now.resources.now)) }
+    ensures refused { IfErr result (λ e. A.tells e → (shared_struct_row (context_of R.context body.now) access
+        field).premise ≡ false) }
 {
-    let held = struct_field_at(stacks, resources, field)?;
-    let allowed = check_field(resources, Aggregate::Struct, access, held)?;
-    let holder = type_reference(stacks, resources, true, field.struct_type_index)?;
+    let held = struct_field_at(body, field)?;
+    let allowed = check_field(body.resources, Aggregate::Struct, access, held)?;
+    let holder = type_reference(body, true, field.struct_type_index)?;
     let value = held.element_type.unpack();
     Ok(TestedOperands {
         expected: expected_by(PlaceOperands::One(holder), access, value),
-        pushed: given_by(access, value),
+        pushed: pushed_by(access, value),
         allowed,
     })
 }
 
 /// What an atomic access of an array takes and gives.
 fn array_access_types<A: Refused, R: WasmModuleResources>(
-    stacks: &Stacks,
-    resources: &R,
+    body: &Body<'_, '_, R>,
     access: FieldAccess,
     type_index: u32,
 ) -> Result<TestedOperands, A>
-    ensures row { IfOk result (λ t. shared_array_row (body_context (R.context resources.now)
-        stacks.now.body) access type_index ≡ tested_row t) }
-    ensures valid { IfOk result (AreValidTested (R.context resources.now)) }
-    ensures refused { IfErr result (λ e. A.tells e → (shared_array_row
-        (body_context (R.context resources.now) stacks.now.body) access type_index).premise ≡ false) }
+    ensures row { IfOk result (λ t. shared_array_row (context_of R.context body.now) access
+        type_index ≡ tested_row t) }
+    ensures valid { IfOk result (AreValidTested (R.context body.now.resources.now)) }
+    ensures refused { IfErr result (λ e. A.tells e → (shared_array_row (context_of R.context body.now) access
+        type_index).premise ≡ false) }
 {
-    let held = array_field_at(stacks, resources, type_index)?;
-    let allowed = check_field(resources, Aggregate::Array, access, held)?;
-    let holder = type_reference(stacks, resources, true, type_index)?;
+    let held = array_field_at(body, type_index)?;
+    let allowed = check_field(body.resources, Aggregate::Array, access, held)?;
+    let holder = type_reference(body, true, type_index)?;
     let value = held.element_type.unpack();
     Ok(TestedOperands {
         expected: expected_by(PlaceOperands::Two(holder, ValType::I32), access, value),
-        pushed: given_by(access, value),
+        pushed: pushed_by(access, value),
         allowed,
     })
 }
 
 /// What an atomic operator takes and gives, by the place that it names.
 fn access_types<A: Refused, R: WasmModuleResources>(
-    stacks: &Stacks,
-    resources: &R,
+    body: &Body<'_, '_, R>,
     op: SharedOp,
 ) -> Result<TestedOperands, A>
     requires { op ≢ SharedOp.RefI31Shared }
-    ensures row { IfOk result (λ t. shared_row (body_context (R.context resources.now) stacks.now.body) op
-        ≡ tested_row t) }
-    ensures valid { IfOk result (AreValidTested (R.context resources.now)) }
-    ensures refused { IfErr result (λ e. A.tells e
-        → (shared_row (body_context (R.context resources.now) stacks.now.body) op).premise ≡ false) }
+    ensures row { IfOk result (λ t. shared_row (context_of R.context body.now) op ≡ tested_row t) }
+    ensures valid { IfOk result (AreValidTested (R.context body.now.resources.now)) }
+    ensures refused { IfErr result (λ e. A.tells e → (shared_row (context_of R.context body.now)
+        op).premise ≡ false) }
 {
     match op {
         SharedOp::RefI31Shared => unreachable!(),
@@ -345,74 +338,59 @@ fn access_types<A: Refused, R: WasmModuleResources>(
             access,
             global_index,
             ..
-        } => global_access_types(stacks, resources, access, global_index),
+        } => global_access_types(body, access, global_index),
         SharedOp::Table {
             access,
             table_index,
             ..
-        } => table_access_types(stacks, resources, access, table_index),
-        SharedOp::Struct { access, field, .. } => {
-            struct_access_types(stacks, resources, access, field)
-        }
+        } => table_access_types(body, access, table_index),
+        SharedOp::Struct { access, field, .. } => { struct_access_types(body, access, field) }
         SharedOp::Array {
             access,
             type_index,
             ..
-        } => array_access_types(stacks, resources, access, type_index),
+        } => array_access_types(body, access, type_index),
     }
 }
 
-/// That pops of these types would pass, the last on top. It refuses as [`Stacks::find_operands`] does.
+/// That pops of these types would pass, the last on top. It refuses as [`Body::find_operands`] does.
 fn find_few<A: Refused, R: WasmModuleResources>(
-    stacks: &Stacks,
-    resources: &R,
+    body: &Body<'_, '_, R>,
     expected: Few,
 ) -> Result<(), A>
-    requires types { AllByRecursion (Valid (R.context resources.now)) (few_types expected) }
-    requires state { IsValidBody (R.context resources.now) stacks.now.body }
+    requires types { AllByRecursion (Valid (R.context body.now.resources.now)) (few_types expected) }
+    requires state { IsValidBody (R.context body.now.resources.now) body.now.stacks.now.body }
 {
     match expected {
         Few::Zero => Ok(()),
-        Few::One(a) => stacks.find_operands(resources, 0, &[a]),
-        Few::Two(a, b) => stacks.find_operands(resources, 0, &[a, b]),
-        Few::Three(a, b, c) => stacks.find_operands(resources, 0, &[a, b, c]),
-        Few::Four(a, b, c, d) => stacks.find_operands(resources, 0, &[a, b, c, d]),
-        Few::Five(a, b, c, d, e) => stacks.find_operands(resources, 0, &[a, b, c, d, e]),
+        Few::One(a) => body.find_operands(0, &[a]),
+        Few::Two(a, b) => body.find_operands(0, &[a, b]),
+        Few::Three(a, b, c) => body.find_operands(0, &[a, b, c]),
+        Few::Four(a, b, c, d) => body.find_operands(0, &[a, b, c, d]),
+        Few::Five(a, b, c, d, e) => body.find_operands(0, &[a, b, c, d, e]),
     }
 }
 
 /// An atomic operator. What its place doesn't allow is refused after operands that aren't there or don't fit.
-fn access<A: Refused, R: WasmModuleResources>(
-    stacks: &mut Stacks,
-    resources: &R,
-    op: SharedOp,
-) -> Result<(), A>
-    requires visit { MayVisit (R.context resources.now) stacks.old }
+fn access<A: Refused, R: WasmModuleResources>(body: Body<'_, '_, R>, op: SharedOp) -> Result<(), A>
+    requires visit { MayBegin R.context body }
     requires access { op ≢ SharedOp.RefI31Shared }
-    ensures { Moves (R.context resources.now) A.tells (λ cx. row_operator (shared_row cx op)) stacks.old result
-        stacks.new }
+    ensures { Makes R.context A.tells (λ cx. row_operator (shared_row cx op)) body.entry result body.exit }
 {
-    let access = access_types(stacks, resources, op)?;
+    let access = access_types(&body, op)?;
     if access.allowed {
-        exchange_operands(
-            stacks,
-            resources,
-            Operands::few(access.expected, access.pushed),
-        )
+        exchange_operands(body, Operands::few(access.expected, access.pushed))
     } else {
-        find_few(stacks, resources, access.expected)?;
+        find_few(&body, access.expected)?;
         Err(not_allowed_late(op))
     }
 }
 
 /// `ref.i31_shared`: `[i32] -> [(ref (shared i31))]`.
-fn ref_i31_shared<A: Refused, R: WasmModuleResources>(
-    stacks: &mut Stacks,
-    resources: &R,
-) -> Result<(), A>
-    requires { MayVisit (R.context resources.now) stacks.old }
-    ensures { Moves (R.context resources.now) A.tells (λ cx. row_operator (conversion_row shared_i31 I32)) stacks.old
-        result stacks.new }
+fn ref_i31_shared<A: Refused, R: WasmModuleResources>(body: Body<'_, '_, R>) -> Result<(), A>
+    requires { MayBegin R.context body }
+    ensures { Makes R.context A.tells (λ cx. row_operator (conversion_row shared_i31 I32)) body.entry
+        result body.exit }
 {
     let made = RefType {
         nullable: false,
@@ -421,22 +399,20 @@ fn ref_i31_shared<A: Refused, R: WasmModuleResources>(
             ty: AbstractHeapType::I31,
         },
     };
-    unary(stacks, resources, ValType::I32, ValType::Ref(made))
+    unary(body, ValType::I32, ValType::Ref(made))
 }
 
 /// An operator of shared-everything threads, its gate aside.
 #[inline(never)]
 pub fn shared_operator<A: Refused, R: WasmModuleResources>(
-    stacks: &mut Stacks,
-    resources: &R,
+    body: Body<'_, '_, R>,
     op: SharedOp,
 ) -> Result<(), A>
-    requires { MayVisit (R.context resources.now) stacks.old }
-    ensures { Moves (R.context resources.now) A.tells (λ cx. row_operator (shared_row cx op)) stacks.old result
-        stacks.new }
+    requires { MayBegin R.context body }
+    ensures { Makes R.context A.tells (λ cx. row_operator (shared_row cx op)) body.entry result body.exit }
 {
     match op {
-        SharedOp::RefI31Shared => ref_i31_shared(stacks, resources),
-        _ => access(stacks, resources, op),
+        SharedOp::RefI31Shared => ref_i31_shared(body),
+        _ => access(body, op),
     }
 }

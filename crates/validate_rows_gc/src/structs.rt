@@ -12,11 +12,9 @@ ghost use Rattle.validation_rules.specs.Structs.{struct_type, struct_row, struct
 ghost use Rattle.validation_rules.specs.Structs.{struct_new_desc_row, struct_new_default_desc_row};
 ghost use Rattle.validation_rules.specs.Structs.{struct_read_row, struct_set_row};
 ghost use Rattle.validation_rules.specs.Structs.{is_packed_field, is_whole_field};
-ghost use Rattle.validate_stacks.specs.Moves.{Moves};
+ghost use Rattle.validate_stacks.specs.Bodies.{context_of, MayBegin, Makes};
 ghost use Rattle.validate_stacks.specs.Pops.{has_operands_fitting};
-ghost use Rattle.validate_stacks.specs.State.{body_context};
 ghost use Rattle.validate_stacks.specs.Steps.{found_in_body};
-ghost use Rattle.validate_stacks.specs.Visits.{MayVisit};
 ghost use Rattle.validate_shapes.specs.Operands.{Finds};
 ghost use Rattle.validate_visit.specs.declared.op.StructOp.{StructOp};
 ghost use Rattle.validate_rows_gc.specs.Descriptors.{found_new_descriptor, defaults_row};
@@ -27,7 +25,7 @@ use validate_shapes::aggregates::{
     struct_type_at, type_reference,
 };
 use validate_shapes::operands::{Expected, Few, Operands, Pushed, exchange_found};
-use validate_stacks::Stacks;
+use validate_stacks::Body;
 use validate_types::{FieldType, RefType, Refusal, Refused, StructType, ValType};
 use validate_visit::{FieldIndex, Sign, StructOp};
 
@@ -55,20 +53,19 @@ fn check_defaultable<A: Refused>(fields: &[FieldType]) -> Result<(), A>
 /// The struct type at an index, which has no descriptor: with one it is made by another operator.
 #[inline(always)]
 fn undescribed_struct_at<'a, A: Refused, R: WasmModuleResources>(
-    stacks: &Stacks,
-    resources: &'a R,
+    body: &Body<'_, 'a, R>,
     type_index: u32,
     name: &'static str,
 ) -> Result<&'a StructType, A>
-    ensures found { IfOk result (λ s. guard (is_none (rule.descriptor_at (R.context resources.now) type_index))
-        (struct_type (body_context (R.context resources.now) stacks.now.body) type_index) ≡ Some s.now) }
-    ensures valid { IfOk result (λ s. AllByRecursion (Valid (R.context resources.now))
+    ensures found { IfOk result (λ s. guard (is_none (rule.descriptor_at (R.context body.now.resources.now) type_index))
+        (struct_type (context_of R.context body.now) type_index) ≡ Some s.now) }
+    ensures valid { IfOk result (λ s. AllByRecursion (Valid (R.context body.now.resources.now))
         (unpacked_fields s.now)) }
-    ensures refused { OnErr result (guard (is_none (rule.descriptor_at (R.context resources.now) type_index))
-        (struct_type (body_context (R.context resources.now) stacks.now.body) type_index) ≡ None) }
+    ensures refused { OnErr result (guard (is_none (rule.descriptor_at (R.context body.now.resources.now) type_index))
+        (struct_type (context_of R.context body.now) type_index) ≡ None) }
 {
-    match descriptor_at(resources, type_index)? {
-        None => struct_type_at(stacks, resources, type_index),
+    match descriptor_at(body.resources, type_index)? {
+        None => struct_type_at(body, type_index),
         Some(_) => Err(A::of(Refusal::WantsDescriptor { type_index, name })),
     }
 }
@@ -76,41 +73,39 @@ fn undescribed_struct_at<'a, A: Refused, R: WasmModuleResources>(
 /// The type of the descriptor with which a struct of the type at an index is made: exact in that type, or null. It has to
 /// lie on top. A type without descriptors is refused.
 fn find_new_descriptor<A: Refused, R: WasmModuleResources>(
-    stacks: &Stacks,
-    resources: &R,
+    body: &Body<'_, '_, R>,
     type_index: u32,
     name: &'static str,
 ) -> Result<ValType, A>
-    requires { MayVisit (R.context resources.now) stacks.now }
+    requires { MayBegin R.context body.now }
     ensures described { IfOk result (λ t. option_map (rule.descriptor true)
-        (rule.descriptor_at (R.context resources.now) type_index) ≡ Some t) }
-    ensures valid { IfOk result (Valid (R.context resources.now)) }
-    ensures fits { IfOk result (λ t. has_operands_fitting (body_context (R.context resources.now) stacks.now.body)
-        (t ∷ []) stacks.now.body ≡ true) }
-    ensures refused { OnErr result (found_new_descriptor
-        (body_context (R.context resources.now) stacks.now.body)
-        (rule.descriptor_at (R.context resources.now) type_index) (found_in_body stacks.now.body) ≡ false) }
+        (rule.descriptor_at (R.context body.now.resources.now) type_index) ≡ Some t) }
+    ensures valid { IfOk result (Valid (R.context body.now.resources.now)) }
+    ensures fits { IfOk result (λ t. has_operands_fitting (context_of R.context body.now) (t ∷ [])
+        body.now.stacks.now.body ≡ true) }
+    ensures refused { OnErr result (found_new_descriptor (context_of R.context body.now)
+        (rule.descriptor_at (R.context body.now.resources.now) type_index)
+        (found_in_body body.now.stacks.now.body) ≡ false) }
 {
-    let Some(descriptor) = descriptor_at(resources, type_index)? else {
+    let Some(descriptor) = descriptor_at(body.resources, type_index)? else {
         return Err(A::of(Refusal::NotDescribed { type_index, name }));
     };
     let expected = ValType::Ref(RefType::exact(true, descriptor));
-    stacks.find_operands(resources, 0, &[expected])?;
+    body.find_operands(0, &[expected])?;
     Ok(expected)
 }
 
 /// What `struct.new` takes and gives: a value for each field.
 #[inline(always)]
 fn new_types<'a, A: Refused, R: WasmModuleResources>(
-    stacks: &Stacks,
-    resources: &'a R,
+    body: &Body<'_, 'a, R>,
     index: u32,
 ) -> Result<Operands<'a>, A>
-    ensures { Finds (R.context resources.now) A.tells (λ cx. struct_new_row cx index) stacks.now.body
-        result }
+    ensures { Finds (R.context body.now.resources.now) A.tells (λ cx. struct_new_row cx index)
+        body.now.stacks.now.body result }
 {
-    let struct_type = undescribed_struct_at(stacks, resources, index, "struct.new")?;
-    let made = allocated_reference(stacks, resources, index)?;
+    let struct_type = undescribed_struct_at(body, index, "struct.new")?;
+    let made = allocated_reference(body, index)?;
     Ok(Operands {
         expected: Expected::Fields(struct_type.fields.as_slice()),
         pushed: Pushed::One(made),
@@ -120,219 +115,200 @@ fn new_types<'a, A: Refused, R: WasmModuleResources>(
 /// What `struct.new_default` takes and gives.
 #[inline(always)]
 fn new_default_types<A: Refused, R: WasmModuleResources>(
-    stacks: &Stacks,
-    resources: &R,
+    body: &Body<'_, '_, R>,
     index: u32,
 ) -> Result<Operands<'static>, A>
-    ensures { Finds (R.context resources.now) A.tells (λ cx. struct_new_default_row cx index) stacks.now.body
-        result }
+    ensures { Finds (R.context body.now.resources.now) A.tells (λ cx. struct_new_default_row cx index)
+        body.now.stacks.now.body result }
 {
-    let struct_type = undescribed_struct_at(stacks, resources, index, "struct.new_default")?;
+    let struct_type = undescribed_struct_at(body, index, "struct.new_default")?;
     check_defaultable(struct_type.fields.as_slice())?;
-    let made = allocated_reference(stacks, resources, index)?;
+    let made = allocated_reference(body, index)?;
     Ok(Operands::few(Few::Zero, Pushed::One(made)))
 }
 
 /// What `struct.new_default_desc` takes and gives, with a descriptor of this type.
 fn new_default_desc_types<A: Refused, R: WasmModuleResources>(
-    stacks: &Stacks,
-    resources: &R,
+    body: &Body<'_, '_, R>,
     index: u32,
     descriptor: ValType,
 ) -> Result<Operands<'static>, A>
-    requires { Valid (R.context resources.now) descriptor }
-    ensures { Finds (R.context resources.now) A.tells (λ cx. defaults_row cx index descriptor) stacks.now.body
-        result }
+    requires { Valid (R.context body.now.resources.now) descriptor }
+    ensures { Finds (R.context body.now.resources.now) A.tells (λ cx. defaults_row cx index descriptor)
+        body.now.stacks.now.body result }
 {
-    let struct_type = struct_type_at(stacks, resources, index)?;
+    let struct_type = struct_type_at(body, index)?;
     check_defaultable(struct_type.fields.as_slice())?;
-    let made = allocated_reference(stacks, resources, index)?;
+    let made = allocated_reference(body, index)?;
     Ok(Operands::few(Few::One(descriptor), Pushed::One(made)))
 }
 
 /// What `struct.get` takes and gives, of a field that holds a whole value.
 #[inline(always)]
 fn get_types<A: Refused, R: WasmModuleResources>(
-    stacks: &Stacks,
-    resources: &R,
+    body: &Body<'_, '_, R>,
     index: FieldIndex,
 ) -> Result<Operands<'static>, A>
-    ensures { Finds (R.context resources.now) A.tells (λ cx. struct_read_row cx is_whole_field index) stacks.now.body
-        result }
+    ensures { Finds (R.context body.now.resources.now) A.tells (λ cx. struct_read_row cx is_whole_field index)
+        body.now.stacks.now.body result }
 {
-    let field = struct_field_at(stacks, resources, index)?;
+    let field = struct_field_at(body, index)?;
     if field.element_type.is_packed() {
         return Err(A::of(Refusal::FieldPacking(packing(None))));
     }
-    let from = type_reference(stacks, resources, true, index.struct_type_index)?;
+    let from = type_reference(body, true, index.struct_type_index)?;
     Ok(Operands::few(Few::One(from), Pushed::One(field.element_type.unpack())))
 }
 
 /// What `struct.get_s` and `struct.get_u` take and give, of a field that holds a packed value.
 fn get_packed_types<A: Refused, R: WasmModuleResources>(
-    stacks: &Stacks,
-    resources: &R,
+    body: &Body<'_, '_, R>,
     sign: Sign,
     index: FieldIndex,
 ) -> Result<Operands<'static>, A>
-    ensures { Finds (R.context resources.now) A.tells (λ cx. struct_read_row cx is_packed_field index) stacks.now.body
-        result }
+    ensures { Finds (R.context body.now.resources.now) A.tells (λ cx. struct_read_row cx is_packed_field
+        index) body.now.stacks.now.body result }
 {
-    let field = struct_field_at(stacks, resources, index)?;
+    let field = struct_field_at(body, index)?;
     if !field.element_type.is_packed() {
         return Err(A::of(Refusal::FieldPacking(packing(Some(sign)))));
     }
-    let from = type_reference(stacks, resources, true, index.struct_type_index)?;
+    let from = type_reference(body, true, index.struct_type_index)?;
     Ok(Operands::few(Few::One(from), Pushed::One(field.element_type.unpack())))
 }
 
 /// What `struct.set` takes.
 #[inline(always)]
 fn set_types<A: Refused, R: WasmModuleResources>(
-    stacks: &Stacks,
-    resources: &R,
+    body: &Body<'_, '_, R>,
     index: FieldIndex,
 ) -> Result<Operands<'static>, A>
-    ensures { Finds (R.context resources.now) A.tells (λ cx. struct_set_row cx index) stacks.now.body
-        result }
+    ensures { Finds (R.context body.now.resources.now) A.tells (λ cx. struct_set_row cx index)
+        body.now.stacks.now.body result }
 {
-    let field = struct_field_at(stacks, resources, index)?;
+    let field = struct_field_at(body, index)?;
     check_mutable_field(field)?;
-    let into = type_reference(stacks, resources, true, index.struct_type_index)?;
+    let into = type_reference(body, true, index.struct_type_index)?;
     Ok(Operands::few(Few::Two(into, field.element_type.unpack()), Pushed::Nothing))
 }
 
 /// `struct.new`: `[t*] -> [(ref s)]`.
 #[inline(never)]
-fn new<A: Refused, R: WasmModuleResources>(
-    stacks: &mut Stacks,
-    resources: &R,
-    index: u32,
-) -> Result<(), A>
-    requires { MayVisit (R.context resources.now) stacks.old }
-    ensures { Moves (R.context resources.now) A.tells (λ cx. row_operator (struct_new_row cx index)) stacks.old result
-        stacks.new }
+fn new<A: Refused, R: WasmModuleResources>(body: Body<'_, '_, R>, index: u32) -> Result<(), A>
+    requires { MayBegin R.context body }
+    ensures { Makes R.context A.tells (λ cx. row_operator (struct_new_row cx index)) body.entry
+        result body.exit }
 {
-    let found = new_types(stacks, resources, index);
-    exchange_found(stacks, resources, found)
+    let found = new_types(&body, index);
+    exchange_found(body, found)
 }
 
 /// `struct.new_default`: `[] -> [(ref s)]`.
 #[inline(never)]
 fn new_default<A: Refused, R: WasmModuleResources>(
-    stacks: &mut Stacks,
-    resources: &R,
+    body: Body<'_, '_, R>,
     index: u32,
 ) -> Result<(), A>
-    requires { MayVisit (R.context resources.now) stacks.old }
-    ensures { Moves (R.context resources.now) A.tells (λ cx. row_operator (struct_new_default_row cx index)) stacks.old result
-        stacks.new }
+    requires { MayBegin R.context body }
+    ensures { Makes R.context A.tells (λ cx. row_operator (struct_new_default_row cx index)) body.entry
+        result body.exit }
 {
-    let found = new_default_types(stacks, resources, index);
-    exchange_found(stacks, resources, found)
+    let found = new_default_types(&body, index);
+    exchange_found(body, found)
 }
 
 /// `struct.new_desc`: `[t* (ref null d)] -> [(ref s)]`. The descriptor is looked for before anything else is asked of the
 /// type (upstream's order).
 #[inline(never)]
-fn new_desc<A: Refused, R: WasmModuleResources>(
-    stacks: &mut Stacks,
-    resources: &R,
-    index: u32,
-) -> Result<(), A>
-    requires { MayVisit (R.context resources.now) stacks.old }
-    ensures { Moves (R.context resources.now) A.tells (λ cx. row_operator (struct_new_desc_row cx index)) stacks.old result
-        stacks.new }
+fn new_desc<A: Refused, R: WasmModuleResources>(body: Body<'_, '_, R>, index: u32) -> Result<(), A>
+    requires { MayBegin R.context body }
+    ensures { Makes R.context A.tells (λ cx. row_operator (struct_new_desc_row cx index)) body.entry
+        result body.exit }
 {
-    find_new_descriptor(stacks, resources, index, "struct.new_desc")?;
-    let struct_type = struct_type_at(stacks, resources, index)?;
-    let made = allocated_reference(stacks, resources, index)?;
+    find_new_descriptor(&body, index, "struct.new_desc")?;
+    let struct_type = struct_type_at(&body, index)?;
+    let made = allocated_reference(&body, index)?;
     let fields = struct_type.fields.as_slice();
-    stacks.find_fields(resources, 1, fields)?;
-    let popped = stacks.own_len().min(fields.len() + 1);
-    stacks.exchange(popped, &[made])
+    body.find_fields(1, fields)?;
+    let popped = body.stacks.own_len().min(fields.len() + 1);
+    body.stacks.exchange(popped, &[made])
 }
 
 /// `struct.new_default_desc`: `[(ref null d)] -> [(ref s)]`. The descriptor is looked for first here too.
 #[inline(never)]
 fn new_default_desc<A: Refused, R: WasmModuleResources>(
-    stacks: &mut Stacks,
-    resources: &R,
+    body: Body<'_, '_, R>,
     index: u32,
 ) -> Result<(), A>
-    requires { MayVisit (R.context resources.now) stacks.old }
-    ensures { Moves (R.context resources.now) A.tells (λ cx. row_operator (struct_new_default_desc_row cx index)) stacks.old
-        result stacks.new }
+    requires { MayBegin R.context body }
+    ensures { Makes R.context A.tells (λ cx. row_operator (struct_new_default_desc_row cx index)) body.entry
+        result body.exit }
 {
-    let descriptor = find_new_descriptor(stacks, resources, index, "struct.new_default_desc")?;
-    let found = new_default_desc_types(stacks, resources, index, descriptor);
-    exchange_found(stacks, resources, found)
+    let descriptor = find_new_descriptor(&body, index, "struct.new_default_desc")?;
+    let found = new_default_desc_types(&body, index, descriptor);
+    exchange_found(body, found)
 }
 
 /// `struct.get`: `[(ref null s)] -> [t]`.
 #[inline(never)]
 fn get<A: Refused, R: WasmModuleResources>(
-    stacks: &mut Stacks,
-    resources: &R,
+    body: Body<'_, '_, R>,
     index: FieldIndex,
 ) -> Result<(), A>
-    requires { MayVisit (R.context resources.now) stacks.old }
-    ensures { Moves (R.context resources.now) A.tells (λ cx. row_operator (struct_read_row cx is_whole_field index)) stacks.old result
-        stacks.new }
+    requires { MayBegin R.context body }
+    ensures { Makes R.context A.tells (λ cx. row_operator (struct_read_row cx is_whole_field index))
+        body.entry result body.exit }
 {
-    let found = get_types(stacks, resources, index);
-    exchange_found(stacks, resources, found)
+    let found = get_types(&body, index);
+    exchange_found(body, found)
 }
 
 /// `struct.get_s` and `struct.get_u`: `[(ref null s)] -> [i32]`.
 #[inline(never)]
 fn get_packed<A: Refused, R: WasmModuleResources>(
-    stacks: &mut Stacks,
-    resources: &R,
+    body: Body<'_, '_, R>,
     sign: Sign,
     index: FieldIndex,
 ) -> Result<(), A>
-    requires { MayVisit (R.context resources.now) stacks.old }
-    ensures { Moves (R.context resources.now) A.tells (λ cx. row_operator (struct_read_row cx is_packed_field index)) stacks.old result
-        stacks.new }
+    requires { MayBegin R.context body }
+    ensures { Makes R.context A.tells (λ cx. row_operator (struct_read_row cx is_packed_field index))
+        body.entry result body.exit }
 {
-    let found = get_packed_types(stacks, resources, sign, index);
-    exchange_found(stacks, resources, found)
+    let found = get_packed_types(&body, sign, index);
+    exchange_found(body, found)
 }
 
 /// `struct.set`: `[(ref null s) t] -> []`.
 #[inline(never)]
 fn set<A: Refused, R: WasmModuleResources>(
-    stacks: &mut Stacks,
-    resources: &R,
+    body: Body<'_, '_, R>,
     index: FieldIndex,
 ) -> Result<(), A>
-    requires { MayVisit (R.context resources.now) stacks.old }
-    ensures { Moves (R.context resources.now) A.tells (λ cx. row_operator (struct_set_row cx index)) stacks.old result
-        stacks.new }
+    requires { MayBegin R.context body }
+    ensures { Makes R.context A.tells (λ cx. row_operator (struct_set_row cx index)) body.entry
+        result body.exit }
 {
-    let found = set_types(stacks, resources, index);
-    exchange_found(stacks, resources, found)
+    let found = set_types(&body, index);
+    exchange_found(body, found)
 }
 
 /// An operator on structs, its gate aside.
 #[inline(always)]
 pub fn struct_operator<A: Refused, R: WasmModuleResources>(
-    stacks: &mut Stacks,
-    resources: &R,
+    body: Body<'_, '_, R>,
     op: &StructOp,
 ) -> Result<(), A>
-    requires { MayVisit (R.context resources.now) stacks.old }
-    ensures { Moves (R.context resources.now) A.tells (λ cx. row_operator (struct_row cx op.now)) stacks.old result
-        stacks.new }
+    requires { MayBegin R.context body }
+    ensures { Makes R.context A.tells (λ cx. row_operator (struct_row cx op.now)) body.entry
+        result body.exit }
 {
     match *op {
-        StructOp::StructNew(index) => new(stacks, resources, index),
-        StructOp::StructNewDefault(index) => new_default(stacks, resources, index),
-        StructOp::StructNewDesc(index) => new_desc(stacks, resources, index),
-        StructOp::StructNewDefaultDesc(index) => new_default_desc(stacks, resources, index),
-        StructOp::StructGet(index) => get(stacks, resources, index),
-        StructOp::StructGetPacked(sign, index) => get_packed(stacks, resources, sign, index),
-        StructOp::StructSet(index) => set(stacks, resources, index),
+        StructOp::StructNew(index) => new(body, index),
+        StructOp::StructNewDefault(index) => new_default(body, index),
+        StructOp::StructNewDesc(index) => new_desc(body, index),
+        StructOp::StructNewDefaultDesc(index) => new_default_desc(body, index),
+        StructOp::StructGet(index) => get(body, index),
+        StructOp::StructGetPacked(sign, index) => get_packed(body, sign, index),
+        StructOp::StructSet(index) => set(body, index),
     }
 }

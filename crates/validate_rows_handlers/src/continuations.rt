@@ -8,10 +8,9 @@ ghost use Rattle.validation_rules.specs.Continuations.{continuation_row, continu
 ghost use Rattle.validation_rules.specs.Indirect as rule;
 ghost use Rattle.validation_rules.specs.Operators.{staying_operator};
 ghost use Rattle.validation_rules.specs.Static.{heads};
-ghost use Rattle.validate_stacks.specs.State.{IsValidBody, body_context};
+ghost use Rattle.validate_stacks.specs.Bodies.{context_of, MayBegin, Makes};
+ghost use Rattle.validate_stacks.specs.State.{IsValidBody};
 ghost use Rattle.validate_shapes.specs.Operands.{Finds};
-ghost use Rattle.validate_stacks.specs.Moves.{Moves};
-ghost use Rattle.validate_stacks.specs.Visits.{MayVisit};
 ghost use Rattle.validate_rows_handlers.specs.Handlers.{are_fitting_handlers, IsNeverResumed};
 ghost use Rattle.validate_rows_handlers.specs.Targets.{without_targets};
 
@@ -24,7 +23,7 @@ use validate_resources::WasmModuleResources;
 use validate_shapes::aggregates::type_reference;
 use validate_shapes::operands::{Expected, Few, Operands, Pushed, exchange_operands};
 use validate_shapes::tags::{exception_types_at, tag_at};
-use validate_stacks::Stacks;
+use validate_stacks::Body;
 use validate_types::{FuncType, RefType, Refusal, Refused, ValType};
 use validate_visit::{ContinuationOp, Handle};
 
@@ -40,33 +39,28 @@ struct Resumed<'a> {
 /// What is resumed by the continuation type at an index and these handlers, each of which has to fit it
 /// (wasmparser's `check_resume_table`).
 fn check_resume_table<'a, A: Refused, R: WasmModuleResources>(
-    stacks: &Stacks,
-    resources: &'a R,
+    body: &Body<'_, 'a, R>,
     cont_type_index: u32,
     handlers: &[Handle],
 ) -> Result<Resumed<'a>, A>
-    requires { IsValidBody (R.context resources.now) stacks.now.body }
-    ensures found { IfOk result (λ r. continuation_signature
-        (body_context (R.context resources.now) stacks.now.body) cont_type_index
-        ≡ Some r.func_type.now) }
-    ensures params { IfOk result (λ r. AllByRecursion (Valid (R.context resources.now))
+    requires { IsValidBody (R.context body.now.resources.now) body.now.stacks.now.body }
+    ensures found { IfOk result (λ r. continuation_signature (context_of R.context body.now)
+        cont_type_index ≡ Some r.func_type.now) }
+    ensures params { IfOk result (λ r. AllByRecursion (Valid (R.context body.now.resources.now))
         r.func_type.now.params) }
-    ensures results { IfOk result (λ r. AllByRecursion (Valid (R.context resources.now))
+    ensures results { IfOk result (λ r. AllByRecursion (Valid (R.context body.now.resources.now))
         r.func_type.now.results) }
-    ensures reference { IfOk result (λ r. rule.type_reference
-        (body_context (R.context resources.now) stacks.now.body) nullable_reference cont_type_index
-        ≡ Some r.reference) }
-    ensures valid { IfOk result (λ r. Valid (R.context resources.now) r.reference) }
-    ensures handlers { IfOk result (λ r. are_fitting_handlers
-        (body_context (R.context resources.now) stacks.now.body) (heads stacks.now.body.present.frames)
-        r.func_type.now handlers.now ≡ true) }
-    ensures refused { IfErr result (λ e. A.tells e
-        → IsNeverResumed (body_context (R.context resources.now) stacks.now.body)
-        (heads stacks.now.body.present.frames) cont_type_index handlers.now) }
+    ensures reference { IfOk result (λ r. rule.type_reference (context_of R.context body.now)
+        nullable_reference cont_type_index ≡ Some r.reference) }
+    ensures valid { IfOk result (λ r. Valid (R.context body.now.resources.now) r.reference) }
+    ensures handlers { IfOk result (λ r. are_fitting_handlers (context_of R.context body.now)
+        (heads body.now.stacks.now.body.present.frames) r.func_type.now handlers.now ≡ true) }
+    ensures refused { IfErr result (λ e. A.tells e → IsNeverResumed (context_of R.context body.now)
+        (heads body.now.stacks.now.body.present.frames) cont_type_index handlers.now) }
 {
-    let func_type = func_type_of_cont_at(stacks, resources, cont_type_index)?;
-    check_handlers(stacks, resources, func_type, handlers)?;
-    let reference = type_reference(stacks, resources, true, cont_type_index)?;
+    let func_type = func_type_of_cont_at(body, cont_type_index)?;
+    check_handlers(body, func_type, handlers)?;
+    let reference = type_reference(body, true, cont_type_index)?;
     Ok(Resumed {
         func_type,
         reference,
@@ -75,43 +69,47 @@ fn check_resume_table<'a, A: Refused, R: WasmModuleResources>(
 
 /// `cont.new`: from a function, or null, a continuation that starts it.
 fn cont_new_types<'a, A: Refused, R: WasmModuleResources>(
-    stacks: &Stacks,
-    resources: &'a R,
+    body: &Body<'_, 'a, R>,
     cont_type_index: u32,
 ) -> Result<Operands<'a>, A>
-    ensures { Finds (R.context resources.now) A.tells
+    ensures { Finds (R.context body.now.resources.now) A.tells
         (λ cx. cont_new_row cx cont_type_index)
-        stacks.now.body result }
+        body.now.stacks.now.body result }
 {
-    let cont_type = cont_type_at(stacks, resources, cont_type_index)?;
+    let cont_type = cont_type_at(body, cont_type_index)?;
     let from = ValType::Ref(RefType::concrete(true, cont_type.0));
-    let made = type_reference(stacks, resources, false, cont_type_index)?;
+    let made = type_reference(body, false, cont_type_index)?;
     Ok(Operands::few(Few::One(from), Pushed::One(made)))
 }
 
 /// `cont.bind`: binds the first parameters of a continuation, of which the second type leaves the others.
 fn cont_bind_types<'a, A: Refused, R: WasmModuleResources>(
-    stacks: &Stacks,
-    resources: &'a R,
+    body: &Body<'_, 'a, R>,
     argument_index: u32,
     result_index: u32,
 ) -> Result<Operands<'a>, A>
-    ensures { Finds (R.context resources.now) A.tells
+    ensures { Finds (R.context body.now.resources.now) A.tells
         (λ cx. cont_bind_row cx argument_index result_index)
-        stacks.now.body result }
+        body.now.stacks.now.body result }
 {
-    let argument = func_type_of_cont_at(stacks, resources, argument_index)?;
-    let result = func_type_of_cont_at(stacks, resources, result_index)?;
+    let argument = func_type_of_cont_at(body, argument_index)?;
+    let result = func_type_of_cont_at(body, result_index)?;
     let (params, left) = (argument.params(), result.params());
     if params.len() < left.len() {
         return Err(A::of(Refusal::OtherArguments));
     }
     let (bound, rest) = params.split_at(params.len() - left.len());
-    if !is_func_subtype(resources, rest, argument.results(), left, result.results()) {
+    if !is_func_subtype(
+        body.resources,
+        rest,
+        argument.results(),
+        left,
+        result.results(),
+    ) {
         return Err(A::of(Refusal::OtherContinuations));
     }
-    let from = type_reference(stacks, resources, true, argument_index)?;
-    let made = type_reference(stacks, resources, false, result_index)?;
+    let from = type_reference(body, true, argument_index)?;
+    let made = type_reference(body, false, result_index)?;
     Ok(Operands {
         expected: Expected::Under(bound, from),
         pushed: Pushed::One(made),
@@ -120,15 +118,14 @@ fn cont_bind_types<'a, A: Refused, R: WasmModuleResources>(
 
 /// `suspend`: takes what the tag carries, and gives what is given back for it.
 fn suspend_types<'a, A: Refused, R: WasmModuleResources>(
-    stacks: &Stacks,
-    resources: &'a R,
+    body: &Body<'_, 'a, R>,
     tag_index: u32,
 ) -> Result<Operands<'a>, A>
-    ensures { Finds (R.context resources.now) A.tells
+    ensures { Finds (R.context body.now.resources.now) A.tells
         (λ cx. suspend_row cx tag_index)
-        stacks.now.body result }
+        body.now.stacks.now.body result }
 {
-    let tag_type = tag_at(resources, tag_index)?;
+    let tag_type = tag_at(body.resources, tag_index)?;
     Ok(Operands {
         expected: Expected::Listed(tag_type.params()),
         pushed: Pushed::Listed(tag_type.results()),
@@ -137,18 +134,17 @@ fn suspend_types<'a, A: Refused, R: WasmModuleResources>(
 
 /// `resume`: takes what a continuation still takes, and it above that, and gives what it gives.
 fn resume_types<'a, A: Refused, R: WasmModuleResources>(
-    stacks: &Stacks,
-    resources: &'a R,
+    body: &Body<'_, 'a, R>,
     cont_type_index: u32,
     handlers: &[Handle],
 ) -> Result<Operands<'a>, A>
-    requires { IsValidBody (R.context resources.now) stacks.now.body }
-    ensures { Finds (R.context resources.now) A.tells
-        (λ cx. without_targets (resume_row cx (heads stacks.now.body.present.frames) cont_type_index
+    requires { IsValidBody (R.context body.now.resources.now) body.now.stacks.now.body }
+    ensures { Finds (R.context body.now.resources.now) A.tells
+        (λ cx. without_targets (resume_row cx (heads body.now.stacks.now.body.present.frames) cont_type_index
         handlers.now))
-        stacks.now.body result }
+        body.now.stacks.now.body result }
 {
-    let resumed = check_resume_table(stacks, resources, cont_type_index, handlers)?;
+    let resumed = check_resume_table(body, cont_type_index, handlers)?;
     Ok(Operands {
         expected: Expected::Under(resumed.func_type.params(), resumed.reference),
         pushed: Pushed::Listed(resumed.func_type.results()),
@@ -157,20 +153,18 @@ fn resume_types<'a, A: Refused, R: WasmModuleResources>(
 
 /// `resume_throw`: takes what an exception with the tag carries, and a continuation above that.
 fn resume_throw_types<'a, A: Refused, R: WasmModuleResources>(
-    stacks: &Stacks,
-    resources: &'a R,
+    body: &Body<'_, 'a, R>,
     cont_type_index: u32,
     tag_index: u32,
     handlers: &[Handle],
 ) -> Result<Operands<'a>, A>
-    requires { IsValidBody (R.context resources.now) stacks.now.body }
-    ensures { Finds (R.context resources.now) A.tells
-        (λ cx. without_targets (resume_throw_row cx (heads stacks.now.body.present.frames) cont_type_index
-        tag_index handlers.now))
-        stacks.now.body result }
+    requires { IsValidBody (R.context body.now.resources.now) body.now.stacks.now.body }
+    ensures { Finds (R.context body.now.resources.now) A.tells
+        (λ cx. without_targets (resume_throw_row cx (heads body.now.stacks.now.body.present.frames)
+        cont_type_index tag_index handlers.now)) body.now.stacks.now.body result }
 {
-    let resumed = check_resume_table(stacks, resources, cont_type_index, handlers)?;
-    let thrown = exception_types_at(resources, tag_index)?;
+    let resumed = check_resume_table(body, cont_type_index, handlers)?;
+    let thrown = exception_types_at(body.resources, tag_index)?;
     Ok(Operands {
         expected: Expected::Under(thrown, resumed.reference),
         pushed: Pushed::Listed(resumed.func_type.results()),
@@ -179,18 +173,16 @@ fn resume_throw_types<'a, A: Refused, R: WasmModuleResources>(
 
 /// `resume_throw_ref`: takes a reference to an exception, and a continuation above that.
 fn resume_throw_ref_types<'a, A: Refused, R: WasmModuleResources>(
-    stacks: &Stacks,
-    resources: &'a R,
+    body: &Body<'_, 'a, R>,
     cont_type_index: u32,
     handlers: &[Handle],
 ) -> Result<Operands<'a>, A>
-    requires { IsValidBody (R.context resources.now) stacks.now.body }
-    ensures { Finds (R.context resources.now) A.tells
-        (λ cx. without_targets (resume_throw_ref_row cx (heads stacks.now.body.present.frames) cont_type_index
-        handlers.now))
-        stacks.now.body result }
+    requires { IsValidBody (R.context body.now.resources.now) body.now.stacks.now.body }
+    ensures { Finds (R.context body.now.resources.now) A.tells (λ cx. without_targets (resume_throw_ref_row cx
+        (heads body.now.stacks.now.body.present.frames) cont_type_index handlers.now))
+        body.now.stacks.now.body result }
 {
-    let resumed = check_resume_table(stacks, resources, cont_type_index, handlers)?;
+    let resumed = check_resume_table(body, cont_type_index, handlers)?;
     Ok(Operands {
         expected: Expected::Few(Few::Two(ValType::EXNREF, resumed.reference)),
         pushed: Pushed::Listed(resumed.func_type.results()),
@@ -200,17 +192,16 @@ fn resume_throw_ref_types<'a, A: Refused, R: WasmModuleResources>(
 /// `switch`: takes what a continuation still takes but for the one that leads back, which is made here,
 /// and gives what that takes.
 fn switch_types<'a, A: Refused, R: WasmModuleResources>(
-    stacks: &Stacks,
-    resources: &'a R,
+    body: &Body<'_, 'a, R>,
     cont_type_index: u32,
     tag_index: u32,
 ) -> Result<Operands<'a>, A>
-    ensures { Finds (R.context resources.now) A.tells
+    ensures { Finds (R.context body.now.resources.now) A.tells
         (λ cx. switch_row cx cont_type_index tag_index)
-        stacks.now.body result }
+        body.now.stacks.now.body result }
 {
-    let func_type = func_type_of_cont_at(stacks, resources, cont_type_index)?;
-    let tag_type = tag_at(resources, tag_index)?;
+    let func_type = func_type_of_cont_at(body, cont_type_index)?;
+    let tag_type = tag_at(body.resources, tag_index)?;
     if tag_type.params().len() != 0 {
         return Err(A::of(Refusal::TagWithParameters));
     }
@@ -220,14 +211,14 @@ fn switch_types<'a, A: Refused, R: WasmModuleResources>(
     if !is_concrete_reference(*last) {
         return Err(A::of(Refusal::NoContinuationReference(*last)));
     }
-    let Some(other) = referenced_continuation(resources, *last) else {
+    let Some(other) = referenced_continuation(body.resources, *last) else {
         return Err(A::of(Refusal::NoContinuation));
     };
     let (pushed, back) = (tag_type.results(), func_type.results());
-    if !is_func_subtype(resources, pushed, pushed, back, other.results()) {
+    if !is_func_subtype(body.resources, pushed, pushed, back, other.results()) {
         return Err(A::of(Refusal::OtherContinuations));
     }
-    let from = type_reference(stacks, resources, true, cont_type_index)?;
+    let from = type_reference(body, true, cont_type_index)?;
     Ok(Operands {
         expected: Expected::Under(others, from),
         pushed: Pushed::Listed(other.params()),
@@ -236,59 +227,51 @@ fn switch_types<'a, A: Refused, R: WasmModuleResources>(
 
 /// What an operator on continuations takes and gives, by the types, the tags and the labels that it names.
 fn continuation_types<'a, A: Refused, R: WasmModuleResources>(
-    stacks: &Stacks,
-    resources: &'a R,
+    body: &Body<'_, 'a, R>,
     op: ContinuationOp<'_>,
 ) -> Result<Operands<'a>, A>
-    requires { IsValidBody (R.context resources.now) stacks.now.body }
-    ensures { Finds (R.context resources.now) A.tells
-        (λ cx. without_targets (continuation_row cx (heads stacks.now.body.present.frames) op.entry))
-        stacks.now.body result }
+    requires { IsValidBody (R.context body.now.resources.now) body.now.stacks.now.body }
+    ensures { Finds (R.context body.now.resources.now) A.tells
+        (λ cx. without_targets (continuation_row cx (heads body.now.stacks.now.body.present.frames) op.entry))
+        body.now.stacks.now.body result }
 {
     match op {
-        ContinuationOp::ContNew(index) => cont_new_types(stacks, resources, index),
+        ContinuationOp::ContNew(index) => cont_new_types(body, index),
         ContinuationOp::ContBind {
             argument_index,
             result_index,
-        } => cont_bind_types(stacks, resources, argument_index, result_index),
-        ContinuationOp::Suspend(tag) => suspend_types(stacks, resources, tag),
+        } => cont_bind_types(body, argument_index, result_index),
+        ContinuationOp::Suspend(tag) => suspend_types(body, tag),
         ContinuationOp::Resume {
             cont_type_index,
             resume_table,
-        } => resume_types(stacks, resources, cont_type_index, resume_table.handlers),
+        } => resume_types(body, cont_type_index, resume_table.handlers),
         ContinuationOp::ResumeThrow {
             cont_type_index,
             tag_index,
             resume_table,
-        } => resume_throw_types(
-            stacks,
-            resources,
-            cont_type_index,
-            tag_index,
-            resume_table.handlers,
-        ),
+        } => resume_throw_types(body, cont_type_index, tag_index, resume_table.handlers),
         ContinuationOp::ResumeThrowRef {
             cont_type_index,
             resume_table,
-        } => resume_throw_ref_types(stacks, resources, cont_type_index, resume_table.handlers),
+        } => resume_throw_ref_types(body, cont_type_index, resume_table.handlers),
         ContinuationOp::Switch {
             cont_type_index,
             tag_index,
-        } => switch_types(stacks, resources, cont_type_index, tag_index),
+        } => switch_types(body, cont_type_index, tag_index),
     }
 }
 
 /// An operator on continuations, its gate aside.
 #[inline(never)]
 pub fn continuation_operator<A: Refused, R: WasmModuleResources>(
-    stacks: &mut Stacks,
-    resources: &R,
+    body: Body<'_, '_, R>,
     op: ContinuationOp<'_>,
 ) -> Result<(), A>
-    requires { MayVisit (R.context resources.now) stacks.old }
-    ensures { Moves (R.context resources.now) A.tells
-        (λ cx. staying_operator (λ hs. continuation_row cx hs op.entry)) stacks.old result stacks.new }
+    requires { MayBegin R.context body }
+    ensures { Makes R.context A.tells (λ cx. staying_operator (λ hs. continuation_row cx hs op.entry))
+        body.entry result body.exit }
 {
-    let found = continuation_types(stacks, resources, op)?;
-    exchange_operands(stacks, resources, found)
+    let found = continuation_types(&body, op)?;
+    exchange_operands(body, found)
 }

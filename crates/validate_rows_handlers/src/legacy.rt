@@ -5,13 +5,13 @@ ghost use Rattle.std.specs.Option.{ForSome};
 ghost use Rattle.validation_rules.specs.Exceptions.{exception_types, catch_operator, delegate_operator};
 ghost use Rattle.validation_rules.specs.Operators.{delimiter_operator};
 ghost use Rattle.validation_rules.specs.Rows.{BeginsCatch, catch_kind, may_catch, is_try};
-ghost use Rattle.validate_stacks.specs.Moves.{Moves};
+ghost use Rattle.validate_stacks.specs.Bodies.{MayBegin, Makes};
 ghost use Rattle.validate_stacks.specs.Steps.{body_with_frame, body_without_frame, frame_at, innermost_operands};
-ghost use Rattle.validate_stacks.specs.Visits.{step_body, MayVisit};
+ghost use Rattle.validate_stacks.specs.Visits.{step_body};
 
 use validate_resources::WasmModuleResources;
 use validate_shapes::tags::exception_types_at;
-use validate_stacks::Stacks;
+use validate_stacks::Body;
 use validate_stacks::blocks::results;
 use validate_types::{Refusal, Refused};
 use validate_visit::{BlockType, FrameKind};
@@ -19,53 +19,51 @@ use validate_visit::{BlockType, FrameKind};
 /// `catch`: closes a part of a `try`, which has to have exactly its results, and begins one with what an
 /// exception with this tag carries. It refuses after a frame of another kind, and a tag that is none.
 pub fn catch<A: Refused, R: WasmModuleResources>(
-    stacks: &mut Stacks,
-    resources: &R,
+    body: Body<'_, '_, R>,
     tag_index: u32,
 ) -> Result<(), A>
-    requires { MayVisit (R.context resources.now) stacks.old }
-    ensures { Moves (R.context resources.now) A.tells
-        (λ cx. catch_operator (exception_types cx.of_module tag_index)) stacks.old result stacks.new }
+    requires { MayBegin R.context body }
+    ensures { Makes R.context A.tells (λ cx. catch_operator (exception_types cx.of_module tag_index))
+        body.entry result body.exit }
 {
-    let (popped, block_type) = find_part(stacks, resources, Refusal::CatchOutsideTry)?;
-    let types = exception_types_at(resources, tag_index)?;
-    stacks.reopen_with(popped, FrameKind::LegacyCatch, block_type, types)
+    let (popped, block_type) = find_part(&body, Refusal::CatchOutsideTry)?;
+    let types = exception_types_at(body.resources, tag_index)?;
+    body.stacks
+        .reopen_with(popped, FrameKind::LegacyCatch, block_type, types)
 }
 
 /// `catch_all`: closes a part of a `try`, which has to have exactly its results, and begins one with
 /// nothing. It refuses after a frame of another kind.
-pub fn catch_all<A: Refused, R: WasmModuleResources>(
-    stacks: &mut Stacks,
-    resources: &R,
-) -> Result<(), A>
-    requires { MayVisit (R.context resources.now) stacks.old }
-    ensures { Moves (R.context resources.now) A.tells (λ cx. delimiter_operator (BeginsCatch true []))
-        stacks.old result stacks.new }
+pub fn catch_all<A: Refused, R: WasmModuleResources>(body: Body<'_, '_, R>) -> Result<(), A>
+    requires { MayBegin R.context body }
+    ensures { Makes R.context A.tells (λ cx. delimiter_operator (BeginsCatch true [])) body.entry
+        result body.exit }
 {
-    let (popped, block_type) = find_part(stacks, resources, Refusal::CatchAllOutsideTry)?;
-    stacks.reopen_with(popped, FrameKind::LegacyCatchAll, block_type, &[])
+    let (popped, block_type) = find_part(&body, Refusal::CatchAllOutsideTry)?;
+    body.stacks
+        .reopen_with(popped, FrameKind::LegacyCatchAll, block_type, &[])
 }
 
 /// How many own operands the innermost frame has, where they are its results, and its block type. It gives this refusal where
 /// no `catch` may stand after that frame.
 fn find_part<A: Refused, R: WasmModuleResources>(
-    stacks: &Stacks,
-    resources: &R,
+    body: &Body<'_, '_, R>,
     outside: Refusal,
 ) -> Result<(usize, BlockType), A>
-    requires { MayVisit (R.context resources.now) stacks.now }
-    ensures own { IfOk result (λ part. part.0 ≡ length (innermost_operands stacks.now.body.present.frames)) }
-    ensures block { IfOk result (λ part. ForSome (frame_at stacks.now.body 0) (λ f. f.block_type ≡ part.1)) }
-    ensures begins { IfOk result (λ part. (all : Bool) → step_body (R.context resources.now)
-        (λ cx. delimiter_operator (BeginsCatch all [])) stacks.now.body
-        ≡ Some (body_with_frame (catch_kind all) part.1 (body_without_frame stacks.now.body))) }
-    ensures refused { OnErr result ((all : Bool) → step_body (R.context resources.now)
-        (λ cx. delimiter_operator (BeginsCatch all [])) stacks.now.body ≡ None) }
+    requires { MayBegin R.context body.now }
+    ensures own { IfOk result (λ part. part.0 ≡ length (innermost_operands body.now.stacks.now.body.present.frames)) }
+    ensures block { IfOk result (λ part. ForSome (frame_at body.now.stacks.now.body 0)
+        (λ f. f.block_type ≡ part.1)) }
+    ensures begins { IfOk result (λ part. (all : Bool) → step_body (R.context body.now.resources.now)
+        (λ cx. delimiter_operator (BeginsCatch all [])) body.now.stacks.now.body
+        ≡ Some (body_with_frame (catch_kind all) part.1 (body_without_frame body.now.stacks.now.body))) }
+    ensures refused { OnErr result ((all : Bool) → step_body (R.context body.now.resources.now)
+        (λ cx. delimiter_operator (BeginsCatch all [])) body.now.stacks.now.body ≡ None) }
 {
-    let Some(frame) = stacks.get_frame(0) else {
+    let Some(frame) = body.stacks.get_frame(0) else {
         unreachable!()
     };
-    let popped = stacks.find_results(resources, results(resources, &frame.block_type))?;
+    let popped = body.find_results(results(body.resources, &frame.block_type))?;
     if !may_catch(frame.kind) {
         return Err(A::of(outside));
     }
@@ -83,27 +81,25 @@ fn may_catch(kind: FrameKind) -> bool
 /// next outer frame. The label is counted outside the frame that it closes, and has to exist. It refuses
 /// after a frame of another kind.
 pub fn delegate<A: Refused, R: WasmModuleResources>(
-    stacks: &mut Stacks,
-    resources: &R,
+    body: Body<'_, '_, R>,
     relative_depth: u32,
 ) -> Result<(), A>
-    requires { MayVisit (R.context resources.now) stacks.old }
-    ensures { Moves (R.context resources.now) A.tells (λ cx. delegate_operator relative_depth) stacks.old
-        result stacks.new }
+    requires { MayBegin R.context body }
+    ensures { Makes R.context A.tells (λ cx. delegate_operator relative_depth) body.entry result body.exit }
 {
-    let Some(frame) = stacks.get_frame(0) else {
+    let Some(frame) = body.stacks.get_frame(0) else {
         unreachable!()
     };
     let (kind, block_type) = (frame.kind, frame.block_type);
-    let results = results(resources, &block_type);
-    let popped = stacks.find_results(resources, results)?;
+    let results = results(body.resources, &block_type);
+    let popped = body.find_results(results)?;
     if !is_try(kind) {
         return Err(A::of(Refusal::DelegateOutsideTry));
     }
-    let Some(_) = stacks.get_frame(relative_depth as usize + 1) else {
+    let Some(_) = body.stacks.get_frame(relative_depth as usize + 1) else {
         return Err(A::of(Refusal::UnknownLabel));
     };
-    stacks.close(popped, results)
+    body.stacks.close(popped, results)
 }
 
 /// Whether it is the body of a `try`.

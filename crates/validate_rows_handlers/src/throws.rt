@@ -4,69 +4,63 @@
 ghost use Rattle.std.specs.Prelude.{◌≡◌, None, Some, true, OnErr};
 ghost use Rattle.validation_rules.specs.Exceptions.{throw_row, throw_ref_row, rethrow_row, is_catch_part};
 ghost use Rattle.validation_rules.specs.Operators.{row_operator, staying_operator};
-ghost use Rattle.validate_stacks.specs.Moves.{Moves};
-ghost use Rattle.validate_stacks.specs.Visits.{step_body, MayVisit};
+ghost use Rattle.validate_stacks.specs.Bodies.{MayBegin, Makes};
+ghost use Rattle.validate_stacks.specs.Visits.{step_body};
 
 use validate_resources::WasmModuleResources;
 use validate_shapes::plain::ending;
 use validate_shapes::tags::exception_types_at;
-use validate_stacks::Stacks;
+use validate_stacks::Body;
 use validate_types::{Refusal, Refused, ValType};
 use validate_visit::FrameKind;
 
 /// `throw`: what an exception with this tag carries, and the live part of the frame ends. Where no
 /// attempt is pending it is refused only where its row doesn't hold.
 pub fn throw<A: Refused, R: WasmModuleResources>(
-    stacks: &mut Stacks,
-    resources: &R,
+    body: Body<'_, '_, R>,
     tag_index: u32,
 ) -> Result<(), A>
-    requires { MayVisit (R.context resources.now) stacks.old }
-    ensures row { Moves (R.context resources.now) A.tells (λ cx. row_operator (throw_row cx tag_index))
-        stacks.old result stacks.new }
-    ensures idle { stacks.old.body.undone ≡ None
-        → OnErr result (step_body (R.context resources.now) (λ cx. row_operator (throw_row cx tag_index))
-        stacks.old.body ≡ None) }
+    requires { MayBegin R.context body }
+    ensures row { Makes R.context A.tells (λ cx. row_operator (throw_row cx tag_index)) body.entry
+        result body.exit }
+    ensures idle { body.entry.stacks.now.body.undone ≡ None
+        → OnErr result (step_body (R.context body.entry.resources.now)
+        (λ cx. row_operator (throw_row cx tag_index)) body.entry.stacks.now.body ≡ None) }
 {
-    let types = exception_types_at(resources, tag_index)?;
-    ending(stacks, resources, types)
+    let types = exception_types_at(body.resources, tag_index)?;
+    ending(body, types)
 }
 
 /// `throw_ref`: a reference to an exception, or null, and the live part of the frame ends. Where no
 /// attempt is pending it is refused only where its row doesn't hold.
-pub fn throw_ref<A: Refused, R: WasmModuleResources>(
-    stacks: &mut Stacks,
-    resources: &R,
-) -> Result<(), A>
-    requires { MayVisit (R.context resources.now) stacks.old }
-    ensures row { Moves (R.context resources.now) A.tells (λ cx. row_operator throw_ref_row)
-        stacks.old result stacks.new }
-    ensures idle { stacks.old.body.undone ≡ None
-        → OnErr result (step_body (R.context resources.now) (λ cx. row_operator throw_ref_row)
-        stacks.old.body ≡ None) }
+pub fn throw_ref<A: Refused, R: WasmModuleResources>(body: Body<'_, '_, R>) -> Result<(), A>
+    requires { MayBegin R.context body }
+    ensures row { Makes R.context A.tells (λ cx. row_operator throw_ref_row) body.entry result body.exit }
+    ensures idle { body.entry.stacks.now.body.undone ≡ None
+        → OnErr result (step_body (R.context body.entry.resources.now) (λ cx. row_operator throw_ref_row)
+        body.entry.stacks.now.body ≡ None) }
 {
-    ending(stacks, resources, &[ValType::EXNREF])
+    ending(body, &[ValType::EXNREF])
 }
 
 /// `rethrow`: of a part that caught an exception; the live part of the frame ends. Where no attempt
 /// is pending it is refused only where its row doesn't hold.
 pub fn rethrow<A: Refused, R: WasmModuleResources>(
-    stacks: &mut Stacks,
-    resources: &R,
+    body: Body<'_, '_, R>,
     relative_depth: u32,
 ) -> Result<(), A>
-    requires { MayVisit (R.context resources.now) stacks.old }
-    ensures row { Moves (R.context resources.now) A.tells (λ cx. staying_operator (λ hs. rethrow_row hs relative_depth))
-        stacks.old result stacks.new }
-    ensures idle { stacks.old.body.undone ≡ None
-        → OnErr result (step_body (R.context resources.now)
-        (λ cx. staying_operator (λ hs. rethrow_row hs relative_depth)) stacks.old.body ≡ None) }
+    requires { MayBegin R.context body }
+    ensures row { Makes R.context A.tells (λ cx. staying_operator (λ hs. rethrow_row hs relative_depth))
+        body.entry result body.exit }
+    ensures idle { body.entry.stacks.now.body.undone ≡ None
+        → OnErr result (step_body (R.context body.entry.resources.now)
+        (λ cx. staying_operator (λ hs. rethrow_row hs relative_depth)) body.entry.stacks.now.body ≡ None) }
 {
-    let (_, kind) = stacks.find_label(relative_depth)?;
+    let (_, kind) = body.stacks.find_label(relative_depth)?;
     if !is_catch_part(kind) {
         return Err(A::of(Refusal::RethrowOutsideCatch));
     }
-    ending(stacks, resources, &[])
+    ending(body, &[])
 }
 
 /// Whether it is a part that caught an exception.

@@ -6,13 +6,13 @@ ghost use Rattle.validate_resources.specs.Context.{Valid, is_address_type};
 ghost use Rattle.validate_types.specs.declared.types.ValType.TheVariants.{I32};
 ghost use Rattle.validate_visit.specs.declared.memory.MemArgTarget.TheVariants.{Memory, Array};
 ghost use Rattle.validation_rules.specs.Access.{address_types_for, memory_address_types, target_address_types, atomic_address_types};
-ghost use Rattle.validate_stacks.specs.State.{body_context};
 ghost use Rattle.validate_shapes.specs.Accesses.{may_access_places};
+ghost use Rattle.validate_stacks.specs.Bodies.{context_of};
 
 use crate::aggregates::{array_field_at, check_mutable_array, type_reference};
 use crate::memories::check_memory_index;
 use validate_resources::WasmModuleResources;
-use validate_stacks::Stacks;
+use validate_stacks::Body;
 use validate_types::{FieldType, Refusal, Refused, ValType};
 use validate_visit::{MemArg, MemArgTarget};
 
@@ -67,32 +67,31 @@ fn check_places<A: Refused>(access: AccessKind, places: FieldType) -> Result<(),
 #[cold]
 #[inline(never)]
 pub fn check_array_access<A: Refused, R: WasmModuleResources>(
-    stacks: &Stacks,
-    resources: &R,
+    body: &Body<'_, '_, R>,
     access: AccessKind,
     memarg: MemArg,
     type_index: u32,
 ) -> Result<ValType, A>
     ensures found { IfOk result (λ array. address_types_for memarg
-        (target_address_types (body_context (R.context resources.now) stacks.now.body)
-        (may_access_places access) (Array type_index)) ≡ Some (array ∷ I32 ∷ [])) }
-    ensures valid { IfOk result (λ array. Valid (R.context resources.now) array) }
+        (target_address_types (context_of R.context body.now) (may_access_places access) (Array type_index)) ≡
+        Some (array ∷ I32 ∷ [])) }
+    ensures valid { IfOk result (λ array. Valid (R.context body.now.resources.now) array) }
     ensures refused { IfErr result (λ e. A.tells e → address_types_for memarg
-        (target_address_types (body_context (R.context resources.now) stacks.now.body)
-        (may_access_places access) (Array type_index)) ≡ None) }
+        (target_address_types (context_of R.context body.now) (may_access_places access)
+        (Array type_index)) ≡ None) }
 {
     if memarg.align > memarg.max_align {
         return Err(A::of(Refusal::AlignedMore));
     }
-    if !stacks.features().multibyte_array_access() {
+    if !body.stacks.features().multibyte_array_access() {
         return Err(A::of(Refusal::MultibyteArraysOff));
     }
-    let places = array_field_at(stacks, resources, type_index)?;
+    let places = array_field_at(body, type_index)?;
     check_places(access, places)?;
     if memarg.offset > u64::from(u32::MAX) {
         return Err(A::of(Refusal::OffsetBeyond));
     }
-    type_reference(stacks, resources, true, type_index)
+    type_reference(body, true, type_index)
 }
 
 /// The type of the address of an atomic access: it accesses a memory, its alignment is the natural one,

@@ -13,12 +13,12 @@ ghost use Rattle.validation_rules.specs.Exact.{declared_heap};
 ghost use Rattle.validation_rules.specs.Exact as exact_rule;
 ghost use Rattle.validation_rules.specs.Indirect as indirect_rule;
 ghost use Rattle.validation_rules.specs.Structs.{struct_type, struct_fields, struct_field, field_value};
-ghost use Rattle.validate_stacks.specs.State.{body_context};
+ghost use Rattle.validate_stacks.specs.Bodies.{context_of};
 
 use crate::canonical::heap_reference;
 use validate_resources::WasmModuleResources;
 use validate_resources::uses::laws;
-use validate_stacks::Stacks;
+use validate_stacks::Body;
 use validate_types::{
     CompositeInnerType, FieldType, HeapType, PackedIndex, Packing, Refusal, Refused, StructType,
     SubType, UnpackedIndex, ValType,
@@ -53,24 +53,21 @@ fn element_of(sub_type: &SubType) -> Option<FieldType>
 /// and in a shared function one that isn't shared.
 #[inline(always)]
 pub fn struct_type_at<'a, A: Refused, R: WasmModuleResources>(
-    stacks: &Stacks,
-    resources: &'a R,
+    body: &Body<'_, 'a, R>,
     type_index: u32,
 ) -> Result<&'a StructType, A>
-    ensures found { IfOk result (λ s. struct_type (body_context (R.context resources.now) stacks.now.body)
-        type_index ≡ Some s.now) }
-    ensures valid { IfOk result (λ s. AllByRecursion (Valid (R.context resources.now))
+    ensures found { IfOk result (λ s. struct_type (context_of R.context body.now) type_index ≡ Some s.now) }
+    ensures valid { IfOk result (λ s. AllByRecursion (Valid (R.context body.now.resources.now))
         (unpacked_fields s.now)) }
-    ensures refused { OnErr result (struct_type (body_context (R.context resources.now) stacks.now.body)
-        type_index ≡ None) }
+    ensures refused { OnErr result (struct_type (context_of R.context body.now) type_index ≡ None) }
 {
-    let Some(sub_type) = resources.sub_type_at(type_index) else {
+    let Some(sub_type) = body.resources.sub_type_at(type_index) else {
         return Err(A::of(Refusal::UnknownType));
     };
     let Some(struct_type) = struct_type_of(sub_type) else {
         return Err(A::of(Refusal::NoStructType(type_index)));
     };
-    if stacks.is_shared() && !sub_type.composite_type.shared {
+    if body.stacks.is_shared() && !sub_type.composite_type.shared {
         return Err(A::of(Refusal::UnsharedStruct));
     }
     Ok(struct_type)
@@ -79,17 +76,14 @@ pub fn struct_type_at<'a, A: Refused, R: WasmModuleResources>(
 /// A field of a struct type (wasmparser's `struct_field_at`). It refuses a place past the last.
 #[inline(always)]
 pub fn struct_field_at<A: Refused, R: WasmModuleResources>(
-    stacks: &Stacks,
-    resources: &R,
+    body: &Body<'_, '_, R>,
     index: FieldIndex,
 ) -> Result<FieldType, A>
-    ensures found { IfOk result (λ f. struct_field (body_context (R.context resources.now) stacks.now.body)
-        index ≡ Some f) }
-    ensures valid { IfOk result (λ f. Valid (R.context resources.now) (field_value f)) }
-    ensures refused { OnErr result (struct_field (body_context (R.context resources.now) stacks.now.body)
-        index ≡ None) }
+    ensures found { IfOk result (λ f. struct_field (context_of R.context body.now) index ≡ Some f) }
+    ensures valid { IfOk result (λ f. Valid (R.context body.now.resources.now) (field_value f)) }
+    ensures refused { OnErr result (struct_field (context_of R.context body.now) index ≡ None) }
 {
-    let struct_type = struct_type_at(stacks, resources, index.struct_type_index)?;
+    let struct_type = struct_type_at(body, index.struct_type_index)?;
     match field_of(struct_type, index.field_index) {
         Some(field) => Ok(field),
         None => Err(A::of(Refusal::UnknownField)),
@@ -107,23 +101,20 @@ fn field_of(struct_type: &StructType, field_index: u32) -> Option<FieldType>
 /// What each place of the array type at an index holds (wasmparser's `array_type_at`). It refuses as [`struct_type_at`] does.
 #[inline(always)]
 pub fn array_field_at<A: Refused, R: WasmModuleResources>(
-    stacks: &Stacks,
-    resources: &R,
+    body: &Body<'_, '_, R>,
     type_index: u32,
 ) -> Result<FieldType, A>
-    ensures found { IfOk result (λ f. array_type (body_context (R.context resources.now) stacks.now.body)
-        type_index ≡ Some f) }
-    ensures valid { IfOk result (λ f. Valid (R.context resources.now) (field_value f)) }
-    ensures refused { OnErr result (array_type (body_context (R.context resources.now) stacks.now.body)
-        type_index ≡ None) }
+    ensures found { IfOk result (λ f. array_type (context_of R.context body.now) type_index ≡ Some f) }
+    ensures valid { IfOk result (λ f. Valid (R.context body.now.resources.now) (field_value f)) }
+    ensures refused { OnErr result (array_type (context_of R.context body.now) type_index ≡ None) }
 {
-    let Some(sub_type) = resources.sub_type_at(type_index) else {
+    let Some(sub_type) = body.resources.sub_type_at(type_index) else {
         return Err(A::of(Refusal::UnknownType));
     };
     let Some(element) = element_of(sub_type) else {
         return Err(A::of(Refusal::NoArrayType(type_index)));
     };
-    if stacks.is_shared() && !sub_type.composite_type.shared {
+    if body.stacks.is_shared() && !sub_type.composite_type.shared {
         return Err(A::of(Refusal::UnsharedArray));
     }
     Ok(element)
@@ -167,21 +158,18 @@ pub fn packing(sign: Option<Sign>) -> Packing {
 /// A reference, or one that may be null, to the type at this index, which has to be declared.
 #[inline(always)]
 pub fn type_reference<A: Refused, R: WasmModuleResources>(
-    stacks: &Stacks,
-    resources: &R,
+    body: &Body<'_, '_, R>,
     nullable: bool,
     type_index: u32,
 ) -> Result<ValType, A>
-    ensures found { IfOk result (λ t. indirect_rule.type_reference
-        (body_context (R.context resources.now) stacks.now.body) (reference nullable) type_index ≡ Some t) }
-    ensures valid { IfOk result (λ t. Valid (R.context resources.now) t) }
+    ensures found { IfOk result (λ t. indirect_rule.type_reference (context_of R.context body.now)
+        (reference nullable) type_index ≡ Some t) }
+    ensures valid { IfOk result (λ t. Valid (R.context body.now.resources.now) t) }
     ensures refused { IfErr result (λ e. A.tells e → indirect_rule.type_reference
-        (body_context (R.context resources.now) stacks.now.body) (reference nullable) type_index ≡ None) }
+        (context_of R.context body.now) (reference nullable) type_index ≡ None) }
 {
-    // The contract alone reads it.
-    let _stacks = stacks;
     let heap_type = HeapType::Concrete(UnpackedIndex::Module(type_index));
-    heap_reference(resources, nullable, heap_type)
+    heap_reference(body.resources, nullable, heap_type)
 }
 
 /// A type of the module, exact or not.
@@ -200,19 +188,18 @@ pub fn declared_heap(exact: bool, index: UnpackedIndex) -> HeapType
 /// can be (wasmparser's `push_exact_ref_if_available`).
 #[inline(always)]
 pub fn allocated_reference<A: Refused, R: WasmModuleResources>(
-    stacks: &Stacks,
-    resources: &R,
+    body: &Body<'_, '_, R>,
     type_index: u32,
 ) -> Result<ValType, A>
-    ensures found { IfOk result (λ t. exact_rule.allocated_reference
-        (body_context (R.context resources.now) stacks.now.body) type_index ≡ Some t) }
-    ensures valid { IfOk result (λ t. Valid (R.context resources.now) t) }
+    ensures found { IfOk result (λ t. exact_rule.allocated_reference (context_of R.context body.now)
+        type_index ≡ Some t) }
+    ensures valid { IfOk result (λ t. Valid (R.context body.now.resources.now) t) }
     ensures refused { IfErr result (λ e. A.tells e → exact_rule.allocated_reference
-        (body_context (R.context resources.now) stacks.now.body) type_index ≡ None) }
+        (context_of R.context body.now) type_index ≡ None) }
 {
-    let exact = stacks.features().custom_descriptors();
+    let exact = body.stacks.features().custom_descriptors();
     let heap_type = declared_heap(exact, UnpackedIndex::Module(type_index));
-    heap_reference(resources, false, heap_type)
+    heap_reference(body.resources, false, heap_type)
 }
 
 /// The type of the descriptors of the type at this index, if it has one. The type has to be declared.
@@ -221,7 +208,8 @@ pub fn descriptor_at<A: Refused, R: WasmModuleResources>(
     resources: &R,
     type_index: u32,
 ) -> Result<Option<PackedIndex>, A>
-    ensures found { IfOk result (λ d. descriptor_rule.descriptor_at (R.context resources.now) type_index ≡ d) }
+    ensures found { IfOk result (λ d. descriptor_rule.descriptor_at (R.context resources.now)
+        type_index ≡ d) }
     ensures valid { IfOk result (λ d. ForSome d (λ u. is_valid_index (R.context resources.now) u ≡ true)) }
     ensures unknown { OnErr result ((R.context resources.now).type_at type_index ≡ None) }
 {

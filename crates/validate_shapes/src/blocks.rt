@@ -6,14 +6,12 @@ ghost use Rattle.validate_resources.specs.Context.{Valid};
 ghost use Rattle.validate_types.specs.Features.{has, multi_value};
 ghost use Rattle.validation_rules.specs.Operators.{opener, opening_operator, checked_block, is_accessible_func_type};
 ghost use Rattle.validation_rules.specs.Valid.{IsValidBlock};
-ghost use Rattle.validate_stacks.specs.State.{body_context};
-ghost use Rattle.validate_stacks.specs.Moves.{Moves};
-ghost use Rattle.validate_stacks.specs.Visits.{MayVisit};
+ghost use Rattle.validate_stacks.specs.Bodies.{context_of, MayBegin, Makes};
 
 use crate::canonical::canonical_value;
 use validate_resources::WasmModuleResources;
 use validate_resources::kinds::func_type_of;
-use validate_stacks::Stacks;
+use validate_stacks::Body;
 use validate_stacks::blocks::params;
 use validate_types::{Refusal, Refused, ValType};
 use validate_visit::{BlockType, FrameKind};
@@ -21,27 +19,24 @@ use validate_visit::{BlockType, FrameKind};
 /// A function type that a block names: it needs `multi_value`, has to be declared and of functions, and
 /// in a shared function has to be shared.
 fn check_function_type<A: Refused, R: WasmModuleResources>(
-    stacks: &Stacks,
-    resources: &R,
+    body: &Body<'_, '_, R>,
     type_index: u32,
 ) -> Result<(), A>
-    ensures accepted { OnOk result ((has stacks.now.body.features multi_value && is_accessible_func_type
-        (body_context (R.context resources.now) stacks.now.body)
-        ((R.context resources.now).type_at type_index)) ≡ true) }
-    ensures refused { OnErr result ((has stacks.now.body.features multi_value && is_accessible_func_type
-        (body_context (R.context resources.now) stacks.now.body)
-        ((R.context resources.now).type_at type_index)) ≡ false) }
+    ensures accepted { OnOk result ((has body.now.stacks.now.body.features multi_value && is_accessible_func_type
+        (context_of R.context body.now) ((R.context body.now.resources.now).type_at type_index)) ≡ true) }
+    ensures refused { OnErr result ((has body.now.stacks.now.body.features multi_value && is_accessible_func_type
+        (context_of R.context body.now) ((R.context body.now.resources.now).type_at type_index)) ≡ false) }
 {
-    if !stacks.features().multi_value() {
+    if !body.stacks.features().multi_value() {
         return Err(A::of(Refusal::MultiValueOff));
     }
-    let Some(sub_type) = resources.sub_type_at(type_index) else {
+    let Some(sub_type) = body.resources.sub_type_at(type_index) else {
         return Err(A::of(Refusal::UnknownType));
     };
     if func_type_of(sub_type).is_none() {
         return Err(A::of(Refusal::NoFunctionType(type_index)));
     }
-    if stacks.is_shared() && !sub_type.composite_type.shared {
+    if body.stacks.is_shared() && !sub_type.composite_type.shared {
         return Err(A::of(Refusal::UnsharedFunction));
     }
     Ok(())
@@ -53,23 +48,21 @@ fn check_function_type<A: Refused, R: WasmModuleResources>(
 /// unshared one in a shared function.
 #[inline(always)]
 pub fn check_block_type<A: Refused, R: WasmModuleResources>(
-    stacks: &Stacks,
-    resources: &R,
+    body: &Body<'_, '_, R>,
     block_type: BlockType,
 ) -> Result<BlockType, A>
-    ensures checked { IfOk result (λ bt. checked_block
-        (body_context (R.context resources.now) stacks.now.body) block_type ≡ Some bt) }
-    ensures refused { IfErr result (λ e. A.tells e
-        → checked_block (body_context (R.context resources.now) stacks.now.body) block_type ≡ None) }
+    ensures checked { IfOk result (λ bt. checked_block (context_of R.context body.now) block_type ≡ Some bt) }
+    ensures refused { IfErr result (λ e. A.tells e → checked_block (context_of R.context body.now)
+        block_type ≡ None) }
 {
     match block_type {
         BlockType::Empty => Ok(BlockType::Empty),
         BlockType::Val(ty) => {
-            let checked = canonical_value(resources, stacks.features(), ty)?;
+            let checked = canonical_value(body.resources, body.stacks.features(), ty)?;
             Ok(BlockType::Val(checked))
         }
         BlockType::FuncType(index) => {
-            check_function_type(stacks, resources, index)?;
+            check_function_type(body, index)?;
             Ok(BlockType::FuncType(index))
         }
     }
@@ -79,151 +72,139 @@ pub fn check_block_type<A: Refused, R: WasmModuleResources>(
 /// the parameters.
 #[inline(always)]
 fn open_frame<A: Refused, R: WasmModuleResources>(
-    stacks: &mut Stacks,
-    resources: &R,
+    body: Body<'_, '_, R>,
     kind: FrameKind,
     above: &[ValType],
     block_type: BlockType,
 ) -> Result<(), A>
-    requires visit { MayVisit (R.context resources.now) stacks.old }
-    requires above { AllByRecursion (Valid (R.context resources.now)) above.now }
+    requires visit { MayBegin R.context body }
+    requires above { AllByRecursion (Valid (R.context body.resources.now)) above.now }
     requires one_above { length above.now ≤ 1 }
-    requires block { IsValidBlock (R.context resources.now) stacks.old.body.shared block_type }
-    ensures { Moves (R.context resources.now) A.tells (λ cx. opening_operator cx kind above.now block_type) stacks.old
-        result stacks.new }
+    requires block { IsValidBlock (R.context body.resources.now) body.stacks.now.body.shared block_type }
+    ensures { Makes R.context A.tells (λ cx. opening_operator cx kind above.now block_type) body.entry
+        result body.exit }
 {
-    let params = params(resources, &block_type);
-    stacks.find_operands(resources, 0, above)?;
-    stacks.find_operands(resources, above.len(), params)?;
-    let own = stacks.own_len();
+    let params = params(body.resources, &block_type);
+    body.find_operands(0, above)?;
+    body.find_operands(above.len(), params)?;
+    let own = body.stacks.own_len();
     let popped = params.len().saturating_add(above.len()).min(own);
-    stacks.open(popped, kind, block_type, params)
+    body.stacks.open(popped, kind, block_type, params)
 }
 
 /// [`open_frame`] with nothing above the parameters, by a call.
 #[inline(never)]
 fn open_over_any<A: Refused, R: WasmModuleResources>(
-    stacks: &mut Stacks,
-    resources: &R,
+    body: Body<'_, '_, R>,
     kind: FrameKind,
     block_type: BlockType,
 ) -> Result<(), A>
-    requires visit { MayVisit (R.context resources.now) stacks.old }
-    requires block { IsValidBlock (R.context resources.now) stacks.old.body.shared block_type }
-    ensures { Moves (R.context resources.now) A.tells (λ cx. opening_operator cx kind [] block_type) stacks.old
-        result stacks.new }
+    requires visit { MayBegin R.context body }
+    requires block { IsValidBlock (R.context body.resources.now) body.stacks.now.body.shared block_type }
+    ensures { Makes R.context A.tells (λ cx. opening_operator cx kind [] block_type) body.entry
+        result body.exit }
 {
-    open_frame(stacks, resources, kind, &[], block_type)
+    open_frame(body, kind, &[], block_type)
 }
 
 /// [`open_frame`] with nothing above the parameters: most stand there already, known to be of these number or vector types.
 #[inline(always)]
 fn open_over_params<A: Refused, R: WasmModuleResources>(
-    stacks: &mut Stacks,
-    resources: &R,
+    body: Body<'_, '_, R>,
     kind: FrameKind,
     block_type: BlockType,
 ) -> Result<(), A>
-    requires visit { MayVisit (R.context resources.now) stacks.old }
-    requires block { IsValidBlock (R.context resources.now) stacks.old.body.shared block_type }
-    ensures { Moves (R.context resources.now) A.tells (λ cx. opening_operator cx kind [] block_type) stacks.old
-        result stacks.new }
+    requires visit { MayBegin R.context body }
+    requires block { IsValidBlock (R.context body.resources.now) body.stacks.now.body.shared block_type }
+    ensures { Makes R.context A.tells (λ cx. opening_operator cx kind [] block_type) body.entry
+        result body.exit }
 {
-    if stacks.open_over_params_at_once(resources, kind, block_type) {
+    let resources = body.resources;
+    if body
+        .stacks
+        .open_over_params_at_once(resources, kind, block_type)
+    {
         return Ok(());
     }
-    open_over_any(stacks, resources, kind, block_type)
+    open_over_any(body, kind, block_type)
 }
 
 /// [`open_if`] of a block type that isn't empty.
 #[inline(never)]
 fn open_typed_if<A: Refused, R: WasmModuleResources>(
-    stacks: &mut Stacks,
-    resources: &R,
+    body: Body<'_, '_, R>,
     block_type: BlockType,
 ) -> Result<(), A>
-    requires { MayVisit (R.context resources.now) stacks.old }
-    ensures { Moves (R.context resources.now) A.tells (λ cx. opener cx FrameKind.If (ValType.I32 ∷ []) block_type
-        (checked_block cx block_type)) stacks.old result stacks.new }
+    requires { MayBegin R.context body }
+    ensures { Makes R.context A.tells (λ cx. opener cx FrameKind.If (ValType.I32 ∷ []) block_type
+        (checked_block cx block_type)) body.entry result body.exit }
 {
-    let checked = check_block_type(stacks, resources, block_type)?;
-    open_frame(stacks, resources, FrameKind::If, &[ValType::I32], checked)
+    let checked = check_block_type(&body, block_type)?;
+    open_frame(body, FrameKind::If, &[ValType::I32], checked)
 }
 
 /// `if`: `[params i32] -> [results]` of its block type, over a frame with the parameters. A block type without types is
 /// written apart, since nothing is looked up then.
 #[inline(always)]
 pub fn open_if<A: Refused, R: WasmModuleResources>(
-    stacks: &mut Stacks,
-    resources: &R,
+    body: Body<'_, '_, R>,
     block_type: BlockType,
 ) -> Result<(), A>
-    requires { MayVisit (R.context resources.now) stacks.old }
-    ensures { Moves (R.context resources.now) A.tells (λ cx. opener cx FrameKind.If (ValType.I32 ∷ []) block_type
-        (checked_block cx block_type)) stacks.old result stacks.new }
+    requires { MayBegin R.context body }
+    ensures { Makes R.context A.tells (λ cx. opener cx FrameKind.If (ValType.I32 ∷ []) block_type
+        (checked_block cx block_type)) body.entry result body.exit }
 {
     match block_type {
-        BlockType::Empty => open_frame(
-            stacks,
-            resources,
-            FrameKind::If,
-            &[ValType::I32],
-            BlockType::Empty,
-        ),
-        _ => open_typed_if(stacks, resources, block_type),
+        BlockType::Empty => open_frame(body, FrameKind::If, &[ValType::I32], BlockType::Empty),
+        _ => open_typed_if(body, block_type),
     }
 }
 
 /// [`open_block`] with a result of this type.
 #[inline(never)]
 fn open_value_block<A: Refused, R: WasmModuleResources>(
-    stacks: &mut Stacks,
-    resources: &R,
+    body: Body<'_, '_, R>,
     kind: FrameKind,
     ty: ValType,
 ) -> Result<(), A>
-    requires { MayVisit (R.context resources.now) stacks.old }
-    ensures { Moves (R.context resources.now) A.tells (λ cx. opener cx kind [] (BlockType.Val ty)
-        (checked_block cx (BlockType.Val ty))) stacks.old result stacks.new }
+    requires { MayBegin R.context body }
+    ensures { Makes R.context A.tells (λ cx. opener cx kind [] (BlockType.Val ty)
+        (checked_block cx (BlockType.Val ty))) body.entry result body.exit }
 {
-    let checked = check_block_type(stacks, resources, BlockType::Val(ty))?;
-    open_frame(stacks, resources, kind, &[], checked)
+    let checked = check_block_type(&body, BlockType::Val(ty))?;
+    open_frame(body, kind, &[], checked)
 }
 
 /// [`open_block`] of the function type at this index.
 #[inline(never)]
 fn open_function_block<A: Refused, R: WasmModuleResources>(
-    stacks: &mut Stacks,
-    resources: &R,
+    body: Body<'_, '_, R>,
     kind: FrameKind,
     type_index: u32,
 ) -> Result<(), A>
-    requires { MayVisit (R.context resources.now) stacks.old }
-    ensures { Moves (R.context resources.now) A.tells (λ cx. opener cx kind [] (BlockType.FuncType type_index)
-        (checked_block cx (BlockType.FuncType type_index))) stacks.old result stacks.new }
+    requires { MayBegin R.context body }
+    ensures { Makes R.context A.tells (λ cx. opener cx kind [] (BlockType.FuncType type_index)
+        (checked_block cx (BlockType.FuncType type_index))) body.entry result body.exit }
 {
-    let checked = check_block_type(stacks, resources, BlockType::FuncType(type_index))?;
-    open_over_params(stacks, resources, kind, checked)
+    let checked = check_block_type(&body, BlockType::FuncType(type_index))?;
+    open_over_params(body, kind, checked)
 }
 
 /// `block`, `loop` and `try`: `[params] -> [results]` of its block type, over a frame of this kind with the parameters.
 /// The three kinds of block types are written apart, as most have no types, and then nothing is looked up.
 #[inline(always)]
 pub fn open_block<A: Refused, R: WasmModuleResources>(
-    stacks: &mut Stacks,
-    resources: &R,
+    body: Body<'_, '_, R>,
     kind: FrameKind,
     block_type: BlockType,
 ) -> Result<(), A>
-    requires { MayVisit (R.context resources.now) stacks.old }
-    ensures { Moves (R.context resources.now) A.tells (λ cx. opener cx kind [] block_type
-        (checked_block cx block_type)) stacks.old result stacks.new }
+    requires { MayBegin R.context body }
+    ensures { Makes R.context A.tells (λ cx. opener cx kind [] block_type (checked_block cx block_type))
+        body.entry result body.exit }
 {
     match block_type {
-        BlockType::Empty => open_frame(stacks, resources, kind, &[], BlockType::Empty),
-        BlockType::Val(ty) => open_value_block(stacks, resources, kind, ty),
-        BlockType::FuncType(type_index) => {
-            open_function_block(stacks, resources, kind, type_index)
-        }
+        BlockType::Empty => open_frame(body, kind, &[], BlockType::Empty),
+        BlockType::Val(ty) => open_value_block(body, kind, ty),
+        BlockType::FuncType(type_index) => { open_function_block(body, kind, type_index) }
     }
 }

@@ -5,18 +5,14 @@ ghost use Rattle.validate_types.specs.Told.{IsRowRefused};
 ghost use Rattle.validation_rules.specs.Context.{Context};
 ghost use Rattle.validation_rules.specs.Rows.{Operator};
 ghost use Rattle.validate_stacks.specs.Attempts.{Stacked};
-ghost use Rattle.validate_stacks.specs.Moves.{Moves};
-ghost use Rattle.validate_stacks.specs.State.{IsValidBody};
-ghost use Rattle.validate_stacks.specs.Visits.{Meets};
 
 use validate_resources::WasmModuleResources;
-use validate_stacks::Stacks;
+use validate_stacks::Body;
 use validate_types::{Error, Told};
 
 /// What a look-up answers, with the text and the place of a refusal.
 pub fn placed<R: WasmModuleResources, T>(
-    stacks: &Stacks,
-    resources: &R,
+    body: &Body<'_, '_, R>,
     offset: u64,
     answer: Result<T, Told>,
 ) -> Result<T, Error>
@@ -27,6 +23,6 @@ pub fn placed<R: WasmModuleResources, T>(
 {
     match answer {
         Ok(found) => Ok(found),
-        Err(told) => Err(stacks.refusal(resources, told, offset)),
+        Err(told) => Err(body.stacks.refusal(body.resources, told, offset)),
     }
 }

@@ -3,31 +3,28 @@
 ghost use Rattle.std.specs.Prelude.{◌≡◌, None, Some, IfOk, OnErr};
 ghost use Rattle.validate_resources.specs.Context.{Valid};
 ghost use Rattle.validation_rules.specs.Calls.{global_type};
-ghost use Rattle.validate_stacks.specs.State.{body_context};
+ghost use Rattle.validate_stacks.specs.Bodies.{context_of};
 
 use validate_resources::WasmModuleResources;
 use validate_resources::uses::laws;
-use validate_stacks::Stacks;
+use validate_stacks::Body;
 use validate_types::{GlobalType, Refusal, Refused};
 
 /// The type of a global. It refuses one that isn't declared, and in a shared function one that isn't shared.
 #[inline(always)]
 pub fn find_global<A: Refused, R: WasmModuleResources>(
-    stacks: &Stacks,
-    resources: &R,
+    body: &Body<'_, '_, R>,
     global_index: u32,
 ) -> Result<GlobalType, A>
-    ensures found { IfOk result (λ g. global_type (body_context (R.context resources.now) stacks.now.body)
-        global_index ≡ Some g) }
-    ensures valid { IfOk result (λ g. Valid (R.context resources.now) g.content_type) }
-    ensures refused { OnErr result (global_type (body_context (R.context resources.now) stacks.now.body)
-        global_index ≡ None) }
+    ensures found { IfOk result (λ g. global_type (context_of R.context body.now) global_index ≡ Some g) }
+    ensures valid { IfOk result (λ g. Valid (R.context body.now.resources.now) g.content_type) }
+    ensures refused { OnErr result (global_type (context_of R.context body.now) global_index ≡ None) }
 {
-    laws(resources);
-    let Some(global) = resources.global_at(global_index) else {
+    laws(body.resources);
+    let Some(global) = body.resources.global_at(global_index) else {
         return Err(A::of(Refusal::UnknownGlobal));
     };
-    if stacks.is_shared() && !global.shared {
+    if body.stacks.is_shared() && !global.shared {
         return Err(A::of(Refusal::UnsharedGlobal));
     }
     Ok(global)

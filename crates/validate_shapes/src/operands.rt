@@ -6,13 +6,12 @@ ghost use Rattle.validate_resources.specs.Context.{Valid};
 ghost use Rattle.validation_rules.specs.Context.{Context};
 ghost use Rattle.validation_rules.specs.Operators.{plain_row, row_operator};
 ghost use Rattle.validation_rules.specs.Rows.{Row};
-ghost use Rattle.validate_stacks.specs.Moves.{Moves};
-ghost use Rattle.validate_stacks.specs.Visits.{MayVisit};
 ghost use Rattle.validate_shapes.specs.Operands.{expected_types, operands_row, AreValidExpected, AreValidOperands, Finds};
+ghost use Rattle.validate_stacks.specs.Bodies.{MayBegin, Makes};
 
 use crate::plain::plain;
 use validate_resources::WasmModuleResources;
-use validate_stacks::Stacks;
+use validate_stacks::Body;
 use validate_types::{FieldType, Refused, ValType};
 
 /// At most five types.
@@ -83,67 +82,60 @@ impl<'a> Operands<'a> {
 /// `[expected] -> [pushed]`, where what is given lies in a list.
 #[inline(always)]
 fn operands_giving<A: Refused, R: WasmModuleResources>(
-    stacks: &mut Stacks,
-    resources: &R,
+    body: Body<'_, '_, R>,
     expected: Expected<'_>,
     pushed: &[ValType],
 ) -> Result<(), A>
-    requires visit { MayVisit (R.context resources.now) stacks.old }
-    requires expected { AreValidExpected (R.context resources.now) expected }
-    requires pushed { AllByRecursion (Valid (R.context resources.now)) pushed.now }
-    ensures { Moves (R.context resources.now) A.tells
-        (λ cx. row_operator (plain_row (expected_types expected.entry) pushed.now)) stacks.old result stacks.new }
+    requires visit { MayBegin R.context body }
+    requires expected { AreValidExpected (R.context body.resources.now) expected }
+    requires pushed { AllByRecursion (Valid (R.context body.resources.now)) pushed.now }
+    ensures { Makes R.context A.tells (λ cx. row_operator (plain_row (expected_types expected.entry)
+        pushed.now)) body.entry result body.exit }
 {
     match expected {
-        Expected::Few(Few::Zero) => plain(stacks, resources, &[], pushed),
-        Expected::Few(Few::One(a)) => plain(stacks, resources, &[a], pushed),
-        Expected::Few(Few::Two(a, b)) => plain(stacks, resources, &[a, b], pushed),
-        Expected::Few(Few::Three(a, b, c)) => plain(stacks, resources, &[a, b, c], pushed),
-        Expected::Few(Few::Four(a, b, c, d)) => plain(stacks, resources, &[a, b, c, d], pushed),
-        Expected::Few(Few::Five(a, b, c, d, e)) => plain(
-            stacks,
-            resources,
-            &[a, b, c, d, e],
-            pushed,
-        ),
-        Expected::Fields(fields) => stacks.exchange_fields(resources, fields, pushed),
-        Expected::Run(ty, count) => stacks.exchange_run(resources, ty, count, pushed),
-        Expected::Listed(types) => plain(stacks, resources, types, pushed),
-        Expected::Under(types, above) => stacks.exchange_under(resources, types, above, pushed),
+        Expected::Few(Few::Zero) => plain(body, &[], pushed),
+        Expected::Few(Few::One(a)) => plain(body, &[a], pushed),
+        Expected::Few(Few::Two(a, b)) => plain(body, &[a, b], pushed),
+        Expected::Few(Few::Three(a, b, c)) => plain(body, &[a, b, c], pushed),
+        Expected::Few(Few::Four(a, b, c, d)) => plain(body, &[a, b, c, d], pushed),
+        Expected::Few(Few::Five(a, b, c, d, e)) => plain(body, &[a, b, c, d, e], pushed),
+        Expected::Fields(fields) => body.exchange_fields(fields, pushed),
+        Expected::Run(ty, count) => body.exchange_run(ty, count, pushed),
+        Expected::Listed(types) => plain(body, types, pushed),
+        Expected::Under(types, above) => body.exchange_under(types, above, pushed),
     }
 }
 
 /// `[expected] -> [pushed]`. It is inlined, so that of a value that is known nothing lies in memory.
 #[inline(always)]
 pub fn exchange_operands<A: Refused, R: WasmModuleResources>(
-    stacks: &mut Stacks,
-    resources: &R,
+    body: Body<'_, '_, R>,
     operands: Operands<'_>,
 ) -> Result<(), A>
-    requires visit { MayVisit (R.context resources.now) stacks.old }
-    requires operands { AreValidOperands (R.context resources.now) operands }
-    ensures { Moves (R.context resources.now) A.tells (λ cx. row_operator (operands_row operands.entry)) stacks.old
-        result stacks.new }
+    requires visit { MayBegin R.context body }
+    requires operands { AreValidOperands (R.context body.resources.now) operands }
+    ensures { Makes R.context A.tells (λ cx. row_operator (operands_row operands.entry)) body.entry
+        result body.exit }
 {
     match operands.pushed {
-        Pushed::Nothing => operands_giving(stacks, resources, operands.expected, &[]),
-        Pushed::One(ty) => operands_giving(stacks, resources, operands.expected, &[ty]),
-        Pushed::Listed(types) => operands_giving(stacks, resources, operands.expected, types),
+        Pushed::Nothing => operands_giving(body, operands.expected, &[]),
+        Pushed::One(ty) => operands_giving(body, operands.expected, &[ty]),
+        Pushed::Listed(types) => operands_giving(body, operands.expected, types),
     }
 }
 
 /// What a look-up found is taken and given. Where it refused, nothing is changed.
 #[inline(always)]
 pub fn exchange_found<A: Refused, R: WasmModuleResources>(
-    stacks: &mut Stacks,
-    resources: &R,
+    body: Body<'_, '_, R>,
     found: Result<Operands<'_>, A>,
 ) -> Result<(), A>
-    requires visit { MayVisit (R.context resources.now) stacks.old }
-    requires valid { IfOk found (AreValidOperands (R.context resources.now)) }
-    ensures { (row : Context → Row) → Finds (R.context resources.now) A.tells row stacks.old.body found.entry
-        → Moves (R.context resources.now) A.tells (λ cx. row_operator (row cx)) stacks.old result stacks.new }
+    requires visit { MayBegin R.context body }
+    requires valid { IfOk found (AreValidOperands (R.context body.resources.now)) }
+    ensures { (row : Context → Row) → Finds (R.context body.entry.resources.now) A.tells row
+        body.entry.stacks.now.body found.entry → Makes R.context A.tells (λ cx. row_operator (row cx))
+        body.entry result body.exit }
 {
     let operands = found?;
-    exchange_operands(stacks, resources, operands)
+    exchange_operands(body, operands)
 }

@@ -5,32 +5,30 @@ ghost use Rattle.std.specs.Prelude.{◌≡◌, true, None, Some, IfOk, OnErr};
 ghost use Rattle.validate_resources.specs.Context.{Valid, is_address_type};
 ghost use Rattle.validate_types.specs.Types.{address_type_of_table};
 ghost use Rattle.validation_rules.specs.Tables.{table_type};
-ghost use Rattle.validate_stacks.specs.State.{body_context};
+ghost use Rattle.validate_stacks.specs.Bodies.{context_of};
 
 use validate_resources::WasmModuleResources;
 use validate_resources::uses::laws;
-use validate_stacks::Stacks;
+use validate_stacks::Body;
 use validate_types::{RefType, Refusal, Refused, TableType, ValType};
 
 /// The type of a table (wasmparser's `table_type_at`). It refuses one that isn't declared, and in a shared function one that
 /// isn't shared.
 pub fn table_type_at<A: Refused, R: WasmModuleResources>(
-    stacks: &Stacks,
-    resources: &R,
+    body: &Body<'_, '_, R>,
     table: u32,
 ) -> Result<TableType, A>
-    ensures found { IfOk result (λ t. table_type (body_context (R.context resources.now) stacks.now.body)
-        table ≡ Some t) }
-    ensures element { IfOk result (λ t. Valid (R.context resources.now) (ValType.Ref t.element_type)) }
+    ensures found { IfOk result (λ t. table_type (context_of R.context body.now) table ≡ Some t) }
+    ensures element { IfOk result (λ t. Valid (R.context body.now.resources.now)
+        (ValType.Ref t.element_type)) }
     ensures index { IfOk result (λ t. is_address_type (address_type_of_table t) ≡ true) }
-    ensures refused { OnErr result (table_type (body_context (R.context resources.now) stacks.now.body) table
-        ≡ None) }
+    ensures refused { OnErr result (table_type (context_of R.context body.now) table ≡ None) }
 {
-    laws(resources);
-    let Some(ty) = resources.table_at(table) else {
+    laws(body.resources);
+    let Some(ty) = body.resources.table_at(table) else {
         return Err(A::of(Refusal::UnknownTable(table)));
     };
-    if stacks.is_shared() && !ty.shared {
+    if body.stacks.is_shared() && !ty.shared {
         return Err(A::of(Refusal::UnsharedTable));
     }
     Ok(ty)

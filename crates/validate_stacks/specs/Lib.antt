@@ -12,3 +12,4 @@ pub mod Visits
 pub mod AtOnce
 pub mod Changes
 pub mod Moves
+pub mod Bodies

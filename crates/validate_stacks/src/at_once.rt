@@ -22,7 +22,7 @@ use validate_types::{MaybeType, ValType};
 use validate_visit::{BlockType, FrameKind};
 
 impl Stacks {
-    /// [`Stacks::exchange_types`] of number and vector types alone, of which some are expected, where no attempt is
+    /// [`Body::exchange_types`] of number and vector types alone, of which some are expected, where no attempt is
     /// pending: the innermost frame has as many own operands, known to be of these very types, or is dead and has none. False, with
     /// nothing changed, where that isn't so. In live code it makes no call, so it is short where it is inlined.
     #[inline(always)]

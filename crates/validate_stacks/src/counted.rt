@@ -52,7 +52,7 @@ impl Pops {
 }
 
 impl Stacks {
-    /// Pops `n` operands of this type, and ticks for each pop that it tries, also for one that is refused.
+    /// Pops `n` operands of this type, and counts each pop that it tries, also one that is refused.
     /// It takes the time of the innermost frame's own operands at most: below those of a dead frame one
     /// pop passes as any number of them would, and is the last. Memory is wanted as by
     /// [`Stacks::pop_operand`].

@@ -9,42 +9,111 @@ ghost use Rattle.validation_rules.specs.Context.{block_signature};
 ghost use Rattle.validation_rules.specs.Static.{is_local_set, locals_set};
 ghost use Rattle.validate_stacks.specs.AtOnce.{body_dropped};
 ghost use Rattle.validate_stacks.specs.Blocks.{closed_body};
+ghost use Rattle.validate_stacks.specs.Bodies.{context_of};
 ghost use Rattle.validate_stacks.specs.Pops.{has_operands_fitting};
 ghost use Rattle.validate_stacks.specs.State.{IsValidBody, body_context};
 ghost use Rattle.validate_stacks.specs.Steps.{body_without_frame, found_after_pops_in_body, frame_at, innermost_operands, label_at};
 
+use crate::body::Body;
 use crate::pops::unknown_reference;
 use crate::stacks::Stacks;
 use validate_resources::WasmModuleResources;
 use validate_types::{FieldType, MaybeType, Refusal, Refused, ValType};
 use validate_visit::{BlockType, FrameKind};
 
-impl Stacks {
+impl<R: WasmModuleResources> Body<'_, '_, R> {
     /// That pops of these types would pass, the last of the list first, after one other pop or none. It refuses where an
     /// operand isn't found, or doesn't fit. Numbers and vectors are found without a call.
     #[inline(always)]
-    pub fn find_operands<A: Refused, R: WasmModuleResources>(
-        &self,
-        resources: &R,
-        above: usize,
-        expected: &[ValType],
-    ) -> Result<(), A>
+    pub fn find_operands<A: Refused>(&self, above: usize, expected: &[ValType]) -> Result<(), A>
         requires above { above ≤ 1 }
-        requires types { AllByRecursion (Valid (R.context resources.now)) expected.now }
-        requires state { IsValidBody (R.context resources.now) self.now.body }
-        ensures fit { OnOk result (has_operands_fitting (body_context (R.context resources.now) self.now.body)
-            expected.now (body_dropped above self.now.body) ≡ true) }
-        ensures unfit { OnErr result (has_operands_fitting
-            (body_context (R.context resources.now) self.now.body) expected.now
-            (body_dropped above self.now.body) ≡ false) }
+        requires types { AllByRecursion (Valid (R.context self.now.resources.now)) expected.now }
+        requires state { IsValidBody (R.context self.now.resources.now) self.now.stacks.now.body }
+        ensures fit { OnOk result (has_operands_fitting (context_of R.context self.now) expected.now
+            (body_dropped above self.now.stacks.now.body) ≡ true) }
+        ensures unfit { OnErr result (has_operands_fitting (context_of R.context self.now) expected.now
+            (body_dropped above self.now.stacks.now.body) ≡ false) }
     {
-        if self.has_numbers(resources, above, expected) {
+        if self.stacks.has_numbers(self.resources, above, expected) {
             return Ok(());
         }
-        self.find_by_call(resources, above, expected)
+        self.stacks.find_by_call(self.resources, above, expected)
     }
 
-    /// [`Stacks::find_operands`] of any types.
+    /// [`Body::find_operands`] of the types of a list, and of one more on top of them.
+    pub fn find_under<A: Refused>(
+        &self,
+        above: usize,
+        under: &[ValType],
+        top: ValType,
+    ) -> Result<(), A>
+        requires above { above ≤ 1 }
+        requires under { AllByRecursion (Valid (R.context self.now.resources.now)) under.now }
+        requires top { Valid (R.context self.now.resources.now) top }
+        requires state { IsValidBody (R.context self.now.resources.now) self.now.stacks.now.body }
+        ensures fit { OnOk result (has_operands_fitting (context_of R.context self.now)
+            (under.now ++ top ∷ []) (body_dropped above self.now.stacks.now.body) ≡ true) }
+        ensures unfit { OnErr result (has_operands_fitting (context_of R.context self.now)
+            (under.now ++ top ∷ []) (body_dropped above self.now.stacks.now.body) ≡ false) }
+    {
+        let own = self.stacks.own_len();
+        self.stacks.find_among(self.resources, own, above, &[top])?;
+        self.stacks
+            .find_among(self.resources, own, above + 1, under)
+    }
+
+    /// How many own operands the innermost frame has, where they are its results: pops of these types would pass, and leave
+    /// none of them. It refuses where one isn't found, or doesn't fit, or is left over.
+    #[inline(always)]
+    pub fn find_results<A: Refused>(&self, results: &[ValType]) -> Result<usize, A>
+        requires open_frame { self.now.stacks.now.body.present.frames ≢ [] }
+        requires results { ForSome (frame_at self.now.stacks.now.body 0)
+            (λ f. results.now ≡ (block_signature (R.context self.now.resources.now) f.block_type).results) }
+        requires state { IsValidBody (R.context self.now.resources.now) self.now.stacks.now.body }
+        ensures own { IfOk result (λ own. own ≡ length (innermost_operands self.now.stacks.now.body.present.frames)) }
+        ensures closes { OnOk result (closed_body (R.context self.now.resources.now)
+            self.now.stacks.now.body ≡ Some (body_without_frame self.now.stacks.now.body)) }
+        ensures stays { OnErr result (closed_body (R.context self.now.resources.now)
+            self.now.stacks.now.body ≡ None) }
+    {
+        let own = self.stacks.own_len();
+        self.stacks.find_among(self.resources, own, 0, results)?;
+        if own > results.len() {
+            return Err(A::of(Refusal::OperandsLeft));
+        }
+        Ok(own)
+    }
+
+    /// [`Body::find_operands`] of the values of these fields, the last on top.
+    pub fn find_fields<A: Refused>(&self, above: usize, fields: &[FieldType]) -> Result<(), A>
+        requires above { above ≤ 1 }
+        requires types { AllByRecursion (Valid (R.context self.now.resources.now))
+            (unpacked_fields fields.now) }
+        requires state { IsValidBody (R.context self.now.resources.now) self.now.stacks.now.body }
+        ensures fit { OnOk result (has_operands_fitting (context_of R.context self.now)
+            (unpacked_fields fields.now) (body_dropped above self.now.stacks.now.body) ≡ true) }
+        ensures unfit { OnErr result (has_operands_fitting (context_of R.context self.now)
+            (unpacked_fields fields.now) (body_dropped above self.now.stacks.now.body) ≡ false) }
+    {
+        let own = self.stacks.own_len();
+        let mut left = fields.len();
+        while left > 0 {
+            left -= 1;
+            let expected = fields[left].element_type.unpack();
+            let depth = fields.len() - 1 - left + above;
+            if !self
+                .stacks
+                .is_fitting_at(self.resources, own, depth, &expected)
+            {
+                return Err(self.stacks.misfit(self.resources, depth, &expected));
+            }
+        }
+        Ok(())
+    }
+}
+
+impl Stacks {
+    /// [`Body::find_operands`] of any types.
     #[inline(never)]
     fn find_by_call<A: Refused, R: WasmModuleResources>(
         &self,
@@ -90,7 +159,7 @@ impl Stacks {
         true
     }
 
-    /// [`Stacks::find_operands`], where the innermost frame has so many own operands.
+    /// [`Body::find_operands`], where the innermost frame has so many own operands.
     #[inline(always)]
     pub(crate) fn find_among<A: Refused, R: WasmModuleResources>(
         &self,
@@ -120,84 +189,7 @@ impl Stacks {
         Ok(())
     }
 
-    /// [`Stacks::find_operands`] of the types of a list, and of one more on top of them.
-    pub fn find_under<A: Refused, R: WasmModuleResources>(
-        &self,
-        resources: &R,
-        above: usize,
-        under: &[ValType],
-        top: ValType,
-    ) -> Result<(), A>
-        requires above { above ≤ 1 }
-        requires under { AllByRecursion (Valid (R.context resources.now)) under.now }
-        requires top { Valid (R.context resources.now) top }
-        requires state { IsValidBody (R.context resources.now) self.now.body }
-        ensures fit { OnOk result (has_operands_fitting (body_context (R.context resources.now) self.now.body)
-            (under.now ++ top ∷ []) (body_dropped above self.now.body) ≡ true) }
-        ensures unfit { OnErr result (has_operands_fitting
-            (body_context (R.context resources.now) self.now.body) (under.now ++ top ∷ [])
-            (body_dropped above self.now.body) ≡ false) }
-    {
-        let own = self.own_len();
-        self.find_among(resources, own, above, &[top])?;
-        self.find_among(resources, own, above + 1, under)
-    }
-
-    /// How many own operands the innermost frame has, where they are its results: pops of these types would pass, and leave
-    /// none of them. It refuses where one isn't found, or doesn't fit, or is left over.
-    #[inline(always)]
-    pub fn find_results<A: Refused, R: WasmModuleResources>(
-        &self,
-        resources: &R,
-        results: &[ValType],
-    ) -> Result<usize, A>
-        requires open_frame { self.now.body.present.frames ≢ [] }
-        requires results { ForSome (frame_at self.now.body 0)
-            (λ f. results.now ≡ (block_signature (R.context resources.now) f.block_type).results) }
-        requires state { IsValidBody (R.context resources.now) self.now.body }
-        ensures own { IfOk result (λ own. own ≡ length (innermost_operands self.now.body.present.frames)) }
-        ensures closes { OnOk result (closed_body (R.context resources.now) self.now.body
-            ≡ Some (body_without_frame self.now.body)) }
-        ensures stays { OnErr result (closed_body (R.context resources.now) self.now.body ≡ None) }
-    {
-        let own = self.own_len();
-        self.find_among(resources, own, 0, results)?;
-        if own > results.len() {
-            return Err(A::of(Refusal::OperandsLeft));
-        }
-        Ok(own)
-    }
-
-    /// [`Stacks::find_operands`] of the values of these fields, the last on top.
-    pub fn find_fields<A: Refused, R: WasmModuleResources>(
-        &self,
-        resources: &R,
-        above: usize,
-        fields: &[FieldType],
-    ) -> Result<(), A>
-        requires above { above ≤ 1 }
-        requires types { AllByRecursion (Valid (R.context resources.now)) (unpacked_fields fields.now) }
-        requires state { IsValidBody (R.context resources.now) self.now.body }
-        ensures fit { OnOk result (has_operands_fitting (body_context (R.context resources.now) self.now.body)
-            (unpacked_fields fields.now) (body_dropped above self.now.body) ≡ true) }
-        ensures unfit { OnErr result (has_operands_fitting
-            (body_context (R.context resources.now) self.now.body) (unpacked_fields fields.now)
-            (body_dropped above self.now.body) ≡ false) }
-    {
-        let own = self.own_len();
-        let mut left = fields.len();
-        while left > 0 {
-            left -= 1;
-            let expected = fields[left].element_type.unpack();
-            let depth = fields.len() - 1 - left + above;
-            if !self.is_fitting_at(resources, own, depth, &expected) {
-                return Err(self.misfit(resources, depth, &expected));
-            }
-        }
-        Ok(())
-    }
-
-    /// [`Stacks::find_operands`] of so many operands of one type, where the innermost frame has so many own operands. Below
+    /// [`Body::find_operands`] of so many operands of one type, where the innermost frame has so many own operands. Below
     /// those each pop finds the same, so one is looked for there.
     pub(crate) fn find_run<A: Refused, R: WasmModuleResources>(
         &self,

@@ -5,6 +5,7 @@
 mod allocations;
 mod at_once;
 pub mod blocks;
+mod body;
 mod change;
 mod counted;
 mod either;
@@ -18,6 +19,7 @@ mod refusals;
 mod stacks;
 
 pub use crate::allocations::OperatorValidatorAllocations;
+pub use crate::body::Body;
 pub use crate::change::Change;
 pub use crate::counted::Pops;
 pub use crate::either::Either;

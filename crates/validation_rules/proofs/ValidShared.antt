@@ -16,7 +16,7 @@ use Rattle.validation_rules.specs.Calls.{global_type}
 use Rattle.validation_rules.specs.Context.{ValType, I32, Context}
 use Rattle.validation_rules.specs.Indirect.{type_reference}
 use Rattle.validation_rules.specs.Operators.{row_operator}
-use Rattle.validation_rules.specs.Shared.{given_by, place_row, held_by_global, held_by_table, shared_row}
+use Rattle.validation_rules.specs.Shared.{pushed_by, place_row, held_by_global, held_by_table, shared_row}
 use Rattle.validation_rules.specs.Structs.{struct_field, field_value}
 use Rattle.validation_rules.specs.Tables.{table_type}
 use Rattle.validation_rules.proofs.PushesValid.{PushesValid}
@@ -24,7 +24,7 @@ use Rattle.validation_rules.proofs.Valid.{plain_valid, by_lookup_valid, lookups_
 use Rattle.validation_rules.proofs.ValidAggregates.{field_valid, element_valid}
 
 module _ (cx : Context) (laws : IsLawful cx.of_module) where
-  given_valid : (access : FieldAccess) (t : ValType) → Valid cx.of_module t → AllByRecursion (Valid cx.of_module) (given_by access t)
+  given_valid : (access : FieldAccess) (t : ValType) → Valid cx.of_module t → AllByRecursion (Valid cx.of_module) (pushed_by access t)
   given_valid (Whole (Value Set)) t v = tt
   given_valid (Whole (Value Get)) t v = (v, tt)
   given_valid (Whole (Value Xchg)) t v = (v, tt)
@@ -34,7 +34,7 @@ module _ (cx : Context) (laws : IsLawful cx.of_module) where
 
   -- where what is held is valid, so is what is given
   place_valid : (shared : Bool) (access : FieldAccess) (place : List ValType) (f : FieldType) → Valid cx.of_module (field_value f) → PushesValid cx (row_operator (place_row cx shared access place f))
-  place_valid shared access place f v = plain_valid cx laws _ _ _ _ (given_by access (field_value f)) _ (λ p. given_valid access (field_value f) v)
+  place_valid shared access place f v = plain_valid cx laws _ _ _ _ (pushed_by access (field_value f)) _ (λ p. given_valid access (field_value f) v)
 
   pub shared_valid : (op : SharedOp) → PushesValid cx (row_operator (shared_row cx op))
   shared_valid (Global access ordering i) =

@@ -76,9 +76,9 @@ expected_by (Whole (Rmw op)) t = t ∷ []
 expected_by (GetPacked sign) t = []
 
 -- what it gives: the value that was held
-abbrev pub given_by : FieldAccess → ValType → List ValType
-given_by (Whole (Value Set)) t = []
-given_by _ t = t ∷ []
+abbrev pub pushed_by : FieldAccess → ValType → List ValType
+pushed_by (Whole (Value Set)) t = []
+pushed_by _ t = t ∷ []
 
 -- it can be done with a place that holds this, which is written only where it can be
 abbrev pub is_accessible : ModuleContext → Bool → FieldAccess → FieldType → Bool
@@ -89,7 +89,7 @@ is_accessible md shared access f =
 abbrev pub place_row : Context → Bool → FieldAccess → List ValType → FieldType → Row
 place_row cx shared access place f =
     plain_row_if (is_accessible cx.of_module shared access f)
-    (place ++ expected_by access (field_value f)) (given_by access (field_value f))
+    (place ++ expected_by access (field_value f)) (pushed_by access (field_value f))
 
 -- ---- places
 

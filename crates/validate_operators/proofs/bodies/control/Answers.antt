@@ -70,44 +70,44 @@ returns-in-End-clause-row g c = rw c.in-End.is c.end.ensures
 
 pub returns-in_err-find_open-in-ReturnCall-clause-row : goal.returns-in_err-find_open-in-ReturnCall-clause-row
 returns-in_err-find_open-in-ReturnCall-clause-row g c =
-    rw c.in-ReturnCall.is (moves_shut _ _ (Control (ReturnCall c.in-ReturnCall.function_index)) c.args.stacks.now TailCall refl _ (search rules) (search rules))
+    rw c.in-ReturnCall.is (moves_shut _ _ (Control (ReturnCall c.in-ReturnCall.function_index)) c.args.body.stacks.now TailCall refl _ (search rules) (search rules))
 
 pub returns-in_ok-find_open-in-ReturnCall-clause-row : goal.returns-in_ok-find_open-in-ReturnCall-clause-row
 returns-in_ok-find_open-in-ReturnCall-clause-row g c =
-    rw c.in-ReturnCall.is (moves_open _ _ (Control (ReturnCall c.in-ReturnCall.function_index)) c.args.stacks.now TailCall refl _ _ c.in_ok-find_open-in-ReturnCall.ensures.open c.return_call.ensures)
+    rw c.in-ReturnCall.is (moves_open _ _ (Control (ReturnCall c.in-ReturnCall.function_index)) c.args.body.stacks.now TailCall refl _ _ c.in_ok-find_open-in-ReturnCall.ensures.open c.return_call.ensures)
 
 pub returns-in_err-find_open-in-ReturnCallIndirect-clause-row : goal.returns-in_err-find_open-in-ReturnCallIndirect-clause-row
 returns-in_err-find_open-in-ReturnCallIndirect-clause-row g c =
-    rw c.in-ReturnCallIndirect.is (moves_shut _ _ (Control (ReturnCallIndirect c.in-ReturnCallIndirect.type_index c.in-ReturnCallIndirect.table_index)) c.args.stacks.now TailCall refl _ (search rules) (search rules))
+    rw c.in-ReturnCallIndirect.is (moves_shut _ _ (Control (ReturnCallIndirect c.in-ReturnCallIndirect.type_index c.in-ReturnCallIndirect.table_index)) c.args.body.stacks.now TailCall refl _ (search rules) (search rules))
 
 pub returns-in_ok-find_open-in-ReturnCallIndirect-clause-row : goal.returns-in_ok-find_open-in-ReturnCallIndirect-clause-row
 returns-in_ok-find_open-in-ReturnCallIndirect-clause-row g c =
-    rw c.in-ReturnCallIndirect.is (moves_open _ _ (Control (ReturnCallIndirect c.in-ReturnCallIndirect.type_index c.in-ReturnCallIndirect.table_index)) c.args.stacks.now TailCall refl _ _ c.in_ok-find_open-in-ReturnCallIndirect.ensures.open c.return_call_indirect.ensures)
+    rw c.in-ReturnCallIndirect.is (moves_open _ _ (Control (ReturnCallIndirect c.in-ReturnCallIndirect.type_index c.in-ReturnCallIndirect.table_index)) c.args.body.stacks.now TailCall refl _ _ c.in_ok-find_open-in-ReturnCallIndirect.ensures.open c.return_call_indirect.ensures)
 
 pub returns-in_err-find_open-in-CallRef-clause-row : goal.returns-in_err-find_open-in-CallRef-clause-row
 returns-in_err-find_open-in-CallRef-clause-row g c =
-    rw c.in-CallRef.is (moves_shut _ _ (Control (CallRef c.in-CallRef.type_index)) c.args.stacks.now FunctionReferences refl _ (search rules) (search rules))
+    rw c.in-CallRef.is (moves_shut _ _ (Control (CallRef c.in-CallRef.type_index)) c.args.body.stacks.now FunctionReferences refl _ (search rules) (search rules))
 
 pub returns-in_ok-find_open-in-CallRef-clause-row : goal.returns-in_ok-find_open-in-CallRef-clause-row
 returns-in_ok-find_open-in-CallRef-clause-row g c =
-    rw c.in-CallRef.is (moves_open _ _ (Control (CallRef c.in-CallRef.type_index)) c.args.stacks.now FunctionReferences refl _ _ c.in_ok-find_open-in-CallRef.ensures.open c.call_ref.ensures)
+    rw c.in-CallRef.is (moves_open _ _ (Control (CallRef c.in-CallRef.type_index)) c.args.body.stacks.now FunctionReferences refl _ _ c.in_ok-find_open-in-CallRef.ensures.open c.call_ref.ensures)
 
 pub returns-in_err-find_open-in-ReturnCallRef-clause-row : goal.returns-in_err-find_open-in-ReturnCallRef-clause-row
 returns-in_err-find_open-in-ReturnCallRef-clause-row g c =
-    rw c.in-ReturnCallRef.is (moves_shut _ _ (Control (ReturnCallRef c.in-ReturnCallRef.type_index)) c.args.stacks.now FunctionReferences refl _ (search rules) (search rules))
+    rw c.in-ReturnCallRef.is (moves_shut _ _ (Control (ReturnCallRef c.in-ReturnCallRef.type_index)) c.args.body.stacks.now FunctionReferences refl _ (search rules) (search rules))
 
 pub returns-in_ok-find_open-in-ReturnCallRef-clause-row : goal.returns-in_ok-find_open-in-ReturnCallRef-clause-row
 returns-in_ok-find_open-in-ReturnCallRef-clause-row g c =
-    rw c.in-ReturnCallRef.is (moves_open _ _ (Control (ReturnCallRef c.in-ReturnCallRef.type_index)) c.args.stacks.now FunctionReferences refl _ _ c.in_ok-find_open-in-ReturnCallRef.ensures.open c.return_call_ref.ensures)
+    rw c.in-ReturnCallRef.is (moves_open _ _ (Control (ReturnCallRef c.in-ReturnCallRef.type_index)) c.args.body.stacks.now FunctionReferences refl _ _ c.in_ok-find_open-in-ReturnCallRef.ensures.open c.return_call_ref.ensures)
 
 pub returns-in_err-find_open-in-TypedSelect-clause-row : goal.returns-in_err-find_open-in-TypedSelect-clause-row
 returns-in_err-find_open-in-TypedSelect-clause-row g c =
-    rw c.in-TypedSelect.is (moves_shut _ _ (Control (TypedSelect c.in-TypedSelect.ty)) c.args.stacks.now ReferenceTypes refl _ (search rules) (search rules))
+    rw c.in-TypedSelect.is (moves_shut _ _ (Control (TypedSelect c.in-TypedSelect.ty)) c.args.body.stacks.now ReferenceTypes refl _ (search rules) (search rules))
 
 pub returns-in_ok-find_open-in-TypedSelect-clause-row : goal.returns-in_ok-find_open-in-TypedSelect-clause-row
 returns-in_ok-find_open-in-TypedSelect-clause-row g c =
-    rw c.in-TypedSelect.is (moves_open _ _ (Control (TypedSelect c.in-TypedSelect.ty)) c.args.stacks.now ReferenceTypes refl _ _ c.in_ok-find_open-in-TypedSelect.ensures.open c.typed_select.ensures)
+    rw c.in-TypedSelect.is (moves_open _ _ (Control (TypedSelect c.in-TypedSelect.ty)) c.args.body.stacks.now ReferenceTypes refl _ _ c.in_ok-find_open-in-TypedSelect.ensures.open c.typed_select.ensures)
 
 pub returns-in_err-find_open-in-TypedSelectMulti-clause-row : goal.returns-in_err-find_open-in-TypedSelectMulti-clause-row
 returns-in_err-find_open-in-TypedSelectMulti-clause-row g c =
-    rw c.in-TypedSelectMulti.is (moves_shut _ _ (Control (TypedSelectMulti c.in-TypedSelectMulti.field-0)) c.args.stacks.now ReferenceTypes refl _ (search rules) (search rules))
+    rw c.in-TypedSelectMulti.is (moves_shut _ _ (Control (TypedSelectMulti c.in-TypedSelectMulti.field-0)) c.args.body.stacks.now ReferenceTypes refl _ (search rules) (search rules))

@@ -11,14 +11,14 @@ returns-in-Throw-clause-row g c = rw c.in-Throw.is c.throw.ensures.row
 
 pub returns-in-Throw-clause-memory : goal.returns-in-Throw-clause-memory
 returns-in-Throw-clause-memory g c =
-    rw c.in-Throw.is (λ none idle. refused_behind (g.R.WasmModuleResources.context c.args.resources.now) c.args.stacks.now.body (Exception (Throw c.in-Throw.tag_index)) c.throw.result (c.throw.ensures.idle idle))
+    rw c.in-Throw.is (λ none idle. refused_behind (g.R.WasmModuleResources.context c.args.body.resources.now) c.args.body.stacks.now.body (Exception (Throw c.in-Throw.tag_index)) c.throw.result (c.throw.ensures.idle idle))
 
 pub returns-in-ThrowRef-clause-row : goal.returns-in-ThrowRef-clause-row
 returns-in-ThrowRef-clause-row g c = rw c.in-ThrowRef.is c.throw_ref.ensures.row
 
 pub returns-in-ThrowRef-clause-memory : goal.returns-in-ThrowRef-clause-memory
 returns-in-ThrowRef-clause-memory g c =
-    rw c.in-ThrowRef.is (λ none idle. refused_behind (g.R.WasmModuleResources.context c.args.resources.now) c.args.stacks.now.body (Exception ThrowRef) c.throw_ref.result (c.throw_ref.ensures.idle idle))
+    rw c.in-ThrowRef.is (λ none idle. refused_behind (g.R.WasmModuleResources.context c.args.body.resources.now) c.args.body.stacks.now.body (Exception ThrowRef) c.throw_ref.result (c.throw_ref.ensures.idle idle))
 
 pub returns-in-Try-clause-row : goal.returns-in-Try-clause-row
 returns-in-Try-clause-row g c = rw c.in-Try.is c.block.ensures
@@ -37,4 +37,4 @@ returns-in-Rethrow-clause-row g c = rw c.in-Rethrow.is c.rethrow.ensures.row
 
 pub returns-in-Rethrow-clause-memory : goal.returns-in-Rethrow-clause-memory
 returns-in-Rethrow-clause-memory g c =
-    rw c.in-Rethrow.is (λ none idle. refused_behind (g.R.WasmModuleResources.context c.args.resources.now) c.args.stacks.now.body (Exception (Rethrow c.in-Rethrow.relative_depth)) c.rethrow.result (c.rethrow.ensures.idle idle))
+    rw c.in-Rethrow.is (λ none idle. refused_behind (g.R.WasmModuleResources.context c.args.body.resources.now) c.args.body.stacks.now.body (Exception (Rethrow c.in-Rethrow.relative_depth)) c.rethrow.result (c.rethrow.ensures.idle idle))

@@ -5,8 +5,8 @@ use Rattle.validate_operators.proofs.bodies.gated_convert.Goals as goal
 
 pub returns-in_err-find_open : goal.returns-in_err-find_open
 returns-in_err-find_open g c =
-    moves_shut (g.R.WasmModuleResources.context c.args.resources.now) _ (Convert c.args.op.now) c.args.stacks.now c.gate.result c.gate.ensures _ (search rules) (search rules)
+    moves_shut (g.R.WasmModuleResources.context c.args.body.resources.now) _ (Convert c.args.op.now) c.args.body.stacks.now c.gate.result c.gate.ensures _ (search rules) (search rules)
 
 pub returns : goal.returns
 returns g c =
-    moves_open (g.R.WasmModuleResources.context c.args.resources.now) _ (Convert c.args.op.now) c.args.stacks.now c.gate.result c.gate.ensures _ _ c.in_ok-find_open.ensures.open c.convert.ensures
+    moves_open (g.R.WasmModuleResources.context c.args.body.resources.now) _ (Convert c.args.op.now) c.args.body.stacks.now c.gate.result c.gate.ensures _ _ c.in_ok-find_open.ensures.open c.convert.ensures

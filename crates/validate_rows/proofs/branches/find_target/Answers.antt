@@ -15,16 +15,16 @@ use Rattle.validate_rows.proofs.branches.find_target.Goals as goal
 
 module _ (g : Over) (c : After-label_types-types g) where
   abbrev md : ModuleContext
-  md = g.R.WasmModuleResources.context c.args.resources.now
+  md = g.R.WasmModuleResources.context c.args.body.now.resources.now
 
   abbrev cx : Context
-  cx = body_context md c.args.stacks.now.body
+  cx = body_context md c.args.body.now.stacks.now.body
 
   abbrev below : BodyState
-  below = body_dropped 1 c.args.stacks.now.body
+  below = body_dropped 1 c.args.body.now.stacks.now.body
 
   there : label_at below c.args.relative_depth ≡ Some (c.in_ok-block_type.block_type, c.in_ok-block_type.kind)
-  there = dropped_label 1 c.args.relative_depth c.args.stacks.now.body ∙ c.in_ok-block_type.ensures.found
+  there = dropped_label 1 c.args.relative_depth c.args.body.now.stacks.now.body ∙ c.in_ok-block_type.ensures.found
 
   no_target_by_count : nat_eq (length c.label_types-types.result.now) c.args.count ≡ false → is_table_target md below c.args.count c.args.relative_depth ≡ false
   no_target_by_count = of_another_count md below c.args.relative_depth c.args.count _ _ c.label_types-types.result.now there (c.label_types-types.ensures cx refl)
@@ -34,8 +34,8 @@ module _ (g : Over) (c : After-label_types-types g) where
 
 pub returns-in_err-block_type-clause-unfit : goal.returns-in_err-block_type-clause-unfit
 returns-in_err-block_type-clause-unfit g c =
-    let v = c.args.stacks.now.body in
-    let none = not_a_label (g.R.WasmModuleResources.context c.args.resources.now) (body_dropped 1 v) c.args.relative_depth c.args.count (dropped_label 1 c.args.relative_depth v ∙ c.in_err-block_type.ensures.missing) in
+    let v = c.args.body.now.stacks.now.body in
+    let none = not_a_label (g.R.WasmModuleResources.context c.args.body.now.resources.now) (body_dropped 1 v) c.args.relative_depth c.args.count (dropped_label 1 c.args.relative_depth v ∙ c.in_err-block_type.ensures.missing) in
     search (rules, none)
 
 pub returns-then-types-count-clause-unfit : goal.returns-then-types-count-clause-unfit
@@ -49,6 +49,6 @@ returns-clause-unfit g c = search (rules, target_by_operands g (goal.at.returns-
 
 pub find_operands-requires-clause-types : goal.find_operands-requires-clause-types
 find_operands-requires-clause-types g c =
-    let cx = body_context (g.R.WasmModuleResources.context c.args.resources.now) c.args.stacks.now.body in
-    let there = label_there cx (heads c.args.stacks.now.body.present.frames) c.args.relative_depth _ _ c.in_ok-block_type.ensures.found in
-    label_valid cx.of_module c.args.stacks.now.body c.args.relative_depth _ (g.met.R.WasmModuleResources.lawful c.args.resources.now) c.requires (c.label_types-types.ensures cx refl ∙ sym there.1)
+    let cx = body_context (g.R.WasmModuleResources.context c.args.body.now.resources.now) c.args.body.now.stacks.now.body in
+    let there = label_there cx (heads c.args.body.now.stacks.now.body.present.frames) c.args.relative_depth _ _ c.in_ok-block_type.ensures.found in
+    label_valid cx.of_module c.args.body.now.stacks.now.body c.args.relative_depth _ (g.met.R.WasmModuleResources.lawful c.args.body.now.resources.now) c.requires (c.label_types-types.ensures cx refl ∙ sym there.1)

@@ -7,7 +7,7 @@ use Rattle.validate_rows.proofs.branches.find_targets.Given as goal
 
 abbrev pub invariant-loop-relative_depth : goal.invariant-loop-relative_depth
 invariant-loop-relative_depth g l =
-    let is_one = is_table_target (g.R.WasmModuleResources.context l.resources) (body_dropped 1 l.stacks.body) l.count in
+    let is_one = is_table_target (g.R.WasmModuleResources.context l.body.resources.now) (body_dropped 1 l.body.stacks.now.body) l.count in
     record {
       rest : list_all is_one (drop l.relative_depth-index l.table.targets.now) ≡ list_all is_one l.table.targets.now;
     }

@@ -14,31 +14,31 @@ use Rattle.validate_rows.proofs.calls.find_same_results.Goals as goal
 
 module _ (g : Over) (c : After-label_types-expected g) where
   abbrev md : ModuleContext
-  md = g.R.WasmModuleResources.context c.args.resources.now
+  md = g.R.WasmModuleResources.context c.args.body.now.resources.now
 
   abbrev cx : Context
-  cx = body_context md c.args.stacks.now.body
+  cx = body_context md c.args.body.now.stacks.now.body
 
   abbrev outermost : ℕ
-  outermost = pred (length (heads c.args.stacks.now.body.present.frames))
+  outermost = pred (length (heads c.args.body.now.stacks.now.body.present.frames))
 
-  outermost_there : label_at c.args.stacks.now.body outermost ≡ Some (c.in-Some.frame.now.block_type, c.in-Some.frame.now.kind)
-  outermost_there = outermost_label c.args.stacks.now.body c.control_stack_height-outermost.result c.in-Some.frame.now c.control_stack_height-outermost.ensures (sym c.get_frame.ensures ∙ ap option_copied c.in-Some.is)
+  outermost_there : label_at c.args.body.now.stacks.now.body outermost ≡ Some (c.in-Some.frame.now.block_type, c.in-Some.frame.now.kind)
+  outermost_there = outermost_label c.args.body.now.stacks.now.body c.control_stack_height-outermost.result c.in-Some.frame.now c.control_stack_height-outermost.ensures (sym c.get_frame.ensures ∙ ap option_copied c.in-Some.is)
 
-  expected_is_of_label : c.label_types-expected.result.now ≡ label_types_at cx (heads c.args.stacks.now.body.present.frames) outermost
-  expected_is_of_label = types_there md c.args.stacks.now.body c.requires.visit.open_frame (λ cx hs. return_row cx hs) outermost refl _ _ c.label_types-expected.result.now outermost_there (c.label_types-expected.ensures cx refl)
+  expected_is_of_label : c.label_types-expected.result.now ≡ label_types_at cx (heads c.args.body.now.stacks.now.body.present.frames) outermost
+  expected_is_of_label = types_there md c.args.body.now.stacks.now.body c.requires.visit.open_frame (λ cx hs. return_row cx hs) outermost refl _ _ c.label_types-expected.result.now outermost_there (c.label_types-expected.ensures cx refl)
 
-  fit_label_as_expected : (has_label (heads c.args.stacks.now.body.present.frames) outermost && all_fit cx (map Known c.args.results.now) (label_types_at cx (heads c.args.stacks.now.body.present.frames) outermost)) ≡ all_fit cx (map Known c.args.results.now) c.label_types-expected.result.now
-  fit_label_as_expected = ap₂ (λ b ts. b && all_fit cx (map Known c.args.results.now) ts) (label_there cx (heads c.args.stacks.now.body.present.frames) outermost _ _ outermost_there).0 (sym expected_is_of_label)
+  fit_label_as_expected : (has_label (heads c.args.body.now.stacks.now.body.present.frames) outermost && all_fit cx (map Known c.args.results.now) (label_types_at cx (heads c.args.body.now.stacks.now.body.present.frames) outermost)) ≡ all_fit cx (map Known c.args.results.now) c.label_types-expected.result.now
+  fit_label_as_expected = ap₂ (λ b ts. b && all_fit cx (map Known c.args.results.now) ts) (label_there cx (heads c.args.body.now.stacks.now.body.present.frames) outermost _ _ outermost_there).0 (sym expected_is_of_label)
 
 pub unreachable-requires : goal.unreachable-requires
 unreachable-requires g c =
-    some_outermost c.args.stacks.now.body c.control_stack_height-outermost.result _ c.requires.visit.open_frame c.control_stack_height-outermost.ensures refl (sym c.get_frame.ensures ∙ ap option_copied c.in_default.is)
+    some_outermost c.args.body.now.stacks.now.body c.control_stack_height-outermost.result _ c.requires.visit.open_frame c.control_stack_height-outermost.ensures refl (sym c.get_frame.ensures ∙ ap option_copied c.in_default.is)
 
 pub are_below-requires-clause-above : goal.are_below-requires-clause-above
 are_below-requires-clause-above g c =
     let at = (goal.at.are_below-requires-clause-above g c).After-label_types-expected in
-    label_valid (md g at) c.args.stacks.now.body (outermost g at) _ (g.met.R.WasmModuleResources.lawful c.args.resources.now) c.requires.visit.valid (expected_is_of_label g at)
+    label_valid (md g at) c.args.body.now.stacks.now.body (outermost g at) _ (g.met.R.WasmModuleResources.lawful c.args.body.now.resources.now) c.requires.visit.valid (expected_is_of_label g at)
 
 pub returns-then-are_below-clause-below : goal.returns-then-are_below-clause-below
 returns-then-are_below-clause-below g c =

@@ -11,7 +11,7 @@ use Rattle.validate_rows.proofs.parametric.select.Goals as goal
 
 pub exchange_numbers_at_once-requires-clause-types : goal.exchange_numbers_at_once-requires-clause-types
 exchange_numbers_at_once-requires-clause-types g c =
-    let md = g.R.WasmModuleResources.context c.args.resources.now in
+    let md = g.R.WasmModuleResources.context c.args.body.resources.now in
     let number : is_number_or_vector c.in-Some-Known.ty ≡ true = search rules in
     let valid = number_valid md c.in-Some-Known.ty number in
     (valid, (valid, (refl, tt)))
@@ -19,9 +19,9 @@ exchange_numbers_at_once-requires-clause-types g c =
 pub returns-then-exchange_numbers_at_once : goal.returns-then-exchange_numbers_at_once
 unfolding Moves
 returns-then-exchange_numbers_at_once g c =
-    let md = g.R.WasmModuleResources.context c.args.resources.now in
-    let laws = g.met.R.WasmModuleResources.lawful c.args.resources.now in
-    let v = c.args.stacks.now.body in
+    let md = g.R.WasmModuleResources.context c.args.body.resources.now in
+    let laws = g.met.R.WasmModuleResources.lawful c.args.body.resources.now in
+    let v = c.args.body.stacks.now.body in
     let w = c.exchange_numbers_at_once.new.self.body in
     let t = c.in-Some-Known.ty in
     let number : is_number_or_vector t ≡ true = search rules in
@@ -33,9 +33,9 @@ returns-then-exchange_numbers_at_once g c =
 pub any_select-requires-2 : goal.any_select-requires-2
 any_select-requires-2 g c =
     let same = was_not_made _ c.exchange_numbers_at_once.result c.if-exchange_numbers_at_once.false c.exchange_numbers_at_once.ensures.exact in
-    subst (MayVisit (g.R.WasmModuleResources.context c.args.resources.now)) (sym same) c.requires
+    subst (MayVisit (g.R.WasmModuleResources.context c.args.body.resources.now)) (sym same) c.requires
 
 pub returns : goal.returns
 returns g c =
     let same = was_not_made _ c.exchange_numbers_at_once.result c.if-exchange_numbers_at_once.false c.exchange_numbers_at_once.ensures.exact in
-    moves_then _ _ _ c.args.stacks.now _ _ same _ c.any_select-2.ensures
+    moves_then _ _ _ c.args.body.stacks.now _ _ same _ c.any_select-2.ensures

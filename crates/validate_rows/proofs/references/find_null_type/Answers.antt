@@ -23,15 +23,15 @@ refused tells o b (Err e) opened none = λ told. ap₂ (λ b o. (lookup_row (gua
 
 pub returns-in_err-find_null_open-clause-refused : goal.returns-in_err-find_null_open-clause-refused
 returns-in_err-find_null_open-clause-refused g c =
-    let closed = c.in_err-find_null_open.ensures.closed (g.R.WasmModuleResources.context c.args.resources.now) in
+    let closed = c.in_err-find_null_open.ensures.closed (g.R.WasmModuleResources.context c.args.body.now.resources.now) in
     search (rules, closed)
 
 pub returns-clause-found : goal.returns-clause-found
 returns-clause-found g c =
-    let md = g.R.WasmModuleResources.context c.args.resources.now in
+    let md = g.R.WasmModuleResources.context c.args.body.now.resources.now in
     found (md.canonical_heap c.args.heap_type) _ c.heap_reference.result (c.in_ok-find_null_open.ensures.open md) c.heap_reference.ensures.found
 
 pub returns-clause-refused : goal.returns-clause-refused
 returns-clause-refused g c =
-    let md = g.R.WasmModuleResources.context c.args.resources.now in
+    let md = g.R.WasmModuleResources.context c.args.body.now.resources.now in
     refused g.A.Refused.tells (md.canonical_heap c.args.heap_type) _ c.heap_reference.result (c.in_ok-find_null_open.ensures.open md) c.heap_reference.ensures.refused

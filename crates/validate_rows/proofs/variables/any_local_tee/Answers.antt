@@ -9,12 +9,12 @@ use Rattle.validate_rows.proofs.variables.any_local_tee.Given.{Over}
 use Rattle.validate_rows.proofs.variables.any_local_tee.Goals.{In_ok-ty}
 use Rattle.validate_rows.proofs.variables.any_local_tee.Goals as goal
 
-good : (g : Over) (c : In_ok-ty g) → Valid (g.R.WasmModuleResources.context c.args.resources.now) c.in_ok-ty.field-0.now
-good g c = all_get (Valid (g.R.WasmModuleResources.context c.args.resources.now)) c.args.stacks.now.body.locals c.args.local_index c.in_ok-ty.field-0.now c.in_ok-ty.ensures.found c.requires.valid.locals_valid
+good : (g : Over) (c : In_ok-ty g) → Valid (g.R.WasmModuleResources.context c.args.body.resources.now) c.in_ok-ty.field-0.now
+good g c = all_get (Valid (g.R.WasmModuleResources.context c.args.body.resources.now)) c.args.body.stacks.now.body.locals c.args.local_index c.in_ok-ty.field-0.now c.in_ok-ty.ensures.found c.requires.valid.locals_valid
 
 pub returns-in_err-ty : goal.returns-in_err-ty
 returns-in_err-ty g c =
-    let none = no_local_tee (g.R.WasmModuleResources.context c.args.resources.now) c.args.stacks.now.body c.args.local_index c.in_err-ty.ensures.missing in
+    let none = no_local_tee (g.R.WasmModuleResources.context c.args.body.resources.now) c.args.body.stacks.now.body c.args.local_index c.in_err-ty.ensures.missing in
     unmoved _ _ _ _ _ _ (search rules) refl (search (rules, none))
 
 pub exchange_setting-requires-clause-ty : goal.exchange_setting-requires-clause-ty
@@ -23,9 +23,9 @@ exchange_setting-requires-clause-ty g c = good g (goal.at.exchange_setting-requi
 pub returns-then-is_uninit : goal.returns-then-is_uninit
 returns-then-is_uninit g c =
     let at = (goal.at.returns-then-is_uninit g c).In_ok-ty in
-    let md = g.R.WasmModuleResources.context c.args.resources.now in
+    let md = g.R.WasmModuleResources.context c.args.body.resources.now in
     let i = c.args.local_index in
-    takes_moves md _ _ c.args.stacks.now _ (c.in_ok-ty.field-0.now ∷ []) (body_set_then i (c.in_ok-ty.field-0.now ∷ [])) (local_tee_is md c.args.stacks.now.body i c.in_ok-ty.field-0.now c.in_ok-ty.ensures.found c.requires.open_frame) (set_then_valid md i (c.in_ok-ty.field-0.now ∷ []) (good g at, tt)) (set_then_kept md i (c.in_ok-ty.field-0.now ∷ [])) c.requires.valid _ c.exchange_setting.ensures
+    takes_moves md _ _ c.args.body.stacks.now _ (c.in_ok-ty.field-0.now ∷ []) (body_set_then i (c.in_ok-ty.field-0.now ∷ [])) (local_tee_is md c.args.body.stacks.now.body i c.in_ok-ty.field-0.now c.in_ok-ty.ensures.found c.requires.open_frame) (set_then_valid md i (c.in_ok-ty.field-0.now ∷ []) (good g at, tt)) (set_then_kept md i (c.in_ok-ty.field-0.now ∷ [])) c.requires.valid _ c.exchange_setting.ensures
 
 pub exchange_types-requires-clause-types : goal.exchange_types-requires-clause-types
 exchange_types-requires-clause-types g c = (good g (goal.at.exchange_types-requires-clause-types g c).In_ok-ty, tt)
@@ -33,9 +33,9 @@ exchange_types-requires-clause-types g c = (good g (goal.at.exchange_types-requi
 -- the local is set already, so that nothing more is set
 pub returns : goal.returns
 returns g c =
-    let md = g.R.WasmModuleResources.context c.args.resources.now in
-    let v = c.args.stacks.now.body in
+    let md = g.R.WasmModuleResources.context c.args.body.resources.now in
+    let v = c.args.body.stacks.now.body in
     let ty = c.in_ok-ty.field-0.now in
     let set = not_false _ (sym c.is_uninit.ensures ∙ c.if-is_uninit.false) in
     let is = local_tee_is md v c.args.local_index ty c.in_ok-ty.ensures.found c.requires.open_frame ∙ taken_set md (ty ∷ []) c.args.local_index (c.in_ok-ty.field-0.now ∷ []) v set in
-    exchange_moves md _ _ c.args.stacks.now _ (ty ∷ []) (c.in_ok-ty.field-0.now ∷ []) is (good g (goal.at.returns g c).In_ok-ty, tt) c.requires.valid _ c.exchange_types.ensures
+    exchange_moves md _ _ c.args.body.stacks.now _ (ty ∷ []) (c.in_ok-ty.field-0.now ∷ []) is (good g (goal.at.returns g c).In_ok-ty, tt) c.requires.valid _ c.exchange_types.ensures

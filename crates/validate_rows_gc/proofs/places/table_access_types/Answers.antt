@@ -11,17 +11,17 @@ use Rattle.validate_rows_gc.proofs.places.table_access_types.Goals as goal
 
 pub returns-clause-row : goal.returns-clause-row
 returns-clause-row g c =
-    let md = g.R.WasmModuleResources.context c.args.resources.now in
-    let cx = body_context md c.args.stacks.now.body in
+    let md = g.R.WasmModuleResources.context c.args.body.now.resources.now in
+    let cx = body_context md c.args.body.now.stacks.now.body in
     let table = c.in_ok-table.table in
     let held = held_by_table table in
     let access = Whole (Value c.args.access) in
     ap (λ o. lookup_row o (λ t. place_row cx true access (address_type_of_table t ∷ []) (held_by_table t))) c.in_ok-table.ensures.found
     ∙ place_found cx true access (address_type_of_table table ∷ []) held _ _ _
     (ap (λ b. b && is_allowed md true access held.element_type) (or_true (is_read access)) ∙ sym c.is_allowed-allowed.ensures)
-    (search rules) c.given_by.ensures
+    (search rules) c.pushed_by.ensures
 
 pub returns-clause-valid : goal.returns-clause-valid
 returns-clause-valid g c =
-    let md = g.R.WasmModuleResources.context c.args.resources.now in
-    types_valid md (Whole (Value c.args.access)) (c.index_type.result ∷ []) (element_of_table c.in_ok-table.table) _ _ c.expected_by.ensures c.given_by.ensures (search rules) c.in_ok-table.ensures.element
+    let md = g.R.WasmModuleResources.context c.args.body.now.resources.now in
+    types_valid md (Whole (Value c.args.access)) (c.index_type.result ∷ []) (element_of_table c.in_ok-table.table) _ _ c.expected_by.ensures c.pushed_by.ensures (search rules) c.in_ok-table.ensures.element

@@ -12,15 +12,15 @@ use Rattle.validate_rows_handlers.proofs.clauses.find_carried.Goals as goal
 
 module _ (g : Over) (c : After-label_types-expected g) where
   abbrev cx : Context
-  cx = body_context (g.R.WasmModuleResources.context c.args.resources.now) c.args.stacks.now.body
+  cx = body_context (g.R.WasmModuleResources.context c.args.body.now.resources.now) c.args.body.now.stacks.now.body
 
-  accepts_as_expected : label_accepts cx (drop c.args.label_index (heads c.args.stacks.now.body.present.frames)) c.args.types.now ≡ all_fit cx (map Known c.args.types.now) c.label_types-expected.result.now
-  accepts_as_expected = carried_at cx c.args.types.now c.label_types-expected.result.now (heads c.args.stacks.now.body.present.frames) c.args.label_index _ _ c.in_ok-block_type.ensures.found (c.label_types-expected.ensures cx refl)
+  accepts_as_expected : label_accepts cx (drop c.args.label_index (heads c.args.body.now.stacks.now.body.present.frames)) c.args.types.now ≡ all_fit cx (map Known c.args.types.now) c.label_types-expected.result.now
+  accepts_as_expected = carried_at cx c.args.types.now c.label_types-expected.result.now (heads c.args.body.now.stacks.now.body.present.frames) c.args.label_index _ _ c.in_ok-block_type.ensures.found (c.label_types-expected.ensures cx refl)
 
 pub returns-in_err-block_type-clause-refused : goal.returns-in_err-block_type-clause-refused
 returns-in_err-block_type-clause-refused g c =
-    let cx = body_context (g.R.WasmModuleResources.context c.args.resources.now) c.args.stacks.now.body in
-    let none = accepts_none cx c.args.types.now (heads c.args.stacks.now.body.present.frames) c.args.label_index in
+    let cx = body_context (g.R.WasmModuleResources.context c.args.body.now.resources.now) c.args.body.now.stacks.now.body in
+    let none = accepts_none cx c.args.types.now (heads c.args.body.now.stacks.now.body.present.frames) c.args.label_index in
     search (rules, none)
 
 pub returns-then-expected-types-clause-refused : goal.returns-then-expected-types-clause-refused
@@ -30,10 +30,10 @@ returns-then-expected-types-clause-refused g c =
 
 pub find_types-requires-clause-expected : goal.find_types-requires-clause-expected
 find_types-requires-clause-expected g c =
-    let v = c.args.stacks.now.body in
-    let cx = body_context (g.R.WasmModuleResources.context c.args.resources.now) v in
+    let v = c.args.body.now.stacks.now.body in
+    let cx = body_context (g.R.WasmModuleResources.context c.args.body.now.resources.now) v in
     let label = label_there cx (heads v.present.frames) c.args.label_index _ _ c.in_ok-block_type.ensures.found in
-    label_valid cx.of_module v c.args.label_index _ (g.met.R.WasmModuleResources.lawful c.args.resources.now) c.requires.state (c.label_types-expected.ensures cx refl ∙ sym label.1)
+    label_valid cx.of_module v c.args.label_index _ (g.met.R.WasmModuleResources.lawful c.args.body.now.resources.now) c.requires.state (c.label_types-expected.ensures cx refl ∙ sym label.1)
 
 pub returns-clause-fits : goal.returns-clause-fits
 returns-clause-fits g c =

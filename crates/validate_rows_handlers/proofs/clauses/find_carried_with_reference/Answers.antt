@@ -16,23 +16,23 @@ use Rattle.validate_rows_handlers.proofs.clauses.find_carried_with_reference.Goa
 
 module _ (g : Over) (c : After-label_types-expected g) where
   abbrev cx : Context
-  cx = body_context (g.R.WasmModuleResources.context c.args.resources.now) c.args.stacks.now.body
+  cx = body_context (g.R.WasmModuleResources.context c.args.body.now.resources.now) c.args.body.now.stacks.now.body
 
   -- what is carried
   abbrev carried : List ValType
   carried = c.args.types.now ++ exception_reference ∷ []
 
   abbrev accepts : Bool
-  accepts = label_accepts cx (drop c.args.label_index (heads c.args.stacks.now.body.present.frames)) carried
+  accepts = label_accepts cx (drop c.args.label_index (heads c.args.body.now.stacks.now.body.present.frames)) carried
 
   accepts_as_expected : accepts ≡ all_fit cx (map Known carried) c.label_types-expected.result.now
   accepts_as_expected =
-      carried_at cx carried c.label_types-expected.result.now (heads c.args.stacks.now.body.present.frames) c.args.label_index _ _ c.in_ok-block_type.ensures.found (c.label_types-expected.ensures cx refl)
+      carried_at cx carried c.label_types-expected.result.now (heads c.args.body.now.stacks.now.body.present.frames) c.args.label_index _ _ c.in_ok-block_type.ensures.found (c.label_types-expected.ensures cx refl)
 
   expected_valid : AllByRecursion (Valid cx.of_module) c.label_types-expected.result.now
   expected_valid =
-      label_valid cx.of_module c.args.stacks.now.body c.args.label_index _ (g.met.R.WasmModuleResources.lawful c.args.resources.now) c.requires.state
-      (c.label_types-expected.ensures cx refl ∙ sym (label_there cx (heads c.args.stacks.now.body.present.frames) c.args.label_index _ _ c.in_ok-block_type.ensures.found).1)
+      label_valid cx.of_module c.args.body.now.stacks.now.body c.args.label_index _ (g.met.R.WasmModuleResources.lawful c.args.body.now.resources.now) c.requires.state
+      (c.label_types-expected.ensures cx refl ∙ sym (label_there cx (heads c.args.body.now.stacks.now.body.present.frames) c.args.label_index _ _ c.in_ok-block_type.ensures.found).1)
 
 module _ (g : Over) (c : In-Some g) where
   abbrev expected : After-label_types-expected g
@@ -57,8 +57,8 @@ module _ (g : Over) (c : Else-others-types g) where
 
 pub returns-in_err-block_type-clause-refused : goal.returns-in_err-block_type-clause-refused
 returns-in_err-block_type-clause-refused g c =
-    let v = c.args.stacks.now.body in
-    search (rules, accepts_none (body_context (g.R.WasmModuleResources.context c.args.resources.now) v) (c.args.types.now ++ exception_reference ∷ []) (heads v.present.frames) c.args.label_index)
+    let v = c.args.body.now.stacks.now.body in
+    search (rules, accepts_none (body_context (g.R.WasmModuleResources.context c.args.body.now.resources.now) v) (c.args.types.now ++ exception_reference ∷ []) (heads v.present.frames) c.args.label_index)
 
 pub returns-in_default-clause-refused : goal.returns-in_default-clause-refused
 returns-in_default-clause-refused g c =

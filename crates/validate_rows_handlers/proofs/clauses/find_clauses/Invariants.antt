@@ -7,6 +7,6 @@ use Rattle.validate_rows_handlers.proofs.clauses.find_clauses.Given as goal
 
 abbrev pub invariant-loop-catch : goal.invariant-loop-catch
 invariant-loop-catch g l =
-    let cx = body_context (g.R.WasmModuleResources.context l.resources) l.stacks.body in
-    let hs = heads l.stacks.body.present.frames in
+    let cx = body_context (g.R.WasmModuleResources.context l.body.resources.now) l.body.stacks.now.body in
+    let hs = heads l.body.stacks.now.body.present.frames in
     are_fitting_catches cx hs (drop l.catch-index l.catches) ≡ are_fitting_catches cx hs l.catches

@@ -10,8 +10,8 @@ use Rattle.validate_shapes.proofs.blocks.open_function_block.Goals as goal
 
 pub returns-in_err-checked : goal.returns-in_err-checked
 returns-in_err-checked g c =
-    let md = g.R.WasmModuleResources.context c.args.resources.now in
-    let v = c.args.stacks.now.body in
+    let md = g.R.WasmModuleResources.context c.args.body.resources.now in
+    let v = c.args.body.stacks.now.body in
     let bt = (FuncType c.args.type_index) in
     let none : checked_block (body_context md v) bt ≡ None → step_body md (λ cx. opener cx c.args.kind [] bt (checked_block cx bt)) v ≡ None =
     λ n. by_check md v c.args.kind [] bt None n ∙ not_opened md v c.args.kind [] bt in
@@ -19,9 +19,9 @@ returns-in_err-checked g c =
 
 pub open_over_params-requires-clause-block : goal.open_over_params-requires-clause-block
 open_over_params-requires-clause-block g c =
-    checked_valid (body_context (g.R.WasmModuleResources.context c.args.resources.now) c.args.stacks.now.body) (g.met.R.WasmModuleResources.lawful c.args.resources.now) (FuncType c.args.type_index) c.in_ok-checked.checked c.in_ok-checked.ensures.checked
+    checked_valid (body_context (g.R.WasmModuleResources.context c.args.body.resources.now) c.args.body.stacks.now.body) (g.met.R.WasmModuleResources.lawful c.args.body.resources.now) (FuncType c.args.type_index) c.in_ok-checked.checked c.in_ok-checked.ensures.checked
 
 pub returns : goal.returns
 returns g c =
-    let md = g.R.WasmModuleResources.context c.args.resources.now in
-    moves_as md _ (λ cx. opener cx c.args.kind [] (FuncType c.args.type_index) (checked_block cx (FuncType c.args.type_index))) (λ cx. opening_operator cx c.args.kind [] c.in_ok-checked.checked) c.args.stacks.now _ (by_check md c.args.stacks.now.body c.args.kind [] (FuncType c.args.type_index) (Some c.in_ok-checked.checked) c.in_ok-checked.ensures.checked) _ c.open_over_params.ensures
+    let md = g.R.WasmModuleResources.context c.args.body.resources.now in
+    moves_as md _ (λ cx. opener cx c.args.kind [] (FuncType c.args.type_index) (checked_block cx (FuncType c.args.type_index))) (λ cx. opening_operator cx c.args.kind [] c.in_ok-checked.checked) c.args.body.stacks.now _ (by_check md c.args.body.stacks.now.body c.args.kind [] (FuncType c.args.type_index) (Some c.in_ok-checked.checked) c.in_ok-checked.ensures.checked) _ c.open_over_params.ensures

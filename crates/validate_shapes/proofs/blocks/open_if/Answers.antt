@@ -9,6 +9,6 @@ use Rattle.validate_shapes.proofs.blocks.open_if.Goals as goal
 
 pub returns-in-Empty : goal.returns-in-Empty
 returns-in-Empty g c =
-    let md = g.R.WasmModuleResources.context c.args.resources.now in
+    let md = g.R.WasmModuleResources.context c.args.body.resources.now in
     rw c.in-Empty.is
-    (moves_as md _ (λ cx. opener cx If (I32 ∷ []) Empty (checked_block cx Empty)) (λ cx. opening_operator cx If (I32 ∷ []) Empty) c.args.stacks.now _ (by_check md c.args.stacks.now.body If (I32 ∷ []) Empty (Some Empty) refl) _ c.open_frame.ensures)
+    (moves_as md _ (λ cx. opener cx If (I32 ∷ []) Empty (checked_block cx Empty)) (λ cx. opening_operator cx If (I32 ∷ []) Empty) c.args.body.stacks.now _ (by_check md c.args.body.stacks.now.body If (I32 ∷ []) Empty (Some Empty) refl) _ c.open_frame.ensures)

@@ -11,8 +11,8 @@ use Rattle.validate_shapes.proofs.blocks.open_typed_if.Goals as goal
 
 pub returns-in_err-checked : goal.returns-in_err-checked
 returns-in_err-checked g c =
-    let md = g.R.WasmModuleResources.context c.args.resources.now in
-    let v = c.args.stacks.now.body in
+    let md = g.R.WasmModuleResources.context c.args.body.resources.now in
+    let v = c.args.body.stacks.now.body in
     let bt = c.args.block_type in
     let none : checked_block (body_context md v) bt ≡ None → step_body md (λ cx. opener cx If (I32 ∷ []) bt (checked_block cx bt)) v ≡ None =
     λ n. by_check md v If (I32 ∷ []) bt None n ∙ not_opened md v If (I32 ∷ []) bt in
@@ -20,9 +20,9 @@ returns-in_err-checked g c =
 
 pub open_frame-requires-clause-block : goal.open_frame-requires-clause-block
 open_frame-requires-clause-block g c =
-    checked_valid (body_context (g.R.WasmModuleResources.context c.args.resources.now) c.args.stacks.now.body) (g.met.R.WasmModuleResources.lawful c.args.resources.now) c.args.block_type c.in_ok-checked.checked c.in_ok-checked.ensures.checked
+    checked_valid (body_context (g.R.WasmModuleResources.context c.args.body.resources.now) c.args.body.stacks.now.body) (g.met.R.WasmModuleResources.lawful c.args.body.resources.now) c.args.block_type c.in_ok-checked.checked c.in_ok-checked.ensures.checked
 
 pub returns : goal.returns
 returns g c =
-    let md = g.R.WasmModuleResources.context c.args.resources.now in
-    moves_as md _ (λ cx. opener cx If (I32 ∷ []) c.args.block_type (checked_block cx c.args.block_type)) (λ cx. opening_operator cx If (I32 ∷ []) c.in_ok-checked.checked) c.args.stacks.now _ (by_check md c.args.stacks.now.body If (I32 ∷ []) c.args.block_type (Some c.in_ok-checked.checked) c.in_ok-checked.ensures.checked) _ c.open_frame.ensures
+    let md = g.R.WasmModuleResources.context c.args.body.resources.now in
+    moves_as md _ (λ cx. opener cx If (I32 ∷ []) c.args.block_type (checked_block cx c.args.block_type)) (λ cx. opening_operator cx If (I32 ∷ []) c.in_ok-checked.checked) c.args.body.stacks.now _ (by_check md c.args.body.stacks.now.body If (I32 ∷ []) c.args.block_type (Some c.in_ok-checked.checked) c.in_ok-checked.ensures.checked) _ c.open_frame.ensures

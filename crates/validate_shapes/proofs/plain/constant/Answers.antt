@@ -6,7 +6,7 @@ use Rattle.validate_shapes.proofs.plain.constant.Goals as goal
 
 pub returns : goal.returns
 returns g c =
-    let md = g.R.WasmModuleResources.context c.args.resources.now in
-    let s = c.args.stacks.now in
+    let md = g.R.WasmModuleResources.context c.args.body.resources.now in
+    let s = c.args.body.stacks.now in
     let pushed = c.args.pushed ∷ [] in
     exchange_moves md _ _ s _ [] pushed (plain_is md s.body [] pushed c.requires.visit.open_frame) (c.requires.pushed, tt) c.requires.visit.valid _ (given_alone md _ (body_pushed_each pushed) s _ c.push_operand.result c.push_operand.ensures.told c.push_operand.ensures.exact)

@@ -9,10 +9,10 @@ use Rattle.validate_shapes.proofs.plain.ending.Goals.{In_err-find_operands}
 use Rattle.validate_shapes.proofs.plain.ending.Goals as goal
 
 -- what doesn't fit has no step
-unfit : (g : Over) (c : In_err-find_operands g) → step_body (g.R.WasmModuleResources.context c.args.resources.now) (λ cx. row_operator (ending_row c.args.types.now)) c.args.stacks.now.body ≡ None
+unfit : (g : Over) (c : In_err-find_operands g) → step_body (g.R.WasmModuleResources.context c.args.body.resources.now) (λ cx. row_operator (ending_row c.args.types.now)) c.args.body.stacks.now.body ≡ None
 unfit g c =
-    let md = g.R.WasmModuleResources.context c.args.resources.now in
-    let v = c.args.stacks.now.body in
+    let md = g.R.WasmModuleResources.context c.args.body.resources.now in
+    let v = c.args.body.stacks.now.body in
     let types = c.args.types.now in
     ending_refused md v c.requires.visit.open_frame types (not_popped md types v c.requires.visit.open_frame (fits_now md types v false c.in_err-find_operands.ensures.unfit))
 
@@ -28,10 +28,10 @@ returns-in_err-find_operands-clause-idle g c =
 
 pub returns-clause-row : goal.returns-clause-row
 returns-clause-row g c =
-    let md = g.R.WasmModuleResources.context c.args.resources.now in
-    let v = c.args.stacks.now.body in
+    let md = g.R.WasmModuleResources.context c.args.body.resources.now in
+    let v = c.args.body.stacks.now.body in
     let types = c.args.types.now in
-    ended_moves md _ _ c.args.stacks.now _ types (ending_is md v c.requires.visit.open_frame types) (fits_now md types v true c.in_ok-find_operands.ensures.fit) c.requires.visit.valid c.end_live.result c.end_live.ensures.told c.end_live.ensures.exact
+    ended_moves md _ _ c.args.body.stacks.now _ types (ending_is md v c.requires.visit.open_frame types) (fits_now md types v true c.in_ok-find_operands.ensures.fit) c.requires.visit.valid c.end_live.result c.end_live.ensures.told c.end_live.ensures.exact
 
 pub returns-clause-idle : goal.returns-clause-idle
 returns-clause-idle g c = λ idle. never_refused _ c.end_live.result (c.end_live.ensures.idle idle)

@@ -9,23 +9,23 @@ use Rattle.validate_stacks.specs.State.{body_context}
 use Rattle.validate_stacks.proofs.FieldValues.{value_valid, value_at}
 use Rattle.validate_stacks.proofs.MatchedOperands.{counted_starts, counted_goes_on, counted_stops}
 use Rattle.validate_stacks.proofs.Moves.{found_at_depth}
-use Rattle.validate_stacks.proofs.stacks.Stacks.find_fields.Goals as goal
+use Rattle.validate_stacks.proofs.body.Body.find_fields.Goals as goal
 
 pub loop-left-init : goal.loop-left-init
 loop-left-init g c =
-    let cx = body_context (g.R.WasmModuleResources.context c.args.resources.now) c.args.self.now.body in
+    let cx = body_context (g.R.WasmModuleResources.context c.args.self.now.resources.now) c.args.self.now.stacks.now.body in
     let fields = c.args.fields.now in
-    record { within = omega arith; rest = counted_starts cx (unpacked_fields fields) (body_dropped c.args.above c.args.self.now.body) (length fields) (length-map fields field_value) }
+    record { within = omega arith; rest = counted_starts cx (unpacked_fields fields) (body_dropped c.args.above c.args.self.now.stacks.now.body) (length fields) (length-map fields field_value) }
 
 pub is_fitting_at-requires-clause-expected : goal.is_fitting_at-requires-clause-expected
 is_fitting_at-requires-clause-expected g c =
-    let md = g.R.WasmModuleResources.context c.args.resources.now in
+    let md = g.R.WasmModuleResources.context c.args.self.now.resources.now in
     subst (Valid md) (sym c.unpack-expected.ensures) (value_valid md c.args.fields.now (c.loop-left.left - 1) _ c.requires.types (omega (arith, c.loop-left-test.true, c.loop-left.invariant.within)))
 
 pub returns-then-not-is_fitting_at-clause-unfit : goal.returns-then-not-is_fitting_at-clause-unfit
 returns-then-not-is_fitting_at-clause-unfit g c =
-    let md = g.R.WasmModuleResources.context c.args.resources.now in
-    let v = c.args.self.now.body in
+    let md = g.R.WasmModuleResources.context c.args.self.now.resources.now in
+    let v = c.args.self.now.stacks.now.body in
     let n = c.loop-left.left in
     let fields = c.args.fields.now in
     let k = length fields - 1 - (n - 1) in
@@ -36,8 +36,8 @@ returns-then-not-is_fitting_at-clause-unfit g c =
 
 pub loop-left-preserved : goal.loop-left-preserved
 loop-left-preserved g c =
-    let md = g.R.WasmModuleResources.context c.args.resources.now in
-    let v = c.args.self.now.body in
+    let md = g.R.WasmModuleResources.context c.args.self.now.resources.now in
+    let v = c.args.self.now.stacks.now.body in
     let n = c.loop-left.left in
     let fields = c.args.fields.now in
     let k = length fields - 1 - (n - 1) in
@@ -51,5 +51,5 @@ loop-left-preserved g c =
 
 pub misfit-requires : goal.misfit-requires
 misfit-requires g c =
-    let md = g.R.WasmModuleResources.context c.args.resources.now in
+    let md = g.R.WasmModuleResources.context c.args.self.now.resources.now in
     subst (Valid md) (sym c.unpack-expected.ensures) (value_valid md c.args.fields.now (c.loop-left.left - 1) _ c.requires.types (omega (arith, c.loop-left-test.true, c.loop-left.invariant.within)))

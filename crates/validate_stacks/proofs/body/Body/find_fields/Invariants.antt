@@ -6,16 +6,16 @@ use Rattle.validate_stacks.specs.AtOnce.{body_dropped}
 use Rattle.validate_stacks.specs.State.{body_context}
 use Rattle.validate_stacks.specs.Pops.{has_operands_fitting}
 use Rattle.validate_stacks.proofs.MatchedOperands.{after_in}
-use Rattle.validate_stacks.proofs.stacks.Stacks.find_fields.Given as goal
+use Rattle.validate_stacks.proofs.body.Body.find_fields.Given as goal
 
 abbrev pub decreases-loop-left : goal.decreases-loop-left
 decreases-loop-left g l = l.left
 
 abbrev pub invariant-loop-left : goal.invariant-loop-left
 invariant-loop-left g l =
-    let cx = body_context (g.R.WasmModuleResources.context l.resources) l.initial.self.body in
+    let cx = body_context (g.R.WasmModuleResources.context l.self.resources.now) l.initial.self.stacks.now.body in
     let values = unpacked_fields l.fields in
-    let v = body_dropped l.above l.initial.self.body in
+    let v = body_dropped l.above l.initial.self.stacks.now.body in
     record {
       within : l.left ≤ length l.fields;
       rest : all_fit cx (after_in l.left (length l.fields - l.left) v.present.frames) (reverse (take l.left values)) ≡ has_operands_fitting cx values v;

@@ -1,4 +1,6 @@
 pub mod Begun
 pub mod Behind
 pub mod Counted
+pub mod FirstBytes
+pub mod Turned
 pub mod Unplaced

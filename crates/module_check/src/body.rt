@@ -52,12 +52,14 @@ fn check_body_from<R: WasmModuleResources>(
 /// Reads a body of this kind, up to the end of the bytes, and checks it as it is read: that of a function, or a
 /// constant expression in this place.
 ///
-/// `Accepted`: all of the bytes were read, each operator is accepted, and the last closes the body. Then no
-/// run of the operators that the bytes are gets stuck, and what it returns fits the results, by the start
-/// that the kind and the locals make; and in a constant expression each is constant. `Refused`: by the
-/// validator, since more frames are open than closed, since operators stand behind the one that closes the
-/// body, or since one isn't constant. `Malformed`: it can't be read. `NotCovered`: a vector operator stands
-/// behind operators that are accepted. `OutOfMemory`: there was no memory for the check.
+/// - `Accepted`: all of the bytes were read, each operator is accepted, and the last closes the body. Then no run of
+///   these operators gets stuck, from the start that the kind and the locals make, and what it returns fits the
+///   results. In a constant expression each operator is constant.
+/// - `Refused`: the validator refuses an operator; or a frame is open at the end; or an operator stands after the one
+///   that closes the body; or one isn't constant.
+/// - `Malformed`: it can't be read.
+/// - `NotCovered`: a vector operator stands after operators that are accepted.
+/// - `OutOfMemory`: there was no memory for the check.
 pub fn check_body<R: WasmModuleResources>(
     resources: &R,
     features: &WasmFeatures,

@@ -6,7 +6,7 @@ use validate_body::OperatorValidator;
 use validate_stacks::OperatorValidatorAllocations;
 use validate_types::{Flags, WasmFeatures};
 
-/// The buffers that the check of a body uses, and leaves for the next. What stands in them says nothing.
+/// The buffers that the check of a body uses, and leaves for the next. No answer depends on what stands in them.
 #[derive(Drop)]
 pub struct BodyBuffers {
     /// The validator, which begins anew for each body.

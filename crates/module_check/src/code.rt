@@ -18,8 +18,8 @@ use validate_resources::WasmModuleResources;
 use validate_types::ValType;
 use validate_visit::Op;
 
-/// Reads the code of a function or of a constant expression. That of a function begins with its locals, in groups, whose
-/// number stands first; behind them stand operators, up to the end.
+/// Reads the code of a function or of a constant expression. A function's code has the number of its groups of locals,
+/// then the groups, then operators. A constant expression has operators alone.
 #[derive(Drop)]
 pub struct CodeReader<'m> {
     reader: BinaryReader<'m>,
@@ -75,7 +75,9 @@ impl<'m> CodeReader<'m> {
         read_group(&mut self.reader, self.types)
     }
 
-    /// Reads the locals of a function, from their number on, and defines them in its body, which starts.
+    /// Reads the locals of a function, from the number of groups on, and defines them in `v`.
+    ///
+    /// Condition: `v` is in a starting state for this lookup.
     pub fn define_locals<R: WasmModuleResources>(
         &mut self,
         v: &mut OperatorValidator,
@@ -90,8 +92,9 @@ impl<'m> CodeReader<'m> {
         define_locals(v, resources, &mut self.reader, self.types)
     }
 
-    /// Reads an operator, which is lent its list out of these buffers. It refuses bytes that begin with none, a vector
-    /// operator as such, and want of memory for the list.
+    /// Reads an operator. If it has a list (labels, types, clauses or handlers), the list stands in these buffers until
+    /// the next read. An error says that the bytes begin with no operator, that the operator is one on vectors, or that
+    /// memory ran out.
     pub fn read_operator<'l>(&mut self, lists: &'l mut OperatorLists) -> Result<Op<'l>, ReadError>
         ensures read { IfOk result (λ op. operator self.old.types self.old.reader.left
             ≡ Some (unplaced op, self.new.reader.left)) }

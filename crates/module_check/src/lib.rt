@@ -5,6 +5,7 @@
 mod body;
 mod buffers;
 mod code;
+mod common;
 mod constant;
 mod expression;
 mod loaded;

@@ -54,9 +54,9 @@ impl<'a> LoadedModule<'a> {
     ghost use Rattle.validate_types.specs.declared.error.Error.{Error};
 
     /// Reads a module, of which these are all the bytes, and checks that what it declares is valid under these
-    /// proposals. The verdict is no acceptance: `Malformed` for bytes that are no module's, `Refused` where what
-    /// it declares isn't valid, `NotCovered` for a vector operator in a constant expression, but for a constant,
-    /// or want of memory.
+    /// proposals. An error is never `Accepted`. It is `Malformed` if the bytes aren't those of a module, `Refused` if
+    /// what it declares isn't valid, `NotCovered` if a constant expression has a vector operator other than
+    /// `v128.const`, or `OutOfMemory`.
     pub fn new(
         alloc: Global,
         bytes: &'a [u8],
@@ -112,7 +112,7 @@ impl<'a> LoadedModule<'a> {
         }
     }
 
-    /// The bytes that it was read of.
+    /// The bytes from which it was read.
     pub fn bytes(&self) -> &'a [u8]
         ensures { result.now ≡ bytes_of self.now }
     {
@@ -156,12 +156,12 @@ impl<'a> LoadedModule<'a> {
         &self.expressions
     }
 
-    /// For how many types an earlier, equal one stands.
+    /// How many types are merged into an earlier, equal one.
     pub fn merged(&self) -> usize {
         self.merged
     }
 
-    /// The index of the function whose body is the one at this index.
+    /// The index of the function that has this body. Bodies count from 0; functions count with the imported ones.
     pub fn function_of(&self, body: usize) -> u32
         ensures { self.now.declared.imports.functions + body < 2 ^ 32
             → result ≡ self.now.declared.imports.functions + body }
@@ -179,7 +179,7 @@ impl<'a> LoadedModule<'a> {
         self.bodies.get(body as usize)
     }
 
-    /// The names of its functions, as far as they can be read. It refuses want of memory.
+    /// The names of its functions, as far as they can be read. It fails only if memory ran out.
     pub fn names(&self, alloc: Global) -> Result<FunctionNames<'a>, ReadError> {
         match &self.names {
             Some(section) => read_function_names(alloc, section),
@@ -244,12 +244,11 @@ impl<'a> LoadedModule<'a> {
         )
     }
 
-    /// Checks the body of the function at this index, as it stands in the bytes of this module. It refuses
-    /// where the module has no body for it, and else as [`check_body`].
+    /// Checks the body of the function at this index, as it stands in the bytes of this module. If the module has no
+    /// body for it, the verdict is `Refused`; otherwise it is that of [`check_body`].
     ///
-    /// `Accepted`: the bytes are those of a function, all of them, with locals and operators that are type
-    /// safe in the lookup that the module declares, by the start that the function's own type and the locals
-    /// make.
+    /// `Accepted`: all of the bytes are locals and operators. In the lookup over the module's declarations, the
+    /// operators are type safe from the start that the function's type and the locals make.
     pub fn check_function(&self, function: u32, buffers: &mut BodyBuffers) -> Verdict
         ensures { result ≡ Accepted → IsSafeFunction self.now function }
     {
@@ -262,11 +261,11 @@ impl<'a> LoadedModule<'a> {
         }
     }
 
-    /// Checks a constant expression of this module, as it stands in the bytes, as [`check_body`] does. It
-    /// refuses one of which the module doesn't have the bytes, or the place.
+    /// Checks a constant expression of this module, as it stands in the bytes, as [`check_body`] does. If the module
+    /// doesn't have its place, the verdict is `Refused`.
     ///
-    /// `Accepted`: the bytes are operators, all of them, that are type safe in the lookup that the module
-    /// declares, and give a value of the type that its place asks for. Each operator is constant there.
+    /// `Accepted`: all of the bytes are operators. In the lookup over the module's declarations they are type safe,
+    /// and give a value of the type that the place asks for. Each is constant there.
     pub fn check_expression(
         &self,
         expression: &ConstantExpression<'_>,

@@ -18,10 +18,10 @@ pub const INVALID: u32 = 1;
 /// The status where the bytes aren't those of a module.
 pub const MALFORMED: u32 = 2;
 
-/// The status for want of memory.
+/// The status if memory ran out.
 pub const OUT_OF_MEMORY: u32 = 3;
 
-/// The status where none is refused, and one isn't covered.
+/// The status if nothing is refused, and something isn't covered.
 pub const NOT_COVERED: u32 = 4;
 
 /// The status where the module has no body for the function.
@@ -33,8 +33,8 @@ pub const NOT_LOADED: u32 = 6;
 /// The kind of what is reported where it is the module as a whole.
 const MODULE: u32 = 6;
 
-/// What the check of a module comes to, as C lays it out. What is reported is the first of those that weigh most:
-/// want of memory, then what is malformed, then what isn't valid, then what isn't covered.
+/// The verdict on a module, as C lays it out. It reports one finding: the first of the gravest kind. The kinds are, the
+/// gravest first: out of memory, malformed, not valid, not covered.
 #[repr(C)]
 #[derive(Drop)]
 pub struct ModuleVerdict {

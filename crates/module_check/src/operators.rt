@@ -9,7 +9,9 @@ ghost use Rattle.validate_body.specs.Start.{state, stacks_of};
 ghost use Rattle.module_check.specs.Begin.{DefinesGroup, DefinesRead};
 ghost use Rattle.module_check.specs.Constant.{may_stand};
 ghost use Rattle.module_check.specs.Safe.{AreSafeOperators};
+ghost use Rattle.module_check.specs.Turns.{IsTurn};
 
+use crate::common::passes_common;
 use crate::constant::ConstantPlace;
 use crate::expression::check_constant_operators;
 use crate::verdict::CheckError;
@@ -83,6 +85,52 @@ pub(crate) fn unclosed(offset: u64) -> CheckError {
     )
 }
 
+/// Reads an operator, and answers whether it is accepted. Where it can't be read, or isn't accepted, the place that is lent
+/// holds why.
+#[inline(never)]
+fn is_any_accepted<R: WasmModuleResources>(
+    v: &mut OperatorValidator,
+    resources: &R,
+    reader: &mut BinaryReader<'_>,
+    canonical: &CanonicalTypes<'_>,
+    lists: &mut OperatorLists,
+    refusal: &mut Option<CheckError>,
+) -> bool
+    requires { MayVisit (R.context resources.now) (stacks_of v.old) }
+    ensures turn { result ≡ true → IsTurn (R.context resources.now) canonical.now reader.old.left reader.new.left
+        (state v.old) (state v.new) }
+    ensures told { result ≡ false → IsSome refusal.new }
+{
+    let offset = reader.offset();
+    let mut op = Op::Numeric(NumericOp::I32Const(0));
+    if let Err(error) = read_operator_into(reader, canonical, lists, &mut op) {
+        *refusal = Some(CheckError::Unread(error));
+        return false;
+    }
+    is_accepted(v, resources, offset, &op, refusal)
+}
+
+/// [`is_any_accepted`], which tries first whether it is one of those that most code is made of.
+#[inline(always)]
+fn is_next_accepted<R: WasmModuleResources>(
+    v: &mut OperatorValidator,
+    resources: &R,
+    reader: &mut BinaryReader<'_>,
+    canonical: &CanonicalTypes<'_>,
+    lists: &mut OperatorLists,
+    refusal: &mut Option<CheckError>,
+) -> bool
+    requires { MayVisit (R.context resources.now) (stacks_of v.old) }
+    ensures turn { result ≡ true → IsTurn (R.context resources.now) canonical.now reader.old.left reader.new.left
+        (state v.old) (state v.new) }
+    ensures told { result ≡ false → IsSome refusal.new }
+{
+    if passes_common(v, resources, reader) {
+        return true;
+    }
+    is_any_accepted(v, resources, reader, canonical, lists, refusal)
+}
+
 /// [`check_operators`] of a function, in which any operator may stand.
 fn check_function_operators<R: WasmModuleResources>(
     v: &mut OperatorValidator,
@@ -100,10 +148,7 @@ fn check_function_operators<R: WasmModuleResources>(
         if reader.is_at_end() {
             break;
         }
-        let offset = reader.offset();
-        let mut op = Op::Numeric(NumericOp::I32Const(0));
-        read_operator_into(reader, &canonical, lists, &mut op)?;
-        if !is_accepted(v, resources, offset, &op, &mut refusal) {
+        if !is_next_accepted(v, resources, reader, &canonical, lists, &mut refusal) {
             break;
         }
         if v.control_stack_height() == 0 {

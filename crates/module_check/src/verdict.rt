@@ -44,7 +44,7 @@ impl fmt::Display for Item {
 pub enum Verdict {
     /// Each operator is accepted, and the last closes the body.
     Accepted,
-    /// It isn't valid.
+    /// It isn't valid, for this reason.
     Refused(Error),
     /// Its bytes can't be read: they aren't of the binary format.
     Malformed(Error),

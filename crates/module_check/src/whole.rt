@@ -46,9 +46,9 @@ fn check_body(
 
 /// Checks each body and each constant expression of a module that was read, and notes what they come to.
 ///
-/// The status is 0 only if it was 0 before and each of them is accepted. Then the module is valid: what it
-/// declares is (that was checked as it was read), each body and each constant expression is type safe, and the
-/// operators of these are constant.
+/// The status is 0 only if it was 0 before and each of them is accepted. Then the module is valid. Its declarations
+/// were checked as it was read; each body and each constant expression is type safe; the operators of constant
+/// expressions are constant.
 pub fn check_module(
     module: &LoadedModule<'_>,
     buffers: &mut BodyBuffers,

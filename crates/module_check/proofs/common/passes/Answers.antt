@@ -1,0 +1,12 @@
+-- The operator that is handed in passes at once, or nothing is changed.
+use Rattle.validate_body.specs.Start.{stacks_of}
+use Rattle.module_check.proofs.Turned.{at_once, not_at_once}
+use Rattle.module_check.proofs.common.passes.Goals as goal
+
+pub returns-then-passes_at_once : goal.returns-then-passes_at_once
+returns-then-passes_at_once g c =
+    at_once (g.R.WasmModuleResources.context c.args.resources.now) c.args.op.now c.args.reader.now c.args.rest (stacks_of c.args.v.now) (stacks_of c.passes_at_once.new.self) c.passes_at_once.result c.requires.like c.passes_at_once.ensures c.if-passes_at_once.true
+
+pub returns : goal.returns
+returns g c =
+    not_at_once (g.R.WasmModuleResources.context c.args.resources.now) c.args.op.now c.args.reader.now (stacks_of c.args.v.now) (stacks_of c.passes_at_once.new.self) c.passes_at_once.result c.passes_at_once.ensures c.if-passes_at_once.false

@@ -1,0 +1,26 @@
+-- A common operator passes, or nothing is changed before any operator is read.
+use Rattle.std.proofs.Common.{sym, subst}
+use Rattle.binary_operators.specs.Unread.{Unread}
+use Rattle.validate_stacks.specs.Attempts.{Stacked}
+use Rattle.validate_stacks.specs.Visits.{MayVisit}
+use Rattle.validate_body.specs.Start.{state, stacks_of}
+use Rattle.module_check.specs.Turns.{IsTurn}
+use Rattle.module_check.proofs.Turned.{turn_of, same_of}
+use Rattle.module_check.proofs.operators.is_next_accepted.Goals as goal
+
+pub returns-then-passes_common-clause-turn : goal.returns-then-passes_common-clause-turn
+returns-then-passes_common-clause-turn g c = λ is.
+    turn_of (g.R.WasmModuleResources.context c.args.resources.now) c.passes_common.result c.args.reader.now c.passes_common.new.reader (stacks_of c.args.v.now) (stacks_of c.passes_common.new.v) c.passes_common.ensures c.if-passes_common.true c.args.canonical.now
+
+pub is_any_accepted-requires : goal.is_any_accepted-requires
+is_any_accepted-requires g c =
+    let md = g.R.WasmModuleResources.context c.args.resources.now in
+    let same = same_of md c.passes_common.result c.args.reader.now c.passes_common.new.reader (stacks_of c.args.v.now) (stacks_of c.passes_common.new.v) c.passes_common.ensures c.if-passes_common.false in
+    subst (MayVisit md) (sym same.1) c.requires
+
+pub returns-clause-turn : goal.returns-clause-turn
+returns-clause-turn g c = λ accepted.
+    let md = g.R.WasmModuleResources.context c.args.resources.now in
+    let same = same_of md c.passes_common.result c.args.reader.now c.passes_common.new.reader (stacks_of c.args.v.now) (stacks_of c.passes_common.new.v) c.passes_common.ensures c.if-passes_common.false in
+    subst (λ (r : Unread). IsTurn md c.args.canonical.now r.left c.is_any_accepted.new.reader.left (state c.args.v.now) (state c.is_any_accepted.new.v)) same.0
+    (subst (λ (s : Stacked). IsTurn md c.args.canonical.now c.passes_common.new.reader.left c.is_any_accepted.new.reader.left s.body (state c.is_any_accepted.new.v)) same.1 (c.is_any_accepted.ensures.turn accepted))

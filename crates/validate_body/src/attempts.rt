@@ -12,10 +12,10 @@ use validate_resources::WasmModuleResources;
 use validate_types::Error;
 use validate_visit::Op;
 
-/// Attempts one operator: where it is accepted it stays, and where it is refused, or no memory is found
-/// for it, the validator is in the state before. No attempt is pending afterwards.
+/// Attempts one operator. If it is accepted, it stays. If it is refused, or memory ran out, the validator is in the
+/// state before. No attempt is pending afterwards.
 ///
-/// A refusal is the one that the visit answers, with the offset handed in; want of memory is one too.
+/// An error is the one that a visit answers, and carries this offset.
 ///
 /// Conditions: no attempt is pending, a frame is open, and the types are those of this lookup.
 pub fn try_op<R: WasmModuleResources>(
@@ -44,9 +44,11 @@ pub fn try_op<R: WasmModuleResources>(
     v.try_slowly(resources, offset, &op)
 }
 
-/// Attempts one operator, and takes it back: whatever its outcome, the state is the one before, with the
-/// order in which locals were first set, and no attempt is pending. It answers as the visit does: accepted
-/// only where the row holds, and refused, but for want of memory, only where it doesn't.
+/// Attempts one operator, and takes it back. Whatever its outcome, the state is the one before, with the order in
+/// which locals were first set, and no attempt is pending. It answers as a visit does: it accepts only if the row
+/// holds, and refuses only if it doesn't. Or memory ran out.
+///
+/// Conditions: those of [`try_op`].
 pub fn try_and_undo<R: WasmModuleResources>(
     v: &mut OperatorValidator,
     resources: &R,

@@ -12,8 +12,9 @@ use validate_stacks::OperatorValidatorAllocations;
 use validate_types::{Error, ValType, WasmFeatures};
 use validate_visit::{BodyKind, LocalGroup};
 
-/// A validator of a body of this kind, with all its locals. It refuses what [`OperatorValidator::start_body`] refuses, at
-/// this offset, and what [`OperatorValidator::define_locals`] refuses, at the offset of the group; or there is no memory.
+/// A validator of a body of this kind, with all its locals. It refuses what [`OperatorValidator::start_body`] refuses,
+/// at this offset, and what [`OperatorValidator::define_locals`] refuses, at the offset of the group. Or memory ran
+/// out.
 pub fn begin_body<R: WasmModuleResources>(
     resources: &R,
     features: &WasmFeatures,

@@ -27,13 +27,12 @@ use validate_visit::{
 /// A validator that is about to visit an operator, with the lookup and the operator's offset
 /// (wasmparser's `WasmProposalValidator`).
 ///
-/// Each check and each visit asks three things of its caller:
-/// - A frame is open. After the outermost `end` there is nothing to visit: `control_stack_height()` is 0
-///   then, and `current_frame()` is None.
-/// - The lookup is the one that the validator was made with and its locals were defined with, the same for
-///   each visit: types that are valid in one may mean nothing in another.
-/// - No attempt is pending, or the pending one has done no more than move operands. Where `can_attempt()`
-///   answers true, it has done nothing. After an operator that did more, `commit` or `rollback` comes first.
+/// Each check and each visit has three conditions:
+/// - A frame is open: `control_stack_height()` isn't 0. After the outermost `end` there is nothing to visit.
+/// - The lookup is the same for each visit, and the one with which the validator was made and its locals were
+///   defined. A type that is valid in one lookup may mean nothing in another.
+/// - No attempt is pending, or the pending one has only moved operands. This holds if `can_attempt()` answers true.
+///   After an operator that did more, call `commit` or `rollback` first.
 ///
 /// Nothing is asked of the operator. An `else`, `catch`, `catch_all` or `delegate` is refused where the
 /// innermost frame isn't one that it can end; a reader of binary modules asks `current_frame()` before it, to
@@ -51,10 +50,8 @@ pub struct WasmProposalValidator<'validator, 'resources, R> {
 }
 
 impl OperatorValidator {
-    /// The validator, ready to visit the operator at this offset, which each refusal carries. It takes no
-    /// memory, and asks for nothing itself. The visit asks that a frame is open, that this lookup is the one
-    /// of the validator (that of `new_func`, of the locals and of each visit), and that a pending attempt has
-    /// done no more than move operands (`can_attempt()`); see [`WasmProposalValidator`].
+    /// The validator, ready to visit the operator at this offset, which each refusal carries. It takes no memory, and
+    /// has no condition. The visit has three: see [`WasmProposalValidator`].
     #[inline(always)]
     pub fn with_resources<'validator, 'resources, R: WasmModuleResources>(
         &'validator mut self,
@@ -136,7 +133,7 @@ impl<'validator, 'resources, R: WasmModuleResources> WasmProposalValidator<
     'resources,
     R,
 > {
-    /// The check of the operator, by its value.
+    /// Checks the operator, by its value. Conditions: those of [`WasmProposalValidator`].
     #[inline(always)]
     pub fn check<'a>(&mut self, op: Op<'a>) -> Result<(), Error>
         requires { MayVisit (R.context self.old.resources.now) (stacks_of self.old.inner.now) }
@@ -151,9 +148,9 @@ impl<'validator, 'resources, R: WasmModuleResources> WasmProposalValidator<
         self.inner.check(self.resources, self.offset, op)
     }
 
-    /// Pops `n` operands of this type, and ticks for each pop that it tries, also for one that is refused:
-    /// below the innermost frame's own operands it tries one, since in dead code each further one would
-    /// pass as that does. A refusal carries the offset.
+    /// Pops `n` operands of this type, one by one, and counts in `pops` each pop that it tries. Below the innermost
+    /// frame's own operands it tries one pop, and no more: in dead code all further ones would pass as that one does.
+    /// A refusal carries the offset, and the refused pop is counted.
     #[inline(always)]
     pub fn pop_run(&mut self, elem: ValType, n: u32, pops: &mut Pops) -> Result<(), Error>
         requires visit { MayVisit (R.context self.old.resources.now) (stacks_of self.old.inner.now) }

@@ -34,7 +34,8 @@ pub struct OperatorValidator {
 }
 
 impl OperatorValidator {
-    /// A validator of no body, in these buffers: no frame is open, and no local is declared. It takes no memory.
+    /// A validator without a body, in these buffers: no frame is open, and no local is declared. `start_func`,
+    /// `start_const_expr` or `start_body` begins a body. It takes no memory.
     pub fn new(features: &WasmFeatures, allocs: OperatorValidatorAllocations) -> OperatorValidator
         ensures { state result ≡ empty_body features.now }
     {
@@ -96,8 +97,8 @@ impl OperatorValidator {
 
     /// A validator of a constant expression: one frame that gives a value of this type is open, and
     /// there are no locals. The type has to be valid and canonical in the lookup of the later visits.
-    /// It refuses for want of memory alone, at offset 0, and gives up the buffers then. That the expression
-    /// is constant isn't looked at: any operator may be visited.
+    /// It fails only if memory ran out, at offset 0; then the buffers are gone. Whether the expression is constant
+    /// isn't looked at: any operator may be visited.
     pub fn new_const_expr(
         features: &WasmFeatures,
         ty: ValType,
@@ -125,10 +126,11 @@ impl OperatorValidator {
         open_outermost(&mut self.stacks, BlockType::Val(ty), 0)
     }
 
-    /// Declares `count` more locals of this type, which is checked even for a count of 0. It refuses,
-    /// at the offset handed in, a type that the lookup refuses; `too many locals: locals exceed
-    /// maximum` where there would be more than 50,000; or want of memory. A refusal leaves the locals
-    /// as they were.
+    /// Declares `count` more locals of this type, which is checked even for a count of 0. It refuses a type that the
+    /// lookup refuses, and more than 50,000 locals in all: `too many locals: locals exceed maximum`. Or memory ran
+    /// out. Each error carries this offset, and leaves the locals as they were.
+    ///
+    /// Condition: the validator is in a starting state for this lookup, so no operator was visited.
     pub fn define_locals<R: WasmModuleResources>(
         &mut self,
         offset: u64,
@@ -155,10 +157,12 @@ impl OperatorValidator {
         }
     }
 
-    /// The check of one operator at this offset: accepted exactly where its row holds, memory aside, with
-    /// the static step. A refusal carries the offset. A frame has to be open, the types of the state are
-    /// those of this lookup, and a pending attempt has done no more than move operands (`can_attempt`).
-    /// Whatever it answers, the types stay valid, and nothing but operands and frames changes.
+    /// Checks one operator. Memory aside, it is accepted exactly if its row holds; then the new state is its static
+    /// step. An error carries this offset. Whatever it answers, the types stay valid, and nothing but operands and
+    /// frames changes.
+    ///
+    /// Conditions: a frame is open; the types of the state are those of this lookup; no attempt is pending, or the
+    /// pending one has only moved operands. The last holds if `can_attempt` answers true.
     #[inline(always)]
     pub fn check<R: WasmModuleResources>(
         &mut self,
@@ -197,8 +201,8 @@ impl OperatorValidator {
         self.check_slowly(resources, offset, op)
     }
 
-    /// [`OperatorValidator::check`] of an operator that doesn't pass at once ([`OperatorValidator::passes_at_once`]): its
-    /// refusal is told, and memory asked for.
+    /// The second half of [`OperatorValidator::check`], for an operator for which [`OperatorValidator::passes_at_once`]
+    /// answered false. It may ask for memory, and a refusal says why.
     #[inline(always)]
     pub fn check_slowly<R: WasmModuleResources>(
         &mut self,
@@ -220,8 +224,9 @@ impl OperatorValidator {
         }
     }
 
-    /// Whether one operator passes at once, as most do. True: it is accepted, with the static step. False: nothing is
-    /// changed, and [`OperatorValidator::check_slowly`] tells whether it is accepted, and why not.
+    /// The first half of [`OperatorValidator::check`], by which most operators pass. True: the operator is accepted,
+    /// with its static step. False: nothing has changed, and [`OperatorValidator::check_slowly`] says whether it is
+    /// accepted.
     #[inline(always)]
     pub fn passes_at_once<R: WasmModuleResources>(&mut self, resources: &R, op: &Op) -> bool
         requires { MayVisit (R.context resources.now) (stacks_of self.old) }
@@ -265,7 +270,7 @@ impl OperatorValidator {
         self.stacks.can_attempt()
     }
 
-    /// Begins an attempt, which `commit` or `rollback` ends. It takes no memory.
+    /// Begins an attempt, which `commit` or `rollback` ends. It takes no memory. Condition: no attempt is pending.
     pub fn begin_try_op(&mut self)
         requires { (state self.old).undone ≡ None }
         ensures begun { stacks_of self.new ≡ stacks_begun (stacks_of self.old) }
@@ -275,7 +280,7 @@ impl OperatorValidator {
         self.stacks.begin_try_op();
     }
 
-    /// Ends the attempt, and keeps what it did. It takes no memory.
+    /// Ends the attempt, and keeps what it did. It takes no memory. Condition: an attempt is pending.
     pub fn commit(&mut self)
         requires { IsSome (state self.old).undone }
         ensures { stacks_of self.new ≡ stacks_committed (stacks_of self.old) }
@@ -283,7 +288,7 @@ impl OperatorValidator {
         self.stacks.commit();
     }
 
-    /// Ends the attempt, and takes back what it did. It takes no memory.
+    /// Ends the attempt, and takes back what it did. It takes no memory. Condition: an attempt is pending.
     pub fn rollback(&mut self)
         requires { IsSome (state self.old).undone }
         ensures back { stacks_of self.new ≡ stacks_rolled_back (stacks_of self.old) }

@@ -19,9 +19,9 @@ use validate_stacks::OperatorValidatorAllocations;
 use validate_types::{Error, OutOfMemory, ValType};
 use validate_visit::{Frame, FrameKind, Op};
 
-/// The validator of a function's body (wasmparser's `FuncValidator`), operator by operator: it keeps those
-/// that it accepts. While it refused none that wasn't attempted, its state is that of the static run over
-/// them, and an attempt that is refused leaves no trace. Contracts see a `FunctionState` of `specs/`.
+/// The validator of a function's body (wasmparser's `FuncValidator`), operator by operator. It keeps the operators
+/// that it accepts. Until [`FuncValidator::op`] refuses one, its state is that of the static run over them. A
+/// refused attempt leaves no trace. Contracts see a `FunctionState` of `specs/`.
 #[derive(Drop)]
 pub struct FuncValidator<'a, 'resources, R: WasmModuleResources> {
     validator: OperatorValidator,
@@ -47,8 +47,10 @@ impl<'a, 'resources, R: WasmModuleResources> Model for FuncValidator<'a, 'resour
 }
 
 impl<'a, 'resources, R: WasmModuleResources> FuncValidator<'a, 'resources, R> {
-    /// A function validator over this one, which is in a starting state for this lookup: its locals may be
-    /// defined, and no operator was visited. It takes no memory.
+    /// A function validator over `v`. It takes no memory.
+    ///
+    /// Condition: `v` is in a starting state for this lookup. It is new, with or without its locals, and no operator
+    /// was visited.
     pub fn new(
         alloc: Global,
         v: OperatorValidator,
@@ -67,9 +69,10 @@ impl<'a, 'resources, R: WasmModuleResources> FuncValidator<'a, 'resources, R> {
         }
     }
 
-    /// Declares `count` more locals of this type, before the first operator (wasmparser's
-    /// `define_locals`). It refuses as [`OperatorValidator::define_locals`] does, and a refusal changes
-    /// nothing.
+    /// Declares `count` more locals of this type (wasmparser's `define_locals`). It refuses as
+    /// [`OperatorValidator::define_locals`] does, and a refusal changes nothing.
+    ///
+    /// Conditions: it has accepted no operator yet, and hasn't failed.
     pub fn define_locals(&mut self, offset: u64, count: u32, ty: ValType) -> Result<(), Error>
         requires first { self.old.accepted ≡ [] }
         requires none_failed { self.old.failed ≡ false }
@@ -85,9 +88,9 @@ impl<'a, 'resources, R: WasmModuleResources> FuncValidator<'a, 'resources, R> {
             .define_locals(offset, count, ty, self.resources)
     }
 
-    /// Visits an operator. Where it is accepted it joins the list of accepted ones; where it is refused, or
-    /// no memory is found for it, this validator has failed, and refuses whatever comes: `function
-    /// validator has failed`. A refusal carries the offset.
+    /// Visits an operator. If it is accepted, it joins the list of accepted ones. If it is refused, or memory ran
+    /// out, this validator has failed. From then on it refuses every operator: `function validator has failed`. A
+    /// refusal carries the offset.
     ///
     /// Condition: unless it has failed, a frame is open (`control_stack_height()` isn't 0).
     pub fn op(&mut self, offset: u64, op: Op<'a>) -> Result<(), Error>
@@ -128,8 +131,8 @@ impl<'a, 'resources, R: WasmModuleResources> FuncValidator<'a, 'resources, R> {
         Ok(())
     }
 
-    /// Attempts an operator. Where it is accepted it stays, as by [`FuncValidator::op`]; where it is refused,
-    /// or no memory is found for it, it leaves no trace. A refusal carries the offset.
+    /// Attempts an operator. If it is accepted, it stays, as by [`FuncValidator::op`]. If it is refused, or memory
+    /// ran out, it leaves no trace. A validator that has failed refuses it. A refusal carries the offset.
     ///
     /// Condition: unless it has failed, a frame is open (`control_stack_height()` isn't 0).
     pub fn try_op(&mut self, offset: u64, op: Op<'a>) -> Result<(), Error>
@@ -208,8 +211,8 @@ impl<'a, 'resources, R: WasmModuleResources> FuncValidator<'a, 'resources, R> {
         self.accepted.as_slice()
     }
 
-    /// The frame of the body as it was at the start, the one that was open: with the declared locals, the
-    /// features and the mark of a shared function it makes up the starting state.
+    /// The outermost frame, as it was at the start. With the locals, the proposals and the mark of a shared
+    /// function, it makes up the starting state.
     pub fn first_frame(&self) -> Frame
         ensures frame { frame_at self.now.starting 0 ≡ Some result }
         ensures start { self.now.starting.present ≡ start result.block_type }
@@ -224,7 +227,7 @@ impl<'a, 'resources, R: WasmModuleResources> FuncValidator<'a, 'resources, R> {
         self.failed
     }
 
-    /// What opened the innermost frame, or which part of it is open; None where no frame is.
+    /// The kind of the innermost frame: what opened it, or which part of it is open. None if no frame is open.
     pub fn current_frame(&self) -> Option<FrameKind>
         ensures { result ≡ current_kind (body_state self.now) }
     {
@@ -282,7 +285,7 @@ impl<'a, 'resources, R: WasmModuleResources> FuncValidator<'a, 'resources, R> {
         self.get_frame(depth)
     }
 
-    /// How many locals are declared, the parameters among them.
+    /// How many locals are declared, with the parameters.
     pub fn len_locals(&self) -> u32
         ensures { result ≡ length self.now.starting.locals }
     {

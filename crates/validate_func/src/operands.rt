@@ -25,12 +25,11 @@ use validate_visit::Op;
 /// Where the whole list is accepted up to the outermost `end`, every run that stands before operator `k`
 /// holds as many operands, in order, each below the known type in its place.
 ///
-/// It refuses as [`validate_body::check_ops`] does, with the place of the operator that is refused, or
-/// `k` where no memory is found for the answer; that refusal carries the offset of operator `k`, or 0
-/// behind the last one.
+/// It refuses as [`validate_body::check_ops`] does, with the place of the refused operator. If there is no memory
+/// for the answer, it answers `k` and an error at the offset of operator `k`, or at 0 if there is no such operator.
 ///
-/// Conditions: those of [`validate_body::check_ops`] on the validator and the list, and that the list has
-/// `k` operators at least.
+/// Conditions: those of [`validate_body::check_ops`] on the validator and the list, and that the list has at least
+/// `k` operators.
 pub fn operands_before<R: WasmModuleResources>(
     alloc: Global,
     v: &mut OperatorValidator,

@@ -117,8 +117,8 @@ impl LocalInits {
         Ok(())
     }
 
-    /// Declares `count` parameters: they are set from the start, whatever their types. Want of memory
-    /// changes nothing, and there is none where there is room.
+    /// Declares `count` parameters: they are set from the start, whatever their types. If there is room, it can't
+    /// fail. If memory ran out, nothing has changed.
     pub fn define_params(&mut self, count: usize) -> Result<(), OutOfMemory>
         ensures declared { OnOk result (self.new.set_at_entry ≡ self.old.set_at_entry ++ replicate count
             true) }
@@ -131,8 +131,8 @@ impl LocalInits {
         self.declare(count, true)
     }
 
-    /// Declares `count` more locals of this type: they are set from the start where it has a default
-    /// value. Want of memory changes nothing, and there is none where there is room.
+    /// Declares `count` more locals of this type: they are set from the start if it has a default value. If there is
+    /// room, it can't fail. If memory ran out, nothing has changed.
     pub fn define_locals(&mut self, count: u32, ty: ValType) -> Result<(), OutOfMemory>
         ensures declared { OnOk result (self.new.set_at_entry ≡ self.old.set_at_entry ++ replicate count
             (is_defaultable ty)) }
@@ -145,8 +145,8 @@ impl LocalInits {
         self.declare(count as usize, ty.is_defaultable())
     }
 
-    /// Makes room for `count` more declarations. Want of memory changes nothing, and there is none where
-    /// there is room.
+    /// Makes room for `count` more declarations. If there is room already, it can't fail. If memory ran out, nothing
+    /// has changed.
     pub fn reserve(&mut self, count: usize) -> Result<(), OutOfMemory>
         ensures set_at_entry { self.new.set_at_entry ≡ self.old.set_at_entry }
         ensures order { self.new.order ≡ self.old.order }
@@ -251,8 +251,8 @@ impl LocalInits {
         }
     }
 
-    /// Sets the local at this index: where it wasn't set, it comes last in the order. Want of memory
-    /// changes nothing, and there is none where there is room or the local is set already.
+    /// Sets the local at this index: if it wasn't set, it comes last in the order. If there is room, or the local is
+    /// set already, it can't fail. If memory ran out, nothing has changed.
     #[inline(always)]
     pub fn set_init(&mut self, index: u32) -> Result<(), OutOfMemory>
         requires { index < length self.old.set_at_entry }

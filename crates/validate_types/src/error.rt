@@ -30,9 +30,8 @@ enum Message {
     OutOfMemory,
 }
 
-/// A refusal: its text, and the offset that was handed in to the call that refused. Want of memory
-/// is a refusal of its own kind. Contracts see an `ErrorValue` of `specs/`, which leaves the reason out. No call takes
-/// memory.
+/// Why a call failed: a refusal, or that memory ran out. It has a text, and the offset that the call was given.
+/// Contracts see an `ErrorValue` of `specs/`, which leaves the reason out. No call takes memory.
 ///
 /// wasmparser's `BinaryReaderError`, there named `Error` inside the validator.
 #[derive(Debug, Drop)]
@@ -123,8 +122,8 @@ impl Error {
         }
     }
 
-    /// Why an operator was refused, to be matched on in place of the text. `None` where no rule of an operator refused, as
-    /// for want of memory, or a look-up of the caller's own.
+    /// Why an operator was refused: match on this, not on the text. `None` if no rule of an operator refused: memory
+    /// ran out, or a lookup of the caller's own refused.
     pub fn reason(&self) -> Option<Refusal> {
         self.reason
     }
@@ -136,7 +135,7 @@ impl Error {
         self.offset
     }
 
-    /// Whether it was made for want of memory, as by [`Error::out_of_memory`].
+    /// Whether memory ran out. Then it says nothing of the operator's row.
     pub fn is_out_of_memory(&self) -> bool
         ensures { result ≡ self.now.wants_memory }
     {

@@ -21,7 +21,7 @@ pub enum Refusal {
     Closed(Gate),
     /// The proposal `acquire_release_atomics` is off, and the operator has an ordering of it.
     AcquireReleaseOff,
-    /// The proposal that accesses arrays by bytes is off.
+    /// The proposal `multibyte_array_access` is off, and the access is to an array.
     MultibyteArraysOff,
     /// The proposal of a reference type is off, as this text says.
     ReferenceOff(&'static str),
@@ -29,9 +29,9 @@ pub enum Refusal {
     MultiValueOff,
 
     // ---- operands
-    /// An operand isn't there; where a type is expected, this one.
+    /// An operand is missing. If one type was expected, it is this one.
     NothingFound(Option<ValType>),
-    /// An operand doesn't fit the expected type; so many operands lie above it.
+    /// An operand doesn't fit the expected type; `depth` operands lie above it.
     Mismatch {
         depth: usize,
         expected: ValType,
@@ -56,7 +56,7 @@ pub enum Refusal {
     SelectOfReferences,
     /// The operands of `select` are of two types.
     SelectOfTwoTypes,
-    /// `select` with types has one, and this hasn't.
+    /// `select` with types has exactly one type, and this one hasn't.
     SelectArity,
 
     // ---- indices
@@ -104,7 +104,7 @@ pub enum Refusal {
     NoDescriptor,
     /// The target of a cast has no descriptor.
     TargetWithoutDescriptor,
-    /// A type is made with a descriptor alone, and the operator has none.
+    /// Values of the type are made only with a descriptor, and this operator takes none.
     WantsDescriptor {
         type_index: u32,
         name: &'static str,
@@ -136,11 +136,11 @@ pub enum Refusal {
     UnsharedContinuation,
 
     // ---- what is written, read and made
-    /// A global that is written, by an operator of this name, can't be.
+    /// An operator of this name writes a global that can't be written.
     ImmutableGlobal(&'static str),
-    /// A field of a struct that is written can't be.
+    /// An operator writes a field that can't be written.
     ImmutableField,
-    /// An array that is written can't be.
+    /// An operator writes an array that can't be written.
     ImmutableArray,
     /// A field is packed, or isn't, against what the operator says.
     FieldPacking(Packing),
@@ -242,7 +242,7 @@ pub enum Refusal {
     NonNullLabelEmpty,
     /// The label of `br_on_non_null` takes no reference last.
     NonNullLabel,
-    /// A function of this type is called last, and doesn't give what the body does.
+    /// A tail call: what a function of this type gives isn't what the body gives.
     OtherResults(u32),
     /// A clause's label takes another number of types than it is given.
     ClauseArity(ClauseKind),
@@ -297,7 +297,7 @@ pub enum ClauseKind {
     CatchAllRef,
 }
 
-/// What a body answers where it refuses: how much it tells is up to the caller.
+/// What a body answers if it refuses. The caller chooses it, and so chooses how much is told.
 pub trait Refused {
     /// It tells that the row doesn't hold.
     ghost tells: { Self → Type 0 };
@@ -316,7 +316,7 @@ pub trait Refused {
         ensures { tells result → error.wants_memory ≡ false };
 }
 
-/// Nothing is told: the operator wasn't done. It has no field, so nothing of a refusal lies in memory.
+/// The operator wasn't done, and no reason is told. It has no field, so nothing of a refusal lies in memory.
 #[derive(Clone, Copy, Debug, PartialEq, Eq)]
 pub struct NotDone;
 

@@ -14,8 +14,8 @@ ghost use Rattle.validate_visit.specs.declared.frame.FrameKind.{FrameKind};
 use crate::frame::{BlockType, FrameKind};
 use validate_types::{ContType, FuncType, RefType, SubType};
 
-/// Knows what says how many operands an operator of a body takes and gives (wasmparser's
-/// `ModuleArity`): the types that it names, and the open frames.
+/// Knows the types that the operators of a body name, and the open frames (wasmparser's `ModuleArity`). These say how
+/// many operands an operator takes and gives.
 pub trait ModuleArity {
     /// What the tag at this index carries, and what is given back for it.
     ghost tag_at: { Self → ℕ → Option Signature };

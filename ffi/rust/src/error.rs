@@ -1,10 +1,13 @@
 //! Why something isn't accepted.
 
 use crate::raw::Verdict;
-use alloc::borrow::ToOwned;
-use alloc::boxed::Box;
+use alloc::borrow::Cow;
 use alloc::string::String;
 use core::fmt;
+use core::str;
+
+/// The text of an error for whose own text there was no memory.
+const NO_TEXT: &str = "no memory for the text";
 
 /// What kind of reason it is.
 #[derive(Clone, Copy, Debug, PartialEq, Eq, Hash)]
@@ -49,42 +52,51 @@ pub enum Item {
 /// assert_eq!(error.offset(), 0);
 /// assert_eq!(error.to_string(), "magic header not detected (at offset 0x0)");
 /// ```
-#[derive(Clone, PartialEq, Eq)]
+#[derive(Clone, Debug, PartialEq, Eq)]
 pub struct Error {
-    inner: Box<Inner>,
-}
-
-#[derive(Clone, PartialEq, Eq)]
-struct Inner {
     kind: ErrorKind,
     item: Item,
     offset: u64,
-    message: String,
+    message: Cow<'static, str>,
+}
+
+/// A text of its own, if there is memory for it. The bytes end within a letter where the text was cut.
+fn owned_text(written: &[u8]) -> Cow<'static, str> {
+    let text = match str::from_utf8(written) {
+        Ok(text) => text,
+        Err(error) => str::from_utf8(&written[..error.valid_up_to()]).unwrap_or_default(),
+    };
+    let mut message = String::new();
+    if message.try_reserve_exact(text.len()).is_err() {
+        return Cow::Borrowed(NO_TEXT);
+    }
+    message.push_str(text);
+    Cow::Owned(message)
 }
 
 impl Error {
     /// What kind of reason it is.
     #[must_use]
     pub fn kind(&self) -> ErrorKind {
-        self.inner.kind
+        self.kind
     }
 
     /// What it is about.
     #[must_use]
     pub fn item(&self) -> Item {
-        self.inner.item
+        self.item
     }
 
     /// Where it is, from the first byte of the module. It is 0 for want of memory, and for a body that isn't there.
     #[must_use]
     pub fn offset(&self) -> u64 {
-        self.inner.offset
+        self.offset
     }
 
-    /// Upstream's text.
+    /// Upstream's text, or `no memory for the text` if memory ran out as it was copied.
     #[must_use]
     pub fn message(&self) -> &str {
-        &self.inner.message
+        &self.message
     }
 
     /// What a verdict reports, unless it is an acceptance. The text stands behind no more than these bytes.
@@ -107,26 +119,13 @@ impl Error {
             _ => Item::Module,
         };
         let written = &text[..verdict.text_length.min(text.len())];
-        let message = String::from_utf8_lossy(written).as_ref().to_owned();
-        Some(Error { inner: Box::new(Inner { kind, item, offset: verdict.offset, message }) })
-    }
-}
-
-impl fmt::Debug for Error {
-    fn fmt(&self, f: &mut fmt::Formatter<'_>) -> fmt::Result {
-        let Inner { kind, item, offset, message } = &*self.inner;
-        f.debug_struct("Error")
-            .field("kind", kind)
-            .field("item", item)
-            .field("offset", offset)
-            .field("message", message)
-            .finish()
+        Some(Error { kind, item, offset: verdict.offset, message: owned_text(written) })
     }
 }
 
 impl fmt::Display for Error {
     fn fmt(&self, f: &mut fmt::Formatter<'_>) -> fmt::Result {
-        write!(f, "{} (at offset {:#x})", self.inner.message, self.inner.offset)
+        write!(f, "{} (at offset {:#x})", self.message, self.offset)
     }
 }
 

@@ -328,7 +328,8 @@ pub(crate) fn natural(max_align: u8, memarg: MemArg) -> MemArg
 
 /// The operator of this code that accesses this place.
 #[tactic(auto, unfolding(crate::specs::Codes::access_ops))]
-pub(crate) fn access_op<'l>(code: u32, m: MemArg) -> Option<Op<'l>>
+#[inline(always)]
+pub fn access_op<'l>(code: u32, m: MemArg) -> Option<Op<'l>>
     ensures { option_map (λ op. unplaced op) result ≡ option_map (λ make. make m) (at code access_ops) }
 {
     let op = match code {

@@ -17,6 +17,7 @@ mod operators;
 mod reader;
 mod types;
 
+pub use crate::codes::access_op;
 pub use crate::equal::are_groups_equal;
 pub use crate::error::{Cause, Fault, ReadError};
 pub use crate::lists::{OperatorLists, push};

@@ -112,6 +112,31 @@ impl<'a> BinaryReader<'a> {
         }
     }
 
+    /// The next two bytes, which aren't read yet, or None where fewer are left.
+    #[inline(always)]
+    pub fn next_two(&self) -> Option<(u8, u8)>
+        ensures next { IfSome result (λ two. self.now.left ≡ two.0 ∷ two.1 ∷ drop 2 self.now.left) }
+        ensures ended { result ≡ None → length self.now.left < 2 }
+    {
+        let second = self.place + 1;
+        if second < self.bytes.len() {
+            return Some((self.bytes[self.place], self.bytes[second]));
+        }
+        None
+    }
+
+    /// A reader of what is behind the next bytes, so many.
+    #[inline(always)]
+    pub fn behind(&self, count: usize) -> BinaryReader<'a>
+        requires { count ≤ length self.now.left }
+        ensures { result ≡ record { offset = self.now.offset + count; left = drop count self.now.left } }
+    {
+        BinaryReader {
+            bytes: self.bytes,
+            place: self.place + count,
+        }
+    }
+
     /// Reads a byte. It refuses where none is left: `unexpected end`.
     #[inline(always)]
     pub fn read_u8(&mut self) -> Result<u8, ReadError>

@@ -1,18 +1,20 @@
 -- What is told by the first byte is what the bytes are.
-use Rattle.std.proofs.Common.{◌≡◌, ℕ, ◌+◌, List, [], ◌∷◌, Bool, true, false, Option, Some, None, suc, zero, ◌&&◌, refl, sym, ap, subst, ◌∙◌, get_or, arith, nat_eq, nat_lt, ◌<◌, ◌≤◌, ◌-◌, ◌^◌, take, drop, if◌then◌else◌, ℤ, pos, ◌-ℤ◌, ◌⊎◌, inl, inr}
-use Rattle.std.proofs.lemmas.Bool.{and_parts, eqb-true, lt-ltb, le-ltb, cases_lt}
-use Rattle.binary_operators.specs.Codes.{plain_ops, index_ops, block_ops}
-use Rattle.binary_operators.specs.Immediates.{block_type}
+use Rattle.std.proofs.Common.{◌≡◌, ℕ, ◌+◌, List, [], ◌∷◌, Bool, true, false, Option, Some, None, suc, zero, ◌&&◌, refl, sym, ap, subst, ◌∙◌, get_or, arith, nat_eq, nat_lt, ◌<◌, ◌≤◌, ◌-◌, ◌^◌, drop, if◌then◌else◌, ℤ, pos, ◌-ℤ◌, ◌⊎◌, inl, inr, option_map}
+use Rattle.std.proofs.lemmas.Bool.{and_parts, eqb-true, ltb-true, lt-ltb, le-ltb, cases_lt}
+use Rattle.binary_operators.specs.Codes.{at, plain_ops, index_ops, block_ops, access_ops}
+use Rattle.binary_operators.specs.Immediates.{block_type, memarg, in_memory, in_indexed_memory}
 use Rattle.binary_operators.specs.Integers.{unsigned, signed, biased, last_biased, with_low, with_rest, without_bias}
 use Rattle.binary_operators.specs.Unplaced.{unplaced}
 use Rattle.binary_operators.specs.Forms.{from, forms}
-use Rattle.binary_operators.specs.Instructions.{operator, operator_of, index_op, block_op, constant_i32}
+use Rattle.binary_operators.specs.Instructions.{operator, operator_of, index_op, block_op, access_op, constant_i32}
 use Rattle.binary_operators.specs.Numbers.{numeric_ops}
 use Rattle.binary_operators.specs.Unread.{Unread}
 use Rattle.binary_operators.specs.Values.{◌>>=◌}
 use Rattle.binary_operators.specs.declared.forms.Form.{Form}
-use Rattle.binary_operators.specs.declared.forms.Form.TheVariants.{Numeric as OfNumeric}
+use Rattle.binary_operators.specs.declared.forms.Form.TheVariants.{Numeric as OfNumeric, Access as OfAccess}
 use Rattle.binary_operators.specs.declared.types.CanonicalTypes.{CanonicalTypes}
+use Rattle.validate_visit.specs.declared.memory.MemArg.{MemArg}
+use Rattle.validate_visit.specs.declared.memory.MemArgTarget.TheVariants.{Memory}
 use Rattle.validate_visit.specs.declared.numbers.IntegerType.TheVariants.{I32 as W32, I64 as W64}
 use Rattle.validate_visit.specs.declared.numeric.IntegerBinaryOp.TheVariants.{Add}
 use Rattle.validate_visit.specs.declared.numeric.IntegerComparisonOp.TheVariants.{Eq}
@@ -25,7 +27,7 @@ use Rattle.validate_visit.specs.declared.op.Op.TheVariants.{Numeric, Control}
 use Rattle.validate_visit.specs.declared.frame.BlockType.TheVariants.{Empty}
 use Rattle.module_check.specs.FirstBytes.{kinds, BeginLike}
 use Rattle.module_check.specs.declared.common.Common.{Common}
-use Rattle.module_check.specs.declared.common.Common.TheVariants.{Rare, Nop, Block, Loop, If, End, Br, BrIf, Return, Call, Drop, Select, LocalGet, LocalSet, LocalTee, GlobalGet, GlobalSet, Constant32, Test32, Compare32, Compare64, Binary32, Binary64}
+use Rattle.module_check.specs.declared.common.Common.TheVariants.{Rare, Nop, Block, Loop, If, End, Br, BrIf, Return, Call, Drop, Select, LocalGet, LocalSet, LocalTee, GlobalGet, GlobalSet, Constant32, Test32, Compare32, Compare64, Binary32, Binary64, Access}
 
 -- whether a byte of this form, with this operator on numbers, is of the kind
 abbrev pub is_test32 : Option Form → Option NumericOp → Bool
@@ -48,6 +50,10 @@ abbrev pub is_binary64 : Option Form → Option NumericOp → Bool
 is_binary64 (Some OfNumeric) (Some (IntegerBinary W64 _)) = true
 is_binary64 _ _ = false
 
+abbrev pub is_access : Option Form → Bool
+is_access (Some OfAccess) = true
+is_access _ = false
+
 -- whether an operator of this kind begins with this byte
 unfoldable pub is_common : ℕ → Common → Bool
 is_common code Rare = true
@@ -56,6 +62,7 @@ is_common code Compare32 = is_compare32 (from 0 forms code) (from 0x45 numeric_o
 is_common code Compare64 = is_compare64 (from 0 forms code) (from 0x45 numeric_ops code)
 is_common code Binary32 = is_binary32 (from 0 forms code) (from 0x45 numeric_ops code)
 is_common code Binary64 = is_binary64 (from 0 forms code) (from 0x45 numeric_ops code)
+is_common code Access = is_access (from 0 forms code)
 is_common code Nop = nat_eq code 0x01
 is_common code Block = nat_eq code 0x02
 is_common code Loop = nat_eq code 0x03
@@ -142,11 +149,10 @@ binary64_of code rest (Some OfNumeric) (Some (IntegerBinary W64 o)) e f h = reco
 }
 binary64_of code rest form op e f h = cc
 
-small_unsigned : (i : ℕ) (bs : List ℕ) → i < 128 → unsigned 32 (i ∷ bs) ≡ Some (i, bs)
-small_unsigned i bs l =
-    let fits : i < 2 ^ 32 = omega (arith, l) in
-    ap (λ t. if t then (if nat_lt i (2 ^ 32) then Some (i, bs) else None) else (if nat_lt 7 32 then with_low (i - 128) (unsigned (32 - 7) bs) else None)) (lt-ltb i 128 l)
-    ∙ ap (λ t. if t then Some (i, bs) else None) (lt-ltb i (2 ^ 32) fits)
+small_unsigned : (bits i : ℕ) (bs : List ℕ) → i < 128 → i < 2 ^ bits → unsigned bits (i ∷ bs) ≡ Some (i, bs)
+small_unsigned bits i bs l fits =
+    ap (λ t. if t then (if nat_lt i (2 ^ bits) then Some (i, bs) else None) else (if nat_lt 7 bits then with_low (i - 128) (unsigned (bits - 7) bs) else None)) (lt-ltb i 128 l)
+    ∙ ap (λ t. if t then Some (i, bs) else None) (lt-ltb i (2 ^ bits) fits)
 
 small_last : (i : ℕ) → (v : ℕ) × (last_biased 32 i ≡ Some v)
 small_last i = by (cases_lt i 64)
@@ -173,19 +179,61 @@ small_signed i bs l =
           ∙ ap (λ v. without_bias 32 (with_rest bs v)) last.1,
     )
 
-pub first_of : (i : ℕ) (rest : List ℕ) → take 1 rest ≡ i ∷ [] → rest ≡ i ∷ drop 1 rest
-first_of i [] e = cc
-first_of i (j ∷ rest) e = ap (λ bs. get_or bs 0 0 ∷ rest) e
+-- a place in the first memory, whose alignment and offset are a byte each
+abbrev pub near : ℕ → ℕ → MemArg
+near align offset = record { align = align; max_align = 0; offset = offset; target = Memory 0 }
 
-pub there : (i : ℕ) (rest : List ℕ) → i ≡ 0x40 → rest ≡ i ∷ drop 1 rest → rest ≡ 0x40 ∷ drop 1 rest
-there i rest e h = subst (λ j. rest ≡ j ∷ drop 1 rest) e h
+near_read : (align offset : ℕ) (bs : List ℕ) → align < 64 → offset < 128 → memarg (align ∷ offset ∷ bs) ≡ Some (near align offset, bs)
+unfolding memarg
+near_read align offset bs a o =
+    let below : align < 128 = omega (arith, a) in
+    let fits : align < 2 ^ 32 = omega (arith, a) in
+    let fits_too : offset < 2 ^ 64 = omega (arith, o) in
+    ap (λ (r : Option (ℕ × List ℕ)). r >>= (λ (flags : ℕ × List ℕ). if nat_lt flags.0 0x40 then in_memory flags.0 0 flags.1 else (if nat_lt flags.0 0x80 then in_indexed_memory (flags.0 - 0x40) flags.1 else None))) (small_unsigned 32 align (offset ∷ bs) below fits)
+    ∙ ap (λ t. if t then in_memory align 0 (offset ∷ bs) else (if nat_lt align 0x80 then in_indexed_memory (align - 0x40) (offset ∷ bs) else None)) (lt-ltb align 64 a)
+    ∙ ap (λ (r : Option (ℕ × List ℕ)). r >>= (λ (n : ℕ × List ℕ). Some (near align n.0, n.1))) (small_unsigned 64 offset bs o fits_too)
 
-pub moved_read : {r t : Unread} {bytes : List ℕ} → r ≡ t → r.left ≡ bytes → t.left ≡ bytes
-moved_read {r} {t} {bytes} e h = subst (λ (u : Unread). u.left ≡ bytes) e h
+abbrev before : List ℕ → Op → Option (Op × List ℕ)
+before bs op = Some (op, bs)
 
-module _ (code : ℕ) (bytes rest : List ℕ) (begins : bytes ≡ code ∷ rest) where
-  moved : (op : Op) (behind : List ℕ) → BeginLike (code ∷ rest) op behind → BeginLike bytes op behind
-  moved op behind like = subst (λ b. BeginLike b op behind) (sym begins) like
+made : (make : Option (MemArg → Op)) (m : MemArg) (op : Op) (bs : List ℕ) → option_map (λ (f : MemArg → Op). f m) make ≡ Some op → (make >>= (λ (f : MemArg → Op). before bs (f m))) ≡ Some (op, bs)
+made None m op bs h = cc
+made (Some f) m op bs h = ap (λ (o : Option Op). o >>= before bs) h
+
+of_access : (form : Option Form) → is_access form ≡ true → form ≡ Some OfAccess
+of_access (Some OfAccess) h = refl
+of_access form h = cc
+
+pub access_read : (code align offset : ℕ) (op : Op) → Access ≡ get_or kinds code Rare → align < 64 → offset < 128 → option_map (λ (f : MemArg → Op). f (near align offset)) (at code access_ops) ≡ Some (unplaced op) → (types : CanonicalTypes) (bs : List ℕ) → operator types (code ∷ align ∷ offset ∷ bs) ≡ Some (unplaced op, bs)
+unfolding is_common operator access_op
+access_read code align offset op e a o h types bs =
+    ap (λ form. operator_of form code types (align ∷ offset ∷ bs)) (of_access (from 0 forms code) (common_there code Access e))
+    ∙ ap (λ (r : Option (MemArg × List ℕ)). r >>= (λ (m : MemArg × List ℕ). at code access_ops >>= (λ (f : MemArg → Op). before m.1 (f m.0)))) (near_read align offset bs a o)
+    ∙ made (at code access_ops) (near align offset) (unplaced op) bs h
+
+-- the bytes are these two and others, and readers stand behind the first and behind both
+pub record AreTwo (bytes : List ℕ) (code next : ℕ) (rest behind : List ℕ) : Type 0 where
+  pub begins : bytes ≡ code ∷ rest
+  pub goes_on : rest ≡ next ∷ behind
+
+pub two_of : {bytes : List ℕ} {code next o p : ℕ} {r s : Unread} → bytes ≡ code ∷ next ∷ drop 2 bytes → r ≡ record { offset = o; left = drop 1 bytes } → s ≡ record { offset = p; left = drop 2 bytes } → AreTwo bytes code next r.left s.left
+two_of {bytes} {code} {next} {o} {p} {r} {s} e f g =
+    let one : r.left ≡ drop 1 bytes = ap (λ (x : Unread). x.left) f in
+    let two : s.left ≡ drop 2 bytes = ap (λ (x : Unread). x.left) g in
+    let more : r.left ≡ next ∷ s.left = one ∙ ap (λ bs. drop 1 bs) e ∙ ap (λ bs. next ∷ bs) (sym two) in
+    record { begins = e ∙ ap (λ bs. code ∷ next ∷ bs) (sym two) ∙ ap (λ bs. code ∷ bs) (sym more); goes_on = more }
+
+pub end_begins : {r t : Unread} {code : ℕ} {rest : List ℕ} → r ≡ t → r.left ≡ code ∷ rest → code ≡ 0x0b → BeginLike t.left (Control EndOp) rest
+unfolding operator forms plain_ops
+end_begins {r} {t} {code} {rest} same e is = record {
+  actual = Control EndOp;
+  is_read = λ types. ap (λ (u : Unread). operator types u.left) (sym same) ∙ ap (λ bs. operator types bs) e ∙ ap (λ c. operator types (c ∷ rest)) is;
+  same_row = λ cx. refl;
+}
+
+module _ {bytes : List ℕ} {code next : ℕ} {rest behind : List ℕ} (two : AreTwo bytes code next rest behind) where
+  moved : (op : Op) (left : List ℕ) → BeginLike (code ∷ rest) op left → BeginLike bytes op left
+  moved op left like = subst (λ b. BeginLike b op left) (sym two.begins) like
 
   pub test32_like : Test32 ≡ get_or kinds code Rare → BeginLike bytes (Numeric (Eqz W32)) rest
   unfolding is_common
@@ -234,72 +282,72 @@ module _ (code : ℕ) (bytes rest : List ℕ) (begins : bytes ≡ code ∷ rest)
   unfolding is_common operator forms plain_ops
   select_like e = bare_like 0x1b SelectOp (common_there code Select e) (λ types. refl)
 
-  index_like : (c : ℕ) (op : ℕ → ControlOp) → nat_eq code c ≡ true → ((types : CanonicalTypes) (bs : List ℕ) → operator types (c ∷ bs) ≡ (unsigned 32 bs >>= (λ (i : ℕ × List ℕ). Some (unplaced (Control (op i.0)), i.1)))) → (i : ℕ) → rest ≡ i ∷ drop 1 rest → i < 128 → BeginLike bytes (Control (op i)) (drop 1 rest)
-  index_like c op e read i there l = moved (Control (op i)) (drop 1 rest) (subst (λ n. BeginLike (n ∷ rest) (Control (op i)) (drop 1 rest)) (sym (eqb-true code c e)) (record {
-    actual = Control (op i);
-    is_read = λ types. ap (λ bs. operator types (c ∷ bs)) there ∙ read types (i ∷ drop 1 rest)
-        ∙ ap (λ (r : Option (ℕ × List ℕ)). r >>= (λ (j : ℕ × List ℕ). Some (unplaced (Control (op j.0)), j.1))) (small_unsigned i (drop 1 rest) l);
+  index_like : (c : ℕ) (op : ℕ → ControlOp) → nat_eq code c ≡ true → ((types : CanonicalTypes) (bs : List ℕ) → operator types (c ∷ bs) ≡ (unsigned 32 bs >>= (λ (i : ℕ × List ℕ). Some (unplaced (Control (op i.0)), i.1)))) → {index : ℕ} → index ≡ next → nat_lt next 128 ≡ true → BeginLike bytes (Control (op index)) behind
+  index_like c op e read {index} same l = subst (λ i. BeginLike bytes (Control (op i)) behind) (sym same) (moved (Control (op next)) behind (subst (λ n. BeginLike (n ∷ rest) (Control (op next)) behind) (sym (eqb-true code c e)) (record {
+    actual = Control (op next);
+    is_read = λ types. ap (λ bs. operator types (c ∷ bs)) two.goes_on ∙ read types (next ∷ behind)
+        ∙ ap (λ (r : Option (ℕ × List ℕ)). r >>= (λ (j : ℕ × List ℕ). Some (unplaced (Control (op j.0)), j.1))) (let less = ltb-true next 128 l in small_unsigned 32 next behind less (omega (arith, less)));
     same_row = λ cx. refl;
-  }))
+  })))
 
-  pub constant_like : Constant32 ≡ get_or kinds code Rare → (i : ℕ) → rest ≡ i ∷ drop 1 rest → i < 128 → BeginLike bytes (Numeric (I32Const (pos 0))) (drop 1 rest)
+  pub constant_like : Constant32 ≡ get_or kinds code Rare → nat_lt next 128 ≡ true → BeginLike bytes (Numeric (I32Const (pos 0))) behind
   unfolding is_common operator forms constant_i32
-  constant_like e i there l =
-      let read = small_signed i (drop 1 rest) l in
-      moved (Numeric (I32Const (pos 0))) (drop 1 rest) (subst (λ n. BeginLike (n ∷ rest) (Numeric (I32Const (pos 0))) (drop 1 rest)) (sym (eqb-true code 0x41 (common_there code Constant32 e))) (record {
+  constant_like e l =
+      let read = small_signed next behind (ltb-true next 128 l) in
+      moved (Numeric (I32Const (pos 0))) behind (subst (λ n. BeginLike (n ∷ rest) (Numeric (I32Const (pos 0))) behind) (sym (eqb-true code 0x41 (common_there code Constant32 e))) (record {
         actual = Numeric (I32Const read.0);
-        is_read = λ types. ap (λ bs. operator types (0x41 ∷ bs)) there
+        is_read = λ types. ap (λ bs. operator types (0x41 ∷ bs)) two.goes_on
             ∙ ap (λ (r : Option (ℤ × List ℕ)). r >>= (λ (j : ℤ × List ℕ). Some (Numeric (I32Const j.0), j.1))) read.1;
         same_row = λ cx. refl;
       }))
 
-  opener_like : (c : ℕ) (op : ControlOp) → nat_eq code c ≡ true → ((types : CanonicalTypes) (bs : List ℕ) → operator types (c ∷ 0x40 ∷ bs) ≡ Some (unplaced (Control op), bs)) → rest ≡ 0x40 ∷ drop 1 rest → BeginLike bytes (Control op) (drop 1 rest)
-  opener_like c op e read there = moved (Control op) (drop 1 rest) (subst (λ n. BeginLike (n ∷ rest) (Control op) (drop 1 rest)) (sym (eqb-true code c e)) (record {
+  opener_like : (c : ℕ) (op : ControlOp) → nat_eq code c ≡ true → ((types : CanonicalTypes) (bs : List ℕ) → operator types (c ∷ 0x40 ∷ bs) ≡ Some (unplaced (Control op), bs)) → nat_eq next 0x40 ≡ true → BeginLike bytes (Control op) behind
+  opener_like c op e read empty = moved (Control op) behind (subst (λ n. BeginLike (n ∷ rest) (Control op) behind) (sym (eqb-true code c e)) (record {
     actual = Control op;
-    is_read = λ types. ap (λ bs. operator types (c ∷ bs)) there ∙ read types (drop 1 rest);
+    is_read = λ types. ap (λ bs. operator types (c ∷ bs)) (two.goes_on ∙ ap (λ n. n ∷ behind) (eqb-true next 0x40 empty)) ∙ read types behind;
     same_row = λ cx. refl;
   }))
 
-  pub br_like : Br ≡ get_or kinds code Rare → (i : ℕ) → rest ≡ i ∷ drop 1 rest → i < 128 → BeginLike bytes (Control (BrOp i)) (drop 1 rest)
+  pub br_like : Br ≡ get_or kinds code Rare → {index : ℕ} → index ≡ next → nat_lt next 128 ≡ true → BeginLike bytes (Control (BrOp index)) behind
   unfolding is_common operator forms index_op index_ops
-  br_like e i there l = index_like 0x0c (λ j. BrOp j) (common_there code Br e) (λ types bs. refl) i there l
+  br_like e same l = index_like 0x0c (λ j. BrOp j) (common_there code Br e) (λ types bs. refl) same l
 
-  pub br_if_like : BrIf ≡ get_or kinds code Rare → (i : ℕ) → rest ≡ i ∷ drop 1 rest → i < 128 → BeginLike bytes (Control (BrIfOp i)) (drop 1 rest)
+  pub br_if_like : BrIf ≡ get_or kinds code Rare → {index : ℕ} → index ≡ next → nat_lt next 128 ≡ true → BeginLike bytes (Control (BrIfOp index)) behind
   unfolding is_common operator forms index_op index_ops
-  br_if_like e i there l = index_like 0x0d (λ j. BrIfOp j) (common_there code BrIf e) (λ types bs. refl) i there l
+  br_if_like e same l = index_like 0x0d (λ j. BrIfOp j) (common_there code BrIf e) (λ types bs. refl) same l
 
-  pub call_like : Call ≡ get_or kinds code Rare → (i : ℕ) → rest ≡ i ∷ drop 1 rest → i < 128 → BeginLike bytes (Control (CallOp i)) (drop 1 rest)
+  pub call_like : Call ≡ get_or kinds code Rare → {index : ℕ} → index ≡ next → nat_lt next 128 ≡ true → BeginLike bytes (Control (CallOp index)) behind
   unfolding is_common operator forms index_op index_ops
-  call_like e i there l = index_like 0x10 (λ j. CallOp j) (common_there code Call e) (λ types bs. refl) i there l
+  call_like e same l = index_like 0x10 (λ j. CallOp j) (common_there code Call e) (λ types bs. refl) same l
 
-  pub local_get_like : LocalGet ≡ get_or kinds code Rare → (i : ℕ) → rest ≡ i ∷ drop 1 rest → i < 128 → BeginLike bytes (Control (LocalGetOp i)) (drop 1 rest)
+  pub local_get_like : LocalGet ≡ get_or kinds code Rare → {index : ℕ} → index ≡ next → nat_lt next 128 ≡ true → BeginLike bytes (Control (LocalGetOp index)) behind
   unfolding is_common operator forms index_op index_ops
-  local_get_like e i there l = index_like 0x20 (λ j. LocalGetOp j) (common_there code LocalGet e) (λ types bs. refl) i there l
+  local_get_like e same l = index_like 0x20 (λ j. LocalGetOp j) (common_there code LocalGet e) (λ types bs. refl) same l
 
-  pub local_set_like : LocalSet ≡ get_or kinds code Rare → (i : ℕ) → rest ≡ i ∷ drop 1 rest → i < 128 → BeginLike bytes (Control (LocalSetOp i)) (drop 1 rest)
+  pub local_set_like : LocalSet ≡ get_or kinds code Rare → {index : ℕ} → index ≡ next → nat_lt next 128 ≡ true → BeginLike bytes (Control (LocalSetOp index)) behind
   unfolding is_common operator forms index_op index_ops
-  local_set_like e i there l = index_like 0x21 (λ j. LocalSetOp j) (common_there code LocalSet e) (λ types bs. refl) i there l
+  local_set_like e same l = index_like 0x21 (λ j. LocalSetOp j) (common_there code LocalSet e) (λ types bs. refl) same l
 
-  pub local_tee_like : LocalTee ≡ get_or kinds code Rare → (i : ℕ) → rest ≡ i ∷ drop 1 rest → i < 128 → BeginLike bytes (Control (LocalTeeOp i)) (drop 1 rest)
+  pub local_tee_like : LocalTee ≡ get_or kinds code Rare → {index : ℕ} → index ≡ next → nat_lt next 128 ≡ true → BeginLike bytes (Control (LocalTeeOp index)) behind
   unfolding is_common operator forms index_op index_ops
-  local_tee_like e i there l = index_like 0x22 (λ j. LocalTeeOp j) (common_there code LocalTee e) (λ types bs. refl) i there l
+  local_tee_like e same l = index_like 0x22 (λ j. LocalTeeOp j) (common_there code LocalTee e) (λ types bs. refl) same l
 
-  pub global_get_like : GlobalGet ≡ get_or kinds code Rare → (i : ℕ) → rest ≡ i ∷ drop 1 rest → i < 128 → BeginLike bytes (Control (GlobalGetOp i)) (drop 1 rest)
+  pub global_get_like : GlobalGet ≡ get_or kinds code Rare → {index : ℕ} → index ≡ next → nat_lt next 128 ≡ true → BeginLike bytes (Control (GlobalGetOp index)) behind
   unfolding is_common operator forms index_op index_ops
-  global_get_like e i there l = index_like 0x23 (λ j. GlobalGetOp j) (common_there code GlobalGet e) (λ types bs. refl) i there l
+  global_get_like e same l = index_like 0x23 (λ j. GlobalGetOp j) (common_there code GlobalGet e) (λ types bs. refl) same l
 
-  pub global_set_like : GlobalSet ≡ get_or kinds code Rare → (i : ℕ) → rest ≡ i ∷ drop 1 rest → i < 128 → BeginLike bytes (Control (GlobalSetOp i)) (drop 1 rest)
+  pub global_set_like : GlobalSet ≡ get_or kinds code Rare → {index : ℕ} → index ≡ next → nat_lt next 128 ≡ true → BeginLike bytes (Control (GlobalSetOp index)) behind
   unfolding is_common operator forms index_op index_ops
-  global_set_like e i there l = index_like 0x24 (λ j. GlobalSetOp j) (common_there code GlobalSet e) (λ types bs. refl) i there l
+  global_set_like e same l = index_like 0x24 (λ j. GlobalSetOp j) (common_there code GlobalSet e) (λ types bs. refl) same l
 
-  pub block_like : Block ≡ get_or kinds code Rare → rest ≡ 0x40 ∷ drop 1 rest → BeginLike bytes (Control (BlockOp Empty)) (drop 1 rest)
+  pub block_like : Block ≡ get_or kinds code Rare → nat_eq next 0x40 ≡ true → BeginLike bytes (Control (BlockOp Empty)) behind
   unfolding is_common operator forms block_op block_type block_ops
-  block_like e there = opener_like 0x02 (BlockOp Empty) (common_there code Block e) (λ types bs. refl) there
+  block_like e empty = opener_like 0x02 (BlockOp Empty) (common_there code Block e) (λ types bs. refl) empty
 
-  pub loop_like : Loop ≡ get_or kinds code Rare → rest ≡ 0x40 ∷ drop 1 rest → BeginLike bytes (Control (LoopOp Empty)) (drop 1 rest)
+  pub loop_like : Loop ≡ get_or kinds code Rare → nat_eq next 0x40 ≡ true → BeginLike bytes (Control (LoopOp Empty)) behind
   unfolding is_common operator forms block_op block_type block_ops
-  loop_like e there = opener_like 0x03 (LoopOp Empty) (common_there code Loop e) (λ types bs. refl) there
+  loop_like e empty = opener_like 0x03 (LoopOp Empty) (common_there code Loop e) (λ types bs. refl) empty
 
-  pub if_like : If ≡ get_or kinds code Rare → rest ≡ 0x40 ∷ drop 1 rest → BeginLike bytes (Control (IfOp Empty)) (drop 1 rest)
+  pub if_like : If ≡ get_or kinds code Rare → nat_eq next 0x40 ≡ true → BeginLike bytes (Control (IfOp Empty)) behind
   unfolding is_common operator forms block_op block_type block_ops
-  if_like e there = opener_like 0x04 (IfOp Empty) (common_there code If e) (λ types bs. refl) there
+  if_like e empty = opener_like 0x04 (IfOp Empty) (common_there code If e) (λ types bs. refl) empty

@@ -85,8 +85,8 @@ pub(crate) fn unclosed(offset: u64) -> CheckError {
     )
 }
 
-/// Reads an operator, and answers whether it is accepted. Where it can't be read, or isn't accepted, the place that is lent
-/// holds why.
+/// Reads an operator, and answers whether it is accepted. Where it can't be read, or isn't accepted, or none is left, the
+/// place that is lent holds why.
 #[inline(never)]
 fn is_any_accepted<R: WasmModuleResources>(
     v: &mut OperatorValidator,
@@ -102,6 +102,10 @@ fn is_any_accepted<R: WasmModuleResources>(
     ensures told { result ≡ false → IsSome refusal.new }
 {
     let offset = reader.offset();
+    if reader.is_at_end() {
+        *refusal = Some(unclosed(offset));
+        return false;
+    }
     let mut op = Op::Numeric(NumericOp::I32Const(0));
     if let Err(error) = read_operator_into(reader, canonical, lists, &mut op) {
         *refusal = Some(CheckError::Unread(error));
@@ -110,12 +114,14 @@ fn is_any_accepted<R: WasmModuleResources>(
     is_accepted(v, resources, offset, &op, refusal)
 }
 
-/// [`is_any_accepted`], which tries first whether it is one of those that most code is made of.
+/// [`is_any_accepted`], which tries first whether it is one of those that most code is made of. The call is lent another
+/// reader, so that this one needn't lie in memory.
 #[inline(always)]
-fn is_next_accepted<R: WasmModuleResources>(
+fn is_next_accepted<'a, R: WasmModuleResources>(
     v: &mut OperatorValidator,
     resources: &R,
-    reader: &mut BinaryReader<'_>,
+    reader: &mut BinaryReader<'a>,
+    lent: &mut BinaryReader<'a>,
     canonical: &CanonicalTypes<'_>,
     lists: &mut OperatorLists,
     refusal: &mut Option<CheckError>,
@@ -128,27 +134,36 @@ fn is_next_accepted<R: WasmModuleResources>(
     if passes_common(v, resources, reader) {
         return true;
     }
-    is_any_accepted(v, resources, reader, canonical, lists, refusal)
+    *lent = reader.duplicate();
+    let is_accepted = is_any_accepted(v, resources, lent, canonical, lists, refusal);
+    *reader = lent.duplicate();
+    is_accepted
 }
 
 /// [`check_operators`] of a function, in which any operator may stand.
 fn check_function_operators<R: WasmModuleResources>(
     v: &mut OperatorValidator,
     resources: &R,
-    reader: &mut BinaryReader<'_>,
+    lent: &mut BinaryReader<'_>,
     canonical: CanonicalTypes<'_>,
     lists: &mut OperatorLists,
 ) -> Result<(), CheckError>
     requires { IsStarting (R.context resources.now) (state v.old) }
     ensures { OnOk result (AreSafeOperators (R.context resources.now) canonical.entry (may_stand None)
-        (state v.old) reader.old.left) }
+        (state v.old) lent.old.left) }
 {
     let mut refusal = None;
-    for _ in 0..reader.bytes_left() {
-        if reader.is_at_end() {
-            break;
-        }
-        if !is_next_accepted(v, resources, reader, &canonical, lists, &mut refusal) {
+    let mut reader = lent.duplicate();
+    for _ in 0..lent.bytes_left() {
+        if !is_next_accepted(
+            v,
+            resources,
+            &mut reader,
+            lent,
+            &canonical,
+            lists,
+            &mut refusal,
+        ) {
             break;
         }
         if v.control_stack_height() == 0 {
@@ -229,16 +244,17 @@ fn is_accepted<R: WasmModuleResources>(
 /// Whether nothing is left behind the operator that closes a body. It refuses an operator that is, or what can't be
 /// read.
 pub(crate) fn check_end(
-    reader: &mut BinaryReader<'_>,
+    rest: BinaryReader<'_>,
     canonical: CanonicalTypes<'_>,
     lists: &mut OperatorLists,
 ) -> Result<(), CheckError>
-    ensures { OnOk result (reader.old.left ≡ []) }
+    ensures { OnOk result (rest.entry.left ≡ []) }
 {
+    let mut reader = rest;
     if reader.is_at_end() {
         return Ok(());
     }
     let offset = reader.offset();
-    let _op = read_operator(reader, canonical, lists)?;
+    let _op = read_operator(&mut reader, canonical, lists)?;
     Err(CheckError::refused("operators remaining after end of function", offset))
 }

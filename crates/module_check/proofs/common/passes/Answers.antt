@@ -5,8 +5,8 @@ use Rattle.module_check.proofs.common.passes.Goals as goal
 
 pub returns-then-passes_at_once : goal.returns-then-passes_at_once
 returns-then-passes_at_once g c =
-    at_once (g.R.WasmModuleResources.context c.args.resources.now) c.args.op.now c.args.reader.now c.args.rest (stacks_of c.args.v.now) (stacks_of c.passes_at_once.new.self) c.passes_at_once.result c.requires.like c.passes_at_once.ensures c.if-passes_at_once.true
+    at_once (g.R.WasmModuleResources.context c.args.resources.now) c.args.op c.args.reader.now c.args.rest (stacks_of c.args.v.now) (stacks_of c.passes_at_once.new.self) c.passes_at_once.result c.requires.like c.passes_at_once.ensures c.if-passes_at_once.true
 
 pub returns : goal.returns
 returns g c =
-    not_at_once (g.R.WasmModuleResources.context c.args.resources.now) c.args.op.now c.args.reader.now (stacks_of c.args.v.now) (stacks_of c.passes_at_once.new.self) c.passes_at_once.result c.passes_at_once.ensures c.if-passes_at_once.false
+    not_at_once (g.R.WasmModuleResources.context c.args.resources.now) c.args.op c.args.reader.now (stacks_of c.args.v.now) (stacks_of c.passes_at_once.new.self) c.passes_at_once.result c.passes_at_once.ensures c.if-passes_at_once.false

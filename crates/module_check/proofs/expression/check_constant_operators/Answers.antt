@@ -1,6 +1,6 @@
 -- An operator more is read and accepted, and at the end all of them are.
-use Rattle.std.proofs.Common.{Some}
-use Rattle.std.proofs.Common.{◌∙◌}
+use Rattle.std.proofs.Common.{Some, ap, sym, ◌∙◌}
+use Rattle.binary_operators.specs.Unread.{Unread}
 use Rattle.validate_body.specs.Start.{state}
 use Rattle.module_check.specs.Constant.{may_stand}
 use Rattle.module_check.proofs.Begun.{then_ok}
@@ -18,7 +18,7 @@ returns-then-control_stack_height-eq0 g c =
     (same_place (Some c.args.place) c.read_operator_into.new.to ∙ c.in_ok-check_operator.ensures.stands) c.in_ok-check_operator.ensures.row in
     then_ok c.check_end.result
     (λ ended. whole md c.args.canonical (may_stand (Some c.args.place)) (state c.args.v.now) c.args.reader.now.left rest
-    (state c.check_operator.new.v) c.control_stack_height.result more ended c.control_stack_height.ensures
+    (state c.check_operator.new.v) c.control_stack_height.result more (ap (λ (r : Unread). r.left) (sym c.duplicate.ensures) ∙ ended) c.control_stack_height.ensures
     c.if-control_stack_height-eq0.true (g.met.R.WasmModuleResources.lawful c.args.resources.now))
     c.check_end.ensures
 

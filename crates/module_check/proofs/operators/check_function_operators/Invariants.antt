@@ -7,4 +7,4 @@ use Rattle.module_check.proofs.operators.check_function_operators.Given as goal
 
 abbrev pub invariant-loop : goal.invariant-loop
 invariant-loop g l =
-    IsOpenBehind (g.R.WasmModuleResources.context l.resources) l.fn.canonical (may_stand None) (state l.fn.v) (state l.v) l.fn.reader.left l.reader.left
+    IsOpenBehind (g.R.WasmModuleResources.context l.resources) l.fn.canonical (may_stand None) (state l.fn.v) (state l.v) l.fn.lent.left l.reader.left

@@ -1,5 +1,5 @@
 -- A common operator passes, or nothing is changed before any operator is read.
-use Rattle.std.proofs.Common.{sym, subst}
+use Rattle.std.proofs.Common.{sym, subst, ◌∙◌}
 use Rattle.binary_operators.specs.Unread.{Unread}
 use Rattle.validate_stacks.specs.Attempts.{Stacked}
 use Rattle.validate_stacks.specs.Visits.{MayVisit}
@@ -12,8 +12,8 @@ pub returns-then-passes_common-clause-turn : goal.returns-then-passes_common-cla
 returns-then-passes_common-clause-turn g c = λ is.
     turn_of (g.R.WasmModuleResources.context c.args.resources.now) c.passes_common.result c.args.reader.now c.passes_common.new.reader (stacks_of c.args.v.now) (stacks_of c.passes_common.new.v) c.passes_common.ensures c.if-passes_common.true c.args.canonical.now
 
-pub is_any_accepted-requires : goal.is_any_accepted-requires
-is_any_accepted-requires g c =
+pub is_any_accepted-is_accepted-requires : goal.is_any_accepted-is_accepted-requires
+is_any_accepted-is_accepted-requires g c =
     let md = g.R.WasmModuleResources.context c.args.resources.now in
     let same = same_of md c.passes_common.result c.args.reader.now c.passes_common.new.reader (stacks_of c.args.v.now) (stacks_of c.passes_common.new.v) c.passes_common.ensures c.if-passes_common.false in
     subst (MayVisit md) (sym same.1) c.requires
@@ -21,6 +21,8 @@ is_any_accepted-requires g c =
 pub returns-clause-turn : goal.returns-clause-turn
 returns-clause-turn g c = λ accepted.
     let md = g.R.WasmModuleResources.context c.args.resources.now in
+    let next = c.is_any_accepted-is_accepted in
     let same = same_of md c.passes_common.result c.args.reader.now c.passes_common.new.reader (stacks_of c.args.v.now) (stacks_of c.passes_common.new.v) c.passes_common.ensures c.if-passes_common.false in
-    subst (λ (r : Unread). IsTurn md c.args.canonical.now r.left c.is_any_accepted.new.reader.left (state c.args.v.now) (state c.is_any_accepted.new.v)) same.0
-    (subst (λ (s : Stacked). IsTurn md c.args.canonical.now c.passes_common.new.reader.left c.is_any_accepted.new.reader.left s.body (state c.is_any_accepted.new.v)) same.1 (c.is_any_accepted.ensures.turn accepted))
+    let turn = subst (λ (s : Stacked). IsTurn md c.args.canonical.now c.duplicate.result.left next.new.reader.left s.body (state next.new.v)) same.1 (next.ensures.turn accepted) in
+    let begun = subst (λ (r : Unread). IsTurn md c.args.canonical.now r.left next.new.reader.left (state c.args.v.now) (state next.new.v)) (c.duplicate.ensures ∙ same.0) turn in
+    subst (λ (r : Unread). IsTurn md c.args.canonical.now c.args.reader.now.left r.left (state c.args.v.now) (state next.new.v)) (sym c.duplicate-2.ensures) begun

@@ -1,2 +1,1 @@
-pub mod Gated
 mod LeftParts

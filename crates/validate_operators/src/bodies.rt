@@ -1,4 +1,5 @@
 //! The bodies of operators by their groups, each behind its gate.
+#![tactic(auto, using(validate_shapes::proofs::KnownRows::gated_rows))]
 
 ghost use Rattle.std.specs.Prelude.{◌≡◌, [], true, false, OnOk, OnErr};
 ghost use Rattle.validate_types.specs.Gates.{is_open};

@@ -1,4 +1,5 @@
 //! The body of any operator, and its check.
+#![tactic(auto, using(validate_shapes::proofs::KnownRows::known_rows))]
 
 ghost use Rattle.std.specs.Prelude.{◌≡◌, false, OnErr};
 ghost use Rattle.validate_types.specs.Told.{IsRowRefused};

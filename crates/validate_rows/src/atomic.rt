@@ -1,4 +1,5 @@
 //! Atomic operators on memories, by shape (the threads proposal).
+#![tactic(auto, using(validate_shapes::proofs::KnownRows::known_rows))]
 
 ghost use Rattle.std.specs.Prelude.{◌≡◌, true, false, OnOk, OnErr};
 ghost use Rattle.validation_rules.specs.Access.{allows_ordering};

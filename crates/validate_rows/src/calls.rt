@@ -1,4 +1,5 @@
 //! Calls (WebAssembly core specification, "Control Instructions").
+#![tactic(auto, using(crate::proofs::Sets::calls))]
 
 ghost use Rattle.std.specs.Prelude.{◌≡◌, true, false, OnOk, OnErr};
 ghost use Rattle.std.specs.List.{AllByRecursion};

@@ -1,4 +1,5 @@
 //! Operators that begin and end parts (WebAssembly core specification, "Control Instructions").
+#![tactic(auto, using(crate::proofs::Sets::parts))]
 
 ghost use Rattle.std.specs.Prelude.{◌≡◌, true, false, None, [], map, IsOk, OnOk, OnErr};
 ghost use Rattle.std.specs.List.{AllByRecursion};

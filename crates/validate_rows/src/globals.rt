@@ -1,4 +1,5 @@
 //! Operators on globals (WebAssembly core specification, "Variable Instructions").
+#![tactic(auto, using(validate_shapes::proofs::KnownRows::known_rows))]
 
 ghost use Rattle.validation_rules.specs.Calls.{global_get_row, global_set_row};
 ghost use Rattle.validation_rules.specs.Operators.{row_operator};

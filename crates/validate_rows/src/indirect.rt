@@ -1,5 +1,6 @@
 //! Calls of a function that an operand names: by its place in a table, or by a reference (WebAssembly core
 //! specification, "Control Instructions").
+#![tactic(auto, using(crate::proofs::Sets::calls))]
 
 ghost use Rattle.std.specs.Prelude.{◌≡◌, None, Some, IfOk, OnErr};
 ghost use Rattle.validate_resources.specs.Context.{Valid};

@@ -1,4 +1,5 @@
 //! Operators on memories, by shape (WebAssembly core specification, "Memory Instructions").
+#![tactic(auto, using(validate_shapes::proofs::KnownRows::known_rows))]
 
 ghost use Rattle.std.specs.Prelude.{◌≡◌, true};
 ghost use Rattle.validate_resources.specs.Context.{is_number_or_vector};

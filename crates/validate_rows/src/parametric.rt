@@ -1,4 +1,5 @@
 //! Operators on operands of any type (WebAssembly core specification, "Parametric Instructions").
+#![tactic(auto, using(validate_shapes::proofs::KnownRows::known_rows))]
 
 ghost use Rattle.std.specs.Prelude.{◌≡◌, false, None, Some, IfOk, OnErr};
 ghost use Rattle.validate_resources.specs.Context.{is_number_or_vector};
@@ -14,6 +15,7 @@ use validate_types::{MaybeType, Refusal, Refused, ValType};
 
 /// `drop`: any one operand. Where no attempt is pending it is refused only where its row doesn't hold.
 #[inline(never)]
+#[tactic(auto, using(crate::proofs::Sets::drops))]
 pub fn drop_operand<A: Refused, R: WasmModuleResources>(body: Body<'_, '_, R>) -> Result<(), A>
     requires { MayBegin R.context body }
     ensures row { Makes R.context A.tells (λ cx. row_operator (looking_row 1 drop_pushes)) body.entry
@@ -71,6 +73,7 @@ fn is_number(ty: ValType) -> bool
 /// `select` without a type: `[a b i32] -> [c]` of two operands of one type, or of which one or both
 /// are unknown. Most are known numbers.
 #[inline(never)]
+#[tactic(auto, using(crate::proofs::Sets::selects))]
 pub fn select<A: Refused, R: WasmModuleResources>(body: Body<'_, '_, R>) -> Result<(), A>
     requires { MayBegin R.context body }
     ensures { Makes R.context A.tells (λ cx. row_operator (looking_row 3 (select_pushes cx))) body.entry
@@ -94,6 +97,7 @@ pub fn select<A: Refused, R: WasmModuleResources>(body: Body<'_, '_, R>) -> Resu
 
 /// [`select`] of any operands.
 #[inline(never)]
+#[tactic(auto, using(crate::proofs::Sets::select_refusals))]
 fn any_select<A: Refused, R: WasmModuleResources>(body: Body<'_, '_, R>) -> Result<(), A>
     requires { MayBegin R.context body }
     ensures { Makes R.context A.tells (λ cx. row_operator (looking_row 3 (select_pushes cx))) body.entry

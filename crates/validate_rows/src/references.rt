@@ -1,5 +1,6 @@
 //! Operators on references, and branches that look whether one is null (WebAssembly core specification,
 //! "Reference Instructions" and "Control Instructions").
+#![tactic(auto, using(crate::proofs::Sets::references))]
 
 ghost use Rattle.std.specs.Prelude.{◌≡◌, true, false, [], ◌∷◌, None, Some, IfOk, OnOk, OnErr, IfErr};
 ghost use Rattle.validate_resources.specs.Context.{ModuleContext, Valid};

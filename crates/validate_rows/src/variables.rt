@@ -1,4 +1,5 @@
 //! Operators on locals (WebAssembly core specification, "Variable Instructions").
+#![tactic(auto, using(crate::proofs::Sets::variables))]
 
 ghost use Rattle.validation_rules.specs.Operators.{row_operator, local_get_row, local_set_row, local_tee_row};
 ghost use Rattle.validate_stacks.specs.Bodies.{MayBegin, Makes};

@@ -1,5 +1,5 @@
 -- The steps of operators that look for references below an abstract type, by their pops.
-use Rattle.std.proofs.Common.{◌≡◌, ◌≢◌, ℕ, min, length, Bool, true, false, ◌&&◌, [], ◌∷◌, Option, Some, None, Result, MatchResult, IfErr, is_ok, refl, sym, ap, ◌∙◌, subst}
+use Rattle.std.proofs.Common.{◌≡◌, ◌≢◌, ℕ, min, length, Bool, true, false, ◌&&◌, [], ◌∷◌, Option, Some, None, Result, MatchResult, IfErr, refl, sym, ap, ◌∙◌, subst}
 use Rattle.std.specs.Option.{option_map, option_and_then}
 use Rattle.validate_resources.specs.Context.{ModuleContext}
 use Rattle.validate_types.specs.declared.heap.AbstractHeapType.{AbstractHeapType}

@@ -3,3 +3,4 @@ pub mod FoundSteps
 pub mod CastBranches
 pub mod DescriptorSteps
 pub mod AccessRows
+mod Sets

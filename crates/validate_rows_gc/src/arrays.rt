@@ -1,4 +1,5 @@
 //! Operators on arrays (WebAssembly core specification, "Aggregate Instructions").
+#![tactic(auto, using(validate_shapes::proofs::KnownRows::known_rows))]
 
 ghost use Rattle.std.specs.Prelude.{◌≡◌, ◌≢◌, true, false, OnOk, OnErr};
 ghost use Rattle.validate_resources.specs.Context.{Valid};

@@ -1,5 +1,6 @@
 //! Casts, tests of casts, and branches by a cast (WebAssembly core specification, "Reference Instructions"
 //! and "Control Instructions").
+#![tactic(auto, using(crate::proofs::Sets::casts))]
 
 ghost use Rattle.std.specs.Prelude.{◌≡◌, ◌≤◌, true, false, None, Some, IfOk, OnOk, OnErr, IfErr};
 ghost use Rattle.validate_resources.specs.Context.{Valid};
@@ -266,6 +267,7 @@ impl CastBranch {
 /// A branch by a cast of types that are checked, below so many operands, which go too: `[t from] -> [t left]`, with the
 /// types t of the label but its last, which lies above what is carried there.
 #[inline(always)]
+#[tactic(auto, using(crate::proofs::Sets::cast_branches))]
 pub(crate) fn cast_branch<A: Refused, R: WasmModuleResources>(
     body: Body<'_, '_, R>,
     above: usize,

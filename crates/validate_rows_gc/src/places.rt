@@ -1,5 +1,6 @@
 //! Atomic operators on globals, tables, structs and arrays, and `ref.i31_shared` (proposal
 //! "shared-everything-threads").
+#![tactic(auto, using(crate::proofs::Sets::places))]
 
 ghost use Rattle.std.specs.Prelude.{◌≡◌, ◌≢◌, ◌||◌, true, false, IfOk, OnOk, OnErr, IfErr};
 ghost use Rattle.std.specs.List.{AllByRecursion};

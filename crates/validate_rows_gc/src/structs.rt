@@ -1,4 +1,5 @@
 //! Operators on structs (WebAssembly core specification, "Aggregate Instructions").
+#![tactic(auto, using(validate_shapes::proofs::KnownRows::known_rows))]
 
 ghost use Rattle.std.specs.Prelude.{◌≡◌, [], ◌∷◌, true, false, None, Some, is_none, OnOk, OnErr, IfOk, IfErr};
 ghost use Rattle.std.specs.List.{list_all, AllByRecursion};
@@ -72,6 +73,7 @@ fn undescribed_struct_at<'a, A: Refused, R: WasmModuleResources>(
 
 /// The type of the descriptor with which a struct of the type at an index is made: exact in that type, or null. It has to
 /// lie on top. A type without descriptors is refused.
+#[tactic(auto, using(crate::proofs::Sets::new_descriptors))]
 fn find_new_descriptor<A: Refused, R: WasmModuleResources>(
     body: &Body<'_, '_, R>,
     type_index: u32,
@@ -220,6 +222,7 @@ fn new_default<A: Refused, R: WasmModuleResources>(
 /// `struct.new_desc`: `[t* (ref null d)] -> [(ref s)]`. The descriptor is looked for before anything else is asked of the
 /// type (upstream's order).
 #[inline(never)]
+#[tactic(auto, using(crate::proofs::Sets::made_structs))]
 fn new_desc<A: Refused, R: WasmModuleResources>(body: Body<'_, '_, R>, index: u32) -> Result<(), A>
     requires { MayBegin R.context body }
     ensures { Makes R.context A.tells (λ cx. row_operator (struct_new_desc_row cx index)) body.entry
@@ -236,6 +239,7 @@ fn new_desc<A: Refused, R: WasmModuleResources>(body: Body<'_, '_, R>, index: u3
 
 /// `struct.new_default_desc`: `[(ref null d)] -> [(ref s)]`. The descriptor is looked for first here too.
 #[inline(never)]
+#[tactic(auto, using(crate::proofs::Sets::made_structs))]
 fn new_default_desc<A: Refused, R: WasmModuleResources>(
     body: Body<'_, '_, R>,
     index: u32,

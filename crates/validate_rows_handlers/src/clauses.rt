@@ -1,4 +1,5 @@
 //! `try_table` and its clauses (WebAssembly core specification, "Control Instructions", try_table).
+#![tactic(auto, using(crate::proofs::Sets::clauses))]
 
 ghost use Rattle.std.specs.Prelude.{◌≡◌, true, false, [], ◌∷◌, ◌++◌, length, map, OnOk, OnErr};
 ghost use Rattle.std.specs.List.{AllByRecursion};
@@ -20,6 +21,7 @@ use validate_types::{ClauseKind, RefType, Refusal, Refused, ValType};
 use validate_visit::{Catch, FrameKind, TryTable};
 
 /// What a clause carries to its label, one by one from the first: types below those of the label.
+#[tactic(auto, using(validate_shapes::proofs::TypesBelow::compared_lists))]
 fn find_types<A: Refused, R: WasmModuleResources>(
     resources: &R,
     types: &[ValType],

@@ -38,6 +38,7 @@ struct Resumed<'a> {
 
 /// What is resumed by the continuation type at an index and these handlers, each of which has to fit it
 /// (wasmparser's `check_resume_table`).
+#[tactic(auto, using(crate::proofs::Sets::resumes))]
 fn check_resume_table<'a, A: Refused, R: WasmModuleResources>(
     body: &Body<'_, 'a, R>,
     cont_type_index: u32,
@@ -264,6 +265,7 @@ fn continuation_types<'a, A: Refused, R: WasmModuleResources>(
 
 /// An operator on continuations, its gate aside.
 #[inline(never)]
+#[tactic(auto, using(validate_shapes::proofs::KnownRows::known_rows))]
 pub fn continuation_operator<A: Refused, R: WasmModuleResources>(
     body: Body<'_, '_, R>,
     op: ContinuationOp<'_>,

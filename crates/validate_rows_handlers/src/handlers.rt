@@ -103,6 +103,7 @@ fn check_handler<A: Refused, R: WasmModuleResources>(
 }
 
 /// Each handler of what is resumed, from the first on.
+#[tactic(auto, using(crate::proofs::HandlerLists::handlers_done))]
 pub fn check_handlers<A: Refused, R: WasmModuleResources>(
     body: &Body<'_, '_, R>,
     resumed: &FuncType,

@@ -1,4 +1,5 @@
 //! Operators that begin and end the parts of a legacy `try`.
+#![tactic(auto, using(crate::proofs::Sets::parts))]
 
 ghost use Rattle.std.specs.Prelude.{◌≡◌, None, Some, [], true, Bool, OnErr, IfOk, length};
 ghost use Rattle.std.specs.Option.{ForSome};
@@ -18,6 +19,7 @@ use validate_visit::{BlockType, FrameKind};
 
 /// `catch`: closes a part of a `try`, which has to have exactly its results, and begins one with what an
 /// exception with this tag carries. It refuses after a frame of another kind, and a tag that is none.
+#[tactic(auto, using(crate::proofs::Sets::catches))]
 pub fn catch<A: Refused, R: WasmModuleResources>(
     body: Body<'_, '_, R>,
     tag_index: u32,
@@ -34,6 +36,7 @@ pub fn catch<A: Refused, R: WasmModuleResources>(
 
 /// `catch_all`: closes a part of a `try`, which has to have exactly its results, and begins one with
 /// nothing. It refuses after a frame of another kind.
+#[tactic(auto, using(crate::proofs::Sets::catches))]
 pub fn catch_all<A: Refused, R: WasmModuleResources>(body: Body<'_, '_, R>) -> Result<(), A>
     requires { MayBegin R.context body }
     ensures { Makes R.context A.tells (λ cx. delimiter_operator (BeginsCatch true [])) body.entry

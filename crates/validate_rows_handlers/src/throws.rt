@@ -1,5 +1,6 @@
 //! Operators that throw (WebAssembly core specification, "Control Instructions"; `rethrow` is one of the
 //! legacy exceptions).
+#![tactic(auto, using(crate::proofs::Sets::throws))]
 
 ghost use Rattle.std.specs.Prelude.{◌≡◌, None, Some, true, OnErr};
 ghost use Rattle.validation_rules.specs.Exceptions.{throw_row, throw_ref_row, rethrow_row, is_catch_part};

@@ -10,3 +10,4 @@ pub mod OpenerSteps
 pub mod TypesBelow
 pub mod Parts
 pub mod PartMoves
+pub mod KnownRows

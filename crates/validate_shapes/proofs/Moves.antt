@@ -73,10 +73,6 @@ module _ {E : Type 0} (md : ModuleContext) (tells : E → Type 0) (op : Context 
   unfolding Moves
   moves_accepted offset u m = meets_done md op offset s.body w.body m.step m.valid m.kept
 
--- what comes after a look that changed nothing
-pub moves_then : {E : Type 0} (md : ModuleContext) (tells : E → Type 0) (op : Context → Operator) (s t w : Stacked) → t ≡ s → (r : Result (Unit {0}) E) → Moves md tells op t r w → Moves md tells op s r w
-moves_then md tells op s t w same r m = subst (λ (x : Stacked). Moves md tells op x r w) same m
-
 pub plain_is : (md : ModuleContext) (v : BodyState) (expected ts : List ValType) → v.present.frames ≢ [] → step_body md (λ c. row_operator (plain_row expected ts)) v ≡ option_map (body_pushed_each ts) (body_popped_each md (reverse expected) v)
 plain_is md v expected ts o = row_then md v None None expected ts o
 

@@ -35,3 +35,5 @@ pub valid_at : (md : ModuleContext) (i : ℕ) (xs : List ValType) → i < length
 valid_at md i [] l v = absurd (omega (arith, l))
 valid_at md zero (x ∷ xs) l v = v.0
 valid_at md (suc i) (x ∷ xs) l v = valid_at md i xs (omega (arith, l)) v.1
+
+pub ruleset compared_lists = (other_count, compared, all_compared, valid_at)

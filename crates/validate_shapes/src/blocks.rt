@@ -1,4 +1,5 @@
 //! Operators that open a frame (WebAssembly core specification, "Control Instructions").
+#![tactic(auto, using(crate::proofs::KnownRows::openers))]
 
 ghost use Rattle.std.specs.Prelude.{◌≡◌, ◌≤◌, [], ◌∷◌, true, false, None, Some, ◌&&◌, IfOk, OnOk, OnErr, IfErr, length};
 ghost use Rattle.std.specs.List.{AllByRecursion};

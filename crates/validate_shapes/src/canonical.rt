@@ -86,6 +86,7 @@ pub fn canonical_value<A: Refused, R: WasmModuleResources>(
 
 /// A reference, or one that may be null, to a heap type in its canonical form.
 #[inline(always)]
+#[tactic(auto, using(crate::proofs::HeapReferences::not_made, crate::proofs::HeapReferences::made_is))]
 pub fn heap_reference<A: Refused, R: WasmModuleResources>(
     resources: &R,
     nullable: bool,

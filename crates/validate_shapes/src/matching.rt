@@ -10,6 +10,7 @@ use validate_resources::WasmModuleResources;
 use validate_types::ValType;
 
 /// Whether the types are as many as those above them, and each is below its place.
+#[tactic(auto, using(crate::proofs::TypesBelow::compared_lists))]
 pub fn are_below<R: WasmModuleResources>(
     resources: &R,
     types: &[ValType],

@@ -1,4 +1,5 @@
 //! What an operator takes and gives, as a value: the answer of a look-up.
+#![tactic(auto, using(crate::proofs::KnownRows::exchanges))]
 
 ghost use Rattle.std.specs.Prelude.{◌≡◌, IfOk};
 ghost use Rattle.std.specs.List.{AllByRecursion};

@@ -1,4 +1,5 @@
 //! Operators whose expected and pushed types don't depend on what is found.
+#![tactic(auto, using(crate::proofs::KnownRows::exchanges))]
 
 ghost use Rattle.std.specs.Prelude.{◌≡◌, None, true, [], ◌∷◌, OnErr};
 ghost use Rattle.std.specs.List.{AllByRecursion};
@@ -117,6 +118,7 @@ pub fn pop_both<A: Refused, R: WasmModuleResources>(
 
 /// `[types] -> []`, and the live part of the frame ends. Where no attempt is pending it is refused only where its row doesn't
 /// hold.
+#[tactic(auto, using(crate::proofs::KnownRows::unfit_steps, crate::proofs::BranchSteps::ending_refused))]
 pub fn ending<A: Refused, R: WasmModuleResources>(
     body: Body<'_, '_, R>,
     types: &[ValType],

@@ -9,6 +9,3 @@ returns-clause-row g c =
     let md = g.R.WasmModuleResources.context c.args.body.resources.now in
     let v = c.args.body.stacks.now.body in
     made_moves md _ _ c.args.body.stacks.now _ (body_unreachable v) (unreachable_is md v (body_unreachable v) c.requires.open_frame refl) (unreachable_valid md v c.requires.valid) refl c.end_live.result c.end_live.ensures.told c.end_live.ensures.exact
-
-pub returns-clause-idle : goal.returns-clause-idle
-returns-clause-idle g c = λ idle. c.end_live.ensures.idle idle

@@ -1,6 +1,5 @@
-use Rattle.std.proofs.Common.{rules, [], ◌∷◌, ◌++◌, ◌≡◌, true, false, List, None, Some, slice_get, refl, sym, ap, ◌∙◌, subst}
+use Rattle.std.proofs.Common.{rules, [], ◌∷◌, ◌++◌, ◌≡◌, true, false, List, None, Some, refl, sym, ap, ◌∙◌, subst}
 use Rattle.std.specs.List.{AllByRecursion}
-use Rattle.std.specs.Option.{option_map}
 use Rattle.validate_types.specs.declared.refs.RefType.{RefType}
 use Rattle.validate_resources.specs.Context.{ModuleContext, Valid, is_valid_heap}
 use Rattle.validation_rules.specs.Branches.{has_label, label_types_at}
@@ -11,8 +10,7 @@ use Rattle.validation_rules.specs.Static.{heads}
 use Rattle.validation_rules.specs.Operators.{lookup_row, staying_operator}
 use Rattle.validation_rules.proofs.Valid.{before_last_valid, last_valid}
 use Rattle.validate_stacks.specs.State.{body_context}
-use Rattle.validate_stacks.specs.Steps.{type_and_kind}
-use Rattle.validate_shapes.proofs.BranchSteps.{label_there, no_label, no_types, label_valid}
+use Rattle.validate_shapes.proofs.BranchSteps.{label_there, label_valid}
 use Rattle.validate_shapes.proofs.Moves.{moves_barred, exchange_moves}
 use Rattle.validate_shapes.proofs.ReferenceSteps.{on_non_null_is}
 use Rattle.validate_rows.proofs.references.br_on_non_null.Given.{Over}
@@ -31,9 +29,6 @@ module _ (g : Over) (c : Start g) where
 
   barred_without_last : last_reference (label_types_at cx hs c.args.relative_depth) ≡ None → (br_on_non_null_row cx hs c.args.relative_depth).premise ≡ false
   barred_without_last = ap (λ o. (lookup_row o (br_on_non_null_row_for cx hs c.args.relative_depth)).premise)
-
-  barred_without_label : option_map type_and_kind (slice_get hs c.args.relative_depth) ≡ None → (br_on_non_null_row cx hs c.args.relative_depth).premise ≡ false
-  barred_without_label n = barred_without_last (ap last_reference (no_types cx hs c.args.relative_depth (no_label hs c.args.relative_depth n)))
 
 module _ (g : Over) (c : After-label_types-types g) where
   abbrev start : Start g
@@ -57,11 +52,6 @@ module _ (g : Over) (c : In_ok-others g) where
 
   others_valid : AllByRecursion (Valid (md g (start g labelled))) c.in_ok-others.others.now
   others_valid = before_last_valid (cx g (start g labelled)) (g.met.R.WasmModuleResources.lawful c.args.body.resources.now) _ _ (types_valid g labelled) c.in_ok-others.ensures.found
-
-pub returns-in_err-block_type : goal.returns-in_err-block_type
-returns-in_err-block_type g c =
-    let none = barred_without_label g (goal.at.returns-in_err-block_type g c).Start c.in_err-block_type.ensures.missing in
-    moves_barred _ _ c.args.body.stacks.now (λ cx hs. br_on_non_null_row cx hs c.args.relative_depth) _ (search rules) (search (rules, none))
 
 pub returns-in_err-others : goal.returns-in_err-others
 returns-in_err-others g c =

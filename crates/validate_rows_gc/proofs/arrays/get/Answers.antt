@@ -1,4 +1,0 @@
-use Rattle.validate_rows_gc.proofs.arrays.get.Goals as goal
-
-pub returns : goal.returns
-returns g c = c.exchange_found.ensures _ c.get_types-found.ensures

@@ -1,4 +1,0 @@
-use Rattle.validate_rows_gc.proofs.arrays.set.Goals as goal
-
-pub returns : goal.returns
-returns g c = c.exchange_found.ensures _ c.set_types-found.ensures

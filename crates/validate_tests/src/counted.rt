@@ -74,14 +74,23 @@ fn expect_run<R: WasmModuleResources>(
     Ok(())
 }
 
+/// The same in these buffers, which are given back.
+fn expect_in(
+    rt: &(impl Abort + AllocGlobal),
+    setting: &Setting,
+    used: OperatorValidatorAllocations,
+    run: Run,
+) -> Result<OperatorValidatorAllocations, TestError> {
+    let mut v = setting.validator(used)?;
+    expect_run(rt, &mut v, &setting.lists, run)?;
+    Ok(v.into_allocations())
+}
+
 /// Each in the buffers of the one before it.
 fn expect_runs(rt: &(impl Abort + AllocGlobal), setting: &Setting) -> Result<(), TestError> {
     let mut used = OperatorValidatorAllocations::new(rt.alloc());
     for run in RUNS {
-        let mut v = setting.validator(used)?;
-        let answer = expect_run(rt, &mut v, &setting.lists, *run);
-        used = v.into_allocations();
-        answer?;
+        used = expect_in(rt, setting, used, *run)?;
     }
     Ok(())
 }

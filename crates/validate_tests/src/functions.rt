@@ -63,7 +63,8 @@ fn accept_each<'a, R: WasmModuleResources>(
     attempted: bool,
 ) -> Result<(), Error> {
     for pair in ops {
-        accept(rt, function, pair.0, attempted)?;
+        let (op, _) = *pair;
+        accept(rt, function, op, attempted)?;
     }
     Ok(())
 }

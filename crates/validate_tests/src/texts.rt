@@ -18,14 +18,26 @@ pub fn snapshot(rt: &impl AllocGlobal, v: &OperatorValidator) -> Result<String, 
 }
 
 fn add_snapshot(text: &mut String, v: &OperatorValidator) -> Result<(), TestError> {
+    add_frames(text, v)?;
+    add_set_locals(text, v)?;
+    text.push_str(":")?;
+    add_operands(text, v)
+}
+
+/// Adds the open frames, the innermost first.
+fn add_frames(text: &mut String, v: &OperatorValidator) -> Result<(), TestError> {
     for depth in 0..v.control_stack_height() {
         write!(text, "{:?}", v.get_frame(depth))?;
     }
+    Ok(())
+}
+
+/// Adds the locals that were set, in the order in which they were.
+fn add_set_locals(text: &mut String, v: &OperatorValidator) -> Result<(), TestError> {
     for index in inits_of(v).set_since(0) {
         write!(text, " {index}")?;
     }
-    text.push_str(":")?;
-    add_operands(text, v)
+    Ok(())
 }
 
 /// What a visit answered: how many operands and frames there are behind it, or the words of its refusal. Then

@@ -2,3 +2,5 @@ pub mod Examples
 pub mod Items
 pub mod Powers
 pub mod Sequences
+pub mod Shorter
+pub mod Wherever

@@ -1,12 +1,13 @@
 -- Each function of a valid module that isn't imported has one of its bodies, and one more body or expression is safe.
-use Rattle.std.proofs.Common.{◌≡◌, ◌∙◌, ℕ, List, ◌+◌, ◌-◌, ◌^◌, ◌≤◌, ◌<◌, length, ap, subst, arith, ◌⊎◌, inl, inr, get_or}
+use Rattle.std.proofs.Common.{◌≡◌, ◌∙◌, ℕ, List, ◌+◌, ◌-◌, ◌^◌, ◌≤◌, ◌<◌, length, slice_get, Some, ap, sym, subst, arith, ◌⊎◌, inl, inr, get_or}
 use Rattle.std.proofs.lemmas.Bool.{and_parts, leb-true, cases_lt}
-use Rattle.std.proofs.lemmas.Option.{get_or_from_slice_get}
+use Rattle.std.proofs.lemmas.Option.{get_or_from_slice_get, slice_get-get_or}
 use Rattle.binary_modules.specs.declared.initializers.ConstantExpression.{ConstantExpression}
 use Rattle.module_rules.specs.Declarations.{Declarations}
 use Rattle.module_rules.specs.Validity.{IsValidModule}
 use Rattle.module_rules.specs.declared.features.ModuleFeatures.{ModuleFeatures}
-use Rattle.module_check.specs.Loaded.{declarations, IsSafeFunction, IsSafeExpression}
+use Rattle.module_check.specs.Loaded.{declarations, IsAcceptedFunction, IsAcceptedExpression, IsAcceptedModule}
+use Rattle.module_check.specs.Loaded.{IsSafeFunction, IsSafeExpression}
 use Rattle.module_check.specs.Loaded.{AreSafeBodies, AreSafeExpressions, AreSafeFunctions}
 use Rattle.module_check.specs.declared.loaded.LoadedModule.{LoadedModule}
 
@@ -51,3 +52,16 @@ module _ (m : LoadedModule) (n : ℕ) where
 -- what is said of the expression that the loop is at, is said of the one that stands there in the module
 pub expression_there : (m : LoadedModule) (n : ℕ) (es : List ConstantExpression) (e d : ConstantExpression) → es ≡ m.expressions.items → e ≡ get_or es n d → IsSafeExpression m e → IsSafeExpression m (get_or m.expressions.items n d)
 expression_there m n es e d same is this = subst (λ l. IsSafeExpression m (get_or l n d)) same (subst (IsSafeExpression m) is this)
+
+-- the expression that the loop is at is accepted, if the module is
+pub accepted_there : (m : LoadedModule) (n : ℕ) (es : List ConstantExpression) (e d : ConstantExpression) → es ≡ m.expressions.items → e ≡ get_or es n d → n < length es → IsAcceptedModule m → IsAcceptedExpression m e
+accepted_there m n es e d same is within a =
+    a.expressions n e (ap (λ l. slice_get l n) (sym same) ∙ (slice_get-get_or es n d within ∙ ap Some (sym is)))
+
+-- and so is the body of this function
+pub accepted_body : (m : LoadedModule) (index function : ℕ) → IsValidModule m.features (declarations m) → m.declared.imports.functions + length m.bodies.items ≡ length m.declared.functions.items → index < length m.bodies.items → (m.declared.imports.functions + index < 2 ^ 32 → function ≡ m.declared.imports.functions + index) → IsAcceptedModule m → IsAcceptedFunction m function
+accepted_body m index function valid counted within is a =
+    let few = few_functions m.features (declarations m) valid in
+    let there : m.declared.imports.functions + index < length m.declared.functions.items = omega (arith, counted, within) in
+    let small : m.declared.imports.functions + index < 2 ^ 32 = omega (arith, few, there) in
+    subst (IsAcceptedFunction m) (sym (is small)) (a.functions (m.declared.imports.functions + index) (omega arith) there)

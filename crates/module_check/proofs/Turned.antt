@@ -1,10 +1,11 @@
 -- What passes at once is a turn, and otherwise nothing is changed.
-use Rattle.std.proofs.Common.{◌≡◌, ℕ, Bool, true, false, List, ◌++◌, Some, Ok, refl, sym, subst}
+use Rattle.std.proofs.Common.{◌≡◌, ℕ, Bool, true, false, List, ◌++◌, Some, Ok, Err, refl, sym, subst}
 use Rattle.binary_operators.specs.Instructions.{operator as operator_of}
 use Rattle.binary_operators.specs.Unplaced.{unplaced}
 use Rattle.binary_operators.specs.Unread.{Unread}
 use Rattle.binary_operators.specs.declared.types.CanonicalTypes.{CanonicalTypes}
 use Rattle.validate_resources.specs.Context.{ModuleContext}
+use Rattle.validate_types.specs.ErrorValue.{ErrorValue}
 use Rattle.validate_visit.specs.declared.op.Op.{Op}
 use Rattle.validation_rules.specs.Context.{Context}
 use Rattle.validation_rules.specs.Operators.{operator}
@@ -12,7 +13,7 @@ use Rattle.validation_rules.specs.Rows.{Operator}
 use Rattle.validate_stacks.specs.AtOnce.{MeetsAtOnce}
 use Rattle.validate_stacks.specs.Attempts.{Stacked}
 use Rattle.validate_stacks.specs.State.{BodyState}
-use Rattle.validate_stacks.specs.Visits.{Meets}
+use Rattle.validate_stacks.specs.Visits.{Meets, RowFails}
 use Rattle.validate_stacks.proofs.AtOnce.{done_at_once, same_at_once}
 use Rattle.module_check.specs.FirstBytes.{BeginLike}
 use Rattle.module_check.specs.Turns.{IsTurn, Passes, PassesBytes}
@@ -71,3 +72,8 @@ module _ (md : ModuleContext) where
   unfolding Passes PassesBytes
   bytes_same true bytes r v w p is = cc
   bytes_same false bytes r v w p is = (refl, p)
+
+  -- a visit that is refused
+  pub fails : (op : Context → Operator) (offset : ℕ) (v w : BodyState) (e : ErrorValue) → Meets md op offset v (Err e) w → e.wants_memory ≡ false → RowFails md op v
+  unfolding Meets
+  fails op offset v w e m f = m.refused f

@@ -1,7 +1,9 @@
+pub mod Accepted
 pub mod Begin
 pub mod Constant
 pub mod FirstBytes
 pub mod Loaded
+pub mod Refusals
 pub mod Safe
 pub mod Turns
 pub mod Verdicts

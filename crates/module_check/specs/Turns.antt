@@ -12,7 +12,8 @@ use Rattle.validate_stacks.specs.State.{BodyState}
 use Rattle.validate_stacks.specs.Visits.{Meets}
 
 -- the bytes begin with an operator, behind which these are left; it is accepted, and this state is behind it
-pub record IsTurn (md : ModuleContext) (types : CanonicalTypes) (bytes left : List ℕ) (v w : BodyState) : Type 0 where
+pub record IsTurn
+    (md : ModuleContext) (types : CanonicalTypes) (bytes left : List ℕ) (v w : BodyState) : Type 0 where
   pub op : Op
   pub offset : ℕ
   pub is_read : operator types bytes ≡ Some (unplaced op, left)

@@ -1,5 +1,5 @@
 -- What a module's verdict says (the crate's own).
-use Rattle.std.specs.Prelude.{◌≡◌, ◌<◌, ◌≤◌, ℕ}
+use Rattle.std.specs.Prelude.{◌≡◌, ◌≢◌, ◌<◌, ◌≤◌, ℕ}
 use Rattle.module_check.specs.declared.module_verdict.ModuleVerdict.{ModuleVerdict}
 
 -- The status says what the counts say, and the text that is reported stands in this room.
@@ -9,3 +9,7 @@ pub record IsConsistent (room : ℕ) (v : ModuleVerdict) : Type 0 where
   pub malformed : v.status ≡ 2 → 0 < v.refused
   pub not_covered : v.status ≡ 4 → (v.refused ≡ 0) × (0 < v.not_covered)
   pub text_fits : v.text_length ≤ room
+
+-- the status says that something isn't accepted: not everything is, and memory didn't run out
+abbrev pub SaysNo : ℕ → Type 0
+SaysNo status = (status ≢ 0) × (status ≢ 3)

@@ -1,12 +1,14 @@
 //! The check of one body.
 
-ghost use Rattle.std.specs.Prelude.{◌≡◌, ◌≢◌, IfOk, OnOk};
+ghost use Rattle.std.specs.Prelude.{◌≡◌, ◌≢◌, OnOk, IfErr};
 ghost use Rattle.validate_body.specs.Start.{state};
 ghost use Rattle.validate_stacks.specs.State.{IsStarting};
 ghost use Rattle.validate_body.specs.Begin.{IsBodyStart};
+ghost use Rattle.module_check.specs.Accepted.{IsAcceptedCode};
 ghost use Rattle.module_check.specs.Constant.{may_stand};
-ghost use Rattle.module_check.specs.Safe.{IsScopedCode};
-ghost use Rattle.module_check.specs.declared.verdict.Verdict.TheVariants.{Accepted};
+ghost use Rattle.module_check.specs.Refusals.{IsRefusal};
+ghost use Rattle.module_check.specs.Safe.{IsSafeCode};
+ghost use Rattle.module_check.specs.declared.verdict.Verdict.TheVariants.{Accepted, OutOfMemory};
 ghost use Rattle.validate_types.specs.declared.features.WasmFeatures.{WasmFeatures};
 
 use crate::buffers::BodyBuffers;
@@ -31,9 +33,13 @@ fn check_body_from<R: WasmModuleResources>(
     constant: Option<ConstantPlace<'_>>,
 ) -> Result<(), CheckError>
     requires { IsStarting (R.context resources.now) (state v.old) }
-    ensures { OnOk result ((features : WasmFeatures)
+    ensures accepted { OnOk result ((features : WasmFeatures)
         → IsBodyStart (R.context resources.now) features kind (state v.old)
-        → IsScopedCode (R.context resources.now) features canonical.entry kind (may_stand constant.entry)
+        → IsSafeCode (R.context resources.now) features canonical.entry kind (may_stand constant.entry)
+        reader.old.left) }
+    ensures refused { IfErr result (λ e. IsRefusal e → (features : WasmFeatures)
+        → IsBodyStart (R.context resources.now) features kind (state v.old)
+        → ¬ IsAcceptedCode (R.context resources.now) features canonical.entry kind (may_stand constant.entry)
         reader.old.left) }
 {
     match kind {
@@ -60,6 +66,9 @@ fn check_body_from<R: WasmModuleResources>(
 /// - `Malformed`: it can't be read.
 /// - `NotCovered`: a vector operator stands after operators that are accepted.
 /// - `OutOfMemory`: there was no memory for the check.
+///
+/// But for want of memory a body is accepted exactly if its bytes are locals and operators whose rules all hold. Vector
+/// operators have no rule here.
 pub fn check_body<R: WasmModuleResources>(
     resources: &R,
     features: &WasmFeatures,
@@ -69,8 +78,10 @@ pub fn check_body<R: WasmModuleResources>(
     canonical: CanonicalTypes<'_>,
     buffers: &mut BodyBuffers,
 ) -> Verdict
-    ensures { result ≡ Accepted → IsScopedCode (R.context resources.now) features.now canonical.entry kind
-        (may_stand constant.entry) reader.old.left }
+    ensures accepted { result ≡ Accepted → IsSafeCode (R.context resources.now) features.now canonical.entry
+        kind (may_stand constant.entry) reader.old.left }
+    ensures refused { result ≢ Accepted → result ≢ OutOfMemory → ¬ IsAcceptedCode (R.context resources.now)
+        features.now canonical.entry kind (may_stand constant.entry) reader.old.left }
 {
     let BodyBuffers {
         validator,

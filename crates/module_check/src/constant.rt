@@ -1,6 +1,6 @@
 //! Which operators may stand in a body, beside what their rows ask.
 
-ghost use Rattle.std.specs.Prelude.{◌≡◌, true, Some, OnOk};
+ghost use Rattle.std.specs.Prelude.{◌≡◌, true, false, Some, OnOk, OnErr};
 ghost use Rattle.module_check.specs.Constant.{may_stand};
 
 use crate::verdict::CheckError;
@@ -27,7 +27,8 @@ pub(crate) fn check_constant(
     op: &Op<'_>,
     offset: u64,
 ) -> Result<(), CheckError>
-    ensures { OnOk result (may_stand (Some at.now) op.now ≡ true) }
+    ensures constant { OnOk result (may_stand (Some at.now) op.now ≡ true) }
+    ensures refused { OnErr result (may_stand (Some at.now) op.now ≡ false) }
 {
     check_constant_operator(at.alloc, at.features, at.declared, at.place, *op, offset)?;
     Ok(())

@@ -1,11 +1,13 @@
 //! The operators of a constant expression, each of which is constant.
 
-ghost use Rattle.std.specs.Prelude.{◌≡◌, true, Ok, Some, OnOk};
+ghost use Rattle.std.specs.Prelude.{◌≡◌, ◌⊎◌, true, false, Ok, Some, OnOk, IfErr};
 ghost use Rattle.validate_stacks.specs.State.{IsStarting};
-ghost use Rattle.validate_stacks.specs.Visits.{MayVisit, Meets};
+ghost use Rattle.validate_stacks.specs.Visits.{MayVisit, Meets, RowFails};
 ghost use Rattle.validation_rules.specs.Operators.{operator};
 ghost use Rattle.validate_body.specs.Start.{state, stacks_of};
+ghost use Rattle.module_check.specs.Accepted.{AreAcceptedOperators};
 ghost use Rattle.module_check.specs.Constant.{may_stand};
+ghost use Rattle.module_check.specs.Refusals.{IsRefusal};
 ghost use Rattle.module_check.specs.Safe.{AreSafeOperators};
 
 use crate::constant::{ConstantPlace, check_constant};
@@ -28,6 +30,8 @@ fn check_operator<R: WasmModuleResources>(
     ensures row { OnOk result (Meets (R.context resources.now) (λ cx. operator cx op.now) offset (state v.old) (Ok tt)
         (state v.new)) }
     ensures stands { OnOk result (may_stand (Some place.now) op.now ≡ true) }
+    ensures refused { IfErr result (λ e. IsRefusal e → (may_stand (Some place.now) op.now ≡ false)
+        ⊎ RowFails (R.context resources.now) (λ cx. operator cx op.now) (state v.old)) }
 {
     check_constant(place, op, offset)?;
     v.check_ref(resources, offset, op)?;
@@ -45,8 +49,10 @@ pub(crate) fn check_constant_operators<R: WasmModuleResources>(
     place: ConstantPlace<'_>,
 ) -> Result<(), CheckError>
     requires { IsStarting (R.context resources.now) (state v.old) }
-    ensures { OnOk result (AreSafeOperators (R.context resources.now) canonical.entry (may_stand (Some place.entry))
-        (state v.old) reader.old.left) }
+    ensures accepted { OnOk result (AreSafeOperators (R.context resources.now) canonical.entry
+        (may_stand (Some place.entry)) (state v.old) reader.old.left) }
+    ensures refused { IfErr result (λ e. IsRefusal e → ¬ AreAcceptedOperators (R.context resources.now)
+        canonical.entry (may_stand (Some place.entry)) (state v.old) reader.old.left) }
 {
     for _ in 0..reader.bytes_left() {
         if reader.is_at_end() {

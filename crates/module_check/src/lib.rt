@@ -23,7 +23,7 @@ pub use crate::loaded::LoadedModule;
 pub use crate::module_verdict::{ModuleVerdict, NO_BODY, NOT_LOADED, OUT_OF_MEMORY, VALID};
 pub use crate::operator_names::operator_name;
 pub use crate::verdict::{CheckError, Item, Verdict};
-pub use crate::whole::check_module;
+pub use crate::whole::{check_function, check_module};
 pub use binary_modules::{ConstantExpression, FunctionNames};
 pub use binary_operators::{OperatorLists, ReadError};
 pub use module_rules::{ModuleFeatures, Place};

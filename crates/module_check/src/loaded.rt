@@ -1,6 +1,6 @@
 //! A module whose bodies are to be checked.
 
-ghost use Rattle.std.specs.Prelude.{◌≡◌, ◌≢◌, ◌≤◌, ◌<◌, ◌+◌, ◌^◌, false, length, map, Some, IfSome, OnSome, IfOk, OnOk, IfErr};
+ghost use Rattle.std.specs.Prelude.{◌≡◌, ◌≢◌, ◌≤◌, ◌<◌, ◌+◌, ◌^◌, false, length, map, Some, None, IfSome, OnSome, IfOk, OnOk, IfErr};
 ghost use Rattle.binary_modules.specs.ContentsRead.{bytes_of as bytes_left};
 ghost use Rattle.binary_modules.specs.Kept.{told};
 ghost use Rattle.binary_modules.specs.Modules.{IsModule};
@@ -47,9 +47,11 @@ impl<'a> LoadedModule<'a> {
     ghost use Rattle.module_check.specs.Constant.{may_stand};
     ghost use Rattle.module_check.specs.Loaded.{declarations, features_of, bytes_of, declared};
     ghost use Rattle.module_check.specs.Loaded.{body_at, AreTypesOf};
+    ghost use Rattle.module_check.specs.Accepted.{IsAcceptedCode};
+    ghost use Rattle.module_check.specs.Loaded.{IsAcceptedFunction, IsAcceptedExpression};
     ghost use Rattle.module_check.specs.Loaded.{IsSafeFunction, IsSafeExpression};
-    ghost use Rattle.module_check.specs.Safe.{IsScopedCode};
-    ghost use Rattle.module_check.specs.declared.verdict.Verdict.TheVariants.{Accepted, Refused};
+    ghost use Rattle.module_check.specs.Safe.{IsSafeCode};
+    ghost use Rattle.module_check.specs.declared.verdict.Verdict.TheVariants.{Accepted, Refused, OutOfMemory};
     ghost use Rattle.module_rules.specs.Features.{operator_features};
     ghost use Rattle.validate_types.specs.declared.error.Error.{Error};
 
@@ -174,6 +176,8 @@ impl<'a> LoadedModule<'a> {
     pub fn body_of(&self, function: u32) -> Option<&BinaryReader<'a>>
         ensures is_body { IfSome result (λ body. body_at self.now function ≡ Some body.now) }
         ensures is_own { OnSome result (self.now.declared.imports.functions ≤ function) }
+        ensures missing { result ≡ None → self.now.declared.imports.functions ≤ function
+            → body_at self.now function ≡ None }
     {
         let body = function.checked_sub(self.declared.imports.functions)?;
         self.bodies.get(body as usize)
@@ -227,8 +231,12 @@ impl<'a> LoadedModule<'a> {
         bytes: &BinaryReader<'_>,
         buffers: &mut BodyBuffers,
     ) -> Verdict
-        ensures { result ≡ Accepted → (types : CanonicalTypes) × AreTypesOf self.now types
-            × IsScopedCode (declared self.now) (operator_features self.now.features) types kind
+        ensures accepted { result ≡ Accepted → (types : CanonicalTypes) × AreTypesOf self.now types
+            × IsSafeCode (declared self.now) (operator_features self.now.features) types kind
+            (may_stand constant.entry) bytes.now.left }
+        ensures refused { result ≢ Accepted → result ≢ OutOfMemory → (types : CanonicalTypes)
+            → AreTypesOf self.now types
+            → ¬ IsAcceptedCode (declared self.now) (operator_features self.now.features) types kind
             (may_stand constant.entry) bytes.now.left }
     {
         let mut reader = bytes.duplicate();
@@ -249,8 +257,12 @@ impl<'a> LoadedModule<'a> {
     ///
     /// `Accepted`: all of the bytes are locals and operators. In the lookup over the module's declarations, the
     /// operators are type safe from the start that the function's type and the locals make.
+    ///
+    /// Any other verdict but `OutOfMemory`: it has no such body, or the bytes aren't locals and operators that are
+    /// accepted. Vector operators never are.
     pub fn check_function(&self, function: u32, buffers: &mut BodyBuffers) -> Verdict
-        ensures { result ≡ Accepted → IsSafeFunction self.now function }
+        ensures safe { result ≡ Accepted → IsSafeFunction self.now function }
+        ensures refused { result ≢ Accepted → result ≢ OutOfMemory → ¬ IsAcceptedFunction self.now function }
     {
         let Some(body) = self.body_of(function) else {
             return Verdict::Refused(unknown_function(0));
@@ -266,12 +278,16 @@ impl<'a> LoadedModule<'a> {
     ///
     /// `Accepted`: all of the bytes are operators. In the lookup over the module's declarations they are type safe,
     /// and give a value of the type that the place asks for. Each is constant there.
+    ///
+    /// Any other verdict but `OutOfMemory`: the bytes aren't operators that are accepted so.
     pub fn check_expression(
         &self,
         expression: &ConstantExpression<'_>,
         buffers: &mut BodyBuffers,
     ) -> Verdict
-        ensures { result ≡ Accepted → IsSafeExpression self.now expression.now }
+        ensures safe { result ≡ Accepted → IsSafeExpression self.now expression.now }
+        ensures refused { result ≢ Accepted → result ≢ OutOfMemory
+            → ¬ IsAcceptedExpression self.now expression.now }
     {
         let place = expression.place;
         let Some(ty) = expression_type(&self.declared, place) else {

@@ -1,8 +1,8 @@
 //! What the check of a module comes to.
 
-ghost use Rattle.std.specs.Prelude.{◌≡◌, ◌≢◌, ◌<◌, ◌≤◌, length, take};
-ghost use Rattle.module_check.specs.declared.verdict.Verdict.TheVariants.{Accepted};
-ghost use Rattle.module_check.specs.Verdicts.{IsConsistent};
+ghost use Rattle.std.specs.Prelude.{◌≡◌, ◌≢◌, ◌⊎◌, ◌<◌, ◌≤◌, length, take};
+ghost use Rattle.module_check.specs.declared.verdict.Verdict.TheVariants.{Accepted, OutOfMemory};
+ghost use Rattle.module_check.specs.Verdicts.{IsConsistent, SaysNo};
 
 use crate::verdict::{Item, Verdict};
 use module_rules::Place;
@@ -149,6 +149,8 @@ impl ModuleVerdict {
         requires { IsConsistent (length text.old) self.old }
         ensures consistent { IsConsistent (length text.new) self.new }
         ensures accepted { self.new.status ≡ 0 → (self.old.status ≡ 0) × (verdict.now ≡ Accepted) }
+        ensures refused { SaysNo self.new.status → SaysNo self.old.status
+            ⊎ ((verdict.now ≢ Accepted) × (verdict.now ≢ OutOfMemory)) }
     {
         match verdict {
             Verdict::Accepted => self.accepted = self.accepted.saturating_add(1),

@@ -1,13 +1,15 @@
 //! The operators of a body, which are read and handed to its validator one by one.
 
-ghost use Rattle.std.specs.Prelude.{◌≡◌, ◌≢◌, [], true, false, Ok, Some, None, OnOk, IfOk, OnErr, IsSome};
+ghost use Rattle.std.specs.Prelude.{◌≡◌, ◌≢◌, ℕ, List, [], true, false, Ok, Some, None, OnOk, IfOk, OnErr, IfErr, IfSome, IsSome};
 ghost use Rattle.binary_operators.specs.Functions.{locals};
-ghost use Rattle.validate_stacks.specs.State.{IsStarting};
-ghost use Rattle.validate_stacks.specs.Visits.{MayVisit, Meets};
+ghost use Rattle.validate_stacks.specs.State.{BodyState, IsStarting};
+ghost use Rattle.validate_stacks.specs.Visits.{MayVisit, Meets, RowFails};
 ghost use Rattle.validation_rules.specs.Operators.{operator};
 ghost use Rattle.validate_body.specs.Start.{state, stacks_of};
+ghost use Rattle.module_check.specs.Accepted.{AreAcceptedOperators};
 ghost use Rattle.module_check.specs.Begin.{DefinesGroup, DefinesRead};
 ghost use Rattle.module_check.specs.Constant.{may_stand};
+ghost use Rattle.module_check.specs.Refusals.{IsRefusal};
 ghost use Rattle.module_check.specs.Safe.{AreSafeOperators};
 ghost use Rattle.module_check.specs.Turns.{IsTurn};
 
@@ -50,6 +52,8 @@ fn define_group<R: WasmModuleResources>(
     ensures starting { OnOk result (IsStarting (R.context resources.now) (state v.new)) }
     ensures defined { OnOk result (DefinesGroup (R.context resources.now) canonical.entry reader.old.left
         reader.new.left (state v.old) (state v.new)) }
+    ensures refused { IfErr result (λ e. IsRefusal e → (rest : List ℕ) → (w : BodyState)
+        → ¬ DefinesGroup (R.context resources.now) canonical.entry reader.old.left rest (state v.old) w) }
 {
     let offset = reader.offset();
     let group = read_group(reader, canonical)?;
@@ -69,6 +73,8 @@ pub(crate) fn define_locals<R: WasmModuleResources>(
     ensures starting { OnOk result (IsStarting (R.context resources.now) (state v.new)) }
     ensures defined { OnOk result (DefinesRead (R.context resources.now) canonical.entry reader.old.left
         reader.new.left (state v.old) (state v.new)) }
+    ensures refused { IfErr result (λ e. IsRefusal e → (rest : List ℕ) → (w : BodyState)
+        → ¬ DefinesRead (R.context resources.now) canonical.entry reader.old.left rest (state v.old) w) }
 {
     let groups = reader.read_var_u32()?;
     for _ in 0..groups {
@@ -100,6 +106,9 @@ fn is_any_accepted<R: WasmModuleResources>(
     ensures turn { result ≡ true → IsTurn (R.context resources.now) canonical.now reader.old.left reader.new.left
         (state v.old) (state v.new) }
     ensures told { result ≡ false → IsSome refusal.new }
+    ensures refused { result ≡ false → IfSome refusal.new (λ e. IsRefusal e
+        → ¬ AreAcceptedOperators (R.context resources.now) canonical.now (may_stand None) (state v.old)
+        reader.old.left) }
 {
     let offset = reader.offset();
     if reader.is_at_end() {
@@ -130,6 +139,9 @@ fn is_next_accepted<'a, R: WasmModuleResources>(
     ensures turn { result ≡ true → IsTurn (R.context resources.now) canonical.now reader.old.left reader.new.left
         (state v.old) (state v.new) }
     ensures told { result ≡ false → IsSome refusal.new }
+    ensures refused { result ≡ false → IfSome refusal.new (λ e. IsRefusal e
+        → ¬ AreAcceptedOperators (R.context resources.now) canonical.now (may_stand None) (state v.old)
+        reader.old.left) }
 {
     if passes_common(v, resources, reader) {
         return true;
@@ -149,8 +161,10 @@ fn check_function_operators<R: WasmModuleResources>(
     lists: &mut OperatorLists,
 ) -> Result<(), CheckError>
     requires { IsStarting (R.context resources.now) (state v.old) }
-    ensures { OnOk result (AreSafeOperators (R.context resources.now) canonical.entry (may_stand None)
+    ensures accepted { OnOk result (AreSafeOperators (R.context resources.now) canonical.entry (may_stand None)
         (state v.old) lent.old.left) }
+    ensures refused { IfErr result (λ e. IsRefusal e → ¬ AreAcceptedOperators (R.context resources.now)
+        canonical.entry (may_stand None) (state v.old) lent.old.left) }
 {
     let mut refusal = None;
     let mut reader = lent.duplicate();
@@ -188,8 +202,10 @@ pub(crate) fn check_operators<R: WasmModuleResources>(
     constant: Option<ConstantPlace<'_>>,
 ) -> Result<(), CheckError>
     requires { IsStarting (R.context resources.now) (state v.old) }
-    ensures { OnOk result (AreSafeOperators (R.context resources.now) canonical.entry (may_stand constant.entry)
-        (state v.old) reader.old.left) }
+    ensures accepted { OnOk result (AreSafeOperators (R.context resources.now) canonical.entry
+        (may_stand constant.entry) (state v.old) reader.old.left) }
+    ensures refused { IfErr result (λ e. IsRefusal e → ¬ AreAcceptedOperators (R.context resources.now)
+        canonical.entry (may_stand constant.entry) (state v.old) reader.old.left) }
 {
     match constant {
         None => check_function_operators(v, resources, reader, canonical, lists),
@@ -210,6 +226,8 @@ fn is_accepted_by_check<R: WasmModuleResources>(
     ensures row { result ≡ true → Meets (R.context resources.now) (λ cx. operator cx op.now) offset (state v.old)
         (Ok tt) (state v.new) }
     ensures told { result ≡ false → IsSome refusal.new }
+    ensures refused { result ≡ false → IfSome refusal.new (λ e. IsRefusal e
+        → RowFails (R.context resources.now) (λ cx. operator cx op.now) (state v.old)) }
 {
     match v.check_ref(resources, offset, op) {
         Ok(()) => true,
@@ -234,6 +252,8 @@ fn is_accepted<R: WasmModuleResources>(
     ensures row { result ≡ true → Meets (R.context resources.now) (λ cx. operator cx op.now) offset (state v.old)
         (Ok tt) (state v.new) }
     ensures told { result ≡ false → IsSome refusal.new }
+    ensures refused { result ≡ false → IfSome refusal.new (λ e. IsRefusal e
+        → RowFails (R.context resources.now) (λ cx. operator cx op.now) (state v.old)) }
 {
     if v.passes_at_once(resources, op) {
         return true;
@@ -248,7 +268,8 @@ pub(crate) fn check_end(
     canonical: CanonicalTypes<'_>,
     lists: &mut OperatorLists,
 ) -> Result<(), CheckError>
-    ensures { OnOk result (rest.entry.left ≡ []) }
+    ensures ended { OnOk result (rest.entry.left ≡ []) }
+    ensures refused { OnErr result (rest.entry.left ≢ []) }
 {
     let mut reader = rest;
     if reader.is_at_end() {

@@ -1,7 +1,9 @@
 //! What the check of a body or a constant expression comes to.
 
-ghost use Rattle.std.specs.Prelude.{◌≡◌, ◌≢◌, false, IsOk};
-ghost use Rattle.module_check.specs.declared.verdict.Verdict.TheVariants.{Accepted, Refused};
+ghost use Rattle.std.specs.Prelude.{◌≡◌, ◌≢◌, ◌↔◌, false, IsOk, IfErr};
+ghost use Rattle.binary_operators.specs.declared.error.Cause.TheVariants.{OutOfMemory as NoMemory};
+ghost use Rattle.module_check.specs.Refusals.{IsRefusal};
+ghost use Rattle.module_check.specs.declared.verdict.Verdict.TheVariants.{Accepted, Refused, OutOfMemory};
 ghost use Rattle.validate_types.specs.declared.error.Error.{Error};
 
 use binary_operators::{Cause, Fault, ReadError};
@@ -71,21 +73,30 @@ impl CheckError {
 }
 
 impl From<ReadError> for CheckError {
+    ghost use Rattle.module_check.specs.declared.verdict.CheckError.TheVariants.{Unread};
+
+    ghost from_gives = { λ error refusal. refusal ≡ Unread error };
+
     fn from(error: ReadError) -> CheckError {
         CheckError::Unread(error)
     }
 }
 
 impl From<Error> for CheckError {
-    fn from(refusal: Error) -> CheckError {
-        CheckError::Refused(refusal)
+    ghost use Rattle.module_check.specs.declared.verdict.CheckError.TheVariants.{Refused};
+
+    ghost from_gives = { λ error refusal. refusal ≡ Refused error };
+
+    fn from(error: Error) -> CheckError {
+        CheckError::Refused(error)
     }
 }
 
 impl Verdict {
     /// The verdict of a body that was checked: it is accepted, or it isn't for this.
     pub fn of_check(checked: Result<(), CheckError>) -> Verdict
-        ensures { result ≡ Accepted → IsOk checked }
+        ensures accepted { (result ≡ Accepted) ↔ IsOk checked }
+        ensures refused { result ≢ Accepted → result ≢ OutOfMemory → IfErr checked IsRefusal }
     {
         match checked {
             Ok(()) => Verdict::Accepted,
@@ -98,6 +109,7 @@ impl Verdict {
     pub fn of_refusal(refusal: Error) -> Verdict
         ensures not_accepted { result ≢ Accepted }
         ensures refused { (e : Error) → result ≡ Refused e → refusal.wants_memory ≡ false }
+        ensures memory { result ≢ OutOfMemory → refusal.wants_memory ≡ false }
     {
         if refusal.is_out_of_memory() {
             Verdict::OutOfMemory
@@ -109,7 +121,8 @@ impl Verdict {
     /// The verdict where bytes can't be read for this. Some of what the reader refuses is of the binary format,
     /// but not valid: types that aren't there, and several supertypes.
     fn of_fault(fault: Fault, offset: u64) -> Verdict
-        ensures { result ≢ Accepted }
+        ensures not_accepted { result ≢ Accepted }
+        ensures memory { result ≢ OutOfMemory }
     {
         let refusal = Error::new(fault.text(), offset);
         match fault {
@@ -122,7 +135,8 @@ impl Verdict {
 
     /// The verdict where bytes can't be read.
     pub fn of_read_error(error: ReadError) -> Verdict
-        ensures { result ≢ Accepted }
+        ensures not_accepted { result ≢ Accepted }
+        ensures memory { result ≢ OutOfMemory → error.cause ≢ NoMemory }
     {
         match error.cause {
             Cause::Malformed(fault) => Verdict::of_fault(fault, error.offset),

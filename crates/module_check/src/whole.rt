@@ -1,8 +1,9 @@
 //! The check of a module.
 
-ghost use Rattle.std.specs.Prelude.{◌≡◌, length};
-ghost use Rattle.module_check.specs.Loaded.{AreSafeExpressions, IsSafeFunction, IsValid};
-ghost use Rattle.module_check.specs.Verdicts.{IsConsistent};
+ghost use Rattle.std.specs.Prelude.{◌≡◌, ◌⊎◌, length};
+ghost use Rattle.module_check.specs.Loaded.{AreSafeExpressions, IsAcceptedFunction, IsAcceptedModule};
+ghost use Rattle.module_check.specs.Loaded.{IsSafeFunction, IsValid};
+ghost use Rattle.module_check.specs.Verdicts.{IsConsistent, SaysNo};
 
 use crate::buffers::BodyBuffers;
 use crate::loaded::LoadedModule;
@@ -20,6 +21,7 @@ fn check_expressions(
     ensures consistent { IsConsistent (length text.new) out.new }
     ensures accepted { out.new.status ≡ 0 → (out.old.status ≡ 0)
         × AreSafeExpressions module.now (length module.now.expressions.items) }
+    ensures refused { SaysNo out.new.status → SaysNo out.old.status ⊎ ¬ IsAcceptedModule module.now }
 {
     for expression in module.expressions() {
         let verdict = module.check_expression(expression, buffers);
@@ -27,8 +29,8 @@ fn check_expressions(
     }
 }
 
-/// Checks the body of the function at this index.
-fn check_body(
+/// Checks the body of the function at this index, and notes what it comes to.
+pub fn check_function(
     module: &LoadedModule<'_>,
     function: u32,
     buffers: &mut BodyBuffers,
@@ -39,6 +41,7 @@ fn check_body(
     ensures consistent { IsConsistent (length text.new) out.new }
     ensures accepted { out.new.status ≡ 0 → (out.old.status ≡ 0)
         × IsSafeFunction module.now function }
+    ensures refused { SaysNo out.new.status → SaysNo out.old.status ⊎ ¬ IsAcceptedFunction module.now function }
 {
     let verdict = module.check_function(function, buffers);
     out.note(&verdict, Some(Item::Function(function)), text);
@@ -49,6 +52,8 @@ fn check_body(
 /// The status is 0 only if it was 0 before and each of them is accepted. Then the module is valid. Its declarations
 /// were checked as it was read; each body and each constant expression is type safe; the operators of constant
 /// expressions are constant.
+///
+/// If it is one but that of want of memory, it was such a one before, or one of them isn't accepted.
 pub fn check_module(
     module: &LoadedModule<'_>,
     buffers: &mut BodyBuffers,
@@ -58,10 +63,11 @@ pub fn check_module(
     requires { IsConsistent (length text.old) out.old }
     ensures consistent { IsConsistent (length text.new) out.new }
     ensures accepted { out.new.status ≡ 0 → IsValid module.now }
+    ensures refused { SaysNo out.new.status → SaysNo out.old.status ⊎ ¬ IsAcceptedModule module.now }
 {
     check_expressions(module, buffers, text, out);
     for index in 0..module.body_count() {
         let function = module.function_of(index);
-        check_body(module, function, buffers, text, out);
+        check_function(module, function, buffers, text, out);
     }
 }

@@ -1,18 +1,18 @@
 //! The calls of C on a module.
 
-ghost use Rattle.std.specs.Prelude.{◌≡◌, ◌≢◌, ◌<◌, ◌-◌, length, true, false, None, Some, IsOk, IfOk, IfErr, IfSome};
-ghost use Rattle.module_check.specs.Loaded.{IsSafeFunction, IsValid};
-ghost use Rattle.module_check.specs.Verdicts.{IsConsistent};
+ghost use Rattle.std.specs.Prelude.{◌≡◌, ◌≢◌, ◌⊎◌, ◌<◌, ◌-◌, length, true, false, None, Some, IsOk, IfOk, IfErr, IfSome};
+ghost use Rattle.module_check.specs.Loaded.{IsAcceptedFunction, IsAcceptedModule, IsSafeFunction, IsValid};
+ghost use Rattle.module_check.specs.Verdicts.{IsConsistent, SaysNo};
 ghost use Rattle.module_check.specs.declared.verdict.Verdict.TheVariants.{Accepted};
 ghost use Rattle.module_handles.specs.Calls.{OnModule, OfModule, HaveTheSame, IsLoadedFrom, IsValidModuleOf};
 ghost use Rattle.module_handles.specs.Items.{AreSafeBetween, AreSafeFrom};
 
 use crate::handle::ModuleHandle;
-use crate::items::{check_from, check_function};
+use crate::items::check_from;
 use crate::shared::SharedModule;
 use module_check::{
     BodyBuffers, Item, LoadedModule, ModuleFeatures, ModuleVerdict, NO_BODY, NOT_LOADED,
-    OUT_OF_MEMORY, VALID, Verdict, check_module,
+    OUT_OF_MEMORY, VALID, Verdict, check_function, check_module,
 };
 use std::alloc::Global;
 use std::sync::Arc;
@@ -39,6 +39,7 @@ fn check_all(alloc: Global, module: &LoadedModule<'_>, text: &mut [u8], out: &mu
     requires { IsConsistent (length text.old) out.old }
     ensures consistent { IsConsistent (length text.new) out.new }
     ensures valid { out.new.status ≡ 0 → IsValid «module».now }
+    ensures refused { SaysNo out.new.status → SaysNo out.old.status ⊎ ¬ IsAcceptedModule «module».now }
 {
     check_module(module, &mut BodyBuffers::new(alloc), text, out);
 }
@@ -214,7 +215,7 @@ fn begin(
 ) -> Option<Box<SharedModule>>
     ensures consistent { IsConsistent (length text.new) out.new }
     ensures some { IfSome result (λ b. (handle.old.held ≡ Some b.value) × (out.new.status ≡ 0)) }
-    ensures none { result ≡ None → (handle.old.held ≡ None) × (handle.new.held ≡ None) × (out.new.status ≢ 0) }
+    ensures none { result ≡ None → (handle.old.held ≡ None) × (handle.new.held ≡ None) × (out.new.status ≡ 6) }
 {
     *out = ModuleVerdict::new();
     let shared = handle.take(alloc);
@@ -235,6 +236,8 @@ fn check_one(
     requires { IsConsistent (length text.old) out.old }
     ensures consistent { IsConsistent (length text.new) out.new }
     ensures safe { out.new.status ≡ 0 → IsSafeFunction «module».now function }
+    ensures refused { SaysNo out.new.status → SaysNo out.old.status
+        ⊎ ¬ IsAcceptedFunction «module».now function }
 {
     if module.body_of(function).is_some() {
         check_function(module, function, &mut BodyBuffers::new(alloc), text, out);
@@ -250,7 +253,8 @@ fn check_one(
     }
 }
 
-/// Checks the body of the function at this index.
+/// Checks the body of the function at this index. Where the status is 0, it is type safe; where it is 1 or 2, it isn't
+/// accepted.
 pub fn validate_function(
     alloc: Global,
     handle: &mut ModuleHandle,
@@ -261,6 +265,8 @@ pub fn validate_function(
     ensures status { result ≡ out.new.status }
     ensures consistent { IsConsistent (length text.new) out.new }
     ensures safe { result ≡ 0 → OnModule handle.old.held (λ m. IsSafeFunction m function) }
+    ensures refused { (result ≡ 1) ⊎ (result ≡ 2)
+        → OnModule handle.old.held (λ m. ¬ IsAcceptedFunction m function) }
     ensures kept { handle.new.held ≡ handle.old.held }
 {
     if let Some(shared) = begin(alloc, handle, text, out) {
@@ -270,7 +276,8 @@ pub fn validate_function(
     status_of(out)
 }
 
-/// Checks each body and each constant expression. Where the status is 0, the module is valid.
+/// Checks each body and each constant expression. Where the status is 0, the module is valid; where it is 1 or 2, one of
+/// them isn't accepted.
 pub fn validate_module(
     alloc: Global,
     handle: &mut ModuleHandle,
@@ -280,6 +287,8 @@ pub fn validate_module(
     ensures status { result ≡ out.new.status }
     ensures consistent { IsConsistent (length text.new) out.new }
     ensures valid { result ≡ 0 → OnModule handle.old.held IsValid }
+    ensures refused { (result ≡ 1) ⊎ (result ≡ 2)
+        → OnModule handle.old.held (λ m. ¬ IsAcceptedModule m) }
     ensures kept { handle.new.held ≡ handle.old.held }
 {
     if let Some(shared) = begin(alloc, handle, text, out) {

@@ -1,28 +1,10 @@
 //! The bodies and constant expressions of a module, one after another.
 
 ghost use Rattle.std.specs.Prelude.{◌≡◌, ◌≢◌, ◌≤◌, ◌<◌, ◌-◌, length};
-ghost use Rattle.module_check.specs.Loaded.{IsSafeFunction};
 ghost use Rattle.module_check.specs.Verdicts.{IsConsistent};
 ghost use Rattle.module_handles.specs.Items.{IsSafeAt, AreSafeBetween, AreSafeFrom, item_count};
 
-use module_check::{BodyBuffers, Item, LoadedModule, ModuleVerdict, VALID};
-
-/// Checks the body of the function at this index, and notes what it comes to.
-pub(crate) fn check_function(
-    module: &LoadedModule<'_>,
-    function: u32,
-    buffers: &mut BodyBuffers,
-    text: &mut [u8],
-    out: &mut ModuleVerdict,
-)
-    requires { IsConsistent (length text.old) out.old }
-    ensures consistent { IsConsistent (length text.new) out.new }
-    ensures accepted { out.new.status ≡ 0 → (out.old.status ≡ 0)
-        × IsSafeFunction module.now function }
-{
-    let verdict = module.check_function(function, buffers);
-    out.note(&verdict, Some(Item::Function(function)), text);
-}
+use module_check::{BodyBuffers, Item, LoadedModule, ModuleVerdict, VALID, check_function};
 
 /// How many constant expressions and bodies there are, or more than there can be.
 fn count_of(module: &LoadedModule<'_>) -> usize

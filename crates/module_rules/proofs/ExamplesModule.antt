@@ -16,7 +16,7 @@ use Rattle.validate_visit.specs.declared.op.Op.{Op}
 use Rattle.validate_visit.specs.declared.op.Op.TheVariants.{Control, Numeric, Reference, Struct, Array}
 use Rattle.validate_visit.specs.declared.op.ReferenceOp.TheVariants.{RefNull, RefFunc, RefI31, RefIsNull}
 use Rattle.validate_visit.specs.declared.op.StructOp.TheVariants.{StructNew, StructGet}
-use Rattle.module_rules.specs.Constants.{is_constant_expression, expression_type}
+use Rattle.module_rules.specs.Constants.{is_constant_in, expression_type}
 use Rattle.module_rules.specs.Declarations.{Declarations, nothing_declared}
 use Rattle.module_rules.specs.Exported.{Exported}
 use Rattle.module_rules.specs.Exports.{are_valid_exports}
@@ -190,10 +190,13 @@ passive_data_without = refl
 -- ---- constant expressions
 
 abbrev is_constant : ModuleFeatures → Place → Op → Bool
-is_constant features place op = is_constant_expression features a_module place ((op, 0) ∷ (Control End, 1) ∷ [])
+is_constant features place op = is_constant_in features a_module place op
 
 a_constant : is_constant every (InGlobal 2) (Numeric (I32Const (pos 1))) ≡ true
 a_constant = refl
+
+an_end : is_constant every (InGlobal 2) (Control End) ≡ true
+an_end = refl
 
 a_sum : is_constant every (InGlobal 2) (Numeric (IntegerBinary IntegerI32 Add)) ≡ true
 a_sum = refl

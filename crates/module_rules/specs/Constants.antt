@@ -3,7 +3,6 @@
 -- refused besides where its own proposal is off, as anywhere.
 use Rattle.std.specs.Prelude.{ℕ, Bool, true, false, List, ◌&&◌, ◌||◌, not, nat_lt, length}
 use Rattle.std.specs.Prelude.{Option, Some, None, slice_get, take}
-use Rattle.std.specs.List.{list_all}
 use Rattle.std.specs.Option.{option_map, option_and_then}
 use Rattle.validate_types.specs.Types.{address_type_of_memory, address_type_of_table}
 use Rattle.validate_types.specs.declared.types.ValType.{ValType}
@@ -140,11 +139,6 @@ known_globals d _ = length d.globals
 abbrev pub is_constant_in : ModuleFeatures → Declarations → Place → Op → Bool
 is_constant_in features d place =
     is_constant_operator features (may_name_global features d (known_globals d place))
-
--- each operator, beside its offset, is
-abbrev pub is_constant_expression : ModuleFeatures → Declarations → Place → List (Op × ℕ) → Bool
-is_constant_expression features d place ops =
-    list_all (λ (e : Op × ℕ). is_constant_in features d place e.0) ops
 
 -- the type of the addresses that a segment begins at, if it goes to a table or a memory
 abbrev pub element_address_type : List DeclaredTable → ElementKind → Option ValType

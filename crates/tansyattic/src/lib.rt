@@ -2,8 +2,8 @@
 //! three functions that it takes its memory by, stand in `ffi/tansyattic.h` (docs/MODULES.md).
 #![tactic(auto)]
 
-ghost use Rattle.std.specs.Prelude.{◌≡◌, ◌≢◌, ◌<◌, ◌-◌, length, None};
-ghost use Rattle.module_check.specs.Loaded.{IsSafeFunction, IsValid};
+ghost use Rattle.std.specs.Prelude.{◌≡◌, ◌≢◌, ◌⊎◌, ◌<◌, ◌-◌, length, None};
+ghost use Rattle.module_check.specs.Loaded.{IsAcceptedFunction, IsAcceptedModule, IsSafeFunction, IsValid};
 ghost use Rattle.module_check.specs.Verdicts.{IsConsistent};
 ghost use Rattle.module_handles.specs.Calls.{OnModule, OfModule, HaveTheSame, IsLoadedFrom, IsValidModuleOf};
 ghost use Rattle.module_handles.specs.Items.{AreSafeBetween, AreSafeFrom};
@@ -109,6 +109,8 @@ pub extern "C" fn tansyattic_raw_validate_function(
     ensures status { result ≡ out.new.status }
     ensures consistent { IsConsistent (length text.new) out.new }
     ensures safe { result ≡ 0 → OnModule handle.old.held (λ m. IsSafeFunction m function) }
+    ensures refused { (result ≡ 1) ⊎ (result ≡ 2)
+        → OnModule handle.old.held (λ m. ¬ IsAcceptedFunction m function) }
     ensures kept { handle.new.held ≡ handle.old.held }
 {
     module_handles::validate_function(alloc, handle, function, text, out)
@@ -125,6 +127,8 @@ pub extern "C" fn tansyattic_raw_validate_module(
     ensures status { result ≡ out.new.status }
     ensures consistent { IsConsistent (length text.new) out.new }
     ensures valid { result ≡ 0 → OnModule handle.old.held IsValid }
+    ensures refused { (result ≡ 1) ⊎ (result ≡ 2)
+        → OnModule handle.old.held (λ m. ¬ IsAcceptedModule m) }
     ensures kept { handle.new.held ≡ handle.old.held }
 {
     module_handles::validate_module(alloc, handle, text, out)

@@ -1,7 +1,19 @@
--- What was checked and accepted is the code of the body.
-use Rattle.module_check.proofs.Begun.{given_ok}
+-- What was checked and accepted is the code of the body; what was refused is none.
+use Rattle.module_check.specs.Constant.{may_stand}
+use Rattle.module_check.specs.Refusals.{IsRefusal}
+use Rattle.validate_body.specs.Start.{state}
+use Rattle.module_check.proofs.Begun.{given_ok, refused_for, not_started}
 use Rattle.module_check.proofs.body.check_body.Goals as goal
 
-pub returns-in-Ok : goal.returns-in-Ok
-returns-in-Ok g c = λ accepted.
-    given_ok c.check_body_from-checked.result (c.of_check.ensures accepted) c.check_body_from-checked.ensures c.args.features.now c.in-Ok.ensures.made
+pub returns-in-Ok-clause-accepted : goal.returns-in-Ok-clause-accepted
+returns-in-Ok-clause-accepted g c = λ accepted.
+    given_ok c.check_body_from-checked.result (c.of_check.ensures.accepted.0 accepted) c.check_body_from-checked.ensures.accepted c.args.features.now c.in-Ok.ensures.made
+
+pub returns-in-Ok-clause-refused : goal.returns-in-Ok-clause-refused
+returns-in-Ok-clause-refused g c = λ refused memory.
+    refused_for c.check_body_from-checked.result IsRefusal (λ ok. refused (c.of_check.ensures.accepted.1 ok)) (c.of_check.ensures.refused refused memory) c.check_body_from-checked.ensures.refused c.args.features.now c.in-Ok.ensures.made
+
+pub returns-in-Err-clause-refused : goal.returns-in-Err-clause-refused
+returns-in-Err-clause-refused g c = λ refused memory.
+    not_started (g.R.WasmModuleResources.context c.args.resources.now) c.args.features.now c.args.canonical (may_stand c.args.constant) (state c.start_body.new.self) c.args.reader.now.left c.args.kind
+    (c.in-Err.ensures.refused (c.of_refusal.ensures.memory memory))

@@ -1,5 +1,6 @@
--- Some operators were read and accepted, and the validator is in the state behind them, where a frame is open.
-use Rattle.std.proofs.Common.{Some}
+-- Some operators were read and accepted, and the validator is in the state behind them, where a frame is open. Each took
+-- a byte at least.
+use Rattle.std.proofs.Common.{Some, ◌+◌, ◌≤◌, length}
 use Rattle.validate_body.specs.Start.{state}
 use Rattle.module_check.specs.Constant.{may_stand}
 use Rattle.module_check.proofs.Behind.{IsOpenBehind}
@@ -7,4 +8,7 @@ use Rattle.module_check.proofs.expression.check_constant_operators.Given as goal
 
 abbrev pub invariant-loop : goal.invariant-loop
 invariant-loop g l =
-    IsOpenBehind (g.R.WasmModuleResources.context l.resources) l.fn.canonical (may_stand (Some l.fn.place)) (state l.fn.v) (state l.v) l.fn.reader.left l.reader.left
+    record {
+      so_far : IsOpenBehind (g.R.WasmModuleResources.context l.resources) l.fn.canonical (may_stand (Some l.fn.place)) (state l.fn.v) (state l.v) l.fn.reader.left l.reader.left;
+      few : length l.reader.left + l.counter ≤ length l.fn.reader.left;
+    }

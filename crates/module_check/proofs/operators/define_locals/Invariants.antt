@@ -1,20 +1,15 @@
--- The groups so far are read and defined, and what is left to read makes the whole list behind them.
-use Rattle.std.proofs.Common.{◌≡◌, ◌-◌, ℕ, List}
-use Rattle.binary_operators.specs.Functions.{locals}
-use Rattle.binary_operators.specs.Values.{so_many}
-use Rattle.binary_operators.proofs.Items.{with_front}
+-- The groups can be defined exactly if those that are left can, in the state that those so far lead to.
+use Rattle.std.proofs.Common.{◌-◌, ◌↔◌, ℕ, List}
 use Rattle.validate_body.specs.Start.{state}
-use Rattle.validate_stacks.specs.State.{IsStarting}
-use Rattle.validate_types.specs.declared.types.ValType.{ValType}
-use Rattle.validate_body.specs.Begin.{DefinesEach}
+use Rattle.validate_stacks.specs.State.{BodyState, IsStarting}
+use Rattle.module_check.proofs.Groups.{DefinesMore}
 use Rattle.module_check.proofs.operators.define_locals.Given as goal
 
 abbrev pub invariant-loop : goal.invariant-loop
 invariant-loop g l =
     let md = g.R.WasmModuleResources.context l.resources in
-    let items = so_many (locals l.fn.canonical) in
     record {
       starting : IsStarting md (state l.v);
-      so_far : (done : List (ℕ × ValType)) × (with_front done (items (l.groups - l.counter) l.reader.left) ≡ items l.groups l.initial.reader.left)
-          × DefinesEach md done (state l.fn.v) (state l.v);
+      same : (rest : List ℕ) (w : BodyState) → DefinesMore md l.fn.canonical l.groups l.initial.reader.left rest (state l.fn.v) w
+          ↔ DefinesMore md l.fn.canonical (l.groups - l.counter) l.reader.left rest (state l.v) w;
     }

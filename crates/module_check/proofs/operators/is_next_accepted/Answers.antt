@@ -1,9 +1,12 @@
 -- A common operator passes, or nothing is changed before any operator is read.
-use Rattle.std.proofs.Common.{sym, subst, ◌∙◌}
+use Rattle.std.proofs.Common.{None, IfSome, sym, subst, ◌∙◌}
 use Rattle.binary_operators.specs.Unread.{Unread}
 use Rattle.validate_stacks.specs.Attempts.{Stacked}
 use Rattle.validate_stacks.specs.Visits.{MayVisit}
 use Rattle.validate_body.specs.Start.{state, stacks_of}
+use Rattle.module_check.specs.Accepted.{AreAcceptedOperators}
+use Rattle.module_check.specs.Constant.{may_stand}
+use Rattle.module_check.specs.Refusals.{IsRefusal}
 use Rattle.module_check.specs.Turns.{IsTurn}
 use Rattle.module_check.proofs.Turned.{turn_of, same_of}
 use Rattle.module_check.proofs.operators.is_next_accepted.Goals as goal
@@ -26,3 +29,11 @@ returns-clause-turn g c = λ accepted.
     let turn = subst (λ (s : Stacked). IsTurn md c.args.canonical.now c.duplicate.result.left next.new.reader.left s.body (state next.new.v)) same.1 (next.ensures.turn accepted) in
     let begun = subst (λ (r : Unread). IsTurn md c.args.canonical.now r.left next.new.reader.left (state c.args.v.now) (state next.new.v)) (c.duplicate.ensures ∙ same.0) turn in
     subst (λ (r : Unread). IsTurn md c.args.canonical.now c.args.reader.now.left r.left (state c.args.v.now) (state next.new.v)) (sym c.duplicate-2.ensures) begun
+
+pub returns-clause-refused : goal.returns-clause-refused
+returns-clause-refused g c = λ is.
+    let md = g.R.WasmModuleResources.context c.args.resources.now in
+    let same = same_of md c.passes_common.result c.args.reader.now c.passes_common.new.reader (stacks_of c.args.v.now) (stacks_of c.passes_common.new.v) c.passes_common.ensures c.if-passes_common.false in
+    let refusal = c.is_any_accepted-is_accepted.new.refusal in
+    let there = subst (λ (s : Stacked). IfSome refusal (λ e. IsRefusal e → ¬ AreAcceptedOperators md c.args.canonical.now (may_stand None) s.body c.duplicate.result.left)) same.1 (c.is_any_accepted-is_accepted.ensures.refused is) in
+    subst (λ (r : Unread). IfSome refusal (λ e. IsRefusal e → ¬ AreAcceptedOperators md c.args.canonical.now (may_stand None) (state c.args.v.now) r.left)) (c.duplicate.ensures ∙ same.0) there

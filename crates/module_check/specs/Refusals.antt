@@ -1,0 +1,10 @@
+-- When an answer other than yes is a no (the crate's own).
+use Rattle.std.specs.Prelude.{◌≡◌, ◌≢◌, false}
+use Rattle.binary_operators.specs.declared.error.Cause.TheVariants.{OutOfMemory}
+use Rattle.module_check.specs.declared.verdict.CheckError.{CheckError}
+use Rattle.module_check.specs.declared.verdict.CheckError.TheVariants.{Unread, Refused}
+
+-- memory didn't run out
+abbrev pub IsRefusal : CheckError → Type 0
+IsRefusal (Unread e) = e.cause ≢ OutOfMemory
+IsRefusal (Refused e) = e.wants_memory ≡ false

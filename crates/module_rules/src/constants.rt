@@ -3,6 +3,7 @@
 ghost use Rattle.std.specs.Prelude.{◌≡◌, ℕ, true, false, take, slice_get, OnOk, OnErr};
 ghost use Rattle.module_rules.specs.Constants.{is_constant_binary, is_constant_numeric, is_constant_reference, is_constant_struct, is_constant_array, is_read, is_constant_operator, is_constant_in, is_immutable, may_name_global, known_globals, expression_type, element_address_type, data_address_type};
 ghost use Rattle.module_rules.specs.Declarations.{declarations_of};
+ghost use Rattle.module_rules.specs.declared.module.Place.{Place};
 
 use crate::elements::item_type;
 use crate::features::ModuleFeatures;
@@ -243,6 +244,30 @@ fn data_address_type(memories: &[DeclaredMemory], kind: DataKind) -> Option<ValT
     Some(memory.ty.index_type())
 }
 
+/// The type of the addresses at which an element segment begins, if it is there.
+fn element_offset_type(declared: &DeclaredModule, index: u32) -> Option<ValType>
+    ensures { result ≡ expression_type (declarations_of declared.now) (Place.ElementOffset index) }
+{
+    let element = declared.elements.get(index as usize)?;
+    element_address_type(&declared.tables, element.kind)
+}
+
+/// The type of the items of an element segment, if it is there.
+fn element_value_type(declared: &DeclaredModule, index: u32) -> Option<ValType>
+    ensures { result ≡ expression_type (declarations_of declared.now) (Place.Element index) }
+{
+    let element = declared.elements.get(index as usize)?;
+    Some(ValType::Ref(item_type(&element.items)))
+}
+
+/// The type of the addresses at which a data segment begins, if it is there.
+fn data_offset_type(declared: &DeclaredModule, index: u32) -> Option<ValType>
+    ensures { result ≡ expression_type (declarations_of declared.now) (Place.DataOffset index) }
+{
+    let segment = declared.data_segments.get(index as usize)?;
+    data_address_type(&declared.memories, segment.kind)
+}
+
 /// The type of the value of a constant expression in this place, if that is there.
 pub fn expression_type(declared: &DeclaredModule, place: Place) -> Option<ValType>
     ensures { result ≡ expression_type (declarations_of declared.now) place }
@@ -256,17 +281,8 @@ pub fn expression_type(declared: &DeclaredModule, place: Place) -> Option<ValTyp
             let global = declared.globals.get(index as usize)?;
             Some(global.ty.content_type)
         }
-        Place::ElementOffset(index) => {
-            let element = declared.elements.get(index as usize)?;
-            element_address_type(&declared.tables, element.kind)
-        }
-        Place::Element(index) => {
-            let element = declared.elements.get(index as usize)?;
-            Some(ValType::Ref(item_type(&element.items)))
-        }
-        Place::DataOffset(index) => {
-            let segment = declared.data_segments.get(index as usize)?;
-            data_address_type(&declared.memories, segment.kind)
-        }
+        Place::ElementOffset(index) => element_offset_type(declared, index),
+        Place::Element(index) => element_value_type(declared, index),
+        Place::DataOffset(index) => data_offset_type(declared, index),
     }
 }

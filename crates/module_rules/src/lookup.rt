@@ -7,7 +7,7 @@ ghost use Rattle.validate_resources.specs.Named.{declared_in};
 ghost use Rattle.module_rules.specs.Declarations.{declarations_of};
 ghost use Rattle.module_rules.specs.Exported.{Exported};
 ghost use Rattle.module_rules.specs.Lookup.{Marks, function_decl, function_decls, lookup_lists};
-ghost use Rattle.module_rules.specs.References.{exported_functions, listed_functions, is_referenced};
+ghost use Rattle.module_rules.specs.References.{exported_functions, listed_functions, named_functions, is_referenced};
 ghost use Rattle.module_rules.specs.Segments.{item_type};
 
 use crate::copies::copied_types;
@@ -80,6 +80,15 @@ fn mark_listed(marks: &mut [bool], elements: &[Element])
     }
 }
 
+/// Marks the functions that a module names outside of its functions.
+fn mark_named(marks: &mut [bool], declared: &DeclaredModule)
+    ensures { Marks marks.old marks.new (named_functions (declarations_of declared.now)) }
+{
+    mark_exported(marks, &declared.exports);
+    mark_listed(marks, &declared.elements);
+    mark_each(marks, &declared.expression_functions);
+}
+
 /// Of each function whether `ref.func` may name it.
 fn referenced_functions(alloc: Global, declared: &DeclaredModule) -> Result<Vec<bool>, OutOfMemory>
     ensures count { IfOk result (λ v. length v.items ≡ length (declarations_of declared.now).functions) }
@@ -87,9 +96,7 @@ fn referenced_functions(alloc: Global, declared: &DeclaredModule) -> Result<Vec<
         → slice_index_or v.items k false ≡ is_referenced (declarations_of declared.now) k) }
 {
     let mut marks = vec![in alloc; false; declared.functions.len()]?;
-    mark_exported(&mut marks, &declared.exports);
-    mark_listed(&mut marks, &declared.elements);
-    mark_each(&mut marks, &declared.expression_functions);
+    mark_named(&mut marks, declared);
     Ok(marks)
 }
 

@@ -386,6 +386,31 @@ fn items_refusal(
     }
 }
 
+/// Why a segment can't be of elements of this type for a table of that type, or it has too many items.
+fn items_type_refusal(
+    alloc: Global,
+    types: &[SubType],
+    (ty, above): (RefType, RefType),
+    offset: u64,
+) -> Error {
+    if is_ref_below(types, ty, above) {
+        return Error::new("number of elements is out of bounds", offset);
+    }
+    Error::from_text(
+        format!(in alloc; "type mismatch: invalid element type `{ty}` for table type `{above}`"),
+        offset,
+    )
+}
+
+/// Why a segment that goes to no table isn't valid.
+fn passive_refusal(features: ModuleFeatures) -> &'static str {
+    if features.bulk_memory() {
+        "number of elements is out of bounds"
+    } else {
+        "bulk memory must be enabled"
+    }
+}
+
 /// Why what becomes of an element segment isn't valid, or it has too many items.
 fn element_kind_refusal(
     alloc: Global,
@@ -394,28 +419,18 @@ fn element_kind_refusal(
     element: &Element,
 ) -> Error {
     let ElementKind::Active { table_index } = element.kind else {
-        let text = if features.bulk_memory() {
-            "number of elements is out of bounds"
-        } else {
-            "bulk memory must be enabled"
-        };
-        return Error::new(text, element.offset);
+        return Error::new(passive_refusal(features), element.offset);
     };
-    let Some(table) = declared.tables.get(table_index as usize) else {
-        return Error::from_text(
+    match declared.tables.get(table_index as usize) {
+        Some(table) => {
+            let compared = (item_type(&element.items), table.ty.element_type);
+            items_type_refusal(alloc, &declared.types, compared, element.offset)
+        }
+        None => Error::from_text(
             format!(in alloc; "unknown table {table_index}: table index out of bounds"),
             element.offset,
-        );
-    };
-    let ty = item_type(&element.items);
-    let above = table.ty.element_type;
-    if is_ref_below(&declared.types, ty, above) {
-        return Error::new("number of elements is out of bounds", element.offset);
+        ),
     }
-    Error::from_text(
-        format!(in alloc; "type mismatch: invalid element type `{ty}` for table type `{above}`"),
-        element.offset,
-    )
 }
 
 /// Why the element segments of a module aren't valid.

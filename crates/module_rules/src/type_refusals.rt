@@ -169,6 +169,12 @@ fn supertype_refusal(types: &[SubType], supertype: Option<PackedIndex>) -> &'sta
     "sub type must match super type"
 }
 
+/// The type at the index, which a continuation names, isn't one of functions.
+fn continuation_refusal(alloc: Global, index: PackedIndex, offset: u64) -> Error {
+    let index = number(index.unpack());
+    Error::from_text(format!(in alloc; "non-function type {index}"), offset)
+}
+
 /// Why a type isn't valid among those that the module declares.
 fn sub_type_refusal(
     alloc: Global,
@@ -186,8 +192,7 @@ fn sub_type_refusal(
     if let Some(index) = continuation_of(ty)
         && !continues_function(types, ty)
     {
-        let index = number(index.unpack());
-        return Error::from_text(format!(in alloc; "non-function type {index}"), offset);
+        return continuation_refusal(alloc, index, offset);
     }
     Error::new(supertype_refusal(types, ty.supertype_idx), offset)
 }
@@ -209,6 +214,22 @@ fn descriptor_refusal(types: &[SubType], name: u32, ty: &CompositeType) -> &'sta
     "describes with no matching descriptor"
 }
 
+/// Why the type at this index isn't valid.
+fn declared_type_refusal(
+    alloc: Global,
+    features: ModuleFeatures,
+    declared: &DeclaredModule,
+    index: usize,
+    ty: &SubType,
+) -> Error {
+    let types = declared.types.as_slice();
+    let offset = offset_of_type(&declared.groups, index);
+    if !has_valid_chain(types, index, ty) {
+        return chain_refusal(alloc, index, ty.supertype_idx, offset);
+    }
+    sub_type_refusal(alloc, features, types, ty, offset)
+}
+
 /// Why a type of a module isn't valid, whose groups are, if one isn't.
 fn declared_types_refusal(
     alloc: Global,
@@ -217,13 +238,8 @@ fn declared_types_refusal(
 ) -> Option<Error> {
     let types = declared.types.as_slice();
     for (index, ty) in types.iter().enumerate() {
-        if !has_valid_chain(types, index, ty) {
-            let offset = offset_of_type(&declared.groups, index);
-            return Some(chain_refusal(alloc, index, ty.supertype_idx, offset));
-        }
-        if !is_valid_sub_type(features, types, ty) {
-            let offset = offset_of_type(&declared.groups, index);
-            return Some(sub_type_refusal(alloc, features, types, ty, offset));
+        if !has_valid_chain(types, index, ty) || !is_valid_sub_type(features, types, ty) {
+            return Some(declared_type_refusal(alloc, features, declared, index, ty));
         }
     }
     None

@@ -1,6 +1,6 @@
 //! The check of a module's declarations (WebAssembly core specification, "Validation: Modules").
 
-ghost use Rattle.std.specs.Prelude.{◌≡◌, true, false, length, map, IfErr, OnOk, OnErr};
+ghost use Rattle.std.specs.Prelude.{◌≡◌, ◌&&◌, true, false, length, IfErr, OnOk};
 ghost use Rattle.module_rules.specs.Declarations.{declarations_of};
 ghost use Rattle.module_rules.specs.Exports.{are_valid_exports};
 ghost use Rattle.module_rules.specs.Functions.{are_valid_functions, are_valid_tags, is_valid_start};
@@ -46,22 +46,24 @@ fn import_count(imports: Imports) -> u64
         + u64::from(imports.tags)
 }
 
-/// There are no more types and imports than may be.
-fn check_limits(alloc: Global, declared: &DeclaredModule) -> Result<(), Error>
-    ensures valid { OnOk result (is_within_limits (declarations_of declared.now) ≡ true) }
-    ensures invalid { OnErr result (is_within_limits (declarations_of declared.now) ≡ false) }
+/// Whether there are no more types and imports than may be.
+fn is_within_limits(declared: &DeclaredModule) -> bool
+    ensures { result ≡ is_within_limits (declarations_of declared.now) }
 {
+    declared.types.len() <= MAX_WASM_TYPES
+        && import_count(declared.imports) <= MAX_WASM_IMPORTS as u64
+}
+
+/// Why there are too many types or imports.
+fn limits_refusal(alloc: Global, declared: &DeclaredModule) -> Error {
     if declared.types.len() > MAX_WASM_TYPES {
         let offset = match declared.groups.last() {
             Some(group) => group.offset,
             None => 0,
         };
-        return Err(too_many(alloc, MAX_WASM_TYPES, "types", offset));
+        return too_many(alloc, MAX_WASM_TYPES, "types", offset);
     }
-    if import_count(declared.imports) > MAX_WASM_IMPORTS as u64 {
-        return Err(too_many(alloc, MAX_WASM_IMPORTS, "imports", declared.imports.offset));
-    }
-    Ok(())
+    too_many(alloc, MAX_WASM_IMPORTS, "imports", declared.imports.offset)
 }
 
 /// Whether the types are valid.
@@ -75,184 +77,94 @@ fn are_types_valid(features: ModuleFeatures, declared: &DeclaredModule) -> bool
         && have_valid_descriptors(&declared.types, &declared.canonical)
 }
 
-/// The types are valid.
-fn check_types(
-    alloc: Global,
-    features: ModuleFeatures,
-    declared: &DeclaredModule,
-) -> Result<(), Error>
-    ensures valid { OnOk result (are_valid_types features (declarations_of declared.now).types
-        (declarations_of declared.now).groups (declarations_of declared.now).canonical ≡ true) }
-    ensures invalid { OnErr result (are_valid_types features (declarations_of declared.now).types
-        (declarations_of declared.now).groups (declarations_of declared.now).canonical ≡ false) }
+/// Whether the functions are valid.
+fn are_functions_valid(features: ModuleFeatures, declared: &DeclaredModule) -> bool
+    ensures { result ≡ are_valid_functions features (declarations_of declared.now).types
+        (declarations_of declared.now).imports.functions (declarations_of declared.now).functions }
 {
-    if are_types_valid(features, declared) {
-        return Ok(());
-    }
-    Err(types_refusal(alloc, features, declared))
-}
-
-/// The functions are valid.
-fn check_functions(
-    alloc: Global,
-    features: ModuleFeatures,
-    declared: &DeclaredModule,
-) -> Result<(), Error>
-    ensures valid { OnOk result (are_valid_functions features (declarations_of declared.now).types
-        (declarations_of declared.now).imports.functions (declarations_of declared.now).functions ≡ true) }
-    ensures invalid { OnErr result (are_valid_functions features (declarations_of declared.now).types
-        (declarations_of declared.now).imports.functions (declarations_of declared.now).functions ≡ false) }
-{
-    if are_valid_functions(
+    are_valid_functions(
         features,
         &declared.types,
         declared.imports.functions,
         &declared.functions,
-    ) {
-        return Ok(());
-    }
-    Err(functions_refusal(alloc, features, declared))
+    )
 }
 
-/// The tables are valid.
-fn check_tables(
-    alloc: Global,
-    features: ModuleFeatures,
-    declared: &DeclaredModule,
-) -> Result<(), Error>
-    ensures valid { OnOk result (are_valid_tables features (declarations_of declared.now).types
-        (declarations_of declared.now).imports.tables (declarations_of declared.now).tables ≡ true) }
-    ensures invalid { OnErr result (are_valid_tables features (declarations_of declared.now).types
-        (declarations_of declared.now).imports.tables (declarations_of declared.now).tables ≡ false) }
+/// Whether the tables are valid.
+fn are_tables_valid(features: ModuleFeatures, declared: &DeclaredModule) -> bool
+    ensures { result ≡ are_valid_tables features (declarations_of declared.now).types
+        (declarations_of declared.now).imports.tables (declarations_of declared.now).tables }
 {
-    if are_valid_tables(
+    are_valid_tables(
         features,
         &declared.types,
         declared.imports.tables,
         &declared.tables,
-    ) {
-        return Ok(());
-    }
-    Err(tables_refusal(alloc, features, declared))
+    )
 }
 
-/// The memories are valid.
-fn check_memories(
-    alloc: Global,
-    features: ModuleFeatures,
-    declared: &DeclaredModule,
-) -> Result<(), Error>
-    ensures valid { OnOk result (are_valid_memories features
-        (declarations_of declared.now).memories ≡ true) }
-    ensures invalid { OnErr result (are_valid_memories features
-        (declarations_of declared.now).memories ≡ false) }
+/// Whether the globals are valid.
+fn are_globals_valid(features: ModuleFeatures, declared: &DeclaredModule) -> bool
+    ensures { result ≡ are_valid_globals features (declarations_of declared.now).types
+        (declarations_of declared.now).imports.globals (declarations_of declared.now).globals }
 {
-    if are_valid_memories(features, &declared.memories) {
-        return Ok(());
-    }
-    Err(memories_refusal(alloc, features, declared))
-}
-
-/// The tags are valid.
-fn check_tags(
-    alloc: Global,
-    features: ModuleFeatures,
-    declared: &DeclaredModule,
-) -> Result<(), Error>
-    ensures valid { OnOk result (are_valid_tags features (declarations_of declared.now).types
-        (declarations_of declared.now).tags ≡ true) }
-    ensures invalid { OnErr result (are_valid_tags features (declarations_of declared.now).types
-        (declarations_of declared.now).tags ≡ false) }
-{
-    if are_valid_tags(features, &declared.types, &declared.tags) {
-        return Ok(());
-    }
-    Err(tags_refusal(alloc, features, declared))
-}
-
-/// The globals are valid.
-fn check_globals(
-    alloc: Global,
-    features: ModuleFeatures,
-    declared: &DeclaredModule,
-) -> Result<(), Error>
-    ensures valid { OnOk result (are_valid_globals features (declarations_of declared.now).types
-        (declarations_of declared.now).imports.globals (declarations_of declared.now).globals ≡ true) }
-    ensures invalid { OnErr result (are_valid_globals features (declarations_of declared.now).types
-        (declarations_of declared.now).imports.globals (declarations_of declared.now).globals ≡ false) }
-{
-    if are_valid_globals(
+    are_valid_globals(
         features,
         &declared.types,
         declared.imports.globals,
         &declared.globals,
-    ) {
-        return Ok(());
-    }
-    Err(globals_refusal(alloc, features, declared))
+    )
 }
 
-/// The element segments are valid.
-fn check_elements(
-    alloc: Global,
-    features: ModuleFeatures,
-    declared: &DeclaredModule,
-) -> Result<(), Error>
-    ensures valid { OnOk result (are_valid_elements features (declarations_of declared.now).types
-        (length (declarations_of declared.now).functions) (declarations_of declared.now).tables
-        (declarations_of declared.now).elements ≡ true) }
-    ensures invalid { OnErr result (are_valid_elements features (declarations_of declared.now).types
-        (length (declarations_of declared.now).functions) (declarations_of declared.now).tables
-        (declarations_of declared.now).elements ≡ false) }
+/// Whether functions, tables, memories, tags and globals are valid.
+fn are_items_valid(features: ModuleFeatures, declared: &DeclaredModule) -> bool
+    ensures { result ≡ are_valid_items features (declarations_of declared.now) }
 {
-    if are_valid_elements(
-        features,
-        &declared.types,
-        declared.functions.len(),
-        &declared.tables,
-        &declared.elements,
-    ) {
-        return Ok(());
-    }
-    Err(elements_refusal(alloc, features, declared))
+    are_functions_valid(features, declared)
+        && are_tables_valid(features, declared)
+        && are_valid_memories(features, &declared.memories)
+        && are_valid_tags(features, &declared.types, &declared.tags)
+        && are_globals_valid(features, declared)
 }
 
-/// The data segments are valid.
-fn check_data(
-    alloc: Global,
-    features: ModuleFeatures,
-    declared: &DeclaredModule,
-) -> Result<(), Error>
-    ensures valid { OnOk result (are_valid_data features (length (declarations_of declared.now).memories)
-        (declarations_of declared.now).data_count (declarations_of declared.now).data_segments ≡ true) }
-    ensures invalid { OnErr result (are_valid_data features (length (declarations_of declared.now).memories)
-        (declarations_of declared.now).data_count (declarations_of declared.now).data_segments ≡ false) }
-{
-    if are_valid_data(
-        features,
-        declared.memories.len(),
-        declared.data_count,
-        &declared.data_segments,
-    ) {
-        return Ok(());
+/// Why functions, tables, memories, tags or globals aren't valid.
+fn items_refusal(alloc: Global, features: ModuleFeatures, declared: &DeclaredModule) -> Error {
+    if !are_functions_valid(features, declared) {
+        return functions_refusal(alloc, features, declared);
     }
-    Err(data_refusal(alloc, features, declared))
+    if !are_tables_valid(features, declared) {
+        return tables_refusal(alloc, features, declared);
+    }
+    if !are_valid_memories(features, &declared.memories) {
+        return memories_refusal(alloc, features, declared);
+    }
+    if !are_valid_tags(features, &declared.types, &declared.tags) {
+        return tags_refusal(alloc, features, declared);
+    }
+    globals_refusal(alloc, features, declared)
 }
 
-/// The start function is valid, if there is one.
-fn check_start(alloc: Global, declared: &DeclaredModule) -> Result<(), Error>
-    ensures valid { OnOk result (is_valid_start (declarations_of declared.now).types
-        (declarations_of declared.now).functions (declarations_of declared.now).start ≡ true) }
-    ensures invalid { OnErr result (is_valid_start (declarations_of declared.now).types
-        (declarations_of declared.now).functions (declarations_of declared.now).start ≡ false) }
+/// Whether the types and the items of the module are valid, and no more than may be.
+fn are_declared_valid(features: ModuleFeatures, declared: &DeclaredModule) -> bool
+    ensures { result ≡ (is_within_limits (declarations_of declared.now)
+        && are_valid_types features (declarations_of declared.now).types
+        (declarations_of declared.now).groups (declarations_of declared.now).canonical
+        && are_valid_items features (declarations_of declared.now)) }
 {
-    let Some(start) = declared.start else {
-        return Ok(());
-    };
-    if may_start(&declared.types, &declared.functions, start.function) {
-        return Ok(());
+    is_within_limits(declared)
+        && are_types_valid(features, declared)
+        && are_items_valid(features, declared)
+}
+
+/// Why the types or the items of the module aren't valid.
+fn declared_refusal(alloc: Global, features: ModuleFeatures, declared: &DeclaredModule) -> Error {
+    if !is_within_limits(declared) {
+        return limits_refusal(alloc, declared);
     }
-    Err(start_refusal(alloc, declared, start))
+    if !are_types_valid(features, declared) {
+        return types_refusal(alloc, features, declared);
+    }
+    items_refusal(alloc, features, declared)
 }
 
 /// The exports are valid.
@@ -271,24 +183,59 @@ fn check_exports(
     if !is_each_export_valid(features, declared) {
         return Err(exports_refusal(alloc, features, declared));
     }
-    check_names(alloc, &declared.exports)?;
-    Ok(())
+    check_names(alloc, &declared.exports)
 }
 
-/// Functions, tables, memories, tags and globals are valid.
-fn check_items(
-    alloc: Global,
-    features: ModuleFeatures,
-    declared: &DeclaredModule,
-) -> Result<(), Error>
-    ensures valid { OnOk result (are_valid_items features (declarations_of declared.now) ≡ true) }
-    ensures invalid { OnErr result (are_valid_items features (declarations_of declared.now) ≡ false) }
+/// Whether the start function is valid, if there is one.
+fn is_start_valid(declared: &DeclaredModule) -> bool
+    ensures { result ≡ is_valid_start (declarations_of declared.now).types
+        (declarations_of declared.now).functions (declarations_of declared.now).start }
 {
-    check_functions(alloc, features, declared)?;
-    check_tables(alloc, features, declared)?;
-    check_memories(alloc, features, declared)?;
-    check_tags(alloc, features, declared)?;
-    check_globals(alloc, features, declared)
+    match declared.start {
+        Some(start) => may_start(&declared.types, &declared.functions, start.function),
+        None => true,
+    }
+}
+
+/// Whether the element segments are valid.
+fn are_elements_valid(features: ModuleFeatures, declared: &DeclaredModule) -> bool
+    ensures { result ≡ are_valid_elements features (declarations_of declared.now).types
+        (length (declarations_of declared.now).functions) (declarations_of declared.now).tables
+        (declarations_of declared.now).elements }
+{
+    are_valid_elements(
+        features,
+        &declared.types,
+        declared.functions.len(),
+        &declared.tables,
+        &declared.elements,
+    )
+}
+
+/// Whether the data segments are valid.
+fn is_data_valid(features: ModuleFeatures, declared: &DeclaredModule) -> bool
+    ensures { result ≡ are_valid_data features (length (declarations_of declared.now).memories)
+        (declarations_of declared.now).data_count (declarations_of declared.now).data_segments }
+{
+    are_valid_data(
+        features,
+        declared.memories.len(),
+        declared.data_count,
+        &declared.data_segments,
+    )
+}
+
+/// Why the start function or segments aren't valid.
+fn uses_refusal(alloc: Global, features: ModuleFeatures, declared: &DeclaredModule) -> Error {
+    if let Some(start) = declared.start
+        && !is_start_valid(declared)
+    {
+        return start_refusal(alloc, declared, start);
+    }
+    if !are_elements_valid(features, declared) {
+        return elements_refusal(alloc, features, declared);
+    }
+    data_refusal(alloc, features, declared)
 }
 
 /// Exports, the start function and segments are valid.
@@ -302,9 +249,13 @@ fn check_uses(
         → are_valid_uses features (declarations_of declared.now) ≡ false) }
 {
     check_exports(alloc, features, declared)?;
-    check_start(alloc, declared)?;
-    check_elements(alloc, features, declared)?;
-    check_data(alloc, features, declared)
+    if is_start_valid(declared)
+        && are_elements_valid(features, declared)
+        && is_data_valid(features, declared)
+    {
+        return Ok(());
+    }
+    Err(uses_refusal(alloc, features, declared))
 }
 
 /// Checks that the declarations of a module are valid under the proposals that are on. Then
@@ -325,9 +276,8 @@ pub fn validate_module(
     ensures invalid { IfErr result (λ e. e.wants_memory ≡ false
         → is_valid_module features (declarations_of declared.now) ≡ false) }
 {
-    check_limits(alloc, declared)?;
-    check_types(alloc, features, declared)?;
-    check_items(alloc, features, declared)?;
-    check_uses(alloc, features, declared)?;
-    Ok(())
+    if !are_declared_valid(features, declared) {
+        return Err(declared_refusal(alloc, features, declared));
+    }
+    check_uses(alloc, features, declared)
 }

@@ -37,11 +37,18 @@ fn report(
     println!(rt; "{name}: {whole}.{rest:02} ns, {count} operators").map_err(|_| Unmeasured::Host)
 }
 
-/// Measures each way that the body of the script is checked.
-fn run(rt: &HostRuntime) -> Result<(), Unmeasured> {
+/// Measures each way that a body is checked.
+fn measure_ways(rt: &HostRuntime, choice: Choice, subject: Subject<'_>) -> Result<(), Unmeasured> {
+    for way in [Way::CheckOps, Way::Visits] {
+        let best = best_time(rt, way, subject, choice.runs)?;
+        report(rt, choice, way, best, subject.ops.len())?;
+    }
+    Ok(())
+}
+
+/// Measures each way that the body of a script is checked.
+fn measure_script(rt: &HostRuntime, choice: Choice, text: &str) -> Result<(), Unmeasured> {
     let alloc = rt.alloc();
-    let choice = read_choice(rt)?;
-    let text = io::read_to_string(alloc, rt.stdin()).map_err(|_| Unmeasured::Script)?;
     let mut listed = Vec::new(alloc);
     let Script {
         features,
@@ -50,7 +57,7 @@ fn run(rt: &HostRuntime) -> Result<(), Unmeasured> {
         body,
         locals,
         operators,
-    } = read_script(alloc, &mut listed, &text).map_err(|_| Unmeasured::Script)?;
+    } = read_script(alloc, &mut listed, text).map_err(|_| Unmeasured::Script)?;
     let module = ModuleLists::from_declarations(alloc, declarations).map_err(
         |_| Unmeasured::Script,
     )?;
@@ -64,11 +71,14 @@ fn run(rt: &HostRuntime) -> Result<(), Unmeasured> {
         attempts: &operators.attempts,
         has_attempts: operators.attempts.contains(&true),
     };
-    for way in [Way::CheckOps, Way::Visits] {
-        let best = best_time(rt, way, subject, choice.runs)?;
-        report(rt, choice, way, best, operators.ops.len())?;
-    }
-    Ok(())
+    measure_ways(rt, choice, subject)
+}
+
+/// The same of the script that is the input.
+fn run(rt: &HostRuntime) -> Result<(), Unmeasured> {
+    let choice = read_choice(rt)?;
+    let text = io::read_to_string(rt.alloc(), rt.stdin()).map_err(|_| Unmeasured::Script)?;
+    measure_script(rt, choice, &text)
 }
 
 fn main(rt: HostRuntime) -> ExitCode {

@@ -105,6 +105,29 @@ fn is_accepted_by(
     }
 }
 
+/// The time that this validator takes for the operators.
+fn time_by(
+    rt: &HostRuntime,
+    validator: &mut OperatorValidator,
+    way: Way,
+    subject: Subject<'_>,
+    heights: &mut Vec<(usize, usize)>,
+) -> Result<u128, Unmeasured>
+    requires starting { IsStarting (⟦<ModuleLists as WasmModuleResources>⟧.context subject.module.now)
+        (state validator.old) }
+    requires ordered { is_well_ordered_list (without_offsets subject.ops.now) ≡ true }
+    requires immediates { list_all (λ (pair : _). is_module_op pair.0) subject.ops.now ≡ true }
+    requires empty { heights.old.items ≡ [] }
+{
+    let since = Instant::now(rt).map_err(|_| Unmeasured::Host)?;
+    let accepted = is_accepted_by(validator, way, subject, heights);
+    let time = since.elapsed(rt).map_err(|_| Unmeasured::Host)?.as_nanos();
+    if !accepted {
+        return Err(Unmeasured::Refused);
+    }
+    Ok(time)
+}
+
 /// The time of one run: of the operators alone, by a validator whose locals are defined.
 fn time(
     rt: &HostRuntime,
@@ -116,23 +139,17 @@ fn time(
     requires immediates { list_all (λ (pair : _). is_module_op pair.0) subject.ops.now ≡ true }
 {
     heights.clear();
-    let Ok(mut validator) = begin_body(
+    match begin_body(
         subject.module,
         subject.features,
         subject.body.kind,
         subject.body.offset,
         subject.locals,
         OperatorValidatorAllocations::new(subject.alloc),
-    ) else {
-        return Err(Unmeasured::Refused);
-    };
-    let since = Instant::now(rt).map_err(|_| Unmeasured::Host)?;
-    let accepted = is_accepted_by(&mut validator, way, subject, heights);
-    let time = since.elapsed(rt).map_err(|_| Unmeasured::Host)?.as_nanos();
-    if !accepted {
-        return Err(Unmeasured::Refused);
+    ) {
+        Ok(mut validator) => time_by(rt, &mut validator, way, subject, heights),
+        Err(_) => Err(Unmeasured::Refused),
     }
-    Ok(time)
 }
 
 /// Visits the operators one by one: whether all were accepted, and the outermost frame is closed.

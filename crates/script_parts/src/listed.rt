@@ -182,17 +182,22 @@ pub fn has_list(name: &str) -> bool {
 
 /// Reads the list of an operator: its name, and the words of the list after it.
 pub fn read_list(alloc: Global, words: &[&str]) -> Result<OperatorList, LineError> {
-    match words.split_first() {
-        Some((&"br_table", labels)) => read_labels(alloc, labels),
-        Some((&"select_multi", types)) => {
-            Ok(OperatorList::Types(read_value_types(alloc, types)?))
-        }
-        Some((&"try_table", immediates)) => read_try_table(alloc, immediates),
-        Some((&"resume", immediates)) => read_resume(alloc, immediates),
-        Some((&"resume_throw", immediates)) => read_resume_throw(alloc, immediates),
-        Some((&"resume_throw_ref", immediates)) => read_resume_throw_ref(alloc, immediates),
+    let (name, immediates) = words.split_first().ok_or(LineError::Bad)?;
+    match *name {
+        "br_table" => read_labels(alloc, immediates),
+        "select_multi" => read_types(alloc, immediates),
+        "try_table" => read_try_table(alloc, immediates),
+        "resume" => read_resume(alloc, immediates),
+        "resume_throw" => read_resume_throw(alloc, immediates),
+        "resume_throw_ref" => read_resume_throw_ref(alloc, immediates),
         _ => Err(LineError::Bad),
     }
+}
+
+/// The types of a `select` of several values.
+fn read_types(alloc: Global, types: &[&str]) -> Result<OperatorList, LineError> {
+    let types = read_value_types(alloc, types)?;
+    Ok(OperatorList::Types(types))
 }
 
 /// The labels of a `br_table`, of which the last is the default.

@@ -89,14 +89,14 @@ impl<'a> Cases<'a> {
         if let Some(lookup) = lookup_of(kind, words) {
             return run_undone(alloc, tally, head, text, lookup);
         }
-        match (kind, words) {
-            ("scripts", "" | "with custom_descriptors") => run_transcript(alloc, tally, head, text),
-            ("each", "" | "with custom_descriptors") => {
-                run_each(alloc, tally, head, (self.rows, text))
-            }
-            ("bad", "") => run_bad_lines(alloc, tally, head, text),
-            ("given", "") => run_left(alloc, tally, head, (text, false)),
-            ("left", "") => run_left(alloc, tally, head, (text, true)),
+        let is_bare = words.is_empty();
+        let is_run = is_bare || words == "with custom_descriptors";
+        match kind {
+            "scripts" if is_run => run_transcript(alloc, tally, head, text),
+            "each" if is_run => run_each(alloc, tally, head, (self.rows, text)),
+            "bad" if is_bare => run_bad_lines(alloc, tally, head, text),
+            "given" if is_bare => run_left(alloc, tally, head, (text, false)),
+            "left" if is_bare => run_left(alloc, tally, head, (text, true)),
             _ => tally.refuse(kind, "begins no section"),
         }
     }

@@ -117,12 +117,17 @@ pub fn check_list<R: WasmModuleResources>(
     compare_operands(alloc, tally, v, script, left.operands)
 }
 
+/// Adds the line of an operator to a script.
+fn add_operator(script: &mut String, operator: &str) -> Result<(), AllocError> {
+    script.push_str(operator)?;
+    script.push_str("\n")
+}
+
 /// The script of these operators, parted by commas, behind these first lines.
 fn script_of(alloc: Global, head: &str, operators: &str) -> Result<String, AllocError> {
     let mut script = head.to_string(alloc)?;
     for operator in operators.split(',') {
-        script.push_str(operator.trim())?;
-        script.push_str("\n")?;
+        add_operator(&mut script, operator.trim())?;
     }
     Ok(script)
 }

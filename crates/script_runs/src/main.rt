@@ -92,15 +92,23 @@ fn print_read(rt: &HostRuntime, name: &str, tally: Option<Tally>) -> io::Result<
     }
 }
 
+/// What a first line asks for.
+const WAYS: &[(&str, Way)] = &[
+    ("once", Way::Once),
+    ("paired", Way::Paired),
+    ("shown", Way::Shown),
+    ("places", Way::Places),
+];
+
 /// What is done with each script, by a first line, and the lines behind it.
 fn way_of(lines: &str) -> (Way, &str) {
-    match lines.split_once('\n') {
-        Some(("once", names)) => (Way::Once, names),
-        Some(("paired", names)) => (Way::Paired, names),
-        Some(("shown", names)) => (Way::Shown, names),
-        Some(("places", names)) => (Way::Places, names),
-        _ => (Way::Checked, lines),
+    let (first, names) = lines.split_once('\n').unwrap_or(("", lines));
+    for (name, way) in WAYS {
+        if *name == first {
+            return (*way, names);
+        }
     }
+    (Way::Checked, lines)
 }
 
 /// Runs all of them, and says whether all was as expected.

@@ -4,6 +4,11 @@ use crate::runs::Way;
 use std::alloc::{AllocError, Global};
 use std::str;
 
+/// The text that these bytes are.
+fn text_of(bytes: &[u8]) -> &str {
+    str::from_utf8(bytes).unwrap_or("bytes that are no text")
+}
+
 /// What the scripts of a file came to.
 #[derive(Drop)]
 pub struct Tally {
@@ -41,8 +46,7 @@ impl Tally {
     /// Prints this of a script.
     pub fn add_printed(&mut self, bytes: &[u8]) -> Result<(), AllocError> {
         self.begin_printed()?;
-        let text = str::from_utf8(bytes).unwrap_or("bytes that are no text");
-        self.printed.push_str(text)
+        self.printed.push_str(text_of(bytes))
     }
 
     /// Writes it down where what the script does isn't what is expected.
@@ -70,8 +74,7 @@ impl Tally {
         found: &[u8],
         expected: &str,
     ) -> Result<(), AllocError> {
-        let found = str::from_utf8(found).unwrap_or("bytes that are no text");
-        self.compare(script, does, found, expected)
+        self.compare(script, does, text_of(found), expected)
     }
 
     /// The same of a number: a status, or a height.

@@ -84,6 +84,21 @@ impl<'a> Case<'a> {
         self.add(written, answer)?;
         Ok(false)
     }
+
+    /// Runs each script of a transcript, and says whether there is one.
+    fn run_scripts(
+        &mut self,
+        alloc: Global,
+        tally: &mut Tally,
+        transcript: &str,
+    ) -> Result<bool, AllocError> {
+        self.begin()?;
+        let mut ran = false;
+        for line in transcript.lines() {
+            ran |= self.read(alloc, tally, parts_of(line))?;
+        }
+        Ok(ran)
+    }
 }
 
 /// What a line of a transcript has before its `=>` and behind it.
@@ -106,11 +121,7 @@ pub fn run_transcript(
     transcript: &str,
 ) -> Result<(), AllocError> {
     let mut case = Case::new(alloc, head);
-    case.begin()?;
-    let mut ran = false;
-    for line in transcript.lines() {
-        ran |= case.read(alloc, tally, parts_of(line))?;
-    }
+    let ran = case.run_scripts(alloc, tally, transcript)?;
     if !ran || case.script.as_str() != head {
         return tally.refuse(&case.script, "has no verdict");
     }
@@ -170,6 +181,23 @@ pub fn run_each(
     Ok(())
 }
 
+/// Runs a script of which the line of this number is bad for this reason.
+fn run_bad_script(
+    alloc: Global,
+    tally: &mut Tally,
+    script: &str,
+    number: usize,
+    reason: &str,
+) -> Result<(), AllocError> {
+    let said = format!(in alloc; "bad script: line {number}: {reason}\n")?;
+    let expected = Output {
+        out: "",
+        err: &said,
+        status: 2,
+    };
+    run_script(alloc, tally, script, expected)
+}
+
 /// Runs this line, the one of this number, behind these first lines and before an `end`: it is bad for this reason.
 fn run_bad_line(
     alloc: Global,
@@ -179,13 +207,7 @@ fn run_bad_line(
     (line, reason): (&str, &str),
 ) -> Result<(), AllocError> {
     let script = format!(in alloc; "{head}{line}\nend\n")?;
-    let said = format!(in alloc; "bad script: line {number}: {reason}\n")?;
-    let expected = Output {
-        out: "",
-        err: &said,
-        status: 2,
-    };
-    run_script(alloc, tally, &script, expected)
+    run_bad_script(alloc, tally, &script, number, reason)
 }
 
 /// Runs each of these lines behind these first lines and before an `end`: it is a bad line, for the reason behind its

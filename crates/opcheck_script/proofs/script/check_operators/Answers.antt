@@ -1,5 +1,6 @@
-use Rattle.std.proofs.Common.{rules, inl}
+use Rattle.std.proofs.Common.{rules, inl, sym, ◌∙◌}
 use Rattle.validate_body.specs.Start.{state}
+use Rattle.std.proofs.lemmas.Bool.{and_parts}
 use Rattle.opcheck_script.proofs.Reports.{of_module}
 use Rattle.opcheck_script.proofs.script.check_operators.Goals as goal
 
@@ -21,4 +22,15 @@ returns-in-Ok c =
             safe = λ e. ran.safe e start.block_type start.one_frame;
           }));
       cause = tt;
+    }
+
+pub run_operators-requires : goal.run_operators-requires
+run_operators-requires c =
+    let may = and_parts _ _ (sym c.may_be_body.ensures ∙ c.if-not-may_be_body.false) in
+    record {
+      starting = c.in-Ok.ensures.starting;
+      ordered = may.0;
+      immediates = may.1;
+      each = c.requires.each;
+      allowed = c.requires.allowed;
     }

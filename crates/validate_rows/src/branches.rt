@@ -1,5 +1,4 @@
 //! Branches (WebAssembly core specification, "Control Instructions").
-#![tactic(auto, using(crate::proofs::Sets::branches))]
 
 ghost use Rattle.std.specs.Prelude.{◌≡◌, None, true, false, OnOk, OnErr};
 ghost use Rattle.validation_rules.specs.Branches.{br_row, br_if_row, br_table_row, return_row};
@@ -98,7 +97,6 @@ fn find_target<A: Refused, R: WasmModuleResources>(
 }
 
 /// Every target of `br_table`, up to the end of the table, which has to be complete.
-#[tactic(auto, using(std::proofs::lemmas::List::drop_all, std::proofs::lemmas::List::drop_more, validation_rules::proofs::Pops::and_false))]
 fn find_targets<A: Refused, R: WasmModuleResources>(
     body: &Body<'_, '_, R>,
     table: &BrTable<'_>,

@@ -97,7 +97,6 @@ pub fn select<A: Refused, R: WasmModuleResources>(body: Body<'_, '_, R>) -> Resu
 
 /// [`select`] of any operands.
 #[inline(never)]
-#[tactic(auto, using(crate::proofs::Sets::select_refusals))]
 fn any_select<A: Refused, R: WasmModuleResources>(body: Body<'_, '_, R>) -> Result<(), A>
     requires { MayBegin R.context body }
     ensures { Makes R.context A.tells (λ cx. row_operator (looking_row 3 (select_pushes cx))) body.entry

@@ -267,7 +267,6 @@ impl CastBranch {
 /// A branch by a cast of types that are checked, below so many operands, which go too: `[t from] -> [t left]`, with the
 /// types t of the label but its last, which lies above what is carried there.
 #[inline(always)]
-#[tactic(auto, using(crate::proofs::Sets::cast_branches))]
 pub(crate) fn cast_branch<A: Refused, R: WasmModuleResources>(
     body: Body<'_, '_, R>,
     above: usize,

@@ -48,7 +48,6 @@ fn is_found_exact<R: WasmModuleResources>(resources: &R, exact: HeapType, found:
 /// `ref.get_desc`: `[(ref null t)] -> [(ref d)]`, with the type d of the descriptors of the type t at this index;
 /// exact where what is found is.
 #[inline(never)]
-#[tactic(auto, using(crate::proofs::Sets::described))]
 pub fn ref_get_desc<A: Refused, R: WasmModuleResources>(
     body: Body<'_, '_, R>,
     type_index: u32,
@@ -161,7 +160,6 @@ fn is_exact(heap_type: HeapType) -> bool
 
 /// `ref.cast_desc_eq`: `[(ref null top) (ref null d)] -> [t]`, with the top type of the hierarchy of the type t cast
 /// to, and the type d of its descriptors.
-#[tactic(auto, using(crate::proofs::Sets::descriptor_casts))]
 pub fn ref_cast_desc_eq<A: Refused, R: WasmModuleResources>(
     body: Body<'_, '_, R>,
     nullable: bool,
@@ -183,7 +181,6 @@ pub fn ref_cast_desc_eq<A: Refused, R: WasmModuleResources>(
 
 /// A branch by a cast with a descriptor above the operand: what is carried to the label is of the type cast to, or isn't.
 #[inline(never)]
-#[tactic(auto, using(crate::proofs::Sets::descriptor_branches))]
 fn branch_by_descriptor<A: Refused, R: WasmModuleResources>(
     body: Body<'_, '_, R>,
     branch: CastBranch,

@@ -1,6 +1,5 @@
 //! Operators that look for a reference below an abstract type, whatever its null and its sharedness, and
 //! `ref.i31` (WebAssembly core specification, "Reference Instructions" and "Aggregate Instructions").
-#![tactic(auto, using(crate::proofs::Sets::found_references))]
 
 ghost use Rattle.std.specs.Prelude.{◌≡◌, true, false, None, Some, IfOk, OnErr};
 ghost use Rattle.std.specs.Option.{option_and_then};
@@ -170,7 +169,6 @@ fn is_same_sharedness<R: WasmModuleResources>(resources: &R, a: MaybeType, b: Ma
 
 /// `ref.eq`: `[r r] -> [i32]` of two references below `eq`, of the same sharedness.
 #[inline(never)]
-#[tactic(auto, using(crate::proofs::Sets::compared_references))]
 pub fn ref_eq<A: Refused, R: WasmModuleResources>(body: Body<'_, '_, R>) -> Result<(), A>
     requires { MayBegin R.context body }
     ensures { Makes R.context A.tells (λ cx. row_operator (ref_eq_row cx)) body.entry result body.exit }

@@ -222,7 +222,6 @@ fn new_default<A: Refused, R: WasmModuleResources>(
 /// `struct.new_desc`: `[t* (ref null d)] -> [(ref s)]`. The descriptor is looked for before anything else is asked of the
 /// type (upstream's order).
 #[inline(never)]
-#[tactic(auto, using(crate::proofs::Sets::made_structs))]
 fn new_desc<A: Refused, R: WasmModuleResources>(body: Body<'_, '_, R>, index: u32) -> Result<(), A>
     requires { MayBegin R.context body }
     ensures { Makes R.context A.tells (λ cx. row_operator (struct_new_desc_row cx index)) body.entry
@@ -239,7 +238,6 @@ fn new_desc<A: Refused, R: WasmModuleResources>(body: Body<'_, '_, R>, index: u3
 
 /// `struct.new_default_desc`: `[(ref null d)] -> [(ref s)]`. The descriptor is looked for first here too.
 #[inline(never)]
-#[tactic(auto, using(crate::proofs::Sets::made_structs))]
 fn new_default_desc<A: Refused, R: WasmModuleResources>(
     body: Body<'_, '_, R>,
     index: u32,

@@ -10,7 +10,7 @@ use Rattle.validate_stacks.specs.Steps.{body_unreachable, label_at}
 use Rattle.validate_stacks.specs.Visits.{step_body}
 use Rattle.validate_stacks.proofs.Moves.{fits_now, not_popped}
 use Rattle.validate_shapes.proofs.BranchSteps.{label_valid, br_none, types_there, br_is}
-use Rattle.validate_shapes.proofs.Moves.{unmoved, ended_moves}
+use Rattle.validate_shapes.proofs.Moves.{unmoved, ended_moves, never_refused}
 use Rattle.validate_rows.proofs.branches.br.Given.{Over}
 use Rattle.validate_rows.proofs.branches.br.Goals.{Start, After-label_types-types}
 use Rattle.validate_rows.proofs.branches.br.Goals as goal
@@ -34,10 +34,15 @@ module _ (g : Over) (c : After-label_types-types g) where
       let v = c.args.body.stacks.now.body in
       branches ∙ ap (option_map body_unreachable) (not_popped md c.label_types-types.result.now v c.requires.open_frame (fits_now md c.label_types-types.result.now v false h))
 
-pub returns-in_err-block_type : goal.returns-in_err-block_type
-returns-in_err-block_type g c =
-    let none = nowhere g (goal.at.returns-in_err-block_type g c).Start c.in_err-block_type.ensures.missing in
-    record { row = unmoved _ _ _ _ _ _ (search rules) refl (search (rules, none)); idle = search (rules, none) }
+pub returns-in_err-block_type-clause-row : goal.returns-in_err-block_type-clause-row
+returns-in_err-block_type-clause-row g c =
+    let none = nowhere g (goal.at.returns-in_err-block_type-clause-row g c).Start c.in_err-block_type.ensures.missing in
+    unmoved _ _ _ _ _ _ (search rules) refl (search (rules, none))
+
+pub returns-in_err-block_type-clause-idle : goal.returns-in_err-block_type-clause-idle
+returns-in_err-block_type-clause-idle g c =
+    let none = nowhere g (goal.at.returns-in_err-block_type-clause-idle g c).Start c.in_err-block_type.ensures.missing in
+    search (rules, none)
 
 pub find_operands-requires-clause-types : goal.find_operands-requires-clause-types
 find_operands-requires-clause-types g c =
@@ -47,10 +52,15 @@ find_operands-requires-clause-types g c =
     label_valid md v d _ (g.met.R.WasmModuleResources.lawful c.args.body.resources.now) c.requires.valid
     (types_there md v c.requires.open_frame (λ cx hs. br_row cx hs d) d refl _ _ c.label_types-types.result.now c.in_ok-block_type.ensures.found (c.label_types-types.ensures (body_context md v) refl))
 
-pub returns-in_err-find_operands : goal.returns-in_err-find_operands
-returns-in_err-find_operands g c =
-    let none = unfit g (goal.at.returns-in_err-find_operands g c).After-label_types-types c.in_err-find_operands.ensures.unfit in
-    record { row = unmoved _ _ _ _ _ _ (search rules) refl (search (rules, none)); idle = search (rules, none) }
+pub returns-in_err-find_operands-clause-row : goal.returns-in_err-find_operands-clause-row
+returns-in_err-find_operands-clause-row g c =
+    let none = unfit g (goal.at.returns-in_err-find_operands-clause-row g c).After-label_types-types c.in_err-find_operands.ensures.unfit in
+    unmoved _ _ _ _ _ _ (search rules) refl (search (rules, none))
+
+pub returns-in_err-find_operands-clause-idle : goal.returns-in_err-find_operands-clause-idle
+returns-in_err-find_operands-clause-idle g c =
+    let none = unfit g (goal.at.returns-in_err-find_operands-clause-idle g c).After-label_types-types c.in_err-find_operands.ensures.unfit in
+    search (rules, none)
 
 pub returns-clause-row : goal.returns-clause-row
 returns-clause-row g c =
@@ -58,3 +68,6 @@ returns-clause-row g c =
     let v = c.args.body.stacks.now.body in
     let types = c.label_types-types.result.now in
     ended_moves (md g at) _ _ c.args.body.stacks.now _ types (branches g at) (fits_now (md g at) types v true c.in_ok-find_operands.ensures.fit) c.requires.valid c.end_live.result c.end_live.ensures.told c.end_live.ensures.exact
+
+pub returns-clause-idle : goal.returns-clause-idle
+returns-clause-idle g c = λ idle. never_refused _ c.end_live.result (c.end_live.ensures.idle idle)

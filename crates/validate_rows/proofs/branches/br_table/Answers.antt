@@ -11,7 +11,7 @@ use Rattle.validate_stacks.specs.Visits.{step_body}
 use Rattle.validate_stacks.proofs.AtOnce.{ended_dropped, popped_dropped}
 use Rattle.validate_stacks.proofs.Moves.{fits_now, not_popped}
 use Rattle.validate_shapes.proofs.BranchSteps.{dropped_label, label_valid, still_open}
-use Rattle.validate_shapes.proofs.Moves.{unmoved, made_moves, unreachable_valid}
+use Rattle.validate_shapes.proofs.Moves.{unmoved, made_moves, never_refused, unreachable_valid}
 use Rattle.validate_rows.specs.Targets.{are_targets}
 use Rattle.validate_rows.proofs.BranchTables.{table_untested, table_none, types_table, table_refused, table_other_targets, table_passes}
 use Rattle.validate_rows.proofs.branches.br_table.Given.{Over}
@@ -66,20 +66,35 @@ module _ (g : Over) (c : After-label_types-types g) where
       let there = still_open (md g first) (reverse (I32 ∷ [])) v (below g first) (tested g at_test) c.requires.open_frame in
       table_refused (md g first) v c.requires.open_frame c.args.table.now.complete c.args.table.now.targets.now c.args.table.now.default (below g first) (tested g at_test) c.in_ok-block_type.block_type c.in_ok-block_type.kind c.label_types-types.result.now default_found (c.label_types-types.ensures (body_context (md g first) v) refl) (not_popped (md g first) c.label_types-types.result.now (below g first) there h)
 
-pub returns-in_err-find_operands : goal.returns-in_err-find_operands
-returns-in_err-find_operands g c =
-    let none = untested g (goal.at.returns-in_err-find_operands g c).Start c.in_err-find_operands.ensures.unfit in
-    record { row = unmoved _ _ _ _ _ _ (search rules) refl (search (rules, none)); idle = search (rules, none) }
+pub returns-in_err-find_operands-clause-row : goal.returns-in_err-find_operands-clause-row
+returns-in_err-find_operands-clause-row g c =
+    let none = untested g (goal.at.returns-in_err-find_operands-clause-row g c).Start c.in_err-find_operands.ensures.unfit in
+    unmoved _ _ _ _ _ _ (search rules) refl (search (rules, none))
 
-pub returns-in_err-block_type : goal.returns-in_err-block_type
-returns-in_err-block_type g c =
-    let none = nowhere g (goal.at.returns-in_err-block_type g c).In_ok-find_operands c.in_err-block_type.ensures.missing in
-    record { row = unmoved _ _ _ _ _ _ (search rules) refl (search (rules, none)); idle = search (rules, none) }
+pub returns-in_err-find_operands-clause-idle : goal.returns-in_err-find_operands-clause-idle
+returns-in_err-find_operands-clause-idle g c =
+    let none = untested g (goal.at.returns-in_err-find_operands-clause-idle g c).Start c.in_err-find_operands.ensures.unfit in
+    search (rules, none)
 
-pub returns-in_err-find_targets : goal.returns-in_err-find_targets
-returns-in_err-find_targets g c =
-    let none = other_targets g (goal.at.returns-in_err-find_targets g c).After-label_types-types c.in_err-find_targets.ensures.unfit in
-    record { row = unmoved _ _ _ _ _ _ (search rules) refl (search (rules, none)); idle = search (rules, none) }
+pub returns-in_err-block_type-clause-row : goal.returns-in_err-block_type-clause-row
+returns-in_err-block_type-clause-row g c =
+    let none = nowhere g (goal.at.returns-in_err-block_type-clause-row g c).In_ok-find_operands c.in_err-block_type.ensures.missing in
+    unmoved _ _ _ _ _ _ (search rules) refl (search (rules, none))
+
+pub returns-in_err-block_type-clause-idle : goal.returns-in_err-block_type-clause-idle
+returns-in_err-block_type-clause-idle g c =
+    let none = nowhere g (goal.at.returns-in_err-block_type-clause-idle g c).In_ok-find_operands c.in_err-block_type.ensures.missing in
+    search (rules, none)
+
+pub returns-in_err-find_targets-clause-row : goal.returns-in_err-find_targets-clause-row
+returns-in_err-find_targets-clause-row g c =
+    let none = other_targets g (goal.at.returns-in_err-find_targets-clause-row g c).After-label_types-types c.in_err-find_targets.ensures.unfit in
+    unmoved _ _ _ _ _ _ (search rules) refl (search (rules, none))
+
+pub returns-in_err-find_targets-clause-idle : goal.returns-in_err-find_targets-clause-idle
+returns-in_err-find_targets-clause-idle g c =
+    let none = other_targets g (goal.at.returns-in_err-find_targets-clause-idle g c).After-label_types-types c.in_err-find_targets.ensures.unfit in
+    search (rules, none)
 
 pub find_operands-requires-2-clause-types : goal.find_operands-requires-2-clause-types
 find_operands-requires-2-clause-types g c =
@@ -89,10 +104,15 @@ find_operands-requires-2-clause-types g c =
     let types = types_table md v c.requires.open_frame c.args.table.now.complete c.args.table.now.targets.now c.args.table.now.default (body_dropped 1 v) (tested g (at_test g at)) _ _ c.label_types-types.result.now (default_found g at) (c.label_types-types.ensures (body_context md v) refl) in
     label_valid md v c.args.table.now.default _ (g.met.R.WasmModuleResources.lawful c.args.body.resources.now) c.requires.valid types
 
-pub returns-in_err-find_operands-2 : goal.returns-in_err-find_operands-2
-returns-in_err-find_operands-2 g c =
-    let none = other_types g (goal.at.returns-in_err-find_operands-2 g c).After-label_types-types c.in_err-find_operands-2.ensures.unfit in
-    record { row = unmoved _ _ _ _ _ _ (search rules) refl (search (rules, none)); idle = search (rules, none) }
+pub returns-in_err-find_operands-2-clause-row : goal.returns-in_err-find_operands-2-clause-row
+returns-in_err-find_operands-2-clause-row g c =
+    let none = other_types g (goal.at.returns-in_err-find_operands-2-clause-row g c).After-label_types-types c.in_err-find_operands-2.ensures.unfit in
+    unmoved _ _ _ _ _ _ (search rules) refl (search (rules, none))
+
+pub returns-in_err-find_operands-2-clause-idle : goal.returns-in_err-find_operands-2-clause-idle
+returns-in_err-find_operands-2-clause-idle g c =
+    let none = other_types g (goal.at.returns-in_err-find_operands-2-clause-idle g c).After-label_types-types c.in_err-find_operands-2.ensures.unfit in
+    search (rules, none)
 
 pub returns-clause-row : goal.returns-clause-row
 returns-clause-row g c =
@@ -104,3 +124,6 @@ returns-clause-row g c =
     let w = body_dropped (length types) u in
     let step = table_passes md v c.requires.open_frame c.args.table.now.complete c.args.table.now.targets.now c.args.table.now.default u (tested g (at_test g at)) _ _ types (default_found g at) (c.label_types-types.ensures (body_context md v) refl) w (body_unreachable v) c.in_ok-find_targets.ensures.fits (popped_dropped md types u c.in_ok-find_operands-2.ensures.fit) (sym (ended_dropped (length types) u ∙ ended_dropped 1 v)) in
     made_moves md _ _ c.args.body.stacks.now _ (body_unreachable v) step (unreachable_valid md v c.requires.valid) refl c.end_live.result c.end_live.ensures.told c.end_live.ensures.exact
+
+pub returns-clause-idle : goal.returns-clause-idle
+returns-clause-idle g c = λ idle. never_refused _ c.end_live.result (c.end_live.ensures.idle idle)

@@ -10,8 +10,8 @@ use Rattle.validate_stacks.specs.State.{body_context}
 use Rattle.validate_stacks.specs.Steps.{body_unreachable, label_at}
 use Rattle.validate_stacks.specs.Visits.{step_body}
 use Rattle.validate_stacks.proofs.Moves.{fits_now, not_popped}
-use Rattle.validate_shapes.proofs.BranchSteps.{label_valid, types_there, br_is, outermost_label}
-use Rattle.validate_shapes.proofs.Moves.{unmoved, ended_moves}
+use Rattle.validate_shapes.proofs.BranchSteps.{label_valid, types_there, br_is, some_outermost, outermost_label}
+use Rattle.validate_shapes.proofs.Moves.{unmoved, ended_moves, never_refused}
 use Rattle.validate_rows.proofs.branches.return_results.Given.{Over}
 use Rattle.validate_rows.proofs.branches.return_results.Goals.{After-label_types-results}
 use Rattle.validate_rows.proofs.branches.return_results.Goals as goal
@@ -37,6 +37,10 @@ module _ (g : Over) (c : After-label_types-results g) where
       let v = c.args.body.stacks.now.body in
       branches ∙ ap (option_map body_unreachable) (not_popped md c.label_types-results.result.now v c.requires.open_frame (fits_now md c.label_types-results.result.now v false h))
 
+pub unreachable-requires : goal.unreachable-requires
+unreachable-requires g c =
+    some_outermost c.args.body.stacks.now.body c.control_stack_height-outermost.result _ c.requires.open_frame c.control_stack_height-outermost.ensures refl (sym c.get_frame.ensures ∙ ap option_copied c.in_default.is)
+
 pub find_operands-requires-clause-types : goal.find_operands-requires-clause-types
 find_operands-requires-clause-types g c =
     let at = (goal.at.find_operands-requires-clause-types g c).After-label_types-results in
@@ -44,10 +48,15 @@ find_operands-requires-clause-types g c =
     let types = types_there (md g at) v c.requires.open_frame (λ cx hs. return_row cx hs) (outermost g at) refl _ _ c.label_types-results.result.now (outermost_there g at) (c.label_types-results.ensures (body_context (md g at) v) refl) in
     label_valid (md g at) v (outermost g at) c.label_types-results.result.now (g.met.R.WasmModuleResources.lawful c.args.body.resources.now) c.requires.valid types
 
-pub returns-in_err-find_operands : goal.returns-in_err-find_operands
-returns-in_err-find_operands g c =
-    let none = unfit g (goal.at.returns-in_err-find_operands g c).After-label_types-results c.in_err-find_operands.ensures.unfit in
-    record { row = unmoved _ _ _ _ _ _ (search rules) refl (search (rules, none)); idle = search (rules, none) }
+pub returns-in_err-find_operands-clause-row : goal.returns-in_err-find_operands-clause-row
+returns-in_err-find_operands-clause-row g c =
+    let none = unfit g (goal.at.returns-in_err-find_operands-clause-row g c).After-label_types-results c.in_err-find_operands.ensures.unfit in
+    unmoved _ _ _ _ _ _ (search rules) refl (search (rules, none))
+
+pub returns-in_err-find_operands-clause-idle : goal.returns-in_err-find_operands-clause-idle
+returns-in_err-find_operands-clause-idle g c =
+    let none = unfit g (goal.at.returns-in_err-find_operands-clause-idle g c).After-label_types-results c.in_err-find_operands.ensures.unfit in
+    search (rules, none)
 
 pub returns-clause-row : goal.returns-clause-row
 returns-clause-row g c =
@@ -55,3 +64,6 @@ returns-clause-row g c =
     let v = c.args.body.stacks.now.body in
     let results = c.label_types-results.result.now in
     ended_moves (md g at) _ _ c.args.body.stacks.now _ results (branches g at) (fits_now (md g at) results v true c.in_ok-find_operands.ensures.fit) c.requires.valid c.end_live.result c.end_live.ensures.told c.end_live.ensures.exact
+
+pub returns-clause-idle : goal.returns-clause-idle
+returns-clause-idle g c = λ idle. never_refused _ c.end_live.result (c.end_live.ensures.idle idle)

@@ -7,7 +7,7 @@ use Rattle.validation_rules.specs.Fits.{Known, all_fit}
 use Rattle.validation_rules.specs.Static.{heads}
 use Rattle.validate_stacks.specs.State.{body_context}
 use Rattle.validate_stacks.specs.Steps.{label_at}
-use Rattle.validate_shapes.proofs.BranchSteps.{label_there, label_valid, types_there, outermost_label}
+use Rattle.validate_shapes.proofs.BranchSteps.{label_there, label_valid, types_there, some_outermost, outermost_label}
 use Rattle.validate_rows.proofs.calls.find_same_results.Given.{Over}
 use Rattle.validate_rows.proofs.calls.find_same_results.Goals.{After-label_types-expected}
 use Rattle.validate_rows.proofs.calls.find_same_results.Goals as goal
@@ -30,6 +30,10 @@ module _ (g : Over) (c : After-label_types-expected g) where
 
   fit_label_as_expected : (has_label (heads c.args.body.now.stacks.now.body.present.frames) outermost && all_fit cx (map Known c.args.results.now) (label_types_at cx (heads c.args.body.now.stacks.now.body.present.frames) outermost)) ≡ all_fit cx (map Known c.args.results.now) c.label_types-expected.result.now
   fit_label_as_expected = ap₂ (λ b ts. b && all_fit cx (map Known c.args.results.now) ts) (label_there cx (heads c.args.body.now.stacks.now.body.present.frames) outermost _ _ outermost_there).0 (sym expected_is_of_label)
+
+pub unreachable-requires : goal.unreachable-requires
+unreachable-requires g c =
+    some_outermost c.args.body.now.stacks.now.body c.control_stack_height-outermost.result _ c.requires.visit.open_frame c.control_stack_height-outermost.ensures refl (sym c.get_frame.ensures ∙ ap option_copied c.in_default.is)
 
 pub are_below-requires-clause-above : goal.are_below-requires-clause-above
 are_below-requires-clause-above g c =

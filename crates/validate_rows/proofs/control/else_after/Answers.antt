@@ -10,10 +10,21 @@ use Rattle.validate_stacks.specs.Steps.{body_with_frame, body_without_frame, fra
 use Rattle.validate_stacks.proofs.ClosedFrames.{block_valid, frame_found, takes_valid}
 use Rattle.validate_shapes.proofs.Moves.{unmoved}
 use Rattle.validate_shapes.proofs.PartMoves.{begun_moves, begun_whole}
-use Rattle.validate_shapes.proofs.Parts.{body_with_part, params_of, else_begins, part_of_another, part_passes}
+use Rattle.validate_shapes.proofs.Parts.{body_with_part, params_of, else_begins, part_none, part_of_another, part_passes}
+use Rattle.validate_rows.proofs.Ends.{results_as}
 use Rattle.validate_rows.proofs.control.else_after.Given.{Over}
 use Rattle.validate_rows.proofs.control.else_after.Goals.{After-find_results}
 use Rattle.validate_rows.proofs.control.else_after.Goals as goal
+
+pub find_results-requires-clause-results : goal.find_results-requires-clause-results
+find_results-requires-clause-results g c =
+    let md = g.R.WasmModuleResources.context c.args.body.resources.now in
+    λ f e. results_as md c.args.body.stacks.now.body f c.args.kind c.args.block_type (c.requires.frame f e) c.args.results.now c.requires.results
+
+pub returns-in_err-popped : goal.returns-in_err-popped
+returns-in_err-popped g c =
+    let none = part_none BeginsElse is_if Else params_of else_begins (g.R.WasmModuleResources.context c.args.body.resources.now) c.args.body.stacks.now.body c.requires.visit.open_frame c.in_err-popped.ensures.stays in
+    unmoved _ _ _ _ _ _ (search rules) refl (search (rules, none))
 
 module _ (g : Over) (c : After-find_results g) where
   abbrev md : ModuleContext

@@ -10,11 +10,21 @@ use Rattle.validate_stacks.specs.Steps.{body_without_frame, frame_at, head_of}
 use Rattle.validate_stacks.proofs.ClosedFrames.{block_valid, frame_found, takes_valid, wants_valid}
 use Rattle.validate_shapes.proofs.Moves.{unmoved}
 use Rattle.validate_shapes.proofs.PartMoves.{closed_moves}
-use Rattle.validate_shapes.proofs.Rows.{end_refused_if, end_passes}
+use Rattle.validate_shapes.proofs.Rows.{end_none, end_refused_if, end_passes}
 use Rattle.validate_rows.proofs.Ends.{missing_fits, fits_as, results_as}
 use Rattle.validate_rows.proofs.control.end_of.Given.{Over}
 use Rattle.validate_rows.proofs.control.end_of.Goals.{After-find_results, then-not-may_lack_else+in_ok-find_missing_else, else-not-may_lack_else}
 use Rattle.validate_rows.proofs.control.end_of.Goals as goal
+
+pub find_results-requires-clause-results : goal.find_results-requires-clause-results
+find_results-requires-clause-results g c =
+    let md = g.R.WasmModuleResources.context c.args.body.resources.now in
+    λ f e. results_as md c.args.body.stacks.now.body f c.args.kind c.args.block_type (c.requires.frame f e) c.args.results.now c.requires.results
+
+pub returns-in_err-popped : goal.returns-in_err-popped
+returns-in_err-popped g c =
+    let none = end_none (g.R.WasmModuleResources.context c.args.body.resources.now) c.args.body.stacks.now.body c.requires.visit.open_frame c.in_err-popped.ensures.stays in
+    unmoved _ _ _ _ _ _ (search rules) refl (search (rules, none))
 
 module _ (g : Over) (c : After-find_results g) where
   abbrev md : ModuleContext

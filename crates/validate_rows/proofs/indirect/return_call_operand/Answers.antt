@@ -1,9 +1,9 @@
 use Rattle.std.proofs.Common.{rules, true, false, [], ◌∷◌, ◌++◌, Some, refl}
 use Rattle.validation_rules.specs.Indirect.{return_call_operand_row}
 use Rattle.validate_stacks.proofs.Moves.{fits_now, not_popped}
-use Rattle.validate_shapes.proofs.Moves.{unmoved}
+use Rattle.validate_shapes.proofs.Moves.{unmoved, moves_barred}
 use Rattle.validate_rows.proofs.OperandCalls.{return_call_missing}
-use Rattle.validate_rows.proofs.TailCalls.{unfit_unmoved, tail_moves}
+use Rattle.validate_rows.proofs.TailCalls.{others_unmoved, unfit_unmoved, tail_moves}
 use Rattle.validate_rows.proofs.indirect.return_call_operand.Goals as goal
 
 pub returns-in_err-find_operands : goal.returns-in_err-find_operands
@@ -13,6 +13,14 @@ returns-in_err-find_operands g c =
     let names = c.args.names ∷ [] in
     let none = return_call_missing md v c.requires.visit.open_frame c.args.names c.args.type_index (not_popped md names v c.requires.visit.open_frame (fits_now md names v false c.in_err-find_operands.ensures.unfit)) in
     unmoved _ _ _ _ _ _ (search rules) refl (search (rules, none))
+
+pub returns-in_err-func_type : goal.returns-in_err-func_type
+returns-in_err-func_type g c = moves_barred _ _ c.args.body.stacks.now (λ cx hs. return_call_operand_row cx hs (Some c.args.names) c.args.type_index) _ (search rules) (search rules)
+
+pub returns-in_err-find_same_results : goal.returns-in_err-find_same_results
+returns-in_err-find_same_results g c =
+    let expected = c.in_ok-func_type.func_type.now.params ++ c.args.names ∷ [] in
+    others_unmoved _ _ c.args.body.stacks.now c.requires.visit.open_frame (λ cx hs. return_call_operand_row cx hs (Some c.args.names) c.args.type_index) expected c.results.result.now (search rules) _ (search rules) c.in_err-find_same_results.ensures.other
 
 pub returns-in_err-find_under : goal.returns-in_err-find_under
 returns-in_err-find_under g c =

@@ -1,9 +1,10 @@
-use Rattle.std.proofs.Common.{rules, ◌≡◌, true, [], ◌∷◌, Option, Some, None, MatchResult, refl, sym, ap, ◌∙◌, subst, arith}
+use Rattle.std.proofs.Common.{rules, ◌≡◌, true, false, Bool, [], ◌∷◌, Option, Some, None, MatchResult, refl, sym, ap, ◌∙◌, subst, arith}
 use Rattle.std.specs.Option.{option_map}
 use Rattle.validate_resources.specs.Context.{ModuleContext}
 use Rattle.validation_rules.specs.Context.{I32}
 use Rattle.validation_rules.specs.Fits.{MaybeType}
 use Rattle.validation_rules.specs.Operators.{looking_row, select_result, select_pushes, row_operator}
+use Rattle.validation_rules.specs.Rows.{guard}
 use Rattle.validation_rules.specs.Valid.{IsValidOperand}
 use Rattle.validation_rules.proofs.Steps.{guard_some}
 use Rattle.validate_stacks.specs.AtOnce.{body_dropped}
@@ -12,14 +13,18 @@ use Rattle.validate_stacks.specs.State.{BodyState, body_context}
 use Rattle.validate_stacks.specs.Steps.{found_in_body, found_after_pops_in_body, body_popped, body_pushed}
 use Rattle.validate_stacks.specs.Visits.{step_body}
 use Rattle.validate_stacks.proofs.AtOnce.{dropped_next, dropped_none, dropped_within, popped_dropped}
-use Rattle.validate_stacks.proofs.Moves.{fits_now, found_below}
+use Rattle.validate_stacks.proofs.Moves.{fits_now, found_below, not_popped}
 use Rattle.validate_stacks.proofs.Validity.{kept_on, popped_valid, popped_kept, pushed_valid, pushed_kept}
-use Rattle.validate_stacks.proofs.Whole.{popped_next}
+use Rattle.validate_stacks.proofs.Whole.{popped_next, popped_none}
 use Rattle.validate_shapes.proofs.Moves.{unmoved, made_moves}
-use Rattle.validate_rows.proofs.SelectSteps.{both_found, found_valid, selected_one}
+use Rattle.validate_rows.proofs.SelectSteps.{test_refused, upper_missing, lower_missing, both_found, found_valid, selected_one}
 use Rattle.validate_rows.proofs.parametric.any_select.Given.{Over}
 use Rattle.validate_rows.proofs.parametric.any_select.Goals.{Start, In_ok-find_operands, In_ok-lower}
 use Rattle.validate_rows.proofs.parametric.any_select.Goals as goal
+
+shut : {A : Type 0} (b : Bool) (x : A) → guard b (Some x) ≡ None → b ≡ false
+shut false x e = refl
+shut true x e = absurd cc
 
 -- the operands below the top, and below that
 below_one : (v : BodyState) → body_dropped 1 v ≡ body_popped v
@@ -55,6 +60,29 @@ selects g c o e =
     let u = body_popped v in
     let w = body_popped u in
     both_found (md g at.Start) v c.requires.open_frame u (tested g at.In_ok-find_operands) refl w c.in_ok-upper.field-0.now (found_one v ∙ c.in_ok-upper.ensures.found) refl c.in_ok-lower.field-0.now o (found_two v ∙ c.in_ok-lower.ensures.found) e
+
+pub returns-in_err-find_operands : goal.returns-in_err-find_operands
+returns-in_err-find_operands g c =
+    let md = g.R.WasmModuleResources.context c.args.body.resources.now in
+    let v = c.args.body.stacks.now.body in
+    let unfit = not_popped md (I32 ∷ []) v c.requires.open_frame (fits_now md (I32 ∷ []) v false c.in_err-find_operands.ensures.unfit) in
+    let none = test_refused md v c.requires.open_frame (shut _ _ (ap (guard (may_pop (body_context md v) (found_in_body v) (Some I32))) (sym (popped_none md (body_popped v))) ∙ sym (popped_next md I32 [] v) ∙ unfit)) in
+    unmoved _ _ _ _ _ _ (search rules) refl (search (rules, none))
+
+pub returns-in_err-upper : goal.returns-in_err-upper
+returns-in_err-upper g c =
+    let at = (goal.at.returns-in_err-upper g c).In_ok-find_operands in
+    let v = c.args.body.stacks.now.body in
+    let none = upper_missing (g.R.WasmModuleResources.context c.args.body.resources.now) v c.requires.open_frame (body_popped v) (tested g at) refl (found_one v ∙ c.in_err-upper.ensures.missing) in
+    unmoved _ _ _ _ _ _ (search rules) refl (search (rules, none))
+
+pub returns-in_err-lower : goal.returns-in_err-lower
+returns-in_err-lower g c =
+    let at = (goal.at.returns-in_err-lower g c).In_ok-find_operands in
+    let v = c.args.body.stacks.now.body in
+    let u = body_popped v in
+    let none = lower_missing (g.R.WasmModuleResources.context c.args.body.resources.now) v c.requires.open_frame u (tested g at) refl (body_popped u) c.in_ok-upper.field-0.now (found_one v ∙ c.in_ok-upper.ensures.found) refl (found_two v ∙ c.in_err-lower.ensures.missing) in
+    unmoved _ _ _ _ _ _ (search rules) refl (search (rules, none))
 
 pub returns-in_err-ty : goal.returns-in_err-ty
 returns-in_err-ty g c =

@@ -1,4 +1,4 @@
-use Rattle.std.proofs.Common.{rules, ◌≡◌, ◌+◌, None, reverse, length, true, List, Option, MatchResult, refl, sym, ap, ◌∙◌, subst, arith}
+use Rattle.std.proofs.Common.{rules, ◌≡◌, ◌+◌, None, reverse, length, true, false, List, Option, MatchResult, refl, sym, ap, ◌∙◌, subst, arith}
 use Rattle.std.specs.List.{AllByRecursion}
 use Rattle.std.specs.Option.{option_and_then}
 use Rattle.validate_resources.specs.Context.{ModuleContext, Valid}
@@ -11,12 +11,12 @@ use Rattle.validation_rules.specs.Static.{heads}
 use Rattle.validate_stacks.specs.AtOnce.{body_dropped}
 use Rattle.validate_stacks.specs.Pops.{body_pushed_each, IsKept}
 use Rattle.validate_stacks.specs.State.{BodyState, IsValidBody, body_context}
-use Rattle.validate_stacks.specs.Steps.{found_in_body, body_popped, body_pushed}
+use Rattle.validate_stacks.specs.Steps.{found_in_body, body_popped, body_pushed, label_at}
 use Rattle.validate_stacks.specs.Visits.{step_body}
 use Rattle.validate_stacks.proofs.AtOnce.{dropped_none, dropped_next, dropped_open, dropped_within, popped_dropped, popped_each_kept, pushed_each_kept}
 use Rattle.validate_stacks.proofs.Moves.{dropped_below, not_popped}
 use Rattle.validate_stacks.proofs.Validity.{kept_on, popped_kept, popped_valid, pushed_kept, pushed_valid}
-use Rattle.validate_shapes.proofs.BranchSteps.{label_there, label_valid}
+use Rattle.validate_shapes.proofs.BranchSteps.{label_there, no_label, label_valid}
 use Rattle.validate_shapes.proofs.Moves.{unmoved, made_moves}
 use Rattle.validate_shapes.proofs.ReferenceSteps.{above_types, on_null_is, unreferenced, above_missing, above_there}
 use Rattle.validate_rows.proofs.Found.{reference_valid}
@@ -46,6 +46,10 @@ module _ (g : Over) (c : Start g) where
       let types = label_types_at cx hs c.args.relative_depth in
       on_null_is md c.args.body.stacks.now.body c.requires.open_frame c.args.relative_depth there types refl refl ∙ unreferenced md there types c.args.body.stacks.now.body n
 
+  refused_at_no_label : label_at c.args.body.stacks.now.body c.args.relative_depth ≡ None → branched ≡ None
+  refused_at_no_label n =
+      on_null_is md c.args.body.stacks.now.body c.requires.open_frame c.args.relative_depth false _ (no_label hs c.args.relative_depth n) refl
+
   one_less : below ≡ body_popped c.args.body.stacks.now.body
   one_less = sym (dropped_next 0 c.args.body.stacks.now.body) ∙ ap body_popped (dropped_none c.args.body.stacks.now.body)
 
@@ -68,6 +72,11 @@ module _ (g : Over) (c : After-label_types-types g) where
 pub returns-in_err-reference : goal.returns-in_err-reference
 returns-in_err-reference g c =
     let none = refused_at_no_reference g (goal.at.returns-in_err-reference g c).Start c.in_err-reference.ensures.refused in
+    unmoved _ _ _ _ _ _ (search rules) refl (search (rules, none))
+
+pub returns-in_err-block_type : goal.returns-in_err-block_type
+returns-in_err-block_type g c =
+    let none = refused_at_no_label g (goal.at.returns-in_err-block_type g c).Start c.in_err-block_type.ensures.missing in
     unmoved _ _ _ _ _ _ (search rules) refl (search (rules, none))
 
 pub find_operands-requires-clause-types : goal.find_operands-requires-clause-types

@@ -1,14 +1,21 @@
-use Rattle.std.proofs.Common.{◌≡◌, true, [], MatchResult, arith, refl, sym, ap, ◌∙◌, subst}
+use Rattle.std.proofs.Common.{rules, ◌≡◌, true, [], MatchResult, arith, refl, sym, ap, ◌∙◌, subst}
 use Rattle.validate_stacks.specs.AtOnce.{body_dropped}
 use Rattle.validate_stacks.specs.State.{BodyState}
 use Rattle.validate_stacks.specs.Steps.{body_popped, body_pushed}
 use Rattle.validate_stacks.proofs.AtOnce.{dropped_next, dropped_none, dropped_within}
 use Rattle.validate_stacks.proofs.Validity.{kept_on, popped_valid, popped_kept, pushed_valid, pushed_kept}
 use Rattle.validate_stacks.proofs.Whole.{popped_none}
-use Rattle.validate_shapes.proofs.Moves.{made_moves}
-use Rattle.validate_shapes.proofs.ReferenceSteps.{above_is, above_there}
+use Rattle.validate_shapes.proofs.Moves.{unmoved, made_moves}
+use Rattle.validate_shapes.proofs.ReferenceSteps.{above_is, unreferenced, above_there}
 use Rattle.validate_rows.proofs.Found.{reference_valid}
 use Rattle.validate_rows.proofs.references.ref_as_non_null.Goals as goal
+
+pub returns-in_err-reference : goal.returns-in_err-reference
+returns-in_err-reference g c =
+    let md = g.R.WasmModuleResources.context c.args.body.resources.now in
+    let v = c.args.body.stacks.now.body in
+    let none = above_is md v c.requires.open_frame true [] [] ∙ unreferenced md true [] v c.in_err-reference.ensures.refused in
+    unmoved _ _ _ _ _ _ (search rules) refl (search (rules, none))
 
 pub returns : goal.returns
 returns g c =

@@ -1,4 +1,4 @@
-use Rattle.std.proofs.Common.{◌≡◌, MatchResult, arith, refl, sym, ap, ◌∙◌, subst}
+use Rattle.std.proofs.Common.{rules, ◌≡◌, MatchResult, arith, refl, sym, ap, ◌∙◌, subst}
 use Rattle.std.specs.Option.{option_map}
 use Rattle.validation_rules.specs.Context.{I32}
 use Rattle.validation_rules.specs.Fits.{MaybeType, Known}
@@ -7,9 +7,16 @@ use Rattle.validate_stacks.specs.State.{BodyState}
 use Rattle.validate_stacks.specs.Steps.{body_popped, body_pushed}
 use Rattle.validate_stacks.proofs.AtOnce.{dropped_next, dropped_none, dropped_within}
 use Rattle.validate_stacks.proofs.Validity.{kept_on, popped_valid, popped_kept, pushed_valid, pushed_kept}
-use Rattle.validate_shapes.proofs.Moves.{made_moves}
+use Rattle.validate_shapes.proofs.Moves.{unmoved, made_moves}
 use Rattle.validate_shapes.proofs.ReferenceSteps.{null_is}
 use Rattle.validate_rows.proofs.references.ref_is_null.Goals as goal
+
+pub returns-in_err-find_reference : goal.returns-in_err-find_reference
+returns-in_err-find_reference g c =
+    let md = g.R.WasmModuleResources.context c.args.body.resources.now in
+    let v = c.args.body.stacks.now.body in
+    let none = null_is md v c.requires.open_frame ∙ ap (option_map (λ (y : MaybeType). body_pushed (Known I32) (body_popped v))) c.in_err-find_reference.ensures.refused in
+    unmoved _ _ _ _ _ _ (search rules) refl (search (rules, none))
 
 pub returns : goal.returns
 returns g c =

@@ -1,11 +1,24 @@
-use Rattle.std.proofs.Common.{[], ◌∷◌, sym, ◌∙◌}
+use Rattle.std.proofs.Common.{rules, [], ◌∷◌, refl, sym, ◌∙◌}
+use Rattle.validate_resources.specs.Context.{Valid}
 use Rattle.validate_stacks.specs.Moves.{body_set_then}
-use Rattle.validate_shapes.proofs.LastSteps.{not_false}
-use Rattle.validate_shapes.proofs.Moves.{takes_moves, exchange_moves}
-use Rattle.validate_shapes.proofs.Rows.{local_set_is}
+use Rattle.validate_shapes.proofs.LastSteps.{all_get, not_false}
+use Rattle.validate_shapes.proofs.Moves.{unmoved, takes_moves, exchange_moves}
+use Rattle.validate_shapes.proofs.Rows.{no_local_set, local_set_is}
 use Rattle.validate_rows.proofs.Locals.{set_then_valid, set_then_kept, taken_set}
+use Rattle.validate_rows.proofs.variables.any_local_set.Given.{Over}
 use Rattle.validate_rows.proofs.variables.any_local_set.Goals.{In_ok-ty}
 use Rattle.validate_rows.proofs.variables.any_local_set.Goals as goal
+
+good : (g : Over) (c : In_ok-ty g) → Valid (g.R.WasmModuleResources.context c.args.body.resources.now) c.in_ok-ty.field-0.now
+good g c = all_get (Valid (g.R.WasmModuleResources.context c.args.body.resources.now)) c.args.body.stacks.now.body.locals c.args.local_index c.in_ok-ty.field-0.now c.in_ok-ty.ensures.found c.requires.valid.locals_valid
+
+pub returns-in_err-ty : goal.returns-in_err-ty
+returns-in_err-ty g c =
+    let none = no_local_set (g.R.WasmModuleResources.context c.args.body.resources.now) c.args.body.stacks.now.body c.args.local_index c.in_err-ty.ensures.missing in
+    unmoved _ _ _ _ _ _ (search rules) refl (search (rules, none))
+
+pub exchange_setting-requires-clause-ty : goal.exchange_setting-requires-clause-ty
+exchange_setting-requires-clause-ty g c = good g (goal.at.exchange_setting-requires-clause-ty g c).In_ok-ty
 
 pub returns-then-is_uninit : goal.returns-then-is_uninit
 returns-then-is_uninit g c =
@@ -13,6 +26,9 @@ returns-then-is_uninit g c =
     let md = g.R.WasmModuleResources.context c.args.body.resources.now in
     let i = c.args.local_index in
     takes_moves md _ _ c.args.body.stacks.now _ (c.in_ok-ty.field-0.now ∷ []) (body_set_then i []) (local_set_is md c.args.body.stacks.now.body i c.in_ok-ty.field-0.now c.in_ok-ty.ensures.found c.requires.open_frame) (set_then_valid md i [] tt) (set_then_kept md i []) c.requires.valid _ c.exchange_setting.ensures
+
+pub exchange_types-requires-clause-types : goal.exchange_types-requires-clause-types
+exchange_types-requires-clause-types g c = (good g (goal.at.exchange_types-requires-clause-types g c).In_ok-ty, tt)
 
 -- the local is set already, so that nothing more is set
 pub returns : goal.returns

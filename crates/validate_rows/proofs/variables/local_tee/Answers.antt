@@ -1,10 +1,10 @@
-use Rattle.std.proofs.Common.{[], ◌∷◌, Ok, sym, ◌∙◌}
+use Rattle.std.proofs.Common.{rules, [], ◌∷◌, Ok, refl, sym, ◌∙◌}
 use Rattle.validate_resources.specs.Context.{Valid}
 use Rattle.validate_stacks.specs.Pops.{body_pushed_each}
 use Rattle.validate_stacks.proofs.Moves.{takes_done}
 use Rattle.validate_shapes.proofs.LastSteps.{all_get, not_false}
-use Rattle.validate_shapes.proofs.Moves.{exchange_moves}
-use Rattle.validate_shapes.proofs.Rows.{local_tee_is}
+use Rattle.validate_shapes.proofs.Moves.{unmoved, exchange_moves}
+use Rattle.validate_shapes.proofs.Rows.{no_local_tee, local_tee_is}
 use Rattle.validate_rows.proofs.Locals.{taken_set}
 use Rattle.validate_rows.proofs.variables.local_tee.Given.{Over}
 use Rattle.validate_rows.proofs.variables.local_tee.Goals.{In_ok-ty}
@@ -12,6 +12,14 @@ use Rattle.validate_rows.proofs.variables.local_tee.Goals as goal
 
 good : (g : Over) (c : In_ok-ty g) → Valid (g.R.WasmModuleResources.context c.args.body.resources.now) c.in_ok-ty.field-0.now
 good g c = all_get (Valid (g.R.WasmModuleResources.context c.args.body.resources.now)) c.args.body.stacks.now.body.locals c.args.local_index c.in_ok-ty.field-0.now c.in_ok-ty.ensures.found c.requires.valid.locals_valid
+
+pub returns-in_err-ty : goal.returns-in_err-ty
+returns-in_err-ty g c =
+    let none = no_local_tee (g.R.WasmModuleResources.context c.args.body.resources.now) c.args.body.stacks.now.body c.args.local_index c.in_err-ty.ensures.missing in
+    unmoved _ _ _ _ _ _ (search rules) refl (search (rules, none))
+
+pub has_number_at_once-requires-clause-valid : goal.has_number_at_once-requires-clause-valid
+has_number_at_once-requires-clause-valid g c = good g (goal.at.has_number_at_once-requires-clause-valid g c).In_ok-ty
 
 -- the local is set already, so that nothing more is set
 pub returns-then-has_number_at_once : goal.returns-then-has_number_at_once

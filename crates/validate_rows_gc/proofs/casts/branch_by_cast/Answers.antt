@@ -1,5 +1,5 @@
-use Rattle.std.proofs.Common.{List, sym, ap}
-use Rattle.validation_rules.specs.Casts.{cast_branch_row}
+use Rattle.std.proofs.Common.{rules, ◌≡◌, List, None, sym, ap}
+use Rattle.validation_rules.specs.Casts.{checked_cast, cast_branch_row}
 use Rattle.validation_rules.specs.Context.{Context}
 use Rattle.validation_rules.specs.Operators.{lookup_row, staying_operator}
 use Rattle.validation_rules.specs.Rows.{Head, Row}
@@ -7,9 +7,17 @@ use Rattle.validation_rules.specs.Static.{heads}
 use Rattle.validate_stacks.specs.State.{body_context}
 use Rattle.validate_stacks.specs.Visits.{step_body}
 use Rattle.validate_stacks.proofs.AtOnce.{dropped_none}
-use Rattle.validate_shapes.proofs.Moves.{moves_found}
+use Rattle.validate_shapes.proofs.Moves.{moves_barred, moves_found}
 use Rattle.validate_rows_gc.specs.Casts.{branch_row, branch_types}
 use Rattle.validate_rows_gc.proofs.casts.branch_by_cast.Goals as goal
+
+pub returns-in_err-types : goal.returns-in_err-types
+returns-in_err-types g c =
+    let md = g.R.WasmModuleResources.context c.args.body.resources.now in
+    let v = c.args.body.stacks.now.body in
+    let cx = body_context md v in
+    let none = λ (n : checked_cast cx c.args.cast ≡ None). ap (λ o. (lookup_row o (λ p. cast_branch_row cx (heads v.present.frames) c.args.cast.relative_depth (branch_types c.args.branch p))).premise) n in
+    moves_barred md _ c.args.body.stacks.now (λ cx hs. branch_row c.args.branch cx hs c.args.cast) _ (search rules) (search (rules, none, c.in_err-types.ensures.refused))
 
 pub returns : goal.returns
 returns g c =

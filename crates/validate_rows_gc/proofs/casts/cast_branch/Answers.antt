@@ -16,14 +16,14 @@ use Rattle.validate_stacks.specs.State.{BodyState, body_context}
 use Rattle.validate_stacks.specs.Steps.{label_at}
 use Rattle.validate_stacks.specs.Visits.{step_body}
 use Rattle.validate_stacks.proofs.AtOnce.{dropped_open}
-use Rattle.validate_shapes.proofs.BranchSteps.{dropped_label, label_there, label_valid}
+use Rattle.validate_shapes.proofs.BranchSteps.{dropped_label, label_there, label_valid, no_label}
 use Rattle.validate_shapes.proofs.LastSteps.{all_both}
 use Rattle.validate_shapes.proofs.LookupRows.{barred}
 use Rattle.validate_shapes.proofs.Moves.{unmoved}
 use Rattle.validate_shapes.proofs.Rows.{pushed_then}
 use Rattle.validate_rows_gc.specs.Casts.{branch_types, cast_types}
 use Rattle.validate_rows_gc.proofs.Below.{dropped_valid, unfit_below, moved_below}
-use Rattle.validate_rows_gc.proofs.CastBranches.{left_valid, last_is_valid, barred_at, branch_is}
+use Rattle.validate_rows_gc.proofs.CastBranches.{from_valid, carried_valid, left_valid, last_is_valid, barred_unlabelled, barred_at, branch_is}
 use Rattle.validate_rows_gc.proofs.casts.cast_branch.Given.{Over}
 use Rattle.validate_rows_gc.proofs.casts.cast_branch.Goals.{Start, After-label_types-types, In_ok-others, After-types-cast}
 use Rattle.validate_rows_gc.proofs.casts.cast_branch.Goals as goal
@@ -95,6 +95,12 @@ module _ (g : Over) (c : After-types-cast g) where
   by_types : (whole : Context → Operator) → Steps g first whole (branch_types c.args.branch c.args.cast) → Steps g first whole types
   by_types whole same = same ∙ ap (branched g first) (sym c.types-cast.ensures)
 
+  from_is_valid : Valid (md g first) (Ref types.from)
+  from_is_valid = subst (λ (t : CastTypes). Valid (md g first) (Ref t.from)) (sym c.types-cast.ensures) (from_valid (cx g first) (laws g first) c.args.cast c.requires.from c.requires.to c.args.branch)
+
+  carried_is_valid : Valid (md g first) (Ref types.carried)
+  carried_is_valid = subst (λ (t : CastTypes). Valid (md g first) (Ref t.carried)) (sym c.types-cast.ensures) (carried_valid (cx g first) (laws g first) c.args.cast c.requires.from c.requires.to c.args.branch)
+
   left_is_valid : Valid (md g first) (Ref types.left)
   left_is_valid = subst (λ (t : CastTypes). Valid (md g first) (Ref t.left)) (sym c.types-cast.ensures) (left_valid (cx g first) (laws g first) c.args.cast c.requires.from c.requires.to c.args.branch)
 
@@ -111,6 +117,14 @@ module _ (g : Over) (c : After-types-cast g) where
       by_types whole same
       ∙ branch_is (md g first) (below g first) (dropped_open c.args.above c.args.body.stacks.now.body c.requires.visit.open_frame) c.args.relative_depth types c.in_ok-others.others.now c.in_ok-others.last (has_the_label g at.After-label_types-types) (ends_in_last g at.In_ok-others) carried
 
+pub returns-in_err-block_type : goal.returns-in_err-block_type
+returns-in_err-block_type g c = λ whole same.
+    let start = (goal.at.returns-in_err-block_type g c).Start in
+    let types = branch_types c.args.branch c.args.cast in
+    let missing = dropped_label c.args.above c.args.relative_depth c.args.body.stacks.now.body ∙ c.in_err-block_type.ensures.missing in
+    let none = none_where_barred g start whole types same (barred_unlabelled (md g start) (below g start) c.args.relative_depth types (no_label (hs g start) c.args.relative_depth missing)) in
+    unmoved _ _ whole _ _ _ (search rules) refl (search (rules, none))
+
 pub returns-in_err-others : goal.returns-in_err-others
 returns-in_err-others g c = λ whole same.
     let at = goal.at.returns-in_err-others g c in
@@ -125,6 +139,9 @@ check_carried-requires-clause-label g c =
     let at = goal.at.check_carried-requires-clause-label g c in
     last_is_valid (md g at.Start) c.label_types-types.result.now (c.in_ok-others.others.now, c.in_ok-others.last) (types_valid g at.After-label_types-types) c.in_ok-others.ensures.found
 
+pub check_carried-requires-clause-carried : goal.check_carried-requires-clause-carried
+check_carried-requires-clause-carried g c = carried_is_valid g (goal.at.check_carried-requires-clause-carried g c).After-types-cast
+
 pub returns-in_err-check_carried : goal.returns-in_err-check_carried
 returns-in_err-check_carried g c = λ whole same.
     let at = goal.at.returns-in_err-check_carried g c in
@@ -135,6 +152,9 @@ returns-in_err-check_carried g c = λ whole same.
 
 pub find_under-requires-clause-under : goal.find_under-requires-clause-under
 find_under-requires-clause-under g c = others_valid g (goal.at.find_under-requires-clause-under g c).In_ok-others
+
+pub find_under-requires-clause-top : goal.find_under-requires-clause-top
+find_under-requires-clause-top g c = from_is_valid g (goal.at.find_under-requires-clause-top g c).After-types-cast
 
 pub returns-in_err-find_under : goal.returns-in_err-find_under
 returns-in_err-find_under g c = λ whole same.

@@ -2,15 +2,16 @@ use Rattle.std.proofs.Common.{rules, ◌≡◌, Some, refl, sym, ap, ◌∙◌}
 use Rattle.validate_resources.specs.Context.{ModuleContext}
 use Rattle.validate_types.specs.Refs.{is_exact}
 use Rattle.validation_rules.specs.Context.{Context}
-use Rattle.validation_rules.specs.Descriptors.{descriptor_in}
+use Rattle.validation_rules.specs.Descriptors.{descriptor_in, cast_desc_eq_branch_row}
+use Rattle.validation_rules.specs.Static.{heads}
 use Rattle.validate_stacks.specs.AtOnce.{body_dropped}
 use Rattle.validate_stacks.specs.State.{body_context}
 use Rattle.validate_stacks.specs.Steps.{found_in_body}
-use Rattle.validate_shapes.proofs.Moves.{unmoved}
+use Rattle.validate_shapes.proofs.Moves.{unmoved, moves_barred}
 use Rattle.validate_rows_gc.specs.Casts.{branch_types}
 use Rattle.validate_rows_gc.specs.Descriptors.{found_descriptor}
 use Rattle.validate_rows_gc.proofs.Below.{dropped_once}
-use Rattle.validate_rows_gc.proofs.DescriptorSteps.{branch_missing, branch_rest}
+use Rattle.validate_rows_gc.proofs.DescriptorSteps.{not_cast, without_descriptor, branch_missing, branch_rest}
 use Rattle.validate_rows_gc.proofs.descriptors.branch_by_descriptor.Given.{Over}
 use Rattle.validate_rows_gc.proofs.descriptors.branch_by_descriptor.Goals.{After-is_exact}
 use Rattle.validate_rows_gc.proofs.descriptors.branch_by_descriptor.Goals as goal
@@ -27,6 +28,17 @@ module _ (g : Over) (c : After-is_exact g) where
 
   found_as_exact : found_descriptor cx (is_exact c.args.cast.to_ref_type.heap_type) c.in_ok-descriptor.descriptor (found_in_body c.args.body.stacks.now.body) ≡ found_descriptor cx c.is_exact.result c.in_ok-descriptor.descriptor (found_in_body c.args.body.stacks.now.body)
   found_as_exact = ap (λ b. found_descriptor cx b c.in_ok-descriptor.descriptor (found_in_body c.args.body.stacks.now.body)) (sym (ap is_exact c.heap_type-heap_type.ensures) ∙ sym c.is_exact.ensures)
+
+pub returns-in_err-types : goal.returns-in_err-types
+returns-in_err-types g c =
+    let none = not_cast (g.R.WasmModuleResources.context c.args.body.resources.now) c.args.body.stacks.now.body c.requires.open_frame (branch_types c.args.branch) c.args.cast (heads c.args.body.stacks.now.body.present.frames) in
+    moves_barred _ _ c.args.body.stacks.now (λ cx hs. cast_desc_eq_branch_row cx hs (branch_types c.args.branch) c.args.cast) _ (search rules) (search (rules, none, c.in_err-types.ensures.refused))
+
+pub returns-in_err-descriptor : goal.returns-in_err-descriptor
+returns-in_err-descriptor g c =
+    let md = g.R.WasmModuleResources.context c.args.body.resources.now in
+    let none = without_descriptor md c.args.body.stacks.now.body c.requires.open_frame (branch_types c.args.branch) c.args.cast (heads c.args.body.stacks.now.body.present.frames) (ap (descriptor_in md) (sym c.heap_type-heap_type.ensures) ∙ c.in_err-descriptor.ensures.refused) in
+    moves_barred _ _ c.args.body.stacks.now (λ cx hs. cast_desc_eq_branch_row cx hs (branch_types c.args.branch) c.args.cast) _ (search rules) (search (rules, none))
 
 pub returns-in_err-find_descriptor : goal.returns-in_err-find_descriptor
 returns-in_err-find_descriptor g c =

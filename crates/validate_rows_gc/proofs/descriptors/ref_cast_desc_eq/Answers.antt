@@ -1,7 +1,8 @@
-use Rattle.std.proofs.Common.{rules, ◌≡◌, [], ◌∷◌, refl, reverse, sym, ap, ◌∙◌, arith}
+use Rattle.std.proofs.Common.{rules, ◌≡◌, [], ◌∷◌, None, refl, reverse, sym, ap, ◌∙◌, arith}
 use Rattle.std.specs.Option.{option_map}
 use Rattle.validate_resources.specs.Context.{ModuleContext}
 use Rattle.validate_types.specs.Refs.{is_exact}
+use Rattle.validation_rules.specs.Casts.{cast_type}
 use Rattle.validation_rules.specs.Context.{ValType, Context, Ref}
 use Rattle.validation_rules.specs.Descriptors.{ref_cast_desc_eq_row}
 use Rattle.validation_rules.specs.Operators.{plain_row, row_operator}
@@ -11,10 +12,10 @@ use Rattle.validate_stacks.specs.State.{BodyState, body_context}
 use Rattle.validate_stacks.specs.Steps.{found_in_body}
 use Rattle.validate_stacks.specs.Visits.{step_body}
 use Rattle.validate_stacks.proofs.AtOnce.{dropped_open}
-use Rattle.validate_shapes.proofs.Moves.{unmoved, plain_is}
+use Rattle.validate_shapes.proofs.Moves.{unmoved, moves_barred, plain_is}
 use Rattle.validate_rows_gc.specs.Descriptors.{found_descriptor}
-use Rattle.validate_rows_gc.proofs.Below.{dropped_once, moved_below}
-use Rattle.validate_rows_gc.proofs.DescriptorSteps.{cast_missing, cast_rest}
+use Rattle.validate_rows_gc.proofs.Below.{dropped_once, unfit_below, moved_below}
+use Rattle.validate_rows_gc.proofs.DescriptorSteps.{no_descriptor, not_castable, cast_missing, cast_rest}
 use Rattle.validate_rows_gc.proofs.descriptors.ref_cast_desc_eq.Given.{Over}
 use Rattle.validate_rows_gc.proofs.descriptors.ref_cast_desc_eq.Goals.{After-is_exact, After-operand_of_cast-operand}
 use Rattle.validate_rows_gc.proofs.descriptors.ref_cast_desc_eq.Goals as goal
@@ -45,10 +46,27 @@ module _ (g : Over) (c : After-operand_of_cast-operand g) where
       ∙ (ap (λ (t : ValType). step_body m (λ x. row_operator (plain_row (t ∷ []) (Ref c.in_ok-ty.ty ∷ []))) below) (sym c.operand_of_cast-operand.ensures.exact)
       ∙ plain_is m below (c.operand_of_cast-operand.result ∷ []) (Ref c.in_ok-ty.ty ∷ []) (dropped_open 1 v c.requires.open_frame))
 
+pub returns-in_err-descriptor : goal.returns-in_err-descriptor
+returns-in_err-descriptor g c =
+    let none = no_descriptor (g.R.WasmModuleResources.context c.args.body.resources.now) c.args.body.stacks.now.body c.requires.open_frame c.args.nullable c.args.heap_type.now c.in_err-descriptor.ensures.refused in
+    moves_barred _ _ c.args.body.stacks.now (λ cx hs. ref_cast_desc_eq_row cx c.args.nullable c.args.heap_type.now) _ (search rules) (search (rules, none))
+
 pub returns-in_err-find_descriptor : goal.returns-in_err-find_descriptor
 returns-in_err-find_descriptor g c =
     let at = (goal.at.returns-in_err-find_descriptor g c).After-is_exact in
     let none = cast_missing (md g at) c.args.body.stacks.now.body c.requires.open_frame c.args.nullable c.args.heap_type.now _ c.in_ok-descriptor.ensures.found (found_as_exact g at ∙ c.in_err-find_descriptor.ensures.refused) in
+    unmoved _ _ _ _ _ _ (search rules) refl (search (rules, none))
+
+pub returns-in_err-ty : goal.returns-in_err-ty
+returns-in_err-ty g c =
+    let at = (goal.at.returns-in_err-ty g c).After-is_exact in
+    let none = λ (n : cast_type (cx g at) c.args.nullable c.args.heap_type.now ≡ None). not_castable (md g at) c.args.body.stacks.now.body c.requires.open_frame c.args.nullable c.args.heap_type.now _ c.in_ok-descriptor.ensures.found n in
+    unmoved _ _ _ _ _ _ (search rules) refl (search (rules, none, c.in_err-ty.ensures.refused))
+
+pub returns-in_err-find_operands : goal.returns-in_err-find_operands
+returns-in_err-find_operands g c =
+    let at = goal.at.returns-in_err-find_operands g c in
+    let none = unfit_below (md g at.After-is_exact) g.A.Refused.tells (λ x. row_operator (ref_cast_desc_eq_row x c.args.nullable c.args.heap_type.now)) c.args.body.stacks.now c.args.body.stacks.now 1 (c.operand_of_cast-operand.result ∷ []) (Ref c.in_ok-ty.ty ∷ []) (casts_below g at.After-operand_of_cast-operand) c.requires.open_frame c.in_err-find_operands.ensures.unfit in
     unmoved _ _ _ _ _ _ (search rules) refl (search (rules, none))
 
 pub returns : goal.returns

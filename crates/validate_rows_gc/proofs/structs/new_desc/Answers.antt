@@ -1,7 +1,8 @@
-use Rattle.std.proofs.Common.{rules, ◌≡◌, ◌&&◌, true, List, [], ◌∷◌, ◌++◌, reverse, refl, sym, ap, ◌∙◌, arith}
+use Rattle.std.proofs.Common.{rules, ◌≡◌, ◌&&◌, true, List, [], ◌∷◌, ◌++◌, None, reverse, refl, sym, ap, ◌∙◌, subst, arith}
 use Rattle.std.proofs.lemmas.List.{length-append, length-map}
+use Rattle.std.specs.List.{AllByRecursion}
 use Rattle.std.specs.Option.{option_map}
-use Rattle.validate_resources.specs.Context.{ModuleContext}
+use Rattle.validate_resources.specs.Context.{ModuleContext, Valid}
 use Rattle.validate_types.specs.Types.{unpacked_fields}
 use Rattle.validate_types.specs.declared.types.FieldType.{FieldType}
 use Rattle.validation_rules.specs.Context.{Context, ValType}
@@ -16,8 +17,8 @@ use Rattle.validate_stacks.specs.Visits.{step_body}
 use Rattle.validate_stacks.proofs.MatchedOperands.{under_next}
 use Rattle.validate_stacks.proofs.Moves.{not_popped, popped}
 use Rattle.validate_shapes.proofs.LookupRows.{found_as}
-use Rattle.validate_shapes.proofs.Moves.{unmoved, exchange_moves, plain_is}
-use Rattle.validate_rows_gc.proofs.DescriptorSteps.{described_as}
+use Rattle.validate_shapes.proofs.Moves.{unmoved, moves_barred, exchange_moves, plain_is}
+use Rattle.validate_rows_gc.proofs.DescriptorSteps.{made_missing, described_as}
 use Rattle.validate_rows_gc.proofs.structs.new_desc.Given.{Over}
 use Rattle.validate_rows_gc.proofs.structs.new_desc.Goals.{In_ok-find_new_descriptor, After-as_slice-fields}
 use Rattle.validate_rows_gc.proofs.structs.new_desc.Goals as goal
@@ -49,6 +50,9 @@ module _ (g : Over) (c : After-as_slice-fields g) where
   abbrev expected : List ValType
   expected = values ++ descriptor g described ∷ []
 
+  values_valid : AllByRecursion (Valid (md g described)) values
+  values_valid = subst (λ (fields : List FieldType). AllByRecursion (Valid (md g described)) (unpacked_fields fields)) (search rules) c.in_ok-struct_type.ensures.valid
+
   makes : step_body (md g described) (λ x. row_operator (struct_new_desc_row x c.args.index)) c.args.body.stacks.now.body ≡ option_map (λ u. body_pushed_each (c.in_ok-made.made ∷ []) u) (body_popped_each (md g described) (reverse expected) c.args.body.stacks.now.body)
   makes =
       let v = c.args.body.stacks.now.body in
@@ -65,6 +69,28 @@ module _ (g : Over) (c : After-as_slice-fields g) where
   fit_below =
       under_next (cx g described) values (descriptor g described) c.args.body.stacks.now.body
       ∙ ap (λ b. b && has_operands_fitting (cx g described) values (body_dropped 1 c.args.body.stacks.now.body)) c.in_ok-find_new_descriptor.ensures.fits
+
+pub returns-in_err-find_new_descriptor : goal.returns-in_err-find_new_descriptor
+returns-in_err-find_new_descriptor g c =
+    let md = g.R.WasmModuleResources.context c.args.body.resources.now in
+    let none = made_missing md c.args.body.stacks.now.body c.requires.open_frame (λ fields. true) (unpacked_fields) c.args.index c.in_err-find_new_descriptor.ensures.refused in
+    unmoved _ _ _ _ _ _ (search rules) refl (search (rules, none))
+
+pub returns-in_err-struct_type : goal.returns-in_err-struct_type
+returns-in_err-struct_type g c =
+    let at = (goal.at.returns-in_err-struct_type g c).In_ok-find_new_descriptor in
+    let none = ap (λ (r : Row). r.premise) (row_is g at) ∙ ap (λ o. (lookups_row o (allocated_reference (cx g at) c.args.index) (made_of g at)).premise) c.in_err-struct_type.ensures.refused in
+    moves_barred (md g at) _ c.args.body.stacks.now (λ cx hs. struct_new_desc_row cx c.args.index) _ (search rules) (search (rules, none))
+
+pub returns-in_err-made : goal.returns-in_err-made
+returns-in_err-made g c =
+    let at = (goal.at.returns-in_err-made g c).In_ok-find_new_descriptor in
+    let found = ap (λ (r : Row). r.premise) (row_is g at) ∙ ap (λ o. (lookups_row o (allocated_reference (cx g at) c.args.index) (made_of g at)).premise) c.in_ok-struct_type.ensures.found in
+    let none = λ (n : allocated_reference (cx g at) c.args.index ≡ None). found ∙ ap (λ o. (lookup_row o (made_of g at c.in_ok-struct_type.struct_type.now)).premise) n in
+    moves_barred (md g at) _ c.args.body.stacks.now (λ cx hs. struct_new_desc_row cx c.args.index) _ (search rules) (search (rules, none, c.in_err-made.ensures.refused))
+
+pub find_fields-requires-clause-types : goal.find_fields-requires-clause-types
+find_fields-requires-clause-types g c = values_valid g (goal.at.find_fields-requires-clause-types g c).After-as_slice-fields
 
 pub returns-in_err-find_fields : goal.returns-in_err-find_fields
 returns-in_err-find_fields g c =

@@ -1,11 +1,11 @@
-use Rattle.std.proofs.Common.{◌≡◌, true, false, OnOk, OnErr, map, drop, sym, refl, ◌∙◌, subst}
+use Rattle.std.proofs.Common.{rules, ◌≡◌, true, false, OnOk, OnErr, map, drop, sym, refl, ◌∙◌, subst}
 use Rattle.validation_rules.specs.Context.{Context}
 use Rattle.validation_rules.specs.Fits.{Known, all_fit}
 use Rattle.validation_rules.specs.Static.{heads, label_accepts}
 use Rattle.validate_stacks.specs.State.{body_context}
 use Rattle.validate_shapes.proofs.BranchSteps.{label_there, label_valid}
 use Rattle.validate_shapes.proofs.TypesBelow.{other_count}
-use Rattle.validate_shapes.proofs.CarriedTypes.{carried_at}
+use Rattle.validate_shapes.proofs.CarriedTypes.{accepts_none, carried_at}
 use Rattle.validate_rows_handlers.proofs.clauses.find_carried.Given.{Over}
 use Rattle.validate_rows_handlers.proofs.clauses.find_carried.Goals.{After-label_types-expected}
 use Rattle.validate_rows_handlers.proofs.clauses.find_carried.Goals as goal
@@ -16,6 +16,12 @@ module _ (g : Over) (c : After-label_types-expected g) where
 
   accepts_as_expected : label_accepts cx (drop c.args.label_index (heads c.args.body.now.stacks.now.body.present.frames)) c.args.types.now ≡ all_fit cx (map Known c.args.types.now) c.label_types-expected.result.now
   accepts_as_expected = carried_at cx c.args.types.now c.label_types-expected.result.now (heads c.args.body.now.stacks.now.body.present.frames) c.args.label_index _ _ c.in_ok-block_type.ensures.found (c.label_types-expected.ensures cx refl)
+
+pub returns-in_err-block_type-clause-refused : goal.returns-in_err-block_type-clause-refused
+returns-in_err-block_type-clause-refused g c =
+    let cx = body_context (g.R.WasmModuleResources.context c.args.body.now.resources.now) c.args.body.now.stacks.now.body in
+    let none = accepts_none cx c.args.types.now (heads c.args.body.now.stacks.now.body.present.frames) c.args.label_index in
+    search (rules, none)
 
 pub returns-then-expected-types-clause-refused : goal.returns-then-expected-types-clause-refused
 returns-then-expected-types-clause-refused g c =

@@ -9,7 +9,7 @@ use Rattle.validation_rules.specs.Static.{heads, label_accepts}
 use Rattle.validation_rules.proofs.Pops.{and_false}
 use Rattle.validate_stacks.specs.State.{body_context}
 use Rattle.validate_shapes.proofs.BranchSteps.{label_there, label_valid}
-use Rattle.validate_shapes.proofs.CarriedTypes.{carried_at, fits_with_last, last_none, last_of_others, front_and_last}
+use Rattle.validate_shapes.proofs.CarriedTypes.{accepts_none, carried_at, fits_with_last, last_none, last_of_others, front_and_last}
 use Rattle.validate_rows_handlers.proofs.clauses.find_carried_with_reference.Given.{Over}
 use Rattle.validate_rows_handlers.proofs.clauses.find_carried_with_reference.Goals.{After-label_types-expected, In-Some, Else-others-types}
 use Rattle.validate_rows_handlers.proofs.clauses.find_carried_with_reference.Goals as goal
@@ -54,6 +54,11 @@ module _ (g : Over) (c : Else-others-types g) where
 
   accepts_both : accepts g (expected g split) ≡ (all_fit context (map Known c.args.types.now) c.in-Some.others.now && context.of_module.below exception_reference c.in-Some.last.now)
   accepts_both = accepts_as_split g split ∙ fits_with_last context c.args.types.now c.in-Some.others.now exception_reference c.in-Some.last.now (sym c.if-others-types.false)
+
+pub returns-in_err-block_type-clause-refused : goal.returns-in_err-block_type-clause-refused
+returns-in_err-block_type-clause-refused g c =
+    let v = c.args.body.now.stacks.now.body in
+    search (rules, accepts_none (body_context (g.R.WasmModuleResources.context c.args.body.now.resources.now) v) (c.args.types.now ++ exception_reference ∷ []) (heads v.present.frames) c.args.label_index)
 
 pub returns-in_default-clause-refused : goal.returns-in_default-clause-refused
 returns-in_default-clause-refused g c =

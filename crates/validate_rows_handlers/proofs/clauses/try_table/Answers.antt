@@ -13,9 +13,10 @@ use Rattle.validate_stacks.specs.Steps.{body_with_frame}
 use Rattle.validate_stacks.proofs.AtOnce.{dropped_within, popped_dropped}
 use Rattle.validate_stacks.proofs.ClosedFrames.{entered_is, takes_valid}
 use Rattle.validate_stacks.proofs.Moves.{fits_now, not_popped}
+use Rattle.validate_stacks.proofs.Phases.{step_frame}
 use Rattle.validate_shapes.proofs.Moves.{unmoved, made_moves}
 use Rattle.validate_shapes.proofs.OpenerSteps.{opened_moved}
-use Rattle.validate_rows_handlers.proofs.TryTables.{table_refused, table_not_fitting, table_passes}
+use Rattle.validate_rows_handlers.proofs.TryTables.{table_not_checked, table_refused, table_not_fitting, table_passes}
 use Rattle.validate_rows_handlers.proofs.clauses.try_table.Given.{Over}
 use Rattle.validate_rows_handlers.proofs.clauses.try_table.Goals.{After-params-params}
 use Rattle.validate_rows_handlers.proofs.clauses.try_table.Goals as goal
@@ -26,6 +27,11 @@ module _ (g : Over) (c : After-params-params g) where
 
   block : IsValidBlock md c.args.body.stacks.now.body.shared c.in_ok-block_type.block_type
   block = checked_valid (body_context md c.args.body.stacks.now.body) (g.met.R.WasmModuleResources.lawful c.args.body.resources.now) c.args.table.now.ty c.in_ok-block_type.block_type c.in_ok-block_type.ensures.checked
+
+pub returns-in_err-block_type : goal.returns-in_err-block_type
+returns-in_err-block_type g c =
+    let none = table_not_checked (g.R.WasmModuleResources.context c.args.body.resources.now) c.args.body.stacks.now.body c.args.table.now in
+    unmoved _ _ _ _ _ _ (search rules) refl (search (rules, none))
 
 pub find_operands-requires-clause-types : goal.find_operands-requires-clause-types
 find_operands-requires-clause-types g c =
@@ -45,6 +51,9 @@ pub returns-in_err-find_clauses : goal.returns-in_err-find_clauses
 returns-in_err-find_clauses g c =
     let none = table_not_fitting (g.R.WasmModuleResources.context c.args.body.resources.now) c.args.body.stacks.now.body c.args.table.now c.requires.open_frame c.in_ok-block_type.block_type c.in_ok-block_type.ensures.checked c.in_err-find_clauses.ensures.refused in
     unmoved _ _ _ _ _ _ (search rules) refl (search (rules, none))
+
+pub open-requires-clause-frames : goal.open-requires-clause-frames
+open-requires-clause-frames g c = step_frame c.args.body.stacks.now c.requires.attempt
 
 pub returns : goal.returns
 returns g c =

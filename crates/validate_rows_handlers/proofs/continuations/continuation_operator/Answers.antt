@@ -1,11 +1,14 @@
-use Rattle.std.proofs.Common.{sym}
+use Rattle.std.proofs.Common.{rules, sym}
 use Rattle.validation_rules.specs.Continuations.{continuation_row}
 use Rattle.validation_rules.specs.Operators.{staying_operator}
-use Rattle.validate_shapes.proofs.Moves.{moves_found, moves_as}
+use Rattle.validate_shapes.proofs.Moves.{moves_barred, moves_found, moves_as}
 use Rattle.validate_shapes.specs.Operands.{operands_row}
 use Rattle.validate_rows_handlers.specs.Targets.{without_targets}
 use Rattle.validate_rows_handlers.proofs.ResumedRows.{step_without}
 use Rattle.validate_rows_handlers.proofs.continuations.continuation_operator.Goals as goal
+
+pub returns-in_err-found : goal.returns-in_err-found
+returns-in_err-found g c = moves_barred _ _ c.args.body.stacks.now (λ cx hs. continuation_row cx hs c.args.op) _ (search rules) (search (rules, c.in_err-found.ensures.refused))
 
 pub returns : goal.returns
 returns g c =

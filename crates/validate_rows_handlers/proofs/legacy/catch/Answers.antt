@@ -1,10 +1,21 @@
-use Rattle.std.proofs.Common.{false, refl}
+use Rattle.std.proofs.Common.{rules, false, refl}
 use Rattle.validate_visit.specs.declared.frame.FrameKind.TheVariants.{LegacyCatch}
 use Rattle.validate_stacks.specs.Pops.{body_pushed_each}
 use Rattle.validate_stacks.specs.Steps.{body_with_frame, body_without_frame}
+use Rattle.validate_shapes.proofs.Moves.{unmoved}
 use Rattle.validate_shapes.proofs.PartMoves.{begun_moves}
-use Rattle.validate_rows_handlers.proofs.LegacySteps.{catch_passes}
+use Rattle.validate_rows_handlers.proofs.LegacySteps.{catch_unknown, catch_refused, catch_passes}
 use Rattle.validate_rows_handlers.proofs.legacy.catch.Goals as goal
+
+pub returns-in_err-popped : goal.returns-in_err-popped
+returns-in_err-popped g c =
+    let none = catch_refused (g.R.WasmModuleResources.context c.args.body.resources.now) c.args.body.stacks.now.body c.args.tag_index (c.in_err-popped.ensures.refused false) in
+    unmoved _ _ _ _ _ _ (search rules) refl (search (rules, none))
+
+pub returns-in_err-types : goal.returns-in_err-types
+returns-in_err-types g c =
+    let none = catch_unknown (g.R.WasmModuleResources.context c.args.body.resources.now) c.args.body.stacks.now.body c.args.tag_index c.in_err-types.ensures.refused in
+    unmoved _ _ _ _ _ _ (search rules) refl (search (rules, none))
 
 pub returns : goal.returns
 returns g c =

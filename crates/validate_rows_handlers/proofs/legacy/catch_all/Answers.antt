@@ -1,7 +1,13 @@
-use Rattle.std.proofs.Common.{true, []}
+use Rattle.std.proofs.Common.{rules, true, [], refl}
 use Rattle.validate_visit.specs.declared.frame.FrameKind.TheVariants.{LegacyCatchAll}
+use Rattle.validate_shapes.proofs.Moves.{unmoved}
 use Rattle.validate_shapes.proofs.PartMoves.{begun_moves}
 use Rattle.validate_rows_handlers.proofs.legacy.catch_all.Goals as goal
+
+pub returns-in_err-popped : goal.returns-in_err-popped
+returns-in_err-popped g c =
+    let none = c.in_err-popped.ensures.refused true in
+    unmoved _ _ _ _ _ _ (search rules) refl (search (rules, none))
 
 pub returns : goal.returns
 returns g c =

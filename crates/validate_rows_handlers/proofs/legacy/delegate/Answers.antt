@@ -3,11 +3,18 @@ use Rattle.std.specs.Option.{option_copied}
 use Rattle.validation_rules.specs.Rows.{is_try}
 use Rattle.validate_stacks.specs.Pops.{body_pushed_each}
 use Rattle.validate_stacks.specs.Steps.{body_without_frame}
-use Rattle.validate_stacks.proofs.ClosedFrames.{frame_told}
+use Rattle.validate_stacks.proofs.ClosedFrames.{frame_told, some_frame}
 use Rattle.validate_shapes.proofs.Moves.{unmoved}
 use Rattle.validate_shapes.proofs.PartMoves.{closed_moves}
 use Rattle.validate_rows_handlers.proofs.LegacySteps.{delegate_none, delegate_of_another, delegate_nowhere, delegate_passes}
 use Rattle.validate_rows_handlers.proofs.legacy.delegate.Goals as goal
+
+pub unreachable-requires : goal.unreachable-requires
+unreachable-requires g c = some_frame c.args.body.stacks.now.body c.requires.open_frame (sym c.get_frame.ensures ∙ ap option_copied c.in_default.is)
+
+pub find_results-requires-clause-results : goal.find_results-requires-clause-results
+find_results-requires-clause-results g c =
+    frame_told c.args.body.stacks.now.body c.in-Some.frame.now _ (sym c.get_frame.ensures ∙ ap option_copied c.in-Some.is) c.results-results.ensures
 
 pub returns-in_err-popped : goal.returns-in_err-popped
 returns-in_err-popped g c =

@@ -1,5 +1,5 @@
 -- One more body is checked, and at the end each function's is.
-use Rattle.std.proofs.Common.{length, ◌≤◌, ◌<◌, inl, inr, rules, arith, subst}
+use Rattle.std.proofs.Common.{length, ◌≤◌, ◌<◌, inl, inr, arith, subst}
 use Rattle.module_check.specs.Loaded.{IsSafeFunction, AreSafeBodies}
 use Rattle.module_check.proofs.Counted.{functions_safe, one_more_body, accepted_body}
 use Rattle.module_check.proofs.whole.check_module.Goals as goal
@@ -14,9 +14,9 @@ loop-index-preserved c =
           (λ small. subst (IsSafeFunction m) (c.function_of-function.ensures small) (c.check_function.ensures.accepted z).1);
       refused = λ no.
           elim (c.check_function.ensures.refused no) [
-            | inl before ↦ c.loop-index.invariant.refused before
+            inl before ↦ c.loop-index.invariant.refused before
             | inr this ↦ inr (λ a.
-                let within : c.loop-index.index < length m.bodies.items = search (rules, arith) in
+                let within : c.loop-index.index < length m.bodies.items = omega (arith, c.loop-index-test.true, c.body_count-index-end.ensures) in
                 this (accepted_body m c.loop-index.index c.function_of-function.result m.valid m.counted within c.function_of-function.ensures a))
           ];
     }
@@ -24,7 +24,7 @@ loop-index-preserved c =
 pub returns-clause-accepted : goal.returns-clause-accepted
 returns-clause-accepted c = λ z.
     let m = c.args.module.now in
-    let all : length m.bodies.items ≤ c.loop-index.index = search (rules, arith) in
+    let all : length m.bodies.items ≤ c.loop-index.index = omega (arith, c.loop-index-test.false, c.body_count-index-end.ensures) in
     let each : AreSafeBodies m (length m.bodies.items) = λ body within small. c.loop-index.invariant.bodies z body (omega (arith, within, all)) small in
     record {
       is_module = m.read;

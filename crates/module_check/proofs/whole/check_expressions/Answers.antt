@@ -16,7 +16,7 @@ loop-expression-preserved c = record {
       c.expression-item.result _ c.expressions-expression-items.ensures c.expression-item.is this);
   refused = λ no.
       elim (c.note.ensures.refused no) [
-        inl before ↦ c.loop-expression.invariant.refused before
+        | inl before ↦ c.loop-expression.invariant.refused before
         | inr this ↦ inr (λ a.
             let within : c.loop-expression.expression-index < length c.expressions-expression-items.result.now = c.loop-expression-test.true in
             c.check_expression-verdict.ensures.refused this.0 this.1

@@ -14,7 +14,7 @@ loop-index-preserved c =
           (λ small. subst (IsSafeFunction m) (c.function_of-function.ensures small) (c.check_function.ensures.accepted z).1);
       refused = λ no.
           elim (c.check_function.ensures.refused no) [
-            inl before ↦ c.loop-index.invariant.refused before
+            | inl before ↦ c.loop-index.invariant.refused before
             | inr this ↦ inr (λ a.
                 let within : c.loop-index.index < length m.bodies.items = omega (arith, c.loop-index-test.true, c.body_count-index-end.ensures) in
                 this (accepted_body m c.loop-index.index c.function_of-function.result m.valid m.counted within c.function_of-function.ensures a))

@@ -16,7 +16,7 @@ loop-index-preserved c =
           elim (c.check_function.ensures.refused no) [
             | inl before ↦ c.loop-index.invariant.refused before
             | inr this ↦ inr (λ a.
-                let within : c.loop-index.index < length m.bodies.items = omega (arith, c.loop-index-test.true, c.body_count-index-end.ensures) in
+                let within : c.loop-index.index < length m.bodies.items = omega arith in
                 this (accepted_body m c.loop-index.index c.function_of-function.result m.valid m.counted within c.function_of-function.ensures a))
           ];
     }
@@ -24,7 +24,7 @@ loop-index-preserved c =
 pub returns-clause-accepted : goal.returns-clause-accepted
 returns-clause-accepted c = λ z.
     let m = c.args.module.now in
-    let all : length m.bodies.items ≤ c.loop-index.index = omega (arith, c.loop-index-test.false, c.body_count-index-end.ensures) in
+    let all : length m.bodies.items ≤ c.loop-index.index = omega arith in
     let each : AreSafeBodies m (length m.bodies.items) = λ body within small. c.loop-index.invariant.bodies z body (omega (arith, within, all)) small in
     record {
       is_module = m.read;

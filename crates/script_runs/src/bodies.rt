@@ -10,7 +10,7 @@ use crate::places::add_operands;
 use crate::printed::{add_printed, begun};
 use crate::snapshot::Snapshot;
 use crate::tally::Tally;
-use crate::undone::run_lines;
+use crate::undone::{compare_behind, run_lines};
 use odd_lookups::{Check, PairedLists, WantingLists};
 use opcheck_script::module_lists;
 use script_reader::{BodyLine, Operators, Script, read_script};
@@ -71,8 +71,31 @@ fn attempt<R: WasmModuleResources>(
     try_op(v, resources, offset, op)
 }
 
-/// Attempts operators one after the other, up to the first that is refused, or the end of the body: behind a
-/// refused one all frames and operands are those before it.
+/// Attempts an operator, and answers whether it is accepted: behind a refused one all frames and operands are those
+/// before it.
+fn attempt_one<R: WasmModuleResources>(
+    alloc: Global,
+    tally: &mut Tally,
+    v: &mut OperatorValidator,
+    resources: &R,
+    pair: (Op<'_>, u64),
+    script: &str,
+) -> Result<bool, AllocError>
+    requires idle { (state v.old).undone ≡ None }
+    requires visit { MayVisit (R.context resources.now) (stacks_of v.old) }
+    ensures valid { IsValidBody (R.context resources.now) (state v.new) }
+    ensures idle { (state v.new).undone ≡ None }
+{
+    let before = Snapshot::of(alloc, v)?;
+    let (op, offset) = pair;
+    if attempt(v, resources, offset, op).is_ok() {
+        return Ok(true);
+    }
+    compare_behind(alloc, tally, v, &before, script)?;
+    Ok(false)
+}
+
+/// Attempts operators one after the other, up to the first that is refused, or the end of the body.
 fn attempt_each<R: WasmModuleResources>(
     alloc: Global,
     tally: &mut Tally,
@@ -84,15 +107,9 @@ fn attempt_each<R: WasmModuleResources>(
     requires { IsStarting (R.context resources.now) (state v.old) }
 {
     for pair in ops {
-        let (op, offset) = *pair;
-        if v.control_stack_height() == 0 {
-            return Ok(());
-        }
-        let before = Snapshot::of(alloc, v)?;
-        if attempt(v, resources, offset, op).is_err() {
-            if Snapshot::of(alloc, v)? != before {
-                tally.refuse(script, "has an attempt that is refused and leaves a trace")?;
-            }
+        if v.control_stack_height() == 0
+            || !attempt_one(alloc, tally, v, resources, *pair, script)?
+        {
             return Ok(());
         }
     }

@@ -7,23 +7,33 @@
 //! A script runs as one list, with both outputs and its status compared; and operator by operator, each attempted,
 //! where a refused one has to leave all frames and operands as they were. `.ci/ways` runs each in further ways, which
 //! a first line before the names asks for.
+//!
+//! With the words `--runs N` its standard input is one script instead, as `opcheck` reads it, and it prints how long the
+//! validator takes for the body (`measure.rs`), the best of N runs. `--untimed` leaves the times out.
 #![tactic(auto)]
 
 mod bodies;
 mod cases;
+mod choice;
 mod flags;
 mod left;
+mod measure;
 mod places;
 mod printed;
 mod runs;
 mod snapshot;
 mod tally;
+mod timing;
 mod transcript;
 mod undone;
+mod unmeasured;
 
 use crate::cases::run_cases;
+use crate::choice::read_choice;
+use crate::measure::measure_input;
 use crate::runs::{Output, Way, run_script};
 use crate::tally::Tally;
+use crate::unmeasured::Unmeasured;
 use std::process::ExitCode;
 use std::{fs, io};
 
@@ -128,9 +138,23 @@ fn run_named(rt: &HostRuntime) -> io::Result<bool> {
     run_files(rt, &names)
 }
 
+/// The same, or measures the script that is the input, where the words ask for that.
+fn run_chosen(rt: &HostRuntime) -> Result<bool, Unmeasured> {
+    let choice = read_choice(rt)?;
+    if choice.runs == 0 {
+        return run_named(rt).map_err(|_| Unmeasured::Host);
+    }
+    measure_input(rt, choice)?;
+    Ok(true)
+}
+
 fn main(rt: HostRuntime) -> ExitCode {
-    match run_named(&rt) {
+    match run_chosen(&rt) {
         Ok(true) => ExitCode::SUCCESS,
-        _ => ExitCode::FAILURE,
+        Ok(false) => ExitCode::FAILURE,
+        Err(failure) => {
+            let _ = eprintln!(rt; "{}", failure.text());
+            ExitCode::from(failure.status())
+        }
     }
 }

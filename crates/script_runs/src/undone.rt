@@ -98,7 +98,7 @@ fn compare_within<R: WasmModuleResources>(
 }
 
 /// Writes it down where something else is found than before an attempt, or one is pending.
-fn compare_behind(
+pub fn compare_behind(
     alloc: Global,
     tally: &mut Tally,
     v: &OperatorValidator,

@@ -11,116 +11,116 @@ ghost use Rattle.validate_stacks.specs.Visits.{MayVisit, Meets};
 ghost use Rattle.validate_stacks.specs.Pops.{IsKept};
 ghost use Rattle.validate_stacks.specs.State.{IsStarting, IsValidBody};
 
+use crate::printed::begun;
 use crate::unmeasured::Unmeasured;
-use script_reader::BodyLine;
-use std::alloc::Global;
+use script_reader::{BodyLine, Operators};
 use std::time::Instant;
-use validate_body::{OperatorValidator, begin_body, check_ops, try_op};
-use validate_resources::{ModuleLists, WasmModuleResources};
-use validate_stacks::OperatorValidatorAllocations;
+use validate_body::{OperatorValidator, check_ops, try_op};
+use validate_resources::WasmModuleResources;
 use validate_types::WasmFeatures;
 use validate_visit::{LocalGroup, Op, all_have_module_immediates, is_well_ordered};
 
-/// A body, in its module.
-#[derive(Clone, Copy)]
-pub struct Subject<'a> {
-    /// With what the validator is made.
-    pub alloc: Global,
-    /// The module.
-    pub module: &'a ModuleLists,
-    /// The proposals that are on.
-    pub features: &'a WasmFeatures,
-    /// The `func` or `expr` line.
-    pub body: BodyLine,
-    /// The `local` lines.
-    pub locals: &'a [LocalGroup],
-    /// The operators.
-    pub ops: &'a [(Op<'a>, u64)],
-    /// Of each whether it is attempted.
-    pub attempts: &'a [bool],
-    /// Whether some are.
-    pub has_attempts: bool,
-}
-
 /// How a body is checked.
 #[derive(Clone, Copy)]
-pub enum Way {
+pub enum Checker {
     /// By `check_ops`.
     CheckOps,
-    /// By single visits, those of `try` lines attempted.
+    /// By single visits.
     Visits,
+    /// By single visits, those of `try` lines attempted.
+    Attempts,
 }
 
-impl Way {
+impl Checker {
+    /// By single visits, of operators of which these are attempted.
+    pub fn visits(attempts: &[bool]) -> Checker {
+        if attempts.contains(&true) {
+            Checker::Attempts
+        } else {
+            Checker::Visits
+        }
+    }
+
     /// Its name.
     pub fn name(self) -> &'static str {
         match self {
-            Way::CheckOps => "check_ops",
-            Way::Visits => "visits",
+            Checker::CheckOps => "check_ops",
+            Checker::Visits | Checker::Attempts => "visits",
         }
     }
 }
 
 /// The best time of so many runs, in nanoseconds. It fails where the body isn't accepted.
-pub fn best_time(
+pub fn best_time<R: WasmModuleResources>(
     rt: &HostRuntime,
-    way: Way,
-    subject: Subject<'_>,
-    runs: u32,
+    (checker, runs): (Checker, u32),
+    resources: &R,
+    features: &WasmFeatures,
+    begin: (BodyLine, &[LocalGroup]),
+    operators: &Operators<'_>,
 ) -> Result<u128, Unmeasured> {
-    if !is_well_ordered(subject.ops) || !all_have_module_immediates(subject.ops) {
+    if !is_well_ordered(&operators.ops) || !all_have_module_immediates(&operators.ops) {
         return Err(Unmeasured::Script);
     }
-    let mut heights = Vec::new(subject.alloc);
+    let mut heights = Vec::new(rt.alloc());
     let mut best = u128::MAX;
     for _ in 0..runs {
-        best = best.min(time(rt, way, subject, &mut heights)?);
+        heights.clear();
+        best = best.min(time(
+            rt,
+            checker,
+            resources,
+            features,
+            begin,
+            operators,
+            &mut heights,
+        )?);
     }
     Ok(best)
 }
 
 /// Whether the body is accepted by this validator.
 #[inline(never)]
-fn is_accepted_by(
+fn is_accepted_by<R: WasmModuleResources>(
     validator: &mut OperatorValidator,
-    way: Way,
-    subject: Subject<'_>,
+    checker: Checker,
+    resources: &R,
+    operators: &Operators<'_>,
     heights: &mut Vec<(usize, usize)>,
 ) -> bool
-    requires starting { IsStarting (⟦<ModuleLists as WasmModuleResources>⟧.context subject.module.now)
-        (state validator.old) }
-    requires ordered { is_well_ordered_list (without_offsets subject.ops.now) ≡ true }
-    requires immediates { list_all (λ (pair : _). is_module_op pair.0) subject.ops.now ≡ true }
+    requires starting { IsStarting (R.context resources.now) (state validator.old) }
+    requires ordered { is_well_ordered_list (without_offsets operators.now.ops.items) ≡ true }
+    requires immediates { list_all (λ (pair : _). is_module_op pair.0) operators.now.ops.items ≡ true }
     requires empty { heights.old.items ≡ [] }
 {
-    match way {
-        Way::CheckOps => matches!(
-            check_ops(validator, subject.ops, subject.module, heights),
+    match checker {
+        Checker::CheckOps => matches!(
+            check_ops(validator, &operators.ops, resources, heights),
             Ok(true)
         ),
-        Way::Visits if subject.has_attempts => {
-            attempt_each(validator, subject.ops, subject.attempts, subject.module)
+        Checker::Visits => visit_each(validator, &operators.ops, resources),
+        Checker::Attempts => {
+            attempt_each(validator, &operators.ops, &operators.attempts, resources)
         }
-        Way::Visits => visit_each(validator, subject.ops, subject.module),
     }
 }
 
 /// The time that this validator takes for the operators.
-fn time_by(
+fn time_by<R: WasmModuleResources>(
     rt: &HostRuntime,
     validator: &mut OperatorValidator,
-    way: Way,
-    subject: Subject<'_>,
+    checker: Checker,
+    resources: &R,
+    operators: &Operators<'_>,
     heights: &mut Vec<(usize, usize)>,
 ) -> Result<u128, Unmeasured>
-    requires starting { IsStarting (⟦<ModuleLists as WasmModuleResources>⟧.context subject.module.now)
-        (state validator.old) }
-    requires ordered { is_well_ordered_list (without_offsets subject.ops.now) ≡ true }
-    requires immediates { list_all (λ (pair : _). is_module_op pair.0) subject.ops.now ≡ true }
+    requires starting { IsStarting (R.context resources.now) (state validator.old) }
+    requires ordered { is_well_ordered_list (without_offsets operators.now.ops.items) ≡ true }
+    requires immediates { list_all (λ (pair : _). is_module_op pair.0) operators.now.ops.items ≡ true }
     requires empty { heights.old.items ≡ [] }
 {
     let since = Instant::now(rt).map_err(|_| Unmeasured::Host)?;
-    let accepted = is_accepted_by(validator, way, subject, heights);
+    let accepted = is_accepted_by(validator, checker, resources, operators, heights);
     let time = since.elapsed(rt).map_err(|_| Unmeasured::Host)?.as_nanos();
     if !accepted {
         return Err(Unmeasured::Refused);
@@ -129,25 +129,21 @@ fn time_by(
 }
 
 /// The time of one run: of the operators alone, by a validator whose locals are defined.
-fn time(
+fn time<R: WasmModuleResources>(
     rt: &HostRuntime,
-    way: Way,
-    subject: Subject<'_>,
+    checker: Checker,
+    resources: &R,
+    features: &WasmFeatures,
+    begin: (BodyLine, &[LocalGroup]),
+    operators: &Operators<'_>,
     heights: &mut Vec<(usize, usize)>,
 ) -> Result<u128, Unmeasured>
-    requires ordered { is_well_ordered_list (without_offsets subject.ops.now) ≡ true }
-    requires immediates { list_all (λ (pair : _). is_module_op pair.0) subject.ops.now ≡ true }
+    requires ordered { is_well_ordered_list (without_offsets operators.now.ops.items) ≡ true }
+    requires immediates { list_all (λ (pair : _). is_module_op pair.0) operators.now.ops.items ≡ true }
+    requires empty { heights.old.items ≡ [] }
 {
-    heights.clear();
-    match begin_body(
-        subject.module,
-        subject.features,
-        subject.body.kind,
-        subject.body.offset,
-        subject.locals,
-        OperatorValidatorAllocations::new(subject.alloc),
-    ) {
-        Ok(mut validator) => time_by(rt, &mut validator, way, subject, heights),
+    match begun(rt.alloc(), resources, features, begin) {
+        Ok(mut validator) => time_by(rt, &mut validator, checker, resources, operators, heights),
         Err(_) => Err(Unmeasured::Refused),
     }
 }

@@ -9,7 +9,7 @@ pub enum Unmeasured {
     Script,
     /// The body isn't accepted.
     Refused,
-    /// The clock, an output or memory is wanting.
+    /// The clock, the input, an output or memory is wanting.
     Host,
 }
 
@@ -20,7 +20,7 @@ impl Unmeasured {
             Unmeasured::Words => "words: [--runs N] [--untimed]",
             Unmeasured::Script => "bad script",
             Unmeasured::Refused => "refused",
-            Unmeasured::Host => "no clock, no output or no memory",
+            Unmeasured::Host => "no clock, no input, no output or no memory",
         }
     }
 

@@ -1,6 +1,6 @@
 use Rattle.std.proofs.Common.{ap, ◌∙◌}
 use Rattle.validate_stacks.specs.State.{BodyState}
-use Rattle.opcheck_bench.proofs.measure.attempt_each.Goals as goal
+use Rattle.script_runs.proofs.timing.attempt_each.Goals as goal
 
 pub loop-pair-preserved : goal.loop-pair-preserved
 loop-pair-preserved g c =

@@ -1,6 +1,6 @@
 -- An operator that is accepted meets its row; of one that is refused nothing is said.
-use Rattle.opcheck_bench.proofs.measure.is_visited.Goals as goal
-use Rattle.opcheck_bench.proofs.measure.is_visited.Goals.{in-Ok, in-Err, in-Ok-check, in-Err-check}
+use Rattle.script_runs.proofs.timing.is_visited.Goals as goal
+use Rattle.script_runs.proofs.timing.is_visited.Goals.{in-Ok, in-Err, in-Ok-check, in-Err-check}
 
 pub returns-then-attempted-clause-accepted : goal.returns-then-attempted-clause-accepted
 returns-then-attempted-clause-accepted g c =

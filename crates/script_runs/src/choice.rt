@@ -6,7 +6,7 @@ use std::env;
 /// What the words choose.
 #[derive(Clone, Copy)]
 pub struct Choice {
-    /// How often each way is run.
+    /// How often the script that is the input is run in each way, or 0 where the input names files.
     pub runs: u32,
     /// Whether the times are left out.
     pub untimed: bool,
@@ -15,7 +15,7 @@ pub struct Choice {
 /// Reads the program's words.
 pub fn read_choice(rt: &HostRuntime) -> Result<Choice, Unmeasured> {
     let mut choice = Choice {
-        runs: 20,
+        runs: 0,
         untimed: false,
     };
     let mut words = env::args(rt).map_err(|_| Unmeasured::Host)?.skip(1);

@@ -6,6 +6,7 @@ ghost use Rattle.validate_stacks.specs.Visits.{MayVisit};
 ghost use Rattle.wasmparser_validate.specs.Start.{state, stacks_of};
 ghost use Rattle.wasmparser_validate.specs.State.{IsStarting};
 
+use crate::bodies::{Run, expect_run};
 use crate::expectations::{expect, expect_same};
 use crate::lines::{Way, expect_lines};
 use crate::setting::{HEAD, Setting};
@@ -16,9 +17,8 @@ use wasmparser_validate::operators::{OperatorValidator, OperatorValidatorAllocat
 use wasmparser_validate::resources::WasmModuleResources;
 use wasmparser_validate::types::{Error, ValType};
 
-/// Operators with their answers, how many operands are popped behind them, how many pops are tried, and the
-/// answer.
-type Run = (&'static str, u32, u64, &'static str);
+/// How many operands are popped, how many pops are tried, and the answer.
+pub type PopRun = (u32, u64, &'static str);
 
 const NOTHING_THERE: &str = "type mismatch: expected i32 but nothing on stack";
 
@@ -29,15 +29,16 @@ const LIVE_OF_TWO: &str = "i32.const => 1 1\ni32.const => 2 1";
 const LIVE_OF_FIVE: &str = "i32.const => 1 1\ni32.const => 2 1\ni32.const => 3 1\n\
     i32.const => 4 1\ni32.const => 5 1";
 
-const RUNS: &[Run] = &[
+/// Operators with their answers, and the pops behind them.
+const RUNS: &[(&str, PopRun)] = &[
     // In dead code a pop below the own operands is the last.
-    (DEAD_OF_TWO, 10, 3, "0 1"),
-    (DEAD_OF_TWO, 2, 2, "0 1"),
-    ("unreachable => 0 1", u32::MAX, 1, "0 1"),
-    (LIVE_OF_FIVE, 3, 3, "2 1"),
+    (DEAD_OF_TWO, (10, 3, "0 1")),
+    (DEAD_OF_TWO, (2, 2, "0 1")),
+    ("unreachable => 0 1", (u32::MAX, 1, "0 1")),
+    (LIVE_OF_FIVE, (3, 3, "2 1")),
     // A pop that is refused is counted too.
-    (LIVE_OF_TWO, 3, 3, NOTHING_THERE),
-    (LIVE_OF_TWO, 0, 0, "2 1"),
+    (LIVE_OF_TWO, (3, 3, NOTHING_THERE)),
+    (LIVE_OF_TWO, (0, 0, "2 1")),
 ];
 
 /// Pops so many operands of i32.
@@ -55,15 +56,16 @@ fn pop_run<R: WasmModuleResources>(
 }
 
 /// A run of so many pops answers this, and so many are tried, behind the operators.
-fn expect_run<R: WasmModuleResources>(
+pub fn expect_pops<R: WasmModuleResources>(
     rt: &(impl Abort + AllocGlobal),
     v: &mut OperatorValidator,
     lists: &R,
-    run: Run,
+    lines: &str,
+    run: PopRun,
 ) -> Result<(), TestError>
     requires { IsStarting (R.context lists.now) (state v.old) }
 {
-    let (lines, n, tried, expected) = run;
+    let (n, tried, expected) = run;
     expect_lines(rt, v, lists, lines, Way::Visited)?;
     expect(rt, v.control_stack_height() > 0);
     let mut pops = Pops::new();
@@ -74,23 +76,14 @@ fn expect_run<R: WasmModuleResources>(
     Ok(())
 }
 
-/// The same in these buffers, which are given back.
-fn expect_in(
+/// Each in the buffers of the one before it.
+fn expect_each(
     rt: &(impl Abort + AllocGlobal),
     setting: &Setting,
-    used: OperatorValidatorAllocations,
-    run: Run,
-) -> Result<OperatorValidatorAllocations, TestError> {
-    let mut v = setting.validator(used)?;
-    expect_run(rt, &mut v, &setting.lists, run)?;
-    Ok(v.into_allocations())
-}
-
-/// Each in the buffers of the one before it.
-fn expect_runs(rt: &(impl Abort + AllocGlobal), setting: &Setting) -> Result<(), TestError> {
-    let mut used = OperatorValidatorAllocations::new(rt.alloc());
-    for run in RUNS {
-        used = expect_in(rt, setting, used, *run)?;
+    used: &mut OperatorValidatorAllocations,
+) -> Result<(), TestError> {
+    for (lines, run) in RUNS {
+        expect_run(rt, setting, used, lines, Run::Pops(*run))?;
     }
     Ok(())
 }
@@ -98,5 +91,6 @@ fn expect_runs(rt: &(impl Abort + AllocGlobal), setting: &Setting) -> Result<(),
 #[test]
 fn runs_of_pops(rt: HostRuntime) -> Result<(), TestError> {
     let setting = Setting::read(&rt, HEAD)?;
-    expect_runs(&rt, &setting)
+    let mut used = OperatorValidatorAllocations::new(rt.alloc());
+    expect_each(&rt, &setting, &mut used)
 }

@@ -41,95 +41,101 @@ fn answer<'a, R: WasmModuleResources>(
     function.op(9, op)
 }
 
-/// Visits an operator, or attempts it, and once more where that was refused.
-fn accept<'a, R: WasmModuleResources>(
+/// Whether an operator is accepted where a frame is open.
+fn is_accepted<'a, R: WasmModuleResources>(
     rt: &impl Abort,
     function: &mut FuncValidator<'a, '_, R>,
     op: Op<'a>,
     attempted: bool,
-) -> Result<(), Error> {
-    let first = answer(rt, function, op, attempted);
-    if attempted && first.is_err() {
-        return answer(rt, function, op, attempted);
-    }
-    first
+) -> bool {
+    answer(rt, function, op, attempted).is_ok()
 }
 
-/// The operators of a body, which are accepted.
-fn accept_each<'a, R: WasmModuleResources>(
+/// The same, and once more of an attempt that was refused.
+fn is_accepted_again<'a, R: WasmModuleResources>(
+    rt: &impl Abort,
+    function: &mut FuncValidator<'a, '_, R>,
+    op: Op<'a>,
+    attempted: bool,
+) -> bool {
+    is_accepted(rt, function, op, attempted)
+        || (attempted && is_accepted(rt, function, op, attempted))
+}
+
+/// Whether the operators of a body are accepted.
+fn are_accepted<'a, R: WasmModuleResources>(
     rt: &impl Abort,
     function: &mut FuncValidator<'a, '_, R>,
     ops: &[(Op<'a>, u64)],
     attempted: bool,
-) -> Result<(), Error> {
+) -> bool {
     for pair in ops {
         let (op, _) = *pair;
-        accept(rt, function, op, attempted)?;
+        if !is_accepted_again(rt, function, op, attempted) {
+            return false;
+        }
     }
-    Ok(())
+    true
 }
 
 /// The same in a new function, of this validator.
-fn accept_new<R: WasmModuleResources>(
+fn are_accepted_by<R: WasmModuleResources>(
     rt: &(impl Abort + AllocGlobal),
     v: OperatorValidator,
     lists: &R,
     ops: &[(Op<'_>, u64)],
     attempted: bool,
-) -> Result<(), Error>
+) -> bool
     requires { IsStarting (R.context lists.now) (state v) }
 {
-    let mut function = FuncValidator::new(rt.alloc(), v, lists);
-    accept_each(rt, &mut function, ops, attempted)
+    are_accepted(
+        rt,
+        &mut FuncValidator::new(rt.alloc(), v, lists),
+        ops,
+        attempted,
+    )
 }
 
 /// The same in a new function of this setting.
-fn accept_in(
+fn are_accepted_in(
     rt: &(impl Abort + AllocGlobal),
     setting: &Setting,
     ops: &[(Op<'_>, u64)],
     attempted: bool,
-) -> Result<(), Error> {
-    let v = setting.validator(OperatorValidatorAllocations::new(rt.alloc()))?;
-    accept_new(rt, v, &setting.lists, ops, attempted)
-}
-
-/// The operators of a body, visited and attempted.
-fn accept_both(
-    rt: &(impl Abort + AllocGlobal),
-    setting: &Setting,
-    ops: &[(Op<'_>, u64)],
-) -> Result<(), TestError> {
-    accept_in(rt, setting, ops, false)?;
-    accept_in(rt, setting, ops, true)?;
-    Ok(())
-}
-
-/// The operators of a script, visited and attempted.
-fn accept_script(
-    rt: &(impl Abort + AllocGlobal),
-    setting: &Setting,
-    script: &str,
-) -> Result<(), TestError> {
-    let mut listed = Vec::new(rt.alloc());
-    match read_script(rt.alloc(), &mut listed, script) {
-        Ok(read) => accept_both(rt, setting, &read.operators.ops),
-        Err(_) => Err(TestError("lines that are no script")),
+) -> bool {
+    match setting.validator(OperatorValidatorAllocations::new(rt.alloc())) {
+        Ok(v) => are_accepted_by(rt, v, &setting.lists, ops, attempted),
+        Err(_) => false,
     }
 }
 
-/// A body of a table, visited and attempted.
-fn accept_body(rt: &(impl Abort + AllocGlobal), body: &str) -> Result<(), TestError> {
-    let (head, lines) = body.split_once("\n--\n").unwrap_or((HEAD, body));
-    let setting = Setting::read(rt, head)?;
-    accept_script(rt, &setting, &script_of(rt, head, lines)?)
+/// Whether the operators of a script are accepted, visited and attempted.
+fn is_script_accepted(rt: &(impl Abort + AllocGlobal), setting: &Setting, script: &str) -> bool {
+    let mut listed = Vec::new(rt.alloc());
+    match read_script(rt.alloc(), &mut listed, script) {
+        Ok(read) => {
+            are_accepted_in(rt, setting, &read.operators.ops, false)
+                && are_accepted_in(rt, setting, &read.operators.ops, true)
+        }
+        Err(_) => false,
+    }
 }
 
-/// The same, and once more where memory is wanting.
-fn accept_again(rt: &(impl Abort + AllocGlobal), body: &str) -> Result<(), TestError> {
-    match accept_body(rt, body) {
-        Ok(()) => Ok(()),
-        Err(_) => accept_body(rt, body),
+/// The same of a body of a table, which has these first lines.
+fn is_body_accepted(rt: &(impl Abort + AllocGlobal), head: &str, lines: &str) -> bool {
+    match (Setting::read(rt, head), script_of(rt, head, lines)) {
+        (Ok(setting), Ok(script)) => is_script_accepted(rt, &setting, &script),
+        _ => false,
+    }
+}
+
+/// A body of a table is accepted, visited and attempted; where memory is wanting, once more.
+fn accept_body(rt: &(impl Abort + AllocGlobal), body: &str) -> Result<(), TestError> {
+    let (head, lines) = body.split_once("\n--\n").unwrap_or((HEAD, body));
+    if is_body_accepted(rt, head, lines) || is_body_accepted(rt, head, lines) {
+        Ok(())
+    } else {
+        Err(TestError("a body that isn't accepted"))
     }
 }
 
@@ -138,7 +144,7 @@ fn groups_of_operators_in_functions_whichever_request_is_refused(
     rt: HostRuntime,
 ) -> Result<(), TestError> {
     for body in GROUPS.split("\n\n") {
-        accept_again(&rt, body)?;
+        accept_body(&rt, body)?;
     }
     Ok(())
 }

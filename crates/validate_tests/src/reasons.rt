@@ -1,18 +1,38 @@
 //! Why operators are refused, as data. No clause says which reason a refusal has.
 
+ghost use Rattle.wasmparser_validate.specs.Start.{state};
+ghost use Rattle.wasmparser_validate.specs.State.{IsStarting};
+
 use crate::expectations::{expect, expect_same};
 use crate::lines::visit;
 use crate::setting::{HEAD, Setting};
 use crate::test_error::TestError;
 use std::process::Abort;
-use wasmparser_validate::operators::OperatorValidatorAllocations;
+use wasmparser_validate::operators::{OperatorValidator, OperatorValidatorAllocations};
+use wasmparser_validate::resources::WasmModuleResources;
 use wasmparser_validate::types::{Gate, HeapType, Refusal, UnpackedIndex, ValType};
 use wasmparser_validate::visit::{ControlOp, IntegerType, MemoryOp, NumericOp, Op, ReferenceOp};
 
 /// The same body, without proposals.
 const WITHOUT_PROPOSALS: &str = "feature none\ntype func ->\nfunc 0";
 
-/// Why an operator is refused that begins a body; `None` where no rule says why.
+/// Why this operator is refused that begins the body of this validator; `None` where no rule says why.
+fn expect_reason_by<R: WasmModuleResources>(
+    rt: &impl Abort,
+    v: &mut OperatorValidator,
+    lists: &R,
+    op: Op<'static>,
+    reason: Option<Refusal>,
+)
+    requires { IsStarting (R.context lists.now) (state v.old) }
+{
+    match visit(v, lists, op) {
+        Ok(()) => expect(rt, false),
+        Err(refusal) => expect_same(rt, refusal.reason(), reason),
+    }
+}
+
+/// Why an operator is refused that begins a body.
 fn expect_reason(
     rt: &(impl Abort + AllocGlobal),
     head: &str,
@@ -21,10 +41,7 @@ fn expect_reason(
 ) -> Result<(), TestError> {
     let setting = Setting::read(rt, head)?;
     let mut v = setting.validator(OperatorValidatorAllocations::new(rt.alloc()))?;
-    match visit(&mut v, &setting.lists, op) {
-        Ok(()) => expect(rt, false),
-        Err(refusal) => expect_same(rt, refusal.reason(), reason),
-    }
+    expect_reason_by(rt, &mut v, &setting.lists, op, reason);
     Ok(())
 }
 

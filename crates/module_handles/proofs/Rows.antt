@@ -1,9 +1,11 @@
 -- The row of a module's constant expressions and bodies.
-use Rattle.std.proofs.Common.{◌≤◌, ◌<◌, ◌+◌, ℕ, zero, suc, subst, arith}
-use Rattle.std.proofs.lemmas.Option.{slice_get_within}
+use Rattle.std.proofs.Common.{◌≡◌, ◌≤◌, ◌<◌, ◌+◌, ◌-◌, ◌^◌, ℕ, zero, suc, ap, get_or, sym, subst, ◌∙◌, arith}
+use Rattle.std.proofs.lemmas.Option.{get_or_from_slice_get, slice_get_within}
 use mathlib.Core.Logic.{◌⊎◌, inl, inr}
+use Rattle.binary_modules.specs.declared.initializers.ConstantExpression.{ConstantExpression}
+use Rattle.module_check.specs.Loaded.{IsSafeExpression, IsSafeFunction}
 use Rattle.module_check.specs.declared.loaded.LoadedModule.{LoadedModule}
-use Rattle.module_handles.specs.Items.{IsSafeAt, AreSafeBetween, AreSafeFrom, item_count}
+use Rattle.module_handles.specs.Items.{IsSafeAt, AreSafeBetween, AreSafeFrom, expression_count, item_count}
 
 either : (a b : ℕ) → (a ≤ b) ⊎ (b < a)
 either zero b = inl (omega arith)
@@ -23,3 +25,17 @@ module _ (m : LoadedModule) where
 
   pub one_more : (start place : ℕ) → AreSafeBetween m start place → IsSafeAt m place → AreSafeBetween m start (place + 1)
   one_more start place b i q s l = elim (either place q) [ inl past ↦ subst (IsSafeAt m) (omega (arith, past, l)) i | inr before ↦ b q s before ]
+
+  -- what stands at a place among the constant expressions is safe where that expression is
+  pub expression_safe : (place : ℕ) (e : ConstantExpression) → place < expression_count m → e ≡ get_or m.expressions.items place e → IsSafeExpression m e → IsSafeAt m place
+  expression_safe place e inside is_there safe = record {
+    expression = λ f is. subst (IsSafeExpression m) (is_there ∙ get_or_from_slice_get m.expressions.items place f e is) safe;
+    body = λ past within fits. absurd (omega (arith, past, inside));
+  }
+
+  -- what stands behind them is safe where the function is whose body stands there
+  pub body_safe : (place behind function : ℕ) → expression_count m ≤ place → behind ≡ place - expression_count m → (m.declared.imports.functions + behind < 2 ^ 32 → function ≡ m.declared.imports.functions + behind) → IsSafeFunction m function → IsSafeAt m place
+  body_safe place behind function past is_behind is_index safe = record {
+    expression = λ e is. absurd (omega (arith, past, slice_get_within m.expressions.items place e is));
+    body = λ _ _ fits. subst (IsSafeFunction m) (is_index (subst (λ n. m.declared.imports.functions + n < 2 ^ 32) (sym is_behind) fits) ∙ ap (λ n. m.declared.imports.functions + n) is_behind) safe;
+  }

@@ -1,13 +1,19 @@
 -- The words before the first of a kind, and those from it on.
-use Rattle.std.proofs.Common.{arith, ◌≡◌, ◌<◌, ◌≤◌, ◌+◌, ℕ, Bool, true, false, not, refl, cond, ltb, List, [], ◌++◌, ◌∷◌, Option, Some, None, Bor, codes, length, map, take, drop, get_or, ap, sym, subst, ◌∙◌, bytes_eq}
+use Rattle.std.proofs.Common.{arith, ◌≡◌, ◌<◌, ◌≤◌, ◌+◌, ℕ, Bool, true, false, not, refl, cond, ltb, List, [], ◌++◌, ◌∷◌, Option, Some, None, is_some, Bor, codes, length, map, take, drop, get_or, ap, sym, subst, ◌∙◌, bytes_eq}
 use Rattle.std.specs.List.{filter, list_any, position_or_len, before_first}
+use mir.Val.{bool_byte}
+use Rattle.std.specs.Option.{option_map}
+use Rattle.std.specs.Str.Parse.{digits_value}
+use Rattle.validate_types.specs.declared.heap.UnpackedIndex.{UnpackedIndex}
+use Rattle.validate_types.specs.declared.heap.UnpackedIndex.TheVariants.{Module}
+use Rattle.script_parts.specs.Access.{text_after, one_if_some}
 use Rattle.std.proofs.lemmas.List.{take-map, drop-map, length-map}
 use Rattle.std.proofs.lemmas.List.Sums.{split_at_first, passes_at_first}
 use Rattle.std.proofs.Math.ListN.{drop_of_length-le}
 use Rattle.std.proofs.lemmas.Option.{cond_some}
 use Rattle.std.proofs.lemmas.Slice.Eq.{bytes_eq-Decides}
 use Rattle.script_parts.proofs.Lists.{any-map, filter-map, position-map}
-use Rattle.script_parts.specs.Types.{other_marks, is_marked_shared}
+use Rattle.script_parts.specs.Types.{index_in_mark, other_marks, is_marked_shared}
 
 abbrev pub text_of : Bor (List ℕ) → List ℕ
 text_of word = word.now
@@ -71,3 +77,12 @@ none_onwards p words found e none =
     at false is lost =
         let past : length words ≤ position_or_len (λ w. p (text_of w)) words = search (arith) in
         drop_of_length-le (map text_of words) (subst (λ n. n ≤ position_or_len (λ w. p (text_of w)) words) (sym (length-map words text_of)) past)
+
+-- an index is given where the text of a mark gives one
+pub index_is_given : (prefix : List ℕ) (marks : List (List ℕ)) (index : Option UnpackedIndex) (some : Bool) (n : ℕ) → index ≡ index_in_mark prefix marks → some ≡ is_some index → n ≡ bool_byte some → one_if_some (text_after prefix marks) ≡ n
+index_is_given prefix marks index some n is_index is_there counts =
+    at (text_after prefix marks) ∙ sym (counts ∙ ap bool_byte (is_there ∙ ap is_some is_index))
+  where
+    at : (text : Option (List ℕ)) → one_if_some text ≡ bool_byte (is_some (option_map (λ digits. Module (digits_value 10 digits)) text))
+    at None = refl
+    at (Some digits) = refl

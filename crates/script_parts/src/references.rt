@@ -1,7 +1,7 @@
 //! Reference types by their names.
 
 ghost use Rattle.std.specs.Prelude.{◌≡◌, ◌≢◌, ◌++◌, IfNone, IfSome, codes, true};
-ghost use Rattle.validate_types.specs.Abstract.{plain_name, heap_name};
+ghost use Rattle.validate_types.specs.Abstract.{heap_name};
 ghost use Rattle.validate_types.specs.declared.heap.AbstractHeapType.{AbstractHeapType};
 ghost use Rattle.validate_types.specs.declared.heap.HeapType.{HeapType};
 ghost use Rattle.validate_types.specs.declared.refs.RefType.{RefType};
@@ -32,11 +32,11 @@ pub fn read_heap_type(word: &str) -> Option<HeapType>
     ensures named { IfSome result (λ ty. IsHeapName word.now ty) }
     ensures other { IfNone result ((ty : HeapType) → ¬ (IsHeapName word.now ty)) }
 {
-    if let Some(ty) = abstract_named(word) {
+    if let Some(ty) = abstract_named(word, false) {
         return Some(HeapType::Abstract { shared: false, ty });
     }
     if let Some(name) = word.strip_prefix("shared-") {
-        let ty = abstract_named(name)?;
+        let ty = abstract_named(name, false)?;
         return Some(HeapType::Abstract { shared: true, ty });
     }
     if let Some(digits) = word.strip_prefix("exact-") {
@@ -47,28 +47,35 @@ pub fn read_heap_type(word: &str) -> Option<HeapType>
     Some(HeapType::Concrete(UnpackedIndex::Module(index)))
 }
 
-/// The abstract heap type of this name.
-fn abstract_named(name: &str) -> Option<AbstractHeapType>
-    ensures named { IfSome result (λ ty. name.now ≡ plain_name ty) }
-    ensures other { IfNone result ((ty : AbstractHeapType) → name.now ≢ plain_name ty) }
+/// The abstract heap types.
+const ABSTRACT: &[AbstractHeapType] = &[
+    AbstractHeapType::Func,
+    AbstractHeapType::Extern,
+    AbstractHeapType::Any,
+    AbstractHeapType::None,
+    AbstractHeapType::NoExtern,
+    AbstractHeapType::NoFunc,
+    AbstractHeapType::Eq,
+    AbstractHeapType::Struct,
+    AbstractHeapType::Array,
+    AbstractHeapType::I31,
+    AbstractHeapType::Exn,
+    AbstractHeapType::NoExn,
+    AbstractHeapType::Cont,
+    AbstractHeapType::NoCont,
+];
+
+/// The abstract heap type that has this name in the text of a reference, of a nullable one or of another.
+fn abstract_named(name: &str, nullable: bool) -> Option<AbstractHeapType>
+    ensures named { IfSome result (λ ty. name.now ≡ heap_name nullable ty) }
+    ensures other { IfNone result ((ty : AbstractHeapType) → name.now ≢ heap_name nullable ty) }
 {
-    Some(match name {
-        "func" => AbstractHeapType::Func,
-        "extern" => AbstractHeapType::Extern,
-        "any" => AbstractHeapType::Any,
-        "none" => AbstractHeapType::None,
-        "noextern" => AbstractHeapType::NoExtern,
-        "nofunc" => AbstractHeapType::NoFunc,
-        "eq" => AbstractHeapType::Eq,
-        "struct" => AbstractHeapType::Struct,
-        "array" => AbstractHeapType::Array,
-        "i31" => AbstractHeapType::I31,
-        "exn" => AbstractHeapType::Exn,
-        "noexn" => AbstractHeapType::NoExn,
-        "cont" => AbstractHeapType::Cont,
-        "nocont" => AbstractHeapType::NoCont,
-        _ => return None,
-    })
+    for ty in ABSTRACT {
+        if ty.as_str(nullable) == name {
+            return Some(*ty);
+        }
+    }
+    None
 }
 
 /// The abstract heap type that the nullable reference of this short name points to.
@@ -76,21 +83,5 @@ fn abstract_of_reference(name: &str) -> Option<AbstractHeapType>
     ensures named { IfSome result (λ ty. name.now ≡ heap_name true ty ++ codes "ref") }
     ensures other { IfNone result ((ty : AbstractHeapType) → name.now ≢ heap_name true ty ++ codes "ref") }
 {
-    Some(match name {
-        "funcref" => AbstractHeapType::Func,
-        "externref" => AbstractHeapType::Extern,
-        "anyref" => AbstractHeapType::Any,
-        "nullref" => AbstractHeapType::None,
-        "nullexternref" => AbstractHeapType::NoExtern,
-        "nullfuncref" => AbstractHeapType::NoFunc,
-        "eqref" => AbstractHeapType::Eq,
-        "structref" => AbstractHeapType::Struct,
-        "arrayref" => AbstractHeapType::Array,
-        "i31ref" => AbstractHeapType::I31,
-        "exnref" => AbstractHeapType::Exn,
-        "nullexnref" => AbstractHeapType::NoExn,
-        "contref" => AbstractHeapType::Cont,
-        "nullcontref" => AbstractHeapType::NoCont,
-        _ => return None,
-    })
+    abstract_named(name.strip_suffix("ref")?, true)
 }

@@ -1,7 +1,7 @@
 //! What an operator takes and gives, as a value: the answer of a look-up.
 #![tactic(auto, using(crate::proofs::KnownRows::exchanges))]
 
-ghost use Rattle.std.specs.Prelude.{◌≡◌, IfOk};
+ghost use Rattle.std.specs.Prelude.{◌≡◌, [], ◌∷◌, IfOk};
 ghost use Rattle.std.specs.List.{AllByRecursion};
 ghost use Rattle.validate_resources.specs.Context.{Valid};
 ghost use Rattle.validation_rules.specs.Context.{Context};
@@ -10,7 +10,7 @@ ghost use Rattle.validation_rules.specs.Rows.{Row};
 ghost use Rattle.validate_shapes.specs.Operands.{expected_types, operands_row, AreValidExpected, AreValidOperands, Finds};
 ghost use Rattle.validate_stacks.specs.Bodies.{MayBegin, Makes};
 
-use crate::plain::plain;
+use crate::plain::{none_for_both, one_for_both, one_for_one, plain};
 use validate_resources::WasmModuleResources;
 use validate_stacks::Body;
 use validate_types::{FieldType, Refused, ValType};
@@ -107,6 +107,43 @@ fn operands_giving<A: Refused, R: WasmModuleResources>(
     }
 }
 
+/// `[expected] -> []`
+#[inline(always)]
+fn operands_gone<A: Refused, R: WasmModuleResources>(
+    body: Body<'_, '_, R>,
+    expected: Expected<'_>,
+) -> Result<(), A>
+    requires visit { MayBegin R.context body }
+    requires expected { AreValidExpected (R.context body.resources.now) expected }
+    ensures { Makes R.context A.tells (λ cx. row_operator (plain_row (expected_types expected.entry)
+        [])) body.entry result body.exit }
+{
+    match expected {
+        Expected::Few(Few::Two(a, b)) => none_for_both(body, a, b),
+        other => operands_giving(body, other, &[]),
+    }
+}
+
+/// `[expected] -> [pushed]`, where one is given.
+#[inline(always)]
+fn operands_giving_one<A: Refused, R: WasmModuleResources>(
+    body: Body<'_, '_, R>,
+    expected: Expected<'_>,
+    pushed: ValType,
+) -> Result<(), A>
+    requires visit { MayBegin R.context body }
+    requires expected { AreValidExpected (R.context body.resources.now) expected }
+    requires pushed { Valid (R.context body.resources.now) pushed }
+    ensures { Makes R.context A.tells (λ cx. row_operator (plain_row (expected_types expected.entry)
+        (pushed ∷ []))) body.entry result body.exit }
+{
+    match expected {
+        Expected::Few(Few::One(a)) => one_for_one(body, a, pushed),
+        Expected::Few(Few::Two(a, b)) => one_for_both(body, a, b, pushed),
+        other => operands_giving(body, other, &[pushed]),
+    }
+}
+
 /// `[expected] -> [pushed]`. It is inlined, so that of a value that is known nothing lies in memory.
 #[inline(always)]
 pub fn exchange_operands<A: Refused, R: WasmModuleResources>(
@@ -119,8 +156,8 @@ pub fn exchange_operands<A: Refused, R: WasmModuleResources>(
         result body.exit }
 {
     match operands.pushed {
-        Pushed::Nothing => operands_giving(body, operands.expected, &[]),
-        Pushed::One(ty) => operands_giving(body, operands.expected, &[ty]),
+        Pushed::Nothing => operands_gone(body, operands.expected),
+        Pushed::One(ty) => operands_giving_one(body, operands.expected, ty),
         Pushed::Listed(types) => operands_giving(body, operands.expected, types),
     }
 }

@@ -67,6 +67,78 @@ pub fn unary<A: Refused, R: WasmModuleResources>(
     plain(body, &[expected], &[pushed])
 }
 
+/// `[expected] -> [pushed]` of any types. An operand that is known to be of that type, be it that a reference is exact in
+/// it or without null, is exchanged without a call.
+#[inline(always)]
+pub fn one_for_one<A: Refused, R: WasmModuleResources>(
+    body: Body<'_, '_, R>,
+    expected: ValType,
+    pushed: ValType,
+) -> Result<(), A>
+    requires visit { MayBegin R.context body }
+    requires expected { Valid (R.context body.resources.now) expected }
+    requires pushed { Valid (R.context body.resources.now) pushed }
+    ensures { Makes R.context A.tells (λ cx. row_operator (plain_row (expected ∷ []) (pushed ∷ [])))
+        body.entry result body.exit }
+{
+    let resources = body.resources;
+    if body
+        .stacks
+        .exchange_known_at_once(resources, &[expected], Some(pushed))
+    {
+        return Ok(());
+    }
+    plain(body, &[expected], &[pushed])
+}
+
+/// `[low top] -> [pushed]` of any types, as [`one_for_one`].
+#[inline(always)]
+pub fn one_for_both<A: Refused, R: WasmModuleResources>(
+    body: Body<'_, '_, R>,
+    low: ValType,
+    top: ValType,
+    pushed: ValType,
+) -> Result<(), A>
+    requires visit { MayBegin R.context body }
+    requires low { Valid (R.context body.resources.now) low }
+    requires top { Valid (R.context body.resources.now) top }
+    requires pushed { Valid (R.context body.resources.now) pushed }
+    ensures { Makes R.context A.tells (λ cx. row_operator (plain_row (low ∷ top ∷ []) (pushed ∷ [])))
+        body.entry result body.exit }
+{
+    let resources = body.resources;
+    if body
+        .stacks
+        .exchange_known_at_once(resources, &[low, top], Some(pushed))
+    {
+        return Ok(());
+    }
+    plain(body, &[low, top], &[pushed])
+}
+
+/// `[low top] -> []` of any types, as [`one_for_one`].
+#[inline(always)]
+pub fn none_for_both<A: Refused, R: WasmModuleResources>(
+    body: Body<'_, '_, R>,
+    low: ValType,
+    top: ValType,
+) -> Result<(), A>
+    requires visit { MayBegin R.context body }
+    requires low { Valid (R.context body.resources.now) low }
+    requires top { Valid (R.context body.resources.now) top }
+    ensures { Makes R.context A.tells (λ cx. row_operator (plain_row (low ∷ top ∷ []) [])) body.entry
+        result body.exit }
+{
+    let resources = body.resources;
+    if body
+        .stacks
+        .exchange_known_at_once(resources, &[low, top], None)
+    {
+        return Ok(());
+    }
+    plain(body, &[low, top], &[])
+}
+
 /// `[expected expected] -> [pushed]` of numbers or vectors. The lists of the call are constants, so that none lies in
 /// memory.
 #[inline(always)]

@@ -66,6 +66,44 @@ impl Stacks {
         true
     }
 
+    /// [`Body::exchange_types`] of some expected types, where no attempt is pending: the innermost frame has as many own
+    /// operands, known to be of these types, be it that a reference is exact in its type or without null. False, with
+    /// nothing changed, where that isn't so. It makes no call.
+    #[inline(always)]
+    pub fn exchange_known_at_once<R: WasmModuleResources>(
+        &mut self,
+        resources: &R,
+        expected: &[ValType],
+        pushed: Option<ValType>,
+    ) -> bool
+        requires types { AllByRecursion (Valid (R.context resources.now)) expected.now }
+        requires state { IsValidBody (R.context resources.now) self.old.body }
+        ensures exact { MatchBool result
+            (option_map (body_pushed_each (pushed_list pushed))
+            (body_popped_each (R.context resources.now) (reverse expected.now) self.old.body) ≡ Some self.new.body)
+            (self.new ≡ self.old) }
+        ensures phase { phase_moved self.new.phase ≡ phase_moved self.old.phase }
+    {
+        let count = expected.len();
+        if count == 0 || self.is_pending() {
+            return false;
+        }
+        if !self.has_own(count) {
+            return false;
+        }
+        if !self.has_known(resources, expected) {
+            return false;
+        }
+        match pushed {
+            Some(ty) => {
+                self.drop_operands(count - 1);
+                self.replace_operand(MaybeType::Known(ty));
+            }
+            None => self.drop_operands(count),
+        }
+        true
+    }
+
     /// Whether the operand that is found is an own one of the innermost frame, and known to be of this number or vector type,
     /// while no attempt is pending: then a pop and a push of the type leave what there is.
     #[inline(always)]

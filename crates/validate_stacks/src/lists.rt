@@ -10,7 +10,7 @@ ghost use Rattle.validate_stacks.specs.State.{IsValidBody, body_context};
 ghost use Rattle.validate_stacks.specs.Pops.{body_pushed_each, has_operands_fitting, may_pop};
 ghost use Rattle.validate_stacks.specs.Steps.{innermost_operands, found_after_pops_in_body};
 
-use crate::pops::{fits_at_once, is_known_number};
+use crate::pops::{fits_at_once, is_known_as, is_known_number};
 use crate::stacks::Stacks;
 use validate_resources::WasmModuleResources;
 use validate_types::{MaybeType, ValType};
@@ -90,6 +90,51 @@ impl Stacks {
             }
         }
         true
+    }
+
+    /// Whether the top own operands of the innermost frame, which has so many at least, are known to be of these types, be
+    /// it that a reference is exact in its type or without null; the last of the list on top. No call is made.
+    #[inline(always)]
+    pub(crate) fn has_known<R: WasmModuleResources>(
+        &self,
+        resources: &R,
+        expected: &[ValType],
+    ) -> bool
+        requires own { length expected.now ≤ length (innermost_operands self.now.body.present.frames) }
+        requires types { AllByRecursion (Valid (R.context resources.now)) expected.now }
+        ensures { result ≡ true → has_operands_fitting
+            (body_context (R.context resources.now) self.now.body) expected.now self.now.body ≡ true }
+    {
+        let mut left = expected.len();
+        while left > 0 {
+            left -= 1;
+            if !self.is_known_at(resources, expected.len() - 1 - left, &expected[left]) {
+                return false;
+            }
+        }
+        true
+    }
+
+    /// Whether the own operand of the innermost frame at this depth is known to be of this type, be it that a reference
+    /// is exact in its type or without null.
+    #[inline(always)]
+    fn is_known_at<R: WasmModuleResources>(
+        &self,
+        resources: &R,
+        depth: usize,
+        expected: &ValType,
+    ) -> bool
+        requires own { depth < length (innermost_operands self.now.body.present.frames) }
+        requires expected { Valid (R.context resources.now) expected.now }
+        ensures { result ≡ true → may_pop (body_context (R.context resources.now) self.now.body)
+            (found_after_pops_in_body depth self.now.body) (Some expected.now) ≡ true }
+    {
+        // The contract alone reads it.
+        let _resources = resources;
+        match self.own_operand(depth) {
+            Some(operand) => is_known_as(operand, expected),
+            None => false,
+        }
     }
 
     /// Whether the own operand of the innermost frame at this depth is known to be of this number or vector type.

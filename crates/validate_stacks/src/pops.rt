@@ -9,13 +9,15 @@ ghost use Rattle.validation_rules.specs.Valid.{IsValidOperand};
 ghost use Rattle.validate_stacks.specs.Attempts.{phase_moved};
 ghost use Rattle.validate_stacks.specs.State.{IsValidBody, body_context};
 ghost use Rattle.validate_stacks.specs.Names.{place_of, type_name};
-ghost use Rattle.validate_stacks.specs.Pops.{may_pop, FitsAtOnce, Popped};
+ghost use Rattle.validate_stacks.specs.Pops.{may_pop, FitsAtOnce, IsKnownAs, IsToSame, Popped};
 ghost use Rattle.validate_stacks.specs.Steps.{found_in_body, body_popped};
 
 use crate::stacks::Stacks;
 use std::alloc::Global;
 use validate_resources::WasmModuleResources;
-use validate_types::{AbstractHeapType, Error, HeapType, MaybeType, RefType, Refusal, ValType};
+use validate_types::{
+    AbstractHeapType, Error, HeapType, MaybeType, RefType, Refusal, UnpackedIndex, ValType,
+};
 
 /// The name of a type in a refusal (wasmparser's `ty_to_str`).
 pub fn ty_to_str(ty: ValType) -> &'static str
@@ -161,6 +163,52 @@ pub(crate) fn is_known_number(operand: &MaybeType, expected: ValType) -> bool
 {
     match operand {
         MaybeType::Known(found) => is_same_number(*found, expected),
+        _ => false,
+    }
+}
+
+/// Whether the operand is known to be of this type, be it that a reference is exact in its type or without null.
+#[inline(always)]
+pub(crate) fn is_known_as(operand: &MaybeType, expected: &ValType) -> bool
+    ensures { result ≡ true → IsKnownAs operand.now expected.now }
+{
+    match (operand, expected) {
+        (MaybeType::Known(ValType::Ref(found)), ValType::Ref(expected)) => {
+            (expected.nullable || !found.nullable)
+                && is_to_same(found.heap_type, expected.heap_type)
+        }
+        (MaybeType::Known(found), _) => is_same_number(*found, *expected),
+        _ => false,
+    }
+}
+
+/// Whether it is the expected type, or exact in that.
+#[inline(always)]
+fn is_to_same(found: HeapType, expected: HeapType) -> bool
+    ensures { result ≡ true → IsToSame found expected }
+{
+    match (found, expected) {
+        (HeapType::Concrete(found), HeapType::Concrete(expected)) => is_same_id(found, expected),
+        (HeapType::Exact(found), HeapType::Concrete(expected)) => is_same_id(found, expected),
+        (HeapType::Exact(found), HeapType::Exact(expected)) => is_same_id(found, expected),
+        (
+            HeapType::Abstract {
+                shared: found_shared,
+                ty: found,
+            },
+            HeapType::Abstract { shared, ty },
+        ) => found_shared == shared && found == ty,
+        _ => false,
+    }
+}
+
+/// Whether this is twice the same id.
+#[inline(always)]
+fn is_same_id(found: UnpackedIndex, expected: UnpackedIndex) -> bool
+    ensures { result ≡ true → found ≡ expected }
+{
+    match (found, expected) {
+        (UnpackedIndex::Id(found), UnpackedIndex::Id(expected)) => found.index == expected.index,
         _ => false,
     }
 }

@@ -13,7 +13,7 @@ ghost use Rattle.validate_stacks.specs.Bodies.{context_of, MayBegin, Makes};
 use validate_resources::WasmModuleResources;
 use validate_resources::uses::laws;
 use validate_shapes::canonical::canonical_ref;
-use validate_shapes::plain::plain;
+use validate_shapes::plain::one_for_one;
 use validate_stacks::Body;
 use validate_stacks::blocks::label_types;
 use validate_types::{AbstractHeapType, HeapType, MaybeType, RefType, Refusal, Refused, ValType};
@@ -101,7 +101,7 @@ pub fn ref_test<A: Refused, R: WasmModuleResources>(
 {
     let ty = cast_type(&body, nullable, *heap_type)?;
     let operand = operand_of_cast(body.resources, ty);
-    plain(body, &[operand], &[ValType::I32])
+    one_for_one(body, operand, ValType::I32)
 }
 
 /// `ref.cast`: `[(ref null top)] -> [t]`, with the top type of the hierarchy of the type t cast to.
@@ -117,7 +117,7 @@ pub fn ref_cast<A: Refused, R: WasmModuleResources>(
 {
     let ty = cast_type(&body, nullable, *heap_type)?;
     let operand = operand_of_cast(body.resources, ty);
-    plain(body, &[operand], &[ValType::Ref(ty)])
+    one_for_one(body, operand, ValType::Ref(ty))
 }
 
 /// Whether both are one abstract type, as top types are.

@@ -18,4 +18,4 @@ returns g c =
     let md = g.R.WasmModuleResources.context c.args.body.resources.now in
     let v = c.args.body.stacks.now.body in
     let row = ap (λ o. lookup_row o (λ r. plain_row (cast_operand md r ∷ []) (Ref r ∷ []))) c.in_ok-ty.ensures.found ∙ ap (λ t. plain_row (t ∷ []) (Ref c.in_ok-ty.ty ∷ [])) (sym c.operand_of_cast-operand.ensures.exact) in
-    moves_found md _ c.args.body.stacks.now (λ cx hs. ref_cast_row cx c.args.nullable c.args.heap_type.now) _ (λ cx hs. plain_row (c.operand_of_cast-operand.result ∷ []) (Ref c.in_ok-ty.ty ∷ [])) _ row c.plain.ensures
+    moves_found md _ c.args.body.stacks.now (λ cx hs. ref_cast_row cx c.args.nullable c.args.heap_type.now) _ (λ cx hs. plain_row (c.operand_of_cast-operand.result ∷ []) (Ref c.in_ok-ty.ty ∷ [])) _ row c.one_for_one.ensures

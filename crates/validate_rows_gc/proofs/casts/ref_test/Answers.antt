@@ -18,4 +18,4 @@ returns g c =
     let md = g.R.WasmModuleResources.context c.args.body.resources.now in
     let v = c.args.body.stacks.now.body in
     let row = ap (λ o. lookup_row o (λ r. plain_row (cast_operand md r ∷ []) (I32 ∷ []))) c.in_ok-ty.ensures.found ∙ ap (λ t. plain_row (t ∷ []) (I32 ∷ [])) (sym c.operand_of_cast-operand.ensures.exact) in
-    moves_found md _ c.args.body.stacks.now (λ cx hs. ref_test_row cx c.args.nullable c.args.heap_type.now) _ (λ cx hs. plain_row (c.operand_of_cast-operand.result ∷ []) (I32 ∷ [])) _ row c.plain.ensures
+    moves_found md _ c.args.body.stacks.now (λ cx hs. ref_test_row cx c.args.nullable c.args.heap_type.now) _ (λ cx hs. plain_row (c.operand_of_cast-operand.result ∷ []) (I32 ∷ [])) _ row c.one_for_one.ensures

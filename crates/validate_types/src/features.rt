@@ -320,6 +320,7 @@ impl WasmFeatures {
     }
 
     /// Ok exactly where the gate of the reference type is open, else the text of the refusal.
+    #[inline(always)]
     pub fn check_ref_type(self, ty: RefType) -> Result<(), &'static str>
         ensures { is_ok result ≡ is_ref_enabled self ty }
     {
@@ -345,6 +346,7 @@ impl WasmFeatures {
     }
 
     /// The same of an unshared abstract type, by whether the reference to it is nullable.
+    #[inline(always)]
     fn check_abstract_type(self, nullable: bool, ty: AbstractHeapType) -> Result<(), &'static str>
         ensures { is_ok result ≡ is_abstract_enabled self nullable ty }
     {

@@ -97,5 +97,12 @@ fn any_local_tee<A: Refused, R: WasmModuleResources>(
     if body.stacks.is_uninit(local_index) {
         return body.exchange_setting(local_index, ty, &[ty]);
     }
+    let resources = body.resources;
+    if body
+        .stacks
+        .exchange_known_at_once(resources, &[ty], Some(ty))
+    {
+        return Ok(());
+    }
     body.exchange_types(&[ty], &[ty])
 }

@@ -1,6 +1,13 @@
-use Rattle.std.proofs.Common.{rules, [], ◌∷◌, refl, sym, ◌∙◌}
-use Rattle.validate_resources.specs.Context.{Valid}
-use Rattle.validate_stacks.specs.Moves.{body_set_then}
+use Rattle.std.proofs.Common.{rules, ◌≡◌, List, [], ◌∷◌, Some, Result, Ok, refl, sym, subst, ◌∙◌}
+use Rattle.std.specs.Option.{option_map}
+use Rattle.validate_resources.specs.Context.{ModuleContext, Valid}
+use Rattle.validate_types.specs.declared.types.ValType.{ValType}
+use Rattle.validation_rules.specs.Operators.{row_operator, local_tee_row}
+use Rattle.validate_stacks.specs.Attempts.{Stacked}
+use Rattle.validate_stacks.specs.Moves.{body_set_then, Exchanges}
+use Rattle.validate_stacks.specs.Pops.{body_popped_each, body_pushed_each}
+use Rattle.validate_stacks.proofs.AtOnce.{was_made, was_not_made}
+use Rattle.validate_stacks.proofs.Moves.{takes_done}
 use Rattle.validate_shapes.proofs.LastSteps.{all_get, not_false}
 use Rattle.validate_shapes.proofs.Moves.{unmoved, takes_moves, exchange_moves}
 use Rattle.validate_shapes.proofs.Rows.{no_local_tee, local_tee_is}
@@ -11,6 +18,10 @@ use Rattle.validate_rows.proofs.variables.any_local_tee.Goals as goal
 
 good : (g : Over) (c : In_ok-ty g) → Valid (g.R.WasmModuleResources.context c.args.body.resources.now) c.in_ok-ty.field-0.now
 good g c = all_get (Valid (g.R.WasmModuleResources.context c.args.body.resources.now)) c.args.body.stacks.now.body.locals c.args.local_index c.in_ok-ty.field-0.now c.in_ok-ty.ensures.found c.requires.valid.locals_valid
+
+-- after what changed nothing
+from_same : {E : Type 0} (md : ModuleContext) (tells : E → Type 0) (ws ts : List ValType) (s u : Stacked) → s ≡ u → (r : Result (Unit {0}) E) (w : Stacked) → Exchanges md tells ws ts s r w → Exchanges md tells ws ts u r w
+from_same md tells ws ts s u e r w x = subst (λ t. Exchanges md tells ws ts t r w) e x
 
 pub returns-in_err-ty : goal.returns-in_err-ty
 returns-in_err-ty g c =
@@ -27,6 +38,19 @@ returns-then-is_uninit g c =
     let i = c.args.local_index in
     takes_moves md _ _ c.args.body.stacks.now _ (c.in_ok-ty.field-0.now ∷ []) (body_set_then i (c.in_ok-ty.field-0.now ∷ [])) (local_tee_is md c.args.body.stacks.now.body i c.in_ok-ty.field-0.now c.in_ok-ty.ensures.found c.requires.open_frame) (set_then_valid md i (c.in_ok-ty.field-0.now ∷ []) (good g at, tt)) (set_then_kept md i (c.in_ok-ty.field-0.now ∷ [])) c.requires.valid _ c.exchange_setting.ensures
 
+pub exchange_known_at_once-requires-clause-types : goal.exchange_known_at_once-requires-clause-types
+exchange_known_at_once-requires-clause-types g c = (good g (goal.at.exchange_known_at_once-requires-clause-types g c).In_ok-ty, tt)
+
+pub returns-then-exchange_known_at_once : goal.returns-then-exchange_known_at_once
+returns-then-exchange_known_at_once g c =
+    let md = g.R.WasmModuleResources.context c.args.body.resources.now in
+    let v = c.args.body.stacks.now.body in
+    let ty = c.in_ok-ty.field-0.now in
+    let set = not_false _ (sym c.is_uninit.ensures ∙ c.if-is_uninit.false) in
+    let is = local_tee_is md v c.args.local_index ty c.in_ok-ty.ensures.found c.requires.open_frame ∙ taken_set md (ty ∷ []) c.args.local_index (ty ∷ []) v set in
+    let exact = was_made _ c.exchange_known_at_once.result c.if-exchange_known_at_once.true c.exchange_known_at_once.ensures.exact in
+    exchange_moves md _ _ c.args.body.stacks.now _ (ty ∷ []) (ty ∷ []) is (good g (goal.at.returns-then-exchange_known_at_once g c).In_ok-ty, tt) c.requires.valid (Ok tt) (takes_done md _ (ty ∷ []) (body_pushed_each (ty ∷ [])) c.args.body.stacks.now _ exact)
+
 pub exchange_types-requires-clause-types : goal.exchange_types-requires-clause-types
 exchange_types-requires-clause-types g c = (good g (goal.at.exchange_types-requires-clause-types g c).In_ok-ty, tt)
 
@@ -38,4 +62,5 @@ returns g c =
     let ty = c.in_ok-ty.field-0.now in
     let set = not_false _ (sym c.is_uninit.ensures ∙ c.if-is_uninit.false) in
     let is = local_tee_is md v c.args.local_index ty c.in_ok-ty.ensures.found c.requires.open_frame ∙ taken_set md (ty ∷ []) c.args.local_index (c.in_ok-ty.field-0.now ∷ []) v set in
-    exchange_moves md _ _ c.args.body.stacks.now _ (ty ∷ []) (c.in_ok-ty.field-0.now ∷ []) is (good g (goal.at.returns g c).In_ok-ty, tt) c.requires.valid _ c.exchange_types.ensures
+    let same = was_not_made (option_map (body_pushed_each (ty ∷ [])) (body_popped_each md (ty ∷ []) v) ≡ Some c.exchange_known_at_once.new.self.body) c.exchange_known_at_once.result c.if-exchange_known_at_once.false c.exchange_known_at_once.ensures.exact in
+    exchange_moves md _ (λ cx. row_operator (local_tee_row cx c.args.local_index)) c.args.body.stacks.now _ (ty ∷ []) (c.in_ok-ty.field-0.now ∷ []) is (good g (goal.at.returns g c).In_ok-ty, tt) c.requires.valid _ (from_same md g.A.Refused.tells (ty ∷ []) (ty ∷ []) _ _ same _ _ c.exchange_types.ensures)

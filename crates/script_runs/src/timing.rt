@@ -158,11 +158,11 @@ fn visit_each<R: WasmModuleResources>(
     requires { IsStarting (R.context resources.now) (state validator.old) }
 {
     for pair in ops {
-        let (op, offset) = *pair;
+        let (op, offset) = pair;
         if validator.control_stack_height() == 0 {
             return false;
         }
-        if !is_visited(validator, resources, offset, op, false) {
+        if !is_visited(validator, resources, *offset, op, false) {
             return false;
         }
     }
@@ -179,40 +179,40 @@ fn attempt_each<R: WasmModuleResources>(
     requires { IsStarting (R.context resources.now) (state validator.old) }
 {
     for (pair, attempted) in ops.iter().zip(attempts) {
-        let (op, offset) = *pair;
+        let (op, offset) = pair;
         if validator.control_stack_height() == 0 {
             return false;
         }
-        if !is_visited(validator, resources, offset, op, *attempted) {
+        if !is_visited(validator, resources, *offset, op, *attempted) {
             return false;
         }
     }
     validator.control_stack_height() == 0
 }
 
-/// Visits one operator, or attempts it: whether it was accepted. Of the answer nothing else is kept.
+/// Visits one operator where it lies, or attempts it: whether it was accepted. Of the answer nothing else is kept.
 #[inline(always)]
 fn is_visited<R: WasmModuleResources>(
     validator: &mut OperatorValidator,
     resources: &R,
     offset: u64,
-    op: Op<'_>,
+    op: &Op<'_>,
     attempted: bool,
 ) -> bool
     requires idle { (state validator.old).undone ≡ None }
     requires visit { MayVisit (R.context resources.now) (stacks_of validator.old) }
-    ensures accepted { result ≡ true → Meets (R.context resources.now) (λ cx. operator cx op.entry) offset
+    ensures accepted { result ≡ true → Meets (R.context resources.now) (λ cx. operator cx op.now) offset
         (state validator.old) (Ok tt) (state validator.new) }
     ensures valid { IsValidBody (R.context resources.now) (state validator.new) }
     ensures kept { IsKept (state validator.old) (state validator.new) }
 {
     if attempted {
-        return match try_op(validator, resources, offset, op) {
+        return match try_op(validator, resources, offset, *op) {
             Ok(()) => true,
             Err(_) => false,
         };
     }
-    match validator.check(resources, offset, op) {
+    match validator.check_ref(resources, offset, op) {
         Ok(()) => true,
         Err(_) => false,
     }

@@ -1,5 +1,5 @@
 -- Operators on locals: what is taken, and the local that is set.
-use Rattle.std.proofs.Common.{◌≡◌, ◌≢◌, ℕ, Bool, true, false, [], ◌∷◌, List, Option, Some, None, slice_get, if◌then◌else◌, refl, sym, ap, ap₂, ◌∙◌}
+use Rattle.std.proofs.Common.{◌≡◌, ◌≢◌, ℕ, Bool, true, false, [], ◌∷◌, List, Option, Some, None, Result, slice_get, if◌then◌else◌, refl, sym, ap, ap₂, subst, ◌∙◌}
 use Rattle.std.specs.List.{AllByRecursion}
 use Rattle.std.specs.Option.{option_map}
 use Rattle.validate_resources.specs.Context.{ModuleContext, Valid}
@@ -7,7 +7,8 @@ use Rattle.validate_types.specs.declared.types.ValType.{ValType}
 use Rattle.validation_rules.specs.Operators.{row_operator, plain_row, local_get_row}
 use Rattle.validation_rules.specs.Rows.{guard}
 use Rattle.validation_rules.specs.Static.{is_local_set, locals_set}
-use Rattle.validate_stacks.specs.Moves.{body_set_then}
+use Rattle.validate_stacks.specs.Attempts.{Stacked}
+use Rattle.validate_stacks.specs.Moves.{body_set_then, Exchanges}
 use Rattle.validate_stacks.specs.Pops.{IsKept, body_popped_each, body_pushed_each}
 use Rattle.validate_stacks.specs.State.{BodyState, IsValidBody, body_with_frames}
 use Rattle.validate_stacks.specs.Steps.{body_with_local_set, frames_first_setting}
@@ -57,3 +58,7 @@ pub get_is : (md : ModuleContext) (v : BodyState) (i : ℕ) (t : ValType) → sl
 get_is md v i t found set open_frame =
     local_get_is md v i t found open_frame ∙ ap (λ b. guard b (Some (body_pushed_each (t ∷ []) v))) set
     ∙ sym (plain_is md v [] (t ∷ []) open_frame ∙ ap (option_map (body_pushed_each (t ∷ []))) (popped_none md v))
+
+-- an exchange after what changed nothing
+pub from_same : {E : Type 0} (md : ModuleContext) (tells : E → Type 0) (ws ts : List ValType) (s u : Stacked) → s ≡ u → (r : Result (Unit {0}) E) (w : Stacked) → Exchanges md tells ws ts s r w → Exchanges md tells ws ts u r w
+from_same md tells ws ts s u e r w x = subst (λ t. Exchanges md tells ws ts t r w) e x

@@ -59,6 +59,10 @@ fn any_local_set<A: Refused, R: WasmModuleResources>(
     if body.stacks.is_uninit(local_index) {
         return body.exchange_setting(local_index, ty, &[]);
     }
+    let resources = body.resources;
+    if body.stacks.exchange_known_at_once(resources, &[ty], None) {
+        return Ok(());
+    }
     body.exchange_types(&[ty], &[])
 }
 

@@ -188,9 +188,8 @@ fn is_to_same(found: HeapType, expected: HeapType) -> bool
     ensures { result ≡ true → IsToSame found expected }
 {
     match (found, expected) {
-        (HeapType::Concrete(found), HeapType::Concrete(expected)) => is_same_id(found, expected),
-        (HeapType::Exact(found), HeapType::Concrete(expected)) => is_same_id(found, expected),
-        (HeapType::Exact(found), HeapType::Exact(expected)) => is_same_id(found, expected),
+        (HeapType::Concrete(found) | HeapType::Exact(found), HeapType::Concrete(expected))
+        | (HeapType::Exact(found), HeapType::Exact(expected)) => is_same_id(found, expected),
         (
             HeapType::Abstract {
                 shared: found_shared,

@@ -1,10 +1,15 @@
-use Rattle.std.proofs.Common.{rules, [], ◌∷◌, refl, sym, ◌∙◌}
+use Rattle.std.proofs.Common.{rules, ◌≡◌, [], ◌∷◌, Some, Ok, refl, sym, ◌∙◌}
+use Rattle.std.specs.Option.{option_map}
 use Rattle.validate_resources.specs.Context.{Valid}
+use Rattle.validation_rules.specs.Operators.{row_operator, local_set_row}
 use Rattle.validate_stacks.specs.Moves.{body_set_then}
+use Rattle.validate_stacks.specs.Pops.{body_popped_each, body_pushed_each}
+use Rattle.validate_stacks.proofs.AtOnce.{was_made, was_not_made}
+use Rattle.validate_stacks.proofs.Moves.{takes_done}
 use Rattle.validate_shapes.proofs.LastSteps.{all_get, not_false}
 use Rattle.validate_shapes.proofs.Moves.{unmoved, takes_moves, exchange_moves}
 use Rattle.validate_shapes.proofs.Rows.{no_local_set, local_set_is}
-use Rattle.validate_rows.proofs.Locals.{set_then_valid, set_then_kept, taken_set}
+use Rattle.validate_rows.proofs.Locals.{from_same, set_then_valid, set_then_kept, taken_set}
 use Rattle.validate_rows.proofs.variables.any_local_set.Given.{Over}
 use Rattle.validate_rows.proofs.variables.any_local_set.Goals.{In_ok-ty}
 use Rattle.validate_rows.proofs.variables.any_local_set.Goals as goal
@@ -27,6 +32,19 @@ returns-then-is_uninit g c =
     let i = c.args.local_index in
     takes_moves md _ _ c.args.body.stacks.now _ (c.in_ok-ty.field-0.now ∷ []) (body_set_then i []) (local_set_is md c.args.body.stacks.now.body i c.in_ok-ty.field-0.now c.in_ok-ty.ensures.found c.requires.open_frame) (set_then_valid md i [] tt) (set_then_kept md i []) c.requires.valid _ c.exchange_setting.ensures
 
+pub exchange_known_at_once-requires-clause-types : goal.exchange_known_at_once-requires-clause-types
+exchange_known_at_once-requires-clause-types g c = (good g (goal.at.exchange_known_at_once-requires-clause-types g c).In_ok-ty, tt)
+
+pub returns-then-exchange_known_at_once : goal.returns-then-exchange_known_at_once
+returns-then-exchange_known_at_once g c =
+    let md = g.R.WasmModuleResources.context c.args.body.resources.now in
+    let v = c.args.body.stacks.now.body in
+    let ty = c.in_ok-ty.field-0.now in
+    let set = not_false _ (sym c.is_uninit.ensures ∙ c.if-is_uninit.false) in
+    let is = local_set_is md v c.args.local_index ty c.in_ok-ty.ensures.found c.requires.open_frame ∙ taken_set md (ty ∷ []) c.args.local_index [] v set in
+    let exact = was_made _ c.exchange_known_at_once.result c.if-exchange_known_at_once.true c.exchange_known_at_once.ensures.exact in
+    exchange_moves md _ _ c.args.body.stacks.now _ (ty ∷ []) [] is tt c.requires.valid (Ok tt) (takes_done md _ (ty ∷ []) (body_pushed_each []) c.args.body.stacks.now _ exact)
+
 pub exchange_types-requires-clause-types : goal.exchange_types-requires-clause-types
 exchange_types-requires-clause-types g c = (good g (goal.at.exchange_types-requires-clause-types g c).In_ok-ty, tt)
 
@@ -38,4 +56,5 @@ returns g c =
     let ty = c.in_ok-ty.field-0.now in
     let set = not_false _ (sym c.is_uninit.ensures ∙ c.if-is_uninit.false) in
     let is = local_set_is md v c.args.local_index ty c.in_ok-ty.ensures.found c.requires.open_frame ∙ taken_set md (ty ∷ []) c.args.local_index [] v set in
-    exchange_moves md _ _ c.args.body.stacks.now _ (ty ∷ []) [] is tt c.requires.valid _ c.exchange_types.ensures
+    let same = was_not_made (option_map (body_pushed_each []) (body_popped_each md (ty ∷ []) v) ≡ Some c.exchange_known_at_once.new.self.body) c.exchange_known_at_once.result c.if-exchange_known_at_once.false c.exchange_known_at_once.ensures.exact in
+    exchange_moves md _ (λ cx. row_operator (local_set_row cx c.args.local_index)) c.args.body.stacks.now _ (ty ∷ []) [] is tt c.requires.valid _ (from_same md g.A.Refused.tells (ty ∷ []) [] _ _ same _ _ c.exchange_types.ensures)

@@ -1,27 +1,21 @@
-use Rattle.std.proofs.Common.{rules, ◌≡◌, List, [], ◌∷◌, Some, Result, Ok, refl, sym, subst, ◌∙◌}
+use Rattle.std.proofs.Common.{rules, ◌≡◌, [], ◌∷◌, Some, Ok, refl, sym, ◌∙◌}
 use Rattle.std.specs.Option.{option_map}
-use Rattle.validate_resources.specs.Context.{ModuleContext, Valid}
-use Rattle.validate_types.specs.declared.types.ValType.{ValType}
+use Rattle.validate_resources.specs.Context.{Valid}
 use Rattle.validation_rules.specs.Operators.{row_operator, local_tee_row}
-use Rattle.validate_stacks.specs.Attempts.{Stacked}
-use Rattle.validate_stacks.specs.Moves.{body_set_then, Exchanges}
+use Rattle.validate_stacks.specs.Moves.{body_set_then}
 use Rattle.validate_stacks.specs.Pops.{body_popped_each, body_pushed_each}
 use Rattle.validate_stacks.proofs.AtOnce.{was_made, was_not_made}
 use Rattle.validate_stacks.proofs.Moves.{takes_done}
 use Rattle.validate_shapes.proofs.LastSteps.{all_get, not_false}
 use Rattle.validate_shapes.proofs.Moves.{unmoved, takes_moves, exchange_moves}
 use Rattle.validate_shapes.proofs.Rows.{no_local_tee, local_tee_is}
-use Rattle.validate_rows.proofs.Locals.{set_then_valid, set_then_kept, taken_set}
+use Rattle.validate_rows.proofs.Locals.{from_same, set_then_valid, set_then_kept, taken_set}
 use Rattle.validate_rows.proofs.variables.any_local_tee.Given.{Over}
 use Rattle.validate_rows.proofs.variables.any_local_tee.Goals.{In_ok-ty}
 use Rattle.validate_rows.proofs.variables.any_local_tee.Goals as goal
 
 good : (g : Over) (c : In_ok-ty g) → Valid (g.R.WasmModuleResources.context c.args.body.resources.now) c.in_ok-ty.field-0.now
 good g c = all_get (Valid (g.R.WasmModuleResources.context c.args.body.resources.now)) c.args.body.stacks.now.body.locals c.args.local_index c.in_ok-ty.field-0.now c.in_ok-ty.ensures.found c.requires.valid.locals_valid
-
--- after what changed nothing
-from_same : {E : Type 0} (md : ModuleContext) (tells : E → Type 0) (ws ts : List ValType) (s u : Stacked) → s ≡ u → (r : Result (Unit {0}) E) (w : Stacked) → Exchanges md tells ws ts s r w → Exchanges md tells ws ts u r w
-from_same md tells ws ts s u e r w x = subst (λ t. Exchanges md tells ws ts t r w) e x
 
 pub returns-in_err-ty : goal.returns-in_err-ty
 returns-in_err-ty g c =

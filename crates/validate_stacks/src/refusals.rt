@@ -237,28 +237,42 @@ fn mismatch_text(alloc: Global, expected: ValType, found: MaybeType) -> Result<S
     }
 }
 
+/// An index that names nothing, or another thing, and what stands before and behind it in its text.
+fn index_between(refusal: Refusal) -> Option<(&'static str, u32, &'static str)> {
+    let (before, index, behind) = match refusal {
+        Refusal::UnknownLocal(index) => ("unknown local ", index, ": local index out of bounds"),
+        Refusal::UninitializedLocal(index) => ("uninitialized local: ", index, ""),
+        Refusal::UnknownFunction(index) => {
+            ("unknown function ", index, ": function index out of bounds")
+        }
+        Refusal::UnknownTable(index) => ("unknown table ", index, ": table index out of bounds"),
+        Refusal::UnknownMemory(index) => ("unknown memory ", index, ""),
+        Refusal::UnknownTag(index) => ("unknown tag ", index, ": tag index out of bounds"),
+        Refusal::UnknownElements(index) => {
+            (
+                "unknown elem segment ",
+                index,
+                ": segment index out of bounds",
+            )
+        }
+        Refusal::UnknownData(index) => ("unknown data segment ", index, ""),
+        Refusal::NoContinuationType(index) => ("non-continuation type ", index, ""),
+        _ => return None,
+    };
+    Some((before, index, behind))
+}
+
 /// The text of an index that names nothing, or another thing.
 fn index_text(alloc: Global, refusal: Refusal) -> Result<String, AllocError> {
+    match index_between(refusal) {
+        Some((before, index, behind)) => format!(in alloc; "{before}{index}{behind}"),
+        None => descriptor_text(alloc, refusal),
+    }
+}
+
+/// The text of a type that has a descriptor or none.
+fn descriptor_text(alloc: Global, refusal: Refusal) -> Result<String, AllocError> {
     match refusal {
-        Refusal::UnknownLocal(index) => {
-            format!(in alloc; "unknown local {index}: local index out of bounds")
-        }
-        Refusal::UninitializedLocal(index) => format!(in alloc; "uninitialized local: {index}"),
-        Refusal::UnknownFunction(index) => {
-            format!(in alloc; "unknown function {index}: function index out of bounds")
-        }
-        Refusal::UnknownTable(index) => {
-            format!(in alloc; "unknown table {index}: table index out of bounds")
-        }
-        Refusal::UnknownMemory(index) => format!(in alloc; "unknown memory {index}"),
-        Refusal::UnknownTag(index) => {
-            format!(in alloc; "unknown tag {index}: tag index out of bounds")
-        }
-        Refusal::UnknownElements(index) => {
-            format!(in alloc; "unknown elem segment {index}: segment index out of bounds")
-        }
-        Refusal::UnknownData(index) => format!(in alloc; "unknown data segment {index}"),
-        Refusal::NoContinuationType(index) => format!(in alloc; "non-continuation type {index}"),
         Refusal::WantsDescriptor { type_index, name } => {
             format!(in alloc;
                 "type with descriptor requires descriptor allocation: `{name}` with type {type_index}"

@@ -1,6 +1,6 @@
 -- An operator that is accepted meets its row; of one that is refused nothing is said.
 use Rattle.script_runs.proofs.timing.is_visited.Goals as goal
-use Rattle.script_runs.proofs.timing.is_visited.Goals.{in-Ok, in-Err, in-Ok-check, in-Err-check}
+use Rattle.script_runs.proofs.timing.is_visited.Goals.{in-Ok, in-Err, in-Ok-check_ref, in-Err-check_ref}
 
 pub returns-then-attempted-clause-accepted : goal.returns-then-attempted-clause-accepted
 returns-then-attempted-clause-accepted g c =
@@ -11,7 +11,7 @@ returns-then-attempted-clause-accepted g c =
 
 pub returns-clause-accepted : goal.returns-clause-accepted
 returns-clause-accepted g c =
-    λ h. (elim c.match-check.branch [
-      | in-Ok-check w ↦ w.in-Ok-check.ensures.row
-      | in-Err-check w ↦ absurd cc
+    λ h. (elim c.match-check_ref.branch [
+      | in-Ok-check_ref w ↦ w.in-Ok-check_ref.ensures.row
+      | in-Err-check_ref w ↦ absurd cc
     ])

@@ -10,7 +10,7 @@ ghost use Rattle.validation_rules.specs.Rows.{Row};
 ghost use Rattle.validate_shapes.specs.Operands.{expected_types, operands_row, AreValidExpected, AreValidOperands, Finds};
 ghost use Rattle.validate_stacks.specs.Bodies.{MayBegin, Makes};
 
-use crate::plain::{none_for_both, one_for_both, one_for_one, plain};
+use crate::plain::{constant, none_for_both, one_for_both, one_for_one, plain};
 use validate_resources::WasmModuleResources;
 use validate_stacks::Body;
 use validate_types::{FieldType, Refused, ValType};
@@ -80,8 +80,9 @@ impl<'a> Operands<'a> {
     }
 }
 
-/// `[expected] -> [pushed]`, where what is given lies in a list.
-#[inline(always)]
+/// `[expected] -> [pushed]`, where what is given lies in a list. It is called, so that [`exchange_operands`] stays short
+/// where it is inlined.
+#[inline(never)]
 fn operands_giving<A: Refused, R: WasmModuleResources>(
     body: Body<'_, '_, R>,
     expected: Expected<'_>,
@@ -138,8 +139,10 @@ fn operands_giving_one<A: Refused, R: WasmModuleResources>(
         (pushed ∷ []))) body.entry result body.exit }
 {
     match expected {
+        Expected::Few(Few::Zero) => constant(body, pushed),
         Expected::Few(Few::One(a)) => one_for_one(body, a, pushed),
         Expected::Few(Few::Two(a, b)) => one_for_both(body, a, b, pushed),
+        Expected::Fields(fields) => body.exchange_fields(fields, &[pushed]),
         other => operands_giving(body, other, &[pushed]),
     }
 }

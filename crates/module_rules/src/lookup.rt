@@ -185,6 +185,32 @@ fn said_count(count: Option<DataCount>) -> Option<u32>
     Some(said.count)
 }
 
+/// The types of what a module stores values in.
+#[derive(Drop)]
+struct StoredTypes {
+    tables: Vec<TableType>,
+    memories: Vec<MemoryType>,
+    globals: Vec<GlobalType>,
+}
+
+/// The types of the tables, memories and globals.
+fn stored_types(alloc: Global, declared: &DeclaredModule) -> Result<StoredTypes, OutOfMemory>
+    ensures tables { IfOk result (λ s. s.tables.items ≡ (lookup_lists (declarations_of declared.now)).tables) }
+    ensures memories { IfOk result (λ s. s.memories.items
+        ≡ (lookup_lists (declarations_of declared.now)).memories) }
+    ensures globals { IfOk result (λ s. s.globals.items
+        ≡ (lookup_lists (declarations_of declared.now)).globals) }
+{
+    let tables = table_types(alloc, &declared.tables)?;
+    let memories = memory_types(alloc, &declared.memories)?;
+    let globals = global_types(alloc, &declared.globals)?;
+    Ok(StoredTypes {
+        tables,
+        memories,
+        globals,
+    })
+}
+
 /// What a lookup over lists is handed of a module: its types, and the types of its other items. It takes
 /// memory for the lists, and refuses where there is none. Of a valid module `ModuleLists::new` refuses none.
 pub fn lookup_lists(
@@ -193,20 +219,18 @@ pub fn lookup_lists(
 ) -> Result<ModuleDeclarations, OutOfMemory>
     ensures { IfOk result (λ l. declared_in l ≡ lookup_lists (declarations_of declared.now)) }
 {
-    let types = copied_types(alloc, &declared.types)?;
     let functions = function_decls(alloc, declared)?;
-    let tables = table_types(alloc, &declared.tables)?;
-    let memories = memory_types(alloc, &declared.memories)?;
-    let globals = global_types(alloc, &declared.globals)?;
     let tags = tag_types(alloc, &declared.tags)?;
     let elements = element_types(alloc, &declared.elements)?;
+    let stored = stored_types(alloc, declared)?;
+    let types = copied_types(alloc, &declared.types)?;
     Ok(ModuleDeclarations {
         data_count: said_count(declared.data_count),
         types,
         functions,
-        tables,
-        memories,
-        globals,
+        tables: stored.tables,
+        memories: stored.memories,
+        globals: stored.globals,
         tags,
         elements,
     })

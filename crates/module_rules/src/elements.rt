@@ -37,7 +37,12 @@ fn item_count(items: &ElementItems) -> usize
 fn are_functions(indices: &[u32], functions: usize) -> bool
     ensures { result ≡ list_all (λ i. nat_lt i functions) indices.now }
 {
-    indices.iter().all(|index| (*index as usize) < functions)
+    for function in indices {
+        if *function as usize >= functions {
+            return false;
+        }
+    }
+    true
 }
 
 /// Whether the functions are there, of which a module has so many, or the type of the expressions is valid.
@@ -112,7 +117,12 @@ fn is_each_element_valid(
 ) -> bool
     ensures { result ≡ list_all (is_valid_element features types.now functions tables.now) elements.now }
 {
-    elements.iter().all(|element| is_valid_element(features, types, functions, tables, element))
+    for element in elements {
+        if !is_valid_element(features, types, functions, tables, element) {
+            return false;
+        }
+    }
+    true
 }
 
 /// Whether the element segments are valid.
@@ -153,7 +163,12 @@ pub fn is_data_count(segments: usize, count: Option<DataCount>) -> bool
 fn is_each_data_kind_valid(features: ModuleFeatures, memories: usize, segments: &[Data]) -> bool
     ensures { result ≡ list_all (λ (s : Data). is_valid_data_kind features memories s.kind) segments.now }
 {
-    segments.iter().all(|segment| is_valid_data_kind(features, memories, segment.kind))
+    for segment in segments {
+        if !is_valid_data_kind(features, memories, segment.kind) {
+            return false;
+        }
+    }
+    true
 }
 
 /// Whether the data segments are valid, in a module of so many memories.

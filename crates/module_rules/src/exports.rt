@@ -55,13 +55,26 @@ pub fn is_valid_export(features: ModuleFeatures, declared: &DeclaredModule, expo
         && is_export_enabled(features, &declared.globals, export.kind, export.index)
 }
 
+/// Whether each of these exports is valid, as far as it has no other's name.
+fn are_all_valid_exports(
+    features: ModuleFeatures,
+    declared: &DeclaredModule,
+    exports: &[Export],
+) -> bool
+    ensures { result ≡ list_all (is_valid_export features (declarations_of declared.now)) exports.now }
+{
+    for export in exports {
+        if !is_valid_export(features, declared, export) {
+            return false;
+        }
+    }
+    true
+}
+
 /// Whether each export is valid, as far as it has no other's name.
 pub fn is_each_export_valid(features: ModuleFeatures, declared: &DeclaredModule) -> bool
     ensures { result ≡ list_all (is_valid_export features (declarations_of declared.now))
         (declarations_of declared.now).exports }
 {
-    declared
-        .exports
-        .iter()
-        .all(|export| is_valid_export(features, declared, export))
+    are_all_valid_exports(features, declared, &declared.exports)
 }

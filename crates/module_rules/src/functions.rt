@@ -44,9 +44,12 @@ fn is_each_function_valid(
     ensures { result ≡ list_all (λ (e : ℕ × DeclaredFunction).
         is_valid_function features types.now imported e.0 e.1) (enumerate_from 0 functions.now) }
 {
-    functions.iter().enumerate().all(|(index, function)| is_valid_function(
-        features, types, imported, index, function,
-    ))
+    for index in 0..functions.len() {
+        if !is_valid_function(features, types, imported, index, &functions[index]) {
+            return false;
+        }
+    }
+    true
 }
 
 /// Whether the functions are valid.
@@ -77,7 +80,12 @@ pub fn is_valid_tag(features: ModuleFeatures, types: &[SubType], tag: &DeclaredT
 fn is_each_tag_valid(features: ModuleFeatures, types: &[SubType], tags: &[DeclaredTag]) -> bool
     ensures { result ≡ list_all (is_valid_tag features types.now) tags.now }
 {
-    tags.iter().all(|tag| is_valid_tag(features, types, tag))
+    for tag in tags {
+        if !is_valid_tag(features, types, tag) {
+            return false;
+        }
+    }
+    true
 }
 
 /// Whether the tags are valid.

@@ -57,9 +57,12 @@ fn is_each_global_valid(
     ensures { result ≡ list_all (λ (e : ℕ × DeclaredGlobal).
         is_valid_global features types.now imported e.0 e.1) (enumerate_from 0 globals.now) }
 {
-    globals.iter().enumerate().all(|(index, global)| is_valid_global(
-        features, types, imported, index, global,
-    ))
+    for index in 0..globals.len() {
+        if !is_valid_global(features, types, imported, index, &globals[index]) {
+            return false;
+        }
+    }
+    true
 }
 
 /// Whether the globals are valid.

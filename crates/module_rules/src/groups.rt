@@ -19,7 +19,12 @@ use validate_types::{PackedIndex, SubType};
 fn have_known_indices(types: &[SubType], end: usize) -> bool
     ensures { result ≡ list_all (sub_indices_pass (is_known end)) types.now }
 {
-    types.iter().all(|ty| has_known_indices(ty, end))
+    for ty in types {
+        if !has_known_indices(ty, end) {
+            return false;
+        }
+    }
+    true
 }
 
 /// Whether a group that begins at this index is valid.
@@ -90,8 +95,10 @@ pub fn have_valid_chains(types: &[SubType]) -> bool
     ensures { result ≡ list_all (λ (e : ℕ × SubType). has_valid_chain types.now e.0 e.1)
         (enumerate_from 0 types.now) }
 {
-    types
-        .iter()
-        .enumerate()
-        .all(|(index, ty)| has_valid_chain(types, index, ty))
+    for index in 0..types.len() {
+        if !has_valid_chain(types, index, &types[index]) {
+            return false;
+        }
+    }
+    true
 }

@@ -59,7 +59,12 @@ fn is_option_known(index: Option<PackedIndex>, count: usize) -> bool
 fn have_known_indices(types: &[ValType], count: usize) -> bool
     ensures { result ≡ list_all (type_indices_pass (is_known count)) types.now }
 {
-    types.iter().all(|ty| has_known_index(*ty, count))
+    for ty in types {
+        if !has_known_index(*ty, count) {
+            return false;
+        }
+    }
+    true
 }
 
 /// The same of what a function takes and gives.
@@ -83,9 +88,12 @@ fn has_known_field_index(field: FieldType, count: usize) -> bool
 fn have_known_field_indices(fields: &[FieldType], count: usize) -> bool
     ensures { result ≡ list_all (field_indices_pass (is_known count)) fields.now }
 {
-    fields
-        .iter()
-        .all(|field| has_known_field_index(*field, count))
+    for field in fields {
+        if !has_known_field_index(*field, count) {
+            return false;
+        }
+    }
+    true
 }
 
 /// The same of what a type is made of.

@@ -52,9 +52,12 @@ pub fn max_memories(features: ModuleFeatures) -> usize
 fn is_each_memory_valid(features: ModuleFeatures, memories: &[DeclaredMemory]) -> bool
     ensures { result ≡ list_all (is_valid_memory features) memories.now }
 {
-    memories
-        .iter()
-        .all(|memory| is_valid_memory(features, memory))
+    for memory in memories {
+        if !is_valid_memory(features, memory) {
+            return false;
+        }
+    }
+    true
 }
 
 /// Whether the memories are valid.

@@ -106,7 +106,7 @@ pub fn tags_refusal(alloc: Global, features: ModuleFeatures, declared: &Declared
     if let Some(tag) = declared.tags.get(MAX_WASM_TAGS) {
         return too_many(alloc, MAX_WASM_TAGS, "tags", tag.offset);
     }
-    for tag in declared.tags.iter() {
+    for tag in declared.tags.as_slice() {
         if !is_valid_tag(features, &declared.types, tag) {
             return tag_refusal(alloc, features, &declared.types, *tag);
         }
@@ -255,7 +255,7 @@ pub fn memories_refusal(
     if let Some(memory) = declared.memories.get(most) {
         return too_many(alloc, most, "memories", memory.offset);
     }
-    for memory in declared.memories.iter() {
+    for memory in declared.memories.as_slice() {
         if !is_valid_memory(features, memory) {
             return Error::new(memory_refusal(features, *memory), memory.offset);
         }
@@ -343,7 +343,7 @@ pub fn exports_refusal(
     features: ModuleFeatures,
     declared: &DeclaredModule,
 ) -> Error {
-    for export in declared.exports.iter() {
+    for export in declared.exports.as_slice() {
         if !is_valid_export(features, declared, export) {
             let is_there = (export.index as usize) < item_count(declared, export.kind);
             return export_refusal(alloc, is_there, export);
@@ -448,7 +448,7 @@ pub fn elements_refusal(
         );
     }
     let functions = declared.functions.len();
-    for element in declared.elements.iter() {
+    for element in declared.elements.as_slice() {
         if !is_valid_element(
             features,
             &declared.types,
@@ -495,7 +495,7 @@ pub fn data_refusal(alloc: Global, features: ModuleFeatures, declared: &Declared
             said.offset,
         );
     }
-    for segment in segments.iter() {
+    for segment in segments.as_slice() {
         if !is_valid_data_kind(features, declared.memories.len(), segment.kind) {
             return data_kind_refusal(alloc, *segment);
         }

@@ -107,9 +107,12 @@ fn is_each_table_valid(
     ensures { result ≡ list_all (λ (e : ℕ × DeclaredTable).
         is_valid_table features types.now imported e.0 e.1) (enumerate_from 0 tables.now) }
 {
-    tables.iter().enumerate().all(|(index, table)| is_valid_table(
-        features, types, imported, index, table,
-    ))
+    for index in 0..tables.len() {
+        if !is_valid_table(features, types, imported, index, &tables[index]) {
+            return false;
+        }
+    }
+    true
 }
 
 /// Whether the tables are valid.

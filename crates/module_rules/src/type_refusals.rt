@@ -47,7 +47,7 @@ fn group_refusal(features: ModuleFeatures, types: usize, end: usize, group: RecG
 fn groups_refusal(features: ModuleFeatures, declared: &DeclaredModule) -> Option<Error> {
     let types = declared.types.as_slice();
     let mut first = 0usize;
-    for group in declared.groups.iter() {
+    for group in declared.groups.as_slice() {
         let end = first.saturating_add(group.count as usize);
         if first > types.len() || !is_valid_group(features, types, first, *group) {
             return Some(group_refusal(features, types.len(), end, *group));
@@ -136,7 +136,7 @@ fn disabled_part(features: ModuleFeatures, inner: &CompositeInnerType) -> Option
         },
         CompositeInnerType::Array(ty) => disabled_storage(features, ty.0.element_type),
         CompositeInnerType::Struct(ty) => {
-            for field in ty.fields.iter() {
+            for field in ty.fields.as_slice() {
                 if let Some(text) = disabled_storage(features, field.element_type) {
                     return Some(text);
                 }

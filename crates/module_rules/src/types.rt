@@ -34,9 +34,12 @@ fn may_all_stand_in(
 ) -> bool
     ensures { result ≡ list_all (may_stand_in features types.now shared) listed.now }
 {
-    listed
-        .iter()
-        .all(|ty| may_stand_in(features, types, shared, *ty))
+    for ty in listed {
+        if !may_stand_in(features, types, shared, *ty) {
+            return false;
+        }
+    }
+    true
 }
 
 /// The same of what each of these fields holds.
@@ -49,7 +52,12 @@ fn may_fields_stand_in(
     ensures { result ≡ list_all (λ (f : FieldType).
         may_stand_in features types.now shared (unpacked_type f.element_type)) fields.now }
 {
-    fields.iter().all(|field| may_stand_in(features, types, shared, field.element_type.unpack()))
+    for field in fields {
+        if !may_stand_in(features, types, shared, field.element_type.unpack()) {
+            return false;
+        }
+    }
+    true
 }
 
 /// The same of each value type that a type is made of.
@@ -166,7 +174,10 @@ pub fn is_valid_sub_type(features: ModuleFeatures, types: &[SubType], ty: &SubTy
 pub fn are_valid_sub_types(features: ModuleFeatures, types: &[SubType]) -> bool
     ensures { result ≡ list_all (is_valid_sub_type features types.now) types.now }
 {
-    types
-        .iter()
-        .all(|ty| is_valid_sub_type(features, types, ty))
+    for ty in types {
+        if !is_valid_sub_type(features, types, ty) {
+            return false;
+        }
+    }
+    true
 }

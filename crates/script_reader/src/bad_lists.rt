@@ -29,10 +29,12 @@ fn wrong_behind(samples: &[&str], sample: &str, words: &[&str]) -> Option<Reason
 
 /// What is wrong with the first of these words that isn't of the kind of the sample in its place, if one isn't.
 pub fn wrong_in_places(samples: &[&str], words: &[&str]) -> Option<Reason> {
-    samples
-        .iter()
-        .zip(words)
-        .find_map(|(sample, word)| wrong_word(sample, word))
+    for index in 0..samples.len().min(words.len()) {
+        if let Some(reason) = wrong_word(samples[index], words[index]) {
+            return Some(reason);
+        }
+    }
+    None
 }
 
 /// What is wrong with the words of a `try_table`, if something is.

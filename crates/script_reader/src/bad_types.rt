@@ -1,12 +1,26 @@
 //! What is wrong with a `type` line.
 
+ghost use Rattle.std.specs.Prelude.{◌≤◌, IfSome, length};
+
 use crate::bad_words::{number_behind, reason_behind, wrong_in_list, wrong_packed_index};
 use crate::reasons::Reason;
 use script_parts::{are_marks, is_kind, read_value_type};
 
+/// Where the first of these words stands that is a kind, if one is.
+fn kind_place(words: &[&str]) -> Option<usize>
+    ensures { IfSome result (λ place. place ≤ length words.now) }
+{
+    for index in 0..words.len() {
+        if is_kind(words[index]) {
+            return Some(index);
+        }
+    }
+    None
+}
+
 /// What is wrong with these words behind `type`, if something is: marks stand first, and then a kind with its words.
 pub fn wrong_type(words: &[&str]) -> Option<Reason> {
-    let Some(place) = words.iter().position(|word| is_kind(word)) else {
+    let Some(place) = kind_place(words) else {
         return Some(wrong_marks(words).unwrap_or(Reason::MissingWord));
     };
     let (marks, composite) = words.split_at(place);

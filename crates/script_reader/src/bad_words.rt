@@ -35,12 +35,27 @@ pub fn wrong_word(sample: &str, word: &str) -> Option<Reason> {
 
 /// What is wrong with the first of these words that isn't of this sample's kind, if one isn't.
 pub fn wrong_in_list(sample: &str, words: &[&str]) -> Option<Reason> {
-    words.iter().find_map(|word| wrong_word(sample, word))
+    for word in words {
+        if let Some(reason) = wrong_word(sample, word) {
+            return Some(reason);
+        }
+    }
+    None
+}
+
+/// Whether a word has digits alone.
+fn has_digits_alone(word: &str) -> bool {
+    for byte in word.as_bytes() {
+        if !byte.is_ascii_digit() {
+            return false;
+        }
+    }
+    true
 }
 
 /// Why a word isn't read that has to be a number: digits alone are one that is out of range.
 fn number_reason(word: &str) -> Reason {
-    if !word.is_empty() && word.bytes().all(|byte| byte.is_ascii_digit()) {
+    if !word.is_empty() && has_digits_alone(word) {
         Reason::NumberOutOfRange
     } else {
         Reason::MalformedNumber
@@ -60,10 +75,18 @@ fn wrong_access(word: &str) -> Option<Reason> {
 
 /// What stands in a word behind one of these names, if it begins with one.
 pub fn number_behind<'a>(names: &[&str], word: &'a str) -> Option<&'a str> {
-    names.iter().find_map(|name| word.strip_prefix(*name))
+    for name in names {
+        if let Some(number) = word.strip_prefix(*name) {
+            return Some(number);
+        }
+    }
+    None
 }
 
 /// Why a word isn't read that has to be a name with this number behind it, or has no such name.
 pub fn reason_behind(number: Option<&str>) -> Reason {
-    number.map_or(Reason::WordOutOfPlace, number_reason)
+    match number {
+        Some(number) => number_reason(number),
+        None => Reason::WordOutOfPlace,
+    }
 }

@@ -7,11 +7,11 @@ use validate_visit::{IntegerType, NumberType, Op, PackedInteger};
 
 /// The operator of this name with the access that these words write, if it has one.
 pub fn read_accessing(name: &str, words: &[&str]) -> Option<Op<'static>> {
-    if let Some(named) = named_in(LOADS_AND_STORES, name) {
+    if let Some(named) = named_in(&LOADS_AND_STORES, name) {
         let access = read_access(words, named.natural_alignment())?;
         return Some(Op::Memory(named.op(access)));
     }
-    let named = named_in(ATOMIC_OPERATORS, name)?;
+    let named = named_in(&ATOMIC_OPERATORS, name)?;
     let access = read_access(words, named.natural_alignment())?;
     Some(Op::Atomic(named.op(access)))
 }

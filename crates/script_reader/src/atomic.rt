@@ -71,7 +71,7 @@ const I64_16: AtomicAccess = Packed(PackedInteger::I64Bits16);
 const I64_32: AtomicAccess = Packed(PackedInteger::I64Bits32);
 
 /// The atomic operators on an address.
-pub const ATOMIC_OPERATORS: &[(&str, AtomicOnAddress)] = &[
+pub static ATOMIC_OPERATORS: [(&str, AtomicOnAddress); 66] = [
     ("memory.atomic.notify", Notify),
     ("memory.atomic.wait32", Wait(IntegerType::I32)),
     ("memory.atomic.wait64", Wait(IntegerType::I64)),

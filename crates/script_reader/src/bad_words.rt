@@ -3,8 +3,8 @@
 use crate::features::read_feature;
 use crate::reasons::Reason;
 use script_parts::{
-    read_access, read_catch, read_field, read_handler, read_heap_type, read_index, read_ordering,
-    read_packed_index, read_reference, read_value_type,
+    named_in, read_access, read_catch, read_field, read_handler, read_heap_type, read_index,
+    read_ordering, read_packed_index, read_reference, read_value_type,
 };
 
 /// The reason, where a word isn't read.
@@ -12,24 +12,73 @@ fn unless(is_read: bool, reason: Reason) -> Option<Reason> {
     if is_read { None } else { Some(reason) }
 }
 
-/// What is wrong with a word where another of this sample's kind has to stand, if something is.
-///
-/// Most samples stand for all words of their kind: `0` for an index or a count, `-1` for a constant, `i32` for a value
-/// type, and so on. The others are marks, each of which stands for itself.
+/// What a sample of a word stands for.
+#[derive(Clone, Copy)]
+enum WordKind {
+    /// An index, or a count.
+    Index,
+    /// A constant.
+    Constant,
+    /// A value type.
+    Value,
+    /// A reference type.
+    Reference,
+    /// A heap type.
+    Heap,
+    /// A field.
+    Field,
+    /// A clause.
+    Clause,
+    /// A handler.
+    Handler,
+    /// An ordering.
+    Ordering,
+    /// A proposal.
+    Proposal,
+    /// A part of an access.
+    Access,
+}
+
+/// The samples that stand for all words of their kind.
+static WORD_KINDS: [(&str, WordKind); 13] = [
+    ("0", WordKind::Index),
+    ("-1", WordKind::Constant),
+    ("i32", WordKind::Value),
+    ("anyref", WordKind::Reference),
+    ("func", WordKind::Heap),
+    ("i8", WordKind::Field),
+    ("catch_all:0", WordKind::Clause),
+    ("switch:0", WordKind::Handler),
+    ("seq_cst", WordKind::Ordering),
+    ("none", WordKind::Proposal),
+    ("offset=0", WordKind::Access),
+    ("align=0", WordKind::Access),
+    ("mem=0", WordKind::Access),
+];
+
+/// What is wrong with a word where one of this kind has to stand, if something is.
+fn wrong_of_kind(kind: WordKind, word: &str) -> Option<Reason> {
+    match kind {
+        WordKind::Index => unless(read_index(word).is_some(), number_reason(word)),
+        WordKind::Constant => Some(number_reason(word.strip_prefix('-').unwrap_or(word))),
+        WordKind::Value => unless(read_value_type(word).is_some(), Reason::NoValueType),
+        WordKind::Reference => unless(read_reference(word).is_some(), Reason::NoReferenceType),
+        WordKind::Heap => unless(read_heap_type(word).is_some(), Reason::NoHeapType),
+        WordKind::Field => unless(read_field(word).is_some(), Reason::NoField),
+        WordKind::Clause => unless(read_catch(word).is_some(), Reason::NoClause),
+        WordKind::Handler => unless(read_handler(word).is_some(), Reason::NoHandler),
+        WordKind::Ordering => unless(read_ordering(word).is_some(), Reason::NoOrdering),
+        WordKind::Proposal => unless(read_feature(word).is_some(), Reason::NoProposal),
+        WordKind::Access => wrong_access(word),
+    }
+}
+
+/// What is wrong with a word where another of this sample's kind has to stand, if something is. Samples without a kind
+/// are marks, each of which stands for itself.
 pub fn wrong_word(sample: &str, word: &str) -> Option<Reason> {
-    match sample {
-        "0" => unless(read_index(word).is_some(), number_reason(word)),
-        "-1" => Some(number_reason(word.strip_prefix('-').unwrap_or(word))),
-        "i32" => unless(read_value_type(word).is_some(), Reason::NoValueType),
-        "anyref" => unless(read_reference(word).is_some(), Reason::NoReferenceType),
-        "func" => unless(read_heap_type(word).is_some(), Reason::NoHeapType),
-        "i8" => unless(read_field(word).is_some(), Reason::NoField),
-        "catch_all:0" => unless(read_catch(word).is_some(), Reason::NoClause),
-        "switch:0" => unless(read_handler(word).is_some(), Reason::NoHandler),
-        "seq_cst" => unless(read_ordering(word).is_some(), Reason::NoOrdering),
-        "none" => unless(read_feature(word).is_some(), Reason::NoProposal),
-        "offset=0" | "align=0" | "mem=0" => wrong_access(word),
-        _ => unless(sample == word, Reason::WordOutOfPlace),
+    match named_in(&WORD_KINDS, sample) {
+        Some(kind) => wrong_of_kind(kind, word),
+        None => unless(sample == word, Reason::WordOutOfPlace),
     }
 }
 

@@ -10,7 +10,7 @@ use validate_visit::Sign::{Signed, Unsigned};
 use validate_visit::{ConvertOp, NumberType};
 
 /// The conversions and the extensions.
-pub const CONVERSIONS: &[(&str, ConvertOp)] = &[
+pub static CONVERSIONS: [(&str, ConvertOp); 38] = [
     ("i32.wrap_i64", Wrap),
     ("i64.extend_i32_s", Extend(Signed)),
     ("i64.extend_i32_u", Extend(Unsigned)),

@@ -43,7 +43,7 @@ impl LoadOrStore {
 }
 
 /// The loads and the stores.
-pub const LOADS_AND_STORES: &[(&str, LoadOrStore)] = &[
+pub static LOADS_AND_STORES: [(&str, LoadOrStore); 23] = [
     ("i32.load", Load(I32)),
     ("i64.load", Load(I64)),
     ("f32.load", Load(F32)),

@@ -7,14 +7,14 @@ use validate_visit::{
 };
 
 /// Operators on one integer.
-const INTEGER_UNARY: &[(&str, IntegerUnaryOp)] = &[
+static INTEGER_UNARY: [(&str, IntegerUnaryOp); 3] = [
     ("clz", IntegerUnaryOp::Clz),
     ("ctz", IntegerUnaryOp::Ctz),
     ("popcnt", IntegerUnaryOp::Popcnt),
 ];
 
 /// Operators on two integers.
-const INTEGER_BINARY: &[(&str, IntegerBinaryOp)] = &[
+static INTEGER_BINARY: [(&str, IntegerBinaryOp); 15] = [
     ("add", IntegerBinaryOp::Add),
     ("sub", IntegerBinaryOp::Sub),
     ("mul", IntegerBinaryOp::Mul),
@@ -33,7 +33,7 @@ const INTEGER_BINARY: &[(&str, IntegerBinaryOp)] = &[
 ];
 
 /// Comparisons of two integers.
-const INTEGER_COMPARISON: &[(&str, IntegerComparisonOp)] = &[
+static INTEGER_COMPARISON: [(&str, IntegerComparisonOp); 10] = [
     ("eq", IntegerComparisonOp::Eq),
     ("ne", IntegerComparisonOp::Ne),
     ("lt_s", IntegerComparisonOp::Lt(Sign::Signed)),
@@ -47,7 +47,7 @@ const INTEGER_COMPARISON: &[(&str, IntegerComparisonOp)] = &[
 ];
 
 /// Operators on one float.
-const FLOAT_UNARY: &[(&str, FloatUnaryOp)] = &[
+static FLOAT_UNARY: [(&str, FloatUnaryOp); 7] = [
     ("abs", FloatUnaryOp::Abs),
     ("neg", FloatUnaryOp::Neg),
     ("ceil", FloatUnaryOp::Ceil),
@@ -58,7 +58,7 @@ const FLOAT_UNARY: &[(&str, FloatUnaryOp)] = &[
 ];
 
 /// Operators on two floats.
-const FLOAT_BINARY: &[(&str, FloatBinaryOp)] = &[
+static FLOAT_BINARY: [(&str, FloatBinaryOp); 7] = [
     ("add", FloatBinaryOp::Add),
     ("sub", FloatBinaryOp::Sub),
     ("mul", FloatBinaryOp::Mul),
@@ -69,7 +69,7 @@ const FLOAT_BINARY: &[(&str, FloatBinaryOp)] = &[
 ];
 
 /// Comparisons of two floats.
-const FLOAT_COMPARISON: &[(&str, FloatComparisonOp)] = &[
+static FLOAT_COMPARISON: [(&str, FloatComparisonOp); 6] = [
     ("eq", FloatComparisonOp::Eq),
     ("ne", FloatComparisonOp::Ne),
     ("lt", FloatComparisonOp::Lt),
@@ -79,7 +79,7 @@ const FLOAT_COMPARISON: &[(&str, FloatComparisonOp)] = &[
 ];
 
 /// Operators on integers of 128 bits, each in two of 64.
-const WIDE: &[(&str, NumericOp)] = &[
+static WIDE: [(&str, NumericOp); 4] = [
     ("add128", NumericOp::Add128),
     ("sub128", NumericOp::Sub128),
     ("mul_wide_s", NumericOp::MulWide(Sign::Signed)),
@@ -125,7 +125,7 @@ fn numeric_operator(ty: NumberType, word: &str) -> Option<NumericOp> {
         NumberType::I32 => integer_operator(IntegerType::I32, word),
         NumberType::I64 => match integer_operator(IntegerType::I64, word) {
             Some(op) => Some(op),
-            None => named_in(WIDE, word),
+            None => named_in(&WIDE, word),
         },
         NumberType::F32 => float_operator(FloatType::F32, word),
         NumberType::F64 => float_operator(FloatType::F64, word),
@@ -133,26 +133,26 @@ fn numeric_operator(ty: NumberType, word: &str) -> Option<NumericOp> {
 }
 
 fn integer_operator(ty: IntegerType, word: &str) -> Option<NumericOp> {
-    if let Some(op) = named_in(INTEGER_BINARY, word) {
+    if let Some(op) = named_in(&INTEGER_BINARY, word) {
         return Some(NumericOp::IntegerBinary(ty, op));
     }
-    if let Some(op) = named_in(INTEGER_COMPARISON, word) {
+    if let Some(op) = named_in(&INTEGER_COMPARISON, word) {
         return Some(NumericOp::IntegerComparison(ty, op));
     }
     if word == "eqz" {
         return Some(NumericOp::Eqz(ty));
     }
-    let op = named_in(INTEGER_UNARY, word)?;
+    let op = named_in(&INTEGER_UNARY, word)?;
     Some(NumericOp::IntegerUnary(ty, op))
 }
 
 fn float_operator(ty: FloatType, word: &str) -> Option<NumericOp> {
-    if let Some(op) = named_in(FLOAT_BINARY, word) {
+    if let Some(op) = named_in(&FLOAT_BINARY, word) {
         return Some(NumericOp::FloatBinary(ty, op));
     }
-    if let Some(op) = named_in(FLOAT_COMPARISON, word) {
+    if let Some(op) = named_in(&FLOAT_COMPARISON, word) {
         return Some(NumericOp::FloatComparison(ty, op));
     }
-    let op = named_in(FLOAT_UNARY, word)?;
+    let op = named_in(&FLOAT_UNARY, word)?;
     Some(NumericOp::FloatUnary(ty, op))
 }

@@ -13,6 +13,11 @@ use script_parts::{
 use std::alloc::Global;
 use validate_visit::{AtomicOp, BlockType, ControlOp, ExceptionOp, Op, ReferenceOp};
 
+/// An operator without a list, as one that may have one.
+pub fn lent<'l>(op: Op<'static>) -> Op<'l> {
+    op
+}
+
 /// The operator that these words write, if they do: its name, and its immediates after it. If it has a list, it
 /// lends this one, in which that is kept.
 pub fn read_operator<'a>(
@@ -24,7 +29,10 @@ pub fn read_operator<'a>(
     if has_list(name) {
         return Ok(list.insert(read_list(alloc, words)?).op());
     }
-    read_flat_operator(name, immediates).ok_or(LineError::Bad)
+    match read_flat_operator(name, immediates) {
+        Some(op) => Ok(lent(op)),
+        None => Err(LineError::Bad),
+    }
 }
 
 /// The operator of this name with these immediates, if it has no list. What most operators begin with, a
@@ -40,7 +48,7 @@ pub fn read_flat_operator(name: &str, immediates: &[&str]) -> Option<Op<'static>
         return Some(op);
     }
     let other = match *immediates {
-        [] => named_in(PLAIN, name),
+        [] => named_in(&PLAIN, name),
         [word] => read_with_word(name, word),
         _ => read_with_words(name, immediates),
     };
@@ -54,7 +62,7 @@ pub fn read_flat_operator(name: &str, immediates: &[&str]) -> Option<Op<'static>
 /// those of `read_numeric`: it converts, or accesses memory.
 fn read_on_numbers(name: &str, immediates: &[&str]) -> Option<Op<'static>> {
     if immediates.is_empty() {
-        if let Some(op) = named_in(CONVERSIONS, name) {
+        if let Some(op) = named_in(&CONVERSIONS, name) {
             return Some(Op::Convert(op));
         }
     }

@@ -6,7 +6,7 @@ use validate_visit::{
 };
 
 /// The operators that may stand without immediates, but for those on numbers. A block is of the empty type then.
-pub const PLAIN: &[(&str, Op<'static>)] = &[
+pub static PLAIN: [(&str, Op<'static>); 24] = [
     ("unreachable", Control(ControlOp::Unreachable)),
     ("nop", Control(ControlOp::Nop)),
     ("block", Control(ControlOp::Block(BlockType::Empty))),

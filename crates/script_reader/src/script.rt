@@ -2,7 +2,7 @@
 
 use crate::failure::ScriptError;
 use crate::lines::read_line;
-use crate::operators::read_flat_operator;
+use crate::operators::{lent, read_flat_operator};
 use crate::reasons::Reason;
 use script_parts::{
     Draft, LineError, ListedOperator, Operators, Script, has_list, read_list, read_words,
@@ -97,17 +97,32 @@ fn add_body_words<'a>(
     words: &[&str],
     number: u64,
 ) -> Result<(), LineError> {
-    let (written, attempted) = match words.split_first() {
-        Some((&"local", _)) => return add_line(alloc, draft, words, number),
-        Some((&"try", rest)) => (rest, true),
-        _ => (words, false),
-    };
-    let (name, immediates) = written.split_first().ok_or(LineError::Bad)?;
-    if has_list(name) {
-        return add_listed(alloc, listed, draft, written, attempted, number);
+    match words.split_first() {
+        Some((&"local", _)) => add_line(alloc, draft, words, number),
+        Some((&"try", rest)) => add_operator_words(alloc, listed, draft, rest, true, number),
+        _ => add_operator_words(alloc, listed, draft, words, false, number),
     }
-    let op = read_flat_operator(name, immediates).ok_or(LineError::Bad)?;
-    draft.add_operator(op, attempted, number)
+}
+
+/// Adds the operator that these words write, attempted or not.
+fn add_operator_words<'a>(
+    alloc: Global,
+    listed: &mut Vec<ListedOperator>,
+    draft: &mut Draft<'a>,
+    words: &[&str],
+    attempted: bool,
+    number: u64,
+) -> Result<(), LineError> {
+    let Some((name, immediates)) = words.split_first() else {
+        return Err(LineError::Bad);
+    };
+    if has_list(name) {
+        return add_listed(alloc, listed, draft, words, attempted, number);
+    }
+    match read_flat_operator(name, immediates) {
+        Some(op) => draft.add_operator(lent(op), attempted, number),
+        None => Err(LineError::Bad),
+    }
 }
 
 /// Adds the operator with a list that these words write, attempted or not: a `nop` keeps its place until its list is

@@ -9,7 +9,7 @@ use validate_visit::Update::{Rmw, Value};
 use validate_visit::{Exchange, FieldAccess, Update};
 
 /// The accesses to globals.
-const GLOBAL_ACCESSES: &[(&str, Update)] = &[
+static GLOBAL_ACCESSES: [(&str, Update); 9] = [
     ("global.atomic.get", Value(Get)),
     ("global.atomic.set", Value(Set)),
     ("global.atomic.rmw.add", Rmw(Add)),
@@ -22,7 +22,7 @@ const GLOBAL_ACCESSES: &[(&str, Update)] = &[
 ];
 
 /// The accesses to tables.
-const TABLE_ACCESSES: &[(&str, Exchange)] = &[
+static TABLE_ACCESSES: [(&str, Exchange); 4] = [
     ("table.atomic.get", Get),
     ("table.atomic.set", Set),
     ("table.atomic.rmw.xchg", Xchg),
@@ -30,7 +30,7 @@ const TABLE_ACCESSES: &[(&str, Exchange)] = &[
 ];
 
 /// The accesses to structs.
-const STRUCT_ACCESSES: &[(&str, FieldAccess)] = &[
+static STRUCT_ACCESSES: [(&str, FieldAccess); 11] = [
     ("struct.atomic.get", Whole(Value(Get))),
     ("struct.atomic.get_s", GetPacked(Signed)),
     ("struct.atomic.get_u", GetPacked(Unsigned)),
@@ -45,7 +45,7 @@ const STRUCT_ACCESSES: &[(&str, FieldAccess)] = &[
 ];
 
 /// The accesses to arrays.
-const ARRAY_ACCESSES: &[(&str, FieldAccess)] = &[
+static ARRAY_ACCESSES: [(&str, FieldAccess); 11] = [
     ("array.atomic.get", Whole(Value(Get))),
     ("array.atomic.get_s", GetPacked(Signed)),
     ("array.atomic.get_u", GetPacked(Unsigned)),
@@ -61,15 +61,15 @@ const ARRAY_ACCESSES: &[(&str, FieldAccess)] = &[
 
 /// What the atomic operator of this name does, and to what, if there is one.
 pub fn shared_access(name: &str) -> Option<SharedAccess> {
-    if let Some(access) = named_in(GLOBAL_ACCESSES, name) {
+    if let Some(access) = named_in(&GLOBAL_ACCESSES, name) {
         return Some(SharedAccess::Global(access));
     }
-    if let Some(access) = named_in(TABLE_ACCESSES, name) {
+    if let Some(access) = named_in(&TABLE_ACCESSES, name) {
         return Some(SharedAccess::Table(access));
     }
-    if let Some(access) = named_in(STRUCT_ACCESSES, name) {
+    if let Some(access) = named_in(&STRUCT_ACCESSES, name) {
         return Some(SharedAccess::Struct(access));
     }
-    let access = named_in(ARRAY_ACCESSES, name)?;
+    let access = named_in(&ARRAY_ACCESSES, name)?;
     Some(SharedAccess::Array(access))
 }

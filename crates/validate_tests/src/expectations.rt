@@ -5,7 +5,7 @@ ghost use Rattle.std.specs.Prelude.{◌≡◌, true};
 
 use std::fmt::Debug;
 use std::process::Abort;
-use wasmparser_validate::types::Error;
+use wasmparser_validate::types::{Error, Refusal};
 
 /// It is so.
 pub fn expect(rt: &impl Abort, is_so: bool)
@@ -24,14 +24,18 @@ pub fn expect_text(rt: &impl Abort, found: &str, expected: &str, of: &str) {
     assert_eq!(rt; found, expected, "{of}");
 }
 
-/// A refusal has this text and this offset, and isn't want of memory.
-pub fn expect_error(rt: &impl Abort, refusal: Option<Error>, text: &str, offset: u64) {
-    match refusal {
-        None => expect_same(rt, "accepted", text),
-        Some(refusal) => {
-            expect_same(rt, refusal.message(), text);
-            expect_same(rt, refusal.offset(), offset);
-            expect(rt, !refusal.is_out_of_memory());
+/// It is refused, for this reason and in these words.
+pub fn expect_refused(
+    rt: &impl Abort,
+    answer: Result<(), Error>,
+    reason: Option<Refusal>,
+    text: &str,
+) {
+    match &answer {
+        Ok(()) => expect(rt, false),
+        Err(refusal) => {
+            expect_text(rt, refusal.message(), text, text);
+            expect_same(rt, refusal.reason(), reason);
         }
     }
 }

@@ -2,20 +2,10 @@
 
 use crate::expectations::expect;
 use std::process::Abort;
-use std::test::Fail;
 use wasmparser_validate::locals::Locals;
 use wasmparser_validate::types::{OutOfMemory, ValType};
 
-/// Locals of so many of each of these types.
-fn defined(rt: &impl AllocGlobal, declared: &[(u32, ValType)]) -> Result<Locals, OutOfMemory> {
-    let mut locals = Locals::new(rt.alloc());
-    for (count, ty) in declared {
-        locals.define(*count, *ty)?;
-    }
-    Ok(locals)
-}
-
-/// Locals that are declared, and the runs of those behind the first fifty.
+/// How many locals of which types are declared, and the runs of those behind the first fifty.
 type Row = ([(u32, ValType); 3], &'static str);
 
 const ROWS: &[Row] = &[
@@ -38,8 +28,11 @@ const ROWS: &[Row] = &[
 ];
 
 /// How the locals of a row are held.
-fn expect_row(rt: &(impl Abort + AllocGlobal), row: &Row) -> Result<(), Fail> {
-    let locals = defined(rt, &row.0)?;
+fn expect_row(rt: &(impl Abort + AllocGlobal), row: &Row) -> Result<(), OutOfMemory> {
+    let mut locals = Locals::new(rt.alloc());
+    for (count, ty) in &row.0 {
+        locals.define(*count, *ty)?;
+    }
     let printed = format!(in rt.alloc(); "{locals:?}")?;
     expect(rt, printed.contains(row.1));
     Ok(())
@@ -48,7 +41,7 @@ fn expect_row(rt: &(impl Abort + AllocGlobal), row: &Row) -> Result<(), Fail> {
 /// The first fifty are held plainly, and behind them equal types are one run, however many: each with the greatest index
 /// of the run. No clause says how they are held.
 #[test]
-fn further_locals_are_held_in_runs(rt: HostRuntime) -> Result<(), Fail> {
+fn further_locals_are_held_in_runs(rt: HostRuntime) -> Result<(), OutOfMemory> {
     for row in ROWS {
         expect_row(&rt, row)?;
     }

@@ -1,83 +1,137 @@
-//! Why operators are refused, as data. No clause says which reason a refusal has.
+//! Why operators are refused, as data and in words. No clause says which reason a refusal has. Among them are operators
+//! that no script writes: tables that end too early, and accesses whose natural alignment is another one than that of
+//! their operator.
 
 ghost use Rattle.wasmparser_validate.specs.Start.{state};
 ghost use Rattle.wasmparser_validate.specs.State.{IsStarting};
 
-use crate::expectations::{expect, expect_same};
-use crate::lines::visit;
-use crate::setting::{HEAD, Setting};
-use crate::test_error::TestError;
+use crate::expectations::expect_refused;
+use crate::visits::{I32_CONST, NOP, UNREACHABLE, begun, one_memory, visit, visit_well};
 use std::process::Abort;
-use wasmparser_validate::operators::{OperatorValidator, OperatorValidatorAllocations};
+use wasmparser_validate::operators::OperatorValidator;
 use wasmparser_validate::resources::WasmModuleResources;
-use wasmparser_validate::types::{Gate, HeapType, Refusal, UnpackedIndex, ValType};
-use wasmparser_validate::visit::{ControlOp, IntegerType, MemoryOp, NumericOp, Op, ReferenceOp};
+use wasmparser_validate::types::{Error, Gate, HeapType, Refusal, UnpackedIndex, ValType};
+use wasmparser_validate::visit::{
+    AtomicOp, BrTable, ControlOp, IntegerType, MemArg, MemArgTarget, MemoryOp, NumberType,
+    NumericOp, Op, ReferenceOp,
+};
 
-/// The same body, without proposals.
-const WITHOUT_PROPOSALS: &str = "feature none\ntype func ->\nfunc 0";
+/// An access of at most four bytes that says that it is aligned to eight.
+const ALIGNED_3: MemArg = MemArg {
+    align: 3,
+    max_align: 2,
+    offset: 0,
+    target: MemArgTarget::Memory(0),
+};
 
-/// Why this operator is refused that begins the body of this validator; `None` where no rule says why.
-fn expect_reason_by<R: WasmModuleResources>(
-    rt: &impl Abort,
-    v: &mut OperatorValidator,
-    lists: &R,
-    op: Op<'static>,
-    reason: Option<Refusal>,
-)
-    requires { IsStarting (R.context lists.now) (state v.old) }
-{
-    match visit(v, lists, op) {
-        Ok(()) => expect(rt, false),
-        Err(refusal) => expect_same(rt, refusal.reason(), reason),
-    }
-}
+/// No targets, and no default.
+const CUT: BrTable<'static> = BrTable {
+    targets: &[],
+    complete: false,
+    default: 0,
+};
 
-/// Why an operator is refused that begins a body.
-fn expect_reason(
-    rt: &(impl Abort + AllocGlobal),
-    head: &str,
-    op: Op<'static>,
-    reason: Option<Refusal>,
-) -> Result<(), TestError> {
-    let setting = Setting::read(rt, head)?;
-    let mut v = setting.validator(OperatorValidatorAllocations::new(rt.alloc()))?;
-    expect_reason_by(rt, &mut v, &setting.lists, op, reason);
-    Ok(())
-}
+/// An operator, the one behind it, and why that is refused: `None` where no rule of an operator says so.
+type Row = (Op<'static>, Op<'static>, Option<Refusal>, &'static str);
 
-/// Operators that are refused, and the reason of each.
-const REASONS: &[(Op<'static>, Refusal)] = &[
+const ROWS: &[Row] = &[
     (
+        NOP,
         Op::Numeric(NumericOp::Eqz(IntegerType::I32)),
-        Refusal::NothingFound(Some(ValType::I32)),
+        Some(Refusal::NothingFound(Some(ValType::I32))),
+        "type mismatch: expected i32 but nothing on stack",
     ),
     (
+        NOP,
         Op::Control(ControlOp::LocalGet(3)),
-        Refusal::UnknownLocal(3),
+        Some(Refusal::UnknownLocal(3)),
+        "unknown local 3: local index out of bounds",
     ),
-    (Op::Control(ControlOp::Br(1)), Refusal::UnknownLabel),
-    (Op::Control(ControlOp::Call(9)), Refusal::UnknownFunction(9)),
     (
-        Op::Memory(MemoryOp::MemorySize(0)),
-        Refusal::UnknownMemory(0),
+        NOP,
+        Op::Control(ControlOp::Br(1)),
+        Some(Refusal::UnknownLabel),
+        "unknown label: branch depth too large",
+    ),
+    (
+        NOP,
+        Op::Control(ControlOp::Call(9)),
+        Some(Refusal::UnknownFunction(9)),
+        "unknown function 9: function index out of bounds",
+    ),
+    (
+        NOP,
+        Op::Memory(MemoryOp::MemorySize(1)),
+        Some(Refusal::UnknownMemory(1)),
+        "unknown memory 1",
+    ),
+    (
+        NOP,
+        Op::Control(ControlOp::ReturnCall(0)),
+        Some(Refusal::Closed(Gate::TailCall)),
+        "tail calls support is not enabled",
+    ),
+    // A heap type is looked up by the caller's own lookup.
+    (
+        NOP,
+        Op::Reference(ReferenceOp::RefNull(HeapType::Concrete(UnpackedIndex::Module(9)))),
+        None,
+        "unknown type 9: type index out of bounds",
+    ),
+    (
+        I32_CONST,
+        Op::Control(ControlOp::BrTable(CUT)),
+        Some(Refusal::TableEnd),
+        "unexpected end of branch targets",
+    ),
+    (
+        UNREACHABLE,
+        Op::Control(ControlOp::BrTable(CUT)),
+        Some(Refusal::TableEnd),
+        "unexpected end of branch targets",
+    ),
+    (
+        UNREACHABLE,
+        Op::Memory(MemoryOp::Load(NumberType::I64, ALIGNED_3)),
+        Some(Refusal::AlignedMore),
+        "invalid memop alignment: alignment must not be larger than natural",
+    ),
+    (
+        UNREACHABLE,
+        Op::Atomic(AtomicOp::AtomicWait(IntegerType::I64, ALIGNED_3)),
+        Some(Refusal::AlignedLess),
+        "atomic instructions must always specify maximum alignment",
     ),
 ];
 
-#[test]
-fn reasons_of_operands_and_indices(rt: HostRuntime) -> Result<(), TestError> {
-    for (op, reason) in REASONS {
-        expect_reason(&rt, HEAD, *op, Some(*reason))?;
+/// The second operator of a row is refused behind the first.
+fn expect_row<R: WasmModuleResources>(
+    rt: &impl Abort,
+    v: &mut OperatorValidator,
+    lists: &R,
+    row: &Row,
+)
+    requires { IsStarting (R.context lists.now) (state v.old) }
+{
+    let (first, second, reason, text) = *row;
+    visit_well(rt, v, lists, first);
+    expect_refused(rt, visit(v, lists, second), reason, text);
+}
+
+/// Each row in a new body.
+fn expect_rows<R: WasmModuleResources>(
+    rt: &(impl Abort + AllocGlobal),
+    lists: &R,
+) -> Result<(), Error> {
+    for row in ROWS {
+        let mut v = begun(rt.alloc(), lists)?;
+        expect_row(rt, &mut v, lists, row);
     }
     Ok(())
 }
 
 #[test]
-fn reasons_of_gates_and_lookups(rt: HostRuntime) -> Result<(), TestError> {
-    let tail_call = Op::Control(ControlOp::ReturnCall(0));
-    let closed = Refusal::Closed(Gate::TailCall);
-    expect_reason(&rt, WITHOUT_PROPOSALS, tail_call, Some(closed))?;
-    // A heap type is looked up by the caller's own lookup.
-    let unknown = HeapType::Concrete(UnpackedIndex::Module(9));
-    let null = Op::Reference(ReferenceOp::RefNull(unknown));
-    expect_reason(&rt, HEAD, null, None)
+fn reasons_of_refusals(rt: HostRuntime) -> Result<(), Error> {
+    let lists = one_memory(rt.alloc())?;
+    expect_rows(&rt, &lists)
 }

@@ -1,19 +1,19 @@
 //! Modules that are refused, in which words, and which of two refusals comes first: a script says no more
 //! than that its module is none.
 
-use crate::expectations::{expect_same, expect_text};
-use crate::test_error::TestError;
+use crate::expectations::expect_text;
 use script_reader::{Script, read_script};
+use std::alloc::AllocError;
 use std::process::Abort;
 use wasmparser_validate::resources::ModuleLists;
 use wasmparser_validate::types::Error;
 
-/// Lines of a module, parted by commas, and the refusal.
-const REFUSED: &[(&str, &str)] = &[
+/// Lines of a module, and the words in which it is refused, or that it is kept.
+const MODULES: &[(&str, &str)] = &[
     ("fn 0", "unknown type"),
-    ("type func ->, fn 1", "unknown type"),
+    ("type func ->\nfn 1", "unknown type"),
     ("tag 0", "unknown type"),
-    ("type func ->, tag 4294967295", "unknown type"),
+    ("type func ->\ntag 4294967295", "unknown type"),
     ("table refnull:0", "unknown type"),
     ("global ref:0", "unknown type"),
     ("elem ref:exact-0", "unknown type"),
@@ -25,79 +25,66 @@ const REFUSED: &[(&str, &str)] = &[
     ("type desc=1 struct", "unknown type"),
     ("type describes=1 struct", "unknown type"),
     ("type sub=0 func ->", "invalid supertype"),
-    ("type sub=1 func ->, type func ->", "invalid supertype"),
-    ("type func ->, type sub=0 struct", "invalid supertype"),
-    ("type struct, type sub=0 array i8", "invalid supertype"),
-    ("type struct, type sub=0 shared struct", "invalid supertype"),
-    ("type shared struct, type sub=0 struct", "invalid supertype"),
+    ("type sub=1 func ->\ntype func ->", "invalid supertype"),
+    ("type func ->\ntype sub=0 struct", "invalid supertype"),
+    ("type struct\ntype sub=0 array i8", "invalid supertype"),
+    ("type struct\ntype sub=0 shared struct", "invalid supertype"),
+    ("type shared struct\ntype sub=0 struct", "invalid supertype"),
     (
-        "type func ->, type cont 0, type sub=1 func ->",
+        "type func ->\ntype cont 0\ntype sub=1 func ->",
         "invalid supertype",
     ),
-    ("type struct, fn 0", "expected func type"),
-    ("type array i8, tag 0", "expected func type"),
-    ("type struct, type cont 0", "expected func type"),
+    ("type struct\nfn 0", "expected func type"),
+    ("type array i8\ntag 0", "expected func type"),
+    ("type struct\ntype cont 0", "expected func type"),
     ("type cont 0", "expected func type"),
     (
-        "type desc=1 func ->, type struct",
+        "type desc=1 func ->\ntype struct",
         "descriptor on non-struct type",
     ),
     ("type desc=0 array i8", "descriptor on non-struct type"),
     // Two faults.
     ("type sub=0 func ref:1 ->", "unknown type"),
-    ("type sub=0 struct, fn 1", "unknown type"),
-    ("type sub=0 struct, fn 0", "invalid supertype"),
-    ("type desc=0 array i8, fn 0", "expected func type"),
+    ("type sub=0 struct\nfn 1", "unknown type"),
+    ("type sub=0 struct\nfn 0", "invalid supertype"),
+    ("type desc=0 array i8\nfn 0", "expected func type"),
+    // None of these.
+    ("fn 0\ntag 1\ntype func ->\ntype func i32 -> f64", "kept"),
+    (
+        "type struct i8\ntype sub=0 struct i8 refnull:2\ntype array ref:1",
+        "kept",
+    ),
+    ("type shared struct\ntype sub=0 shared struct", "kept"),
+    ("type cont 1\ntype func ->\ntype sub=0 cont 1", "kept"),
+    ("type desc=1 struct\ntype describes=0 struct", "kept"),
 ];
 
-/// Modules that are none of these.
-const KEPT: &[&str] = &[
-    "fn 0, tag 1, type func ->, type func i32 -> f64",
-    "type struct i8, type sub=0 struct i8 refnull:2, type array ref:1",
-    "type shared struct, type sub=0 shared struct",
-    "type cont 1, type func ->, type sub=0 cont 1",
-    "type desc=1 struct, type describes=0 struct",
-];
+/// What is said of a module of these lines.
+fn expect_said(rt: &impl Abort, answer: Result<ModuleLists, Error>, said: &str, lines: &str) {
+    match &answer {
+        Ok(_) => expect_text(rt, "kept", said, lines),
+        Err(refusal) => expect_text(rt, refusal.message(), said, lines),
+    }
+}
 
-/// The lookup over what these lines declare, or its refusal.
-fn read_module(
-    rt: &impl AllocGlobal,
-    lines: &str,
-) -> Result<Result<ModuleLists, Error>, TestError> {
+/// The same, of the lines of a row.
+fn expect_row(rt: &(impl Abort + AllocGlobal), lines: &str, said: &str) -> Result<(), AllocError> {
     let text = format!(in rt.alloc(); "{lines}\nexpr i32\n")?;
     let mut listed = Vec::new(rt.alloc());
     match read_script(rt.alloc(), &mut listed, &text) {
         Ok(Script { declarations, .. }) => {
-            Ok(ModuleLists::from_declarations(rt.alloc(), declarations))
+            let answer = ModuleLists::from_declarations(rt.alloc(), declarations);
+            expect_said(rt, answer, said, lines);
+            Ok(())
         }
-        Err(_) => Err(TestError("lines that are no script")),
+        Err(_) => Err(AllocError),
     }
-}
-
-/// The words in which a module of these lines is refused.
-fn expect_refusal(
-    rt: &(impl Abort + AllocGlobal),
-    lines: &str,
-    expected: &str,
-) -> Result<(), TestError> {
-    let text = lines.replace(rt.alloc(), ", ", "\n")?;
-    match read_module(rt, &text)? {
-        Ok(_) => expect_text(rt, "kept", expected, lines),
-        Err(refusal) => {
-            expect_text(rt, refusal.message(), expected, lines);
-            expect_same(rt, refusal.offset(), 0);
-        }
-    }
-    Ok(())
 }
 
 #[test]
-fn refused_modules(rt: HostRuntime) -> Result<(), TestError> {
-    for (lines, text) in REFUSED {
-        expect_refusal(&rt, lines, text)?;
-    }
-    for lines in KEPT {
-        expect_refusal(&rt, lines, "kept")?;
+fn refused_modules(rt: HostRuntime) -> Result<(), AllocError> {
+    for (lines, said) in MODULES {
+        expect_row(&rt, lines, said)?;
     }
     Ok(())
 }

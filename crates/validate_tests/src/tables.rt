@@ -2,27 +2,27 @@
 //!
 //! Bodies are parted by blank lines. Where a line `--` stands, what is before it are the first lines of a script.
 
-/// Bodies of a few operators.
+/// Bodies of a few operators, and then one for each group of operators, or two.
 pub const BODIES: &str = "\
 i32.add => type mismatch: expected i32 but nothing on stack
 
 i32.const => 1 1
 i64.const => 2 1
-i32.add => type mismatch: expected i32, found i64 => block: i32
+i32.add => type mismatch: expected i32, found i64
 
 unreachable => 0 1
-i32.add => 1 1 => dead block: i32
+i32.add => 1 1
 
 unreachable => 0 1
-select => 1 1 => dead block: ?
+select => 1 1
 
 unreachable => 0 1
 i64.const => 1 1
 i32.const => 2 1
-select => 1 1 => dead block: i64
+select => 1 1
 
 unreachable => 0 1
-ref.as_non_null => 1 1 => dead block: ?
+ref.as_non_null => 1 1
 i32.eqz => type mismatch: expected i32, found heap type
 
 ref.null func => 1 1
@@ -160,7 +160,8 @@ type sub=1 struct i32 i64
 func 0
 --
 struct.new_default 2 => 1 1
-struct.get 1 0 => 1 1 => block: i32
+struct.get 1 0 => 1 1
+i32.eqz => 1 1
 
 feature gc
 feature reference_types
@@ -180,23 +181,7 @@ func 0
 --
 struct.new_default 2 => 1 1
 struct.new_default_desc 1 => 1 1
-ref.get_desc 1 => 1 1 => block: (ref (exact (id 2)))
-
-type func ->
-type desc=2 struct
-type describes=1 struct
-func 0
---
-ref.null 1 => 1 1
-ref.get_desc 1 => 1 1 => block: (ref (id 2))
-
-type func ->
-type desc=2 struct
-type describes=1 struct
-func 0
---
-ref.null none => 1 1
-ref.get_desc 1 => 1 1 => block: (ref (exact (id 2)))
+ref.get_desc 1 => 1 1
 
 type func ->
 type desc=2 struct
@@ -204,25 +189,19 @@ type describes=1 struct
 func 0
 --
 unreachable => 0 1
-ref.get_desc 1 => 1 1 => dead block: (ref (exact (id 2)))
+ref.get_desc 1 => 1 1
 
 unreachable => 0 1
 any.convert_extern => 1 1
-extern.convert_any => 1 1 => dead block: ?
+extern.convert_any => 1 1
 
 unreachable => 0 1
 any.convert_extern => 1 1
 array.len => type mismatch: expected subtype of array, found any
 
-i64.const => 1 1
-i32.const => 2 1
-i32.add => type mismatch: expected i32, found i64 => block:
-
 legacy_try => 0 2
-catch 7 => unknown tag 7: tag index out of bounds => catch:";
+catch 7 => unknown tag 7: tag index out of bounds
 
-/// A body for each group of operators, or two.
-pub const GROUPS: &str = "\
 type func ->
 func 0
 local 2 ref:func

@@ -2,10 +2,10 @@
 use Rattle.std.proofs.Common.{◌≡◌, None}
 use Rattle.validate_stacks.specs.State.{IsValidBody}
 use Rattle.wasmparser_validate.specs.Start.{state}
-use Rattle.validate_tests.proofs.lines.expect_lines.Given as goal
+use Rattle.validate_tests.proofs.answers.add_each.Given as goal
 
-abbrev pub invariant-loop-line : goal.invariant-loop-line
-invariant-loop-line g l = record {
+abbrev pub invariant-loop-pair : goal.invariant-loop-pair
+invariant-loop-pair g l = record {
   idle : (state l.v).undone ≡ None;
   valid : IsValidBody (g.R.WasmModuleResources.context l.lists) (state l.v);
 }

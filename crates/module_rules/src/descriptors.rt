@@ -6,7 +6,7 @@ ghost use Rattle.validate_types.specs.declared.types.SubType.{SubType};
 ghost use Rattle.validate_types.specs.Kinds.{is_struct};
 ghost use Rattle.module_rules.specs.Descriptors.{names_type, is_descriptor_of, is_described_by, has_valid_descriptor, describes_valid_type, has_valid_descriptors, have_valid_descriptors};
 
-use crate::order::number;
+use validate_resources::order::number;
 use validate_types::{CompositeInnerType, CompositeType, PackedIndex, SubType};
 
 /// Whether the index names the type of this number.

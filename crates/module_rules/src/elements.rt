@@ -8,9 +8,9 @@ ghost use Rattle.module_rules.specs.Segments.{item_type, item_count, are_valid_i
 use crate::features::ModuleFeatures;
 use crate::items::DeclaredTable;
 use crate::limits::{MAX_WASM_DATA_SEGMENTS, MAX_WASM_ELEMENT_SEGMENTS, MAX_WASM_TABLE_ENTRIES};
-use crate::order::is_ref_below;
 use crate::segments::{Data, DataCount, DataKind, Element, ElementItems, ElementKind};
 use crate::tables::is_valid_element_type;
+use validate_resources::order::is_ref_below;
 use validate_types::{RefType, SubType};
 
 /// The type of the items.

@@ -9,8 +9,7 @@ ghost use Rattle.module_rules.specs.Functions.{signature_at, is_valid_function, 
 use crate::features::ModuleFeatures;
 use crate::items::{DeclaredFunction, DeclaredTag};
 use crate::limits::{MAX_WASM_FUNCTIONS, MAX_WASM_TAGS};
-use crate::types::is_func_type;
-use validate_resources::kinds::func_type_of;
+use validate_resources::kinds::{func_type_of, is_func_type};
 use validate_types::{FuncType, SubType};
 
 /// What the type at this index takes and gives, if it is one of functions.

@@ -9,7 +9,7 @@ use crate::features::ModuleFeatures;
 use crate::indices::has_known_index;
 use crate::items::DeclaredGlobal;
 use crate::limits::MAX_WASM_GLOBALS;
-use crate::order::is_type_shared;
+use crate::types::is_type_shared;
 use validate_types::{SubType, ValType};
 
 /// Whether a value type's proposal is on, and the type that it names is there.

@@ -12,7 +12,7 @@ use crate::features::ModuleFeatures;
 use crate::indices::has_known_indices;
 use crate::items::RecGroup;
 use crate::limits::MAX_WASM_SUBTYPING_DEPTH;
-use crate::order::{number, supertype_of};
+use validate_resources::order::{number, supertype_of};
 use validate_types::{PackedIndex, SubType};
 
 /// Whether each of these types names types below the end of their group.

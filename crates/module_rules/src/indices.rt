@@ -5,7 +5,7 @@ ghost use Rattle.std.specs.Prelude.{◌≡◌};
 ghost use Rattle.std.specs.List.{list_all};
 ghost use Rattle.validate_resources.specs.Indices.{is_known, heap_indices_pass, ref_indices_pass, type_indices_pass, option_index_passes, signature_indices_pass, field_indices_pass, inner_indices_pass, composite_indices_pass, sub_indices_pass};
 
-use crate::order::number;
+use validate_resources::order::number;
 use validate_types::{
     CompositeInnerType, CompositeType, FieldType, FuncType, HeapType, PackedIndex, RefType,
     StorageType, SubType, UnpackedIndex, ValType,

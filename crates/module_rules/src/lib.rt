@@ -19,7 +19,6 @@ mod matching;
 mod memories;
 mod module;
 mod names;
-mod order;
 mod refusals;
 mod segments;
 mod sizes;

@@ -7,7 +7,7 @@ ghost use Rattle.validate_types.specs.Signatures.{is_signature_below};
 ghost use Rattle.validate_resources.specs.Order.{is_type_below};
 ghost use Rattle.module_rules.specs.Matching.{is_named_below, is_storage_below, is_field_below, are_fields_below, is_inner_below, is_descriptor_below, is_described_below, is_composite_below};
 
-use crate::order::{is_index_below, is_type_below, number};
+use validate_resources::order::{is_index_below, is_type_below, number};
 use validate_types::{
     CompositeInnerType, CompositeType, FieldType, FuncType, PackedIndex, StorageType, SubType,
     func_signature_matches,

@@ -16,11 +16,11 @@ use crate::limits::{
 };
 use crate::memories::{is_valid_memory, max_memories};
 use crate::module::DeclaredModule;
-use crate::order::{is_ref_below, number};
 use crate::segments::{Data, DataKind, Element, ElementItems, ElementKind};
 use crate::tables::{is_valid_element_type, is_valid_table, max_tables};
-use crate::types::is_func_type;
 use std::alloc::Global;
+use validate_resources::kinds::is_func_type;
+use validate_resources::order::{is_ref_below, number};
 use validate_types::{Error, RefType, SubType, ValType};
 
 /// There are more of something than may be.

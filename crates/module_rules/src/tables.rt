@@ -9,8 +9,8 @@ use crate::features::ModuleFeatures;
 use crate::indices::has_known_ref_index;
 use crate::items::{DeclaredTable, TableInit};
 use crate::limits::{MAX_WASM_TABLE_ENTRIES, MAX_WASM_TABLES};
-use crate::order::is_heap_shared;
 use crate::sizes::are_table_limits;
+use validate_resources::order::is_heap_shared;
 use validate_types::{AbstractHeapType, HeapType, RefType, SubType};
 
 /// Whether it is every unshared function.

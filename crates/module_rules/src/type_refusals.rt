@@ -6,13 +6,12 @@ use crate::groups::{has_valid_chain, is_earlier, is_valid_group};
 use crate::items::RecGroup;
 use crate::limits::{MAX_WASM_STRUCT_FIELDS, MAX_WASM_SUBTYPING_DEPTH};
 use crate::module::DeclaredModule;
-use crate::order::number;
 use crate::types::{
-    continues_function, is_composite_enabled, is_sub_type_enabled, is_valid_composite,
-    is_valid_sub_type,
+    is_composite_enabled, is_sub_type_enabled, is_valid_composite, is_valid_sub_type,
 };
 use std::alloc::Global;
-use validate_resources::kinds::continuation_of;
+use validate_resources::kinds::{continuation_of, continues_function};
+use validate_resources::order::number;
 use validate_types::{
     CompositeInnerType, CompositeType, Error, PackedIndex, StorageType, SubType, ValType,
 };

@@ -2,20 +2,29 @@
 
 ghost use Rattle.std.specs.Prelude.{◌≡◌, ◌+◌, ◌≤◌, ℕ, slice_get, length};
 ghost use Rattle.std.specs.List.{list_all, enumerate_from};
-ghost use Rattle.validate_resources.specs.Lists.{is_func_type, continues_function};
 ghost use Rattle.validate_types.specs.declared.types.FieldType.{FieldType};
 ghost use Rattle.validate_types.specs.declared.types.SubType.{SubType};
 ghost use Rattle.validate_types.specs.Types.{unpacked_type};
-ghost use Rattle.module_rules.specs.Types.{may_stand_in, value_types_pass, is_kind_enabled, is_composite_enabled, is_valid_composite, matches_type, matches_supertype, is_sub_type_enabled, is_valid_sub_type};
+ghost use Rattle.module_rules.specs.Types.{is_type_shared, may_stand_in, value_types_pass, is_kind_enabled, is_composite_enabled, is_valid_composite, matches_type, matches_supertype, is_sub_type_enabled, is_valid_sub_type};
 
 use crate::features::ModuleFeatures;
 use crate::limits::MAX_WASM_STRUCT_FIELDS;
 use crate::matching::is_composite_below;
-use crate::order::{is_type_shared, number};
-use validate_resources::kinds::{continuation_of, func_type_of};
+use validate_resources::kinds::continues_function;
+use validate_resources::order::{is_heap_shared, number};
 use validate_types::{
     CompositeInnerType, CompositeType, FieldType, FuncType, PackedIndex, SubType, ValType,
 };
+
+/// Whether a value type is shared.
+pub fn is_type_shared(types: &[SubType], ty: ValType) -> bool
+    ensures { result ≡ is_type_shared types.now ty }
+{
+    match ty {
+        ValType::Ref(ty) => is_heap_shared(types, ty.heap_type()),
+        _ => true,
+    }
+}
 
 /// Whether the proposal of a value type is on, and the type is shared if it stands in what is shared.
 fn may_stand_in(features: ModuleFeatures, types: &[SubType], shared: bool, ty: ValType) -> bool
@@ -138,26 +147,6 @@ pub fn is_sub_type_enabled(features: ModuleFeatures, ty: &SubType) -> bool
     ensures { result ≡ is_sub_type_enabled features ty.now }
 {
     ty.is_final && ty.supertype_idx.is_none() || features.gc()
-}
-
-/// Whether the type at this index is there, and is one of functions.
-pub fn is_func_type(types: &[SubType], index: u32) -> bool
-    ensures { result ≡ is_func_type (slice_get types.now index) }
-{
-    match types.get(index as usize) {
-        Some(ty) => func_type_of(ty).is_some(),
-        None => false,
-    }
-}
-
-/// Whether a type is no continuation, or one of a function.
-pub fn continues_function(types: &[SubType], ty: &SubType) -> bool
-    ensures { result ≡ continues_function types.now ty.now }
-{
-    match continuation_of(ty) {
-        Some(index) => is_func_type(types, number(index.unpack())),
-        None => true,
-    }
 }
 
 /// Whether a type is valid among those that the module declares.

@@ -5,7 +5,6 @@
 mod attempts;
 mod begin;
 mod check;
-pub mod first_set;
 mod proposal;
 mod safety;
 mod validator;

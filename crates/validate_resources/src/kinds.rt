@@ -1,9 +1,11 @@
 //! Declared types by their kind.
 
-ghost use Rattle.std.specs.Prelude.{◌≡◌};
+ghost use Rattle.std.specs.Prelude.{◌≡◌, slice_get};
 ghost use Rattle.std.specs.Option.{option_copied};
 ghost use Rattle.validate_resources.specs.Context.{signature_of, continuation_of};
+ghost use Rattle.validate_resources.specs.Lists.{is_func_type, continues_function};
 
+use crate::order::number;
 use std::alloc::Global;
 use validate_types::{CompositeInnerType, Error, FuncType, PackedIndex, SubType};
 
@@ -29,6 +31,26 @@ pub fn continuation_of(sub_type: &SubType) -> Option<PackedIndex>
         CompositeInnerType::Func(_)
         | CompositeInnerType::Array(_)
         | CompositeInnerType::Struct(_) => None,
+    }
+}
+
+/// Whether the type at this index is there, and is one of functions.
+pub fn is_func_type(types: &[SubType], index: u32) -> bool
+    ensures { result ≡ is_func_type (slice_get types.now index) }
+{
+    match types.get(index as usize) {
+        Some(ty) => func_type_of(ty).is_some(),
+        None => false,
+    }
+}
+
+/// Whether a type is no continuation, or one of a function.
+pub fn continues_function(types: &[SubType], ty: &SubType) -> bool
+    ensures { result ≡ continues_function types.now ty.now }
+{
+    match continuation_of(ty) {
+        Some(index) => is_func_type(types, number(index.unpack())),
+        None => true,
     }
 }
 

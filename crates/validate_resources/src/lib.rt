@@ -5,6 +5,7 @@
 mod declarations;
 pub mod kinds;
 mod lists;
+pub mod order;
 pub mod uses;
 
 ghost use Rattle.std.specs.Prelude.{◌≡◌, true, false, None, Some, IsSome, IfSome, OnOk, IfErr};

@@ -1,7 +1,6 @@
 //! A lookup over lists.
 
 mod canonical;
-mod order;
 
 ghost use Rattle.std.specs.Prelude.{◌≡◌, ◌<◌, ◌≤◌, ◌&&◌, ℕ, length, codes, slice_get, Some, None, Ok, true, false, nat_lt, is_ok, IsTrue, IfOk, OnOk, OnErr, IfErr};
 ghost use Rattle.std.specs.List.{list_all};
@@ -9,11 +8,11 @@ ghost use Rattle.validate_resources.specs.Indices.{is_id, unknown_text};
 ghost use Rattle.validate_resources.specs.Lists.{declared_by, canonical_under, may_be_looked_up, is_func_type, continues_function, has_fitting_descriptor, module_of};
 
 use crate::WasmModuleResources;
-use crate::kinds::{continuation_of, func_type_of};
+use crate::kinds::{continues_function, func_type_of, is_func_type};
 use crate::lists::canonical::{
-    Forms, canonical_heap, canonical_lists, canonical_ref, canonical_type, number,
+    Forms, canonical_heap, canonical_lists, canonical_ref, canonical_type,
 };
-use crate::lists::order::{heap_top, is_heap_shared, is_type_below, supertypes_fit};
+use crate::order::{heap_top, is_heap_shared, is_type_below, supertypes_fit};
 use std::alloc::Global;
 use validate_types::{
     CompositeInnerType, CoreTypeId, Error, FuncType, GlobalType, HeapType, MemoryType, RefType,
@@ -182,16 +181,6 @@ fn are_types(indices: &[u32], count: usize) -> bool
     indices.iter().all(|index| (*index as usize) < count)
 }
 
-/// Whether the type at this index is there, and is one of functions.
-fn is_func_type(types: &[SubType], index: u32) -> bool
-    ensures { result ≡ is_func_type (slice_get types.now index) }
-{
-    match types.get(index as usize) {
-        Some(ty) => func_type_of(ty).is_some(),
-        None => false,
-    }
-}
-
 /// Whether the type of each function, of each tag and of each continuation is one of functions.
 fn have_func_types(types: &[SubType], functions: &[FuncDecl], tags: &[u32]) -> bool
     ensures { result ≡ (list_all (λ (f : _). is_func_type (slice_get types.now f.type_index)) functions.now
@@ -199,16 +188,6 @@ fn have_func_types(types: &[SubType], functions: &[FuncDecl], tags: &[u32]) -> b
         && list_all (continues_function types.now) types.now) }
 {
     are_functions(types, functions) && are_func_types(types, tags) && are_of_functions(types)
-}
-
-/// Whether a type is no continuation, or one of a function.
-fn continues_function(types: &[SubType], ty: &SubType) -> bool
-    ensures { result ≡ continues_function types.now ty.now }
-{
-    match continuation_of(ty) {
-        Some(index) => is_func_type(types, number(index.unpack())),
-        None => true,
-    }
 }
 
 /// Whether each continuation is of a function.

@@ -27,7 +27,7 @@ fn add_answer(
     }
 }
 
-/// One visit, or an attempt that is taken back and then one that may stay.
+/// One visit, or an attempt that is taken back and then, unless that found no memory, one that may stay.
 fn answer_of<R: WasmModuleResources>(
     v: &mut OperatorValidator,
     lists: &R,
@@ -42,8 +42,10 @@ fn answer_of<R: WasmModuleResources>(
     if !is_attempted {
         return visit(v, lists, op);
     }
-    let _ = try_and_undo(v, lists, 7, op);
-    try_op(v, lists, 7, op)
+    match try_and_undo(v, lists, 7, op) {
+        Err(refusal) if refusal.is_out_of_memory() => Err(refusal),
+        _ => try_op(v, lists, 7, op),
+    }
 }
 
 /// Adds what the operators answer one by one, each visited or each attempted.

@@ -7,23 +7,13 @@ ghost use Rattle.validate_resources.specs.Indices.{is_known, type_indices_pass, 
 ghost use Rattle.validate_resources.specs.Lists.{list_indices_pass};
 ghost use Rattle.validate_resources.specs.declared.lists.TheConstants.{MAX_TYPES};
 
+use crate::order::number;
 use std::alloc::Global;
 use validate_types::{
     ArrayType, CompositeInnerType, CompositeType, ContType, CoreTypeId, Error, FieldType, FuncType,
     GlobalType, HeapType, PackedIndex, RefType, StorageType, StructType, SubType, TableType,
     UnpackedIndex, ValType,
 };
-
-/// The number of an index of either kind.
-#[inline(always)]
-pub fn number(index: UnpackedIndex) -> u32
-    ensures { result ≡ number_of index }
-{
-    match index {
-        UnpackedIndex::Module(number) => number,
-        UnpackedIndex::Id(id) => id.index(),
-    }
-}
 
 /// The id for an index, or its number where there is no such type among so many.
 #[inline(always)]

@@ -1,4 +1,4 @@
-use Rattle.std.proofs.Common.{◌≡◌, ◌&&◌, true, ◌++◌, ◌∷◌, ◌∙◌, [], List, arith, ap, sym, subst, map, take}
+use Rattle.std.proofs.Common.{◌≡◌, true, ◌++◌, ◌∷◌, ◌∙◌, [], List, arith, ap, sym, map, take}
 use Rattle.std.specs.List.{list_all}
 use Rattle.std.proofs.lemmas.Bool.{and_from}
 use Rattle.std.proofs.lemmas.Grind.{common_steps}
@@ -11,10 +11,11 @@ pub loop-item-preserved : goal.loop-item-preserved
 loop-item-preserved g c =
     let i = c.loop-item.item-index in
     let pushed : c.push.new.self.items ≡ c.loop-item.forms.items ++ c.in_ok-form.form ∷ [] = grind (arith, common_steps) in
-    let known = and_from _ _ c.loop-item.invariant.known c.in_ok-form.ensures.known in
+    let known = g.T.Canonical.known c.args.count in
     record {
-      known = list_all_more (g.T.Canonical.known c.args.count) c.args.items.now i c.item-item.result c.loop-item-test.true
-          ∙ subst (λ x. (list_all (g.T.Canonical.known c.args.count) (take i c.args.items.now) && g.T.Canonical.known c.args.count x) ≡ true) c.item-item.is known;
+      known = list_all_more known c.args.items.now i c.item-item.result c.loop-item-test.true
+          ∙ and_from (list_all known (take i c.args.items.now)) _ c.loop-item.invariant.known
+          (sym (ap known c.item-item.is) ∙ c.in_ok-form.ensures.known);
       form = pushed
           ∙ (ap (λ xs. xs ++ c.in_ok-form.form ∷ []) c.loop-item.invariant.form
           ∙ (ap (λ y. map g.T.Canonical.form (take i c.args.items.now) ++ y ∷ []) (c.in_ok-form.ensures.form ∙ ap g.T.Canonical.form c.item-item.is)

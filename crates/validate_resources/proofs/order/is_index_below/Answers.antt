@@ -1,6 +1,6 @@
 use Rattle.std.proofs.Common.{◌∙◌, sym}
 use Rattle.validate_resources.specs.Lawful.Chains.{step-on, step-off}
-use Rattle.validate_resources.proofs.lists.order.is_index_below.Goals as goal
+use Rattle.validate_resources.proofs.order.is_index_below.Goals as goal
 
 pub loop-at-preserved : goal.loop-at-preserved
 loop-at-preserved c = step-on _ c.loop-at.at _ _ (sym c.in-Some.ensures) c.loop-at-test.true ∙ c.loop-at.invariant

@@ -58,10 +58,10 @@ chain-at types (suc n) u h =
     (λ (e : u < n). get_or-append (chains types n) (supertypes types n ∷ []) [] u (omega arith) ∙ chain-at types n u e)
     (eq-or-lt_of_le at_most)
 
-chain-step : (types : List SubType) (i u : ℕ) → supertype_of types i ≡ Some u → supertypes types i ≡ u ∷ supertypes types u
+pub chain-step : (types : List SubType) (i u : ℕ) → supertype_of types i ≡ Some u → supertypes types i ≡ u ∷ supertypes types u
 chain-step types i u e = ap (chain_by (chains types i)) e ∙ ap (λ c. u ∷ c) (chain-at types i u (supertype-below types i u e))
 
-chain-end : (types : List SubType) (i : ℕ) → supertype_of types i ≡ None → supertypes types i ≡ []
+pub chain-end : (types : List SubType) (i : ℕ) → supertype_of types i ≡ None → supertypes types i ≡ []
 chain-end types i e = ap (chain_by (chains types i)) e
 
 -- one step of a chain

@@ -15,7 +15,8 @@ use Rattle.validate_visit.specs.declared.frame.BlockType.{BlockType}
 use Rattle.validate_stacks.specs.Attempts.{Stacked, is_quiet}
 use Rattle.validate_stacks.specs.Pops.{IsKept}
 use Rattle.validate_stacks.specs.State.{BodyState, body_context, IsStarting, IsValidBody}
-use Rattle.validate_stacks.specs.Visits.{MayVisit, Meets, RowFails}
+use Rattle.validate_stacks.specs.Visits.{step_body, MayVisit, Meets}
+use Rattle.validation_rules.specs.Static.{RowFails}
 use Rattle.validate_stacks.proofs.Validity.{kept_on}
 use Rattle.validate_body.specs.Runs.{without_offsets, IsAcceptedBody}
 use Rattle.validate_body.proofs.Listed.{visited, visit_valid, visit_kept, no_frames, safe_accepted}
@@ -126,7 +127,7 @@ step_none : (v : BodyState) (o : Option State) → option_map (λ (s : State). r
 step_none v None h = refl
 step_none v (Some s) h = absurd cc
 
-pub unaccepted : (md : ModuleContext) (types : CanonicalTypes) (may : Op → Bool) (v : BodyState) (bytes left : List ℕ) (op : Op) → v.present.frames ≢ [] → read_as types bytes ≡ Some (unplaced op, left) → RowFails md (λ cx. operator cx op) v → ¬ AreAcceptedOperators md types may v bytes
+pub unaccepted : (md : ModuleContext) (types : CanonicalTypes) (may : Op → Bool) (v : BodyState) (bytes left : List ℕ) (op : Op) → v.present.frames ≢ [] → read_as types bytes ≡ Some (unplaced op, left) → RowFails (step_body md (λ cx. operator cx op) v) → ¬ AreAcceptedOperators md types may v bytes
 unaccepted md types may v bytes left op opened read fails =
     unfit md types may v bytes left (unplaced op) opened read
     (ap (λ o. step (body_context md v) o v.present) (same_operator (body_context md v) op) ∙ step_none v (step_over md op v) fails)

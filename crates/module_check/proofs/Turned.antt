@@ -13,7 +13,8 @@ use Rattle.validation_rules.specs.Rows.{Operator}
 use Rattle.validate_stacks.specs.AtOnce.{MeetsAtOnce}
 use Rattle.validate_stacks.specs.Attempts.{Stacked}
 use Rattle.validate_stacks.specs.State.{BodyState}
-use Rattle.validate_stacks.specs.Visits.{Meets, RowFails}
+use Rattle.validate_stacks.specs.Visits.{step_body, Meets}
+use Rattle.validation_rules.specs.Static.{RowFails}
 use Rattle.validate_stacks.proofs.AtOnce.{done_at_once, same_at_once}
 use Rattle.module_check.specs.FirstBytes.{BeginLike}
 use Rattle.module_check.specs.Turns.{IsTurn, Passes, PassesBytes}
@@ -74,6 +75,6 @@ module _ (md : ModuleContext) where
   bytes_same false bytes r v w p is = (refl, p)
 
   -- a visit that is refused
-  pub fails : (op : Context → Operator) (offset : ℕ) (v w : BodyState) (e : ErrorValue) → Meets md op offset v (Err e) w → e.wants_memory ≡ false → RowFails md op v
+  pub fails : (op : Context → Operator) (offset : ℕ) (v w : BodyState) (e : ErrorValue) → Meets md op offset v (Err e) w → e.wants_memory ≡ false → RowFails (step_body md op v)
   unfolding Meets
   fails op offset v w e m f = m.refused f

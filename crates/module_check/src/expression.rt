@@ -2,7 +2,8 @@
 
 ghost use Rattle.std.specs.Prelude.{◌≡◌, ◌⊎◌, true, false, Ok, Some, OnOk, IfErr};
 ghost use Rattle.validate_stacks.specs.State.{IsStarting};
-ghost use Rattle.validate_stacks.specs.Visits.{MayVisit, Meets, RowFails};
+ghost use Rattle.validate_stacks.specs.Visits.{step_body, MayVisit, Meets};
+ghost use Rattle.validation_rules.specs.Static.{RowFails};
 ghost use Rattle.validation_rules.specs.Operators.{operator};
 ghost use Rattle.validate_body.specs.Start.{state, stacks_of};
 ghost use Rattle.module_check.specs.Accepted.{AreAcceptedOperators};
@@ -31,7 +32,7 @@ fn check_operator<R: WasmModuleResources>(
         (state v.new)) }
     ensures stands { OnOk result (may_stand (Some place.now) op.now ≡ true) }
     ensures refused { IfErr result (λ e. IsRefusal e → (may_stand (Some place.now) op.now ≡ false)
-        ⊎ RowFails (R.context resources.now) (λ cx. operator cx op.now) (state v.old)) }
+        ⊎ RowFails (step_body (R.context resources.now) (λ cx. operator cx op.now) (state v.old))) }
 {
     check_constant(place, op, offset)?;
     v.check_ref(resources, offset, op)?;

@@ -3,7 +3,8 @@
 ghost use Rattle.std.specs.Prelude.{◌≡◌, ◌≢◌, ℕ, List, [], true, false, Ok, Some, None, OnOk, IfOk, OnErr, IfErr, IfSome, IsSome};
 ghost use Rattle.binary_operators.specs.Functions.{locals};
 ghost use Rattle.validate_stacks.specs.State.{BodyState, IsStarting};
-ghost use Rattle.validate_stacks.specs.Visits.{MayVisit, Meets, RowFails};
+ghost use Rattle.validate_stacks.specs.Visits.{step_body, MayVisit, Meets};
+ghost use Rattle.validation_rules.specs.Static.{RowFails};
 ghost use Rattle.validation_rules.specs.Operators.{operator};
 ghost use Rattle.validate_body.specs.Start.{state, stacks_of};
 ghost use Rattle.module_check.specs.Accepted.{AreAcceptedOperators};
@@ -227,7 +228,7 @@ fn is_accepted_by_check<R: WasmModuleResources>(
         (Ok tt) (state v.new) }
     ensures told { result ≡ false → IsSome refusal.new }
     ensures refused { result ≡ false → IfSome refusal.new (λ e. IsRefusal e
-        → RowFails (R.context resources.now) (λ cx. operator cx op.now) (state v.old)) }
+        → RowFails (step_body (R.context resources.now) (λ cx. operator cx op.now) (state v.old))) }
 {
     match v.check_ref(resources, offset, op) {
         Ok(()) => true,
@@ -253,7 +254,7 @@ fn is_accepted<R: WasmModuleResources>(
         (Ok tt) (state v.new) }
     ensures told { result ≡ false → IsSome refusal.new }
     ensures refused { result ≡ false → IfSome refusal.new (λ e. IsRefusal e
-        → RowFails (R.context resources.now) (λ cx. operator cx op.now) (state v.old)) }
+        → RowFails (step_body (R.context resources.now) (λ cx. operator cx op.now) (state v.old))) }
 {
     if v.passes_at_once(resources, op) {
         return true;

@@ -8,7 +8,7 @@ use Rattle.validate_types.specs.ErrorValue.{ErrorValue}
 use Rattle.validate_resources.specs.Context.{ModuleContext}
 use Rattle.validate_visit.specs.declared.op.Op.{Op}
 use Rattle.validation_rules.specs.Context.{Context}
-use Rattle.validation_rules.specs.Static.{State, step, operand_count, frame_count}
+use Rattle.validation_rules.specs.Static.{State, step, operand_count, frame_count, RowHolds, RowFails}
 use Rattle.validation_rules.specs.Operators.{operator}
 use Rattle.validate_stacks.specs.State.{BodyState, body_context}
 use Rattle.validate_func.specs.Operands.{types_in}
@@ -38,10 +38,10 @@ Answer = Result After ErrorValue
 -- The answer at an operator, from the state s to the state t: its row holds, and that is there after it; or
 -- it was attempted, its row doesn't hold, and it left no trace.
 abbrev pub IsAnswer : Context → Bool → Op × ℕ → Bool → Answer → State → State → Type 0
-IsAnswer cx shows p attempted (Ok after) s t = (step cx (operator cx p.0) s ≡ Some t) × IsThere shows after t
+IsAnswer cx shows p attempted (Ok after) s t = RowHolds (step cx (operator cx p.0) s) t × IsThere shows after t
 IsAnswer cx shows p attempted (Err e) s t =
     (attempted ≡ true) × (e.offset ≡ p.1) × (e.wants_memory ≡ false)
-    × (step cx (operator cx p.0) s ≡ None) × (s ≡ t)
+    × RowFails (step cx (operator cx p.0) s) × (s ≡ t)
 
 -- the answers at the first operators of a list, from the state s to the state t
 abbrev pub AreAnswers : Context → Bool → State → List (Op × ℕ) → List Bool → List Answer → State → Type 0
@@ -66,7 +66,7 @@ pub record EndsRun
     (cx : Context) (p : Op × ℕ) (attempted : Bool) (refusal : ErrorValue) (s : State) : Type 0 where
   pub at_offset : refusal.offset ≡ p.1
   pub is_plain : refusal.wants_memory ≡ false → attempted ≡ false
-  pub row : refusal.wants_memory ≡ false → step cx (operator cx p.0) s ≡ None
+  pub row : refusal.wants_memory ≡ false → RowFails (step cx (operator cx p.0) s)
 
 -- How the run ends: with an answer at each operator, and then whether the outermost frame is closed; or
 -- with a refusal at the next one.

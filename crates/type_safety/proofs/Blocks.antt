@@ -8,7 +8,7 @@ use Rattle.validation_rules.specs.Static.{Frame, State, heads, frame_under, open
 use Rattle.validation_rules.proofs.Steps.{after, some_injective, and_then_given, get_of_drop, before_then, stepped}
 use Rattle.type_safety.specs.Machine.{delimiter, forms_of}
 use Rattle.type_safety.specs.Blocks.{IsBlock, IsAsBefore, BlocksKeepLocals}
-use Rattle.type_safety.proofs.Delimiters.{RowHolds, row_of_step, later_place, delimiter_within}
+use Rattle.type_safety.proofs.Delimiters.{RowHoldsAt, row_of_step, later_place, delimiter_within}
 use Rattle.type_safety.proofs.Safety.{after_closer}
 
 -- ---- the states of a body: frames are open and nothing is left, or no frame is open
@@ -60,7 +60,7 @@ before_earlier cx (op ∷ code) s (suc n) (suc k) t h b =
 
 module _ (cx : Context) (code : List Operator) (ty : BlockType) (n : ℕ) (t : State) (holds : state_before cx code (start ty) (suc n) ≡ Some t) where
   -- the row of an operator up to place n holds
-  rows_hold : (k : ℕ) (op : Operator) (more : List Operator) (f : Frame) (fs : List Frame) → k ≤ n → drop k code ≡ op ∷ more → state_before cx code (start ty) k ≡ Some (open_state (f ∷ fs)) → RowHolds cx code (start ty) k op f fs
+  rows_hold : (k : ℕ) (op : Operator) (more : List Operator) (f : Frame) (fs : List Frame) → k ≤ n → drop k code ≡ op ∷ more → state_before cx code (start ty) k ≡ Some (open_state (f ∷ fs)) → RowHoldsAt cx code (start ty) k op f fs
   rows_hold k op more f fs h d b =
       let u = before_earlier cx code (start ty) (suc n) (suc k) t (omega (arith, h)) holds in
       row_of_step cx code (start ty) k op more f fs u.0 d b (sym (before_then cx code (start ty) k op (open_state (f ∷ fs)) b (get_of_drop code k op more d)) ∙ u.1)

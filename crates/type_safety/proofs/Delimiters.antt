@@ -101,12 +101,12 @@ later_place (suc depth) k (Ends ∷ forms) j m e = let h = later_place depth (su
 later_place (suc depth) k (Delegates ∷ forms) j m e = let h = later_place depth (suc k) forms j m e in omega (arith, h)
 
 -- the row of the operator at a place holds there, and the state after it is before the next place
-pub record RowHolds (cx : Context) (code : List Operator) (s0 : State) (k : ℕ) (op : Operator) (f : Frame) (fs : List Frame) : Type 0 where
+pub record RowHoldsAt (cx : Context) (code : List Operator) (s0 : State) (k : ℕ) (op : Operator) (f : Frame) (fs : List Frame) : Type 0 where
   pub pushed : List MaybeType
   pub holds : pushed_types cx op (heads (f ∷ fs)) (locals_set (f ∷ fs)) f ≡ Some pushed
   pub next : state_before cx code s0 (suc k) ≡ Some (after cx (op.row (heads (f ∷ fs))) f fs op.form pushed)
 
-pub row_of_step : (cx : Context) (code : List Operator) (s0 : State) (k : ℕ) (op : Operator) (more : List Operator) (f : Frame) (fs : List Frame) (t : State) → drop k code ≡ op ∷ more → state_before cx code s0 k ≡ Some (open_state (f ∷ fs)) → step cx op (open_state (f ∷ fs)) ≡ Some t → RowHolds cx code s0 k op f fs
+pub row_of_step : (cx : Context) (code : List Operator) (s0 : State) (k : ℕ) (op : Operator) (more : List Operator) (f : Frame) (fs : List Frame) (t : State) → drop k code ≡ op ∷ more → state_before cx code s0 k ≡ Some (open_state (f ∷ fs)) → step cx op (open_state (f ∷ fs)) ≡ Some t → RowHoldsAt cx code s0 k op f fs
 row_of_step cx code s0 k op more f fs t d b e =
     let st = stepped cx op f fs [] t e in
     record {
@@ -116,7 +116,7 @@ row_of_step cx code s0 k op more f fs t d b e =
     }
 
 -- where the rows up to a last place hold
-module _ (cx : Context) (code : List Operator) (s0 : State) (last : ℕ) (rows : (k : ℕ) (op : Operator) (more : List Operator) (f : Frame) (fs : List Frame) → k ≤ last → drop k code ≡ op ∷ more → state_before cx code s0 k ≡ Some (open_state (f ∷ fs)) → RowHolds cx code s0 k op f fs) where
+module _ (cx : Context) (code : List Operator) (s0 : State) (last : ℕ) (rows : (k : ℕ) (op : Operator) (more : List Operator) (f : Frame) (fs : List Frame) → k ≤ last → drop k code ≡ op ∷ more → state_before cx code s0 k ≡ Some (open_state (f ∷ fs)) → RowHoldsAt cx code s0 k op f fs) where
   delimited : (ops : List Operator) (k : ℕ) (h : Head) (fs : List Frame) → drop k code ≡ ops → Delimited cx code s0 last ops k h fs
   delimited [] k h fs d inner kind own dead first_set b j m e w = absurd cc
   delimited (op ∷ ops) k h fs d [] kind own dead first_set b j m e w =
@@ -138,7 +138,7 @@ module _ (cx : Context) (code : List Operator) (s0 : State) (accepted : IsAccept
   pub operator_at : (k : ℕ) (f : Frame) (fs : List Frame) → state_before cx code s0 k ≡ Some (open_state (f ∷ fs)) → (op : Operator) × (more : List Operator) × (drop k code ≡ op ∷ more)
   operator_at k f fs b = some_operator cx (drop k code) f fs (rest_accepted cx code s0 k _ b accepted)
 
-  pub row_at : (k : ℕ) (op : Operator) (more : List Operator) (f : Frame) (fs : List Frame) → drop k code ≡ op ∷ more → state_before cx code s0 k ≡ Some (open_state (f ∷ fs)) → RowHolds cx code s0 k op f fs
+  pub row_at : (k : ℕ) (op : Operator) (more : List Operator) (f : Frame) (fs : List Frame) → drop k code ≡ op ∷ more → state_before cx code s0 k ≡ Some (open_state (f ∷ fs)) → RowHoldsAt cx code s0 k op f fs
   row_at k op more f fs d b =
       let a = subst (λ ops. IsAccepted cx ops (open_state (f ∷ fs))) d (rest_accepted cx code s0 k _ b accepted) in
       let m = and_then_given (step cx op (open_state (f ∷ fs))) (λ v. state_before cx more v (length more)) _ a.1 in

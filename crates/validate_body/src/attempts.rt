@@ -1,9 +1,10 @@
 //! One operator that is attempted: kept where it is accepted, or taken back whatever its outcome.
 
-ghost use Rattle.std.specs.Prelude.{◌≡◌, false, None, IsSome, OnOk, OnErr, IfErr};
+ghost use Rattle.std.specs.Prelude.{◌≡◌, ◌×◌, false, None, OnOk, OnErr, IfErr};
 ghost use Rattle.validation_rules.specs.Operators.{operator};
+ghost use Rattle.validation_rules.specs.Static.{RowHolds, RowFails};
 ghost use Rattle.validate_stacks.specs.Pops.{IsKept};
-ghost use Rattle.validate_stacks.specs.State.{IsValidBody};
+ghost use Rattle.validate_stacks.specs.State.{BodyState, IsValidBody};
 ghost use Rattle.validate_stacks.specs.Visits.{step_body, MayVisit, Meets};
 ghost use Rattle.validate_body.specs.Start.{state, stacks_of};
 
@@ -60,10 +61,10 @@ pub fn try_and_undo<R: WasmModuleResources>(
     ensures same { state v.new ≡ state v.old }
 
     // It answers by the row.
-    ensures accepted { OnOk result (IsSome (step_body (R.context resources.now)
-        (λ cx. operator cx op.entry) (state v.old))) }
+    ensures accepted { OnOk result ((t : BodyState) × RowHolds
+        (step_body (R.context resources.now) (λ cx. operator cx op.entry) (state v.old)) t) }
     ensures refused { IfErr result (λ e. e.wants_memory ≡ false
-        → step_body (R.context resources.now) (λ cx. operator cx op.entry) (state v.old) ≡ None) }
+        → RowFails (step_body (R.context resources.now) (λ cx. operator cx op.entry) (state v.old))) }
     ensures offset { IfErr result (λ e. e.offset ≡ offset) }
 {
     v.begin_try_op();

@@ -5,7 +5,7 @@ use Rattle.validate_types.specs.ErrorValue.{ErrorValue}
 use Rattle.validate_visit.specs.declared.frame.Frame.{Frame as FlatFrame}
 use Rattle.validate_visit.specs.declared.op.Op.{Op}
 use Rattle.validation_rules.specs.Operators.{operator}
-use Rattle.validation_rules.specs.Static.{State, start, RowHolds, RowFails}
+use Rattle.validation_rules.specs.Static.{State, start, step, RowHolds, RowFails}
 use Rattle.validate_stacks.specs.State.{BodyState, body_context, IsStarting, IsValidBody}
 use Rattle.validate_stacks.specs.Steps.{frame_at}
 use Rattle.validate_body.specs.Runs.{body_before}
@@ -43,7 +43,7 @@ IsStaticRun md f = body_before md f.starting f.accepted (length f.accepted) ≡ 
 -- An operator is accepted, so that f becomes g: none was refused, its row holds, and it joins the list.
 pub record Accepts {R : Type 0} (md : ModuleContext) (p : Op × ℕ) (f g : FunctionState R) : Type 0 where
   pub none_failed : f.failed ≡ false
-  pub row : let cx = body_context md f.starting in RowHolds cx (operator cx p.0) f.present g.present
+  pub row : let cx = body_context md f.starting in RowHolds (step cx (operator cx p.0) f.present) g.present
   pub joins : g ≡ record f { accepted = f.accepted ++ p ∷ []; present = g.present }
 
 -- An operator is refused in f: one was refused before, memory is wanting, or its row doesn't hold. The
@@ -52,7 +52,7 @@ pub record Refuses
     {R : Type 0} (md : ModuleContext) (p : Op × ℕ) (f : FunctionState R) (refusal : ErrorValue) : Type 0 where
   pub row :
       let cx = body_context md f.starting in
-      f.failed ≡ false → refusal.wants_memory ≡ false → RowFails cx (operator cx p.0) f.present
+      f.failed ≡ false → refusal.wants_memory ≡ false → RowFails (step cx (operator cx p.0) f.present)
   pub at_offset : refusal.offset ≡ p.1
 
 -- f becomes g, which has failed: the starting state and the accepted operators stay

@@ -9,7 +9,8 @@ use Rattle.validate_visit.specs.declared.op.ControlOp.TheVariants.{Drop}
 use Rattle.validate_visit.specs.declared.op.ExceptionOp.TheVariants.{Throw, ThrowRef, Rethrow}
 use Rattle.validation_rules.specs.Operators.{operator}
 use Rattle.validate_stacks.specs.State.{BodyState}
-use Rattle.validate_stacks.specs.Visits.{RowFails}
+use Rattle.validate_stacks.specs.Visits.{step_body}
+use Rattle.validation_rules.specs.Static.{RowFails}
 
 abbrev pub takes_no_memory : Op → Bool
 takes_no_memory (Control Unreachable) = true
@@ -26,4 +27,4 @@ takes_no_memory _ = false
 -- where no attempt is pending: refused only where the row doesn't hold
 abbrev pub TakesNoMemory : {E : Type 0} → ModuleContext → Op → BodyState → Result (Unit {0}) E → Type 0
 TakesNoMemory md op v answer =
-    takes_no_memory op ≡ true → v.undone ≡ None → OnErr answer (RowFails md (λ cx. operator cx op) v)
+    takes_no_memory op ≡ true → v.undone ≡ None → OnErr answer (RowFails (step_body md (λ cx. operator cx op) v))

@@ -7,6 +7,7 @@ ghost use Rattle.validate_stacks.specs.AtOnce.{body_dropped};
 ghost use Rattle.validate_stacks.specs.Bodies.{MayBegin, Makes};
 ghost use Rattle.validate_stacks.specs.State.{IsValidBody};
 ghost use Rattle.validate_stacks.specs.Visits.{step_body};
+ghost use Rattle.validation_rules.specs.Static.{RowFails};
 ghost use Rattle.validate_rows.specs.Targets.{is_table_target, are_targets};
 
 use validate_resources::WasmModuleResources;
@@ -26,8 +27,8 @@ pub fn br<A: Refused, R: WasmModuleResources>(
     ensures row { Makes R.context A.tells (λ cx. staying_operator (λ hs. br_row cx hs relative_depth))
         body.entry result body.exit }
     ensures idle { body.entry.stacks.now.body.undone ≡ None
-        → OnErr result (step_body (R.context body.entry.resources.now)
-        (λ cx. staying_operator (λ hs. br_row cx hs relative_depth)) body.entry.stacks.now.body ≡ None) }
+        → OnErr result (RowFails (step_body (R.context body.entry.resources.now)
+        (λ cx. staying_operator (λ hs. br_row cx hs relative_depth)) body.entry.stacks.now.body)) }
 {
     let (block_type, kind) = body.stacks.find_label(relative_depth)?;
     let types = label_types(body.resources, &block_type, kind);
@@ -61,8 +62,8 @@ pub fn return_results<A: Refused, R: WasmModuleResources>(body: Body<'_, '_, R>)
     ensures row { Makes R.context A.tells (λ cx. staying_operator (λ hs. return_row cx hs)) body.entry
         result body.exit }
     ensures idle { body.entry.stacks.now.body.undone ≡ None
-        → OnErr result (step_body (R.context body.entry.resources.now)
-        (λ cx. staying_operator (λ hs. return_row cx hs)) body.entry.stacks.now.body ≡ None) }
+        → OnErr result (RowFails (step_body (R.context body.entry.resources.now)
+        (λ cx. staying_operator (λ hs. return_row cx hs)) body.entry.stacks.now.body)) }
 {
     let outermost = body.stacks.control_stack_height() - 1;
     let Some(frame) = body.stacks.get_frame(outermost) else {
@@ -128,9 +129,9 @@ pub fn br_table<A: Refused, R: WasmModuleResources>(
     ensures row { Makes R.context A.tells (λ cx. staying_operator (λ hs. br_table_row cx hs table.now.complete
         table.now.targets.now table.now.default)) body.entry result body.exit }
     ensures idle { body.entry.stacks.now.body.undone ≡ None
-        → OnErr result (step_body (R.context body.entry.resources.now)
+        → OnErr result (RowFails (step_body (R.context body.entry.resources.now)
         (λ cx. staying_operator (λ hs. br_table_row cx hs table.now.complete table.now.targets.now
-        table.now.default)) body.entry.stacks.now.body ≡ None) }
+        table.now.default)) body.entry.stacks.now.body)) }
 {
     body.find_operands(0, &[ValType::I32])?;
     let (block_type, kind) = body.stacks.find_label(table.default)?;

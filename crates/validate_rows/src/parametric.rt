@@ -6,6 +6,7 @@ ghost use Rattle.validate_resources.specs.Context.{is_number_or_vector};
 ghost use Rattle.validation_rules.specs.Operators.{never_row, looking_row, drop_pushes, is_selectable, select_result, select_pushes, typed_select_row, row_operator};
 ghost use Rattle.validate_stacks.specs.Bodies.{MayBegin, Makes};
 ghost use Rattle.validate_stacks.specs.Visits.{step_body};
+ghost use Rattle.validation_rules.specs.Static.{RowFails};
 
 use validate_resources::WasmModuleResources;
 use validate_shapes::canonical::canonical_value;
@@ -21,8 +22,8 @@ pub fn drop_operand<A: Refused, R: WasmModuleResources>(body: Body<'_, '_, R>) -
     ensures row { Makes R.context A.tells (λ cx. row_operator (looking_row 1 drop_pushes)) body.entry
         result body.exit }
     ensures idle { body.entry.stacks.now.body.undone ≡ None
-        → OnErr result (step_body (R.context body.entry.resources.now)
-        (λ cx. row_operator (looking_row 1 drop_pushes)) body.entry.stacks.now.body ≡ None) }
+        → OnErr result (RowFails (step_body (R.context body.entry.resources.now)
+        (λ cx. row_operator (looking_row 1 drop_pushes)) body.entry.stacks.now.body)) }
 {
     if body.stacks.own_len() > 0 {
         return body.stacks.exchange(1, &[]);

@@ -1,7 +1,7 @@
 //! Operators that begin and end the parts of a legacy `try`.
 #![tactic(auto, using(crate::proofs::Sets::parts))]
 
-ghost use Rattle.std.specs.Prelude.{◌≡◌, None, Some, [], true, Bool, OnErr, IfOk, length};
+ghost use Rattle.std.specs.Prelude.{◌≡◌, Some, [], true, Bool, OnErr, IfOk, length};
 ghost use Rattle.std.specs.Option.{ForSome};
 ghost use Rattle.validation_rules.specs.Exceptions.{exception_types, catch_operator, delegate_operator};
 ghost use Rattle.validation_rules.specs.Operators.{delimiter_operator};
@@ -9,6 +9,7 @@ ghost use Rattle.validation_rules.specs.Rows.{BeginsCatch, catch_kind, may_catch
 ghost use Rattle.validate_stacks.specs.Bodies.{MayBegin, Makes};
 ghost use Rattle.validate_stacks.specs.Steps.{body_with_frame, body_without_frame, frame_at, innermost_operands};
 ghost use Rattle.validate_stacks.specs.Visits.{step_body};
+ghost use Rattle.validation_rules.specs.Static.{RowHolds, RowFails};
 
 use validate_resources::WasmModuleResources;
 use validate_shapes::tags::exception_types_at;
@@ -57,11 +58,11 @@ fn find_part<A: Refused, R: WasmModuleResources>(
     ensures own { IfOk result (λ part. part.0 ≡ length (innermost_operands body.now.stacks.now.body.present.frames)) }
     ensures block { IfOk result (λ part. ForSome (frame_at body.now.stacks.now.body 0)
         (λ f. f.block_type ≡ part.1)) }
-    ensures begins { IfOk result (λ part. (all : Bool) → step_body (R.context body.now.resources.now)
-        (λ cx. delimiter_operator (BeginsCatch all [])) body.now.stacks.now.body
-        ≡ Some (body_with_frame (catch_kind all) part.1 (body_without_frame body.now.stacks.now.body))) }
-    ensures refused { OnErr result ((all : Bool) → step_body (R.context body.now.resources.now)
-        (λ cx. delimiter_operator (BeginsCatch all [])) body.now.stacks.now.body ≡ None) }
+    ensures begins { IfOk result (λ part. (all : Bool) → RowHolds (step_body (R.context body.now.resources.now)
+        (λ cx. delimiter_operator (BeginsCatch all [])) body.now.stacks.now.body)
+        (body_with_frame (catch_kind all) part.1 (body_without_frame body.now.stacks.now.body))) }
+    ensures refused { OnErr result ((all : Bool) → RowFails (step_body (R.context body.now.resources.now)
+        (λ cx. delimiter_operator (BeginsCatch all [])) body.now.stacks.now.body)) }
 {
     let Some(frame) = body.stacks.get_frame(0) else {
         unreachable!()

@@ -2,11 +2,12 @@
 //! legacy exceptions).
 #![tactic(auto, using(crate::proofs::Sets::throws))]
 
-ghost use Rattle.std.specs.Prelude.{◌≡◌, None, Some, true, OnErr};
+ghost use Rattle.std.specs.Prelude.{◌≡◌, None, OnErr};
 ghost use Rattle.validation_rules.specs.Exceptions.{throw_row, throw_ref_row, rethrow_row, is_catch_part};
 ghost use Rattle.validation_rules.specs.Operators.{row_operator, staying_operator};
 ghost use Rattle.validate_stacks.specs.Bodies.{MayBegin, Makes};
 ghost use Rattle.validate_stacks.specs.Visits.{step_body};
+ghost use Rattle.validation_rules.specs.Static.{RowFails};
 
 use validate_resources::WasmModuleResources;
 use validate_shapes::plain::ending;
@@ -25,8 +26,8 @@ pub fn throw<A: Refused, R: WasmModuleResources>(
     ensures row { Makes R.context A.tells (λ cx. row_operator (throw_row cx tag_index)) body.entry
         result body.exit }
     ensures idle { body.entry.stacks.now.body.undone ≡ None
-        → OnErr result (step_body (R.context body.entry.resources.now)
-        (λ cx. row_operator (throw_row cx tag_index)) body.entry.stacks.now.body ≡ None) }
+        → OnErr result (RowFails (step_body (R.context body.entry.resources.now)
+        (λ cx. row_operator (throw_row cx tag_index)) body.entry.stacks.now.body)) }
 {
     let types = exception_types_at(body.resources, tag_index)?;
     ending(body, types)
@@ -38,8 +39,8 @@ pub fn throw_ref<A: Refused, R: WasmModuleResources>(body: Body<'_, '_, R>) -> R
     requires { MayBegin R.context body }
     ensures row { Makes R.context A.tells (λ cx. row_operator throw_ref_row) body.entry result body.exit }
     ensures idle { body.entry.stacks.now.body.undone ≡ None
-        → OnErr result (step_body (R.context body.entry.resources.now) (λ cx. row_operator throw_ref_row)
-        body.entry.stacks.now.body ≡ None) }
+        → OnErr result (RowFails (step_body (R.context body.entry.resources.now) (λ cx. row_operator throw_ref_row)
+        body.entry.stacks.now.body)) }
 {
     ending(body, &[ValType::EXNREF])
 }
@@ -54,8 +55,8 @@ pub fn rethrow<A: Refused, R: WasmModuleResources>(
     ensures row { Makes R.context A.tells (λ cx. staying_operator (λ hs. rethrow_row hs relative_depth))
         body.entry result body.exit }
     ensures idle { body.entry.stacks.now.body.undone ≡ None
-        → OnErr result (step_body (R.context body.entry.resources.now)
-        (λ cx. staying_operator (λ hs. rethrow_row hs relative_depth)) body.entry.stacks.now.body ≡ None) }
+        → OnErr result (RowFails (step_body (R.context body.entry.resources.now)
+        (λ cx. staying_operator (λ hs. rethrow_row hs relative_depth)) body.entry.stacks.now.body)) }
 {
     let (_, kind) = body.stacks.find_label(relative_depth)?;
     if !is_catch_part(kind) {

@@ -7,6 +7,7 @@ ghost use Rattle.validate_resources.specs.Context.{Valid, is_number_or_vector};
 ghost use Rattle.validation_rules.specs.Operators.{plain_row, ending_row, row_operator};
 ghost use Rattle.validate_stacks.specs.Bodies.{MayBegin, Makes};
 ghost use Rattle.validate_stacks.specs.Visits.{step_body};
+ghost use Rattle.validation_rules.specs.Static.{RowFails};
 
 use crate::numbers::{once, twice};
 use validate_resources::WasmModuleResources;
@@ -200,8 +201,8 @@ pub fn ending<A: Refused, R: WasmModuleResources>(
     ensures row { Makes R.context A.tells (λ cx. row_operator (ending_row types.now)) body.entry
         result body.exit }
     ensures idle { body.entry.stacks.now.body.undone ≡ None
-        → OnErr result (step_body (R.context body.entry.resources.now)
-        (λ cx. row_operator (ending_row types.now)) body.entry.stacks.now.body ≡ None) }
+        → OnErr result (RowFails (step_body (R.context body.entry.resources.now)
+        (λ cx. row_operator (ending_row types.now)) body.entry.stacks.now.body)) }
 {
     body.find_operands(0, types)?;
     body.stacks.end_live()

@@ -5,6 +5,7 @@ use Rattle.validate_resources.specs.Context.{ModuleContext}
 use Rattle.validate_types.specs.declared.types.ValType.{ValType}
 use Rattle.validation_rules.specs.Context.{Context}
 use Rattle.validation_rules.specs.Rows.{Operator}
+use Rattle.validation_rules.specs.Static.{RowHolds, RowFails}
 use Rattle.validate_stacks.specs.Attempts.{Stacked}
 use Rattle.validate_stacks.specs.Pops.{IsKept, body_popped_each, body_pushed_each}
 use Rattle.validate_stacks.specs.State.{BodyState, IsValidBody}
@@ -13,7 +14,7 @@ use Rattle.validate_stacks.specs.Visits.{step_body}
 
 -- the row's step was made
 pub record Moved (md : ModuleContext) (op : Context → Operator) (v w : BodyState) : Type 0 where
-  pub step : step_body md op v ≡ Some w
+  pub step : RowHolds (step_body md op v) w
   pub valid : IsValidBody md w
   pub kept : IsKept v w
 
@@ -23,7 +24,7 @@ unfoldable pub Moves :
     Stacked → Type 0
 Moves md tells op v answer w =
     MatchResult answer
-    (λ _. Moved md op v.body w.body) (λ e. (w ≡ v) × (tells e → step_body md op v.body ≡ None))
+    (λ _. Moved md op v.body w.body) (λ e. (w ≡ v) × (tells e → RowFails (step_body md op v.body)))
 
 -- Operands of the expected types are popped, the last of them first, and the rest becomes what f says; or
 -- nothing is changed, and a refusal that tells is one of those pops.

@@ -1,11 +1,11 @@
 -- What the visit of an operator asks and answers (the crate's own).
-use Rattle.std.specs.Prelude.{◌≡◌, ◌≢◌, ℕ, true, false, [], Option, Some, None, Result, OnOk, IfErr}
+use Rattle.std.specs.Prelude.{◌≡◌, ◌≢◌, ℕ, true, false, [], Option, Result, OnOk, IfErr}
 use Rattle.std.specs.Option.{option_map}
 use Rattle.validate_resources.specs.Context.{ModuleContext}
 use Rattle.validate_types.specs.ErrorValue.{ErrorValue}
 use Rattle.validation_rules.specs.Context.{Context}
 use Rattle.validation_rules.specs.Rows.{Operator}
-use Rattle.validation_rules.specs.Static.{State, step}
+use Rattle.validation_rules.specs.Static.{State, step, RowHolds, RowFails}
 use Rattle.validate_stacks.specs.Pops.{IsKept}
 use Rattle.validate_stacks.specs.Attempts.{Stacked, may_step}
 use Rattle.validate_stacks.specs.State.{BodyState, body_context, IsValidBody}
@@ -16,22 +16,14 @@ step_body md op v =
     let cx = body_context md v in
     option_map (λ (s : State). record v { present = s }) (step cx (op cx) v.present)
 
--- the row of the operator holds in the body's state v, and w is the state after it
-abbrev pub RowHolds : ModuleContext → (Context → Operator) → BodyState → BodyState → Type 0
-RowHolds md op v w = step_body md op v ≡ Some w
-
--- its row doesn't hold
-abbrev pub RowFails : ModuleContext → (Context → Operator) → BodyState → Type 0
-RowFails md op v = step_body md op v ≡ None
-
 -- The answer of a visit in the state v, which leaves the state w: accepted exactly where the row holds,
 -- memory aside, and w is the static step then; a refusal carries the offset; the types stay valid, and
 -- nothing but the static state changes, whatever the answer.
 pub record Answers
     (md : ModuleContext) (op : Context → Operator) (offset : ℕ) (v : BodyState)
     (answer : Result (Unit {0}) ErrorValue) (w : BodyState) : Type 0 where
-  pub accepted : OnOk answer (RowHolds md op v w)
-  pub refused : IfErr answer (λ e. e.wants_memory ≡ false → RowFails md op v)
+  pub accepted : OnOk answer (RowHolds (step_body md op v) w)
+  pub refused : IfErr answer (λ e. e.wants_memory ≡ false → RowFails (step_body md op v))
   pub at_offset : IfErr answer (λ e. e.offset ≡ offset)
   pub valid : IsValidBody md w
   pub kept : IsKept v w

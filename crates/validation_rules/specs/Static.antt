@@ -214,13 +214,13 @@ step_in cx op (f ∷ fs) left =
 abbrev pub step : Context → Operator → State → Option State
 step cx op s = step_in cx op s.frames s.left
 
--- the row of the operator holds in the state s, and t is the state after it
-abbrev pub RowHolds : Context → Operator → State → State → Type 0
-RowHolds cx op s t = step cx op s ≡ Some t
+-- the row of an operator holds: it has this step, to the state t
+abbrev pub RowHolds : {S : Type 0} → Option S → S → Type 0
+RowHolds made t = made ≡ Some t
 
--- its row doesn't hold
-abbrev pub RowFails : Context → Operator → State → Type 0
-RowFails cx op s = step cx op s ≡ None
+-- its row doesn't hold: it has none
+abbrev pub RowFails : {S : Type 0} → Option S → Type 0
+RowFails made = made ≡ None
 
 -- the state before place k, if the rows of all operators before it hold
 abbrev pub state_before : Context → List Operator → State → ℕ → Option State

@@ -1,6 +1,7 @@
 -- Nothing is left, or what is left begins with no operator, or its row doesn't hold.
 use Rattle.std.proofs.Common.{◌≡◌, [], None, rules}
-use Rattle.validate_stacks.specs.Visits.{RowFails}
+use Rattle.validate_stacks.specs.Visits.{step_body}
+use Rattle.validation_rules.specs.Static.{RowFails}
 use Rattle.validation_rules.specs.Operators.{operator}
 use Rattle.validate_body.specs.Start.{state}
 use Rattle.module_check.specs.Accepted.{AreAcceptedOperators}
@@ -22,7 +23,7 @@ pub returns-clause-refused : goal.returns-clause-refused
 returns-clause-refused g c = λ is.
     let md = g.R.WasmModuleResources.context c.args.resources.now in
     let op = c.read_operator_into.new.to in
-    for_some c.is_accepted.new.refusal (λ e. IsRefusal e → RowFails md (λ cx. operator cx op) (state c.args.v.now))
+    for_some c.is_accepted.new.refusal (λ e. IsRefusal e → RowFails (step_body md (λ cx. operator cx op) (state c.args.v.now)))
     (λ e. IsRefusal e → ¬ AreAcceptedOperators md c.args.canonical.now (may_stand None) (state c.args.v.now) c.args.reader.now.left)
     (λ e fails refusal. unaccepted md c.args.canonical.now (may_stand None) (state c.args.v.now) c.args.reader.now.left c.read_operator_into.new.reader.left op c.requires.open_frame c.in_default.ensures.read (fails refusal))
     (c.is_accepted.ensures.refused is)

@@ -14,7 +14,7 @@ use std::alloc::{AllocError, Global};
 use validate_resources::WasmModuleResources;
 use validate_resources::kinds::func_type_of;
 use validate_types::{
-    AbstractHeapType, Error, HeapType, MaybeType, RefType, Refusal, Told, ValType,
+    AbstractHeapType, Error, HeapType, MaybeType, RefType, Refusal, Told, ValType, Wording,
 };
 
 impl Stacks {
@@ -83,29 +83,84 @@ impl Stacks {
         if let Refusal::OutOfMemory = refusal {
             return Error::out_of_memory(offset);
         }
-        if let Some(text) = refusal.fixed_text() {
-            return Error::new(text, offset).because(refusal);
-        }
-        match self.made_text(resources, refusal) {
-            Ok(text) => Error::with_text(text, offset).because(refusal),
-            Err(_) => Error::out_of_memory(offset),
+        match refusal.wording() {
+            Wording::Fixed(text) => Error::new(text, offset).because(refusal),
+            wording => match self.written(resources, wording) {
+                Ok(text) => Error::with_text(text, offset).because(refusal),
+                Err(_) => Error::out_of_memory(offset),
+            },
         }
     }
 
-    /// The text of a refusal that names a type or an index.
-    fn made_text<R: WasmModuleResources>(
+    /// The text of a refusal, written with what stands in it.
+    fn written<R: WasmModuleResources>(
         &self,
         resources: &R,
-        refusal: Refusal,
+        wording: Wording,
     ) -> Result<String, AllocError> {
         let alloc = self.allocator();
-        match refusal {
-            Refusal::NoFunctionType(index) => declared_text(resources, alloc, "func", index),
-            Refusal::NoStructType(index) => declared_text(resources, alloc, "struct", index),
-            Refusal::NoArrayType(index) => declared_text(resources, alloc, "array", index),
-            Refusal::OtherResults(index) => self.results_text(resources, index),
-            Refusal::NotBelow { expected, found } => below_text(resources, alloc, expected, found),
-            _ => operand_text(alloc, refusal),
+        match wording {
+            Wording::Fixed(text) => text.to_string(alloc),
+            Wording::Index {
+                before,
+                index,
+                behind,
+            } => format!(in alloc; "{before}{index}{behind}"),
+            Wording::Declared { kind, index } => declared_text(resources, alloc, kind, index),
+            Wording::Results(index) => self.results_text(resources, index),
+            Wording::Missing(ty) => {
+                let ty = ty_to_str(ty);
+                format!(in alloc; "type mismatch: expected {ty} but nothing on stack")
+            }
+            Wording::Mismatch { expected, found } => mismatch_text(alloc, expected, found),
+            Wording::NotBelow { expected, found } => below_text(resources, alloc, expected, found),
+            Wording::Named { before, ty } => {
+                let ty = ty_to_str(ty);
+                format!(in alloc; "{before}{ty}")
+            }
+            Wording::Operator {
+                before,
+                name,
+                behind,
+            } => format!(in alloc; "{before}{name}{behind}"),
+            Wording::OperatorAndType {
+                before,
+                name,
+                between,
+                type_index,
+                behind,
+            } => format!(in alloc; "{before}{name}{between}{type_index}{behind}"),
+            Wording::NotDefaultable { name, ty } => {
+                format!(in alloc; "invalid `{name}`: {ty} field is not defaultable")
+            }
+            Wording::NotAllowed { place, name, types } => {
+                format!(in alloc; "invalid type: `{place}.atomic.{name}` only allows {types}")
+            }
+            Wording::NoBytes(ty) => {
+                format!(in alloc;
+                    "array access instructions require a numeric, vector, or packed element type, found `{ty}`"
+                )
+            }
+            Wording::OtherElements {
+                name,
+                segment,
+                expected,
+                found,
+            } => {
+                format!(in alloc;
+                    "invalid {name} instruction: element segment {segment} type mismatch: expected {expected}, found {found}"
+                )
+            }
+            Wording::OtherStorage { expected, found } => {
+                format!(in alloc; "array types do not match: expected {expected}, found {found}")
+            }
+            Wording::Types {
+                before,
+                first,
+                between,
+                second,
+                behind,
+            } => format!(in alloc; "{before}{first}{between}{second}{behind}"),
         }
     }
 
@@ -192,37 +247,6 @@ fn names_of(alloc: Global, types: &[ValType]) -> Result<String, AllocError> {
     Ok(names)
 }
 
-/// The text of an operand that isn't there, or of another type.
-fn operand_text(alloc: Global, refusal: Refusal) -> Result<String, AllocError> {
-    match refusal {
-        Refusal::NothingFound(Some(expected)) => {
-            let expected = ty_to_str(expected);
-            format!(in alloc; "type mismatch: expected {expected} but nothing on stack")
-        }
-        Refusal::Mismatch {
-            expected,
-            found,
-            ..
-        } => mismatch_text(alloc, expected, found),
-        Refusal::ClauseType { expected, found } => {
-            mismatch_text(alloc, expected, MaybeType::Known(found))
-        }
-        Refusal::NoReference(found) => {
-            let found = ty_to_str(found);
-            format!(in alloc; "type mismatch: expected ref but found {found}")
-        }
-        Refusal::NoDeclaredReference(found) => {
-            let found = ty_to_str(found);
-            format!(in alloc; "type mismatch: {found}")
-        }
-        Refusal::NoContinuationReference(found) => {
-            let found = ty_to_str(found);
-            format!(in alloc; "type mismatch: expected a continuation reference, found {found}")
-        }
-        _ => index_text(alloc, refusal),
-    }
-}
-
 /// The text of an operand that doesn't fit.
 fn mismatch_text(alloc: Global, expected: ValType, found: MaybeType) -> Result<String, AllocError> {
     let expected = ty_to_str(expected);
@@ -234,121 +258,5 @@ fn mismatch_text(alloc: Global, expected: ValType, found: MaybeType) -> Result<S
         MaybeType::Bottom | MaybeType::UnknownRef(_) => {
             format!(in alloc; "type mismatch: expected {expected}, found heap type")
         }
-    }
-}
-
-/// An index that names nothing, or another thing, and what stands before and behind it in its text.
-fn index_between(refusal: Refusal) -> Option<(&'static str, u32, &'static str)> {
-    let (before, index, behind) = match refusal {
-        Refusal::UnknownLocal(index) => ("unknown local ", index, ": local index out of bounds"),
-        Refusal::UninitializedLocal(index) => ("uninitialized local: ", index, ""),
-        Refusal::UnknownFunction(index) => {
-            ("unknown function ", index, ": function index out of bounds")
-        }
-        Refusal::UnknownTable(index) => ("unknown table ", index, ": table index out of bounds"),
-        Refusal::UnknownMemory(index) => ("unknown memory ", index, ""),
-        Refusal::UnknownTag(index) => ("unknown tag ", index, ": tag index out of bounds"),
-        Refusal::UnknownElements(index) => {
-            (
-                "unknown elem segment ",
-                index,
-                ": segment index out of bounds",
-            )
-        }
-        Refusal::UnknownData(index) => ("unknown data segment ", index, ""),
-        Refusal::NoContinuationType(index) => ("non-continuation type ", index, ""),
-        _ => return None,
-    };
-    Some((before, index, behind))
-}
-
-/// The text of an index that names nothing, or another thing.
-fn index_text(alloc: Global, refusal: Refusal) -> Result<String, AllocError> {
-    match index_between(refusal) {
-        Some((before, index, behind)) => format!(in alloc; "{before}{index}{behind}"),
-        None => descriptor_text(alloc, refusal),
-    }
-}
-
-/// The text of a type that has a descriptor or none.
-fn descriptor_text(alloc: Global, refusal: Refusal) -> Result<String, AllocError> {
-    match refusal {
-        Refusal::WantsDescriptor { type_index, name } => {
-            format!(in alloc;
-                "type with descriptor requires descriptor allocation: `{name}` with type {type_index}"
-            )
-        }
-        Refusal::NotDescribed { type_index, name } => {
-            format!(in alloc; "invalid `{name}`: type {type_index} is not described")
-        }
-        _ => access_text(alloc, refusal),
-    }
-}
-
-/// The text of what can't be written, read or made so.
-fn access_text(alloc: Global, refusal: Refusal) -> Result<String, AllocError> {
-    match refusal {
-        Refusal::ImmutableGlobal(name) => {
-            format!(in alloc; "global is immutable: cannot modify it with `{name}`")
-        }
-        Refusal::NotDefaultable { name, ty } => {
-            format!(in alloc; "invalid `{name}`: {ty} field is not defaultable")
-        }
-        Refusal::NotAllowed { place, name, types } => {
-            format!(in alloc; "invalid type: `{place}.atomic.{name}` only allows {types}")
-        }
-        Refusal::NoBytes(ty) => {
-            format!(in alloc;
-                "array access instructions require a numeric, vector, or packed element type, found `{ty}`"
-            )
-        }
-        Refusal::NoReferences(name) => {
-            format!(in alloc;
-                "type mismatch: {name} can only create arrays with reference elements"
-            )
-        }
-        Refusal::OtherElements {
-            name,
-            segment,
-            expected,
-            found,
-        } => {
-            format!(in alloc;
-                "invalid {name} instruction: element segment {segment} type mismatch: expected {expected}, found {found}"
-            )
-        }
-        Refusal::OtherStorage { expected, found } => {
-            format!(in alloc; "array types do not match: expected {expected}, found {found}")
-        }
-        _ => cast_text(alloc, refusal),
-    }
-}
-
-/// The text of a cast that isn't one.
-fn cast_text(alloc: Global, refusal: Refusal) -> Result<String, AllocError> {
-    match refusal {
-        Refusal::OtherHierarchy { from, into } => {
-            format!(in alloc;
-                "type mismatch: {from} and {into} have different heap type hierarchies"
-            )
-        }
-        Refusal::CastNotBelow { from, into } => {
-            format!(in alloc; "type mismatch: expected {from}, found {into}")
-        }
-        Refusal::CastLabel { label, carried } => {
-            format!(in alloc;
-                "type mismatch: casting to type {carried}, but it does not match label result type {label}"
-            )
-        }
-        Refusal::CastFailLabel { label, carried } => {
-            format!(in alloc; "type mismatch: expected label result type {label}, found {carried}")
-        }
-        Refusal::NotExact { expected, found } => {
-            format!(in alloc;
-                "type mismatch: expected descriptor of exact type {expected} found {found}"
-            )
-        }
-        // All others have a fixed text.
-        _ => format!(in alloc; "{refusal:?}"),
     }
 }

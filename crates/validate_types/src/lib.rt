@@ -20,6 +20,7 @@ pub use crate::heap::{AbstractHeapType, CoreTypeId, HeapType, PackedIndex, Unpac
 pub use crate::refs::RefType;
 pub use crate::refusal::{ClauseKind, NotDone, Packing, Refusal, Refused, Told, grown};
 pub use crate::signature::func_signature_matches;
+pub use crate::texts::Wording;
 pub use crate::types::{
     ArrayType, CompositeInnerType, CompositeType, ContType, FieldType, FuncType, GlobalType,
     MaybeType, MemoryType, StorageType, StructType, SubType, TableType, ValType,

@@ -16,8 +16,8 @@ ghost use Rattle.validate_body.specs.Start.{state, current_kind, stacks_of};
 use crate::validator::OperatorValidator;
 use validate_resources::WasmModuleResources;
 use validate_resources::kinds::func_type_of;
-use validate_stacks::Pops;
-use validate_types::{ContType, Error, FuncType, RefType, SubType, ValType};
+use validate_stacks::{Body, Pops};
+use validate_types::{ContType, Error, FuncType, RefType, SubType, Told, ValType};
 use validate_visit::{
     ArrayOp, AtomicOp, BlockType, ContinuationOp, ControlOp, ConvertOp, ExceptionOp, FrameKind,
     FrameStack, MemoryOp, ModuleArity, NumericOp, Op, OperatorChecks, ReferenceOp, SharedOp,
@@ -174,9 +174,19 @@ impl<'validator, 'resources, R: WasmModuleResources> WasmProposalValidator<
         ensures valid { IsValidBody (R.context self.old.resources.now) (state self.new.inner.now) }
         ensures kept { IsKept (state self.old.inner.now) (state self.new.inner.now) }
     {
-        self.inner
-            .stacks
-            .pop_run(self.resources, self.offset, elem, n, pops)
+        let body = Body {
+            stacks: &mut self.inner.stacks,
+            resources: self.resources,
+        };
+        let answer: Result<(), Told> = body.pop_run(elem, n, &[], pops);
+        match answer {
+            Ok(()) => Ok(()),
+            Err(told) => Err(
+                self.inner
+                    .stacks
+                    .refuse(self.resources, told, 0, self.offset),
+            ),
+        }
     }
 }
 

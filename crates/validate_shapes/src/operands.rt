@@ -12,7 +12,7 @@ ghost use Rattle.validate_stacks.specs.Bodies.{MayBegin, Makes};
 
 use crate::plain::{constant, none_for_both, one_for_both, one_for_one, plain};
 use validate_resources::WasmModuleResources;
-use validate_stacks::Body;
+use validate_stacks::{Body, Pops};
 use validate_types::{FieldType, Refused, ValType};
 
 /// At most five types.
@@ -102,7 +102,7 @@ fn operands_giving<A: Refused, R: WasmModuleResources>(
         Expected::Few(Few::Four(a, b, c, d)) => plain(body, &[a, b, c, d], pushed),
         Expected::Few(Few::Five(a, b, c, d, e)) => plain(body, &[a, b, c, d, e], pushed),
         Expected::Fields(fields) => body.exchange_fields(fields, pushed),
-        Expected::Run(ty, count) => body.exchange_run(ty, count, pushed),
+        Expected::Run(ty, count) => body.pop_run(ty, count, pushed, &mut Pops::new()),
         Expected::Listed(types) => plain(body, types, pushed),
         Expected::Under(types, above) => body.exchange_under(types, above, pushed),
     }

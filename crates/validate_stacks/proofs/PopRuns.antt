@@ -1,21 +1,25 @@
 -- Runs of pops of one type: their list turned, a pop of an own operand, and the pop below all of them.
-use Rattle.std.proofs.Common.{◌≡◌, ◌⊎◌, inl, inr, min, ◌&&◌, Bool, false, ap₂, drop, take, ℕ, zero, suc, ◌+◌, ◌-◌, ◌<◌, ◌≤◌, List, [], ◌∷◌, ◌++◌, true, Some, length, reverse, replicate, refl, sym, ◌∙◌, ap, arith}
+use Rattle.std.proofs.Common.{Result, Ok, Err, OnErr, get_or, ◌≡◌, ◌⊎◌, inl, inr, min, ◌&&◌, Bool, false, ap₂, drop, take, ℕ, zero, suc, ◌+◌, ◌-◌, ◌<◌, ◌≤◌, List, [], ◌∷◌, ◌++◌, true, Some, length, reverse, replicate, refl, sym, ◌∙◌, ap, arith}
 use Rattle.std.proofs.lemmas.Bool.{cases_lt}
-use Rattle.std.proofs.lemmas.List.{append-nil, drop_all, length-replicate, replicate_more, reverse-append}
-use Rattle.validate_resources.specs.Context.{ModuleContext, Valid, IsLawful}
+use Rattle.std.proofs.lemmas.List.{drop_all, get_or-reverse, get_or-take, length-take-le, length-replicate, replicate_more, reverse-append}
+use Rattle.validate_resources.specs.Context.{ModuleContext}
 use Rattle.validate_types.specs.declared.types.ValType.{ValType}
 use Rattle.validation_rules.specs.Context.{Context}
 use Rattle.validation_rules.proofs.Pops.{fit_turned}
-use Rattle.validation_rules.specs.Fits.{MaybeType, Bottom, Known, all_fit, fits}
+use Rattle.validation_rules.specs.Fits.{MaybeType, Bottom, all_fit, fits}
 use Rattle.validation_rules.specs.Pops.{found_by_pop}
 use Rattle.validation_rules.specs.Rows.{guard}
-use Rattle.validation_rules.specs.Static.{Frame, stack_with, operands_on_top}
-use Rattle.validate_stacks.specs.Counted.{pops_of_run}
+use Rattle.validation_rules.specs.Static.{Frame, operands_on_top}
 use Rattle.validate_stacks.specs.Pops.{may_pop, body_popped_each, has_operands_fitting, operands_found_in}
 use Rattle.validate_stacks.specs.State.{BodyState, body_context}
 use Rattle.validate_stacks.specs.Steps.{innermost_operands, found_in_frames, found_in_body, found_after_pops_in_frames, found_after_pops_in_body, body_popped, body_without_first}
 use Rattle.validate_stacks.proofs.MatchedOperands.{after_in}
 use Rattle.validate_stacks.proofs.Whole.{popped_none, popped_next}
+
+-- what holds in any case holds where there is an error
+pub on_err : {T E P : Type 0} (answer : Result T E) → P → OnErr answer P
+on_err (Ok x) holds = tt
+on_err (Err e) holds = holds
 
 -- n times the same is its own reverse
 pub reverse-replicate : {A : Type 0} (n : ℕ) (x : A) → reverse (replicate n x) ≡ replicate n x
@@ -40,74 +44,28 @@ found_first v = by v.present.frames
     by [] = refl
     by (f ∷ fs) = refl
 
--- a pop of an own operand is one of the run
-pub run_next : (md : ModuleContext) (elem : ValType) (v : BodyState) (n : ℕ) → 0 < n → may_pop (body_context md v) (found_in_body v) (Some elem) ≡ true → body_popped_each md (replicate (n - 1) elem) (body_popped v) ≡ body_popped_each md (replicate n elem) v
-run_next md elem v zero h p = absurd (omega (arith, h))
-run_next md elem v (suc n) h p =
-    let less : suc n - 1 ≡ n = omega arith in
-    ap (λ k. body_popped_each md (replicate k elem) (body_popped v)) less
-    ∙ sym (popped_next md elem (replicate n elem) v ∙ ap (λ b. guard b (body_popped_each md (replicate n elem) (body_popped v))) p)
+-- a pop finds an own operand where it lies
+own_found_at : (d : ℕ) (own : List MaybeType) (dead : Bool) (x : MaybeType) → d < length own → found_by_pop dead (drop d own) ≡ Some (get_or own d x)
+own_found_at d [] dead x h = absurd (omega (arith, h))
+own_found_at zero (y ∷ own) dead x h = refl
+own_found_at (suc d) (y ∷ own) dead x h = own_found_at d own dead x (omega (arith, h))
 
-one_less : (v : BodyState) → 0 < length (innermost_operands v.present.frames) → length (innermost_operands (body_popped v).present.frames) + 1 ≡ length (innermost_operands v.present.frames)
-one_less v h = by (innermost_operands v.present.frames) v.present.frames refl refl h
+-- the top own operands, as they lie, the last on top, are what pops find
+pub run_operand_found : (v : BodyState) (count i : ℕ) (x d : MaybeType) → count ≤ length (innermost_operands v.present.frames) → i < count → get_or (reverse (take count (innermost_operands v.present.frames))) i d ≡ x → found_after_pops_in_body (count - 1 - i) v ≡ Some x
+run_operand_found v count i x d within here there = by v.present.frames within there
   where
-    by : (own : List MaybeType) (fs : List Frame) → v.present.frames ≡ fs → innermost_operands fs ≡ own → 0 < length own → length (innermost_operands (body_without_first own v).present.frames) + 1 ≡ length own
-    by [] fs e i k = absurd (omega (arith, k))
-    by (x ∷ own) [] e i k = absurd cc
-    by (x ∷ own) (f ∷ fs) e i k = rw e (omega arith)
-
-pub next_counted : (v : BodyState) (n : ℕ) → 0 < n → 0 < length (innermost_operands v.present.frames) → 1 + pops_of_run (n - 1) (body_popped v) ≡ pops_of_run n v
-next_counted v n h k = omega (arith, one_less v k, h)
-
-module _ (md : ModuleContext) (elem : ValType) (v : BodyState) (none : length (innermost_operands v.present.frames) ≤ 0) where
-  -- where there is no own operand and a pop passes, it leaves what any number of them leave
-  pub run_ends : (n : ℕ) → may_pop (body_context md v) (found_in_body v) (Some elem) ≡ true → body_popped_each md [] (body_popped v) ≡ body_popped_each md (replicate n elem) v
-  run_ends n p = popped_none md (body_popped v) ∙ ap Some (unmoved v none) ∙ sym (all n)
-    where
-      all : (n : ℕ) → body_popped_each md (replicate n elem) v ≡ Some v
-      all zero = popped_none md v
-      all (suc n) =
-          popped_next md elem (replicate n elem) v
-          ∙ ap (λ b. guard b (body_popped_each md (replicate n elem) (body_popped v))) p
-          ∙ ap (body_popped_each md (replicate n elem)) (unmoved v none)
-          ∙ all n
-
-  -- and it is the last of the run
-  pub last_counted : (n : ℕ) (w : BodyState) → 0 < n → 1 + pops_of_run 0 w ≡ pops_of_run n v
-  last_counted n w h = omega (arith, h, none)
-
--- a run of own operands that are known to be of its type fits
-pub known_run_fits : (md : ModuleContext) → IsLawful md → (v : BodyState) (n : ℕ) (t : ValType) → Valid md t → take n (innermost_operands v.present.frames) ≡ replicate n (Known t) → has_operands_fitting (body_context md v) (replicate n t) v ≡ true
-known_run_fits md laws v n t valid known =
-    ap (λ k. all_fit cx (operands_found_in k v.present.frames) (replicate n t)) (length-replicate n t)
-    ∙ ap (λ xs. all_fit cx xs (replicate n t)) (found v.present.frames known)
-    ∙ all n
-  where
-    cx : Context
-    cx = body_context md v
-
-    all : (n : ℕ) → all_fit cx (replicate n (Known t)) (replicate n t) ≡ true
-    all zero = refl
-    all (suc n) = ap (λ b. b && all_fit cx (replicate n (Known t)) (replicate n t)) (laws.reflexive t valid) ∙ all n
-
-    on_top : (n : ℕ) (dead : Bool) (own : List MaybeType) → take n own ≡ replicate n (Known t) → operands_on_top n dead own ≡ replicate n (Known t)
-    on_top zero dead own e = refl
-    on_top (suc n) dead [] e = absurd cc
-    on_top (suc n) dead (x ∷ own) e = ap₂ (λ y ys. y ∷ ys) (cons_head x (Known t) (take n own) (replicate n (Known t)) e) (on_top n dead own (cons_tail x (Known t) (take n own) (replicate n (Known t)) e))
-      where
-        cons_head : (x y : MaybeType) (xs ys : List MaybeType) → x ∷ xs ≡ y ∷ ys → x ≡ y
-        cons_head x y xs ys h = cc
-
-        cons_tail : (x y : MaybeType) (xs ys : List MaybeType) → x ∷ xs ≡ y ∷ ys → xs ≡ ys
-        cons_tail x y xs ys h = cc
-
-    found : (fs : List Frame) → take n (innermost_operands fs) ≡ replicate n (Known t) → operands_found_in n fs ≡ replicate n (Known t)
-    found [] e = by n e
-      where
-        by : (n : ℕ) → take n (innermost_operands []) ≡ replicate n (Known t) → operands_found_in n [] ≡ replicate n (Known t)
-        by zero e = refl
-        by (suc n) e = absurd cc
-    found (f ∷ fs) e = ap (λ xs. stack_with xs []) (on_top n f.dead f.operands e) ∙ append-nil (reverse (replicate n (Known t))) ∙ reverse-replicate n (Known t)
+    by : (fs : List Frame) → count ≤ length (innermost_operands fs) → get_or (reverse (take count (innermost_operands fs))) i d ≡ x → found_after_pops_in_frames (count - 1 - i) fs ≡ Some x
+    by [] w t = absurd (omega (arith, w, here))
+    by (f ∷ fs) w t =
+        let own = f.operands in
+        let top = take count own in
+        let long : length top ≡ count = length-take-le count own w in
+        let at : length top - 1 - i ≡ count - 1 - i = omega (arith, long) in
+        own_found_at (count - 1 - i) own f.dead d (omega (arith, w, here))
+        ∙ ap Some (sym (get_or-take count own (count - 1 - i) d (omega (arith, here))))
+        ∙ ap (λ k. Some (get_or top k d)) (sym at)
+        ∙ ap Some (sym (get_or-reverse top i d (omega (arith, here, long))))
+        ∙ ap Some t
 
 -- where a pop finds an unknown operand below all own ones, pops of any types pass and leave what there is
 pub dead_stays : (md : ModuleContext) (v : BodyState) → innermost_operands v.present.frames ≡ [] → found_in_body v ≡ Some Bottom → (ts : List ValType) → body_popped_each md ts v ≡ Some v

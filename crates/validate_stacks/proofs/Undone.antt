@@ -29,10 +29,6 @@ pub popped_top : {X : Type 0} (r : Option X) (old new : List X) (top : X) → sl
 popped_top None old new top h k = let e : None ≡ Some top = rw k.0 at h in cc
 popped_top (Some x) old new top h k = let e : Some x ≡ Some top = rw k at h in cc
 
-pub not_empty : {X : Type 0} (xs : List X) (n : ℕ) → n < length xs → slice_get xs 0 ≡ None → ⊥
-not_empty [] n h e = omega arith
-not_empty (x ∷ xs) n h e = cc
-
 -- ---- room
 
 pub sound_room : (fr fr' : ℕ) (fs : List FlatFrame) (or or' : ℕ) (operands : List MaybeType) (ir : ℕ) (set_at_entry : List Bool) (is : List ℕ) (t : Transaction) (ls : List ValType) → fr ≤ fr' → or ≤ or' → IsSound fr fs or operands ir set_at_entry is t ls → IsSound fr' fs or' operands ir set_at_entry is t ls

@@ -1,6 +1,6 @@
 //! Operands exchanged: found, then moved.
 
-ghost use Rattle.std.specs.Prelude.{◌<◌, [], ◌∷◌, ◌++◌, length, replicate};
+ghost use Rattle.std.specs.Prelude.{◌<◌, [], ◌∷◌, ◌++◌, length};
 ghost use Rattle.std.specs.List.{AllByRecursion};
 ghost use Rattle.validate_resources.specs.Context.{Valid};
 ghost use Rattle.validate_types.specs.Types.{unpacked_fields};
@@ -46,27 +46,6 @@ impl<R: WasmModuleResources> Body<'_, '_, R> {
         self.find_fields(0, fields)?;
         let own = self.stacks.own_len();
         self.stacks.exchange(fields.len().min(own), pushed)
-    }
-
-    /// [`Body::exchange_types`], where so many operands of one type are expected. It takes the time of the own operands
-    /// of the innermost frame at most.
-    #[inline(always)]
-    pub fn exchange_run<A: Refused>(
-        self,
-        elem: ValType,
-        count: u32,
-        pushed: &[ValType],
-    ) -> Result<(), A>
-        requires visit { MayBegin R.context self }
-        requires element { Valid (R.context self.resources.now) elem }
-        ensures { Exchanges (R.context self.entry.resources.now) A.tells (replicate count elem) pushed.now
-            self.entry.stacks.now result self.exit.0.now }
-    {
-        let Body { stacks, resources } = self;
-        let own = stacks.own_len();
-        let count = count as usize;
-        stacks.find_run(resources, own, elem, count)?;
-        stacks.exchange(count.min(own), pushed)
     }
 
     /// [`Body::exchange_types`], where the types of a list are expected, and one more above them.

@@ -1,6 +1,6 @@
 //! What operators look for before anything moves: each look answers what it found, or why it refuses. None takes memory.
 
-ghost use Rattle.std.specs.Prelude.{◌≡◌, ◌≢◌, ◌<◌, ◌≤◌, [], ◌∷◌, ◌++◌, true, false, None, Some, length, replicate, slice_get, OnOk, OnErr, IfOk};
+ghost use Rattle.std.specs.Prelude.{◌≡◌, ◌≢◌, ◌<◌, ◌≤◌, [], ◌∷◌, ◌++◌, true, false, None, Some, length, slice_get, OnOk, OnErr, IfOk};
 ghost use Rattle.std.specs.List.{AllByRecursion};
 ghost use Rattle.std.specs.Option.{ForSome};
 ghost use Rattle.validate_resources.specs.Context.{Valid};
@@ -189,58 +189,11 @@ impl Stacks {
         Ok(())
     }
 
-    /// [`Body::find_operands`] of so many operands of one type, where the innermost frame has so many own operands. Below
-    /// those each pop finds the same, so one is looked for there.
-    pub(crate) fn find_run<A: Refused, R: WasmModuleResources>(
-        &self,
-        resources: &R,
-        own: usize,
-        elem: ValType,
-        count: usize,
-    ) -> Result<(), A>
-        requires own { own ≡ length (innermost_operands self.now.body.present.frames) }
-        requires element { Valid (R.context resources.now) elem }
-        requires state { IsValidBody (R.context resources.now) self.now.body }
-        ensures fit { OnOk result (has_operands_fitting (body_context (R.context resources.now) self.now.body)
-            (replicate count elem) self.now.body ≡ true) }
-        ensures unfit { OnErr result (has_operands_fitting
-            (body_context (R.context resources.now) self.now.body) (replicate count elem) self.now.body
-            ≡ false) }
-    {
-        if !self.has_fitting_run(resources, elem, count.min(own)) {
-            return Err(self.first_misfit(resources, own, elem));
-        }
-        if own < count && !self.is_fitting_at(resources, own, own, &elem) {
-            return Err(self.misfit(resources, own, &elem));
-        }
-        Ok(())
-    }
-
-    /// The refusal of the first own operand of the innermost frame, which has so many, that isn't of this type.
-    #[cold]
-    #[inline(never)]
-    fn first_misfit<A: Refused, R: WasmModuleResources>(
-        &self,
-        resources: &R,
-        own: usize,
-        elem: ValType,
-    ) -> A
-        requires own { own ≡ length (innermost_operands self.now.body.present.frames) }
-        requires element { Valid (R.context resources.now) elem }
-        requires state { IsValidBody (R.context resources.now) self.now.body }
-    {
-        let mut depth = 0;
-        while depth < own && self.is_fitting_at(resources, own, depth, &elem) {
-            depth += 1;
-        }
-        self.misfit(resources, depth, &elem)
-    }
-
     /// The refusal where an operand of this type isn't found below so many others. It is made here, so that nothing of it
     /// lies where it isn't called.
     #[cold]
     #[inline(never)]
-    fn misfit<A: Refused, R: WasmModuleResources>(
+    pub(crate) fn misfit<A: Refused, R: WasmModuleResources>(
         &self,
         resources: &R,
         depth: usize,

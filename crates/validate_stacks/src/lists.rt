@@ -1,6 +1,6 @@
 //! Whether operands fit a list of types.
 
-ghost use Rattle.std.specs.Prelude.{◌≡◌, ◌<◌, ◌≤◌, true, Some, length, replicate, slice_get, take, ◌-◌};
+ghost use Rattle.std.specs.Prelude.{◌≡◌, ◌<◌, ◌≤◌, true, Some, length, slice_get, ◌-◌};
 ghost use Rattle.std.specs.List.{AllByRecursion};
 ghost use Rattle.std.specs.Option.{option_map};
 ghost use Rattle.validate_resources.specs.Context.{Valid};
@@ -16,51 +16,6 @@ use validate_resources::WasmModuleResources;
 use validate_types::{MaybeType, ValType};
 
 impl Stacks {
-    /// The same of so many operands of one type.
-    #[inline(always)]
-    pub(crate) fn has_fitting_run<R: WasmModuleResources>(
-        &self,
-        resources: &R,
-        elem: ValType,
-        count: usize,
-    ) -> bool
-        requires own { count ≤ length (innermost_operands self.now.body.present.frames) }
-        requires element { Valid (R.context resources.now) elem }
-        requires state { IsValidBody (R.context resources.now) self.now.body }
-        ensures { result ≡ has_operands_fitting (body_context (R.context resources.now) self.now.body)
-            (replicate count elem) self.now.body }
-    {
-        if self.has_same_run(count, elem) {
-            return true;
-        }
-        let mut left = count;
-        while left > 0 {
-            left -= 1;
-            if !self.is_same_number_at(count - 1 - left, elem)
-                && !self.is_fitting_by_order(resources, count - 1 - left, &elem)
-            {
-                return false;
-            }
-        }
-        true
-    }
-
-    /// Whether so many own operands of the innermost frame, which has them, are known to be of this number or vector
-    /// type. They are gone over where they lie.
-    #[inline(always)]
-    fn has_same_run(&self, count: usize, elem: ValType) -> bool
-        requires { count ≤ length (innermost_operands self.now.body.present.frames) }
-        ensures { result ≡ true
-            → take count (innermost_operands self.now.body.present.frames) ≡ replicate count (Known elem) }
-    {
-        for operand in self.top_operands(count) {
-            if !is_known_number(operand, elem) {
-                return false;
-            }
-        }
-        true
-    }
-
     /// Whether the top own operands of the innermost frame, which has so many at least, are known to be of these
     /// number or vector types, the last of the list on top. Nothing else is asked, so that no call is made.
     #[inline(always)]
@@ -196,7 +151,7 @@ impl Stacks {
 
     /// The same by the order of types. It looks for the operand again, so that nothing is copied where it isn't called.
     #[inline(never)]
-    fn is_fitting_by_order<R: WasmModuleResources>(
+    pub(crate) fn is_fitting_by_order<R: WasmModuleResources>(
         &self,
         resources: &R,
         depth: usize,

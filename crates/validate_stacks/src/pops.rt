@@ -1,23 +1,18 @@
-//! Pops of operands against what is expected.
+//! Whether an operand fits what is expected.
 
-ghost use Rattle.std.specs.Prelude.{◌≡◌, true, false, None, Some, OnOk, OnErr, IfOk, IfErr, MatchOption};
+ghost use Rattle.std.specs.Prelude.{◌≡◌, true, false, None, Some};
 ghost use Rattle.std.specs.Option.{ForSome};
 ghost use Rattle.validate_resources.specs.Context.{Valid};
 ghost use Rattle.validate_types.specs.Refs.{non_null_reference};
 ghost use Rattle.validation_rules.specs.Fits.{Known, UnknownRef, fits};
 ghost use Rattle.validation_rules.specs.Valid.{IsValidOperand};
-ghost use Rattle.validate_stacks.specs.Attempts.{phase_moved};
-ghost use Rattle.validate_stacks.specs.State.{IsValidBody, body_context};
+ghost use Rattle.validate_stacks.specs.State.{body_context};
 ghost use Rattle.validate_stacks.specs.Names.{place_of, type_name};
-ghost use Rattle.validate_stacks.specs.Pops.{may_pop, FitsAtOnce, IsKnownAs, IsToSame, Popped};
-ghost use Rattle.validate_stacks.specs.Steps.{found_in_body, body_popped};
+ghost use Rattle.validate_stacks.specs.Pops.{may_pop, FitsAtOnce, IsKnownAs, IsToSame};
 
 use crate::stacks::Stacks;
-use std::alloc::Global;
 use validate_resources::WasmModuleResources;
-use validate_types::{
-    AbstractHeapType, Error, HeapType, MaybeType, RefType, Refusal, UnpackedIndex, ValType,
-};
+use validate_types::{AbstractHeapType, HeapType, MaybeType, RefType, UnpackedIndex, ValType};
 
 /// The name of a type in a refusal (wasmparser's `ty_to_str`).
 pub fn ty_to_str(ty: ValType) -> &'static str
@@ -30,64 +25,6 @@ pub fn ty_to_str(ty: ValType) -> &'static str
         ValType::F64 => "f64",
         ValType::V128 => "v128",
         ValType::Ref(ty) => ty.wat(),
-    }
-}
-
-/// The refusal of an operand that isn't there. Where no type is expected it takes no memory.
-#[cold]
-#[inline(never)]
-fn nothing_there(alloc: Global, expected: Option<ValType>, offset: u64) -> Error
-    ensures offset { result.offset ≡ offset }
-    ensures memory { expected ≡ None → result.wants_memory ≡ false }
-{
-    let Some(ty) = expected else {
-        let error = Error::new(
-            "type mismatch: expected a type but nothing on stack",
-            offset,
-        );
-        return error.because(Refusal::NothingFound(None));
-    };
-    let name = ty_to_str(ty);
-    match format!(in alloc; "type mismatch: expected {name} but nothing on stack") {
-        Ok(text) => Error::with_text(text, offset).because(Refusal::NothingFound(expected)),
-        Err(_) => Error::out_of_memory(offset),
-    }
-}
-
-/// The refusal of an operand of another type.
-#[cold]
-#[inline(never)]
-pub fn mismatch(alloc: Global, expected: ValType, found: ValType, offset: u64) -> Error
-    ensures { result.offset ≡ offset }
-{
-    let refusal = Refusal::Mismatch {
-        depth: 0,
-        expected: expected,
-        found: MaybeType::Known(found),
-    };
-    let expected = ty_to_str(expected);
-    let found = ty_to_str(found);
-    match format!(in alloc; "type mismatch: expected {expected}, found {found}") {
-        Ok(text) => Error::with_text(text, offset).because(refusal),
-        Err(_) => Error::out_of_memory(offset),
-    }
-}
-
-/// The refusal of a reference where a number or a vector is expected.
-#[cold]
-#[inline(never)]
-fn reference_found(alloc: Global, expected: ValType, offset: u64) -> Error
-    ensures { result.offset ≡ offset }
-{
-    let refusal = Refusal::Mismatch {
-        depth: 0,
-        expected: expected,
-        found: MaybeType::UnknownRef(None),
-    };
-    let expected = ty_to_str(expected);
-    match format!(in alloc; "type mismatch: expected {expected}, found heap type") {
-        Ok(text) => Error::with_text(text, offset).because(refusal),
-        Err(_) => Error::out_of_memory(offset),
     }
 }
 
@@ -106,33 +43,6 @@ pub(crate) fn unknown_reference<R: WasmModuleResources>(
         nullable: false,
         heap_type: HeapType::Abstract { shared, ty },
     })
-}
-
-/// The refusal of an operand that doesn't fit the expected type.
-#[cold]
-#[inline(never)]
-fn not_fitting<R: WasmModuleResources>(
-    alloc: Global,
-    resources: &R,
-    offset: u64,
-    found: MaybeType,
-    expected: ValType,
-) -> Error
-    requires { Valid (R.context resources.now) expected }
-    ensures { result.offset ≡ offset }
-{
-    match (found, expected) {
-        (MaybeType::Known(found), _) => mismatch(alloc, expected, found, offset),
-        (MaybeType::UnknownRef(Some(ty)), ValType::Ref(reference)) => {
-            mismatch(
-                alloc,
-                expected,
-                unknown_reference(resources, ty, reference),
-                offset,
-            )
-        }
-        _ => reference_found(alloc, expected, offset),
-    }
 }
 
 /// Whether nothing is expected, or this operand isn't known at all, or is the expected number or vector type.
@@ -228,105 +138,6 @@ fn place_of(ty: ValType) -> u8
 }
 
 impl Stacks {
-    /// Pops an operand that fits what is expected, if anything is. It refuses, at the offset handed in,
-    /// where nothing is found or where what is found doesn't fit (and is popped). Memory is wanted for
-    /// the text of a refusal and the log of an attempt alone: where no attempt is pending it is refused only
-    /// where nothing fits, and a pop of any type takes no memory.
-    #[inline(always)]
-    pub fn pop_operand<R: WasmModuleResources>(
-        &mut self,
-        resources: &R,
-        offset: u64,
-        expected: Option<ValType>,
-    ) -> Result<MaybeType, Error>
-        requires expected { ForSome expected (Valid (R.context resources.now)) }
-        requires state { IsValidBody (R.context resources.now) self.old.body }
-        ensures { Popped (R.context resources.now) expected offset self.old result self.new }
-    {
-        match self.pop_at_once(resources, expected) {
-            Some(found) => Ok(found),
-            None => self.pop_fitting(resources, offset, expected),
-        }
-    }
-
-    /// Pops the operand that is found, where it fits at once: nothing is expected, or it isn't known at all,
-    /// or it is the expected number or vector type itself. None, with nothing changed, where that isn't so,
-    /// or where memory wants.
-    #[inline(always)]
-    pub fn pop_at_once<R: WasmModuleResources>(
-        &mut self,
-        resources: &R,
-        expected: Option<ValType>,
-    ) -> Option<MaybeType>
-        requires { ForSome expected (Valid (R.context resources.now)) }
-        ensures exact { MatchOption result (self.new ≡ self.old) (λ t.
-            (found_in_body self.old.body ≡ Some t) × (self.new.body ≡ body_popped self.old.body)) }
-        ensures passed { ForSome result (λ _. may_pop (body_context (R.context resources.now) self.old.body)
-            (found_in_body self.old.body) expected ≡ true) }
-        ensures phase { phase_moved self.new.phase ≡ phase_moved self.old.phase }
-    {
-        // The contract alone reads it.
-        let _resources = resources;
-        let found = self.found_at(0)?;
-        if !fits_at_once(found, expected) {
-            return None;
-        }
-        match self.pop_any() {
-            Ok(_) => Some(found),
-            Err(_) => None,
-        }
-    }
-
-    /// [`Stacks::pop_operand`], by the order of types alone.
-    #[inline(never)]
-    fn pop_fitting<R: WasmModuleResources>(
-        &mut self,
-        resources: &R,
-        offset: u64,
-        expected: Option<ValType>,
-    ) -> Result<MaybeType, Error>
-        requires expected { ForSome expected (Valid (R.context resources.now)) }
-        requires state { IsValidBody (R.context resources.now) self.old.body }
-        ensures { Popped (R.context resources.now) expected offset self.old result self.new }
-    {
-        match self.pop_any() {
-            Ok(found) => self.check_found(resources, offset, found, expected),
-            Err(_) => Err(Error::out_of_memory(offset)),
-        }
-    }
-
-    /// The operand that was found, where it fits what is expected, if anything is.
-    #[inline(always)]
-    fn check_found<R: WasmModuleResources>(
-        &self,
-        resources: &R,
-        offset: u64,
-        found: Option<MaybeType>,
-        expected: Option<ValType>,
-    ) -> Result<MaybeType, Error>
-        requires expected { ForSome expected (Valid (R.context resources.now)) }
-        requires found { ForSome found (IsValidOperand (R.context resources.now)) }
-        ensures value { IfOk result (λ t. found ≡ Some t) }
-        ensures passed { OnOk result (may_pop (body_context (R.context resources.now) self.now.body) found
-            expected ≡ true) }
-        ensures refused { OnErr result (may_pop (body_context (R.context resources.now) self.now.body) found
-            expected ≡ false) }
-        ensures offset { IfErr result (λ e. e.offset ≡ offset) }
-        ensures memory { expected ≡ None → IfErr result (λ e. e.wants_memory ≡ false) }
-    {
-        let Some(actual) = found else {
-            return Err(nothing_there(self.allocator(), expected, offset));
-        };
-        let Some(expected) = expected else {
-            return Ok(actual);
-        };
-        if self.is_fitting(resources, found, expected) {
-            Ok(actual)
-        } else {
-            Err(not_fitting(self.allocator(), resources, offset, actual, expected))
-        }
-    }
-
     /// Whether an operand was found that fits the expected type, by the order of types.
     #[inline(always)]
     pub(crate) fn is_fitting<R: WasmModuleResources>(

@@ -1,27 +1,22 @@
 //! The operands, the open frames and the locals.
 
-ghost use Rattle.std.specs.Prelude.{◌≡◌, ◌≢◌, ◌+◌, ◌<◌, ◌≤◌, true, false, None, Some, [], length, reverse, take, is_some, IfOk, OnOk, IfErr, OnErr, IsOk, IsSome, MatchBool, MatchResult, IsTrue, not};
+ghost use Rattle.std.specs.Prelude.{◌≡◌, ◌≢◌, ◌+◌, ◌<◌, ◌≤◌, true, false, None, Some, [], length, reverse, take, is_some, IfOk, OnOk, IfErr, OnErr, IsSome, MatchBool, MatchResult, not};
 ghost use Rattle.std.specs.Option.{option_copied, ForSome};
 ghost use Rattle.validate_locals.specs.Limit.{max_locals};
-ghost use Rattle.validate_resources.specs.Context.{ModuleContext};
 ghost use Rattle.validate_transaction.specs.Recorded.{with_push};
 ghost use Rattle.validate_transaction.specs.TakeBack.{items_taken_back, CanTakeBack};
 ghost use Rattle.validation_rules.specs.Static.{operand_count, frame_count, locals_set, is_local_set};
 ghost use Rattle.validate_stacks.specs.AtOnce.{body_dropped, body_given, body_with_frame_over};
-ghost use Rattle.validate_stacks.specs.Attempts.{phase_moved, may_attempt, may_frame, may_set, may_unset, stacks_begun, stacks_committed, stacks_rolled_back};
+ghost use Rattle.validate_stacks.specs.Attempts.{phase_moved, may_attempt, may_frame, stacks_begun, stacks_committed, stacks_rolled_back};
 ghost use Rattle.validate_stacks.specs.Flat.{frames_unmarked, inits_in_frames};
-ghost use Rattle.validate_stacks.specs.Pops.{IsKept};
-ghost use Rattle.validate_stacks.specs.State.{IsValidBody};
-ghost use Rattle.validate_stacks.specs.Steps.{empty_body, innermost_operands, found_in_body, known_type, type_at_depth, frame_at, label_at, found_after_pops_in_body, body_marked, body_unreachable, body_pushed, body_popped, body_with_frame, body_without_frame, body_with_local_set, setting_order, body_with_locals, body_with_params};
+ghost use Rattle.validate_stacks.specs.Steps.{empty_body, innermost_operands, known_type, type_at_depth, frame_at, label_at, found_after_pops_in_body, body_marked, body_pushed, body_popped, body_with_frame, body_without_frame, setting_order, body_with_locals, body_with_params};
 
 use crate::allocations::OperatorValidatorAllocations;
 use std::alloc::Global;
 use std::marker::Model;
 use validate_locals::{LocalInits, Locals};
 use validate_transaction::{Pile, Transaction, take_back};
-use validate_types::{
-    Error, MaybeType, OutOfMemory, Refusal, Refused, ValType, WasmFeatures, grown,
-};
+use validate_types::{MaybeType, OutOfMemory, Refusal, Refused, ValType, WasmFeatures, grown};
 use validate_visit::{BlockType, Frame, FrameKind};
 
 /// The operands, the open frames and the locals of a body (wasmparser's `OperatorValidator` without
@@ -266,35 +261,6 @@ impl Stacks {
         prepare_push(&mut self.operands, &mut self.transaction)?;
         self.operands.put(ty);
         Ok(())
-    }
-
-    /// Takes the top own operand of the innermost frame. Below those of a dead frame lie unknown
-    /// ones, which are found and stay; None where nothing is found. Want of memory changes nothing, and
-    /// there is none where no attempt is pending.
-    #[inline(always)]
-    pub(crate) fn pop_any(&mut self) -> Result<Option<MaybeType>, OutOfMemory>
-        ensures exact { MatchResult result (λ t. (t ≡ found_in_body self.old.body)
-            × (self.new.body ≡ body_popped self.old.body)) (λ _. self.new ≡ self.old) }
-        ensures phase { phase_moved self.new.phase ≡ phase_moved self.old.phase }
-        ensures idle { self.old.body.undone ≡ None → IsOk result }
-    {
-        let Some(frame) = self.control.get(0) else {
-            return Ok(None);
-        };
-        if self.operands.len() <= frame.height {
-            return Ok(if frame.unreachable {
-                Some(MaybeType::Bottom)
-            } else {
-                None
-            });
-        }
-        let Some(top) = self.operands.get(0) else {
-            return Ok(None);
-        };
-        let ty = *top;
-        self.transaction.record_pop(top)?;
-        let _ = self.operands.pop();
-        Ok(Some(ty))
     }
 
     /// Pushes an operand onto the innermost frame, where there is room and no attempt is pending. False,

@@ -1,10 +1,10 @@
--- What is left to match fits exactly where all of the run does.
-use Rattle.std.proofs.Common.{◌≡◌, ◌≤◌, ◌-◌, replicate, take, reverse}
+-- What is left to match fits exactly where all of the run does; and each pop that was tried is counted.
+use Rattle.std.proofs.Common.{◌≡◌, ◌+◌, ◌≤◌, ◌-◌, replicate, take, reverse}
 use Rattle.validation_rules.specs.Fits.{all_fit}
 use Rattle.validate_stacks.specs.State.{body_context}
 use Rattle.validate_stacks.specs.Pops.{has_operands_fitting}
 use Rattle.validate_stacks.proofs.MatchedOperands.{after_in}
-use Rattle.validate_stacks.proofs.stacks.Stacks.has_fitting_run.Given as goal
+use Rattle.validate_stacks.proofs.stacks.Stacks.find_own_run.Given as goal
 
 abbrev pub decreases-loop-left : goal.decreases-loop-left
 decreases-loop-left g l = l.left
@@ -16,4 +16,5 @@ invariant-loop-left g l =
     record {
       within : l.left ≤ l.count;
       rest : all_fit cx (after_in l.left (l.count - l.left) l.initial.self.body.present.frames) (reverse (take l.left run)) ≡ has_operands_fitting cx run l.initial.self.body;
+      counted : l.pops + l.left ≡ l.fn.pops + l.count;
     }

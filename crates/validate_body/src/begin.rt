@@ -1,7 +1,8 @@
 //! Bodies as they begin: a function's, or a constant expression's, and their locals.
 
-ghost use Rattle.std.specs.Prelude.{◌≡◌, false, None, IfOk, IfErr, OnOk};
+ghost use Rattle.std.specs.Prelude.{◌≡◌, false, None, IfOk, IfErr, OnOk, OnErr};
 ghost use Rattle.validate_stacks.specs.State.{IsStarting};
+ghost use Rattle.validate_stacks.specs.Steps.{empty_body};
 ghost use Rattle.validate_body.specs.Begin.{IsExpressionStart, IsBodyStart, CannotStart, HasLocals, CannotBegin, without_places};
 ghost use Rattle.validate_body.specs.Start.{state};
 
@@ -59,7 +60,8 @@ fn start_with_locals<R: WasmModuleResources>(
 impl OperatorValidator {
     /// Begins a body of this kind, without locals but for the parameters of a function, in the buffers of the body before. It
     /// refuses what [`OperatorValidator::start_func`] refuses, and for a constant expression a type that the lookup refuses, at
-    /// this offset; or there is no memory.
+    /// this offset; or there is no memory. An attempt that is pending is given up. A refusal leaves no body, as
+    /// [`OperatorValidator::new`] does.
     pub fn start_body<R: WasmModuleResources>(
         &mut self,
         resources: &R,
@@ -71,6 +73,7 @@ impl OperatorValidator {
         ensures made { OnOk result (IsBodyStart (R.context resources.now) features.now kind (state self.new)) }
         ensures refused { IfErr result (λ e. e.wants_memory ≡ false
             → CannotStart (R.context resources.now) features.now kind) }
+        ensures left { OnErr result (state self.new ≡ empty_body features.now) }
         ensures offset { IfErr result (λ e. e.wants_memory ≡ false → e.offset ≡ offset) }
     {
         match kind {
@@ -91,8 +94,10 @@ impl OperatorValidator {
         ensures made { OnOk result (IsExpressionStart (R.context resources.now) features.now ty (state self.new)) }
         ensures refused { IfErr result (λ e. e.wants_memory ≡ false
             → (R.context resources.now).canonical_type features.now ty ≡ None) }
+        ensures left { OnErr result (state self.new ≡ empty_body features.now) }
         ensures offset { IfErr result (λ e. e.wants_memory ≡ false → e.offset ≡ offset) }
     {
+        self.stacks.restart(*features);
         laws(resources);
         let mut canonical = ty;
         resources.check_value_type(&mut canonical, features, offset)?;

@@ -69,7 +69,7 @@ impl OperatorValidator {
     /// that type is open, and the parameters are locals that are set. It refuses, at the offset handed in:
     /// `unknown type: type index out of bounds`, `expected func type at index N, found K` for a type of
     /// another kind K, `too many locals: locals exceed maximum` for more than 50,000 parameters, or want
-    /// of memory.
+    /// of memory. An attempt that is pending is given up. A refusal leaves no body, as [`OperatorValidator::new`] does.
     pub fn start_func<R: WasmModuleResources>(
         &mut self,
         ty: u32,
@@ -82,8 +82,10 @@ impl OperatorValidator {
         ensures refused { IfErr result (λ e. e.wants_memory ≡ false
             → (signature_at (R.context resources.now) ty ≡ None)
             ⊎ HasTooManyParams (R.context resources.now) ty) }
+        ensures left { OnErr result (state self.new ≡ empty_body features.now) }
         ensures offset { IfErr result (λ e. e.offset ≡ offset) }
     {
+        self.stacks.restart(*features);
         let Some(sub_type) = resources.sub_type_at(ty) else {
             return Err(Error::new("unknown type: type index out of bounds", offset));
         };
@@ -115,11 +117,13 @@ impl OperatorValidator {
     }
 
     /// Begins a constant expression of this type, as [`OperatorValidator::new_const_expr`] does, in the buffers of the body
-    /// before.
+    /// before. An attempt that is pending is given up. If there is no memory, no body is left, as
+    /// [`OperatorValidator::new`] makes it.
     pub fn start_const_expr(&mut self, features: &WasmFeatures, ty: ValType) -> Result<(), Error>
         ensures made { OnOk result (state self.new ≡ const_start features.now ty) }
         ensures starting { OnOk result ((md : ModuleContext) → Valid md ty → IsStarting md (state self.new)) }
         ensures memory { IfErr result (λ e. e.wants_memory ≡ true) }
+        ensures left { OnErr result (state self.new ≡ empty_body features.now) }
         ensures offset { IfErr result (λ e. e.offset ≡ 0) }
     {
         self.stacks.restart(*features);
@@ -355,7 +359,7 @@ impl OperatorValidator {
     }
 }
 
-/// Begins the body of a function of this type, which stands at this index.
+/// Begins the body of a function of this type, which stands at this index, where there is no body yet.
 fn start(
     stacks: &mut Stacks,
     ty: u32,
@@ -364,13 +368,14 @@ fn start(
     offset: u64,
     features: WasmFeatures,
 ) -> Result<(), Error>
+    requires { stacks.old.body ≡ empty_body features }
     ensures made { OnOk result (stacks.new.body ≡ func_start features ty shared func_type.now) }
     ensures within_limit { OnOk result (length func_type.now.params ≤ max_locals) }
     ensures refused { IfErr result (λ e. e.wants_memory ≡ false
         → max_locals < length func_type.now.params) }
+    ensures left { OnErr result (stacks.new.body ≡ empty_body features) }
     ensures offset { IfErr result (λ e. e.offset ≡ offset) }
 {
-    stacks.restart(features);
     match stacks.define_params(func_type.params()) {
         Ok(true) => {}
         Ok(false) => {
@@ -379,7 +384,11 @@ fn start(
         Err(_) => return Err(Error::out_of_memory(offset)),
     }
     stacks.set_shared(shared);
-    open_outermost(stacks, BlockType::FuncType(ty), offset)
+    let opened = open_outermost(stacks, BlockType::FuncType(ty), offset);
+    if opened.is_err() {
+        stacks.restart(features);
+    }
+    opened
 }
 
 /// Opens the outermost frame of a body, with this block type.
@@ -387,6 +396,7 @@ fn open_outermost(stacks: &mut Stacks, block_type: BlockType, offset: u64) -> Re
     requires { may_frame stacks.old ≡ true }
     ensures opened { OnOk result (stacks.new.body ≡ body_with_frame Block block_type stacks.old.body) }
     ensures memory { IfErr result (λ e. e.wants_memory ≡ true) }
+    ensures left { OnErr result (stacks.new ≡ stacks.old) }
     ensures offset { IfErr result (λ e. e.offset ≡ offset) }
 {
     match stacks.push_bare_ctrl(FrameKind::Block, block_type) {

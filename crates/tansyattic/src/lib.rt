@@ -22,8 +22,8 @@ pub extern "C" fn tansyattic_version() -> u32 {
 }
 
 /// Checks a module, of which these are all the bytes, under these proposals: what it declares, each body and each
-/// constant expression. It writes what they come to, and of the first that weighs most the text, as much as there is room for; it answers
-/// the status.
+/// constant expression. It writes the totals to `out`, and to `text` the text of the first finding of the gravest kind,
+/// cut to the room there. It answers the status.
 #[unsafe(no_mangle)]
 pub extern "C" fn tansyattic_raw_validate(
     alloc: Global,

@@ -17,10 +17,8 @@ WITH_DESCRIPTORS = f"with {DESCRIPTORS}"
 PLAIN = """feature show type fn table memory global tag elem data func expr local
     block loop if else end try_table legacy_try catch catch_all delegate try""".split()
 
-# What is said of a bad line before its number, and of one whose first word is no name: of any line, and of a `try` line.
+# What is said of a bad line before its number.
 BAD_LINE = "bad script: line "
-UNKNOWN_NAME = "no operator or line has this name"
-UNKNOWN_OPERATOR = "no operator has this name"
 
 # The greatest index that a type may name.
 LAST_NAMED = 1_048_575
@@ -114,12 +112,10 @@ def fill(text, row):
 
 
 def bad_lines(head, lines):
-    """Yields the scripts that each of these lines makes behind these first ones, before an `end`: it is bad for the reason
-    behind its arrow."""
+    """Yields the scripts that each of these lines makes behind these first ones, before an `end`: it is a bad line."""
     first = [Line(line) for line in lines_of(head)]
-    for line in map(parts_of, filter(None, lines_of(lines))):
-        said = f"{BAD_LINE}{len(first) + 1}: {line.answer}"
-        yield Script((*first, Line(line.written), Line("end")), said)
+    for line in filter(None, lines_of(lines)):
+        yield Script((*first, Line(line), Line("end")), f"{BAD_LINE}{len(first) + 1}")
 
 
 class Section(NamedTuple):
@@ -196,22 +192,13 @@ def last_place(script):
     return int(found[1]) - 1 if found and script.verdict == "refused" else None
 
 
-def attempted_verdict(script):
-    """What the script comes to where each operator is attempted that may be and none is refused: what has no name that an
-    operator or a line has may be attempted too."""
-    found = re.fullmatch(rf"{BAD_LINE}(\d+): {UNKNOWN_NAME}", script.verdict)
-    if found and script.lines[int(found[1]) - 1].may_be_attempted:
-        return f"{BAD_LINE}{found[1]}: {UNKNOWN_OPERATOR}"
-    return script.verdict
-
-
 def attempted(script):
     """The script with each operator attempted that may be. Where the refusal that ended its run is taken back so, a `nop`
     ends it, at which the heights are those before."""
     lines = [Line(f"try {it.written}", it.answer) if it.may_be_attempted else it for it in script.lines]
     last = last_place(script)
     if last is None or not script.lines[last].may_be_attempted:
-        return script._replace(lines=tuple(lines), verdict=attempted_verdict(script))
+        return script._replace(lines=tuple(lines))
     before = [it for it in script.answers if it.startswith("ok ")] or ["ok 0 1" + " []" * script.has_line("show")]
     return script._replace(lines=(*lines[: last + 1], Line("nop", before[-1])), verdict="open")
 
@@ -258,7 +245,7 @@ def accepted(script):
 
 def moved(text, lines):
     """What is printed or said of a script that stands behind so many further lines, where this is of the script alone."""
-    return re.sub(rf"^(refused |{BAD_LINE})(\d+)(?=:)", lambda it: f"{it[1]}{int(it[2]) + lines}", text)
+    return re.sub(rf"^(refused |{BAD_LINE})(\d+)", lambda it: f"{it[1]}{int(it[2]) + lines}", text)
 
 
 def without_descriptors(script):

@@ -25,5 +25,5 @@ verdict_of (Err refusal) = Refused
 
 -- why a run ends whose script isn't read
 abbrev pub failure_of : ScriptError → Failure
-failure_of (BadLine number reason) = BadScript (Line number reason)
+failure_of (BadLine number) = BadScript (Line number)
 failure_of NoMemory = OutOfMemory

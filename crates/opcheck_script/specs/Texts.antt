@@ -1,6 +1,5 @@
 -- The texts that a run prints (the crate's own).
 use Rattle.std.specs.Prelude.{◌++◌, ℕ, List, [], codes, decimal}
-use Rattle.script_reader.specs.Reasons.{reason_text}
 use Rattle.opcheck_script.specs.declared.failure.BadScript.{BadScript}
 use Rattle.opcheck_script.specs.declared.failure.BadScript.TheVariants.{Input, Line, Order, Module}
 use Rattle.opcheck_script.specs.declared.failure.Failure.{Failure}
@@ -11,7 +10,7 @@ use Rattle.opcheck_script.specs.declared.verdict.ScriptVerdict.TheVariants.{Acce
 
 abbrev pub cause_text : BadScript → List ℕ
 cause_text Input = codes "input"
-cause_text (Line number reason) = codes "line " ++ decimal number ++ codes ": " ++ reason_text reason
+cause_text (Line number) = codes "line " ++ decimal number
 cause_text Order = codes "order"
 cause_text Module = codes "module"
 

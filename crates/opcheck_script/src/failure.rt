@@ -2,7 +2,7 @@
 
 ghost use Rattle.std.specs.Prelude.{◌≡◌, Some};
 
-use script_reader::{Reason, ScriptError};
+use script_reader::ScriptError;
 use std::alloc::AllocError;
 use std::fmt;
 
@@ -11,8 +11,8 @@ use std::fmt;
 pub enum BadScript {
     /// It can't be read, or isn't UTF-8.
     Input,
-    /// The line of this number isn't of the grammar or stands out of place, for this reason.
-    Line(u64, Reason),
+    /// The line of this number isn't of the grammar or stands out of place.
+    Line(u64),
     /// Its operators aren't well ordered.
     Order,
     /// Its declarations are those of no module.
@@ -27,7 +27,7 @@ impl fmt::Display for BadScript {
     fn fmt<W: fmt::Write>(&self, f: &mut fmt::Formatter<W>) -> fmt::Result {
         match self {
             BadScript::Input => write!(f, "input"),
-            BadScript::Line(number, reason) => write!(f, "line {number}: {reason}"),
+            BadScript::Line(number) => write!(f, "line {number}"),
             BadScript::Order => write!(f, "order"),
             BadScript::Module => write!(f, "module"),
         }
@@ -62,9 +62,7 @@ impl From<ScriptError> for Failure {
 
     fn from(error: ScriptError) -> Failure {
         match error {
-            ScriptError::BadLine(number, reason) => {
-                Failure::BadScript(BadScript::Line(number, reason))
-            }
+            ScriptError::BadLine(number) => Failure::BadScript(BadScript::Line(number)),
             ScriptError::OutOfMemory => Failure::OutOfMemory,
         }
     }

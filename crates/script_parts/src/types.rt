@@ -1,6 +1,6 @@
 //! The types that a script declares.
 
-ghost use Rattle.std.specs.Prelude.{◌≡◌, ◌↔◌, [], ◌∷◌, IfNone, IfOk, IfSome, IsErrOf, IsSome, IsTrue, OnOk, map, true};
+ghost use Rattle.std.specs.Prelude.{◌≡◌, ◌↔◌, [], ◌∷◌, IfNone, IfOk, IfSome, IsErrOf, IsSome, OnOk, map, true};
 ghost use Rattle.std.specs.List.{AllZip};
 ghost use Rattle.validate_types.specs.declared.types.ArrayType.{ArrayType};
 ghost use Rattle.validate_types.specs.declared.types.ContType.{ContType};
@@ -61,7 +61,7 @@ pub fn read_type(alloc: Global, words: &[&str]) -> Result<SubType, LineError>
 }
 
 /// Whether the word says what kind of type a line declares.
-pub fn is_kind(word: &str) -> bool
+fn is_kind(word: &str) -> bool
     ensures { result ≡ is_kind word.now }
 {
     matches!(word, "func" | "struct" | "array" | "cont")
@@ -124,15 +124,8 @@ fn read_marks(marks: &[&str]) -> Option<Marks>
     })
 }
 
-/// Whether these words may stand before the kind of a type: they are marks, and none but `shared` stands twice.
-pub fn are_marks(words: &[&str]) -> bool
-    ensures { IsTrue result ↔ AreMarks (map (λ word. word.now) words.now) }
-{
-    read_marks(words).is_some()
-}
-
 /// The index of a type that these digits write, if they do.
-pub fn read_packed_index(digits: &str) -> Option<PackedIndex>
+fn read_packed_index(digits: &str) -> Option<PackedIndex>
     ensures { SomeIff result (IsPackedIndex digits.now) (UnpackedIndex.Module (digits_value 10 digits.now)) }
 {
     UnpackedIndex::Module(read_index(digits)?).pack()

@@ -4,10 +4,6 @@
 
 mod access;
 mod atomic;
-mod bad_lines;
-mod bad_lists;
-mod bad_types;
-mod bad_words;
 mod conversions;
 mod failure;
 mod features;
@@ -16,12 +12,10 @@ mod memory;
 mod numeric;
 mod operators;
 mod plain;
-mod reasons;
 mod script;
 mod shared;
 
 pub use crate::failure::ScriptError;
 pub use crate::operators::read_operator;
-pub use crate::reasons::Reason;
 pub use crate::script::read_script;
 pub use script_parts::{BodyLine, LineError, ListedOperator, OperatorList, Operators, Script};

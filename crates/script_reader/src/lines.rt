@@ -18,7 +18,7 @@ pub fn read_line(alloc: Global, words: &[&str]) -> Result<Line, LineError> {
 }
 
 /// Reads such a line that takes no memory, from this keyword and the words behind it.
-pub fn read_keyword(keyword: &str, rest: &[&str]) -> Option<Line> {
+fn read_keyword(keyword: &str, rest: &[&str]) -> Option<Line> {
     match keyword {
         "memory" => Some(Line::Memory(read_memory_type(rest)?)),
         "show" if rest.is_empty() => Some(Line::Show),

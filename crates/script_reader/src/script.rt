@@ -3,7 +3,6 @@
 use crate::failure::ScriptError;
 use crate::lines::read_line;
 use crate::operators::{lent, read_flat_operator};
-use crate::reasons::Reason;
 use script_parts::{
     Draft, LineError, ListedOperator, Operators, Script, has_list, read_list, read_words,
 };
@@ -20,8 +19,7 @@ pub fn read_script<'a>(
     listed.clear();
     let mut draft = Draft::new(alloc);
     let number = read_lines(alloc, listed, &mut draft, text)?;
-    let no_body = ScriptError::BadLine(number, Reason::NoBody);
-    let mut script = draft.finish().ok_or(no_body)?;
+    let mut script = draft.finish().ok_or(ScriptError::BadLine(number))?;
     lend(listed, &mut script.operators);
     Ok(script)
 }
@@ -41,7 +39,7 @@ fn read_lines(
                 return Err(ScriptError::OutOfMemory);
             }
             if let Err(error) = add_words(alloc, listed, draft, &words, number) {
-                return Err(ScriptError::at_line(error, number, &words));
+                return Err(ScriptError::at_line(error, number));
             }
         }
         number = number.saturating_add(1);

@@ -9,7 +9,7 @@
 //! a first line before the names asks for.
 //!
 //! With the words `--runs N` its standard input is one script instead, as `opcheck` reads it, and it prints how long the
-//! validator takes for the body (`measure.rs`), the best of N runs. `--untimed` leaves the times out.
+//! validator takes for the body (`measure.rt`), the best of N runs. `--untimed` leaves the times out.
 #![tactic(auto)]
 
 mod bodies;

@@ -181,37 +181,25 @@ pub fn run_each(
     Ok(())
 }
 
-/// Runs a script of which the line of this number is bad for this reason.
-fn run_bad_script(
-    alloc: Global,
-    tally: &mut Tally,
-    script: &str,
-    number: usize,
-    reason: &str,
-) -> Result<(), AllocError> {
-    let said = format!(in alloc; "bad script: line {number}: {reason}\n")?;
-    let expected = Output {
-        out: "",
-        err: &said,
-        status: 2,
-    };
-    run_script(alloc, tally, script, expected)
-}
-
-/// Runs this line, the one of this number, behind these first lines and before an `end`: it is bad for this reason.
+/// Runs this line behind these first lines and before an `end`, which makes a bad script that says this.
 fn run_bad_line(
     alloc: Global,
     tally: &mut Tally,
     head: &str,
-    number: usize,
-    (line, reason): (&str, &str),
+    line: &str,
+    said: &str,
 ) -> Result<(), AllocError> {
     let script = format!(in alloc; "{head}{line}\nend\n")?;
-    run_bad_script(alloc, tally, &script, number, reason)
+    let expected = Output {
+        out: "",
+        err: said,
+        status: 2,
+    };
+    run_script(alloc, tally, &script, expected)
 }
 
-/// Runs each of these lines behind these first lines and before an `end`: it is a bad line, for the reason behind its
-/// `=>`. Blank lines stand for nothing.
+/// Runs each of these lines behind these first lines and before an `end`: it is a bad line. Blank lines stand for
+/// nothing.
 pub fn run_bad_lines(
     alloc: Global,
     tally: &mut Tally,
@@ -219,9 +207,10 @@ pub fn run_bad_lines(
     lines: &str,
 ) -> Result<(), AllocError> {
     let number = head.lines().count().saturating_add(1);
+    let said = format!(in alloc; "bad script: line {number}\n")?;
     for line in lines.lines() {
         if !line.is_empty() {
-            run_bad_line(alloc, tally, head, number, parts_of(line))?;
+            run_bad_line(alloc, tally, head, line, &said)?;
         }
     }
     Ok(())

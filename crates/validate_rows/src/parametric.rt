@@ -135,6 +135,5 @@ pub fn typed_select_multi<A: Refused, R: WasmModuleResources>(
 {
     // The contract alone reads it.
     let _body = body;
-    // The contracts alone read them.
     Err(A::of(Refusal::SelectArity))
 }

@@ -37,14 +37,14 @@ fn find_types<A: Refused, R: WasmModuleResources>(
 {
     for index in 0..types.len() {
         if !resources.is_subtype(types[index], expected[index]) {
-            return Err(other_type(types[index], expected[index]));
+            return Err(other_type(expected[index], types[index]));
         }
     }
     Ok(())
 }
 
 /// The refusal where a label takes another type than it is given.
-fn other_type<A: Refused>(found: ValType, expected: ValType) -> A {
+fn other_type<A: Refused>(expected: ValType, found: ValType) -> A {
     A::of(Refusal::ClauseType { expected, found })
 }
 
@@ -106,7 +106,7 @@ fn find_carried_with_reference<A: Refused, R: WasmModuleResources>(
 fn other_reference<A: Refused>(kind: ClauseKind, expected: ValType) -> A {
     match kind {
         ClauseKind::CatchAllRef => A::of(Refusal::ClauseReference),
-        _ => other_type(ValType::Ref(RefType::EXN), expected),
+        _ => other_type(expected, ValType::Ref(RefType::EXN)),
     }
 }
 
